@@ -1,0 +1,249 @@
+"""Contraction, settling and paving straight from their definitions, slow and plain."""
+import re
+from fractions import Fraction
+
+from . import intervals as iv
+from .numbers import DOWN, UP, NEG_INF, POS_INF, UNIT, from_fraction, is_finite, middle, spelling, sub
+
+
+def bound(value, side):
+    return value if isinstance(value, float) else from_fraction(value, side)
+
+
+class Empty(Exception):
+    """Some step of a contraction was empty."""
+
+
+def kept(x):
+    if x is None:
+        raise Empty
+    return x
+
+
+FORWARD = {"+": iv.plus, "-": iv.minus, "*": iv.times, "min": iv.least, "max": iv.greatest}
+BACKWARD = {"+": iv.back_add, "-": iv.back_sub, "*": iv.back_mul, "/": iv.back_div, "min": iv.back_min,
+            "max": iv.back_max}
+
+
+class Constraint:
+    def __init__(self, constraint):
+        self.relation, self.left, self.right = constraint
+
+    def forward(self, e, box):
+        """The interval of e on the box, and whether no divisor's interval holds 0."""
+        kind = e[0]
+        if kind == "const":
+            return (from_fraction(e[1], DOWN), from_fraction(e[1], UP)), True
+        if kind == "var":
+            return box[e[1]], True
+        if kind in ("neg", "abs", "^"):
+            x, total = self.forward(e[1], box)
+            return {"neg": lambda: iv.opposite(x), "abs": lambda: iv.absolute(x),
+                    "^": lambda: iv.raised(x, e[2])}[kind](), total
+        (x, total_x), (y, total_y) = self.forward(e[1], box), self.forward(e[2], box)
+        total = total_x and total_y
+        if kind == "/":
+            return kept(iv.quotient(x, y)), total and not y[0] <= 0 <= y[1]
+        return FORWARD[kind](x, y), total
+
+    def related(self, left, right):
+        if self.relation == "=":
+            common = kept(iv.meet(left, right))
+            return common, common
+        if self.relation in (">=", ">"):
+            right, left = self.below(right, left)
+            return left, right
+        return self.below(left, right)
+
+    def below(self, left, right):
+        if left[0] > right[1] or (self.relation in ("<", ">") and left[0] >= right[1]):
+            raise Empty
+        return (left[0], min(left[1], right[1])), (max(right[0], left[0]), right[1])
+
+    def targets(self, e, z, box, found):
+        kind = e[0]
+        if kind == "var":
+            found.append((e[1], z))
+        elif kind in ("neg", "abs", "^"):
+            x, _ = self.forward(e[1], box)
+            x1 = {"neg": lambda: iv.back_neg(z, x), "abs": lambda: iv.back_abs(z, x),
+                  "^": lambda: iv.back_pow(z, x, e[2])}[kind]()
+            self.targets(e[1], kept(x1), box, found)
+        elif kind != "const":
+            x1, y1 = kept(BACKWARD[kind](z, self.forward(e[1], box)[0], self.forward(e[2], box)[0]))
+            self.targets(e[1], x1, box, found)
+            self.targets(e[2], y1, box, found)
+
+    def revise(self, box):
+        left, right = self.related(self.forward(self.left, box)[0], self.forward(self.right, box)[0])
+        found = []
+        self.targets(self.left, left, box, found)
+        self.targets(self.right, right, box, found)
+        result = list(box)
+        for i, z in found:
+            result[i] = kept(iv.meet(result[i], z))
+        return result
+
+    def sure(self, box):
+        try:
+            (left, total_left), (right, total_right) = self.forward(self.left, box), self.forward(self.right, box)
+        except Empty:
+            return False
+        if not (total_left and total_right):
+            return False
+        return {"<=": left[1] <= right[0], "<": left[1] < right[0], ">=": left[0] >= right[1],
+                ">": left[0] > right[1], "=": left[0] == left[1] == right[0] == right[1]}[self.relation]
+
+
+def read_program(text):
+    """A good contractor text as nested tuples: ("hc4", i), ("fix", n, p), ("qinter", q, [p]), ("union", [p]) .."""
+    words = re.findall(r"[a-z0-9]+|[(),]", text)
+
+    def program():
+        name = words.pop(0)
+        assert words.pop(0) == "("
+        parts = []
+        while True:
+            parts.append(int(words.pop(0)) if words[0].isdigit() else program())
+            if words.pop(0) == ")":
+                break
+        if name in ("hc4", "prop"):
+            return (name, parts[0])
+        if name in ("qinter", "fix"):
+            return (name, parts[0], parts[1:])
+        return (name, parts)
+
+    return program()
+
+
+def q_hull(q, boxes):
+    result = []
+    for place in zip(*boxes):
+        def covered(end):
+            return sum(x[0] <= end <= x[1] for x in place) >= q
+        lows, highs = [x[0] for x in place if covered(x[0])], [x[1] for x in place if covered(x[1])]
+        if not lows or not highs:
+            return None
+        result.append((min(lows), max(highs)))
+    return result
+
+
+class Settler:
+    def __init__(self, system, eps=Fraction(1, 8), depth=60, bisector="largest", contract="prop(8)"):
+        self.constraints = [Constraint(c) for c in system.constraints]
+        self.root = [(bound(lo, DOWN), bound(hi, UP)) for lo, hi in system.domains]
+        self.eps, self.depth, self.bisector = from_fraction(eps, DOWN), depth, bisector
+        self.program = read_program(contract)
+
+    def contract(self, program, box):
+        """The contracted box; None where it is empty."""
+        kind = program[0]
+        if kind == "hc4":
+            try:
+                return self.constraints[program[1]].revise(box)
+            except Empty:
+                return None
+        if kind == "compose":
+            return self.in_order(program[1], box)
+        if kind == "fix":
+            return self.turns(program[1], program[2], box)
+        if kind == "prop":
+            return self.turns(program[1], [("hc4", i) for i in range(len(self.constraints))], box)
+        results = [r for r in (self.contract(p, box) for p in program[-1]) if r is not None]
+        if kind == "qinter":
+            return q_hull(program[1], results) if len(results) >= program[1] else None
+        if not results:
+            return None
+        return [(min(x[0] for x in place), max(x[1] for x in place)) for place in zip(*results)]
+
+    def in_order(self, programs, box):
+        for program in programs:
+            box = self.contract(program, box)
+            if box is None:
+                return None
+        return box
+
+    def turns(self, most, programs, box):
+        for _ in range(most):
+            before, box = box, self.in_order(programs, box)
+            if box is None or box == before:
+                break
+        return box
+
+    def sure(self, program, box):
+        kind = program[0]
+        if kind == "hc4":
+            return self.constraints[program[1]].sure(box)
+        if kind == "prop":
+            return all(c.sure(box) for c in self.constraints)
+        parts = [self.sure(p, box) for p in program[-1]]
+        return {"compose": all(parts), "fix": all(parts), "union": any(parts),
+                "qinter": kind == "qinter" and sum(parts) >= program[1]}[kind]
+
+    def member(self, program, held):
+        """Whether a point is a member, given which constraints hold there."""
+        kind = program[0]
+        if kind == "hc4":
+            return held[program[1]]
+        if kind == "prop":
+            return all(held)
+        parts = [self.member(p, held) for p in program[-1]]
+        return {"compose": all(parts), "fix": all(parts), "union": any(parts),
+                "qinter": kind == "qinter" and sum(parts) >= program[1]}[kind]
+
+    def width(self, x):
+        return sub(x[1], x[0], UP)
+
+    def choose(self, box, length):
+        cuts = [middle(*x) for x in box]
+        able = [i for i, cut in enumerate(cuts) if cut is not None]
+        if not able:
+            return None
+        if self.bisector == "largest":
+            i = max(able, key=lambda i: (self.width(box[i]), -i))
+        else:
+            i = min(able, key=lambda i: (i - length) % len(box))
+        return i, cuts[i]
+
+    def settle(self, box, depth_left, length):
+        to = self.contract(self.program, box)
+        if to is None:
+            return ("X",)
+        if self.sure(self.program, to):
+            return ("I", to)
+        choice = self.choose(to, length)
+        if all(self.width(x) <= self.eps for x in to) or depth_left == 0 or choice is None:
+            return ("S", to)
+        return ("C", to, *choice)
+
+
+def halves(to, variable, at):
+    low, high = list(to), list(to)
+    low[variable], high[variable] = (to[variable][0], at), (at, to[variable][1])
+    return low, high
+
+
+def pave(settler, budget=20000):
+    """The node lines in preorder; the first open leaf in preorder is settled each time."""
+    lines, counts, settled = [], dict.fromkeys("CXISO", 0), 0
+    waiting = [(settler.root, 0)]
+    while waiting:
+        box, length = waiting.pop()
+        outcome = ("O",) if settled == budget else settler.settle(box, max(0, settler.depth - length), length)
+        settled += outcome[0] != "O"
+        counts[outcome[0]] += 1
+        lines.append(node_line(outcome))
+        if outcome[0] == "C":
+            low, high = halves(*outcome[1:])
+            waiting += [(high, length + 1), (low, length + 1)]
+    summary = "settled %d cut %d removed %d inner %d small %d open %d" % (
+        settled, counts["C"], counts["X"], counts["I"], counts["S"], counts["O"])
+    return summary, lines
+
+
+def node_line(outcome):
+    if outcome[0] in "XO":
+        return outcome[0]
+    ends = " ".join(spelling(end) for x in outcome[1] for end in x)
+    cut = f"{outcome[2]} {spelling(outcome[3])} " if outcome[0] == "C" else ""
+    return f"{outcome[0]} {cut}{ends}"
