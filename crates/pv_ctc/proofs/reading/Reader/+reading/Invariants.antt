@@ -1,0 +1,18 @@
+-- A program names one more node than its arguments, so the room for further nodes falls on each way round.
+use Rattle.std.proofs.Common.{◌+◌, ◌≤◌, ◌-◌, ◌*◌}
+use Rattle.pv_ctc.proofs.reading.Reader.+reading.Given as goal
+
+abbrev pub decreases-arguments : goal.decreases-arguments
+decreases-arguments l = 3 * (256 - l.self.now.named) + 2
+
+abbrev pub decreases-parts : goal.decreases-parts
+decreases-parts l = 3 * (256 - l.self.now.named) + 1
+
+abbrev pub decreases-program : goal.decreases-program
+decreases-program l = 3 * (256 - l.self.now.named)
+
+abbrev pub invariant-parts-loop-alloc : goal.invariant-parts-loop-alloc
+invariant-parts-loop-alloc l = l.fn.self.named ≤ l.self.named
+
+abbrev pub decreases-parts-loop-alloc : goal.decreases-parts-loop-alloc
+decreases-parts-loop-alloc l = 256 - l.self.named
