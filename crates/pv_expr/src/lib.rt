@@ -1,2 +1,12 @@
-//! Not begun.
+//! Systems of constraints as trees: expressions over numbered variables, relations, domains, and the canonical text of a system.
 #![tactic(auto)]
+
+mod constraint;
+mod domain;
+mod expr;
+mod system;
+
+pub use constraint::{Constraint, Relation};
+pub use domain::{Bound, Domain};
+pub use expr::Expr;
+pub use system::System;

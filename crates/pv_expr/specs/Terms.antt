@@ -1,0 +1,136 @@
+-- Expressions as terms, their value at a point, and when a constraint holds there.
+use Rattle.std.specs.Prelude.{◌≡◌, ℕ, zero, suc, ◌+◌, ◌*◌, Bool, List, ℤ, pos, negsuc, ◌+ℤ◌, ◌*ℤ◌, ◌<ℤ◌, ◌≤ℤ◌, neg_ℤ, int_le, unsigned_abs, max, Option, Some, None, if◌then◌else◌, slice_get}
+use Rattle.pv_expr.specs.declared.expr.Expr.{Expr}
+use Rattle.pv_expr.specs.declared.expr.Expr.TheVariants.{Const, Var, Add', Sub', Mul', Div', Min', Max', Neg', Abs', Pow'}
+use Rattle.pv_expr.specs.declared.constraint.Relation.{Relation}
+use Rattle.pv_expr.specs.declared.constraint.Relation.TheVariants.{Eq, Le, Ge, Lt, Gt}
+use Rattle.pv_expr.specs.declared.constraint.Constraint.{Constraint}
+
+pub data Unary : Type 0 where
+  negation : Unary
+  absolute : Unary
+  power : ℕ → Unary
+
+pub data Binary : Type 0 where
+  sum : Binary
+  difference : Binary
+  product : Binary
+  quotient : Binary
+  least : Binary
+  greatest : Binary
+
+-- a term: the constant p/q, the variable at a place, or an operation
+pub data Term : Type 0 where
+  constant : ℤ → ℕ → Term
+  place : ℕ → Term
+  one : Unary → Term → Term
+  two : Binary → Term → Term → Term
+
+abbrev pub term_of : Expr → Term
+term_of (Const p q) = constant p q
+term_of (Var i) = place i
+term_of (Add' p a q b) = two sum (term_of a) (term_of b)
+term_of (Sub' p a q b) = two difference (term_of a) (term_of b)
+term_of (Mul' p a q b) = two product (term_of a) (term_of b)
+term_of (Div' p a q b) = two quotient (term_of a) (term_of b)
+term_of (Min' p a q b) = two least (term_of a) (term_of b)
+term_of (Max' p a q b) = two greatest (term_of a) (term_of b)
+term_of (Neg' p a) = one negation (term_of a)
+term_of (Abs' p a) = one absolute (term_of a)
+term_of (Pow' p a n) = one (power n) (term_of a)
+
+-- a fraction; its lower number is above 0 where it is the value of a term at a point
+pub record Value : Type 0 where
+  pub top : ℤ
+  pub under : ℕ
+
+abbrev pub plus : Value → Value → Value
+plus v w = record { top = (v.top *ℤ pos w.under) +ℤ (w.top *ℤ pos v.under); under = v.under * w.under }
+
+abbrev pub negated : Value → Value
+negated v = record { top = neg_ℤ v.top; under = v.under }
+
+abbrev pub times : Value → Value → Value
+times v w = record { top = v.top *ℤ w.top; under = v.under * w.under }
+
+-- undefined where the divisor is 0
+abbrev pub over : Value → ℤ → ℕ → Option Value
+over v (pos zero) q = None
+over v (pos (suc n)) q = Some (record { top = v.top *ℤ pos q; under = v.under * suc n })
+over v (negsuc n) q = Some (record { top = neg_ℤ (v.top *ℤ pos q); under = v.under * suc n })
+
+-- v is at most w
+abbrev pub at_most : Value → Value → Bool
+at_most v w = int_le (v.top *ℤ pos w.under) (w.top *ℤ pos v.under)
+
+-- a product of n factors, which is 1 for none
+abbrev pub raised : Value → ℕ → Value
+raised v zero = record { top = pos 1; under = 1 }
+raised v (suc n) = times (raised v n) v
+
+abbrev pub unary_value : Unary → Value → Value
+unary_value negation v = negated v
+unary_value absolute v = record { top = pos (unsigned_abs v.top); under = v.under }
+unary_value (power n) v = raised v n
+
+abbrev pub binary_value : Binary → Value → Value → Option Value
+binary_value sum v w = Some (plus v w)
+binary_value difference v w = Some (plus v (negated w))
+binary_value product v w = Some (times v w)
+binary_value quotient v w = over v w.top w.under
+binary_value least v w = Some (if at_most v w then v else w)
+binary_value greatest v w = Some (if at_most v w then w else v)
+
+abbrev pub with_one : Unary → Option Value → Option Value
+with_one u None = None
+with_one u (Some v) = Some (unary_value u v)
+
+abbrev pub with_two : Binary → Option Value → Option Value → Option Value
+with_two b None o = None
+with_two b (Some v) None = None
+with_two b (Some v) (Some w) = binary_value b v w
+
+abbrev pub coordinate : Option ℤ → ℕ → Option Value
+coordinate None d = None
+coordinate (Some n) d = Some (record { top = n; under = d })
+
+-- the value of a term where variable i is the i-th number over d, or none where it is undefined
+abbrev pub value_at : Term → List ℤ → ℕ → Option Value
+value_at (constant p q) ns d = Some (record { top = p; under = q })
+value_at (place i) ns d = coordinate (slice_get ns i) d
+value_at (one u t) ns d = with_one u (value_at t ns d)
+value_at (two b t u) ns d = with_two b (value_at t ns d) (value_at u ns d)
+
+-- p/q stands in the relation to r/s, by p·s and r·q
+abbrev pub Stands : Relation → ℤ → ℤ → Type 0
+Stands Eq x y = x ≡ y
+Stands Le x y = x ≤ℤ y
+Stands Ge x y = y ≤ℤ x
+Stands Lt x y = x <ℤ y
+Stands Gt x y = y <ℤ x
+
+-- both sides are defined there, and stand in the relation
+pub record HoldsBetween (left : Term) (relation : Relation) (right : Term) (ns : List ℤ) (d : ℕ) : Type 0 where
+  pub v : Value
+  pub w : Value
+  pub left_is : value_at left ns d ≡ Some v
+  pub right_is : value_at right ns d ≡ Some w
+  pub stands : Stands relation (v.top *ℤ pos w.under) (w.top *ℤ pos v.under)
+
+-- a constraint holds at the point whose i-th coordinate is the i-th number over d
+abbrev pub Holds : Constraint → List ℤ → ℕ → Type 0
+Holds c ns d = HoldsBetween (term_of c.left) c.relation (term_of c.right) ns d
+
+-- how many nodes a term has
+abbrev pub node_count : Term → ℕ
+node_count (constant p q) = 1
+node_count (place i) = 1
+node_count (one u t) = node_count t + 1
+node_count (two b t u) = node_count t + node_count u + 1
+
+-- how many nodes the longest way down has
+abbrev pub depth_of : Term → ℕ
+depth_of (constant p q) = 1
+depth_of (place i) = 1
+depth_of (one u t) = depth_of t + 1
+depth_of (two b t u) = max (depth_of t) (depth_of u) + 1

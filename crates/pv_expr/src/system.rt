@@ -1,0 +1,101 @@
+// A system: names, domains and constraints.
+
+ghost use Rattle.std.specs.Prelude.{◌≡◌, ◌<◌, ◌≤◌, ◌≢◌, length, map, string_bytes, All, AllPairs, sum_by, IfSome, IfNone, ℕ, slice_get};
+ghost use Rattle.pv_expr.specs.Systems.{IsDomain, IsConstraint, IsSystem, side_nodes};
+
+use crate::constraint::Constraint;
+use crate::domain::Domain;
+use std::marker::Model;
+
+/// A system of constraints: 1 to 12 named variables with a domain each, and 1 to 64 constraints.
+#[derive(Drop)]
+pub struct System {
+    names: Vec<String>,
+    domains: Vec<Domain>,
+    constraints: Vec<Constraint>,
+}
+
+impl Model for System {
+    ghost use Rattle.std.specs.Prelude.{map, string_bytes};
+    ghost use Rattle.std.specs.Coded.{codes};
+    ghost use Rattle.pv_expr.specs.Systems.{Parts, IsSystem};
+    ghost use Rattle.pv_expr.specs.contracts.expr.Expr as e;
+
+    ghost Value = { Parts };
+
+    ghost coded = { Prim.hlevel (codes, e.the_row.coded) };
+
+    ghost view = { λ s. record { names = map string_bytes s.names.items; domains = s.domains.items; constraints = s.constraints.items } };
+
+    ghost invariant = { λ s. IsSystem (record { names = map string_bytes s.names.items; domains = s.domains.items; constraints = s.constraints.items }) };
+}
+
+impl System {
+    /// The system of these variables, domains and constraints.
+    pub fn new(names: Vec<String>, domains: Vec<Domain>, constraints: Vec<Constraint>) -> System
+        requires some_names { 1 ≤ length names.items }
+        requires few_names { length names.items ≤ 12 }
+        requires distinct { AllPairs (λ x y. x ≢ y) (map string_bytes names.items) }
+        requires same_length { length domains.items ≡ length names.items }
+        requires domains_good { All IsDomain domains.items }
+        requires some_constraints { 1 ≤ length constraints.items }
+        requires few_constraints { length constraints.items ≤ 64 }
+        requires constraints_good { All (IsConstraint (length names.items)) constraints.items }
+        requires few_nodes { sum_by side_nodes constraints.items ≤ 65536 }
+        ensures names { result.names ≡ map string_bytes names.items }
+        ensures domains { result.domains ≡ domains.items }
+        ensures constraints { result.constraints ≡ constraints.items }
+    {
+        System {
+            names,
+            domains,
+            constraints,
+        }
+    }
+
+    /// How many variables there are, from 1 to 12.
+    pub fn variable_count(&self) -> u8
+        ensures count { result ≡ length self.now.names }
+        ensures limits { IsSystem self.now }
+    {
+        self.names.len() as u8
+    }
+
+    /// How many constraints there are, from 1 to 64.
+    pub fn constraint_count(&self) -> u32
+        ensures count { result ≡ length self.now.constraints }
+        ensures limits { IsSystem self.now }
+    {
+        self.constraints.len() as u32
+    }
+
+    /// Constraint `i`, counted from 0.
+    pub fn constraint(&self, i: u32) -> &Constraint
+        requires { i < length self.now.constraints }
+        ensures found { slice_get self.now.constraints i ≡ Some result.now }
+        ensures limits { IsConstraint (length self.now.names) result.now }
+    {
+        &self.constraints[i as usize]
+    }
+
+    /// The name of variable `i`, counted from 0.
+    pub fn name(&self, i: u8) -> &str
+        requires { i < length self.now.names }
+        ensures { slice_get self.now.names i ≡ Some result.now }
+    {
+        self.names[i as usize].as_str()
+    }
+
+    /// The number of the variable of this name, or None where no variable has it.
+    pub fn find(&self, name: &str) -> Option<u8>
+        ensures found { IfSome result (λ i. slice_get self.now.names i ≡ Some name.now) }
+        ensures absent { IfNone result ((k : ℕ) → k < length self.now.names → slice_get self.now.names k ≢ Some name.now) }
+    {
+        for i in 0..self.variable_count() {
+            if self.name(i) == name {
+                return Some(i);
+            }
+        }
+        None
+    }
+}
