@@ -1,2 +1,25 @@
-//! Not begun.
+//! The outside as two traits: a sink that takes bytes, and a folder of named files.
+//!
+//! What may go wrong outside is counted: an answer `Failed` comes only where the count of faults rose
+//! in that call. Those in memory tell their contents and can be made to fail at chosen calls. The real
+//! ones tell no contents.
 #![tactic(auto)]
+
+mod folder;
+mod mem_folder;
+mod mem_sink;
+mod plain_folder;
+mod plain_sink;
+mod real_folder;
+mod real_sink;
+mod script;
+mod sink;
+
+pub use folder::{FetchRefused, Folder, StoreRefused};
+pub use mem_folder::MemFolder;
+pub use mem_sink::MemSink;
+pub use plain_folder::PlainFolder;
+pub use plain_sink::PlainSink;
+pub use real_folder::RealFolder;
+pub use real_sink::RealSink;
+pub use sink::{Sink, WriteRefused};

@@ -1,0 +1,5 @@
+use Rattle.std.proofs.Common.{ℕ, ◌+◌, ◌≤◌, length, vec_len}
+use Rattle.pv_io.proofs.real_folder.read_up_to.Given as goal
+
+abbrev pub invariant-loop : goal.invariant-loop
+invariant-loop g l = length l.into.items ≤ l.limit + 1
