@@ -6,13 +6,14 @@ BEACONS = ",".join(f"compose(hc4({2 * k}),hc4({2 * k + 1}))" for k in range(5))
 EXAMPLES = [
     ("tolerance", ["--eps", "0.5"]),
     ("ring", []),
+    ("two_discs", []),
     ("pi_gains", ["--eps", "0.0625"]),
     ("gough_slice", ["--eps", "0.03125"]),
     ("bounded_error_fit", ["--eps", "0.03125"]),
     ("localisation", ["--eps", "0.0625", "--contract", f"qinter(4,{BEACONS})"]),
     ("unbounded", ["--depth", "14"]),
     ("torus", ["--eps", "0.25", "--boxes", "100000"]),
-    ("planar_arm", ["--eps", "0.5", "--boxes", "100000"]),
+    ("planar_arm", ["--eps", "0.25", "--boxes", "100000"]),
 ]
 
 

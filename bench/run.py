@@ -1,0 +1,93 @@
+#!/usr/bin/env python3
+"""Measures paver beside a lean Rust program with the same arithmetic (bench/lean).
+
+    make && python3 bench/run.py            everything
+    python3 bench/run.py numbers            nanoseconds for add, mul and div in a dependent chain
+    python3 bench/run.py paving             settled nodes a second, and the share of time that printing takes
+    python3 bench/run.py growth             how the time grows as --eps is halved
+
+Each figure is the best of five runs. Needs rustc for the yardstick; without it only paver's own figures are printed.
+"""
+import shutil
+import subprocess
+import sys
+import tempfile
+import time
+from pathlib import Path
+
+TOP = Path(__file__).parent.parent
+EXAMPLES = TOP / "examples"
+STEPS = 10_000_000
+PAVINGS = [
+    ("two variables, strict order", None, ["--boxes", "20000"]),
+    ("PI gains, 2 variables", "pi_gains", ["--eps", "0.0078125", "--boxes", "100000"]),
+    ("Gough slice, 2 variables", "gough_slice", ["--eps", "0.0009765625", "--boxes", "100000"]),
+    ("torus, 3 variables", "torus", ["--eps", "0.0625", "--boxes", "100000"]),
+    ("planar arm, 4 variables", "planar_arm", ["--eps", "0.125", "--boxes", "100000"]),
+]
+ORDER = "Variables x in [0,9999999], y in [0,9999999]; Constraints x < y; end\n"
+
+
+def seconds(words):
+    """The best of five runs, and what was printed."""
+    best, printed = None, b""
+    for _ in range(5):
+        start = time.perf_counter()
+        printed = subprocess.run([str(word) for word in words], stdout=subprocess.PIPE, check=False).stdout
+        spent = time.perf_counter() - start
+        best = spent if best is None else min(best, spent)
+    return best, printed
+
+
+def yardstick(folder, name):
+    if not shutil.which("rustc"):
+        return None
+    program = Path(folder) / name
+    source = TOP / "bench" / "lean" / f"{name}.rs"
+    subprocess.run(["rustc", "--edition", "2021", "-O", str(source), "-o", str(program)], check=True,
+                   stderr=subprocess.DEVNULL)
+    return program
+
+
+def numbers(folder):
+    programs = {"pv_num": TOP / "crates/pv_bench/out/pv_bench", "lean Rust": yardstick(folder, "numbers")}
+    for name, program in programs.items():
+        if program and program.exists():
+            empty, _ = seconds([program, "none", STEPS])
+            for operation in ("add", "mul", "div"):
+                spent, _ = seconds([program, operation, STEPS])
+                print(f"{name:10} {operation}: {(spent - empty) / STEPS * 1e9:6.1f} ns")
+
+
+def paving(folder):
+    lean = yardstick(folder, "paver")
+    for title, name, words in PAVINGS:
+        system = EXAMPLES / f"{name}.mbx" if name else Path(folder) / "order.mbx"
+        if not name:
+            system.write_text(ORDER)
+        spent, printed = seconds([TOP / "paver", "run", system, *words])
+        settled = int(printed.split()[1])
+        line = f"{title:28} {settled:7} nodes {settled / spent / 1000:8.0f} thousand a second"
+        if lean:
+            other, same = seconds([lean, system, *words])
+            line += f", {spent / other:5.2f} times lean Rust{'' if same == printed else ', OTHER OUTPUT'}"
+        print(line)
+
+
+def growth(_):
+    for name, eps in [("ring", 2**-k) for k in range(4, 10)] + [("torus", 2**-k) for k in range(1, 5)]:
+        spent, printed = seconds([TOP / "paver", "run", EXAMPLES / f"{name}.mbx", "--eps", f"{eps:.10f}", "--boxes",
+                                  "100000"])
+        settled = int(printed.split()[1])
+        print(f"{name:6} eps {eps:.6f} {settled:7} nodes {spent:7.3f} s {spent / settled * 1e6:6.2f} us a node")
+
+
+def main():
+    parts = {"numbers": numbers, "paving": paving, "growth": growth}
+    with tempfile.TemporaryDirectory() as folder:
+        for part in sys.argv[1:] or parts:
+            parts[part](folder)
+
+
+if __name__ == "__main__":
+    main()
