@@ -9,7 +9,7 @@ import sys
 from fractions import Fraction
 
 SIZE = 600
-FILL = {"X": "#cfd8dc", "I": "#43a047", "S": "#fdd835", "O": "#ffffff"}
+FILL = {"I": "#43a047", "S": "#fdd835", "O": "#ffffff"}
 
 
 def number(text):
@@ -20,13 +20,14 @@ def number(text):
 
 
 def rectangles(lines, box):
-    """The boxes to paint, in preorder: a node's own box as removed, then what of it is kept."""
+    """The boxes that are kept, in preorder; what no box of these covers is removed."""
     waiting = [box]
     for line in lines:
         kind, *words = line.split()
         box = waiting.pop()
-        yield ("O" if kind == "O" else "X"), box
-        if kind in "IS":
+        if kind == "O":
+            yield kind, box
+        elif kind in "IS":
             yield kind, ends(words)
         elif kind == "C":
             low, high = ends(words[2:]), ends(words[2:])
@@ -49,12 +50,13 @@ def main():
     x_lo, x_hi, y_lo, y_hi = (Fraction(word) for word in sys.argv[2].split(","))
     root = [[x_lo, x_hi], [y_lo, y_hi]]
     print(f'<svg xmlns="http://www.w3.org/2000/svg" width="{SIZE}" height="{SIZE}" viewBox="0 0 {SIZE} {SIZE}">')
+    print(f'<rect width="{SIZE}" height="{SIZE}" fill="#cfd8dc"/>')
+    print('<g stroke="#90a4ae" stroke-width="0.5">')
     for kind, (x, y) in rectangles(lines, root):
         left, right = pixel(x[0], root[0]), pixel(x[1], root[0])
         top, bottom = SIZE - pixel(y[1], root[1]), SIZE - pixel(y[0], root[1])
-        edge = ' stroke="#90a4ae" stroke-width="0.5"' if kind in "IS" else ""
-        print(f'<rect x="{left}" y="{top}" width="{right - left}" height="{bottom - top}" fill="{FILL[kind]}"{edge}/>')
-    print("</svg>")
+        print(f'<rect x="{left}" y="{top}" width="{right - left}" height="{bottom - top}" fill="{FILL[kind]}"/>')
+    print("</g>\n</svg>")
 
 
 if __name__ == "__main__":
