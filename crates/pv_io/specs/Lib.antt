@@ -1,3 +1,4 @@
 pub mod Outside
 pub mod Scripted
 pub mod Shelf
+pub mod Answers

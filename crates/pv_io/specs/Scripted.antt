@@ -27,6 +27,10 @@ pub record Turns : Type 0 where
   pub failing : List ℕ
   pub next : ℕ
 
+-- one call later
+abbrev pub advanced : Turns → Turns
+advanced turns = record { failing = turns.failing; next = one_more turns.next }
+
 -- a sink that fails by a list
 pub record Spool : Type 0 where
   pub bytes : List ℕ

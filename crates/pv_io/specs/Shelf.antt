@@ -12,3 +12,12 @@ kept folder name = content_of folder.files name
 -- which calls of a folder fail, and which call is the next
 abbrev pub turns_of : MemFolder → Turns
 turns_of folder = folder.script
+
+abbrev pub kept_in : MemFolder → List ℕ → Content
+kept_in folder name = kept folder.plain name
+
+abbrev pub fetch_faults_of : MemFolder → ℕ
+fetch_faults_of folder = folder.fetch_faults
+
+abbrev pub store_faults_of : MemFolder → ℕ
+store_faults_of folder = folder.store_faults

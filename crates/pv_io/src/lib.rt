@@ -14,6 +14,8 @@ mod real_folder;
 mod real_sink;
 mod script;
 mod sink;
+#[cfg(test)]
+mod tests;
 
 pub use folder::{FetchRefused, Folder, StoreRefused};
 pub use mem_folder::MemFolder;

@@ -1,6 +1,6 @@
 ghost use Rattle.std.specs.Prelude.{◌≡◌, ◌↔◌, [], ℕ, ◌≤◌, List, Some, OnOk, IsErrOf, Contains};
 ghost use Rattle.pv_io.specs.Outside.{Rose, appended, AppendsFront};
-ghost use Rattle.pv_io.specs.Scripted.{one_more};
+ghost use Rattle.pv_io.specs.Answers.{spool_after};
 
 use crate::script::Script;
 use crate::{PlainSink, Sink, WriteRefused};
@@ -48,7 +48,11 @@ impl Sink for MemSink {
 
     ghost faults = { λ s. s.faults };
 
-    fn write(&mut self, bytes: &[u8]) -> Result<(), WriteRefused> {
+    fn write(&mut self, bytes: &[u8]) -> Result<(), WriteRefused>
+        ensures fails { IsErrOf result WriteRefused.Failed ↔ Contains self.old.turns.failing self.old.turns.next }
+        ensures counts_on { self.old.faults ≤ self.new.faults }
+        ensures state { self.new ≡ spool_after result bytes.now self.old }
+    {
         if self.script.fails() {
             self.script.advance();
             self.faults = self.faults.saturating_add(1);

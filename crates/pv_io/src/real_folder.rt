@@ -10,6 +10,7 @@ use std::rt::Files;
 const CHUNK: usize = 16384;
 
 /// The folder in which the program runs. It tells nothing of what its files hold.
+#[derive(Drop)]
 pub struct RealFolder<'a, R> {
     rt: &'a R,
     fetch_faults: u64,

@@ -1,4 +1,4 @@
-use Rattle.std.proofs.Common.{ℕ, ◌+◌, ◌≤◌, length, vec_len}
+use Rattle.std.proofs.Common.{◌+◌, ◌≤◌, length}
 use Rattle.pv_io.proofs.real_folder.read_up_to.Given as goal
 
 abbrev pub invariant-loop : goal.invariant-loop
