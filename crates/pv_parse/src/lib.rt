@@ -1,2 +1,13 @@
-//! Not begun.
+//! The Minibex reader: texts of systems, of single expressions and of numbers, with the place and
+//! the cause of each refusal.
 #![tactic(auto)]
+
+mod number;
+mod place;
+mod scanner;
+mod token;
+
+pub use number::read_number;
+
+#[cfg(test)]
+mod tests;

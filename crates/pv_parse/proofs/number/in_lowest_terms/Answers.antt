@@ -1,0 +1,19 @@
+use Rattle.std.proofs.Common.{◌<◌, ◌^◌, ◌/◌, arith, subst, sym}
+use mir.Syntax.{w128}
+use Rattle.std.proofs.lemmas.Int.{to_z_pos}
+use Rattle.std.proofs.Math.Nat.{div-le_self}
+use Rattle.pv_parse.specs.Numbers.{IsLowest}
+use Rattle.pv_parse.proofs.Powers.{divided}
+use Rattle.pv_parse.proofs.number.in_lowest_terms.Goals as goal
+
+pub nonzero_div-result : goal.nonzero_div-result
+nonzero_div-result c = (divided _ _ _ c.requires.below c.gcd-common.ensures).0
+
+pub nonzero_div-result-2 : goal.nonzero_div-result-2
+nonzero_div-result-2 c = (divided _ _ _ c.requires.below c.gcd-common.ensures).0
+
+-- the numerator is small enough to be its own cast
+pub returns : goal.returns
+returns c =
+    let small : c.args.a / c.gcd-common.result < 2 ^ 127 = omega (arith, div-le_self c.args.a c.gcd-common.result, c.requires.above) in
+    subst (λ z. IsLowest c.args.a c.args.b (z, c.args.b / c.gcd-common.result)) (sym (to_z_pos w128 _ small)) (divided _ _ _ c.requires.below c.gcd-common.ensures).1

@@ -1,0 +1,133 @@
+// Values of numbers.
+
+ghost use Rattle.std.specs.Prelude.{◌≡◌, ◌+◌, ◌-◌, ◌*◌, ◌^◌, ◌<◌, ◌≤◌, length, min, MatchOption};
+ghost use Rattle.std.specs.Int.{IsGcd};
+ghost use Rattle.pv_parse.specs.Numbers.{IsLowest};
+
+use crate::scanner::{Parts, parts_at};
+
+/// A number that no number which is read reaches.
+const LIMIT: u128 = 10_000_000_000_000_000_000_000_000_000_000_000_000;
+
+/// The greatest power of ten, and of a tenth, that a number may have.
+const MOST: u128 = 36;
+
+/// The number digits·10^(up - down).
+#[derive(Clone, Copy, Debug, PartialEq, Eq)]
+struct Decimal {
+    digits: u128,
+    up: u128,
+    down: u128,
+}
+
+/// The value of an unsigned number that is the whole text, as a numerator and a denominator in
+/// lowest terms. None where the text is no number or is too wide: D·10^s with s below -36 or above
+/// 36, or with more than 37 digits in D and the zeros that s puts behind it.
+pub fn read_number(text: &[u8]) -> Option<(i128, u128)> {
+    if !matches!(text, [b'0'..=b'9', ..]) {
+        return None;
+    }
+    let parts = parts_at(text, 0);
+    if parts.end == text.len() {
+        value_of(decimal_of(text, parts))
+    } else {
+        None
+    }
+}
+
+// The digits and the power of ten of a number, each no further than `LIMIT`.
+fn decimal_of(text: &[u8], parts: Parts) -> Decimal
+    requires point { parts.point ≤ length text.now }
+    requires tail { parts.tail ≤ length text.now }
+    requires power { parts.power ≤ parts.end }
+    requires end { parts.end ≤ length text.now }
+    ensures up { result.up ≤ 10 ^ 37 }
+    ensures down { result.down ≤ 10 ^ 38 }
+{
+    let whole = with_digits(0, &text[..parts.point]);
+    let behind = &text[(parts.point + 1).min(parts.tail)..parts.tail];
+    let digits = with_digits(whole, behind);
+    let places = behind.len() as u128;
+    let power = with_digits(0, &text[parts.power..parts.end]);
+    if parts.negative {
+        Decimal {
+            digits,
+            up: 0,
+            down: places + power,
+        }
+    } else {
+        Decimal {
+            digits,
+            up: power,
+            down: places,
+        }
+    }
+}
+
+// A value with more digits behind it, or `LIMIT` where that is less.
+fn with_digits(value: u128, digits: &[u8]) -> u128
+    requires { value ≤ 10 ^ 37 }
+    ensures { result ≤ 10 ^ 37 }
+{
+    let mut all = value;
+    for digit in digits {
+        all = (all * 10 + u128::from(digit.saturating_sub(b'0'))).min(LIMIT);
+    }
+    all
+}
+
+// The value in lowest terms, where it is not too wide.
+fn value_of(decimal: Decimal) -> Option<(i128, u128)>
+    requires up { decimal.up ≤ 10 ^ 37 }
+    requires down { decimal.down ≤ 10 ^ 38 }
+{
+    if decimal.up > decimal.down + MOST || decimal.down > decimal.up + MOST {
+        return None;
+    }
+    let zeros = decimal.up.saturating_sub(decimal.down) as u32;
+    let places = decimal.down.saturating_sub(decimal.up) as u32;
+    let above = with_zeros(decimal.digits, zeros)?;
+    Some(in_lowest_terms(above, power_of_ten(places)))
+}
+
+// A number with zeros behind it, where it keeps below `LIMIT`.
+fn with_zeros(digits: u128, zeros: u32) -> Option<u128>
+    requires { zeros ≤ 36 }
+    ensures { MatchOption result (10 ^ 37 ≤ digits * 10 ^ zeros) (λ n. (n ≡ digits * 10 ^ zeros) × (n < 10 ^ 37)) }
+{
+    let all = digits.checked_mul(power_of_ten(zeros))?;
+    if all < LIMIT { Some(all) } else { None }
+}
+
+fn power_of_ten(n: u32) -> u128
+    requires { n ≤ 37 }
+    ensures value { result ≡ 10 ^ n }
+    ensures least { 1 ≤ result }
+    ensures most { result ≤ 10 ^ 37 }
+{
+    10u128.pow(n)
+}
+
+// The quotient a/b in lowest terms.
+fn in_lowest_terms(a: u128, b: u128) -> (i128, u128)
+    requires above { a < 10 ^ 37 }
+    requires below { 0 < b }
+    ensures { IsLowest a b result }
+{
+    let common = gcd(a, b);
+    ((a / common) as i128, b / common)
+}
+
+// The greatest common divisor.
+fn gcd(a: u128, b: u128) -> u128
+    ensures { IsGcd a b result }
+{
+    let mut a = a;
+    let mut b = b;
+    while b != 0 {
+        let rest = a % b;
+        a = b;
+        b = rest;
+    }
+    a
+}
