@@ -1,2 +1,18 @@
-//! Not begun.
+//! Numbers m * 2^e with a mantissa of 62 bits and two infinite ends, in exact arithmetic that rounds to a named side.
 #![tactic(auto)]
+
+mod convert;
+mod magnitude;
+mod memory;
+mod num;
+mod order;
+mod product;
+mod quotient;
+mod root;
+mod round;
+mod sum;
+mod text;
+
+pub use convert::Parts;
+pub use memory::Memory;
+pub use num::{End, Num};

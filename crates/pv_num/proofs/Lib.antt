@@ -1,0 +1,5 @@
+pub mod Align
+pub mod Quotients
+pub mod Rounds
+pub mod Sizes
+pub mod Sums

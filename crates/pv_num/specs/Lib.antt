@@ -1,0 +1,9 @@
+pub mod Extended
+pub mod Order
+pub mod Grid
+pub mod View
+pub mod Inside
+pub mod Rounding
+pub mod Arithmetic
+pub mod Laws
+pub mod Sizes
