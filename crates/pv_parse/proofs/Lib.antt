@@ -1,1 +1,4 @@
+pub mod Gaps
+pub mod Numerals
 pub mod Powers
+pub mod Words

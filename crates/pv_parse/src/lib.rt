@@ -2,7 +2,9 @@
 //! the cause of each refusal.
 #![tactic(auto)]
 
+mod bytes;
 mod number;
+mod numeral;
 mod place;
 mod scanner;
 mod token;

@@ -4,7 +4,7 @@ ghost use Rattle.std.specs.Prelude.{◌≡◌, ◌+◌, ◌-◌, ◌*◌, ◌^�
 ghost use Rattle.std.specs.Int.{IsGcd};
 ghost use Rattle.pv_parse.specs.Numbers.{IsLowest};
 
-use crate::scanner::{Parts, parts_at};
+use crate::numeral::{Parts, parts_at};
 
 /// A number that no number which is read reaches.
 const LIMIT: u128 = 10_000_000_000_000_000_000_000_000_000_000_000_000;
