@@ -1,0 +1,23 @@
+//! Dependent chains of sums, products and quotients, for measuring: prints the last number.
+//!
+//!     pv_bench add 10000000
+#![tactic(auto)]
+
+mod chain;
+
+use chain::{Operation, last_of};
+use std::env;
+use std::io;
+
+fn main(rt: HostRuntime) -> io::Result<()> {
+    let mut operation = Operation::Nothing;
+    let mut steps = 0;
+    for word in env::args(&rt)? {
+        match Operation::named(word.as_str()) {
+            Some(named) => operation = named,
+            None => steps = word.as_str().parse().unwrap_or(0),
+        }
+    }
+    let last = last_of(operation, steps);
+    println!(rt; "{:?}", last.parts())
+}
