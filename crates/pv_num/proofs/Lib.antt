@@ -1,5 +1,11 @@
 pub mod Align
+pub mod Divisions
+pub mod Operations
+pub mod Powers
 pub mod Quotients
+pub mod Rounding
 pub mod Rounds
+pub mod Scales
+pub mod Signs
 pub mod Sizes
 pub mod Sums

@@ -85,3 +85,9 @@ toward_of Down true = Away
 toward_of Down false = Zero
 toward_of Up true = Zero
 toward_of Up false = Away
+
+-- The whole number of units of a finite number.
+abbrev pub whole_of : Extended → ℤ
+whole_of NegInf = pos 0
+whole_of (Fin a) = a
+whole_of PosInf = pos 0

@@ -1,6 +1,9 @@
 //! Quotients and ratios.
 ghost use Rattle.std.specs.Prelude.{◌≡◌, ◌+◌, ◌*◌, ◌^◌, ◌<◌, ◌≤◌, ◌≢◌, pos, unsigned_abs};
-ghost use Rattle.pv_num.specs.Extended.{Extended, NegInf, Fin, PosInf};
+ghost use Rattle.pv_num.specs.Extended.{Fin};
+ghost use Rattle.pv_num.specs.Grid.{unit};
+ghost use Rattle.pv_num.specs.Sizes.{size_of, IsSized};
+ghost use Rattle.pv_num.specs.Arithmetic.{div_of, ratio_of};
 
 use crate::magnitude::{Magnitude, Toward};
 use crate::num::{End, Num, infinite, signed, toward};
@@ -10,11 +13,12 @@ impl Num {
     /// The quotient, rounded to a side. Anything over an infinite end is zero.
     pub fn div(self, other: Num, side: End) -> Num
         requires { other ≢ Fin (pos 0) }
+        ensures { result ≡ div_of side self other }
     {
         if other.is_infinite() {
             return Num::ZERO;
         }
-        let negative = self.is_negative() != other.is_negative();
+        let negative = self.is_negative() ^ other.is_negative();
         if self.is_infinite() {
             return infinite(negative);
         }
@@ -27,14 +31,17 @@ impl Num {
         requires p_fits { unsigned_abs p < 10 ^ 37 }
         requires q_positive { 1 ≤ q }
         requires q_fits { q ≤ 10 ^ 36 }
+        ensures { result ≡ ratio_of side p q }
     {
-        let size = ratio(p.unsigned_abs(), q, toward(side, p < 0));
-        signed(p < 0, size)
+        let negative = p < 0;
+        let size = ratio(p.unsigned_abs(), q, toward(side, negative));
+        signed(negative, size)
     }
 }
 
 fn quotient(x: Magnitude, y: Magnitude, toward: Toward) -> Option<Magnitude>
-    requires { 0 < y.mantissa }
+    requires { 0 < size_of y }
+    ensures { IsSized toward (size_of x * unit) (size_of y) result }
 {
     if x.mantissa == 0 {
         return round(0, 0, toward);
@@ -74,6 +81,7 @@ fn ratio(p: u128, q: u128, toward: Toward) -> Option<Magnitude>
     requires p_fits { p < 2 ^ 123 }
     requires q_positive { 1 ≤ q }
     requires q_fits { q < 2 ^ 120 }
+    ensures { IsSized toward (p * unit) q result }
 {
     if p == 0 {
         return round(0, 0, toward);

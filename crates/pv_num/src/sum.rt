@@ -1,8 +1,10 @@
 //! Sums, differences and middles.
-ghost use Rattle.std.specs.Prelude.{◌≡◌, ◌+◌, ◌-◌, ◌*◌, ◌^◌, ◌<◌, ◌≤◌, ◌≢◌, ◌↔◌, pos, IsTrue};
-ghost use Rattle.pv_num.specs.Extended.{Extended, NegInf, Fin, PosInf};
-ghost use Rattle.pv_num.specs.Order.{lt, le};
-ghost use Rattle.pv_num.specs.Sizes.{size_of, IsSized, fine};
+ghost use Rattle.std.specs.Prelude.{◌≡◌, ◌↔◌, ◌+◌, ◌-◌, ◌*◌, ◌^◌, ◌<◌, ◌≤◌, ◌≢◌, ◌⊎◌, ◌+ℤ◌, IsTrue, true, false};
+ghost use Rattle.pv_num.specs.Extended.{NegInf, PosInf};
+ghost use Rattle.pv_num.specs.Order.{le, lt};
+ghost use Rattle.pv_num.specs.Rounding.{rounded};
+ghost use Rattle.pv_num.specs.Sizes.{size_of, IsSized, fine, whole_of, is_infinite_of};
+ghost use Rattle.pv_num.specs.Arithmetic.{add_of, sub_of, middle_of, between, end_of};
 
 use crate::magnitude::{FINE_BITS, Magnitude, Toward};
 use crate::num::{Class, End, Num, signed, toward};
@@ -14,8 +16,13 @@ const FAR: u16 = 64;
 impl Num {
     /// The sum, rounded to a side. Opposite infinite ends give the infinite end of that side.
     #[inline]
-    pub fn add(self, other: Num, side: End) -> Num {
-        if self.is_infinite() || other.is_infinite() {
+    pub fn add(self, other: Num, side: End) -> Num
+        ensures { result ≡ add_of side self other }
+    {
+        if self.is_infinite() {
+            return infinite_sum(self, other, side);
+        }
+        if other.is_infinite() {
             return infinite_sum(self, other, side);
         }
         finite_sum(self, other, FINE_BITS, side)
@@ -23,7 +30,9 @@ impl Num {
 
     /// The difference, rounded to a side.
     #[inline]
-    pub fn sub(self, other: Num, side: End) -> Num {
+    pub fn sub(self, other: Num, side: End) -> Num
+        ensures { result ≡ sub_of side self other }
+    {
         self.add(other.neg(), side)
     }
 
@@ -33,38 +42,50 @@ impl Num {
         requires lo_finite { (lo ≢ NegInf) × (lo ≢ PosInf) }
         requires hi_finite { (hi ≢ NegInf) × (hi ≢ PosInf) }
         requires ordered { IsTrue (le lo hi) }
+        ensures { result ≡ middle_of lo hi }
     {
         let below = finite_sum(lo, hi, FINE_BITS - 1, End::Down);
         if lo < below {
-            return strictly_below(below, hi);
+            return strictly_between(lo, below, hi);
         }
         let above = finite_sum(lo, hi, FINE_BITS - 1, End::Up);
-        if lo < above {
-            strictly_below(above, hi)
-        } else {
-            None
-        }
+        strictly_between(lo, above, hi)
     }
 }
 
 #[inline]
-fn strictly_below(cut: Num, hi: Num) -> Option<Num> {
-    if cut < hi { Some(cut) } else { None }
+fn strictly_between(lo: Num, cut: Num, hi: Num) -> Option<Num>
+    ensures { result ≡ between lo hi cut }
+{
+    if lo < cut {
+        if cut < hi { Some(cut) } else { None }
+    } else {
+        None
+    }
 }
 
-fn infinite_sum(a: Num, b: Num, side: End) -> Num {
-    match (a.class, b.class) {
-        (Class::MinusOo, Class::PlusOo) => end(side),
-        (Class::PlusOo, Class::MinusOo) => end(side),
-        (Class::MinusOo, _) => Num::NEG_INF,
-        (_, Class::MinusOo) => Num::NEG_INF,
-        _ => Num::POS_INF,
+fn infinite_sum(a: Num, b: Num, side: End) -> Num
+    requires { (is_infinite_of a ≡ true) ⊎ (is_infinite_of b ≡ true) }
+    ensures { result ≡ add_of side a b }
+{
+    match a.class {
+        Class::MinusOo => match b.class {
+            Class::PlusOo => end(side),
+            _ => Num::NEG_INF,
+        },
+        Class::PlusOo => match b.class {
+            Class::MinusOo => end(side),
+            _ => Num::POS_INF,
+        },
+        _ => b,
     }
 }
 
 // The infinite end of a side.
 #[inline]
-fn end(side: End) -> Num {
+fn end(side: End) -> Num
+    ensures { result ≡ end_of side }
+{
     match side {
         End::Down => Num::NEG_INF,
         End::Up => Num::POS_INF,
@@ -74,19 +95,23 @@ fn end(side: End) -> Num {
 // The sum of finite numbers times 2^(at - 1024).
 #[inline]
 fn finite_sum(a: Num, b: Num, at: u16, side: End) -> Num
+    requires a_finite { is_infinite_of a ≡ false }
+    requires b_finite { is_infinite_of b ≡ false }
     requires at_high { 1023 ≤ at }
     requires at_fits { at ≤ 1024 }
+    ensures { result ≡ rounded side (whole_of a +ℤ whole_of b) (2 ^ (1024 - at)) }
 {
     let x = a.size();
     let y = b.size();
     let less = a.is_negative();
-    if less == b.is_negative() {
-        return signed(less, total(x, y, at, toward(side, less)));
-    }
-    if is_smaller(x, y) {
-        signed(!less, difference(y, x, at, toward(side, !less)))
+    if less ^ b.is_negative() {
+        if is_smaller(x, y) {
+            signed(!less, difference(y, x, at, toward(side, !less)))
+        } else {
+            signed(less, difference(x, y, at, toward(side, less)))
+        }
     } else {
-        signed(less, difference(x, y, at, toward(side, less)))
+        signed(less, total(x, y, at, toward(side, less)))
     }
 }
 
