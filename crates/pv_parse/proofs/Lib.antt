@@ -1,3 +1,4 @@
+pub mod Decimals
 pub mod Gaps
 pub mod Numerals
 pub mod Powers

@@ -1,9 +1,13 @@
 // Values of numbers.
 
-ghost use Rattle.std.specs.Prelude.{◌≡◌, ◌+◌, ◌-◌, ◌*◌, ◌^◌, ◌<◌, ◌≤◌, length, min, MatchOption};
+ghost use Rattle.std.specs.Prelude.{◌≡◌, ℕ, ◌+◌, ◌*◌, ◌^◌, ◌<◌, ◌≤◌, List, ◌++◌, length, min, EachIndex, MatchOption, slice_index};
 ghost use Rattle.std.specs.Int.{IsGcd};
-ghost use Rattle.pv_parse.specs.Numbers.{IsLowest};
+ghost use Rattle.std.specs.Str.Parse.{digits_value};
+ghost use Rattle.pv_parse.specs.Numbers.{Caps, IsLowest, IsNumeral, IsRead, IsValue, TooWide, decimal_in};
+ghost use Rattle.pv_parse.specs.Tokens.{IsDigit, IsNumber};
+ghost use Rattle.pv_parse.specs.declared.number.Decimal.{Decimal};
 
+use crate::bytes::{byte_at, is_digit};
 use crate::numeral::{Parts, parts_at};
 
 /// A number that no number which is read reaches.
@@ -23,8 +27,10 @@ struct Decimal {
 /// The value of an unsigned number that is the whole text, as a numerator and a denominator in
 /// lowest terms. None where the text is no number or is too wide: D·10^s with s below -36 or above
 /// 36, or with more than 37 digits in D and the zeros that s puts behind it.
-pub fn read_number(text: &[u8]) -> Option<(i128, u128)> {
-    if !matches!(text, [b'0'..=b'9', ..]) {
+pub fn read_number(text: &[u8]) -> Option<(i128, u128)>
+    ensures { MatchOption result ((d : Decimal) → IsNumeral text.now d → TooWide d) (λ v. IsRead text.now v) }
+{
+    if !is_digit(byte_at(text, 0)) {
         return None;
     }
     let parts = parts_at(text, 0);
@@ -35,16 +41,14 @@ pub fn read_number(text: &[u8]) -> Option<(i128, u128)> {
     }
 }
 
-// The digits and the power of ten of a number, each no further than `LIMIT`.
+// The digits and the power of ten of a number, without more of them than `value_of` needs.
 fn decimal_of(text: &[u8], parts: Parts) -> Decimal
-    requires point { parts.point ≤ length text.now }
-    requires tail { parts.tail ≤ length text.now }
-    requires power { parts.power ≤ parts.end }
-    requires end { parts.end ≤ length text.now }
+    requires { IsNumber text.now 0 parts }
+    ensures caps { Caps result (decimal_in text.now parts) }
     ensures up { result.up ≤ 10 ^ 37 }
     ensures down { result.down ≤ 10 ^ 38 }
 {
-    let whole = with_digits(0, &text[..parts.point]);
+    let whole = with_digits(0, &text[0..parts.point]);
     let behind = &text[(parts.point + 1).min(parts.tail)..parts.tail];
     let digits = with_digits(whole, behind);
     let places = behind.len() as u128;
@@ -66,12 +70,14 @@ fn decimal_of(text: &[u8], parts: Parts) -> Decimal
 
 // A value with more digits behind it, or `LIMIT` where that is less.
 fn with_digits(value: u128, digits: &[u8]) -> u128
-    requires { value ≤ 10 ^ 37 }
-    ensures { result ≤ 10 ^ 37 }
+    requires least { value ≤ 10 ^ 37 }
+    requires digits { EachIndex digits.now (λ k. IsDigit (slice_index digits.now k)) }
+    ensures most { result ≤ 10 ^ 37 }
+    ensures value { (before : List ℕ) → value ≡ min (10 ^ 37) (digits_value 10 before) → result ≡ min (10 ^ 37) (digits_value 10 (before ++ digits.now)) }
 {
     let mut all = value;
     for digit in digits {
-        all = (all * 10 + u128::from(digit.saturating_sub(b'0'))).min(LIMIT);
+        all = (all * 10 + u128::from(*digit - b'0')).min(LIMIT);
     }
     all
 }
@@ -80,6 +86,7 @@ fn with_digits(value: u128, digits: &[u8]) -> u128
 fn value_of(decimal: Decimal) -> Option<(i128, u128)>
     requires up { decimal.up ≤ 10 ^ 37 }
     requires down { decimal.down ≤ 10 ^ 38 }
+    ensures { MatchOption result (TooWide decimal) (λ v. (¬ TooWide decimal) × IsValue decimal v) }
 {
     if decimal.up > decimal.down + MOST || decimal.down > decimal.up + MOST {
         return None;

@@ -1,0 +1,17 @@
+use Rattle.std.proofs.Common.{◌<◌, ◌^◌, arith, subst, sym}
+use Rattle.std.specs.Option.{MatchOption}
+use Rattle.pv_parse.specs.Numbers.{IsValue, TooWide}
+use Rattle.pv_parse.proofs.Decimals.{narrow_decimal, value_is, wide_decimal}
+use Rattle.pv_parse.proofs.number.value_of.Goals as goal
+
+pub returns-in_err-above : goal.returns-in_err-above
+returns-in_err-above c =
+    subst (λ r. MatchOption r (TooWide c.args.decimal) (λ v. (¬ TooWide c.args.decimal) × IsValue c.args.decimal v)) (sym c.from_residual.ensures)
+    (wide_decimal c.args.decimal c.saturating_sub-zeros.result (omega arith) c.saturating_sub-zeros.ensures (c.in_err-above.ensures))
+
+pub returns : goal.returns
+returns c =
+    let told = c.in_ok-above.ensures in (
+      narrow_decimal c.args.decimal c.saturating_sub-zeros.result (omega arith) (omega arith) c.saturating_sub-zeros.ensures (subst (λ n. n < 10 ^ 37) told.0 told.1),
+      value_is c.args.decimal _ _ _ _ _ c.saturating_sub-zeros.ensures c.saturating_sub-places.ensures told.0 c.power_of_ten.ensures.value c.in_lowest_terms.ensures,
+    )
