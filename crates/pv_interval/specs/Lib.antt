@@ -1,1 +1,4 @@
 pub mod Fractions
+pub mod Bounds
+pub mod Points
+pub mod Tables

@@ -1,0 +1,16 @@
+pub mod NumSigns
+pub mod NumRounding
+pub mod Integers
+pub mod Products
+pub mod Ends
+pub mod Rounds
+pub mod Values
+pub mod Choices
+pub mod Multiples
+pub mod Keeps
+pub mod Orders
+pub mod Powers
+pub mod Quotients
+pub mod Intervals
+pub mod Monotone
+pub mod Cases

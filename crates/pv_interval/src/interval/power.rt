@@ -1,0 +1,60 @@
+//! Whole powers.
+ghost use Rattle.std.specs.Prelude.{◌≡◌, ◌≤◌, ◌%◌};
+ghost use Rattle.pv_interval.specs.Tables.{power_of, odd_power as odd_power_of, even_power as even_power_of, signed_power as signed_power_of};
+
+use crate::interval::{Interval, greater};
+use pv_num::{End, Num};
+
+impl Interval {
+    /// Holds the power `n` of each number of this interval; the power 0 is 1. The exponent is at most 32.
+    pub fn pow(self, n: u8) -> Interval
+        requires { n ≤ 32 }
+    {
+        if n == 0 {
+            return Interval::outward(Num::ONE, Num::ONE);
+        }
+        if n % 2 == 0 {
+            self.even_power(n)
+        } else {
+            self.odd_power(n)
+        }
+    }
+
+    // An odd power keeps the order, and a number below 0 has the power of its size, with the sign.
+    fn odd_power(self, n: u8) -> Interval
+        requires fits { n ≤ 32 }
+        requires odd { n % 2 ≡ 1 }
+    {
+        let lo = signed_power(self.lo(), n, End::Down, End::Up);
+        let hi = signed_power(self.hi(), n, End::Up, End::Down);
+        Interval::outward(lo, hi)
+    }
+
+    // An even power is that of the size.
+    fn even_power(self, n: u8) -> Interval
+        requires fits { n ≤ 32 }
+        requires even { n % 2 ≡ 0 }
+    {
+        let (a, b) = (self.lo(), self.hi());
+        if Num::ZERO <= a {
+            return Interval::outward(a.pow(n, End::Down), b.pow(n, End::Up));
+        }
+        if b <= Num::ZERO {
+            return Interval::outward(b.neg().pow(n, End::Down), a.neg().pow(n, End::Up));
+        }
+        let far = greater(a.neg(), b);
+        Interval::outward(Num::ZERO, far.pow(n, End::Up))
+    }
+}
+
+// The power rounded to `side` from 0 on; below 0 the size's power, rounded to the `other` side.
+#[inline]
+fn signed_power(a: Num, n: u8, side: End, other: End) -> Num
+    requires { n ≤ 32 }
+{
+    if Num::ZERO <= a {
+        a.pow(n, side)
+    } else {
+        a.neg().pow(n, other).neg()
+    }
+}
