@@ -1,0 +1,160 @@
+#!/usr/bin/env python3
+"""Compares `paver check` with the reference's first fault on made texts, good and broken.
+
+    python3 tests/fuzz_reader.py ./paver [COUNT [SEED]]
+
+The last line is 'N passed, M failed'. A text that differs is printed with both answers.
+"""
+import os
+import random
+import subprocess
+import sys
+import tempfile
+import threading
+from pathlib import Path
+
+sys.path.insert(0, str(Path(__file__).parent))
+from reference.faults import line_of  # noqa: E402
+
+NAMES = ["x", "y", "z", "k", "f", "g", "a", "b", "_t", "x1", "in", "oo", "min", "sqr", "sin", "pi", "End", "end",
+         "Variables", "return", "abs", "undeclared"]
+PIECES = ["+", "-", "*", "/", "^", "(", ")", "[", "]", ",", ";", "=", "<=", ">=", "<", ">", "1", "2.5", "1e3", "1e36",
+          "1e37", "0", "33", "007", "1.", "2.e1", "1e", "//c\n", "/*c*/", "/*/", " ", "\n", "#", "$", "\u00e9", ".5",
+          "for", "sum", "^2", "^32", "^33", "^x"]
+
+
+class Maker:
+    def __init__(self, source):
+        self.source, self.functions, self.names = source, [], []
+
+    def pick(self, items):
+        return self.source.choice(items)
+
+    def expression(self, depth, names):
+        kind = self.source.randrange(9 if depth > 0 else 2)
+        if kind == 0 or (kind == 1 and not names):
+            return self.pick(["1", "2", "0.5", "3.25e-2", "1e2", "12."])
+        if kind == 1:
+            return self.pick(names)
+        inner = self.expression(depth - 1, names)
+        if kind == 2:
+            return f"({inner})"
+        if kind == 3:
+            return f"{self.pick('+-')}{inner}"
+        if kind == 4:
+            return f"{self.pick(['abs', 'sqr'])}({inner})"
+        if kind == 5:
+            return f"{self.pick(['min', 'max'])}({inner}, {self.expression(depth - 1, names)})"
+        if kind == 6:
+            return f"({inner})^{self.source.randrange(34)}"
+        if kind == 7 and self.functions:
+            name, count = self.pick(self.functions)
+            return f"{name}({','.join(self.expression(depth - 2, names) for _ in range(count))})"
+        return f"{inner} {self.pick('+-*/')} {self.expression(depth - 1, names)}"
+
+    def function(self, name):
+        parameters = [f"p{i}" for i in range(self.pick([1, 1, 2, 3, 12]))]
+        body = self.expression(3, parameters + ["k"])
+        self.functions.append((name, len(parameters)))
+        return f"function {name}({', '.join(parameters)})\n return {body}{self.pick(['', ';'])} end{self.pick(['', ';'])}\n"
+
+    def text(self):
+        self.functions = []
+        parts = [f"Constants k = {self.pick(['1', '-2.5', '+3'])};\n"] + [
+            self.function(f"f{i}") for i in range(self.source.randrange(3))]
+        names = [f"x{i}" for i in range(self.pick([1, 2, 3, 12]))]
+        parts.append("Variables " + self.pick([", ", ";"]).join(
+            f"{name}{self.pick(['', ' in [0, 4]', ' in [-oo, k]', ' in [-1.5, +oo]', ' in [3, 2]'])}" for name in names))
+        parts.append(self.pick(["", ";"]) + "\n")
+        parts += [self.function(f"g{i}") for i in range(self.source.randrange(2))]
+        constraints = [f"{self.expression(3, names + ['k'])} {self.pick(['=', '<=', '>=', '<', '>'])} "
+                       f"{self.expression(2, names)}" for _ in range(self.pick([1, 2, 5, 64]))]
+        parts.append("Constraints " + ";\n".join(constraints) + self.pick(["", ";"]) + " end\n")
+        return "".join(parts)
+
+    def broken(self, text):
+        for _ in range(self.pick([1, 1, 2, 3])):
+            at = self.source.randrange(len(text) + 1)
+            to = min(len(text), at + self.pick([0, 0, 1, 1, 2, 5, 20]))
+            text = text[:at] + self.pick([self.pick(PIECES), self.pick(NAMES), "", f" {self.pick(NAMES)} "]) + text[to:]
+        return text[:self.source.randrange(len(text) + 1)] if self.source.random() < 0.1 else text
+
+
+def limits():
+    """Texts at the limits of the profile."""
+    def system(domains, constraints):
+        return f"Variables {domains}; Constraints {constraints}; end\n"
+    for levels in (99, 100, 101):
+        yield system("x", "(" * levels + "x" + ")" * levels + "<=1")
+        yield system("x", "(" * levels + "abs(x)" + ")" * levels + "<=1")
+        yield system("x", "(" * levels + "nobody" + ")" * levels + "<=1")
+    for count in (999, 1000, 1001):
+        yield system("x", "x" + "+1" * count + "<=1")
+        yield system("x", "-" * count + "x<=1")
+        yield system("x", "x" + "*2" * (count - 1) + "*min(x,1)<=1")
+        yield "Variables x; function f(a) return a" + "-a" * count + "; end Constraints f(x) <= 1; end"
+    yield system("x", "(" * 100 + "x" + "+1" * 1000 + "*sqr(x)")
+    yield system("x", "(" * 100 + "x" + "+1" * 1000 + "+")
+    yield system("x", "(" * 100 + "-" * 1000 + "sqr(x)")
+    for count in (63, 64, 65):
+        for next_token in ("x<=1", "nobody", ")", "-", "end"):
+            yield system("x", ";".join(["x<=1"] * count) + f";{next_token}")
+        yield "".join(f"function f{i}(a) return a end\n" for i in range(count)) + "Variables x; Constraints x<=1 end"
+    for count in (11, 12, 13):
+        yield system(",".join(f"x{i}" for i in range(count)), "x0<=1")
+        yield system(",".join(f"x{i}" for i in range(count)) + ",x0", "x0<=1")
+        yield f"function f({','.join(f'p{i}' for i in range(count))}) return p0 end Variables x; Constraints x<=1 end"
+    for k in range(10, 17):
+        text = "Variables x;\nfunction f1(a) return a+a; end\n" + "".join(
+            f"function f{i}(a) return f{i - 1}(a)+f{i - 1}(a); end\n" for i in range(2, k))
+        for right in ("1", "-1", "--1"):
+            yield text + f"Constraints f{k - 1}(x) <= {right}; x<=1; end\n"
+    chain = "Variables x;\nfunction f0(a) return " + "-" * 990 + "a; end\n"
+    for count in (1, 2, 3):
+        yield chain + f"Constraints {'f0(' * count}x{')' * count} <= 1; end\n"
+        yield chain + f"Constraints {'f0(' * count}-----------------x{')' * count} <= 1; end\n"
+    yield " " * 65536
+    yield " " * 65537
+    yield "/*" * 40000
+    yield system("x", "x<=" + "9" * 37)
+    yield system("x", "x<=" + "9" * 38)
+    yield system("x", "x<=0." + "0" * 35 + "1")
+    yield system("x", "x<=0." + "0" * 36 + "1")
+    yield system("x", "x<=" + "0" * 50000 + "1")
+
+
+def texts(count, seed):
+    maker = Maker(random.Random(seed))
+    yield from limits()
+    for _ in range(count):
+        text = maker.text()
+        yield text if maker.source.random() < 0.15 else maker.broken(text)
+
+
+def main():
+    paver = os.path.abspath(sys.argv[1])
+    count, seed = (int(word) for word in (sys.argv[2:] + ["800", "1"][len(sys.argv) - 2:])[:2])
+    passed = failed = 0
+    with tempfile.TemporaryDirectory() as folder:
+        for text in texts(count, seed):
+            data = text.encode()
+            (Path(folder) / "s").write_bytes(data)
+            answer = subprocess.run([paver, "check", "s"], cwd=folder, capture_output=True, timeout=60)
+            wanted = line_of(data)
+            given = answer.stderr.decode().rstrip("\n") if answer.returncode else None
+            same = given == wanted and answer.returncode == (3 if wanted else 0)
+            passed, failed = passed + same, failed + (not same)
+            if not same and failed < 6:
+                print(f"{data[:600]!r}\n  given {given}, wanted {wanted}")
+    print(f"{passed} passed, {failed} failed")
+    return failed > 0
+
+
+if __name__ == "__main__":
+    sys.setrecursionlimit(1_000_000)
+    threading.stack_size(512 << 20)
+    result = []
+    thread = threading.Thread(target=lambda: result.append(main()))
+    thread.start()
+    thread.join()
+    sys.exit(0 if result == [False] else 1)
