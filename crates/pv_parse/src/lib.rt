@@ -3,13 +3,26 @@
 #![tactic(auto)]
 
 mod bytes;
+mod cause;
+mod checked;
+mod code;
+mod expand;
+mod fraction;
+mod keyword;
+mod machine;
+mod measure;
 mod number;
 mod numeral;
 mod place;
+mod reader;
 mod scanner;
+mod scope;
+mod symbol;
 mod token;
 
+pub use cause::{Cause, ParseRefused};
 pub use number::read_number;
+pub use reader::{parse, parse_expr};
 
 #[cfg(test)]
 mod tests;

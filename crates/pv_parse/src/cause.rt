@@ -1,0 +1,96 @@
+// Why a text is refused, and where.
+
+use std::alloc::{AllocError, AllocFailed};
+use std::error::Error;
+use std::fmt;
+
+/// What is wrong with the token at a fault.
+#[derive(Clone, Copy, Debug, PartialEq, Eq)]
+pub enum Cause {
+    BadByte,
+    NumberTooWide,
+    NotInProfile,
+    UnknownName,
+    DuplicateName,
+    BadExponent,
+    TooManyVariables,
+    TooManyConstraints,
+    TooDeep,
+    Unexpected,
+    EndOfText,
+    BadBounds,
+    TextTooLong,
+    TooLarge,
+    TooManyFunctions,
+}
+
+impl Cause {
+    /// The cause's name, as messages print it.
+    pub fn name(self) -> &'static str {
+        match self {
+            Cause::BadByte => "BadByte",
+            Cause::NumberTooWide => "NumberTooWide",
+            Cause::NotInProfile => "NotInProfile",
+            Cause::UnknownName => "UnknownName",
+            Cause::DuplicateName => "DuplicateName",
+            Cause::BadExponent => "BadExponent",
+            Cause::TooManyVariables => "TooManyVariables",
+            Cause::TooManyConstraints => "TooManyConstraints",
+            Cause::TooDeep => "TooDeep",
+            Cause::Unexpected => "Unexpected",
+            Cause::EndOfText => "EndOfText",
+            Cause::BadBounds => "BadBounds",
+            Cause::TextTooLong => "TextTooLong",
+            Cause::TooLarge => "TooLarge",
+            Cause::TooManyFunctions => "TooManyFunctions",
+        }
+    }
+}
+
+impl fmt::Display for Cause {
+    fn fmt<W: fmt::Write>(&self, f: &mut fmt::Formatter<W>) -> fmt::Result {
+        f.write_str(self.name())
+    }
+}
+
+/// Why a text was not read.
+#[derive(Clone, Copy, Debug, PartialEq, Eq)]
+pub enum ParseRefused {
+    /// Memory ran out.
+    Memory,
+    /// The first fault of the text. `byte` is counted from 0, `line` and `column`, in bytes, from 1.
+    Fault {
+        byte: u32,
+        line: u32,
+        column: u32,
+        cause: Cause,
+    },
+}
+
+impl fmt::Display for ParseRefused {
+    fn fmt<W: fmt::Write>(&self, f: &mut fmt::Formatter<W>) -> fmt::Result {
+        match self {
+            ParseRefused::Memory => f.write_str("out of memory"),
+            ParseRefused::Fault {
+                byte,
+                line,
+                column,
+                cause,
+            } => write!(f, "line {line} column {column} byte {byte}: {cause}"),
+        }
+    }
+}
+
+impl Error for ParseRefused {}
+
+impl From<AllocError> for ParseRefused {
+    fn from(_e: AllocError) -> ParseRefused {
+        ParseRefused::Memory
+    }
+}
+
+impl<T: Drop> From<AllocFailed<T>> for ParseRefused {
+    fn from(_e: AllocFailed<T>) -> ParseRefused {
+        ParseRefused::Memory
+    }
+}

@@ -1,0 +1,82 @@
+// Tokens as the grammar sees them: names are resolved.
+
+use crate::cause::Cause;
+use crate::code::Op;
+use crate::fraction::Fraction;
+use pv_expr::Relation;
+
+/// A token that is always the same.
+#[derive(Clone, Copy, Debug, PartialEq, Eq)]
+pub(crate) enum Fixed {
+    Plus,
+    Minus,
+    Star,
+    Slash,
+    Caret,
+    Open,
+    Close,
+    OpenBracket,
+    CloseBracket,
+    Comma,
+    Semicolon,
+    Constants,
+    Variables,
+    Constraints,
+    Function,
+    Return,
+    End,
+    In,
+    Oo,
+    EndOfText,
+}
+
+/// A token with what its name stands for at its place.
+#[derive(Clone, Copy)]
+pub(crate) enum Symbol {
+    /// A token that the grammar has nowhere, with its cause.
+    Never(Cause),
+    Fixed(Fixed),
+    Relation(Relation),
+    /// A number, and the exponent that it is where it is digits alone with a value of at most 32.
+    Number {
+        value: Fraction,
+        exponent: Option<u8>,
+    },
+    /// A name where names are declared; it is taken where it can't be declared once more.
+    Declared {
+        taken: bool,
+    },
+    Constant(Fraction),
+    Variable(u8),
+    Parameter(u8),
+    /// A function word or a function's name, with the step of its call and its count of arguments.
+    Function {
+        op: Op,
+        arity: u8,
+    },
+    /// A name that is not declared for its use.
+    Unknown,
+}
+
+impl Symbol {
+    /// Whether an expression can begin with it.
+    pub(crate) fn begins(self) -> bool {
+        match self {
+            Symbol::Fixed(Fixed::Plus | Fixed::Minus | Fixed::Open) => true,
+            Symbol::Number { .. } | Symbol::Constant(_) => true,
+            Symbol::Variable(_) | Symbol::Parameter(_) => true,
+            Symbol::Function { .. } | Symbol::Unknown => true,
+            _ => false,
+        }
+    }
+
+    /// Whether it counts as an operation within a constraint or a body.
+    pub(crate) fn operates(self) -> bool {
+        match self {
+            Symbol::Fixed(Fixed::Plus | Fixed::Minus | Fixed::Star) => true,
+            Symbol::Fixed(Fixed::Slash | Fixed::Caret) => true,
+            Symbol::Function { .. } => true,
+            _ => false,
+        }
+    }
+}
