@@ -2,6 +2,7 @@ pub mod Decimals
 pub mod Gaps
 pub mod Numerals
 pub mod Powers
+pub mod Unique
 pub mod Words
 pub mod Pairs
 pub mod Wide

@@ -1,6 +1,6 @@
 -- The tokens of a text, by the places between which they stand, counted in bytes from 0.
 -- Behind its end a text reads as 0, a byte that is part of no token, blank or comment.
-use Rattle.std.specs.Prelude.{◌≡◌, ℕ, zero, suc, ◌+◌, ◌<◌, ◌≤◌, ◌⊎◌, List, Bool, true, false, length, slice_index, nat_eq, if◌then◌else◌}
+use Rattle.std.specs.Prelude.{◌≡◌, ℕ, zero, suc, ◌+◌, ◌<◌, ◌≤◌, ◌⊎◌, List, [], ◌∷◌, Bool, true, false, length, slice_index, nat_eq, if◌then◌else◌}
 use Rattle.pv_parse.specs.declared.token.Kind.{Kind}
 use Rattle.pv_parse.specs.declared.token.Kind.TheVariants.{Name, Number, LessEqual, GreaterEqual, Less, Greater, Equal, Plus, Minus, Star, Slash, Caret, Open, Close, OpenBracket, CloseBracket, Comma, Semicolon, Bad, End}
 use Rattle.pv_parse.specs.declared.token.Token.{Token}
@@ -152,3 +152,13 @@ pub record IsNext (t : List ℕ) (from : ℕ) (token : Token) : Type 0 where
   pub gap : Separated t separators from token.start
   pub begins : (k : ℕ) → ¬ Separates t token.start k
   pub longest : IsLongest t token.start token.kind token.end
+
+-- the tokens from a place on: each is the first at or after the end of the one before it, and the last is the text's end
+abbrev pub AreTokensFrom : List ℕ → ℕ → List Token → Type 0
+AreTokensFrom t from [] = ⊥
+AreTokensFrom t from (x ∷ rest) =
+    IsNext t from x × (((x.kind ≡ End) × (rest ≡ [])) ⊎ ((¬ (x.kind ≡ End)) × AreTokensFrom t x.end rest))
+
+-- all tokens of a text
+abbrev pub AreTokens : List ℕ → List Token → Type 0
+AreTokens t tokens = AreTokensFrom t 0 tokens
