@@ -1,0 +1,5 @@
+pub mod Statuses
+pub mod Refusals
+pub mod Fetched
+pub mod Told
+pub mod Answers

@@ -1,0 +1,90 @@
+ghost use Rattle.std.specs.Prelude.{◌≡◌, ℕ, List, IfOk, IfErr, OnOk, OnErr, IsErrOf};
+ghost use Rattle.pv_io.specs.Outside.{Rose, appended, AppendsFront};
+ghost use Rattle.pv_cli.specs.Answers.{IsPrinted, IsSilent, IsOfSystem, HasCause, IsWorkRefusal, IsPrintRefusal};
+ghost use Rattle.pv_cli.specs.Refusals.{status_of};
+ghost use Rattle.pv_cli.specs.Told.{Tells};
+
+use crate::fetched::system_text;
+use crate::telling::tell;
+use crate::words::Words;
+use crate::{Refusal, Status, words};
+use pv_io::{Folder, Sink, WriteRefused};
+use std::alloc::Global;
+
+/// Runs the command that the words give, of which word 0 is the program's name.
+pub fn paver_main<F: Folder, K: Sink, E: Sink>(
+    alloc: Global,
+    words: &[String],
+    folder: &mut F,
+    out: &mut K,
+    err: &mut E,
+) -> Status
+    ensures contents { (name : List ℕ) → F.content folder.new name ≡ F.content folder.old name }
+    ensures no_store { F.store_faults folder.new ≡ F.store_faults folder.old }
+    ensures possible { IsOfSystem result }
+    ensures silent { IsSilent result → K.written out.new ≡ K.written out.old }
+    ensures read_fault { result ≡ Status.ReadFault → Rose (F.fetch_faults folder.old) (F.fetch_faults folder.new) }
+    ensures write_fault { result ≡ Status.WriteFault → Rose (K.faults out.old) (K.faults out.new) }
+    ensures quiet { IsPrinted result → E.written err.new ≡ E.written err.old }
+    ensures told { (IsPrinted result → ⊥) → (refusal : Refusal) × (name : List ℕ) × HasCause refusal (F.content folder.old name)
+        × Tells refusal name result (E.written err.old) (E.written err.new) (E.faults err.old) (E.faults err.new) }
+{
+    let request = match words::read(alloc, words) {
+        Ok(request) => request,
+        Err(refusal) => return tell(alloc, err, refusal, ""),
+    };
+    match answer(alloc, &request, folder, out) {
+        Ok(status) => status,
+        Err(refusal) => tell(alloc, err, refusal, request.system),
+    }
+}
+
+// What the work of a command came to.
+#[derive(Drop)]
+struct Report {
+    whole: bool,
+    text: Vec<u8>,
+}
+
+fn answer<F: Folder, K: Sink>(
+    alloc: Global,
+    request: &Words<'_>,
+    folder: &mut F,
+    out: &mut K,
+) -> Result<Status, Refusal>
+    ensures contents { (name : List ℕ) → F.content folder.new name ≡ F.content folder.old name }
+    ensures no_store { F.store_faults folder.new ≡ F.store_faults folder.old }
+    ensures printed { IfOk result IsPrinted }
+    ensures silent { IfErr result (λ refusal. IsSilent (status_of refusal) → K.written out.new ≡ K.written out.old) }
+    ensures read_fault { IsErrOf result Refusal.ReadFault → Rose (F.fetch_faults folder.old) (F.fetch_faults folder.new) }
+    ensures write_fault { IsErrOf result Refusal.WriteFault → Rose (K.faults out.old) (K.faults out.new) }
+    ensures cause { IfErr result (λ refusal. HasCause refusal (F.content folder.old request.now.system.now)) }
+{
+    let text = system_text(alloc, folder, request.system)?;
+    let report = work(alloc, request, &text)?;
+    print(out, &report.text)?;
+    Ok(if report.whole {
+        Status::Done
+    } else {
+        Status::OpenLeft
+    })
+}
+
+fn print<K: Sink>(out: &mut K, text: &[u8]) -> Result<(), Refusal>
+    ensures whole { OnOk result (K.written out.new ≡ appended (K.written out.old) text.now) }
+    ensures refusal { IfErr result IsPrintRefusal }
+    ensures front { OnErr result (AppendsFront (K.written out.old) (K.written out.new) text.now) }
+    ensures fault { IsErrOf result Refusal.WriteFault → Rose (K.faults out.old) (K.faults out.new) }
+{
+    match out.write(text) {
+        Ok(()) => Ok(()),
+        Err(WriteRefused::Failed) => Err(Refusal::WriteFault),
+        Err(WriteRefused::Memory) => Err(Refusal::Memory),
+    }
+}
+
+fn work(alloc: Global, request: &Words<'_>, text: &[u8]) -> Result<Report, Refusal>
+    ensures { IfErr result IsWorkRefusal }
+{
+    Err(Refusal::Memory)
+}
