@@ -1,2 +1,9 @@
-//! Not begun.
+//! Boxes: an interval for each of 1 to 12 variables, with the place at which a box is cut.
 #![tactic(auto)]
+
+mod boxes;
+mod choice;
+mod hull;
+
+pub use boxes::IBox;
+pub use choice::Bisector;
