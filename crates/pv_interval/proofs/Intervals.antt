@@ -1,5 +1,5 @@
 -- Each table gives an interval: it holds the result of numbers of its arguments.
-use Rattle.std.proofs.Common.{◌≡◌, ◌≢◌, ℕ, zero, suc, ◌<◌, ◌≤◌, ◌*◌, refl, arith, sym, ◌∙◌, ap, subst, cond, rules, ◌⊎◌, inl, inr}
+use Rattle.std.proofs.Common.{◌≡◌, ◌≢◌, ℕ, zero, suc, ◌<◌, ◌≤◌, ◌*◌, ◌%◌, refl, arith, sym, ◌∙◌, ap, subst, cond, rules, ◌⊎◌, inl, inr}
 use Rattle.std.specs.Prelude.{IsTrue, Bool, true, false, ◌&&◌, ℤ, pos, negsuc, ◌+ℤ◌, ◌*ℤ◌, ◌≤ℤ◌, ◌<ℤ◌, Option, Some, None}
 use Rattle.std.specs.Int.RustNames.{unsigned_abs}
 use Rattle.std.proofs.lemmas.Int.{ints}
@@ -10,14 +10,14 @@ use Rattle.pv_num.specs.Order.{le, lt, lesser, greater}
 use Rattle.pv_interval.specs.Bounds.{Bounds, IsInterval, between, everything}
 use Rattle.pv_interval.specs.Fractions.{Fraction, plus, minus, times, over, opposite, size, power, least, greatest}
 use Rattle.pv_interval.specs.Points.{IsBelow, IsAbove, Lies, LiesIn, LiesInSome}
-use Rattle.pv_interval.specs.Tables.{nought, sum_of, difference_of, product_of, quotient_of, negated, absolute, least_of, greatest_of, power_of, hull_of, meet_of, is_nought}
+use Rattle.pv_interval.specs.Tables.{nought, sum_of, difference_of, product_of, quotient_of, negated, absolute, least_of, greatest_of, power_of, hull_of, meet_of, is_nought, odd_power, even_power}
 use Rattle.pv_interval.proofs.Products.{times_pos}
 use Rattle.pv_interval.proofs.Ends.{le_trans, fin_le, le_fin, le_of_false}
 use Rattle.pv_interval.proofs.Values.{interval_of}
 use Rattle.pv_interval.proofs.Multiples.{unit_some}
 use Rattle.pv_interval.proofs.Keeps.{sum_keeps, difference_keeps, product_keeps, opposite_keeps}
 use Rattle.pv_interval.proofs.Orders.{least_keeps, greatest_keeps, absolute_keeps, hull_keeps_left, cond_keeps}
-use Rattle.pv_interval.proofs.Powers.{power_keeps}
+use Rattle.pv_interval.proofs.Powers.{power_keeps, odd_keeps, even_keeps}
 use Rattle.pv_interval.proofs.Quotients.{quotient_keeps, upright, turned}
 
 -- the whole number of units e
@@ -179,3 +179,13 @@ quotient_interval x y z h k e = let m = member x h in
       | below r l ↦ let n : Fraction = record { top = negsuc r; under = unit } in
           of_some _ _ z (quotient_of x y) e (quotient_keeps (in_units m.number) n (turned (in_units m.number) r unit) x y refl m.lies l)
     ]
+
+-- ---- powers by parity
+
+pub odd_interval : (x : Bounds) (n : ℕ) → n % 2 ≡ 1 → IsInterval x → IsInterval (odd_power x n)
+odd_interval x n o h = let m = member x h in let f = power (in_units m.number) n in
+    interval_of f.top f.under (odd_power x n) (odd_keeps (in_units m.number) x n o m.lies)
+
+pub even_interval : (x : Bounds) (n : ℕ) → n % 2 ≡ 0 → IsInterval x → IsInterval (even_power x n)
+even_interval x n o h = let m = member x h in let f = power (in_units m.number) n in
+    interval_of f.top f.under (even_power x n) (even_keeps (in_units m.number) x n o m.lies)

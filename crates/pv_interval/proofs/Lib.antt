@@ -1,5 +1,3 @@
-pub mod NumSigns
-pub mod NumRounding
 pub mod Integers
 pub mod Products
 pub mod Ends
@@ -13,4 +11,5 @@ pub mod Powers
 pub mod Quotients
 pub mod Intervals
 pub mod Monotone
+pub mod Picks
 pub mod Cases

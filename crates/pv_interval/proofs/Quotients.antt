@@ -170,7 +170,7 @@ positive_keeps f r s x y h k p =
     }
 
 -- both signs turned, a quotient stays
-div_turn : (t : End) (a e : Extended) → le nought e ≡ false → div_of t (neg_of a) (neg_of e) ≡ div_of t a e
+pub div_turn : (t : End) (a e : Extended) → le nought e ≡ false → div_of t (neg_of a) (neg_of e) ≡ div_of t a e
 div_turn t NegInf NegInf h = refl
 div_turn t NegInf (Fin (pos e)) h = absurd (search rules)
 div_turn t NegInf (Fin (negsuc e)) h = refl
@@ -184,14 +184,14 @@ div_turn t PosInf (Fin (pos e)) h = absurd (search rules)
 div_turn t PosInf (Fin (negsuc e)) h = refl
 div_turn t PosInf PosInf h = absurd (search rules)
 
-not_turned : (e : Extended) → le nought e ≡ false → le (neg_of e) nought ≡ false
+pub not_turned : (e : Extended) → le nought e ≡ false → le (neg_of e) nought ≡ false
 not_turned NegInf h = refl
 not_turned (Fin (pos e)) h = absurd (search rules)
 not_turned (Fin (negsuc e)) h = grind (arith, ints)
 not_turned PosInf h = absurd (search rules)
 
 -- the lower end of what lies below 0 is below 0
-lower_too : (a b : Extended) → IsTrue (le a b) → le nought b ≡ false → le nought a ≡ false
+pub lower_too : (a b : Extended) → IsTrue (le a b) → le nought b ≡ false → le nought a ≡ false
 lower_too a b h k = by_value (le nought a) refl
   where
     by_value : (t : Bool) → le nought a ≡ t → le nought a ≡ false
@@ -317,10 +317,10 @@ across_down f r s x y h k =
 
 -- ---- the table
 
-and_left : (s t : Bool) → s && t ≡ true → s ≡ true
+pub and_left : (s t : Bool) → s && t ≡ true → s ≡ true
 and_left s t h = grind rules
 
-and_right : (s t : Bool) → s && t ≡ true → t ≡ true
+pub and_right : (s t : Bool) → s && t ≡ true → t ≡ true
 and_right s t h = grind rules
 
 zero_top : (f : Fraction) (x : Bounds) → is_nought x ≡ true → LiesIn f x → f.top ≡ pos 0

@@ -9,7 +9,7 @@ use Rattle.pv_num.specs.Order.{le, lt}
 use Rattle.pv_num.specs.Rounding.{IsDown, IsUp, IsRounded, IsGreatestBelow, IsLeastAbove, rounded}
 use Rattle.pv_num.specs.declared.num.End.{End}
 use Rattle.pv_num.specs.declared.num.End.TheVariants.{Down, Up}
-use Rattle.pv_interval.proofs.NumRounding.{rounded-is}
+use Rattle.pv_num.proofs.Rounding.{rounded-is}
 use Rattle.pv_interval.proofs.Integers.{swap_last}
 use Rattle.pv_interval.proofs.Products.{times_pos, cancel_pos, trans}
 use Rattle.pv_interval.proofs.Ends.{le_fin}

@@ -14,7 +14,7 @@ use Rattle.pv_interval.specs.Points.{IsBelow, IsAbove, Lies}
 use Rattle.pv_interval.proofs.Products.{times_pos, cancel_pos, trans}
 use Rattle.pv_interval.proofs.Ends.{le_fin, fin_le}
 use Rattle.pv_interval.proofs.Rounds.{below_more, above_more, AtMost}
-use Rattle.pv_interval.proofs.NumRounding.{rounded-is}
+use Rattle.pv_num.proofs.Rounding.{rounded-is}
 
 pub below_le : (e f : Extended) (n : ℤ) (d : ℕ) → IsTrue (le e f) → IsBelow f n d → IsBelow e n d
 below_le NegInf f n d h k = tt

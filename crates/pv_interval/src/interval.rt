@@ -1,8 +1,8 @@
 //! The interval type, and the operations that need no cases on signs.
-ghost use Rattle.std.specs.Prelude.{◌≡◌, ◌↔◌, IsTrue, ◌&&◌};
+ghost use Rattle.std.specs.Prelude.{◌≡◌, if◌then◌else◌};
 ghost use Rattle.pv_num.specs.Order.{lesser as lesser_of, greater as greater_of};
 ghost use Rattle.pv_interval.specs.Bounds.{IsInterval, between, interval_from};
-ghost use Rattle.pv_interval.specs.Tables.{negated, absolute, least_of, greatest_of, hull_of, meet_of, holds};
+ghost use Rattle.pv_interval.specs.Tables.{sum_of, difference_of, negated, absolute, least_of, greatest_of, hull_of, meet_of, width_of, holds};
 
 use pv_num::{End, Num};
 use std::marker::Model;
@@ -57,15 +57,6 @@ impl Interval {
         Interval { lo, hi }
     }
 
-    // The interval with these ends, or all numbers where they are no ends of one.
-    #[inline]
-    fn outward(lo: Num, hi: Num) -> Interval {
-        match Interval::new(lo, hi) {
-            Some(interval) => interval,
-            None => Interval::ALL,
-        }
-    }
-
     /// The lower end.
     #[inline]
     pub fn lo(self) -> Num
@@ -86,18 +77,22 @@ impl Interval {
 
     /// Holds the sum of each number of this interval and each of `other`.
     #[inline]
-    pub fn add(self, other: Interval) -> Interval {
+    pub fn add(self, other: Interval) -> Interval
+        ensures { result ≡ sum_of self other }
+    {
         let lo = self.lo().add(other.lo(), End::Down);
         let hi = self.hi().add(other.hi(), End::Up);
-        Interval::outward(lo, hi)
+        Interval::of_ends(lo, hi)
     }
 
     /// Holds the difference of each number of this interval and each of `other`.
     #[inline]
-    pub fn sub(self, other: Interval) -> Interval {
+    pub fn sub(self, other: Interval) -> Interval
+        ensures { result ≡ difference_of self other }
+    {
         let lo = self.lo().sub(other.hi(), End::Down);
         let hi = self.hi().sub(other.lo(), End::Up);
-        Interval::outward(lo, hi)
+        Interval::of_ends(lo, hi)
     }
 
     /// The numbers of this interval with the other sign.
@@ -178,21 +173,30 @@ impl Interval {
 
     /// The upper end minus the lower one, rounded up; +oo where an end is infinite.
     #[inline]
-    pub fn width(self) -> Num {
+    pub fn width(self) -> Num
+        ensures { result ≡ width_of self }
+    {
         self.hi().sub(self.lo(), End::Up)
     }
 }
 
 #[inline]
-pub(crate) fn lesser(a: Num, b: Num) -> Num
+fn lesser(a: Num, b: Num) -> Num
     ensures { result ≡ lesser_of a b }
 {
     if a <= b { a } else { b }
 }
 
 #[inline]
-pub(crate) fn greater(a: Num, b: Num) -> Num
+fn greater(a: Num, b: Num) -> Num
     ensures { result ≡ greater_of a b }
 {
     if a <= b { b } else { a }
+}
+
+#[inline]
+fn pick(test: bool, yes: Num, no: Num) -> Num
+    ensures { result ≡ (if test then yes else no) }
+{
+    if test { yes } else { no }
 }

@@ -9,9 +9,10 @@ impl Interval {
     /// Holds the power `n` of each number of this interval; the power 0 is 1. The exponent is at most 32.
     pub fn pow(self, n: u8) -> Interval
         requires { n ≤ 32 }
+        ensures { result ≡ power_of self n }
     {
         if n == 0 {
-            return Interval::outward(Num::ONE, Num::ONE);
+            return Interval::of_ends(Num::ONE, Num::ONE);
         }
         if n % 2 == 0 {
             self.even_power(n)
@@ -24,26 +25,28 @@ impl Interval {
     fn odd_power(self, n: u8) -> Interval
         requires fits { n ≤ 32 }
         requires odd { n % 2 ≡ 1 }
+        ensures { result ≡ odd_power_of self n }
     {
         let lo = signed_power(self.lo(), n, End::Down, End::Up);
         let hi = signed_power(self.hi(), n, End::Up, End::Down);
-        Interval::outward(lo, hi)
+        Interval::of_ends(lo, hi)
     }
 
     // An even power is that of the size.
     fn even_power(self, n: u8) -> Interval
         requires fits { n ≤ 32 }
         requires even { n % 2 ≡ 0 }
+        ensures { result ≡ even_power_of self n }
     {
         let (a, b) = (self.lo(), self.hi());
         if Num::ZERO <= a {
-            return Interval::outward(a.pow(n, End::Down), b.pow(n, End::Up));
+            return Interval::of_ends(a.pow(n, End::Down), b.pow(n, End::Up));
         }
         if b <= Num::ZERO {
-            return Interval::outward(b.neg().pow(n, End::Down), a.neg().pow(n, End::Up));
+            return Interval::of_ends(b.neg().pow(n, End::Down), a.neg().pow(n, End::Up));
         }
         let far = greater(a.neg(), b);
-        Interval::outward(Num::ZERO, far.pow(n, End::Up))
+        Interval::of_ends(Num::ZERO, far.pow(n, End::Up))
     }
 }
 
@@ -51,6 +54,7 @@ impl Interval {
 #[inline]
 fn signed_power(a: Num, n: u8, side: End, other: End) -> Num
     requires { n ≤ 32 }
+    ensures { result ≡ signed_power_of side other a n }
 {
     if Num::ZERO <= a {
         a.pow(n, side)

@@ -1,17 +1,20 @@
 //! The quotient. The sign of the divisor and those of the ends decide which two quotients of ends are computed.
-ghost use Rattle.std.specs.Prelude.{◌≡◌, IsTrue, false, if◌then◌else◌};
+ghost use Rattle.std.specs.Prelude.{◌≡◌, IsTrue, false};
 ghost use Rattle.pv_num.specs.Order.{le, lt};
 ghost use Rattle.pv_num.specs.Arithmetic.{div_of};
+ghost use Rattle.pv_interval.specs.Bounds.{IsInterval};
 ghost use Rattle.pv_interval.specs.Tables.{quotient_of, quotient_across, over_from_nought, over_to_nought, nought, of_ends, is_nought, has_nought};
 
-use crate::interval::Interval;
+use crate::interval::{Interval, pick};
 use pv_num::{End, Num};
 
 impl Interval {
     /// Holds the quotient of each number of this interval and each number of `by` that is not 0.
     /// None exactly where `by` is [0,0].
     #[inline]
-    pub fn quotient(self, by: Interval) -> Option<Interval> {
+    pub fn quotient(self, by: Interval) -> Option<Interval>
+        ensures { result ≡ quotient_of self by }
+    {
         if Num::ZERO < by.lo() {
             return Some(self.over_positive(by));
         }
@@ -29,7 +32,8 @@ impl Interval {
 
     #[inline]
     fn is_zero(self) -> bool
-        ensures { result ≡ is_nought self }
+        ensures value { result ≡ is_nought self }
+        ensures interval { IsInterval self }
     {
         Num::ZERO <= self.lo() && self.hi() <= Num::ZERO
     }
@@ -38,44 +42,35 @@ impl Interval {
     #[inline]
     fn over_positive(self, by: Interval) -> Interval
         requires { IsTrue (lt nought by.lo) }
+        ensures { result ≡ of_ends div_of self by }
     {
         let (c, d) = (by.lo(), by.hi());
-        let lo = self.lo().div(self.low_divisor(c, d), End::Down);
-        let hi = self.hi().div(self.high_divisor(c, d), End::Up);
-        Interval::outward(lo, hi)
+        let low = pick(Num::ZERO <= self.lo(), d, c);
+        let high = pick(Num::ZERO <= self.hi(), c, d);
+        let lo = self.lo().div(low, End::Down);
+        let hi = self.hi().div(high, End::Up);
+        Interval::of_ends(lo, hi)
     }
 
     // The quotient by numbers below 0.
     #[inline]
     fn over_negative(self, by: Interval) -> Interval
         requires { IsTrue (lt by.hi nought) }
+        ensures { result ≡ of_ends div_of self by }
     {
         let (c, d) = (by.lo(), by.hi());
-        let lo = self.hi().div(self.high_divisor(d, c), End::Down);
-        let hi = self.lo().div(self.low_divisor(d, c), End::Up);
-        Interval::outward(lo, hi)
-    }
-
-    // The divisor of the lower end: the far one where that end is at least 0.
-    #[inline]
-    fn low_divisor(self, near: Num, far: Num) -> Num
-        ensures { result ≡ (if le nought self.lo then far else near) }
-    {
-        if Num::ZERO <= self.lo() { far } else { near }
-    }
-
-    // The divisor of the upper end: the near one where that end is at least 0.
-    #[inline]
-    fn high_divisor(self, near: Num, far: Num) -> Num
-        ensures { result ≡ (if le nought self.hi then near else far) }
-    {
-        if Num::ZERO <= self.hi() { near } else { far }
+        let low = pick(Num::ZERO <= self.hi(), d, c);
+        let high = pick(Num::ZERO <= self.lo(), c, d);
+        let lo = self.hi().div(low, End::Down);
+        let hi = self.lo().div(high, End::Up);
+        Interval::of_ends(lo, hi)
     }
 
     // The quotient by an interval that holds 0 and other numbers.
     fn over_across(self, by: Interval) -> Interval
         requires some { is_nought by ≡ false }
         requires zero { IsTrue (has_nought by) }
+        ensures { result ≡ quotient_across self by }
     {
         if by.lo() < Num::ZERO && Num::ZERO < by.hi() {
             return Interval::ALL;
@@ -89,12 +84,13 @@ impl Interval {
     // The quotient by [0,d], d above 0.
     fn over_from_zero(self, d: Num) -> Interval
         requires { IsTrue (lt nought d) }
+        ensures { result ≡ over_from_nought self d }
     {
         if Num::ZERO <= self.lo() {
-            return Interval::outward(self.lo().div(d, End::Down), Num::POS_INF);
+            return Interval::of_ends(self.lo().div(d, End::Down), Num::POS_INF);
         }
         if self.hi() <= Num::ZERO {
-            return Interval::outward(Num::NEG_INF, self.hi().div(d, End::Up));
+            return Interval::of_ends(Num::NEG_INF, self.hi().div(d, End::Up));
         }
         Interval::ALL
     }
@@ -102,12 +98,13 @@ impl Interval {
     // The quotient by [c,0], c below 0.
     fn over_to_zero(self, c: Num) -> Interval
         requires { IsTrue (lt c nought) }
+        ensures { result ≡ over_to_nought self c }
     {
         if Num::ZERO <= self.lo() {
-            return Interval::outward(Num::NEG_INF, self.lo().div(c, End::Up));
+            return Interval::of_ends(Num::NEG_INF, self.lo().div(c, End::Up));
         }
         if self.hi() <= Num::ZERO {
-            return Interval::outward(self.hi().div(c, End::Down), Num::POS_INF);
+            return Interval::of_ends(self.hi().div(c, End::Down), Num::POS_INF);
         }
         Interval::ALL
     }

@@ -1,11 +1,31 @@
-use Rattle.std.proofs.Common.{◌≡◌, sym, ◌∙◌}
+use Rattle.std.proofs.Common.{◌≡◌, sym, ◌∙◌, subst}
 use Rattle.pv_num.specs.Order.{le}
-use Rattle.pv_interval.specs.Tables.{nought}
-use Rattle.pv_interval.proofs.Cases.{lower_apart, upper_apart, pick_apart}
+use Rattle.pv_num.specs.Arithmetic.{div_of}
+use Rattle.pv_interval.specs.Bounds.{Bounds, IsInterval, between}
+use Rattle.pv_interval.specs.Tables.{nought, of_ends}
+use Rattle.pv_interval.proofs.Cases.{lower_apart, upper_apart, pick_apart, of_negative}
+use Rattle.pv_interval.proofs.Picks.{quotient_down}
 use Rattle.pv_interval.proofs.interval.Interval.over_negative.Goals as goal
+
+pub div-lo-requires : goal.div-lo-requires
+div-lo-requires c =
+    pick_apart c.le.result c.hi-d.result c.lo-c.result c.pick-low.result c.pick-low.ensures
+    (λ k. upper_apart c.args.by c.requires (sym c.hi-d.ensures.value ∙ k))
+    (λ k. lower_apart c.args.by c.lo-c.ensures.interval c.requires (sym c.lo-c.ensures.value ∙ k))
 
 pub div-hi-requires : goal.div-hi-requires
 div-hi-requires c =
-    pick_apart (le nought c.args.self.lo) c.lo-c.result c.hi-d.result c.low_divisor.result c.low_divisor.ensures
+    pick_apart c.le-2.result c.lo-c.result c.hi-d.result c.pick-high.result c.pick-high.ensures
     (λ k. lower_apart c.args.by c.lo-c.ensures.interval c.requires (sym c.lo-c.ensures.value ∙ k))
     (λ k. upper_apart c.args.by c.requires (sym c.hi-d.ensures.value ∙ k))
+
+pub of_ends-requires : goal.of_ends-requires
+of_ends-requires c =
+    let x = c.args.self in let y = c.args.by in
+    let p = quotient_down x y c.lo.ensures.interval c.lo-c.ensures.interval c.requires in
+    let e : between c.div-lo.result c.div-hi.result ≡ of_ends div_of x y = cc in
+    subst IsInterval (sym e) (of_negative x y c.lo.ensures.interval c.lo-c.ensures.interval c.requires)
+
+pub returns : goal.returns
+returns c =
+    let p = quotient_down c.args.self c.args.by c.lo.ensures.interval c.lo-c.ensures.interval c.requires in cc
