@@ -1,6 +1,9 @@
 pub mod Align
+pub mod Canonical
 pub mod Divisions
+pub mod Exact
 pub mod Operations
+pub mod Orders
 pub mod Powers
 pub mod Quotients
 pub mod Rounding

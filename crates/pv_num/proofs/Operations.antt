@@ -8,12 +8,12 @@ use Rattle.pv_num.specs.Extended.{Extended, NegInf, Fin, PosInf}
 use Rattle.pv_num.specs.Grid.{unit}
 use Rattle.pv_num.specs.Rounding.{rounded}
 use Rattle.pv_num.specs.Arithmetic.{mul_of, div_of, ratio_of, add_of}
-use Rattle.pv_num.specs.Sizes.{IsSized, fine, signed_of, toward_of, magnitude_of, is_negative_of, is_infinite_of, whole_of}
+use Rattle.pv_num.specs.Sizes.{IsSized, fine, signed_of, toward_of, magnitude_of, is_negative_of, is_infinite_of, whole_of, with_sign}
 use Rattle.pv_num.specs.declared.num.End.{End}
 use Rattle.pv_num.specs.declared.magnitude.Magnitude.{Magnitude}
 use Rattle.pv_num.specs.declared.magnitude.Toward.{Toward}
 use Rattle.pv_num.proofs.Scales.{signed_is, unit_pos, round_sum}
-use Rattle.pv_num.proofs.Signs.{with_sign, neg-mul}
+use Rattle.pv_num.proofs.Signs.{neg-mul}
 use Rattle.std.proofs.lemmas.Nat.{pow_pos}
 
 pub signed_to : (side : End) (s : Bool) (v b : ℕ) (r : Option Magnitude) (z : ℤ) → with_sign s v ≡ z → 0 < b → IsSized (toward_of side s) v b r → signed_of s r ≡ rounded side z b

@@ -4,7 +4,7 @@ use Rattle.std.proofs.Math.Nat.{mul-le-mul_right, mul-lt-mul_of_pos_right, lt_of
 use Rattle.pv_num.specs.Extended.{Extended, NegInf, Fin, PosInf}
 use Rattle.pv_num.specs.Grid.{IsGridSize, unit}
 use Rattle.pv_num.specs.Rounding.{IsRounded, rounded}
-use Rattle.pv_num.specs.Sizes.{size_of, IsFloorSize, IsCeilingSize, IsFloor, IsCeiling, IsSized, fine, signed_of, toward_of}
+use Rattle.pv_num.specs.Sizes.{size_of, IsFloorSize, IsCeilingSize, IsFloor, IsCeiling, IsSized, fine, signed_of, toward_of, with_sign}
 use Rattle.pv_num.specs.declared.num.End.{End}
 use Rattle.pv_num.specs.declared.num.End.TheVariants.{Down, Up}
 use Rattle.pv_num.specs.declared.magnitude.Magnitude.{Magnitude}
@@ -12,7 +12,7 @@ use Rattle.pv_num.specs.declared.magnitude.Toward.{Toward}
 use Rattle.pv_num.specs.declared.magnitude.Toward.TheVariants.{Zero, Away}
 use Rattle.pv_num.proofs.Align.{shifted_to, shifted_twice}
 use Rattle.pv_num.proofs.Rounds.{at_fine, fine_pos}
-use Rattle.pv_num.proofs.Signs.{with_sign, signed_rounded}
+use Rattle.pv_num.proofs.Signs.{signed_rounded}
 use Rattle.pv_num.proofs.Rounding.{rounded-unique}
 
 -- ---- Equal quotients are rounded alike

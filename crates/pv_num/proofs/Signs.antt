@@ -5,7 +5,7 @@ use Rattle.std.proofs.Math.Nat.{mul-pos}
 use Rattle.pv_num.specs.Extended.{Extended, NegInf, Fin, PosInf}
 use Rattle.pv_num.specs.Grid.{IsGridSize, IsGrid}
 use Rattle.pv_num.specs.Rounding.{IsGreatestBelow, IsLeastAbove, IsDown, IsUp, IsRounded, rounded}
-use Rattle.pv_num.specs.Sizes.{size_of, IsFloorSize, IsCeilingSize, IsFloor, IsCeiling, IsSized, signed_of, toward_of}
+use Rattle.pv_num.specs.Sizes.{size_of, IsFloorSize, IsCeilingSize, IsFloor, IsCeiling, IsSized, signed_of, toward_of, with_sign}
 use Rattle.pv_num.specs.declared.num.End.{End}
 use Rattle.pv_num.specs.declared.num.End.TheVariants.{Down, Up}
 use Rattle.pv_num.specs.declared.magnitude.Magnitude.{Magnitude}
@@ -100,11 +100,6 @@ down_none n b h f g =
     let l : (neg_ℤ f *ℤ pos b) <ℤ pos n = up_none n b h (neg_ℤ f) (neg_grid f g) in
     let l' : neg_ℤ (f *ℤ pos b) <ℤ pos n = subst (λ x. x <ℤ pos n) (neg-mul f b) l in
     omega (arith, ints, l')
-
--- The number of a sign and a size.
-abbrev pub with_sign : Bool → ℕ → ℤ
-with_sign true n = neg_ℤ (pos n)
-with_sign false n = pos n
 
 pub signed_rounded : (side : End) (s : Bool) (v b : ℕ) (r : Option Magnitude) → 0 < b → IsSized (toward_of side s) v b r → IsRounded side (with_sign s v) b (signed_of s r)
 signed_rounded Down true v b None p h = down_none v b h

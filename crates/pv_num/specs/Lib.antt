@@ -7,3 +7,4 @@ pub mod Rounding
 pub mod Arithmetic
 pub mod Laws
 pub mod Sizes
+pub mod Parts

@@ -91,3 +91,13 @@ abbrev pub whole_of : Extended → ℤ
 whole_of NegInf = pos 0
 whole_of (Fin a) = a
 whole_of PosInf = pos 0
+
+-- The whole number of a sign and a size.
+abbrev pub with_sign : Bool → ℕ → ℤ
+with_sign true n = neg_ℤ (pos n)
+with_sign false n = pos n
+
+-- A size is exactly v / fine; none where no size is.
+abbrev pub IsExact : ℕ → Option Magnitude → Type 0
+IsExact v None = (f : ℕ) → IsGridSize f → f * fine ≡ v → ⊥
+IsExact v (Some m) = size_of m * fine ≡ v

@@ -116,7 +116,7 @@ fn finite_sum(a: Num, b: Num, at: u16, side: End) -> Num
 }
 
 #[inline]
-fn is_smaller(x: Magnitude, y: Magnitude) -> bool
+pub(crate) fn is_smaller(x: Magnitude, y: Magnitude) -> bool
     ensures { IsTrue result ↔ (size_of x < size_of y) }
 {
     if x.exponent < y.exponent {

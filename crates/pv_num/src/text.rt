@@ -1,5 +1,6 @@
 //! The spelling of numbers: `m:e` in decimal with canonical parts, `-oo` and `+oo`.
-ghost use Rattle.std.specs.Prelude.{◌^◌, ◌<◌, IfSome};
+ghost use Rattle.std.specs.Prelude.{◌≡◌, ◌++◌, ◌^◌, ◌<◌, IfSome, OnOk, OnErr, take, vec_len, is_ok, if◌then◌else◌};
+ghost use Rattle.pv_num.specs.Parts.{number_text, parts_text};
 
 use crate::convert::Parts;
 use crate::memory::Memory;
@@ -8,9 +9,11 @@ use itoa::Buffer;
 
 impl Num {
     /// Appends the spelling. After a refusal the text is as before.
-    pub fn write_text(self, out: &mut Vec<u8>) -> Result<(), Memory> {
+    pub fn write_text(self, out: &mut Vec<u8>) -> Result<(), Memory>
+        ensures written { out.new.items ≡ (if is_ok result then out.old.items ++ number_text self else out.old.items) }
+    {
         let before = out.len();
-        match append(self, out) {
+        match append(self.parts(), out) {
             Ok(()) => Ok(()),
             Err(refusal) => {
                 out.truncate(before);
@@ -38,8 +41,12 @@ impl Num {
     }
 }
 
-fn append(number: Num, out: &mut Vec<u8>) -> Result<(), Memory> {
-    match number.parts() {
+// Where it fails, the text has grown or is as it was.
+fn append(parts: Parts, out: &mut Vec<u8>) -> Result<(), Memory>
+    ensures written { OnOk result (out.new.items ≡ out.old.items ++ parts_text parts) }
+    ensures grown { OnErr result (take (vec_len out.old) out.new.items ≡ out.old.items) }
+{
+    match parts {
         Parts::NegInf => out.extend_from_slice(b"-oo")?,
         Parts::PosInf => out.extend_from_slice(b"+oo")?,
         Parts::Fin { m, e } => {
