@@ -1,0 +1,6 @@
+pub mod Steps
+pub mod TreeFacts
+pub mod ArenaFacts
+pub mod Placing
+pub mod Walks
+pub mod Wholes

@@ -1,0 +1,14 @@
+use Rattle.std.proofs.Common.{◌≡◌, ◌<◌, length, arith, sym, ap, ◌∙◌, length-set, true}
+use Rattle.pv_tree.specs.Paths.{count-steps_of}
+use Rattle.pv_tree.proofs.Steps.{high_padding}
+use Rattle.pv_tree.proofs.path.Path.high.Goals as goal
+
+pub invariant_of-result : goal.invariant_of-result
+invariant_of-result c =
+    let e : length c.args.self ≡ c.self.inside.len = sym (ap length c.self.view_is) ∙ count-steps_of c.self.inside c.self.invariant in
+    let lt : c.self.inside.len < 200 = omega arith in
+    record {
+      size = length-set c.self.inside.steps c.self.inside.len true ∙ c.self.invariant.size;
+      few = omega arith;
+      padding = high_padding c.self.inside.steps c.self.inside.len c.self.invariant.size lt c.self.invariant.padding
+    }

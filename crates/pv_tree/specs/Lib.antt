@@ -1,0 +1,5 @@
+pub mod Trees
+pub mod Codes
+pub mod Paths
+pub mod PathText
+pub mod Arena

@@ -1,0 +1,148 @@
+//! Pavings.
+ghost use Rattle.std.specs.Prelude.{◌≡◌, ◌+◌, ◌-◌, ◌*◌, ◌<◌, ◌≤◌, ◌^◌, ◌++◌, if◌then◌else◌, is_ok, IfOk, IfErr, OnOk, IfSome, IsSome, Some, length};
+ghost use Rattle.pv_tree.specs.Trees.{Tree, leaf, subtree, graft, settled, Fits, HasDepth, IsPaving, box_of, to_at, shape_of, counts_of, settled_of, opens, first, behind, Seen};
+
+use pv_box::IBox;
+use pv_interval::Interval;
+use std::alloc::{AllocError, Global};
+use std::marker::Model;
+use crate::arena::{close_way, descend, lay_down, place, tally};
+use crate::cell::Node;
+use crate::outcome::{Counts, Outcome};
+use crate::path::Path;
+
+/// An outcome that found no memory.
+#[derive(Drop)]
+pub struct PutRefused {
+    pub outcome: Outcome,
+}
+
+/// A tree of settled boxes over a root box. Its open leaves are what is left to settle.
+#[derive(Drop)]
+pub struct Paving {
+    root: IBox,
+    ends: Vec<Interval>,
+    nodes: Vec<Node>,
+    counts: Counts,
+    spare: u64,
+}
+
+impl Model for Paving {
+    ghost use Rattle.std.specs.Prelude.{length, vec_len, vec_capacity};
+    ghost use Rattle.pv_tree.specs.Trees.{Seen};
+    ghost use Rattle.pv_tree.specs.Codes.{coded_seen};
+
+    ghost Value = { Seen };
+
+    ghost coded = { coded_seen };
+
+    ghost use Rattle.pv_tree.specs.Arena.{whole_tree, IsWhole, HasRoom};
+
+    ghost view = { λ a. record { root = a.root; tree = whole_tree (length a.root) a.ends.items a.nodes.items; spare = a.spare } };
+
+    ghost invariant = { λ a. IsWhole a.root a.ends.items a.nodes.items a.counts × HasRoom (length a.root) a.spare (vec_len a.nodes) (vec_capacity a.nodes) (vec_len a.ends) (vec_capacity a.ends) };
+}
+
+/// So many settlings are more than memory holds.
+const MOST_SPARE: u64 = 0x100_0000_0000;
+
+impl Paving {
+    /// The paving that is one open leaf.
+    pub fn open(alloc: Global, bx: IBox) -> Result<Paving, AllocError>
+        ensures root { IfOk result (λ p. p.root ≡ bx) }
+        ensures tree { IfOk result (λ p. p.tree ≡ leaf) }
+    {
+        let _places = bx.dims();
+        let mut nodes = Vec::new(alloc);
+        nodes.push(Node::OPEN)?;
+        Ok(Paving {
+            root: bx,
+            ends: Vec::new(alloc),
+            nodes,
+            counts: Counts {
+                cut: 0,
+                removed: 0,
+                inner: 0,
+                small: 0,
+                open_leaves: 1,
+            },
+            spare: 0,
+        })
+    }
+
+    /// The number of places of the root box.
+    pub fn dims(&self) -> u8
+        ensures dims { result ≡ length self.now.root }
+        ensures paving { IsPaving self.now.root self.now.tree }
+    {
+        self.root.dims()
+    }
+
+    /// How many nodes there are of each kind.
+    pub fn counts(&self) -> Counts
+        ensures counts { result ≡ counts_of self.now.tree }
+        ensures fit { settled_of result + result.open_leaves < 2 ^ 63 }
+    {
+        let _count = self.nodes.len();
+        self.counts
+    }
+
+    /// Makes room for at least so many settlings.
+    pub fn reserve(&mut self, settles: u64) -> Result<(), AllocError>
+        ensures root { self.new.root ≡ self.old.root }
+        ensures tree { self.new.tree ≡ self.old.tree }
+        ensures spare { OnOk result (settles ≤ self.new.spare) }
+        ensures no_less { self.old.spare ≤ self.new.spare }
+    {
+        if settles <= self.spare {
+            return Ok(());
+        }
+        if settles > MOST_SPARE {
+            return Err(AllocError);
+        }
+        let places = self.root.dims() as u64;
+        self.nodes.reserve((2 * settles) as usize)?;
+        self.ends.reserve((places * settles) as usize)?;
+        self.spare = settles;
+        Ok(())
+    }
+
+    /// Settles an open leaf in reserved room.
+    pub fn put_in_room(&mut self, path: Path, outcome: Outcome)
+        requires open { subtree self.old.tree path ≡ Some leaf }
+        requires fits { Fits (box_of self.old.root self.old.tree path) outcome }
+        requires depth { HasDepth path outcome }
+        requires room { 1 ≤ self.old.spare }
+        ensures root { self.new.root ≡ self.old.root }
+        ensures tree { self.new.tree ≡ graft self.old.tree path (settled outcome) }
+        ensures spare { self.old.spare ≤ self.new.spare + 1 }
+    {
+        let Some(at) = descend(&self.nodes, path, path.len()) else {
+            unreachable!()
+        };
+        let cell = lay_down(&mut self.ends, &outcome, self.nodes.len());
+        place(&mut self.nodes, at, cell);
+        self.counts = tally(self.counts, &outcome);
+        self.spare -= 1;
+        close_way(&mut self.nodes, path);
+    }
+
+    /// Settles an open leaf. Want of memory hands the outcome back.
+    pub fn put(&mut self, path: Path, outcome: Outcome) -> Result<(), PutRefused>
+        requires open { subtree self.old.tree path ≡ Some leaf }
+        requires fits { Fits (box_of self.old.root self.old.tree path) outcome }
+        requires depth { HasDepth path outcome }
+        ensures root { self.new.root ≡ self.old.root }
+        ensures tree { self.new.tree ≡ (if is_ok result then graft self.old.tree path (settled outcome) else self.old.tree) }
+        ensures spare { self.old.spare ≤ self.new.spare }
+        ensures back { IfErr result (λ e. e.outcome ≡ outcome) }
+    {
+        let wanted = self.spare + 1;
+        match self.reserve(wanted) {
+            Ok(()) => {}
+            Err(_) => return Err(PutRefused { outcome }),
+        }
+        self.put_in_room(path, outcome);
+        Ok(())
+    }
+}
