@@ -4,3 +4,4 @@ pub mod ArenaFacts
 pub mod Placing
 pub mod Walks
 pub mod Wholes
+pub mod Searches

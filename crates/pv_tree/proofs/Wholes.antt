@@ -7,8 +7,8 @@ use Rattle.std.proofs.Math.Seq.{take-append_seam}
 use Rattle.pv_num.specs.Extended.{Extended}
 use Rattle.pv_interval.specs.Bounds.{Bounds}
 use Rattle.pv_box.specs.Boxes.{IsBox, lower_half, upper_half}
-use Rattle.pv_tree.specs.Trees.{Tree, leaf, removed, inner, small, cut, subtree, graft, height, settled, top, box_of, Paves, IsPaving, Fits, KeepsBox, HasDepth, IsWithin, counts_of, settled_of}
-use Rattle.pv_tree.specs.Arena.{tree_at, whole_tree, reach, cell_at, closed_at, kept, kids_of, start_of, side, Family, IsLinked, IsArena, open_node, IsClosed, IsPlaced, is_cut, is_a_cut, outcome_of, Shows, IsLonger, IsRemarked, MarksRight, HasKids, IsWhole, HasRoom, HasPlaces, places_of, Adds}
+use Rattle.pv_tree.specs.Trees.{Tree, leaf, removed, inner, small, cut, subtree, graft, height, settled, top, box_of, Paves, IsPaving, Fits, KeepsBox, HasDepth, IsWithin, counts_of, settled_of, shape_of}
+use Rattle.pv_tree.specs.Arena.{tree_at, whole_tree, reach, cell_at, closed_at, kept, kids_of, start_of, side, Family, IsLinked, IsArena, open_node, IsClosed, IsPlaced, is_cut, is_a_cut, outcome_of, Shows, IsLonger, IsRemarked, MarksRight, HasKids, IsWhole, HasRoom, HasPlaces, places_of, Adds, shape_of_cell, shape_of_found, cell_along}
 use Rattle.pv_tree.specs.declared.cell.Cell.{Cell}
 use Rattle.pv_tree.specs.declared.cell.Cell.TheVariants.{Open, Removed, Inner, Small, Cut}
 use Rattle.pv_tree.specs.declared.cell.Node.{Node}
@@ -270,3 +270,17 @@ placed_kids b es ns ms counts j x whole placed d fs o shows there = record {
             let at_end : c ≡ length ns = shows.kids_there c w in omega arith
       | inr h ↦ let w : c + 1 < length ns = (whole.arena.linked.kids k c (sym (ap kids_of (placed.others k h.1)) ∙ e)).there in omega (arith, placed.size) ]
   }
+
+shape_shown : (d : ℕ) (es : List Bounds) (ns : List Node) (f : ℕ) (x : Cell) → shape_of (Some (shown d es ns f x)) ≡ shape_of_cell x
+shape_shown d es ns f Open = refl
+shape_shown d es ns f Removed = refl
+shape_shown d es ns f (Inner s) = refl
+shape_shown d es ns f (Small s) = refl
+shape_shown d es ns f (Cut s v a c) = refl
+
+shape_shown_at : (d : ℕ) (es : List Bounds) (ns : List Node) (f : ℕ) (o : Option ℕ) → shape_of (option_map (tree_at d es ns (suc f)) o) ≡ shape_of_found (option_map (cell_at ns) o)
+shape_shown_at d es ns f None = refl
+shape_shown_at d es ns f (Some k) = ap (λ (t : Tree). shape_of (Some t)) (tree_at-is d es ns f k (cell_at ns k) refl) ∙ shape_shown d es ns f (cell_at ns k)
+
+pub shape_there : (d : ℕ) (es : List Bounds) (ns : List Node) (p : List Bool) → length p ≤ 200 → shape_of (subtree (whole_tree d es ns) p) ≡ shape_of_found (cell_along ns p (length p))
+shape_there d es ns p short = ap shape_of (subtree_there d es ns p short) ∙ shape_shown_at d es ns (200 - length p) (reach ns 0 (take (length p) p))

@@ -1,13 +1,16 @@
 -- The tree that an arena of numbered nodes stands for.
 use Rattle.pv_tree.specs.declared.outcome.Outcome.{Outcome}
 use Rattle.pv_tree.specs.declared.outcome.Outcome.TheVariants as outcome
-use Rattle.std.specs.Prelude.{if◌then◌else◌, ◌≢◌, ◌≡◌, ℕ, zero, suc, ◌+◌, ◌*◌, ◌^◌, ◌<◌, ◌≤◌, Bool, true, false, Option, Some, None, List, [], ◌∷◌, ◌++◌, length, take, drop, slice_index_or}
+use Rattle.std.specs.Prelude.{if◌then◌else◌, ◌≢◌, ◌≡◌, ℕ, zero, suc, ◌+◌, ◌*◌, ◌^◌, ◌<◌, ◌≤◌, Bool, true, false, Option, Some, None, List, [], ◌∷◌, ◌++◌, map, length, take, drop, slice_index_or}
+use Rattle.std.specs.Option.{option_map}
 use Rattle.pv_interval.specs.Bounds.{Bounds}
 use Rattle.pv_tree.specs.Trees.{Tree, leaf, removed, inner, small, cut, IsPaving, counts_of, settled_of}
 use Rattle.pv_tree.specs.declared.cell.Cell.{Cell}
 use Rattle.pv_tree.specs.declared.cell.Cell.TheVariants.{Open, Removed, Inner, Small, Cut}
 use Rattle.pv_tree.specs.declared.cell.Node.{Node}
 use Rattle.pv_tree.specs.declared.outcome.Counts.{Counts}
+use Rattle.pv_tree.specs.declared.outcome.Shape.{Shape}
+use Rattle.pv_tree.specs.declared.outcome.Shape.TheVariants as shape
 
 abbrev pub open_node : Node
 open_node = record { cell = Open; closed = false }
@@ -172,3 +175,25 @@ pub record Adds (old part new : Counts) : Type 0 where
   pub inner : new.inner ≡ old.inner + part.inner
   pub small : new.small ≡ old.small + part.small
   pub open_leaves : new.open_leaves + 1 ≡ old.open_leaves + part.open_leaves
+
+abbrev pub shape_of_cell : Cell → Shape
+shape_of_cell Open = shape.OpenLeaf
+shape_of_cell Removed = shape.Removed
+shape_of_cell (Inner s) = shape.Inner
+shape_of_cell (Small s) = shape.Small
+shape_of_cell (Cut s var at c) = shape.Cut var at
+
+abbrev pub is_open_cell : Cell → Bool
+is_open_cell Open = true
+is_open_cell Removed = false
+is_open_cell (Inner s) = false
+is_open_cell (Small s) = false
+is_open_cell (Cut s var at c) = false
+
+-- The cell that the first steps of a path lead to.
+abbrev pub cell_along : List Node → List Bool → ℕ → Option Cell
+cell_along ns p steps = option_map (cell_at ns) (reach ns 0 (take steps p))
+
+abbrev pub shape_of_found : Option Cell → Shape
+shape_of_found None = shape.Absent
+shape_of_found (Some x) = shape_of_cell x

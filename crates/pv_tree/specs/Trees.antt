@@ -212,3 +212,10 @@ HasDepth p (Cut to var at) = length p < 200
 -- The paths of a list that stand behind a path in preorder.
 abbrev pub behind : List Bool → List (List Bool) → List (List Bool)
 behind p ps = filter (precedes p) ps
+
+-- A cut comes only where a further one is allowed.
+abbrev pub CutsAbove : ℕ → Outcome → Type 0
+CutsAbove d Removed = Unit {0}
+CutsAbove d (Inner to) = Unit {0}
+CutsAbove d (Small to) = Unit {0}
+CutsAbove d (Cut to var at) = 0 < d

@@ -2,12 +2,12 @@
 ghost use Rattle.std.specs.Prelude.{◌≡◌, ◌+◌, ◌*◌, ◌^◌, ◌<◌, ◌≤◌, ◌++◌, ℕ, Some, IfSome, length, take, vec_len, vec_capacity, slice_index_or};
 ghost use Rattle.pv_box.specs.Boxes.{IsBox};
 ghost use Rattle.pv_tree.specs.Trees.{KeepsBox, counts_of, settled, settled_of};
-ghost use Rattle.pv_tree.specs.Arena.{cell_at, reach, side, kids_of, HasKids, IsPlaced, IsRemarked, MarksRight, Adds, Shows, HasPlaces, places_of, IsLonger};
+ghost use Rattle.pv_tree.specs.Arena.{cell_at, reach, side, kids_of, HasKids, IsPlaced, IsRemarked, MarksRight, shape_of_cell, cell_along, Adds, Shows, HasPlaces, places_of, IsLonger};
 
 use pv_box::IBox;
 use pv_interval::Interval;
 use crate::cell::{Cell, Node};
-use crate::outcome::{Counts, Outcome};
+use crate::outcome::{Counts, Outcome, Shape};
 use crate::path::Path;
 
 /// The child of a cut whose low child stands at `kids`.
@@ -51,6 +51,18 @@ pub(crate) fn descend(nodes: &[Node], path: Path, steps: u32) -> Option<usize>
         }
     }
     Some(at)
+}
+
+/// The cell that the first `steps` steps of a path lead to.
+pub(crate) fn cell_after(nodes: &[Node], path: Path, steps: u32) -> Option<Cell>
+    requires kids { HasKids nodes.now }
+    requires within { steps ≤ length path }
+    ensures { result ≡ cell_along nodes.now path steps }
+{
+    match descend(nodes, path, steps) {
+        Some(at) => Some(nodes[at].cell),
+        None => None,
+    }
 }
 
 /// Appends the ends of a box.
@@ -183,4 +195,17 @@ pub(crate) fn tally(counts: Counts, outcome: &Outcome) -> Counts
         }
     }
     after
+}
+
+/// The shape of a cell.
+pub(crate) fn cell_shape(cell: Cell) -> Shape
+    ensures { result ≡ shape_of_cell cell }
+{
+    match cell {
+        Cell::Open => Shape::OpenLeaf,
+        Cell::Removed => Shape::Removed,
+        Cell::Inner { .. } => Shape::Inner,
+        Cell::Small { .. } => Shape::Small,
+        Cell::Cut { var, at, .. } => Shape::Cut { var, at },
+    }
 }

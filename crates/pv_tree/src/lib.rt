@@ -2,11 +2,16 @@
 #![tactic(auto)]
 
 mod arena;
+mod batch;
 mod cell;
 mod outcome;
 mod path;
 mod paving;
+mod search;
+mod settler;
 
+pub use batch::Batch;
 pub use outcome::{Counts, Outcome, Shape};
 pub use path::{MOST_STEPS, Path};
 pub use paving::{Paving, PutRefused};
+pub use settler::Settler;

@@ -2,7 +2,7 @@
 ghost use Rattle.pv_tree.specs.PathText.{path_text};
 ghost use Rattle.std.specs.Prelude.{if◌then◌else◌, is_ok, ◌≡◌, ◌+◌, ◌<◌, ◌≤◌, ◌↔◌, ◌++◌, [], ◌∷◌, true, false, length, IsTrue, slice_index_or, string_bytes, IfOk, OnErr};
 
-use std::alloc::AllocError;
+use pv_num::Memory;
 use std::marker::Model;
 
 /// The most steps that a path has.
@@ -101,7 +101,7 @@ impl Path {
     }
 
     /// Appends a digit a step, 0 for low and 1 for high; of the root a dot.
-    pub fn write_text(self, out: &mut Vec<u8>) -> Result<(), AllocError>
+    pub fn write_text(self, out: &mut Vec<u8>) -> Result<(), Memory>
         ensures written { out.new.items ≡ (if is_ok result then out.old.items ++ path_text self else out.old.items) }
     {
         out.reserve(1 + self.len as usize)?;

@@ -4,11 +4,13 @@ ghost use Rattle.pv_tree.specs.Trees.{Tree, leaf, subtree, graft, settled, Fits,
 
 use pv_box::IBox;
 use pv_interval::Interval;
-use std::alloc::{AllocError, Global};
+use pv_num::Memory;
+use std::alloc::Global;
 use std::marker::Model;
-use crate::arena::{close_way, descend, lay_down, place, tally};
+use crate::arena::{cell_after, cell_shape, close_way, descend, lay_down, place, tally};
 use crate::cell::Node;
-use crate::outcome::{Counts, Outcome};
+use crate::outcome::{Counts, Outcome, Shape};
+use crate::search::{leftmost, Spot};
 use crate::path::Path;
 
 /// An outcome that found no memory.
@@ -48,7 +50,7 @@ const MOST_SPARE: u64 = 0x100_0000_0000;
 
 impl Paving {
     /// The paving that is one open leaf.
-    pub fn open(alloc: Global, bx: IBox) -> Result<Paving, AllocError>
+    pub fn open(alloc: Global, bx: IBox) -> Result<Paving, Memory>
         ensures root { IfOk result (λ p. p.root ≡ bx) }
         ensures tree { IfOk result (λ p. p.tree ≡ leaf) }
     {
@@ -88,7 +90,7 @@ impl Paving {
     }
 
     /// Makes room for at least so many settlings.
-    pub fn reserve(&mut self, settles: u64) -> Result<(), AllocError>
+    pub fn reserve(&mut self, settles: u64) -> Result<(), Memory>
         ensures root { self.new.root ≡ self.old.root }
         ensures tree { self.new.tree ≡ self.old.tree }
         ensures spare { OnOk result (settles ≤ self.new.spare) }
@@ -98,7 +100,7 @@ impl Paving {
             return Ok(());
         }
         if settles > MOST_SPARE {
-            return Err(AllocError);
+            return Err(Memory);
         }
         let places = self.root.dims() as u64;
         self.nodes.reserve((2 * settles) as usize)?;
@@ -144,5 +146,46 @@ impl Paving {
         }
         self.put_in_room(path, outcome);
         Ok(())
+    }
+
+    /// The shape of the node at a path. It is absent exactly where the tree has no such path.
+    pub fn shape_at(&self, path: Path) -> Shape
+        ensures { result ≡ shape_of (subtree self.now.tree path) }
+    {
+        match cell_after(&self.nodes, path, path.len()) {
+            Some(cell) => cell_shape(cell),
+            None => Shape::Absent,
+        }
+    }
+
+    /// The first open leaf in preorder.
+    pub fn first_open(&self) -> Option<Path>
+        ensures first { result ≡ first (opens self.now.tree) }
+        ensures is_open { IfSome result (λ p. subtree self.now.tree p ≡ Some leaf) }
+    {
+        leftmost(
+            &self.nodes,
+            Spot {
+                at: 0,
+                path: Path::root(),
+            },
+        )
+    }
+
+    /// An equal paving, which has no room of its own.
+    pub fn clone_of(&self, alloc: Global) -> Result<Paving, Memory>
+        ensures root { IfOk result (λ p. p.root ≡ self.now.root) }
+        ensures tree { IfOk result (λ p. p.tree ≡ self.now.tree) }
+    {
+        let root = self.root.clone_of(alloc)?;
+        let ends = Vec::from_slice(alloc, self.ends.as_slice())?;
+        let nodes = Vec::from_slice(alloc, self.nodes.as_slice())?;
+        Ok(Paving {
+            root,
+            ends,
+            nodes,
+            counts: self.counts,
+            spare: 0,
+        })
     }
 }

@@ -1,0 +1,51 @@
+//! What settles a box.
+use pv_box::IBox;
+use pv_num::Memory;
+use std::alloc::Global;
+use crate::outcome::Outcome;
+
+/// A way to settle boxes, and the set of points that it speaks of.
+///
+/// The set is `inside`. No point of a box outside the outcome's `to` is in it, and every point of an inner `to` is.
+pub trait Settler {
+    ghost use Rattle.std.specs.Prelude.{◌≡◌, ℕ, ◌<◌, ◌≤◌, List, length, IfOk};
+    ghost use Rattle.pv_interval.specs.Bounds.{Bounds};
+    ghost use Rattle.pv_interval.specs.Points.{Point};
+    ghost use Rattle.pv_box.specs.Boxes.{IsBox};
+    ghost use Rattle.pv_tree.specs.declared.outcome.Outcome.{Outcome};
+    ghost use Rattle.pv_tree.specs.Trees.{Fits, KeepsBox, CutsAbove};
+    ghost use Rattle.pv_tree.specs.Sets.{IsSoundOutcome};
+
+    /// The number of places of its boxes.
+    ghost dims: { Self → ℕ };
+
+    /// The most cuts on a path.
+    ghost depth_of: { Self → ℕ };
+
+    /// The outcome for a box, the cuts that are left, and the length of the box's path.
+    ghost settle_of: { Self → List Bounds → ℕ → ℕ → Outcome };
+
+    /// The set.
+    ghost inside: { Self → Point → Type 0 };
+
+    /// The most cuts on a path.
+    fn depth(&self) -> u32
+        ensures { result ≡ depth_of self.now };
+
+    /// Settles a box.
+    fn settle(&self, alloc: Global, bx: &IBox, depth_left: u32, path_len: u32) -> Result<Outcome, Memory>
+        requires { length bx.now ≡ dims self.now }
+        ensures { IfOk result (λ o. o ≡ settle_of self.now bx.now depth_left path_len) };
+
+    ghost dims_fit: { (s : Self) → (1 ≤ dims s) × (dims s ≤ 12) };
+
+    ghost depth_fits: { (s : Self) → (1 ≤ depth_of s) × (depth_of s ≤ 200) };
+
+    ghost fits: { (s : Self) (b : List Bounds) (d k : ℕ) → IsBox b → length b ≡ dims s → Fits b (settle_of s b d k) };
+
+    ghost keeps_box: { (s : Self) (b : List Bounds) (d k : ℕ) → IsBox b → length b ≡ dims s → KeepsBox (settle_of s b d k) };
+
+    ghost ends: { (s : Self) (b : List Bounds) (d k : ℕ) → IsBox b → length b ≡ dims s → CutsAbove d (settle_of s b d k) };
+
+    ghost sound: { (s : Self) (b : List Bounds) (d k : ℕ) → IsBox b → length b ≡ dims s → IsSoundOutcome (inside s) b (settle_of s b d k) };
+}
