@@ -5,3 +5,5 @@ pub mod Placing
 pub mod Walks
 pub mod Wholes
 pub mod Searches
+pub mod Halves
+pub mod Behind

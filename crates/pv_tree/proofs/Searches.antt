@@ -5,7 +5,7 @@ use Rattle.pv_num.specs.Extended.{Extended}
 use Rattle.pv_interval.specs.Bounds.{Bounds}
 use Rattle.pv_tree.specs.Trees.{Tree, leaf, removed, inner, small, cut, opens, first, subtree}
 use Rattle.pv_tree.specs.Arena.{tree_at, whole_tree, reach, cell_at, closed_at, kept, kids_of, side, HasKids, MarksRight, IsClosed, is_open_cell, IsWhole, IsLinked}
-use Rattle.pv_tree.specs.Spots.{IsSearchable, IsSpot, AreCutInto, AreChildren, opens_below, first_below}
+use Rattle.pv_tree.specs.Spots.{IsSearchable, IsSpot, AreCutInto, AreChildren, opens_below, first_below, first_behind, first_of_pair, either}
 use Rattle.pv_tree.specs.declared.cell.Cell.{Cell}
 use Rattle.pv_tree.specs.declared.cell.Cell.TheVariants.{Open, Removed, Inner, Small, Cut}
 use Rattle.pv_tree.specs.declared.cell.Node.{Node}
@@ -15,14 +15,14 @@ use Rattle.pv_tree.specs.declared.outcome.Counts.{Counts}
 use Rattle.pv_tree.proofs.ArenaFacts.{shown, tree_at-is, tree_at-zero, reach-is, step_to, reach_label}
 use Rattle.pv_tree.proofs.Wholes.{whole_kids}
 
-abbrev listed : List Node → ℕ → Cell → List (List Bool)
+abbrev pub listed : List Node → ℕ → Cell → List (List Bool)
 listed ns f Open = [] ∷ []
 listed ns f Removed = []
 listed ns f (Inner s) = []
 listed ns f (Small s) = []
 listed ns f (Cut s v a c) = map (λ p. false ∷ p) (opens_below ns f c) ++ map (λ p. true ∷ p) (opens_below ns f (c + 1))
 
-opens_below-is : (ns : List Node) (f k : ℕ) (x : Cell) → cell_at ns k ≡ x → opens_below ns (suc f) k ≡ listed ns f x
+pub opens_below-is : (ns : List Node) (f k : ℕ) (x : Cell) → cell_at ns k ≡ x → opens_below ns (suc f) k ≡ listed ns f x
 unfolding opens_below
 opens_below-is ns f k x e = ap (listed ns f) e
 
@@ -70,7 +70,7 @@ ended_listed ns f (Inner s) h e = refl
 ended_listed ns f (Small s) h e = refl
 ended_listed ns f (Cut s v a c) h e = cc
 
-cut_listed : (ns : List Node) (f : ℕ) (x : Cell) (c : ℕ) → kids_of x ≡ Some c → listed ns f x ≡ map (λ p. false ∷ p) (opens_below ns f c) ++ map (λ p. true ∷ p) (opens_below ns f (c + 1))
+pub cut_listed : (ns : List Node) (f : ℕ) (x : Cell) (c : ℕ) → kids_of x ≡ Some c → listed ns f x ≡ map (λ p. false ∷ p) (opens_below ns f c) ++ map (λ p. true ∷ p) (opens_below ns f (c + 1))
 cut_listed ns f Open c e = cc
 cut_listed ns f Removed c e = cc
 cut_listed ns f (Inner s) c e = cc
@@ -81,7 +81,7 @@ pub first_closed : (ns : List Node) (spot : Spot) → MarksRight ns → closed_a
 unfolding first_below
 first_closed ns spot marks h = sym (ap (λ (l : List (List Bool)). option_map (λ (p : List Bool). spot.path ++ p) (first l)) (closed_none ns marks (201 - length spot.path) spot.at h))
 
-one_more : (n : ℕ) → n ≤ 200 → 201 - n ≡ suc (200 - n)
+pub one_more : (n : ℕ) → n ≤ 200 → 201 - n ≡ suc (200 - n)
 one_more n h = omega arith
 
 pub first_open_here : (ns : List Node) (spot : Spot) → length spot.path ≤ 200 → is_open_cell (cell_at ns spot.at) ≡ true → Some spot.path ≡ first_below ns spot
@@ -99,13 +99,8 @@ first_ended ns spot short h k =
     sym (ap (λ (l : List (List Bool)). option_map (λ (p : List Bool). spot.path ++ p) (first l)) e)
 
 -- the first of two lists of paths, one behind the other
-pub either : Option (List Bool) → Option (List Bool) → Option (List Bool)
-either None b = b
-either (Some p) b = Some p
-
-first_of_two : (path : List Bool) (xs ys : List (List Bool)) → option_map (λ (p : List Bool). path ++ p) (first (map (λ p. false ∷ p) xs ++ map (λ p. true ∷ p) ys))
+pub first_of_two : (path : List Bool) (xs ys : List (List Bool)) → option_map (λ (p : List Bool). path ++ p) (first (map (λ p. false ∷ p) xs ++ map (λ p. true ∷ p) ys))
     ≡ either (option_map (λ (p : List Bool). (path ++ false ∷ []) ++ p) (first xs)) (option_map (λ (p : List Bool). (path ++ true ∷ []) ++ p) (first ys))
-unfolding either
 first_of_two path [] [] = refl
 first_of_two path [] (y ∷ ys) = ap (λ (q : List Bool). Some q) (sym (append_assoc path (true ∷ []) y))
 first_of_two path (x ∷ xs) ys = ap (λ (q : List Bool). Some q) (sym (append_assoc path (false ∷ []) x))
@@ -127,11 +122,9 @@ first_cut ns spot kids h =
     ∙ sym (ap (λ (l : List (List Bool)). option_map (λ (p : List Bool). spot.path ++ p) (first l)) here)
 
 pub first_low : (ns : List Node) (spot : Spot) (kids : Pair) (p : List Bool) → AreCutInto ns spot kids → Some p ≡ first_below ns kids.low → Some p ≡ first_below ns spot
-unfolding either
 first_low ns spot kids p h e = ap (λ (o : Option (List Bool)). either o (first_below ns kids.high)) e ∙ first_cut ns spot kids h
 
 pub first_high : (ns : List Node) (spot : Spot) (kids : Pair) (r : Option (List Bool)) → AreCutInto ns spot kids → None ≡ first_below ns kids.low → r ≡ first_below ns kids.high → r ≡ first_below ns spot
-unfolding either
 first_high ns spot kids r h e k = k ∙ ap (λ (o : Option (List Bool)). either o (first_below ns kids.high)) e ∙ first_cut ns spot kids h
 
 -- of a whole paving
@@ -176,7 +169,7 @@ child_spots ns spot c low high h e l r =
 pub root_spot : (ns : List Node) (path : List Bool) → IsSearchable ns → path ≡ [] → IsSpot ns (record { at = 0; path = path })
 root_spot ns path h e = record { searchable = h; there = h.kids.some; leads = ap (reach ns 0) e; few = let w : length path ≡ 0 = ap length e in omega arith }
 
-map_same : (o : Option (List Bool)) (path : List Bool) → path ≡ [] → option_map (λ (p : List Bool). path ++ p) o ≡ o
+pub map_same : (o : Option (List Bool)) (path : List Bool) → path ≡ [] → option_map (λ (p : List Bool). path ++ p) o ≡ o
 map_same None path e = refl
 map_same (Some p) path e = ap (λ (q : List Bool). Some (q ++ p)) e
 

@@ -135,9 +135,9 @@ kids_cut (Inner s) c e = cc
 kids_cut (Small s) c e = cc
 kids_cut (Cut s v a k) c e = refl
 
-take_all : (p : List Bool) → take (length p) p ≡ p
-take_all [] = refl
-take_all (b ∷ p) = ap (λ (q : List Bool). b ∷ q) (take_all p)
+pub take_length : (p : List Bool) → take (length p) p ≡ p
+take_length [] = refl
+take_length (b ∷ p) = ap (λ (q : List Bool). b ∷ q) (take_length p)
 
 -- the node at a path that is there
 module _ (d : ℕ) (es : List Bounds) (ns : List Node) (p : List Bool) (short : length p ≤ 200) where
@@ -150,7 +150,7 @@ module _ (d : ℕ) (es : List Bounds) (ns : List Node) (p : List Bool) (short : 
   pub subtree_there : subtree (whole_tree d es ns) p ≡ option_map (tree_at d es ns (suc left)) (reach ns 0 (take (length p) p))
   subtree_there =
       ap (λ (f : ℕ). subtree (tree_at d es ns f 0) p) (sym fuel) ∙ subtree-reach d es ns left p 0
-      ∙ ap (λ (q : List Bool). option_map (tree_at d es ns (suc left)) (reach ns 0 q)) (sym (take_all p))
+      ∙ ap (λ (q : List Bool). option_map (tree_at d es ns (suc left)) (reach ns 0 q)) (sym (take_length p))
 
   pub open_there : (j : ℕ) → reach ns 0 (take (length p) p) ≡ Some j → subtree (whole_tree d es ns) p ≡ Some leaf → cell_at ns j ≡ Open
   open_there j r o =
@@ -163,7 +163,7 @@ module _ (b es fs : List Bounds) (ns ms ks : List Node) (counts after : Counts) 
     (fits : Fits (box_of b (whole_tree (length b) es ns) p) o) (keeps : KeepsBox o) (depth : HasDepth p o) (longer : IsLonger es fs) (shows : Shows (length b) fs x o (length ns)) (placed : IsPlaced ns ms j x)
     (remarked : IsRemarked ms ks) (adds : Adds counts (counts_of (settled o)) after) where
     reach_p : reach ns 0 p ≡ Some j
-    reach_p = ap (reach ns 0) (sym (take_all p)) ∙ reached
+    reach_p = ap (reach ns 0) (sym (take_length p)) ∙ reached
 
     label_j : whole.arena.label j ≡ p
     label_j = reach_label (length b) es ns whole.arena.label whole.arena.linked p 0 j reach_p ∙ ap (λ (l : List Bool). l ++ p) whole.arena.linked.root
@@ -216,7 +216,7 @@ module _ (b es fs : List Bounds) (ns ms ks : List Node) (counts after : Counts) 
 module _ (b es fs : List Bounds) (ns ms : List Node) (counts : Counts) (p : List Bool) (j : ℕ) (x : Cell) (o : Outcome) where
   pub put_marks : IsWhole b es ns counts → length p ≤ 200 → reach ns 0 (take (length p) p) ≡ Some j → j < length ns → subtree (whole_tree (length b) es ns) p ≡ Some leaf → HasDepth p o → IsLonger es fs → Shows (length b) fs x o (length ns) → IsPlaced ns ms j x → MarksRight ms
   put_marks whole short reached there is_open depth longer shows placed =
-      let label_j : whole.arena.label j ≡ p = reach_label (length b) es ns whole.arena.label whole.arena.linked p 0 j (ap (reach ns 0) (sym (take_all p)) ∙ reached) ∙ ap (λ (l : List Bool). l ++ p) whole.arena.linked.root in
+      let label_j : whole.arena.label j ≡ p = reach_label (length b) es ns whole.arena.label whole.arena.linked p 0 j (ap (reach ns 0) (sym (take_length p)) ∙ reached) ∙ ap (λ (l : List Bool). l ++ p) whole.arena.linked.root in
       (relinked (length b) es fs ns ms whole.arena.label whole.arena.linked j x o longer (open_there (length b) es ns p short j reached is_open) there shows placed
         (λ c. let h : length p < 200 = short_cut p o (sym (cut_alike (length b) fs x o shows.outcome) ∙ c) depth in let e : length (whole.arena.label j) ≡ length p = ap length label_j in omega arith)).closed
 

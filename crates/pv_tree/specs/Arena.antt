@@ -4,7 +4,7 @@ use Rattle.pv_tree.specs.declared.outcome.Outcome.TheVariants as outcome
 use Rattle.std.specs.Prelude.{if◌then◌else◌, ◌≢◌, ◌≡◌, ℕ, zero, suc, ◌+◌, ◌*◌, ◌^◌, ◌<◌, ◌≤◌, Bool, true, false, Option, Some, None, List, [], ◌∷◌, ◌++◌, map, length, take, drop, slice_index_or}
 use Rattle.std.specs.Option.{option_map}
 use Rattle.pv_interval.specs.Bounds.{Bounds}
-use Rattle.pv_tree.specs.Trees.{Tree, leaf, removed, inner, small, cut, IsPaving, counts_of, settled_of}
+use Rattle.pv_tree.specs.Trees.{Tree, leaf, removed, inner, small, cut, IsPaving, counts_of, settled_of, IsStrictlyInside, half_of}
 use Rattle.pv_tree.specs.declared.cell.Cell.{Cell}
 use Rattle.pv_tree.specs.declared.cell.Cell.TheVariants.{Open, Removed, Inner, Small, Cut}
 use Rattle.pv_tree.specs.declared.cell.Node.{Node}
@@ -197,3 +197,22 @@ cell_along ns p steps = option_map (cell_at ns) (reach ns 0 (take steps p))
 abbrev pub shape_of_found : Option Cell → Shape
 shape_of_found None = shape.Absent
 shape_of_found (Some x) = shape_of_cell x
+
+-- A cut's ends are in the flat list, and it cuts strictly inside them.
+abbrev pub HasHalves : ℕ → List Bounds → Cell → Type 0
+HasHalves d es Open = ⊥
+HasHalves d es Removed = ⊥
+HasHalves d es (Inner s) = ⊥
+HasHalves d es (Small s) = ⊥
+HasHalves d es (Cut s var at c) = (s + d ≤ length es) × IsStrictlyInside at var (kept d es s)
+
+abbrev pub half_at : ℕ → List Bounds → Cell → Bool → Option (List Bounds)
+half_at d es Open high = None
+half_at d es Removed high = None
+half_at d es (Inner s) high = None
+half_at d es (Small s) high = None
+half_at d es (Cut s var at c) high = Some (half_of high (kept d es s) var at)
+
+abbrev pub start_along : List Node → Option ℕ → Option ℕ
+start_along ns None = None
+start_along ns (Some k) = start_of (cell_at ns k)

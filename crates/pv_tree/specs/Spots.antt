@@ -1,7 +1,7 @@
 -- Nodes of an arena with the paths that lead to them, and the open leaves below them.
 use Rattle.std.specs.Prelude.{◌≡◌, ℕ, zero, suc, ◌+◌, ◌-◌, ◌<◌, ◌≤◌, Bool, true, false, Option, Some, None, List, [], ◌∷◌, ◌++◌, map, length}
 use Rattle.std.specs.Option.{option_map}
-use Rattle.pv_tree.specs.Trees.{first}
+use Rattle.pv_tree.specs.Trees.{first, behind}
 use Rattle.pv_tree.specs.Arena.{cell_at, closed_at, reach, kids_of, HasKids, MarksRight}
 use Rattle.pv_tree.specs.declared.cell.Cell.{Cell}
 use Rattle.pv_tree.specs.declared.cell.Cell.TheVariants.{Open, Removed, Inner, Small, Cut}
@@ -48,3 +48,14 @@ opens_below ns (suc f) k = elim (cell_at ns k) [
 
 unfoldable pub first_below : List Node → Spot → Option (List Bool)
 first_below ns spot = option_map (λ p. spot.path ++ p) (first (opens_below ns (201 - length spot.path) spot.at))
+
+abbrev pub either : Option (List Bool) → Option (List Bool) → Option (List Bool)
+either None b = b
+either (Some p) b = Some p
+
+abbrev pub first_of_pair : List Node → Pair → Option (List Bool)
+first_of_pair ns kids = either (first_below ns kids.low) (first_below ns kids.high)
+
+-- The first open leaf below a node that stands behind a path in preorder, where both go by steps from the node.
+unfoldable pub first_behind : List Node → Spot → List Bool → Option (List Bool)
+first_behind ns spot after = option_map (λ p. spot.path ++ p) (first (behind after (opens_below ns (201 - length spot.path) spot.at)))

@@ -219,3 +219,8 @@ CutsAbove d Removed = Unit {0}
 CutsAbove d (Inner to) = Unit {0}
 CutsAbove d (Small to) = Unit {0}
 CutsAbove d (Cut to var at) = 0 < d
+
+-- One half of a cut box.
+abbrev pub half_of : Bool → List Bounds → ℕ → Extended → List Bounds
+half_of false b var at = lower_half b var at
+half_of true b var at = upper_half b var at

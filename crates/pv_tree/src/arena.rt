@@ -1,11 +1,12 @@
 //! The arena behind a paving: nodes by number, and the ends of their boxes in one flat vector.
 ghost use Rattle.std.specs.Prelude.{◌≡◌, ◌+◌, ◌*◌, ◌^◌, ◌<◌, ◌≤◌, ◌++◌, ℕ, Some, IfSome, length, take, vec_len, vec_capacity, slice_index_or};
-ghost use Rattle.pv_box.specs.Boxes.{IsBox};
-ghost use Rattle.pv_tree.specs.Trees.{KeepsBox, counts_of, settled, settled_of};
-ghost use Rattle.pv_tree.specs.Arena.{cell_at, reach, side, kids_of, HasKids, IsPlaced, IsRemarked, MarksRight, shape_of_cell, cell_along, Adds, Shows, HasPlaces, places_of, IsLonger};
+ghost use Rattle.pv_box.specs.Boxes.{IsBox, lower_half, upper_half};
+ghost use Rattle.pv_tree.specs.Trees.{KeepsBox, IsStrictlyInside, counts_of, settled, settled_of};
+ghost use Rattle.pv_tree.specs.Arena.{cell_at, reach, side, kids_of, HasKids, IsPlaced, IsRemarked, MarksRight, shape_of_cell, cell_along, kept, start_of, start_along, HasHalves, half_at, Adds, Shows, HasPlaces, places_of, IsLonger};
 
 use pv_box::IBox;
 use pv_interval::Interval;
+use pv_num::Num;
 use crate::cell::{Cell, Node};
 use crate::outcome::{Counts, Outcome, Shape};
 use crate::path::Path;
@@ -106,6 +107,85 @@ pub(crate) fn lay_down(ends: &mut Vec<Interval>, outcome: &Outcome, kids: usize)
                 kids,
             }
         }
+    }
+}
+
+/// Writes a kept box over another.
+pub(crate) fn copy_out(ends: &[Interval], start: usize, into: &mut IBox)
+    requires { start + length into.old ≤ length ends.now }
+    ensures { into.new ≡ kept (length into.old) ends.now start }
+{
+    let places = into.dims();
+    for i in 0..places {
+        into.set(i, ends[start + i as usize]);
+    }
+}
+
+/// Cuts a box to its upper half.
+fn raise(bx: &mut IBox, var: u8, at: Num)
+    requires { IsStrictlyInside at var bx.old }
+    ensures { bx.new ≡ upper_half bx.old var at }
+{
+    let _places = bx.dims();
+    let place = bx.get(var);
+    match Interval::new(at, place.hi()) {
+        Some(part) => bx.set(var, part),
+        None => unreachable!(),
+    }
+}
+
+/// Cuts a box to its lower half.
+fn lower(bx: &mut IBox, var: u8, at: Num)
+    requires { IsStrictlyInside at var bx.old }
+    ensures { bx.new ≡ lower_half bx.old var at }
+{
+    let _places = bx.dims();
+    let place = bx.get(var);
+    match Interval::new(place.lo(), at) {
+        Some(part) => bx.set(var, part),
+        None => unreachable!(),
+    }
+}
+
+/// Writes the box of a cut's low or high child over another box.
+pub(crate) fn child_box(ends: &[Interval], cell: Cell, high: bool, into: &mut IBox)
+    requires { HasHalves (length into.old) ends.now cell }
+    ensures { half_at (length into.old) ends.now cell high ≡ Some into.new }
+{
+    match cell {
+        Cell::Cut { start, var, at, .. } => {
+            copy_out(ends, start, into);
+            if high {
+                raise(into, var, at);
+            } else {
+                lower(into, var, at);
+            }
+        }
+        _ => unreachable!(),
+    }
+}
+
+/// Where the ends of a cell's `to` begin.
+fn start_in(cell: Cell) -> Option<usize>
+    ensures { result ≡ start_of cell }
+{
+    match cell {
+        Cell::Open => None,
+        Cell::Removed => None,
+        Cell::Inner { start } => Some(start),
+        Cell::Small { start } => Some(start),
+        Cell::Cut { start, .. } => Some(start),
+    }
+}
+
+/// Where the ends of the `to` of the node at a path begin.
+pub(crate) fn start_at(nodes: &[Node], path: Path) -> Option<usize>
+    requires kids { HasKids nodes.now }
+    ensures { result ≡ start_along nodes.now (reach nodes.now 0 (take (length path) path)) }
+{
+    match descend(nodes, path, path.len()) {
+        Some(at) => start_in(nodes[at].cell),
+        None => None,
     }
 }
 

@@ -7,10 +7,10 @@ use pv_interval::Interval;
 use pv_num::Memory;
 use std::alloc::Global;
 use std::marker::Model;
-use crate::arena::{cell_after, cell_shape, close_way, descend, lay_down, place, tally};
+use crate::arena::{cell_after, cell_shape, child_box, close_way, copy_out, descend, lay_down, place, start_at, tally};
 use crate::cell::Node;
 use crate::outcome::{Counts, Outcome, Shape};
-use crate::search::{leftmost, Spot};
+use crate::search::{later, leftmost, Spot};
 use crate::path::Path;
 
 /// An outcome that found no memory.
@@ -187,5 +187,51 @@ impl Paving {
             counts: self.counts,
             spare: 0,
         })
+    }
+
+    /// Writes the box of the node at a path over another box.
+    pub fn box_at(&self, path: Path, into: &mut IBox)
+        requires there { IsSome (subtree self.now.tree path) }
+        requires dims { length into.old ≡ length self.now.root }
+        ensures { into.new ≡ box_of self.now.root self.now.tree path }
+    {
+        let steps = path.len();
+        if steps == 0 {
+            into.copy_from(&self.root);
+            return;
+        }
+        match cell_after(&self.nodes, path, steps - 1) {
+            Some(cell) => child_box(&self.ends, cell, path.step(steps - 1), into),
+            None => unreachable!(),
+        }
+    }
+
+    /// Writes what the settled node at a path kept of its box over another box.
+    pub fn to_at(&self, path: Path, into: &mut IBox)
+        requires there { IsSome (to_at self.now.tree path) }
+        requires dims { length into.old ≡ length self.now.root }
+        ensures { to_at self.now.tree path ≡ Some into.new }
+    {
+        let _steps = path.len();
+        match start_at(&self.nodes, path) {
+            Some(start) => copy_out(&self.ends, start, into),
+            None => unreachable!(),
+        }
+    }
+
+    /// The first open leaf that stands behind a path's node in preorder.
+    pub fn next_open(&self, after: Path) -> Option<Path>
+        requires { IsSome (subtree self.now.tree after) }
+        ensures next { result ≡ first (behind after (opens self.now.tree)) }
+        ensures is_open { IfSome result (λ p. subtree self.now.tree p ≡ Some leaf) }
+    {
+        later(
+            &self.nodes,
+            Spot {
+                at: 0,
+                path: Path::root(),
+            },
+            after,
+        )
     }
 }

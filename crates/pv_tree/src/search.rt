@@ -1,9 +1,9 @@
 //! The search for open leaves.
-ghost use Rattle.std.specs.Prelude.{◌≡◌, ◌-◌, ◌<◌, ◌≤◌, ◌++◌, Some, IfSome, length};
+ghost use Rattle.std.specs.Prelude.{◌≡◌, ◌-◌, ◌<◌, ◌≤◌, ◌++◌, Some, IfSome, length, drop};
 ghost use Rattle.std.specs.Option.{option_map};
 ghost use Rattle.pv_tree.specs.Trees.{first};
 ghost use Rattle.pv_tree.specs.Arena.{cell_at, kids_of, is_open_cell};
-ghost use Rattle.pv_tree.specs.Spots.{IsSpot, AreChildren, first_below};
+ghost use Rattle.pv_tree.specs.Spots.{IsSpot, AreChildren, first_below, first_behind, first_of_pair};
 
 use crate::arena::kids_at;
 use crate::cell::{Cell, Node};
@@ -59,6 +59,42 @@ pub(crate) fn leftmost(nodes: &[Node], spot: Spot) -> Option<Path>
             Some(found) => Some(found),
             None => leftmost(nodes, kids.high),
         },
+    }
+}
+
+/// The first open leaf at or below a node that stands behind the node of a path. The path leads through the first node.
+pub(crate) fn later(nodes: &[Node], spot: Spot, after: Path) -> Option<Path>
+    requires spot { IsSpot nodes.now spot }
+    requires through { length spot.path ≤ length after }
+    ensures { result ≡ first_behind nodes.now spot (drop (length spot.path) after) }
+{
+    let depth = spot.path.len();
+    match children(nodes, spot) {
+        None => None,
+        Some(kids) => {
+            if depth == after.len() {
+                first_of(nodes, kids)
+            } else if after.step(depth) {
+                later(nodes, kids.high, after)
+            } else {
+                match later(nodes, kids.low, after) {
+                    Some(found) => Some(found),
+                    None => leftmost(nodes, kids.high),
+                }
+            }
+        }
+    }
+}
+
+/// The first open leaf at or below two nodes.
+fn first_of(nodes: &[Node], kids: Pair) -> Option<Path>
+    requires low { IsSpot nodes.now kids.low }
+    requires high { IsSpot nodes.now kids.high }
+    ensures { result ≡ first_of_pair nodes.now kids }
+{
+    match leftmost(nodes, kids.low) {
+        Some(found) => Some(found),
+        None => leftmost(nodes, kids.high),
     }
 }
 
