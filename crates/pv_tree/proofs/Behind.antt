@@ -65,8 +65,8 @@ pub later_none : (ns : List Node) (spot : Spot) (after : List Bool) → length s
 unfolding first_behind
 later_none ns spot after short e =
     let none : behind after (opens_below ns (201 - length spot.path) spot.at) ≡ [] =
-        ap (behind after) (ap (λ (n : ℕ). opens_below ns n spot.at) (one_more (length spot.path) short) ∙ opens_below-is ns (200 - length spot.path) spot.at (cell_at ns spot.at) refl)
-        ∙ behind_leaf ns (200 - length spot.path) (cell_at ns spot.at) after e in
+    ap (behind after) (ap (λ (n : ℕ). opens_below ns n spot.at) (one_more (length spot.path) short) ∙ opens_below-is ns (200 - length spot.path) spot.at (cell_at ns spot.at) refl)
+    ∙ behind_leaf ns (200 - length spot.path) (cell_at ns spot.at) after e in
     sym (ap (λ (l : List (List Bool)). option_map (λ (p : List Bool). spot.path ++ p) (first l)) none)
 
 module _ (ns : List Node) (spot : Spot) (kids : Pair) (h : AreCutInto ns spot kids) where

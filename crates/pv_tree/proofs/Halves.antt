@@ -178,9 +178,9 @@ has_box b es ns counts p whole short some there =
     let size : length (take (length p - 1) p) ≡ length p - 1 = simp length-take (omega arith) in
     let k : IsCutAt (whole_tree (length b) es ns) (take (length p - 1) p) = parent_cut (whole_tree (length b) es ns) (take (length p - 1) p) (get_or p (length p - 1) false) (subst (λ (x : List Bool). IsSome (subtree (whole_tree (length b) es ns) x)) split there) in
     let f : FoundCut (length b) es (cell_along ns p (length p - 1)) k.to k.var k.at =
-        subst (λ (x : List Bool). FoundCut (length b) es (option_map (cell_at ns) (reach ns 0 x)) k.to k.var k.at) (take_length (take (length p - 1) p))
-        (found_cut (length b) es ns (200 - length (take (length p - 1) p)) (reach ns 0 (take (length (take (length p - 1) p)) (take (length p - 1) p))) k.to k.var k.at k.low k.high
-          (sym (subtree_there (length b) es ns (take (length p - 1) p) (omega arith)) ∙ k.is)) in
+    subst (λ (x : List Bool). FoundCut (length b) es (option_map (cell_at ns) (reach ns 0 x)) k.to k.var k.at) (take_length (take (length p - 1) p))
+    (found_cut (length b) es ns (200 - length (take (length p - 1) p)) (reach ns 0 (take (length (take (length p - 1) p)) (take (length p - 1) p))) k.to k.var k.at k.low k.high
+    (sym (subtree_there (length b) es ns (take (length p - 1) p) (omega arith)) ∙ k.is)) in
     let inside : IsStrictlyInside k.at k.var k.to = (paves_below b (whole_tree (length b) es ns) (take (length p - 1) p) (cut k.to k.var k.at k.low k.high) whole.paving.paves k.is).2 in
     let at_start : (j : ℕ) × (start_of (cell_at ns j) ≡ Some f.start) = found_start ns (reach ns 0 (take (length p - 1) p)) (Cut f.start k.var k.at f.kids) f.start f.is refl in
     record {
@@ -188,7 +188,7 @@ has_box b es ns counts p whole short some there =
       is = f.is;
       halves = (whole.arena.linked.starts at_start.0 f.start at_start.1, subst (IsStrictlyInside k.at k.var) (sym f.kept_is) inside);
       half = ap (λ (x : List Bounds). Some (half_of (get_or p (length p - 1) false) x k.var k.at)) f.kept_is
-          ∙ ap (λ (x : List Bounds). Some x) (sym (box_child b (whole_tree (length b) es ns) (take (length p - 1) p) (get_or p (length p - 1) false) k.to k.var k.at k.low k.high k.is) ∙ ap (box_of b (whole_tree (length b) es ns)) (sym split))
+          ∙ ap (λ (x : List Bounds). Some x) (sym (box_child b (whole_tree (length b) es ns) (take (length p - 1) p) (get_or p (length p - 1) false) k.to k.var k.at k.low k.high k.is) ∙ ap (box_of b (whole_tree (length b) es ns)) (sym split));
     }
 
 -- what a settled node kept

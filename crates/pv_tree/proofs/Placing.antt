@@ -136,7 +136,7 @@ module _ (d : ℕ) (es fs : List Bounds) (ns ms : List Node) (label : ℕ → Li
             there = omega arith;
             low = ap relabelled at_end ∙ relabel-low label j (length ns) ∙ ap (λ (l : List Bool). l ++ false ∷ []) (sym label_j);
             high = ap (λ (n : ℕ). relabelled (n + 1)) at_end ∙ relabel-high label j (length ns) ∙ ap (λ (l : List Bool). l ++ true ∷ []) (sym label_j);
-            short = let h : length (label j) < 200 = short is in let w : length (relabelled j) ≡ length (label j) = ap length label_j in omega arith
+            short = let h : length (label j) < 200 = short is in let w : length (relabelled j) ≡ length (label j) = ap length label_j in omega arith;
           }
 
       family_there : (k c : ℕ) → kids_of (cell_at ns k) ≡ Some c → Family ms relabelled k c
@@ -149,23 +149,26 @@ module _ (d : ℕ) (es fs : List Bounds) (ns ms : List Node) (label : ℕ → Li
             there = omega arith;
             low = relabel-old label j (length ns) c (omega arith) ∙ family.low ∙ ap (λ (l : List Bool). l ++ false ∷ []) (sym label_k);
             high = relabel-old label j (length ns) (c + 1) inside ∙ family.high ∙ ap (λ (l : List Bool). l ++ true ∷ []) (sym label_k);
-            short = let h : length (label k) < 200 = family.short in let w : length (relabelled k) ≡ length (label k) = ap length label_k in omega arith
+            short = let h : length (label k) < 200 = family.short in let w : length (relabelled k) ≡ length (label k) = ap length label_k in omega arith;
           }
 
       families : (k c : ℕ) → kids_of (cell_at ms k) ≡ Some c → Family ms relabelled k c
       families k c e = elim (eqb_tells k j) [
-          inl h ↦ let w : cell_at ms k ≡ x = ap (cell_at ms) h.1 ∙ placed.here in subst (λ (n : ℕ). Family ms relabelled n c) (sym h.1) (family_here c (sym (ap kids_of w) ∙ e))
-        | inr h ↦ family_there k c (sym (ap kids_of (placed.others k h.1)) ∙ e) ]
+        | inl h ↦ let w : cell_at ms k ≡ x = ap (cell_at ms) h.1 ∙ placed.here in subst (λ (n : ℕ). Family ms relabelled n c) (sym h.1) (family_here c (sym (ap kids_of w) ∙ e))
+        | inr h ↦ family_there k c (sym (ap kids_of (placed.others k h.1)) ∙ e)
+      ]
 
       starts : (k s : ℕ) → start_of (cell_at ms k) ≡ Some s → s + d ≤ length fs
       starts k s e = elim (eqb_tells k j) [
-          inl h ↦ let w : cell_at ms k ≡ x = ap (cell_at ms) h.1 ∙ placed.here in shows.start_there s (sym (ap start_of w) ∙ e)
-        | inr h ↦ let w : s + d ≤ length es = linked.starts k s (sym (ap start_of (placed.others k h.1)) ∙ e) in let m : length es ≤ length fs = longer_length es fs longer in omega arith ]
+        | inl h ↦ let w : cell_at ms k ≡ x = ap (cell_at ms) h.1 ∙ placed.here in shows.start_there s (sym (ap start_of w) ∙ e)
+        | inr h ↦ let w : s + d ≤ length es = linked.starts k s (sym (ap start_of (placed.others k h.1)) ∙ e) in let m : length es ≤ length fs = longer_length es fs longer in omega arith
+      ]
 
       closed_stays : (k : ℕ) → closed_at ns k ≡ true → closed_at ms k ≡ true
       closed_stays k e = elim (eqb_tells k j) [
-          inl h ↦ let w : IsClosed ns (cell_at ns k) = linked.closed k e in absurd (subst (IsClosed ns) (ap (cell_at ns) h.1 ∙ open_here) w)
-        | inr h ↦ placed.flags k h.1 ∙ e ]
+        | inl h ↦ let w : IsClosed ns (cell_at ns k) = linked.closed k e in absurd (subst (IsClosed ns) (ap (cell_at ns) h.1 ∙ open_here) w)
+        | inr h ↦ placed.flags k h.1 ∙ e
+      ]
 
       is_closed_stays : (y : Cell) → IsClosed ns y → IsClosed ms y
       is_closed_stays Open h = h
@@ -183,17 +186,18 @@ module _ (d : ℕ) (es fs : List Bounds) (ns ms : List Node) (label : ℕ → Li
 
       marks : MarksRight ms
       marks k e = elim (eqb_tells k j) [
-          inl h ↦ let w : cell_at ms k ≡ x = ap (cell_at ms) h.1 ∙ placed.here in subst (IsClosed ms) (sym w) (closed_leaf x shows.outcome (placed.flag_here (sym (ap (closed_at ms) h.1) ∙ e)))
-        | inr h ↦ subst (IsClosed ms) (sym (placed.others k h.1)) (is_closed_stays (cell_at ns k) (linked.closed k (sym (placed.flags k h.1) ∙ e))) ]
+        | inl h ↦ let w : cell_at ms k ≡ x = ap (cell_at ms) h.1 ∙ placed.here in subst (IsClosed ms) (sym w) (closed_leaf x shows.outcome (placed.flag_here (sym (ap (closed_at ms) h.1) ∙ e)))
+        | inr h ↦ subst (IsClosed ms) (sym (placed.others k h.1)) (is_closed_stays (cell_at ns k) (linked.closed k (sym (placed.flags k h.1) ∙ e)))
+      ]
 
       pub relinked : IsLinked d fs ms relabelled
       relinked = record {
-          some = let h : length ns ≤ length ms = size_at_least in omega arith;
-          root = relabel-old label j (length ns) 0 linked.some ∙ linked.root;
-          kids = families;
-          starts = starts;
-          closed = marks
-        }
+        some = let h : length ns ≤ length ms = size_at_least in omega arith;
+        root = relabel-old label j (length ns) 0 linked.some ∙ linked.root;
+        kids = families;
+        starts = starts;
+        closed = marks;
+      }
 
 -- marks change no tree
 module _ (d : ℕ) (es : List Bounds) (ns ms : List Node) (remarked : IsRemarked ns ms) where
@@ -212,10 +216,10 @@ module _ (d : ℕ) (es : List Bounds) (ns ms : List Node) (remarked : IsRemarked
 
   pub linked_remarked : (label : ℕ → List Bool) → IsLinked d es ns label → IsLinked d es ms label
   linked_remarked label h = record {
-      some = let s : 0 < length ns = h.some in omega (arith, remarked.size);
-      root = h.root;
-      kids = λ k c e. let f : Family ns label k c = h.kids k c (sym (ap kids_of (remarked.cells k)) ∙ e) in
-          record { there = let t : c + 1 < length ns = f.there in omega (arith, remarked.size); low = f.low; high = f.high; short = f.short };
-      starts = λ k s e. h.starts k s (sym (ap start_of (remarked.cells k)) ∙ e);
-      closed = remarked.right
-    }
+    some = let s : 0 < length ns = h.some in omega (arith, remarked.size);
+    root = h.root;
+    kids = λ k c e. let f : Family ns label k c = h.kids k c (sym (ap kids_of (remarked.cells k)) ∙ e) in
+        record { there = let t : c + 1 < length ns = f.there in omega (arith, remarked.size); low = f.low; high = f.high; short = f.short };
+    starts = λ k s e. h.starts k s (sym (ap start_of (remarked.cells k)) ∙ e);
+    closed = remarked.right;
+  }

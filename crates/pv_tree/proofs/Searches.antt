@@ -88,14 +88,14 @@ pub first_open_here : (ns : List Node) (spot : Spot) → length spot.path ≤ 20
 unfolding first_below
 first_open_here ns spot short h =
     let e : opens_below ns (201 - length spot.path) spot.at ≡ [] ∷ [] =
-        ap (λ (n : ℕ). opens_below ns n spot.at) (one_more (length spot.path) short) ∙ opens_below-is ns (200 - length spot.path) spot.at (cell_at ns spot.at) refl ∙ open_listed ns (200 - length spot.path) (cell_at ns spot.at) h in
+    ap (λ (n : ℕ). opens_below ns n spot.at) (one_more (length spot.path) short) ∙ opens_below-is ns (200 - length spot.path) spot.at (cell_at ns spot.at) refl ∙ open_listed ns (200 - length spot.path) (cell_at ns spot.at) h in
     sym (ap (λ (l : List (List Bool)). option_map (λ (p : List Bool). spot.path ++ p) (first l)) e ∙ ap (λ (q : List Bool). Some q) (append-nil spot.path))
 
 pub first_ended : (ns : List Node) (spot : Spot) → length spot.path ≤ 200 → is_open_cell (cell_at ns spot.at) ≡ false → kids_of (cell_at ns spot.at) ≡ None → None ≡ first_below ns spot
 unfolding first_below
 first_ended ns spot short h k =
     let e : opens_below ns (201 - length spot.path) spot.at ≡ [] =
-        ap (λ (n : ℕ). opens_below ns n spot.at) (one_more (length spot.path) short) ∙ opens_below-is ns (200 - length spot.path) spot.at (cell_at ns spot.at) refl ∙ ended_listed ns (200 - length spot.path) (cell_at ns spot.at) h k in
+    ap (λ (n : ℕ). opens_below ns n spot.at) (one_more (length spot.path) short) ∙ opens_below-is ns (200 - length spot.path) spot.at (cell_at ns spot.at) refl ∙ ended_listed ns (200 - length spot.path) (cell_at ns spot.at) h k in
     sym (ap (λ (l : List (List Bool)). option_map (λ (p : List Bool). spot.path ++ p) (first l)) e)
 
 -- the first of two lists of paths, one behind the other
@@ -115,8 +115,8 @@ first_cut ns spot kids h =
     let low_fuel : 201 - length kids.low.path ≡ 200 - length spot.path = omega arith in
     let high_fuel : 201 - length kids.high.path ≡ 200 - length spot.path = omega arith in
     let here : opens_below ns (201 - length spot.path) spot.at ≡ map (λ p. false ∷ p) (opens_below ns (200 - length spot.path) kids.low.at) ++ map (λ p. true ∷ p) (opens_below ns (200 - length spot.path) (kids.low.at + 1)) =
-        ap (λ (n : ℕ). opens_below ns n spot.at) (one_more (length spot.path) (omega arith)) ∙ opens_below-is ns (200 - length spot.path) spot.at (cell_at ns spot.at) refl
-        ∙ cut_listed ns (200 - length spot.path) (cell_at ns spot.at) kids.low.at h.low_at in
+    ap (λ (n : ℕ). opens_below ns n spot.at) (one_more (length spot.path) (omega arith)) ∙ opens_below-is ns (200 - length spot.path) spot.at (cell_at ns spot.at) refl
+    ∙ cut_listed ns (200 - length spot.path) (cell_at ns spot.at) kids.low.at h.low_at in
     (λ i. either (option_map (λ (p : List Bool). h.low_path i ++ p) (first (opens_below ns (low_fuel i) kids.low.at))) (option_map (λ (p : List Bool). h.high_path i ++ p) (first (opens_below ns (high_fuel i) (h.high_at i)))))
     ∙ sym (first_of_two spot.path (opens_below ns (200 - length spot.path) kids.low.at) (opens_below ns (200 - length spot.path) (kids.low.at + 1)))
     ∙ sym (ap (λ (l : List (List Bool)). option_map (λ (p : List Bool). spot.path ++ p) (first l)) here)
@@ -130,13 +130,13 @@ first_high ns spot kids r h e k = k ∙ ap (λ (o : Option (List Bool)). either 
 -- of a whole paving
 pub whole_searchable : (b es : List Bounds) (ns : List Node) (counts : Counts) → IsWhole b es ns counts → IsSearchable ns
 whole_searchable b es ns counts h = record {
-    kids = whole_kids b es ns counts h;
-    marks = h.arena.linked.closed;
-    short = λ p k c r e.
-        let l : h.arena.label k ≡ p = reach_label (length b) es ns h.arena.label h.arena.linked p 0 k r ∙ ap (λ (q : List Bool). q ++ p) h.arena.linked.root in
-        let s : length (h.arena.label k) < 200 = (h.arena.linked.kids k c e).short in
-        let m : length (h.arena.label k) ≡ length p = ap length l in omega arith
-  }
+  kids = whole_kids b es ns counts h;
+  marks = h.arena.linked.closed;
+  short = λ p k c r e.
+      let l : h.arena.label k ≡ p = reach_label (length b) es ns h.arena.label h.arena.linked p 0 k r ∙ ap (λ (q : List Bool). q ++ p) h.arena.linked.root in
+      let s : length (h.arena.label k) < 200 = (h.arena.linked.kids k c e).short in
+      let m : length (h.arena.label k) ≡ length p = ap length l in omega arith;
+}
 
 reach_more_cell : (ns : List Node) (b : Bool) (p q : List Bool) → ((k j : ℕ) → reach ns k p ≡ Some j → reach ns k (p ++ q) ≡ reach ns j q) → (o : Option ℕ) (j : ℕ) → step_to ns b p o ≡ Some j → step_to ns b (p ++ q) o ≡ reach ns j q
 reach_more_cell ns b p q ih None j r = cc
@@ -163,7 +163,7 @@ child_spots ns spot c low high h e l r =
       high_path = r;
       low_at = e;
       high_at = refl;
-      short = short
+      short = short;
     }
 
 pub root_spot : (ns : List Node) (path : List Bool) → IsSearchable ns → path ≡ [] → IsSpot ns (record { at = 0; path = path })
@@ -193,8 +193,9 @@ first_is_open removed q e = cc
 first_is_open (inner to) q e = cc
 first_is_open (small to) q e = cc
 first_is_open (cut to v a l r) q e = elim (behind_false (opens l) (opens r) q e) [
-    inl (p, f, w) ↦ ap (λ (x : List Bool). subtree (cut to v a l r) x) w ∙ first_is_open l p f
-  | inr (p, f, w) ↦ ap (λ (x : List Bool). subtree (cut to v a l r) x) w ∙ first_is_open r p f ]
+  | inl (p, f, w) ↦ ap (λ (x : List Bool). subtree (cut to v a l r) x) w ∙ first_is_open l p f
+  | inr (p, f, w) ↦ ap (λ (x : List Bool). subtree (cut to v a l r) x) w ∙ first_is_open r p f
+]
 
 pub some_is : (t : Tree) (o : Option (List Bool)) → o ≡ first (opens t) → IfSome o (λ p. subtree t p ≡ Some leaf)
 some_is t None e = tt

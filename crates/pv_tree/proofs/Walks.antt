@@ -54,42 +54,46 @@ module _ (ns : List Node) (j : ℕ) (x : Cell) (there : j < length ns) where
       let size : length (set ns j (record { cell = x; closed = false })) ≡ length ns = length-set ns j (record { cell = x; closed = false }) in
       let m : length (set ns j (record { cell = x; closed = false }) ++ open_node ∷ []) ≡ length ns + 1 = length-append (set ns j (record { cell = x; closed = false })) (open_node ∷ []) ∙ ap (λ (n : ℕ). n + 1) size in
       elim (lt_or k (length ns + 1)) [
-          inl lt ↦ get_or_append_left (set ns j (record { cell = x; closed = false }) ++ open_node ∷ []) (open_node ∷ []) open_node k (omega arith)
-              ∙ get_or-append_right (set ns j (record { cell = x; closed = false })) (open_node ∷ []) (length ns) k open_node size h ∙ single (k - length ns)
-        | inr le ↦ get_or-append_right (set ns j (record { cell = x; closed = false }) ++ open_node ∷ []) (open_node ∷ []) (length ns + 1) k open_node m le ∙ single (k - (length ns + 1)) ]
+        | inl lt ↦ get_or_append_left (set ns j (record { cell = x; closed = false }) ++ open_node ∷ []) (open_node ∷ []) open_node k (omega arith)
+            ∙ get_or-append_right (set ns j (record { cell = x; closed = false })) (open_node ∷ []) (length ns) k open_node size h ∙ single (k - length ns)
+        | inr le ↦ get_or-append_right (set ns j (record { cell = x; closed = false }) ++ open_node ∷ []) (open_node ∷ []) (length ns + 1) k open_node m le ∙ single (k - (length ns + 1))
+      ]
 
   opened_here : slice_index_or opened j open_node ≡ record { cell = x; closed = false }
   opened_here = opened_old j there ∙ get_or-set_same ns j (record { cell = x; closed = false }) open_node there
 
   opened_others : (k : ℕ) → k ≢ j → slice_index_or opened k open_node ≡ slice_index_or ns k open_node
   opened_others k ne = elim (lt_or k (length ns)) [
-      inl lt ↦ opened_old k lt ∙ get_or-set_other ns j k (record { cell = x; closed = false }) open_node ne
-    | inr le ↦ opened_new k le ∙ sym (get_or_past ns k open_node le) ]
+    | inl lt ↦ opened_old k lt ∙ get_or-set_other ns j k (record { cell = x; closed = false }) open_node ne
+    | inr le ↦ opened_new k le ∙ sym (get_or_past ns k open_node le)
+  ]
 
   pub placed_cut : is_cut x ≡ true → IsPlaced ns opened j x
   placed_cut h = record {
-      here = ap (λ (n : Node). n.cell) opened_here;
-      others = λ k ne. ap (λ (n : Node). n.cell) (opened_others k ne);
-      flags = λ k ne. ap (λ (n : Node). n.closed) (opened_others k ne);
-      flag_here = λ e. let w : false ≡ true = sym (ap (λ (n : Node). n.closed) opened_here) ∙ e in cc;
-      size = length-append (set ns j (record { cell = x; closed = false }) ++ open_node ∷ []) (open_node ∷ [])
-          ∙ ap (λ (n : ℕ). n + 1) (length-append (set ns j (record { cell = x; closed = false })) (open_node ∷ []) ∙ ap (λ (n : ℕ). n + 1) (length-set ns j (record { cell = x; closed = false })))
-          ∙ (let e : (length ns + 1) + 1 ≡ length ns + 2 = omega arith in e)
-          ∙ ap (λ (b : Bool). length ns + (if b then 2 else 0)) (sym h)
-    }
+    here = ap (λ (n : Node). n.cell) opened_here;
+    others = λ k ne. ap (λ (n : Node). n.cell) (opened_others k ne);
+    flags = λ k ne. ap (λ (n : Node). n.closed) (opened_others k ne);
+    flag_here = λ e. let w : false ≡ true = sym (ap (λ (n : Node). n.closed) opened_here) ∙ e in cc;
+    size = length-append (set ns j (record { cell = x; closed = false }) ++ open_node ∷ []) (open_node ∷ [])
+        ∙ ap (λ (n : ℕ). n + 1) (length-append (set ns j (record { cell = x; closed = false })) (open_node ∷ []) ∙ ap (λ (n : ℕ). n + 1) (length-set ns j (record { cell = x; closed = false })))
+        ∙ (let e : (length ns + 1) + 1 ≡ length ns + 2 = omega arith in e)
+        ∙ ap (λ (b : Bool). length ns + (if b then 2 else 0)) (sym h);
+  }
 
 -- a cut that is marked as closed
 module _ (ns : List Node) (k c : ℕ) (n : Node) (there : k < length ns) (kids : kids_of (cell_at ns k) ≡ Some c) (low : closed_at ns c ≡ true) (high : closed_at ns (c + 1) ≡ true) (right : MarksRight ns) (same : n.cell ≡ cell_at ns k) where
   cells_stay : (i : ℕ) → cell_at (set ns k n) i ≡ cell_at ns i
   cells_stay i = elim (eqb_tells i k) [
-      inl h ↦ ap (cell_at (set ns k n)) h.1 ∙ ap (λ (m : Node). m.cell) (get_or-set_same ns k n open_node there) ∙ same ∙ sym (ap (cell_at ns) h.1)
-    | inr h ↦ ap (λ (m : Node). m.cell) (get_or-set_other ns k i n open_node h.1) ]
+    | inl h ↦ ap (cell_at (set ns k n)) h.1 ∙ ap (λ (m : Node). m.cell) (get_or-set_same ns k n open_node there) ∙ same ∙ sym (ap (cell_at ns) h.1)
+    | inr h ↦ ap (λ (m : Node). m.cell) (get_or-set_other ns k i n open_node h.1)
+  ]
 
   module _ (now : n.closed ≡ true) where
     marked_stays : (i : ℕ) → closed_at ns i ≡ true → closed_at (set ns k n) i ≡ true
     marked_stays i e = elim (eqb_tells i k) [
-        inl h ↦ ap (closed_at (set ns k n)) h.1 ∙ ap (λ (m : Node). m.closed) (get_or-set_same ns k n open_node there) ∙ now
-      | inr h ↦ ap (λ (m : Node). m.closed) (get_or-set_other ns k i n open_node h.1) ∙ e ]
+      | inl h ↦ ap (closed_at (set ns k n)) h.1 ∙ ap (λ (m : Node). m.closed) (get_or-set_same ns k n open_node there) ∙ now
+      | inr h ↦ ap (λ (m : Node). m.closed) (get_or-set_other ns k i n open_node h.1) ∙ e
+    ]
 
     closed_more : (x : Cell) → IsClosed ns x → IsClosed (set ns k n) x
     closed_more Open h = h
@@ -107,8 +111,9 @@ module _ (ns : List Node) (k c : ℕ) (n : Node) (there : k < length ns) (kids :
 
     still_right : (i : ℕ) → closed_at (set ns k n) i ≡ true → IsClosed (set ns k n) (cell_at (set ns k n) i)
     still_right i e = subst (IsClosed (set ns k n)) (sym (cells_stay i)) (closed_more (cell_at ns i) (elim (eqb_tells i k) [
-        inl h ↦ subst (λ (m : ℕ). IsClosed ns (cell_at ns m)) (sym h.1) (closed_here (cell_at ns k) kids)
-      | inr h ↦ right i (sym (ap (λ (m : Node). m.closed) (get_or-set_other ns k i n open_node h.1)) ∙ e) ]))
+      | inl h ↦ subst (λ (m : ℕ). IsClosed ns (cell_at ns m)) (sym h.1) (closed_here (cell_at ns k) kids)
+      | inr h ↦ right i (sym (ap (λ (m : Node). m.closed) (get_or-set_other ns k i n open_node h.1)) ∙ e)
+    ]))
 
     pub marked : IsRemarked ns (set ns k n)
     marked = record { cells = cells_stay; size = length-set ns k n; right = still_right }

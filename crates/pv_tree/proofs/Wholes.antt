@@ -41,12 +41,12 @@ open_whole b es h =
           root = refl;
           kids = λ k c e. let w : None ≡ Some c = sym (ap kids_of (open_cell k)) ∙ e in cc;
           starts = λ k s e. let w : None ≡ Some s = sym (ap start_of (open_cell k)) ∙ e in cc;
-          closed = λ k e. let w : false ≡ true = sym (open_mark k) ∙ e in cc
-        }
+          closed = λ k e. let w : false ≡ true = sym (open_mark k) ∙ e in cc;
+        };
       };
       paving = record { box = h; paves = subst (Paves b) (sym t) tt; depth = let e : height (whole_tree (length b) es (open_node ∷ [])) ≡ 0 = ap height t in omega arith };
       counted = sym (ap counts_of t);
-      bound = omega arith
+      bound = omega arith;
     }
 
 pub whole_kids : (b es : List Bounds) (ns : List Node) (counts : Counts) → IsWhole b es ns counts → HasKids ns
@@ -160,8 +160,8 @@ module _ (d : ℕ) (es : List Bounds) (ns : List Node) (p : List Bool) (short : 
 
 module _ (b es fs : List Bounds) (ns ms ks : List Node) (counts after : Counts) (p : List Bool) (j : ℕ) (x : Cell) (o : Outcome) where
   module _ (whole : IsWhole b es ns counts) (short : length p ≤ 200) (reached : reach ns 0 (take (length p) p) ≡ Some j) (there : j < length ns) (is_open : subtree (whole_tree (length b) es ns) p ≡ Some leaf)
-    (fits : Fits (box_of b (whole_tree (length b) es ns) p) o) (keeps : KeepsBox o) (depth : HasDepth p o) (longer : IsLonger es fs) (shows : Shows (length b) fs x o (length ns)) (placed : IsPlaced ns ms j x)
-    (remarked : IsRemarked ms ks) (adds : Adds counts (counts_of (settled o)) after) where
+      (fits : Fits (box_of b (whole_tree (length b) es ns) p) o) (keeps : KeepsBox o) (depth : HasDepth p o) (longer : IsLonger es fs) (shows : Shows (length b) fs x o (length ns)) (placed : IsPlaced ns ms j x)
+      (remarked : IsRemarked ms ks) (adds : Adds counts (counts_of (settled o)) after) where
     reach_p : reach ns 0 p ≡ Some j
     reach_p = ap (reach ns 0) (sym (take_length p)) ∙ reached
 
@@ -179,20 +179,20 @@ module _ (b es fs : List Bounds) (ns ms ks : List Node) (counts after : Counts) 
         ∙ grafted (length b) es ns whole.arena.label whole.arena.linked fs ms j placed.others (longer_kept (length b) es fs longer) (suc (200 - length p)) p 0 reach_p
         ∙ ap (λ (f : ℕ). graft (tree_at (length b) es ns f 0) p (tree_at (length b) fs ms (suc (200 - length p)) j)) (fuel (length b) es ns p short)
         ∙ ap (graft (whole_tree (length b) es ns) p)
-          (settled_tree (length b) es fs ns ms whole.arena.label whole.arena.linked j x o longer (open_there (length b) es ns p short j reached is_open) there shows placed
-            (200 - length p) (λ c. deep_cut p o (200 - length p) refl (sym cut_o ∙ c) depth))
+        (settled_tree (length b) es fs ns ms whole.arena.label whole.arena.linked j x o longer (open_there (length b) es ns p short j reached is_open) there shows placed
+        (200 - length p) (λ c. deep_cut p o (200 - length p) refl (sym cut_o ∙ c) depth))
 
     put_linked : IsLinked (length b) fs ks (relabel whole.arena.label j (length ns))
     put_linked =
         linked_remarked (length b) fs ms ks remarked (relabel whole.arena.label j (length ns))
         (relinked (length b) es fs ns ms whole.arena.label whole.arena.linked j x o longer (open_there (length b) es ns p short j reached is_open) there shows placed
-          (λ c. let h : length p < 200 = short_cut p o (sym cut_o ∙ c) depth in let e : length (whole.arena.label j) ≡ length p = ap length label_j in omega arith))
+        (λ c. let h : length p < 200 = short_cut p o (sym cut_o ∙ c) depth in let e : length (whole.arena.label j) ≡ length p = ap length label_j in omega arith))
 
     put_counted : after ≡ counts_of (whole_tree (length b) fs ks)
     put_counted =
         adds_unique counts (counts_of (settled o)) after (counts_of (graft (whole_tree (length b) es ns) p (settled o))) adds
         (subst (λ (c : Counts). Adds c (counts_of (settled o)) (counts_of (graft (whole_tree (length b) es ns) p (settled o)))) (sym whole.counted)
-          (graft_counts (whole_tree (length b) es ns) p (settled o) is_open))
+        (graft_counts (whole_tree (length b) es ns) p (settled o) is_open))
         ∙ sym (ap counts_of put_tree)
 
     put_bound : settled_of after + after.open_leaves ≤ length ks
@@ -203,22 +203,22 @@ module _ (b es fs : List Bounds) (ns ms ks : List Node) (counts after : Counts) 
 
     pub put_whole : IsWhole b fs ks after
     put_whole = record {
-        arena = record { label = relabel whole.arena.label j (length ns); linked = put_linked };
-        paving = record {
-          box = whole.paving.box;
-          paves = subst (Paves b) (sym put_tree) (graft_paves b (whole_tree (length b) es ns) p (settled o) is_open whole.paving.paves (settled_paves (box_of b (whole_tree (length b) es ns) p) o fits keeps));
-          depth = low_whole (length b) fs ks (relabel whole.arena.label j (length ns)) put_linked
-        };
-        counted = put_counted;
-        bound = put_bound
-      }
+      arena = record { label = relabel whole.arena.label j (length ns); linked = put_linked };
+      paving = record {
+        box = whole.paving.box;
+        paves = subst (Paves b) (sym put_tree) (graft_paves b (whole_tree (length b) es ns) p (settled o) is_open whole.paving.paves (settled_paves (box_of b (whole_tree (length b) es ns) p) o fits keeps));
+        depth = low_whole (length b) fs ks (relabel whole.arena.label j (length ns)) put_linked;
+      };
+      counted = put_counted;
+      bound = put_bound;
+    }
 
 module _ (b es fs : List Bounds) (ns ms : List Node) (counts : Counts) (p : List Bool) (j : ℕ) (x : Cell) (o : Outcome) where
   pub put_marks : IsWhole b es ns counts → length p ≤ 200 → reach ns 0 (take (length p) p) ≡ Some j → j < length ns → subtree (whole_tree (length b) es ns) p ≡ Some leaf → HasDepth p o → IsLonger es fs → Shows (length b) fs x o (length ns) → IsPlaced ns ms j x → MarksRight ms
   put_marks whole short reached there is_open depth longer shows placed =
       let label_j : whole.arena.label j ≡ p = reach_label (length b) es ns whole.arena.label whole.arena.linked p 0 j (ap (reach ns 0) (sym (take_length p)) ∙ reached) ∙ ap (λ (l : List Bool). l ++ p) whole.arena.linked.root in
       (relinked (length b) es fs ns ms whole.arena.label whole.arena.linked j x o longer (open_there (length b) es ns p short j reached is_open) there shows placed
-        (λ c. let h : length p < 200 = short_cut p o (sym (cut_alike (length b) fs x o shows.outcome) ∙ c) depth in let e : length (whole.arena.label j) ≡ length p = ap length label_j in omega arith)).closed
+      (λ c. let h : length p < 200 = short_cut p o (sym (cut_alike (length b) fs x o shows.outcome) ∙ c) depth in let e : length (whole.arena.label j) ≡ length p = ap length label_j in omega arith)).closed
 
 at_most : (n m : ℕ) (y : Bool) → m ≡ n + (if y then 2 else 0) → m ≤ n + 2
 at_most n m true e = omega (arith, e)
@@ -262,14 +262,15 @@ some_open b es ns counts p whole o =
 
 pub placed_kids : (b es : List Bounds) (ns ms : List Node) (counts : Counts) (j : ℕ) (x : Cell) → IsWhole b es ns counts → IsPlaced ns ms j x → (d : ℕ) (fs : List Bounds) (o : Outcome) → Shows d fs x o (length ns) → j < length ns → HasKids ms
 placed_kids b es ns ms counts j x whole placed d fs o shows there = record {
-    some = let h : 0 < length ns = whole.arena.linked.some in omega (arith, placed.size);
-    kids = λ k c e. elim (eqb_tells k j) [
-        inl h ↦ let w : kids_of x ≡ Some c = sym (ap kids_of (ap (cell_at ms) h.1 ∙ placed.here)) ∙ e in
-            let is : is_cut x ≡ true = kids_cut x c w in
-            let size : length ms ≡ length ns + 2 = placed.size ∙ ap (λ (y : Bool). length ns + (if y then 2 else 0)) is in
-            let at_end : c ≡ length ns = shows.kids_there c w in omega arith
-      | inr h ↦ let w : c + 1 < length ns = (whole.arena.linked.kids k c (sym (ap kids_of (placed.others k h.1)) ∙ e)).there in omega (arith, placed.size) ]
-  }
+  some = let h : 0 < length ns = whole.arena.linked.some in omega (arith, placed.size);
+  kids = λ k c e. elim (eqb_tells k j) [
+    | inl h ↦ let w : kids_of x ≡ Some c = sym (ap kids_of (ap (cell_at ms) h.1 ∙ placed.here)) ∙ e in
+        let is : is_cut x ≡ true = kids_cut x c w in
+        let size : length ms ≡ length ns + 2 = placed.size ∙ ap (λ (y : Bool). length ns + (if y then 2 else 0)) is in
+        let at_end : c ≡ length ns = shows.kids_there c w in omega arith
+    | inr h ↦ let w : c + 1 < length ns = (whole.arena.linked.kids k c (sym (ap kids_of (placed.others k h.1)) ∙ e)).there in omega (arith, placed.size)
+  ];
+}
 
 shape_shown : (d : ℕ) (es : List Bounds) (ns : List Node) (f : ℕ) (x : Cell) → shape_of (Some (shown d es ns f x)) ≡ shape_of_cell x
 shape_shown d es ns f Open = refl

@@ -30,11 +30,12 @@ kept d es start = take d (drop start es)
 unfoldable pub tree_at : ℕ → List Bounds → List Node → ℕ → ℕ → Tree
 tree_at d es ns zero k = removed
 tree_at d es ns (suc f) k = elim (cell_at ns k) [
-    Open ↦ leaf
+  | Open ↦ leaf
   | Removed ↦ removed
   | Inner s ↦ inner (kept d es s)
   | Small s ↦ small (kept d es s)
-  | Cut s var at c ↦ cut (kept d es s) var at (tree_at d es ns f c) (tree_at d es ns f (c + 1)) ]
+  | Cut s var at c ↦ cut (kept d es s) var at (tree_at d es ns f c) (tree_at d es ns f (c + 1))
+]
 
 abbrev pub kids_of : Cell → Option ℕ
 kids_of Open = None

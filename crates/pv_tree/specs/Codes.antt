@@ -54,7 +54,6 @@ code_tree (small to) = gcons (gnum 3) (coded_box.code to)
 code_tree (cut to var at low high) =
     gcons (gnum 4) (gcons (coded_box.code to) (gcons (gnum var) (gcons (coded_end.code at) (gcons (code_tree low) (code_tree high)))))
 
-
 pub code_tree-inj : (s t : Tree) → code_tree s ≡ code_tree t → s ≡ t
 code_tree-inj leaf leaf p = refl
 code_tree-inj removed removed p = refl

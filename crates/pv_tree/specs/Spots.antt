@@ -40,11 +40,12 @@ AreChildren ns spot (Some kids) = AreCutInto ns spot kids
 unfoldable pub opens_below : List Node → ℕ → ℕ → List (List Bool)
 opens_below ns zero k = []
 opens_below ns (suc f) k = elim (cell_at ns k) [
-    Open ↦ [] ∷ []
+  | Open ↦ [] ∷ []
   | Removed ↦ []
   | Inner s ↦ []
   | Small s ↦ []
-  | Cut s var at c ↦ map (λ p. false ∷ p) (opens_below ns f c) ++ map (λ p. true ∷ p) (opens_below ns f (c + 1)) ]
+  | Cut s var at c ↦ map (λ p. false ∷ p) (opens_below ns f c) ++ map (λ p. true ∷ p) (opens_below ns f (c + 1))
+]
 
 unfoldable pub first_below : List Node → Spot → Option (List Bool)
 first_below ns spot = option_map (λ p. spot.path ++ p) (first (opens_below ns (201 - length spot.path) spot.at))

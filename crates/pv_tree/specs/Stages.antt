@@ -14,15 +14,17 @@ Rule = List Bounds → ℕ → ℕ → Outcome
 -- A box is settled, and after a cut so are both halves.
 unfoldable pub full : Rule → ℕ → List Bounds → ℕ → Tree
 full rule zero b k = elim (rule b zero k) [
-    Removed ↦ removed
+  | Removed ↦ removed
   | Inner to ↦ inner to
   | Small to ↦ small to
-  | Cut to var at ↦ cut to var at leaf leaf ]
+  | Cut to var at ↦ cut to var at leaf leaf
+]
 full rule (suc d) b k = elim (rule b (suc d) k) [
-    Removed ↦ removed
+  | Removed ↦ removed
   | Inner to ↦ inner to
   | Small to ↦ small to
-  | Cut to var at ↦ cut to var at (full rule d (lower_half to var at) (suc k)) (full rule d (upper_half to var at) (suc k)) ]
+  | Cut to var at ↦ cut to var at (full rule d (lower_half to var at) (suc k)) (full rule d (upper_half to var at) (suc k))
+]
 
 -- The full tree of an opening whose root stands at a path of k steps: each open leaf is settled, and what is below it.
 unfoldable pub full_of : Rule → ℕ → List Bounds → Tree → ℕ → Tree

@@ -114,7 +114,8 @@ sum_of_counts a b = record {
   removed = a.removed + b.removed;
   inner = a.inner + b.inner;
   small = a.small + b.small;
-  open_leaves = a.open_leaves + b.open_leaves }
+  open_leaves = a.open_leaves + b.open_leaves;
+}
 
 abbrev pub counts_of : Tree → Counts
 counts_of leaf = record { cut = 0; removed = 0; inner = 0; small = 0; open_leaves = 1 }

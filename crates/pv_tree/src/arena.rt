@@ -4,12 +4,12 @@ ghost use Rattle.pv_box.specs.Boxes.{IsBox, lower_half, upper_half};
 ghost use Rattle.pv_tree.specs.Trees.{KeepsBox, IsStrictlyInside, counts_of, settled, settled_of};
 ghost use Rattle.pv_tree.specs.Arena.{cell_at, reach, side, kids_of, HasKids, IsPlaced, IsRemarked, MarksRight, shape_of_cell, cell_along, kept, start_of, start_along, HasHalves, half_at, Adds, Shows, HasPlaces, places_of, IsLonger};
 
-use pv_box::IBox;
-use pv_interval::Interval;
-use pv_num::Num;
 use crate::cell::{Cell, Node};
 use crate::outcome::{Counts, Outcome, Shape};
 use crate::path::Path;
+use pv_box::IBox;
+use pv_interval::Interval;
+use pv_num::Num;
 
 /// The child of a cut whose low child stands at `kids`.
 pub(crate) fn child(kids: usize, high: bool) -> usize

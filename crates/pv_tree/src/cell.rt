@@ -6,8 +6,12 @@ use pv_num::Num;
 pub(crate) enum Cell {
     Open,
     Removed,
-    Inner { start: usize },
-    Small { start: usize },
+    Inner {
+        start: usize,
+    },
+    Small {
+        start: usize,
+    },
     /// The low child stands at `kids` and the high child behind it.
     Cut {
         start: usize,

@@ -18,7 +18,7 @@ pub struct Path {
 
 impl Model for Path {
     ghost use Rattle.pv_tree.specs.PathText.{path_text};
-ghost use Rattle.std.specs.Prelude.{if◌then◌else◌, is_ok, List, Bool};
+    ghost use Rattle.std.specs.Prelude.{if◌then◌else◌, is_ok, List, Bool};
 
     ghost Value = { List Bool };
 
@@ -95,7 +95,11 @@ impl Path {
     {
         let mut path = self;
         for i in 0..tail.len() {
-            path = if tail.step(i) { path.high() } else { path.low() };
+            path = if tail.step(i) {
+                path.high()
+            } else {
+                path.low()
+            };
         }
         path
     }

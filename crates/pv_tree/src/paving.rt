@@ -2,16 +2,19 @@
 ghost use Rattle.std.specs.Prelude.{◌≡◌, ◌+◌, ◌-◌, ◌*◌, ◌<◌, ◌≤◌, ◌^◌, ◌++◌, if◌then◌else◌, is_ok, IfOk, IfErr, OnOk, IfSome, IsSome, Some, length};
 ghost use Rattle.pv_tree.specs.Trees.{Tree, leaf, subtree, graft, settled, Fits, HasDepth, IsPaving, box_of, to_at, shape_of, counts_of, settled_of, opens, first, behind, Seen};
 
+use crate::arena::{
+    cell_after, cell_shape, child_box, close_way, copy_out, descend, lay_down, place, start_at,
+    tally,
+};
+use crate::cell::Node;
+use crate::outcome::{Counts, Outcome, Shape};
+use crate::path::Path;
+use crate::search::{Spot, later, leftmost};
 use pv_box::IBox;
 use pv_interval::Interval;
 use pv_num::Memory;
 use std::alloc::Global;
 use std::marker::Model;
-use crate::arena::{cell_after, cell_shape, child_box, close_way, copy_out, descend, lay_down, place, start_at, tally};
-use crate::cell::Node;
-use crate::outcome::{Counts, Outcome, Shape};
-use crate::search::{later, leftmost, Spot};
-use crate::path::Path;
 
 /// An outcome that found no memory.
 #[derive(Drop)]

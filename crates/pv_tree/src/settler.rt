@@ -1,8 +1,8 @@
 //! What settles a box.
+use crate::outcome::Outcome;
 use pv_box::IBox;
 use pv_num::Memory;
 use std::alloc::Global;
-use crate::outcome::Outcome;
 
 /// A way to settle boxes, and the set of points that it speaks of.
 ///
@@ -33,7 +33,13 @@ pub trait Settler {
         ensures { result ≡ depth_of self.now };
 
     /// Settles a box.
-    fn settle(&self, alloc: Global, bx: &IBox, depth_left: u32, path_len: u32) -> Result<Outcome, Memory>
+    fn settle(
+        &self,
+        alloc: Global,
+        bx: &IBox,
+        depth_left: u32,
+        path_len: u32,
+    ) -> Result<Outcome, Memory>
         requires { length bx.now ≡ dims self.now }
         ensures { IfOk result (λ o. o ≡ settle_of self.now bx.now depth_left path_len) };
 

@@ -5,5 +5,5 @@ abbrev pub invariant-loop-i : goal.invariant-loop-i
 invariant-loop-i l = record {
   items : l.ends.items ≡ l.initial.ends.items ++ take l.i l.bx;
   count : vec_len l.ends ≡ vec_len l.initial.ends + l.i;
-  capacity : vec_capacity l.ends ≡ vec_capacity l.initial.ends
+  capacity : vec_capacity l.ends ≡ vec_capacity l.initial.ends;
 }

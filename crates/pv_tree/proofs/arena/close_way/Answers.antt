@@ -5,11 +5,11 @@ use Rattle.pv_tree.proofs.arena.close_way.Goals as goal
 
 pub close-requires : goal.close-requires
 close-requires c = record {
-    kids = subst HasKids (sym c.deref_mut.ensures.value) c.requires.kids;
-    there = rw c.deref_mut.ensures.value c.requires.kids.some;
-    marks = subst MarksRight (sym c.deref_mut.ensures.value) c.requires.marks;
-    within = omega arith
-  }
+  kids = subst HasKids (sym c.deref_mut.ensures.value) c.requires.kids;
+  there = rw c.deref_mut.ensures.value c.requires.kids.some;
+  marks = subst MarksRight (sym c.deref_mut.ensures.value) c.requires.marks;
+  within = omega arith;
+}
 
 pub returns-clause-remarked : goal.returns-clause-remarked
 returns-clause-remarked c =

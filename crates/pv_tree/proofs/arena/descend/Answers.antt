@@ -13,5 +13,5 @@ loop-i-preserved c =
     record {
       there = rw c.child-at.ensures (side_there c.step.result c.in-Some.kids (length c.args.nodes.now) c.in-Some.ensures.there);
       rest = ap (λ n. reach c.args.nodes.now n (drop (c.loop-i.i + 1) (take c.args.steps c.args.path))) e
-          ∙ descend_step c.args.nodes.now c.loop-i.at c.args.steps c.loop-i.i c.args.path c.requires.within c.loop-i-test.true c.loop-i.invariant.rest c.in-Some.kids (sym c.in-Some.ensures.kids)
+          ∙ descend_step c.args.nodes.now c.loop-i.at c.args.steps c.loop-i.i c.args.path c.requires.within c.loop-i-test.true c.loop-i.invariant.rest c.in-Some.kids (sym c.in-Some.ensures.kids);
     }

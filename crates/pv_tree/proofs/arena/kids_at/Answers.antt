@@ -10,5 +10,5 @@ returns-in-Cut-clause-there c =
 pub prove-unreachable-requires : goal.prove-unreachable-requires
 prove-unreachable-requires c =
     let h : c.in-Cut.kids + 1 < length c.args.nodes.now =
-        c.requires.kids.kids c.args.at c.in-Cut.kids (ap (λ n. kids_of n.cell) (get_or_default c.args.nodes.now c.args.at open_node _ c.requires.there) ∙ ap kids_of c.in-Cut.is) in
+    c.requires.kids.kids c.args.at c.in-Cut.kids (ap (λ n. kids_of n.cell) (get_or_default c.args.nodes.now c.args.at open_node _ c.requires.there) ∙ ap kids_of c.in-Cut.is) in
     omega (arith, c.if-prove.true)

@@ -10,5 +10,5 @@ invariant_of-result c =
     record {
       size = length-set c.self.inside.steps c.self.inside.len true ∙ c.self.invariant.size;
       few = omega arith;
-      padding = high_padding c.self.inside.steps c.self.inside.len c.self.invariant.size lt c.self.invariant.padding
+      padding = high_padding c.self.inside.steps c.self.inside.len c.self.invariant.size lt c.self.invariant.padding;
     }

@@ -14,7 +14,7 @@ invariant_of-result c =
     record {
       size = c.self.invariant.size;
       few = let lt : c.self.inside.len < 200 = count c in omega arith;
-      padding = less_padding c.self.inside.steps c.self.inside.len c.self.invariant.size (count c) c.self.invariant.padding
+      padding = less_padding c.self.inside.steps c.self.inside.len c.self.invariant.size (count c) c.self.invariant.padding;
     }
 
 pub returns : goal.returns

@@ -40,9 +40,9 @@ returns c =
     let same : c.in-Some.cell ≡ hb.cell = cc in
     let step : c.step.result ≡ get_or c.args.path (length c.args.path - 1) false = c.step.ensures ∙ ap (λ n. get_or c.args.path (n - 1) false) c.len-steps.ensures.count in
     let w : Some c.child_box.new.into ≡ Some (box_of (the_view c.self.inside).root (the_view c.self.inside).tree c.args.path) =
-        sym c.child_box.ensures ∙ ap (λ n. half_at n c.deref-in-Some.result.now c.in-Some.cell c.step.result) dims
-        ∙ ap (λ es. half_at (length c.self.inside.root) es c.in-Some.cell c.step.result) c.deref-in-Some.ensures.value
-        ∙ ap (λ x. half_at (length c.self.inside.root) c.self.inside.ends.items x c.step.result) same
-        ∙ ap (half_at (length c.self.inside.root) c.self.inside.ends.items hb.cell) step ∙ hb.half in
+    sym c.child_box.ensures ∙ ap (λ n. half_at n c.deref-in-Some.result.now c.in-Some.cell c.step.result) dims
+    ∙ ap (λ es. half_at (length c.self.inside.root) es c.in-Some.cell c.step.result) c.deref-in-Some.ensures.value
+    ∙ ap (λ x. half_at (length c.self.inside.root) c.self.inside.ends.items x c.step.result) same
+    ∙ ap (half_at (length c.self.inside.root) c.self.inside.ends.items hb.cell) step ∙ hb.half in
     let here : c.child_box.new.into ≡ box_of (the_view c.self.inside).root (the_view c.self.inside).tree c.args.path = cc in
     here ∙ ap (λ s. box_of s.root s.tree c.args.path) c.self.view_is

@@ -12,7 +12,7 @@ unreachable-requires c =
     found (length c.self.inside.root) c.self.inside.ends.items c.self.inside.nodes.items c.args.path c.len.ensures.few
     (ap (λ s. subtree s.tree c.args.path) c.self.view_is ∙ c.requires.open)
     (ap (λ ns. reach ns 0 (take (length c.args.path) c.args.path)) (sym c.deref.ensures.value) ∙ ap (λ n. reach c.deref.result.now 0 (take n c.args.path)) (sym c.len.ensures.count)
-      ∙ sym c.descend.ensures.reached ∙ c.in_default.is)
+    ∙ sym c.descend.ensures.reached ∙ c.in_default.is)
 
 pub lay_down-cell-requires : goal.lay_down-cell-requires
 lay_down-cell-requires c =
@@ -40,7 +40,7 @@ close_way-requires c =
       kids = placed_kids c.self.inside.root c.self.inside.ends.items c.self.inside.nodes.items c.place.new.nodes.items c.self.inside.counts c.in-Some.at c.lay_down-cell.result c.self.invariant.0 c.place.ensures.placed
           (length c.self.inside.root) c.lay_down-cell.new.ends.items c.args.outcome shows there;
       marks = put_marks c.self.inside.root c.self.inside.ends.items c.lay_down-cell.new.ends.items c.self.inside.nodes.items c.place.new.nodes.items c.self.inside.counts c.args.path c.in-Some.at c.lay_down-cell.result c.args.outcome
-          c.self.invariant.0 c.len.ensures.few reached there is_open c.requires.depth c.lay_down-cell.ensures.longer shows c.place.ensures.placed
+          c.self.invariant.0 c.len.ensures.few reached there is_open c.requires.depth c.lay_down-cell.ensures.longer shows c.place.ensures.placed;
     }
 
 pub invariant_of-self : goal.invariant_of-self
@@ -54,14 +54,16 @@ invariant_of-self c =
     let shows = subst (Shows (length c.self.inside.root) c.lay_down-cell.new.ends.items c.lay_down-cell.result c.args.outcome) size (c.lay_down-cell.ensures.shows (length c.self.inside.root) places) in
     let few : places_of c.args.outcome ≤ length c.self.inside.root = few_places (length c.self.inside.root) c.args.outcome places in
     let more : length c.place.new.nodes.items ≤ length c.self.inside.nodes.items + 2 = more_nodes c.self.inside.nodes.items c.place.new.nodes.items c.in-Some.at c.lay_down-cell.result c.place.ensures.placed in
-    let count : vec_len c.place.new.nodes ≤ vec_len c.self.inside.nodes + 2 = (let e = c.place.new.nodes.ok.0 in let f = c.self.inside.nodes.ok.0 in omega (arith, more)) in
-    ( put_whole c.self.inside.root c.self.inside.ends.items c.lay_down-cell.new.ends.items c.self.inside.nodes.items c.place.new.nodes.items c.close_way.new.nodes.items c.self.inside.counts c.tally-self-inside.result c.args.path c.in-Some.at c.lay_down-cell.result c.args.outcome
-    c.self.invariant.0 c.len.ensures.few reached there is_open fits c.lay_down-cell.ensures.keeps c.requires.depth c.lay_down-cell.ensures.longer shows c.place.ensures.placed c.close_way.ensures.remarked c.tally-self-inside.ensures
-    , record {
+    let count : vec_len c.place.new.nodes ≤ vec_len c.self.inside.nodes + 2 = (let e = c.place.new.nodes.ok.0 in let f = c.self.inside.nodes.ok.0 in omega (arith, more)) in (
+      put_whole c.self.inside.root c.self.inside.ends.items c.lay_down-cell.new.ends.items c.self.inside.nodes.items c.place.new.nodes.items c.close_way.new.nodes.items c.self.inside.counts c.tally-self-inside.result c.args.path c.in-Some.at c.lay_down-cell.result c.args.outcome
+          c.self.invariant.0 c.len.ensures.few reached there is_open fits c.lay_down-cell.ensures.keeps c.requires.depth c.lay_down-cell.ensures.longer shows c.place.ensures.placed c.close_way.ensures.remarked c.tally-self-inside.ensures,
+      record {
         for_nodes = omega (arith, c.close_way.ensures.count, c.close_way.ensures.capacity, c.place.ensures.capacity, c.self.invariant.1.for_nodes, count, (subst (λ n. 1 ≤ n) (sym (ap (λ s. s.spare) c.self.view_is)) c.requires.room));
         for_ends = less_room (length c.self.inside.root) c.self.inside.spare (vec_len c.self.inside.ends) (vec_capacity c.self.inside.ends) (places_of c.args.outcome) _ _ few
             (subst (λ n. 1 ≤ n) (sym (ap (λ s. s.spare) c.self.view_is)) c.requires.room) c.self.invariant.1.for_ends c.lay_down-cell.ensures.length c.lay_down-cell.ensures.capacity;
-        few = omega (arith, c.self.invariant.1.few) } )
+        few = omega (arith, c.self.invariant.1.few);
+      },
+    )
 
 pub returns-clause-tree : goal.returns-clause-tree
 returns-clause-tree c =

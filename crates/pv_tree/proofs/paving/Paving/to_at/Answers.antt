@@ -15,7 +15,7 @@ copy_out-requires c =
     let dims : length c.args.into.now ≡ length c.self.inside.root = c.requires.dims ∙ sym (ap (λ s. length s.root) c.self.view_is) in
     let here = sym (c.in-Some.ensures ∙ ap (λ ns. start_along ns (reach ns 0 (take (length c.args.path) c.args.path))) c.deref.ensures.value) in
     let fits : c.in-Some.start + length c.self.inside.root ≤ length c.self.inside.ends.items =
-        start_fits c.self.inside.root c.self.inside.ends.items c.self.inside.nodes.items c.self.inside.counts (reach c.self.inside.nodes.items 0 (take (length c.args.path) c.args.path)) c.in-Some.start c.self.invariant.0 here in
+    start_fits c.self.inside.root c.self.inside.ends.items c.self.inside.nodes.items c.self.inside.counts (reach c.self.inside.nodes.items 0 (take (length c.args.path) c.args.path)) c.in-Some.start c.self.invariant.0 here in
     rw c.deref-in-Some.ensures.value (omega (arith, fits, dims))
 
 pub unreachable-requires : goal.unreachable-requires
