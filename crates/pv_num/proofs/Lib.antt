@@ -2,6 +2,7 @@ pub mod Align
 pub mod Canonical
 pub mod Divisions
 pub mod Exact
+pub mod Monotone
 pub mod Operations
 pub mod Orders
 pub mod Powers
@@ -9,6 +10,7 @@ pub mod Quotients
 pub mod Rounding
 pub mod Rounds
 pub mod Scales
+pub mod Searches
 pub mod Signs
 pub mod Sizes
 pub mod Sums

@@ -2,8 +2,10 @@ use Rattle.std.proofs.Common.{◌≡◌, ℕ, zero, suc, ◌+◌, ◌*◌, ◌/�
 use Rattle.std.proofs.lemmas.Bool.{true≢false}
 use Rattle.std.proofs.lemmas.Int.{ints}
 use Rattle.std.proofs.Math.Nat.{mul-le-mul_right, mul-lt-mul_of_pos_right}
-use Rattle.std.specs.Ordering.{int_cmp, is_lt, is_le, MatchOrdering}
-use Rattle.std.specs.Cmp.{int_ranks}
+use Rattle.std.specs.Ordering.{int_cmp, is_lt, is_le, is_gt, MatchOrdering}
+use Rattle.std.specs.Cmp.{int_ranks, upto}
+use Rattle.std.specs.Int.Signed.{≤ℤ_refl}
+use Rattle.pv_num.specs.Laws.{order_of-total}
 use Rattle.std.specs.declared.cmp.Ordering.{Ordering}
 use Rattle.std.specs.declared.cmp.Ordering.TheVariants.{Less, Equal, Greater}
 use Rattle.pv_num.specs.Extended.{Extended, NegInf, Fin, PosInf}
@@ -62,3 +64,47 @@ floor_is NegInf top n r e low high v = absurd (true≢false (sym low))
 floor_is (Fin (pos m)) top n r e low high v = v ∙ ap (λ z. z / unit) e
 floor_is (Fin (negsuc m)) top n r e low high v = let l : pos 0 ≤ℤ negsuc m = le-Fin (pos 0) (negsuc m) low in absurd (omega (arith, ints, l))
 floor_is PosInf top n r e low high v = absurd (true≢false (sym high))
+
+-- ---- The order is total
+
+gt-le : (o : Ordering) → is_gt o ≡ false → is_le o ≡ true
+gt-le Less h = refl
+gt-le Equal h = refl
+gt-le Greater h = absurd (true≢false h)
+
+le-gt : (o : Ordering) → is_le o ≡ true → is_gt o ≡ false
+le-gt Less h = refl
+le-gt Equal h = refl
+le-gt Greater h = absurd (true≢false (sym h))
+
+pub le-refl : (a : Extended) → IsTrue (le a a)
+le-refl NegInf = refl
+le-refl (Fin a) = Fin-le a a (≤ℤ_refl a)
+le-refl PosInf = refl
+
+pub le-trans : (a b c : Extended) → IsTrue (le a b) → IsTrue (le b c) → IsTrue (le a c)
+le-trans a b c h k = gt-le (order_of a c) (upto order_of-total a b c (le-gt (order_of a b) h) (le-gt (order_of b c) k))
+
+both_le : (a b : ℤ) → a ≤ℤ b → b ≤ℤ a → a ≡ b
+both_le a b h k = omega (arith, ints)
+
+pub le-antisym : (a b : Extended) → IsTrue (le a b) → IsTrue (le b a) → a ≡ b
+le-antisym NegInf NegInf h k = refl
+le-antisym NegInf (Fin b) h k = absurd (true≢false (sym k))
+le-antisym NegInf PosInf h k = absurd (true≢false (sym k))
+le-antisym (Fin a) NegInf h k = absurd (true≢false (sym h))
+le-antisym (Fin a) (Fin b) h k = ap Fin (both_le a b (le-Fin a b h) (le-Fin b a k))
+le-antisym (Fin a) PosInf h k = absurd (true≢false (sym k))
+le-antisym PosInf NegInf h k = absurd (true≢false (sym h))
+le-antisym PosInf (Fin b) h k = absurd (true≢false (sym h))
+le-antisym PosInf PosInf h k = refl
+
+pub NegInf-le : (a : Extended) → IsTrue (le NegInf a)
+NegInf-le NegInf = refl
+NegInf-le (Fin a) = refl
+NegInf-le PosInf = refl
+
+pub le-PosInf : (a : Extended) → IsTrue (le a PosInf)
+le-PosInf NegInf = refl
+le-PosInf (Fin a) = refl
+le-PosInf PosInf = refl

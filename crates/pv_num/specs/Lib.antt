@@ -8,3 +8,4 @@ pub mod Arithmetic
 pub mod Laws
 pub mod Sizes
 pub mod Parts
+pub mod Roots

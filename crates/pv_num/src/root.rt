@@ -1,12 +1,14 @@
 //! Roots.
-ghost use Rattle.std.specs.Prelude.{◌≡◌, ◌+◌, ◌-◌, ◌*◌, ◌^◌, ◌<◌, ◌≤◌, ◌≢◌, pos, IsTrue};
-ghost use Rattle.pv_num.specs.Extended.{Extended, NegInf, Fin, PosInf};
-ghost use Rattle.pv_num.specs.Order.{lt, le};
-ghost use Rattle.pv_num.specs.declared.num.End.TheVariants.{Down};
+ghost use Rattle.std.specs.Prelude.{◌≡◌, ◌+◌, ◌-◌, ◌*◌, ◌^◌, ◌<◌, ◌≤◌, ◌≢◌, pos, IsTrue, true, false};
+ghost use Rattle.pv_num.specs.Extended.{Fin, PosInf};
+ghost use Rattle.pv_num.specs.Order.{le};
+ghost use Rattle.pv_num.specs.Arithmetic.{root_of};
+ghost use Rattle.pv_num.specs.Roots.{size_at, is_reached};
+ghost use Rattle.pv_num.specs.declared.num.End.TheVariants.{Down, Up};
 
 use crate::num::{Class, End, Num};
 
-// The numbers from 0 on, without gaps: the number 0 has the index 0, and MAX this index.
+// The sizes have indexes without gaps: 0 has the index 0, and the largest size this one.
 const TOP_INDEX: u128 = 962 * 0x2000_0000_0000_0000 + 0x3fff_ffff_ffff_ffff;
 
 impl Num {
@@ -16,59 +18,126 @@ impl Num {
         requires not_negative { IsTrue (le (Fin (pos 0)) self) }
         requires exponent { (1 ≤ n) × (n ≤ 32) }
         requires finite_below { side ≡ Down → self ≢ PosInf }
+        ensures { result ≡ root_of side self n }
     {
         match side {
             End::Down => root_down(self, n),
-            End::Up => root_up(self, n),
+            End::Up => {
+                if self == Num::POS_INF {
+                    return self;
+                }
+                root_up(self, n)
+            }
         }
     }
 }
 
 fn root_down(z: Num, n: u8) -> Num
     requires { (1 ≤ n) × (n ≤ 32) }
+    ensures { result ≡ root_of Down z n }
 {
-    let mut low: u128 = 0;
-    let mut high = TOP_INDEX + 1;
-    while high - low > 1 {
-        let at = low + (high - low) / 2;
-        if number_at(at).pow(n, End::Up) <= z {
-            low = at;
-        } else {
-            high = at;
-        }
-    }
-    number_at(low)
+    let first = first_reached(z, n, End::Down);
+    number_at(first.saturating_sub(1))
 }
 
 fn root_up(z: Num, n: u8) -> Num
-    requires { (1 ≤ n) × (n ≤ 32) }
+    requires exponent { (1 ≤ n) × (n ≤ 32) }
+    requires not_negative { IsTrue (le (Fin (pos 0)) z) }
+    requires finite { z ≢ PosInf }
+    ensures { result ≡ root_of Up z n }
 {
-    if z.class == Class::PlusOo {
-        return z;
+    let first = first_reached(z, n, End::Up);
+    if first > TOP_INDEX {
+        return Num::POS_INF;
     }
+    number_at(first)
+}
+
+// The first index whose size is reached, or the one behind the last.
+fn first_reached(z: Num, n: u8, side: End) -> u128
+    requires { (1 ≤ n) × (n ≤ 32) }
+    ensures fits { result ≤ 962 * 2 ^ 61 + 2 ^ 62 }
+    ensures below { 0 < result → is_reached side z n (size_at (result - 1)) ≡ false }
+    ensures here { result < 962 * 2 ^ 61 + 2 ^ 62 → is_reached side z n (size_at result) ≡ true }
+{
     let mut low: u128 = 0;
-    let mut high = TOP_INDEX;
+    let mut high = TOP_INDEX + 1;
+    let mut step = if n == 2 { 1u128 } else { TOP_INDEX };
+    let mut at = guess(z, n).min(TOP_INDEX);
     while low < high {
-        let at = low + (high - low) / 2;
-        if z <= number_at(at).pow(n, End::Down) {
-            high = at;
-        } else {
-            low = at + 1;
-        }
+        let reached = reaches(z, n, side, at);
+        (low, high) = narrowed(low, high, at, reached);
+        at = next_probe(low, high, step, reached);
+        step = (step * 2).min(TOP_INDEX);
     }
-    number_at(low)
+    low
+}
+
+#[inline]
+fn narrowed(low: u128, high: u128, at: u128, reached: bool) -> (u128, u128)
+    requires { at < 2 ^ 127 }
+    ensures reached { reached ≡ true → (result.0 ≡ low) × (result.1 ≡ at) }
+    ensures missed { reached ≡ false → (result.0 ≡ at + 1) × (result.1 ≡ high) }
+{
+    if reached { (low, at) } else { (at + 1, high) }
+}
+
+// An index between: near the end that moved last, and by doubled steps away from it, as far as the middle.
+#[inline]
+fn next_probe(low: u128, high: u128, step: u128, reached: bool) -> u128
+    requires ordered { low ≤ high }
+    requires step { 0 < step }
+    ensures { low < high → (low ≤ result) × (result < high) }
+{
+    let half = (high - low) / 2;
+    if reached {
+        high - step.min(high - low - half)
+    } else {
+        low + (step - 1).min(half)
+    }
+}
+
+// Whether the power of an index's size is beyond the number.
+fn reaches(z: Num, n: u8, side: End, index: u128) -> bool
+    requires exponent { (1 ≤ n) × (n ≤ 32) }
+    requires index { index < 962 * 2 ^ 61 + 2 ^ 62 }
+    ensures { result ≡ is_reached side z n (size_at index) }
+{
+    let number = number_at(index);
+    match side {
+        End::Down => {
+            let within = number.pow(n, End::Up) <= z;
+            !within
+        }
+        End::Up => z <= number.pow(n, End::Down),
+    }
+}
+
+// Where to look first: a square root is found by that of a whole number. Nothing rests on it.
+fn guess(z: Num, n: u8) -> u128 {
+    if n != 2 || z.class != Class::NonNegative || z.mantissa == 0 {
+        return TOP_INDEX / 2;
+    }
+    let shift = z.mantissa.leading_zeros() as u16 + 62 - 2;
+    let odd = (z.exponent + shift) % 2;
+    let shift = shift - odd;
+    let wide = (z.mantissa as u128) << shift.min(63);
+    let exponent = (z.exponent + 512 + 128 - shift) / 2;
+    let root = wide.isqrt();
+    (exponent.saturating_sub(64) as u128) * 0x2000_0000_0000_0000 + root + 1
 }
 
 // The number of an index.
 fn number_at(index: u128) -> Num
-    requires { index ≤ 962 * 2 ^ 61 + (2 ^ 62 - 1) }
-    ensures { IsTrue (le (Fin (pos 0)) result) }
+    requires { index < 962 * 2 ^ 61 + 2 ^ 62 }
+    ensures value { result ≡ Fin (pos (size_at index)) }
+    ensures not_negative { IsTrue (le (Fin (pos 0)) result) }
 {
     let block = (index >> 61) as u16;
-    let exponent = if block == 0 { 0 } else { block - 1 };
+    let exponent = block.saturating_sub(1);
     Num {
         class: Class::NonNegative,
         exponent,
-        mantissa: (index - ((exponent as u128) << 61)) as u64,
+        mantissa: (index - exponent as u128 * 0x2000_0000_0000_0000) as u64,
     }
 }
