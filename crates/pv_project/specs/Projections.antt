@@ -1,92 +1,88 @@
--- What is left of the arguments x and y of an operation where its result lies in z; None is empty.
-use Rattle.std.specs.Prelude.{ℕ, ◌%◌, pos, Bool, ◌&&◌, Option, Some, None, if◌then◌else◌, eqb}
+-- The projections of an operation: what its arguments can be where its result lies in z. None is empty.
+use Rattle.std.specs.Prelude.{ℕ, ◌%◌, Bool, ◌&&◌, pos, Option, Some, None, if◌then◌else◌, eqb}
 use Rattle.pv_num.specs.Extended.{Extended, NegInf, Fin, PosInf}
 use Rattle.pv_num.specs.Grid.{unit}
 use Rattle.pv_num.specs.Order.{le, lt}
 use Rattle.pv_num.specs.Arithmetic.{neg_of, root_of}
+use Rattle.pv_num.specs.declared.num.End.{End}
 use Rattle.pv_num.specs.declared.num.End.TheVariants.{Down, Up}
-use Rattle.pv_interval.specs.Bounds.{Bounds, everything, between, interval_from}
-use Rattle.pv_interval.specs.Tables.{sum_of, difference_of, product_of, quotient_of, negated, meet_of, hull_of, has_nought, nought, is_nought, holds}
+use Rattle.pv_interval.specs.Bounds.{Bounds, between, everything}
+use Rattle.pv_interval.specs.Tables.{nought, has_nought, is_nought, holds, sum_of, difference_of, product_of, quotient_of, negated, meet_of, hull_of}
 
 -- the second step on what the first one gives; empty where one of them is
 abbrev pub chain : {A B : Type 0} → Option A → (A → Option B) → Option B
 chain None f = None
 chain (Some x) f = f x
 
--- x met with a first bound, and then y with one that may depend on what is left of x
-abbrev pub both : Bounds → Option Bounds → Bounds → (Bounds → Option Bounds) → Option (Bounds × Bounds)
-both x first y second =
-    chain (chain first (meet_of x)) (λ u. chain (chain (second u) (meet_of y)) (λ v. Some (u, v)))
+-- both arguments, the second one narrowed by the first
+abbrev pub narrowed : Option Bounds → (Bounds → Option Bounds) → Option (Bounds × Bounds)
+narrowed x f = chain x (λ x'. chain (f x') (λ y'. Some (x', y')))
 
--- what a factor may be where the product lies in z and the other factor in y
+-- the numbers that times one of y can give one of z
 abbrev pub factor_of : Bounds → Bounds → Option Bounds
 factor_of z y = if has_nought z && has_nought y then Some everything else quotient_of z y
 
 unfoldable pub back_add_of : Bounds → Bounds → Bounds → Option (Bounds × Bounds)
-back_add_of z x y = both x (Some (difference_of z y)) y (λ u. Some (difference_of z u))
+back_add_of z x y = narrowed (meet_of x (difference_of z y)) (λ x'. meet_of y (difference_of z x'))
 
 unfoldable pub back_sub_of : Bounds → Bounds → Bounds → Option (Bounds × Bounds)
-back_sub_of z x y = both x (Some (sum_of z y)) y (λ u. Some (difference_of u z))
+back_sub_of z x y = narrowed (meet_of x (sum_of z y)) (λ x'. meet_of y (difference_of x' z))
 
 unfoldable pub back_mul_of : Bounds → Bounds → Bounds → Option (Bounds × Bounds)
-back_mul_of z x y = both x (factor_of z y) y (λ u. factor_of z u)
+back_mul_of z x y =
+    narrowed (chain (factor_of z y) (λ q. meet_of x q)) (λ x'. chain (factor_of z x') (λ q. meet_of y q))
 
 unfoldable pub back_div_of : Bounds → Bounds → Bounds → Option (Bounds × Bounds)
-back_div_of z x y = if is_nought y then None else both x (Some (product_of z y)) y (λ u. factor_of u z)
+back_div_of z x y =
+    if is_nought y then None
+    else narrowed (meet_of x (product_of z y)) (λ x'. chain (factor_of x' z) (λ q. meet_of y q))
 
--- the bound on one of two arguments whose least is in z, where the other is in y
-abbrev pub least_bound : Bounds → Bounds → Bounds
-least_bound z y = if lt z.hi y.lo then z else between z.lo PosInf
-
-abbrev pub greatest_bound : Bounds → Bounds → Bounds
-greatest_bound z y = if lt y.hi z.lo then z else between NegInf z.hi
+-- what one argument can be where the least of it and one of y lies in z
+abbrev pub least_side : Bounds → Bounds → Bounds
+least_side z y = if lt z.hi y.lo then z else between z.lo PosInf
 
 unfoldable pub back_min_of : Bounds → Bounds → Bounds → Option (Bounds × Bounds)
-back_min_of z x y = both x (Some (least_bound z y)) y (λ u. Some (least_bound z u))
+back_min_of z x y = narrowed (meet_of x (least_side z y)) (λ x'. meet_of y (least_side z x'))
+
+-- what one argument can be where the greatest of it and one of y lies in z
+abbrev pub greatest_side : Bounds → Bounds → Bounds
+greatest_side z y = if lt y.hi z.lo then z else between NegInf z.hi
 
 unfoldable pub back_max_of : Bounds → Bounds → Bounds → Option (Bounds × Bounds)
-back_max_of z x y = both x (Some (greatest_bound z y)) y (λ u. Some (greatest_bound z u))
+back_max_of z x y = narrowed (meet_of x (greatest_side z y)) (λ x'. meet_of y (greatest_side z x'))
 
 unfoldable pub back_neg_of : Bounds → Bounds → Option Bounds
 back_neg_of z x = meet_of x (negated z)
 
--- the hull of two intervals of which one may be empty
-abbrev pub joined_hull : Option Bounds → Option Bounds → Option Bounds
-joined_hull None None = None
-joined_hull None (Some y) = Some y
-joined_hull (Some x) None = Some x
-joined_hull (Some x) (Some y) = Some (hull_of x y)
+-- the hull of two parts, of which each may be empty
+abbrev pub hull_of_parts : Option Bounds → Option Bounds → Option Bounds
+hull_of_parts None None = None
+hull_of_parts None (Some b) = Some b
+hull_of_parts (Some a) None = Some a
+hull_of_parts (Some a) (Some b) = Some (hull_of a b)
 
--- x met with w and with its negative
-abbrev pub two_sided : Bounds → Bounds → Option Bounds
-two_sided x w = joined_hull (meet_of x w) (meet_of x (negated w))
-
-abbrev pub from_nought : Bounds
-from_nought = between nought PosInf
+-- the numbers of x in w, and those whose opposite is in w
+abbrev pub both_signs : Bounds → Bounds → Option Bounds
+both_signs x w = hull_of_parts (meet_of x w) (meet_of x (negated w))
 
 unfoldable pub back_abs_of : Bounds → Bounds → Option Bounds
-back_abs_of z x = chain (meet_of z from_nought) (two_sided x)
+back_abs_of z x = chain (meet_of z (between nought PosInf)) (λ w. both_signs x w)
 
--- a root that keeps the sign, rounded down
-abbrev pub root_down : Extended → ℕ → Extended
-root_down NegInf n = NegInf
-root_down (Fin a) n = if le nought (Fin a) then root_of Down (Fin a) n else neg_of (root_of Up (neg_of (Fin a)) n)
-root_down PosInf n = PosInf
+-- the ends between which the odd roots of z lie
+abbrev pub odd_low : Extended → ℕ → Extended
+odd_low NegInf n = NegInf
+odd_low (Fin a) n = if le nought (Fin a) then root_of Down (Fin a) n else neg_of (root_of Up (neg_of (Fin a)) n)
+odd_low PosInf n = root_of Down PosInf n
 
--- a root that keeps the sign, rounded up
-abbrev pub root_up : Extended → ℕ → Extended
-root_up NegInf n = NegInf
-root_up (Fin a) n = if le nought (Fin a) then root_of Up (Fin a) n else neg_of (root_of Down (neg_of (Fin a)) n)
-root_up PosInf n = PosInf
+abbrev pub odd_high : Extended → ℕ → Extended
+odd_high e n = if le nought e then root_of Up e n else neg_of (root_of Down (neg_of e) n)
 
-abbrev pub odd_roots : Bounds → ℕ → Option Bounds
-odd_roots z n = interval_from (root_down z.lo n) (root_up z.hi n)
-
-abbrev pub even_roots : Bounds → ℕ → Option Bounds
-even_roots z n = chain (meet_of z from_nought) (λ w. interval_from (root_of Down w.lo n) (root_of Up w.hi n))
+-- the roots that are not negative
+abbrev pub even_roots : Bounds → ℕ → Bounds
+even_roots w n = between (root_of Down w.lo n) (root_of Up w.hi n)
 
 unfoldable pub back_pow_of : Bounds → Bounds → ℕ → Option Bounds
 back_pow_of z x n =
     if eqb n 0 then (if holds z (Fin (pos unit)) then Some x else None)
-    else if eqb (n % 2) 0 then chain (even_roots z n) (two_sided x)
-    else chain (odd_roots z n) (meet_of x)
+    else if eqb (n % 2) 0 then chain (meet_of z (between nought PosInf)) (λ w. both_signs x (even_roots w n))
+    else meet_of x (between (odd_low z.lo n) (odd_high z.hi n))

@@ -1,13 +1,11 @@
-//! Backward projections: what is left of the arguments of an operation where its result must lie in a
-//! target.
-//!
-//! Source: Jaulin, Kieffer, Didrit, Walter, "Applied Interval Analysis" (2001).
+//! Projections: what the arguments of an operation can be where its result lies in a given interval, the step down of
+//! HC4-revise.
 #![tactic(auto)]
 
-mod choice;
+mod order;
 mod power;
-mod sum;
+mod ring;
 
-pub use choice::{back_abs, back_max, back_min};
+pub use order::{back_abs, back_max, back_min, back_neg};
 pub use power::back_pow;
-pub use sum::{back_add, back_div, back_mul, back_neg, back_sub};
+pub use ring::{back_add, back_div, back_mul, back_sub};

@@ -1,11 +1,13 @@
-//! Powers.
-ghost use Rattle.std.specs.Prelude.{◌≡◌, ◌≤◌};
+//! Whole powers, by roots.
+ghost use Rattle.std.specs.Prelude.{◌≡◌, ◌≢◌, ◌≤◌};
+ghost use Rattle.pv_num.specs.Extended.{NegInf, PosInf};
+ghost use Rattle.pv_project.specs.Projections.{back_pow_of, odd_low, odd_high};
 
-use crate::choice::{not_negative, on_both_sides};
+use crate::order::{hull_of_both, meet_between};
 use pv_interval::Interval;
 use pv_num::{End, Num};
 
-/// What is left of x where its n-th power lies in z; None where nothing is.
+/// The hull of the numbers of `x` whose power `n` lies in `z`; None where there are none. `n` is at most 32.
 pub fn back_pow(z: Interval, x: Interval, n: u8) -> Option<Interval>
     requires { n ≤ 32 }
 {
@@ -13,44 +15,60 @@ pub fn back_pow(z: Interval, x: Interval, n: u8) -> Option<Interval>
         return if z.contains(Num::ONE) { Some(x) } else { None };
     }
     if n % 2 == 0 {
-        let w = not_negative(z)?;
-        return on_both_sides(x, even_roots(w, n)?);
+        back_even(z, x, n)
+    } else {
+        back_odd(z, x, n)
     }
-    x.meet(Interval::new(root_down(z.lo(), n), root_up(z.hi(), n))?)
 }
 
-// The roots of the numbers of an interval from 0 on.
-fn even_roots(w: Interval, n: u8) -> Option<Interval>
-    requires { (1 ≤ n) × (n ≤ 32) }
+// The numbers of `x` whose odd power lies in `z`.
+fn back_odd(z: Interval, x: Interval, n: u8) -> Option<Interval>
+    requires positive { 1 ≤ n }
+    requires fits { n ≤ 32 }
 {
-    if w.lo() < Num::ZERO || w.lo() == Num::POS_INF || w.hi() < Num::ZERO {
-        return None;
-    }
-    Interval::new(w.lo().root(n, End::Down), w.hi().root(n, End::Up))
+    let roots = Interval::new(odd_root_low(z.lo(), n), odd_root_high(z.hi(), n))?;
+    x.meet(roots)
 }
 
-// The root of a lower end, rounded down.
-fn root_down(e: Num, n: u8) -> Num
-    requires { (1 ≤ n) × (n ≤ 32) }
+// The hull of the numbers of `x` whose even power lies in `z`, with both signs.
+fn back_even(z: Interval, x: Interval, n: u8) -> Option<Interval>
+    requires positive { 1 ≤ n }
+    requires fits { n ≤ 32 }
 {
-    if e == Num::NEG_INF || e == Num::POS_INF {
+    let powers = meet_between(z, Num::ZERO, Num::POS_INF)?;
+    let lo = powers.lo();
+    if lo == Num::POS_INF || lo < Num::ZERO || powers.hi() < Num::ZERO {
+        return Some(x);
+    }
+    let roots = Interval::new(lo.root(n, End::Down), powers.hi().root(n, End::Up))?;
+    hull_of_both(x.meet(roots), x.meet(roots.neg()))
+}
+
+// The number from which the odd roots of numbers from `e` on lie.
+fn odd_root_low(e: Num, n: u8) -> Num
+    requires open { e ≢ PosInf }
+    requires positive { 1 ≤ n }
+    requires fits { n ≤ 32 }
+{
+    if e == Num::NEG_INF {
         return e;
     }
     if Num::ZERO <= e {
-        return e.root(n, End::Down);
+        e.root(n, End::Down)
+    } else {
+        e.neg().root(n, End::Up).neg()
     }
-    e.neg().root(n, End::Up).neg()
 }
 
-// The root of an upper end, rounded up.
-fn root_up(e: Num, n: u8) -> Num
-    requires { (1 ≤ n) × (n ≤ 32) }
+// The number up to which the odd roots of numbers up to `e` lie.
+fn odd_root_high(e: Num, n: u8) -> Num
+    requires open { e ≢ NegInf }
+    requires positive { 1 ≤ n }
+    requires fits { n ≤ 32 }
 {
-    if e == Num::NEG_INF || e == Num::POS_INF {
-        return e;
-    }
     if Num::ZERO <= e {
-        return e.root(n, End::Up);
+        e.root(n, End::Up)
+    } else {
+        e.neg().root(n, End::Down).neg()
     }
-    e.neg().root(n, End::Down).neg()
 }

@@ -1,12 +1,11 @@
-//! Sums, products and their inverses.
+//! Sums, differences, products and quotients. The first argument is narrowed first, and the second by what is left of it.
 ghost use Rattle.std.specs.Prelude.{◌≡◌};
-ghost use Rattle.pv_interval.specs.Tables.{has_nought};
-ghost use Rattle.pv_project.specs.Projections.{factor_of, back_add_of, back_sub_of, back_mul_of, back_div_of, back_neg_of};
+ghost use Rattle.pv_project.specs.Projections.{back_add_of, back_sub_of, back_mul_of, back_div_of, factor_of};
 
 use pv_interval::Interval;
 use pv_num::Num;
 
-/// What is left of x and y where x + y lies in z; None where nothing is.
+/// The pairs of `x` and `y` whose sum can lie in `z`; None where there are none.
 #[tactic(auto, unfolding(crate::specs::Projections::back_add_of))]
 pub fn back_add(z: Interval, x: Interval, y: Interval) -> Option<(Interval, Interval)>
     ensures { result ≡ back_add_of z x y }
@@ -16,7 +15,7 @@ pub fn back_add(z: Interval, x: Interval, y: Interval) -> Option<(Interval, Inte
     Some((left, right))
 }
 
-/// What is left of x and y where x - y lies in z; None where nothing is.
+/// The pairs of `x` and `y` whose difference can lie in `z`; None where there are none.
 #[tactic(auto, unfolding(crate::specs::Projections::back_sub_of))]
 pub fn back_sub(z: Interval, x: Interval, y: Interval) -> Option<(Interval, Interval)>
     ensures { result ≡ back_sub_of z x y }
@@ -26,23 +25,7 @@ pub fn back_sub(z: Interval, x: Interval, y: Interval) -> Option<(Interval, Inte
     Some((left, right))
 }
 
-// What a factor may be where the product lies in z and the other factor in y.
-fn factor(z: Interval, y: Interval) -> Option<Interval>
-    ensures { result ≡ factor_of z y }
-{
-    if has_zero(z) && has_zero(y) {
-        return Some(Interval::ALL);
-    }
-    z.quotient(y)
-}
-
-fn has_zero(x: Interval) -> bool
-    ensures { result ≡ has_nought x }
-{
-    x.contains(Num::ZERO)
-}
-
-/// What is left of x and y where x * y lies in z; None where nothing is.
+/// The pairs of `x` and `y` whose product can lie in `z`; None where there are none.
 #[tactic(auto, unfolding(crate::specs::Projections::back_mul_of))]
 pub fn back_mul(z: Interval, x: Interval, y: Interval) -> Option<(Interval, Interval)>
     ensures { result ≡ back_mul_of z x y }
@@ -52,7 +35,7 @@ pub fn back_mul(z: Interval, x: Interval, y: Interval) -> Option<(Interval, Inte
     Some((left, right))
 }
 
-/// What is left of x and y where x / y lies in z; None where nothing is, as where y is [0,0].
+/// The pairs of `x` and `y` whose quotient can lie in `z`; None where there are none, so where `y` is [0,0].
 #[tactic(auto, unfolding(crate::specs::Projections::back_div_of))]
 pub fn back_div(z: Interval, x: Interval, y: Interval) -> Option<(Interval, Interval)>
     ensures { result ≡ back_div_of z x y }
@@ -65,10 +48,12 @@ pub fn back_div(z: Interval, x: Interval, y: Interval) -> Option<(Interval, Inte
     Some((left, right))
 }
 
-/// What is left of x where -x lies in z; None where nothing is.
-#[tactic(auto, unfolding(crate::specs::Projections::back_neg_of))]
-pub fn back_neg(z: Interval, x: Interval) -> Option<Interval>
-    ensures { result ≡ back_neg_of z x }
+// The numbers that times one of `y` can give one of `z`: all where both hold 0.
+fn factor(z: Interval, y: Interval) -> Option<Interval>
+    ensures { result ≡ factor_of z y }
 {
-    x.meet(z.neg())
+    if z.contains(Num::ZERO) && y.contains(Num::ZERO) {
+        return Some(Interval::ALL);
+    }
+    z.quotient(y)
 }
