@@ -1,4 +1,5 @@
 pub mod Decimals
+pub mod Exists
 pub mod Gaps
 pub mod Numerals
 pub mod Powers

@@ -47,16 +47,16 @@ ends_at_point t i q j number run before =
     number.exponent
 
 -- the sign and the width of the letter and the sign, by the byte behind the letter
-abbrev negative_by : ℕ → Bool
+abbrev pub negative_by : ℕ → Bool
 negative_by b = nat_eq b 45
 
-abbrev width_by : ℕ → ℕ
+abbrev pub width_by : ℕ → ℕ
 width_by b = cond (nat_eq b 45) 2 (cond (nat_eq b 43) 2 1)
 
 of_digit : (b : ℕ) → IsDigit b → (negative_by b ≡ false) × (width_by b ≡ 1)
 of_digit b digit = (grind (arith, nat_tests), grind (arith, nat_tests))
 
-of_sign : (t : List ℕ) (i : ℕ) (negative : Bool) (j : ℕ) → IsSign t i negative j → IsDigit (get_or t j 0) → (negative ≡ negative_by (get_or t (i + 1) 0)) × (j ≡ i + width_by (get_or t (i + 1) 0))
+pub of_sign : (t : List ℕ) (i : ℕ) (negative : Bool) (j : ℕ) → IsSign t i negative j → IsDigit (get_or t j 0) → (negative ≡ negative_by (get_or t (i + 1) 0)) × (j ≡ i + width_by (get_or t (i + 1) 0))
 of_sign t i negative j sign digit =
     ⊎_elim
     (λ (is, byte, place). (is ∙ sym (ap negative_by byte), place ∙ ap (λ b. i + width_by b) (sym byte)))

@@ -1,5 +1,5 @@
 -- Distinct elements of a list.
-use Rattle.std.proofs.Common.{◌≡◌, ◌≢◌, ℕ, ◌<◌, List, [], ◌∷◌, length, map, get_or, AllPairs, arith}
+use Rattle.std.proofs.Common.{◌≢◌, ◌<◌, List, [], ◌∷◌, length, map, AllPairs, arith}
 use Rattle.std.proofs.lemmas.List.{get_or-map}
 use Rattle.std.proofs.lemmas.List.{length-map}
 

@@ -1,5 +1,5 @@
 -- A product of two numbers of 128 bits from their halves.
-use Rattle.std.proofs.Common.{◌≡◌, ℕ, ◌+◌, ◌*◌, ◌/◌, ◌%◌, ◌^◌, arith}
+use Rattle.std.proofs.Common.{◌≡◌, ℕ, ◌+◌, ◌*◌, ◌/◌, ◌%◌, arith}
 
 wide_by_parts : (ah al bh bl lq lr oq or tq tr : ℕ) →
     al * bl ≡ 18446744073709551616 * lq + lr → ah * bl + lq ≡ 18446744073709551616 * oq + or →

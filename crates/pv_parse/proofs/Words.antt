@@ -22,7 +22,7 @@ longest_at_digit t i stop digit after longest other k word =
       | finish _ _ ends ↦ omega arith
     ]
 
-number_on : (t : List ℕ) (i : ℕ) (p : Parts) → IsNumber t i p → i < p.end
+pub number_on : (t : List ℕ) (i : ℕ) (p : Parts) → IsNumber t i p → i < p.end
 number_on t i p is = omega (arith, is.some, fraction_on t p.point p.tail is.fraction, exponent_on t p is.exponent)
 
 -- the longest number is the longest word

@@ -1,4 +1,4 @@
-use Rattle.std.proofs.Common.{◌≡◌, Bool, true, false, not, string_bytes}
+use Rattle.std.proofs.Common.{◌≡◌, Bool, true, false, string_bytes}
 use Rattle.std.specs.Bool.{OnTrue}
 use Rattle.pv_parse.proofs.Pairs.{AllPairs-map}
 use Rattle.pv_parse.proofs.checked.system_of.Goals as goal
