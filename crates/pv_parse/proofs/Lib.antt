@@ -3,6 +3,7 @@ pub mod Exists
 pub mod Gaps
 pub mod Numerals
 pub mod Powers
+pub mod Slices
 pub mod Unique
 pub mod Words
 pub mod Pairs

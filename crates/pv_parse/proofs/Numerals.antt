@@ -79,7 +79,7 @@ one_sign t p q of_p of_q tails =
     )
 
 -- an exponent takes a byte at least
-exponent_longer : (t : List ℕ) (p : Parts) → IsExponent t p → p.tail < p.end
+pub exponent_longer : (t : List ℕ) (p : Parts) → IsExponent t p → p.tail < p.end
 exponent_longer t p some = ⊎_elim (λ (_, _, place). omega (arith, some.some)) (λ (_, rest). ⊎_elim (λ (_, place). omega (arith, some.some)) (λ place. omega (arith, some.some)) rest) some.sign
 
 pub exponent_on : (t : List ℕ) (p : Parts) → NoExponent p ⊎ IsExponent t p → p.tail ≤ p.end
