@@ -1,2 +1,4 @@
+pub mod Canonical
+pub mod Searches
 pub mod Systems
 pub mod Terms

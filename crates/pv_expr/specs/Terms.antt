@@ -1,5 +1,6 @@
 -- Expressions as terms, their value at a point, and when a constraint holds there.
-use Rattle.std.specs.Prelude.{◌≡◌, ℕ, zero, suc, ◌+◌, ◌*◌, Bool, List, ℤ, pos, negsuc, ◌+ℤ◌, ◌*ℤ◌, ◌<ℤ◌, ◌≤ℤ◌, neg_ℤ, int_le, unsigned_abs, max, Option, Some, None, if◌then◌else◌, slice_get}
+use Rattle.std.specs.Prelude.{◌≡◌, ℕ, ◌+◌, List, ℤ, pos, ◌*ℤ◌, ◌<ℤ◌, ◌≤ℤ◌, max, Option, Some, None, slice_get}
+use Rattle.pv_interval.specs.Fractions.{Fraction, plus, minus, times, over, opposite, size, power as raised, least as lesser, greatest as larger}
 use Rattle.pv_expr.specs.declared.expr.Expr.{Expr}
 use Rattle.pv_expr.specs.declared.expr.Expr.TheVariants.{Const, Var, Add', Sub', Mul', Div', Min', Max', Neg', Abs', Pow'}
 use Rattle.pv_expr.specs.declared.constraint.Relation.{Relation}
@@ -39,63 +40,35 @@ term_of (Neg' p a) = one negation (term_of a)
 term_of (Abs' p a) = one absolute (term_of a)
 term_of (Pow' p a n) = one (power n) (term_of a)
 
--- a fraction; its lower number is above 0 where it is the value of a term at a point
-pub record Value : Type 0 where
-  pub top : ℤ
-  pub under : ℕ
-
-abbrev pub plus : Value → Value → Value
-plus v w = record { top = (v.top *ℤ pos w.under) +ℤ (w.top *ℤ pos v.under); under = v.under * w.under }
-
-abbrev pub negated : Value → Value
-negated v = record { top = neg_ℤ v.top; under = v.under }
-
-abbrev pub times : Value → Value → Value
-times v w = record { top = v.top *ℤ w.top; under = v.under * w.under }
+abbrev pub unary_value : Unary → Fraction → Fraction
+unary_value negation f = opposite f
+unary_value absolute f = size f
+unary_value (power n) f = raised f n
 
 -- undefined where the divisor is 0
-abbrev pub over : Value → ℤ → ℕ → Option Value
-over v (pos zero) q = None
-over v (pos (suc n)) q = Some (record { top = v.top *ℤ pos q; under = v.under * suc n })
-over v (negsuc n) q = Some (record { top = neg_ℤ (v.top *ℤ pos q); under = v.under * suc n })
+abbrev pub binary_value : Binary → Fraction → Fraction → Option Fraction
+binary_value sum f g = Some (plus f g)
+binary_value difference f g = Some (minus f g)
+binary_value product f g = Some (times f g)
+binary_value quotient f g = over f g
+binary_value least f g = Some (lesser f g)
+binary_value greatest f g = Some (larger f g)
 
--- v is at most w
-abbrev pub at_most : Value → Value → Bool
-at_most v w = int_le (v.top *ℤ pos w.under) (w.top *ℤ pos v.under)
-
--- a product of n factors, which is 1 for none
-abbrev pub raised : Value → ℕ → Value
-raised v zero = record { top = pos 1; under = 1 }
-raised v (suc n) = times (raised v n) v
-
-abbrev pub unary_value : Unary → Value → Value
-unary_value negation v = negated v
-unary_value absolute v = record { top = pos (unsigned_abs v.top); under = v.under }
-unary_value (power n) v = raised v n
-
-abbrev pub binary_value : Binary → Value → Value → Option Value
-binary_value sum v w = Some (plus v w)
-binary_value difference v w = Some (plus v (negated w))
-binary_value product v w = Some (times v w)
-binary_value quotient v w = over v w.top w.under
-binary_value least v w = Some (if at_most v w then v else w)
-binary_value greatest v w = Some (if at_most v w then w else v)
-
-abbrev pub with_one : Unary → Option Value → Option Value
+abbrev pub with_one : Unary → Option Fraction → Option Fraction
 with_one u None = None
 with_one u (Some v) = Some (unary_value u v)
 
-abbrev pub with_two : Binary → Option Value → Option Value → Option Value
+abbrev pub with_two : Binary → Option Fraction → Option Fraction → Option Fraction
 with_two b None o = None
 with_two b (Some v) None = None
 with_two b (Some v) (Some w) = binary_value b v w
 
-abbrev pub coordinate : Option ℤ → ℕ → Option Value
+abbrev pub coordinate : Option ℤ → ℕ → Option Fraction
 coordinate None d = None
 coordinate (Some n) d = Some (record { top = n; under = d })
 
 -- the value of a term where variable i is the i-th number over d, or none where it is undefined
-abbrev pub value_at : Term → List ℤ → ℕ → Option Value
+abbrev pub value_at : Term → List ℤ → ℕ → Option Fraction
 value_at (constant p q) ns d = Some (record { top = p; under = q })
 value_at (place i) ns d = coordinate (slice_get ns i) d
 value_at (one u t) ns d = with_one u (value_at t ns d)
@@ -111,8 +84,8 @@ Stands Gt x y = y <ℤ x
 
 -- both sides are defined there, and stand in the relation
 pub record HoldsBetween (left : Term) (relation : Relation) (right : Term) (ns : List ℤ) (d : ℕ) : Type 0 where
-  pub v : Value
-  pub w : Value
+  pub v : Fraction
+  pub w : Fraction
   pub left_is : value_at left ns d ≡ Some v
   pub right_is : value_at right ns d ≡ Some w
   pub stands : Stands relation (v.top *ℤ pos w.under) (w.top *ℤ pos v.under)

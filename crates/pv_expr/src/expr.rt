@@ -3,7 +3,8 @@
 ghost use Rattle.std.specs.Prelude.{◌≡◌, IfOk};
 ghost use Rattle.pv_expr.specs.Terms.{term_of};
 
-use std::alloc::{AllocError, Global};
+use pv_num::Memory;
+use std::alloc::Global;
 
 /// An expression over the variables of a system, which are numbered from 0.
 #[derive(Drop)]
@@ -27,7 +28,7 @@ pub enum Expr {
 impl Expr {
     /// An equal expression.
     #[cycle(copying)]
-    pub fn clone_of(&self, alloc: Global) -> Result<Expr, AllocError>
+    pub fn clone_of(&self, alloc: Global) -> Result<Expr, Memory>
         ensures { IfOk result (λ e. term_of e ≡ term_of self.now) }
     {
         match self {
@@ -47,7 +48,7 @@ impl Expr {
 }
 
 #[cycle(copying)]
-fn boxed_clone(alloc: Global, e: &Expr) -> Result<Box<Expr>, AllocError>
+fn boxed_clone(alloc: Global, e: &Expr) -> Result<Box<Expr>, Memory>
     ensures { IfOk result (λ b. term_of b.value ≡ term_of e.now) }
 {
     let copy = e.clone_of(alloc)?;

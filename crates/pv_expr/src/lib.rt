@@ -1,6 +1,7 @@
 //! Systems of constraints as trees: expressions over numbered variables, relations, domains, and the canonical text of a system.
 #![tactic(auto)]
 
+mod canonical;
 mod constraint;
 mod domain;
 mod expr;

@@ -1,10 +1,13 @@
 // A system: names, domains and constraints.
 
 ghost use Rattle.std.specs.Prelude.{◌≡◌, ◌<◌, ◌≤◌, ◌≢◌, length, map, string_bytes, All, AllPairs, sum_by, IfSome, IfNone, ℕ, slice_get};
-ghost use Rattle.pv_expr.specs.Systems.{IsDomain, IsConstraint, IsSystem, side_nodes};
+ghost use Rattle.pv_expr.specs.Searches.{search_bounds, end_of};
+ghost use Rattle.pv_expr.specs.Systems.{IsBound, IsDomain, IsConstraint, IsSystem, side_nodes};
 
 use crate::constraint::Constraint;
-use crate::domain::Domain;
+use crate::domain::{Bound, Domain};
+use pv_interval::Interval;
+use pv_num::{End, Num};
 use std::marker::Model;
 
 /// A system of constraints: 1 to 12 named variables with a domain each, and 1 to 64 constraints.
@@ -86,6 +89,14 @@ impl System {
         self.names[i as usize].as_str()
     }
 
+    /// The domain of variable `i`, with the lower bound rounded down and the upper bound rounded up.
+    pub fn search_interval(&self, i: u8) -> Interval
+        requires { i < length self.now.names }
+        ensures { slice_get (map search_bounds self.now.domains) i ≡ Some result }
+    {
+        interval_of(self.domains[i as usize])
+    }
+
     /// The number of the variable of this name, or None where no variable has it.
     pub fn find(&self, name: &str) -> Option<u8>
         ensures found { IfSome result (λ i. slice_get self.now.names i ≡ Some name.now) }
@@ -97,5 +108,24 @@ impl System {
             }
         }
         None
+    }
+}
+
+// A domain with its bounds rounded outward.
+fn interval_of(domain: Domain) -> Interval
+    requires { IsDomain domain }
+    ensures { result ≡ search_bounds domain }
+{
+    Interval::new(end_of(domain.lo, End::Down), end_of(domain.hi, End::Up)).unwrap()
+}
+
+fn end_of(bound: Bound, side: End) -> Num
+    requires { IsBound bound }
+    ensures { result ≡ end_of side bound }
+{
+    match bound {
+        Bound::MinusOo => Num::NEG_INF,
+        Bound::Value { p, q } => Num::from_ratio(p, q, side),
+        Bound::PlusOo => Num::POS_INF,
     }
 }

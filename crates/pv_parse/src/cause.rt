@@ -1,5 +1,6 @@
 // Why a text is refused, and where.
 
+use pv_num::Memory;
 use std::alloc::{AllocError, AllocFailed};
 use std::error::Error;
 use std::fmt;
@@ -91,6 +92,12 @@ impl From<AllocError> for ParseRefused {
 
 impl<T: Drop> From<AllocFailed<T>> for ParseRefused {
     fn from(_e: AllocFailed<T>) -> ParseRefused {
+        ParseRefused::Memory
+    }
+}
+
+impl From<Memory> for ParseRefused {
+    fn from(_e: Memory) -> ParseRefused {
         ParseRefused::Memory
     }
 }
