@@ -41,10 +41,10 @@ below_up (Fin e) m n b d p h k = cancel_pos b (e *ℤ pos d) (n *ℤ pos unit) p
     omega (arith, ints))
 below_up PosInf m n b d p h k = absurd k
 
-lt_fact : (a b : ℤ) → int_lt a b ≡ true → a ≤ℤ b
+pub lt_fact : (a b : ℤ) → int_lt a b ≡ true → a ≤ℤ b
 lt_fact a b h = grind (arith, ints)
 
-not_lt_fact : (a b : ℤ) → int_lt a b ≡ false → b ≤ℤ a
+pub not_lt_fact : (a b : ℤ) → int_lt a b ≡ false → b ≤ℤ a
 not_lt_fact a b h = grind (arith, ints)
 
 pub least_keeps : (f g : Fraction) (x y : Bounds) → LiesIn f x → LiesIn g y → LiesIn (least f g) (least_of x y)
@@ -134,11 +134,11 @@ meet_in n d x y z e h = meet_in_by (le (greater x.lo y.lo) (lesser x.hi y.hi)) n
 
 -- ---- absolute values
 
-size_from : (n : ℤ) → pos 0 ≤ℤ n → pos (unsigned_abs n) ≡ n
+pub size_from : (n : ℤ) → pos 0 ≤ℤ n → pos (unsigned_abs n) ≡ n
 size_from (pos n) h = refl
 size_from (negsuc n) h = absurd (omega (arith, ints))
 
-size_to : (n : ℤ) → n ≤ℤ pos 0 → pos (unsigned_abs n) ≡ neg_ℤ n
+pub size_to : (n : ℤ) → n ≤ℤ pos 0 → pos (unsigned_abs n) ≡ neg_ℤ n
 size_to (pos zero) h = refl
 size_to (pos (suc n)) h = absurd (omega (arith, ints))
 size_to (negsuc n) h = refl

@@ -57,7 +57,7 @@ power_even f n = (power_opposite f n).0
 pub power_odd : (f : Fraction) (n : ℕ) → n % 2 ≡ 1 → power (opposite f) n ≡ opposite (power f n)
 power_odd f n = (power_opposite f n).1
 
-opposite_twice : (f : Fraction) → opposite (opposite f) ≡ f
+pub opposite_twice : (f : Fraction) → opposite (opposite f) ≡ f
 opposite_twice f = ap (λ w. record { top = w; under = f.under }) (neg_ℤ-neg_ℤ f.top)
 
 -- ---- powers of an end

@@ -323,7 +323,7 @@ and_left s t h = grind rules
 pub and_right : (s t : Bool) → s && t ≡ true → t ≡ true
 and_right s t h = grind rules
 
-zero_top : (f : Fraction) (x : Bounds) → is_nought x ≡ true → LiesIn f x → f.top ≡ pos 0
+pub zero_top : (f : Fraction) (x : Bounds) → is_nought x ≡ true → LiesIn f x → f.top ≡ pos 0
 zero_top f x t h =
     let p = below_zero f.top f.under (below_le nought x.lo f.top f.under (and_left (le nought x.lo) (le x.hi nought) t) h.low) in
     let q = above_zero f.top f.under (above_le x.hi nought f.top f.under (and_right (le nought x.lo) (le x.hi nought) t) h.high) in

@@ -1,1 +1,3 @@
 pub mod Meets
+pub mod Same
+pub mod Kept
