@@ -17,7 +17,8 @@ use Rattle.pv_tree.specs.declared.outcome.Counts.{Counts}
 use Rattle.pv_tree.specs.declared.outcome.Outcome.{Outcome}
 use Rattle.pv_tree.specs.declared.outcome.Outcome.TheVariants as outcome
 use Rattle.pv_tree.proofs.ArenaFacts.{shown, tree_at-is}
-use Rattle.pv_tree.proofs.Wholes.{subtree_there, take_length}
+use Rattle.pv_tree.proofs.Wholes.{subtree_there, take_length, half_length}
+use Rattle.std.proofs.lemmas.List.{length-drop}
 
 pub inside_there : (a : Extended) (v : ℕ) (b : List Bounds) → IsStrictlyInside a v b → v < length b
 inside_there a v [] h = absurd h
@@ -29,7 +30,7 @@ inside_place a v [] d h = absurd h
 inside_place a zero (x ∷ b) d h = h
 inside_place a (suc v) (x ∷ b) d h = inside_place a v b d h
 
-less_is_le : (o : Ordering) → IsTrue (is_lt o) → is_le o ≡ true
+pub less_is_le : (o : Ordering) → IsTrue (is_lt o) → is_le o ≡ true
 less_is_le Less h = refl
 less_is_le Equal h = cc
 less_is_le Greater h = cc
@@ -242,3 +243,14 @@ none_is_none (Some x) e h = cc
 
 pub some_start : (d : ℕ) (es : List Bounds) (o : Option ℕ) (r : Option (List Bounds)) → r ≡ option_map (kept d es) o → IsSome r → o ≡ None → ⊥
 some_start d es o r e h n = none_is_none r (e ∙ ap (option_map (kept d es)) n) h
+
+kept_size : (d : ℕ) (es : List Bounds) (s : ℕ) → s + d ≤ length es → length (kept d es s) ≡ d
+kept_size d es s h = let e : length (drop s es) ≡ length es - s = length-drop s es in simp length-take (omega arith)
+
+pub half_size : (d : ℕ) (es : List Bounds) (x : Cell) (high : Bool) (b : List Bounds) → HasHalves d es x → half_at d es x high ≡ Some b → length b ≡ d
+half_size d es Open high b h e = absurd h
+half_size d es Removed high b h e = absurd h
+half_size d es (Inner s) high b h e = absurd h
+half_size d es (Small s) high b h e = absurd h
+half_size d es (Cut s v a c) false b h e = let w : lower_half (kept d es s) v a ≡ b = cc in ap length (sym w) ∙ half_length true (kept d es s) v a ∙ kept_size d es s h.0
+half_size d es (Cut s v a c) true b h e = let w : upper_half (kept d es s) v a ≡ b = cc in ap length (sym w) ∙ half_length false (kept d es s) v a ∙ kept_size d es s h.0

@@ -1,4 +1,4 @@
-pub mod Steps
+pub mod PathSteps
 pub mod TreeFacts
 pub mod ArenaFacts
 pub mod Placing
@@ -7,3 +7,5 @@ pub mod Wholes
 pub mod Searches
 pub mod Halves
 pub mod Behind
+pub mod StageLaws
+pub mod Covered

@@ -6,3 +6,4 @@ pub mod Arena
 pub mod Spots
 pub mod Sets
 pub mod Stages
+pub mod Laws

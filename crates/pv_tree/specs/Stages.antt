@@ -3,7 +3,7 @@ use Rattle.std.specs.Prelude.{◌≡◌, ℕ, zero, suc, ◌+◌, ◌-◌, ◌<�
 use Rattle.pv_num.specs.Extended.{Extended}
 use Rattle.pv_interval.specs.Bounds.{Bounds}
 use Rattle.pv_box.specs.Boxes.{lower_half, upper_half}
-use Rattle.pv_tree.specs.Trees.{Tree, leaf, removed, inner, small, cut, outcome_at}
+use Rattle.pv_tree.specs.Trees.{Tree, leaf, removed, inner, small, cut, outcome_at, settled}
 use Rattle.pv_tree.specs.declared.outcome.Outcome.{Outcome}
 use Rattle.pv_tree.specs.declared.outcome.Outcome.TheVariants.{Removed, Inner, Small, Cut}
 
@@ -13,12 +13,7 @@ Rule = List Bounds → ℕ → ℕ → Outcome
 
 -- A box is settled, and after a cut so are both halves.
 unfoldable pub full : Rule → ℕ → List Bounds → ℕ → Tree
-full rule zero b k = elim (rule b zero k) [
-  | Removed ↦ removed
-  | Inner to ↦ inner to
-  | Small to ↦ small to
-  | Cut to var at ↦ cut to var at leaf leaf
-]
+full rule zero b k = settled (rule b zero k)
 full rule (suc d) b k = elim (rule b (suc d) k) [
   | Removed ↦ removed
   | Inner to ↦ inner to

@@ -113,7 +113,8 @@ pub(crate) fn lay_down(ends: &mut Vec<Interval>, outcome: &Outcome, kids: usize)
 /// Writes a kept box over another.
 pub(crate) fn copy_out(ends: &[Interval], start: usize, into: &mut IBox)
     requires { start + length into.old ≤ length ends.now }
-    ensures { into.new ≡ kept (length into.old) ends.now start }
+    ensures is { into.new ≡ kept (length into.old) ends.now start }
+    ensures places { length into.new ≡ length into.old }
 {
     let places = into.dims();
     for i in 0..places {

@@ -9,6 +9,7 @@ mod path;
 mod paving;
 mod search;
 mod settler;
+mod steps;
 
 pub use batch::Batch;
 pub use outcome::{Counts, Outcome, Shape};

@@ -1,5 +1,6 @@
 //! Pavings.
 ghost use Rattle.std.specs.Prelude.{◌≡◌, ◌+◌, ◌-◌, ◌*◌, ◌<◌, ◌≤◌, ◌^◌, ◌++◌, if◌then◌else◌, is_ok, IfOk, IfErr, OnOk, IfSome, IsSome, Some, length};
+ghost use Rattle.pv_tree.specs.Sets.{Covers};
 ghost use Rattle.pv_tree.specs.Trees.{Tree, leaf, subtree, graft, settled, Fits, HasDepth, IsPaving, box_of, to_at, shape_of, counts_of, settled_of, opens, first, behind, Seen};
 
 use crate::arena::{
@@ -79,6 +80,7 @@ impl Paving {
     pub fn dims(&self) -> u8
         ensures dims { result ≡ length self.now.root }
         ensures paving { IsPaving self.now.root self.now.tree }
+        ensures covers { Covers self.now.root self.now.tree }
     {
         self.root.dims()
     }
@@ -196,7 +198,8 @@ impl Paving {
     pub fn box_at(&self, path: Path, into: &mut IBox)
         requires there { IsSome (subtree self.now.tree path) }
         requires dims { length into.old ≡ length self.now.root }
-        ensures { into.new ≡ box_of self.now.root self.now.tree path }
+        ensures is { into.new ≡ box_of self.now.root self.now.tree path }
+        ensures places { length into.new ≡ length into.old }
     {
         let steps = path.len();
         if steps == 0 {
@@ -213,7 +216,8 @@ impl Paving {
     pub fn to_at(&self, path: Path, into: &mut IBox)
         requires there { IsSome (to_at self.now.tree path) }
         requires dims { length into.old ≡ length self.now.root }
-        ensures { to_at self.now.tree path ≡ Some into.new }
+        ensures is { to_at self.now.tree path ≡ Some into.new }
+        ensures places { length into.new ≡ length into.old }
     {
         let _steps = path.len();
         match start_at(&self.nodes, path) {

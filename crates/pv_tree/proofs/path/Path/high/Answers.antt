@@ -1,6 +1,6 @@
 use Rattle.std.proofs.Common.{◌≡◌, ◌<◌, length, arith, sym, ap, ◌∙◌, length-set, true}
 use Rattle.pv_tree.specs.Paths.{count-steps_of}
-use Rattle.pv_tree.proofs.Steps.{high_padding}
+use Rattle.pv_tree.proofs.PathSteps.{high_padding}
 use Rattle.pv_tree.proofs.path.Path.high.Goals as goal
 
 pub invariant_of-result : goal.invariant_of-result

@@ -1,6 +1,6 @@
 use Rattle.std.proofs.Common.{◌≡◌, ◌<◌, length, arith, sym, ap, ◌∙◌}
 use Rattle.pv_tree.specs.Paths.{count-steps_of}
-use Rattle.pv_tree.proofs.Steps.{less_padding, low_steps}
+use Rattle.pv_tree.proofs.PathSteps.{less_padding, low_steps}
 use Rattle.pv_tree.proofs.path.Path.low.Goals as goal
 use Rattle.pv_tree.proofs.path.Path.low.Goals.{After-struct_known-1}
 

@@ -26,10 +26,10 @@ unreachable-requires c =
     (subst (λ s. IsSome (to_at s.tree c.args.path)) (sym c.self.view_is) c.requires.there)
     (sym (c.in-None.ensures ∙ ap (λ ns. start_along ns (reach ns 0 (take (length c.args.path) c.args.path))) c.deref.ensures.value))
 
-pub returns : goal.returns
-returns c =
+pub returns-clause-is : goal.returns-clause-is
+returns-clause-is c =
     let dims : length c.args.into.now ≡ length c.self.inside.root = c.requires.dims ∙ sym (ap (λ s. length s.root) c.self.view_is) in
     ap (λ s. to_at s.tree c.args.path) (sym c.self.view_is)
     ∙ to_there (length c.self.inside.root) c.self.inside.ends.items c.self.inside.nodes.items c.args.path c.len-steps.ensures.few
     ∙ ap (option_map (kept (length c.self.inside.root) c.self.inside.ends.items)) (sym (c.in-Some.ensures ∙ ap (λ ns. start_along ns (reach ns 0 (take (length c.args.path) c.args.path))) c.deref.ensures.value))
-    ∙ ap (λ b. Some b) (ap (λ es. kept (length c.self.inside.root) es c.in-Some.start) (sym c.deref-in-Some.ensures.value) ∙ ap (λ n. kept n c.deref-in-Some.result.now c.in-Some.start) (sym dims) ∙ sym c.copy_out.ensures)
+    ∙ ap (λ b. Some b) (ap (λ es. kept (length c.self.inside.root) es c.in-Some.start) (sym c.deref-in-Some.ensures.value) ∙ ap (λ n. kept n c.deref-in-Some.result.now c.in-Some.start) (sym dims) ∙ sym c.copy_out.ensures.is)
