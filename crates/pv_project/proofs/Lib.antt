@@ -1,3 +1,4 @@
 pub mod Meets
 pub mod Same
 pub mod Kept
+pub mod Roots

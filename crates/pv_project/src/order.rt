@@ -75,7 +75,7 @@ pub(crate) fn meet_both_signs(x: Interval, lo: Num, hi: Num) -> Option<Interval>
     hull_of_both(meet_between(x, lo, hi), meet_between(x, hi.neg(), lo.neg()))
 }
 
-pub(crate) fn hull_of_both(a: Option<Interval>, b: Option<Interval>) -> Option<Interval>
+fn hull_of_both(a: Option<Interval>, b: Option<Interval>) -> Option<Interval>
     ensures { result ≡ hull_of_parts a b }
 {
     match a {
