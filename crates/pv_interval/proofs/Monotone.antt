@@ -64,7 +64,7 @@ zero_low s NegInf = refl
 zero_low s (Fin b) = rounded_from_zero s (b *ℤ pos 0) unit unit_some (let e = *ℤ-zero b in omega (arith, ints))
 zero_low s PosInf = refl
 
-zero_high : (s : End) (b : Extended) → IsTrue (le (mul_of s b nought) nought)
+pub zero_high : (s : End) (b : Extended) → IsTrue (le (mul_of s b nought) nought)
 zero_high s NegInf = refl
 zero_high s (Fin b) = rounded_to_zero s (b *ℤ pos 0) unit unit_some (let e = *ℤ-zero b in omega (arith, ints))
 zero_high s PosInf = refl

@@ -31,7 +31,7 @@ pub power_some : (f : Fraction) (n : ℕ) → 0 < f.under → 0 < (power f n).un
 power_some f zero h = omega arith
 power_some f (suc n) h = some_times (power f n).under f.under (power_some f n h) h
 
-power_from_zero : (f : Fraction) (n : ℕ) → pos 0 ≤ℤ f.top → pos 0 ≤ℤ (power f n).top
+pub power_from_zero : (f : Fraction) (n : ℕ) → pos 0 ≤ℤ f.top → pos 0 ≤ℤ (power f n).top
 power_from_zero f zero h = omega (arith, ints)
 power_from_zero f (suc n) h = times_pp (power f n).top f.top (power_from_zero f n h) h
 
@@ -85,7 +85,7 @@ one_times : (z : ℤ) → pos 1 *ℤ z ≡ z
 one_times (pos n) = omega (arith, ints)
 one_times (negsuc n) = omega (arith, ints)
 
-first_power : (f : Fraction) → f ≡ power f 1
+pub first_power : (f : Fraction) → f ≡ power f 1
 first_power f = let e : f.top ≡ pos 1 *ℤ f.top = sym (one_times f.top) in
     let u : f.under ≡ 1 * f.under = omega arith in
     ap (λ w. record { top = w; under = f.under }) e ∙ ap (λ w. record { top = pos 1 *ℤ f.top; under = w }) u

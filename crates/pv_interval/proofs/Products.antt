@@ -24,7 +24,7 @@ times_negsuc k (pos m) (negsuc n) h = absurd (omega (arith, ints))
 times_negsuc k (negsuc m) (pos n) h = grind (arith, ints)
 times_negsuc k (negsuc m) (negsuc n) h = let e : suc n ≤ suc m = omega (arith, ints) in let f = mul-le-mul_right (suc k) e in omega (arith, ints)
 
-times_pos_strict : (k : ℕ) (a x : ℤ) → 0 < k → a <ℤ x → (a *ℤ pos k) <ℤ (x *ℤ pos k)
+pub times_pos_strict : (k : ℕ) (a x : ℤ) → 0 < k → a <ℤ x → (a *ℤ pos k) <ℤ (x *ℤ pos k)
 times_pos_strict k (pos m) (pos n) p h = let e : suc m ≤ n = omega (arith, ints) in let f = mul-le-mul_right k e in omega (arith, ints)
 times_pos_strict k (pos m) (negsuc n) p h = absurd (omega (arith, ints))
 times_pos_strict k (negsuc m) (pos n) p h = grind (arith, ints)

@@ -2,3 +2,4 @@ pub mod Fractions
 pub mod Bounds
 pub mod Points
 pub mod Tables
+pub mod Inclusion

@@ -4,5 +4,7 @@
 #![tactic(auto)]
 
 mod interval;
+mod laws;
 
 pub use interval::Interval;
+pub use laws::inclusion;

@@ -2,3 +2,4 @@ pub mod Meets
 pub mod Same
 pub mod Kept
 pub mod Roots
+pub mod RootsKept
