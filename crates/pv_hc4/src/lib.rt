@@ -1,2 +1,19 @@
-//! Not begun.
+//! Constraints as graphs of shared nodes, and HC4-revise on them: a forward pass of intervals up
+//! the graph and a backward pass of projections down to the variables.
+//!
+//! Source: Benhamou, Goualard, Granvilliers, Puget, "Revising hull and box consistency" (1999).
 #![tactic(auto)]
+
+mod builder;
+mod forward;
+mod graph;
+mod narrow;
+mod node;
+mod relate;
+mod revise;
+mod revised;
+mod total;
+
+pub use graph::{Forward, Graph, Scratch};
+pub use node::{BinaryOp, Node, UnaryOp};
+pub use revised::Revised;

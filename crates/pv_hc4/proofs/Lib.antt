@@ -1,0 +1,10 @@
+pub mod Growth
+pub mod Passing
+pub mod Downward
+pub mod Building
+pub mod Places
+pub mod Answering
+pub mod Relating
+pub mod Revising
+pub mod Totals
+pub mod Constants

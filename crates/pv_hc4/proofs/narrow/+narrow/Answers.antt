@@ -1,0 +1,47 @@
+use Rattle.std.proofs.Common.{◌≡◌, ℕ, ◌<◌, length, Some, ◌∙◌, sym, ap, refl, subst, arith}
+use Rattle.pv_hc4.specs.Chain.{Gives, chain}
+use Rattle.pv_hc4.specs.Revise.{went}
+use Rattle.pv_hc4.specs.Nodes.{terms, term_at}
+use Rattle.pv_hc4.proofs.Downward.{term_read, one_read, two_read, second_gives, first_fails}
+use Rattle.pv_hc4.proofs.narrow.+narrow.Goals as goal
+
+pub returns-in-Constant-clause-narrowed : goal.returns-in-Constant-clause-narrowed
+returns-in-Constant-clause-narrowed t c =
+    ap (λ t. went c.args.entry.now c.args.bx.now t c.args.target) (term_read c.args.nodes.now _ c.args.at _ _ c.requires.ordered c.requires.inside c.in-Constant.is)
+
+pub returns-in-Place-clause-narrowed : goal.returns-in-Place-clause-narrowed
+returns-in-Place-clause-narrowed t c =
+    subst (λ t. Gives c.narrow_place.result c.narrow_place.new.bx (went c.args.entry.now c.args.bx.now t c.args.target)) (sym (term_read c.args.nodes.now _ c.args.at _ _ c.requires.ordered c.requires.inside c.in-Place.is)) c.narrow_place.ensures.narrowed
+
+pub returns-in-Some-clause-narrowed : goal.returns-in-Some-clause-narrowed
+returns-in-Some-clause-narrowed t c =
+    let e = one_read c.args.entry.now c.args.bx.now c.args.nodes.now c.args.values.now _ c.args.at c.in-One.op c.in-One.a _ c.args.target c.index-values-a.result c.back_unary.result c.requires.ordered c.requires.valued c.requires.inside c.in-One.is c.index-values-a.is c.back_unary.ensures in
+    subst (Gives c.narrow.result c.narrow.new.bx)
+    (sym (e ∙ ap (λ o. chain o (λ y. went c.args.entry.now c.args.bx.now (term_at (terms c.args.nodes.now) c.in-One.a) y)) c.in-Some.is))
+    c.narrow.ensures.narrowed
+
+pub returns-in-None-clause-narrowed : goal.returns-in-None-clause-narrowed
+returns-in-None-clause-narrowed t c =
+    let e = one_read c.args.entry.now c.args.bx.now c.args.nodes.now c.args.values.now _ c.args.at c.in-One.op c.in-One.a _ c.args.target c.index-values-a.result c.back_unary.result c.requires.ordered c.requires.valued c.requires.inside c.in-One.is c.index-values-a.is c.back_unary.ensures in
+    e ∙ ap (λ o. chain o (λ y. went c.args.entry.now c.args.bx.now (term_at (terms c.args.nodes.now) c.in-One.a) y)) c.in-None.is
+
+pub returns-in-None-back_binary-clause-narrowed : goal.returns-in-None-back_binary-clause-narrowed
+returns-in-None-back_binary-clause-narrowed t c =
+    let e = two_read c.args.entry.now c.args.bx.now c.args.nodes.now c.args.values.now _ c.args.at c.in-Two.op c.in-Two.a c.in-Two.b _ c.args.target c.index-values-a-in-Two.result c.index-values-b.result c.back_binary.result c.requires.ordered c.requires.valued c.requires.inside c.in-Two.is c.index-values-a-in-Two.is c.index-values-b.is c.back_binary.ensures in
+    e ∙ ap (λ o. chain o (λ p. chain (went c.args.entry.now c.args.bx.now (term_at (terms c.args.nodes.now) c.in-Two.a) p.0) (λ r. went c.args.entry.now r (term_at (terms c.args.nodes.now) c.in-Two.b) p.1))) c.in-None-back_binary.is
+
+pub returns-else-narrow-clause-narrowed : goal.returns-else-narrow-clause-narrowed
+returns-else-narrow-clause-narrowed t c =
+    let e = two_read c.args.entry.now c.args.bx.now c.args.nodes.now c.args.values.now _ c.args.at c.in-Two.op c.in-Two.a c.in-Two.b _ c.args.target c.index-values-a-in-Two.result c.index-values-b.result c.back_binary.result c.requires.ordered c.requires.valued c.requires.inside c.in-Two.is c.index-values-a-in-Two.is c.index-values-b.is c.back_binary.ensures in
+    let f = e ∙ ap (λ o. chain o (λ p. chain (went c.args.entry.now c.args.bx.now (term_at (terms c.args.nodes.now) c.in-Two.a) p.0) (λ r. went c.args.entry.now r (term_at (terms c.args.nodes.now) c.in-Two.b) p.1))) c.in-Some-back_binary.is in
+    subst (Gives c.narrow-in-Some-back_binary.result c.narrow-in-Some-back_binary.new.bx) (sym f)
+    (first_fails c.narrow-in-Some-back_binary.result c.narrow-in-Some-back_binary.new.bx _ (went c.args.entry.now c.args.bx.now (term_at (terms c.args.nodes.now) c.in-Two.a) c.in-Some-back_binary.both.0)
+    (λ r. went c.args.entry.now r (term_at (terms c.args.nodes.now) c.in-Two.b) c.in-Some-back_binary.both.1) c.if-narrow.false c.narrow-in-Some-back_binary.ensures.narrowed)
+
+pub returns-then-narrow-clause-narrowed : goal.returns-then-narrow-clause-narrowed
+returns-then-narrow-clause-narrowed t c =
+    let e = two_read c.args.entry.now c.args.bx.now c.args.nodes.now c.args.values.now _ c.args.at c.in-Two.op c.in-Two.a c.in-Two.b _ c.args.target c.index-values-a-in-Two.result c.index-values-b.result c.back_binary.result c.requires.ordered c.requires.valued c.requires.inside c.in-Two.is c.index-values-a-in-Two.is c.index-values-b.is c.back_binary.ensures in
+    let f = e ∙ ap (λ o. chain o (λ p. chain (went c.args.entry.now c.args.bx.now (term_at (terms c.args.nodes.now) c.in-Two.a) p.0) (λ r. went c.args.entry.now r (term_at (terms c.args.nodes.now) c.in-Two.b) p.1))) c.in-Some-back_binary.is in
+    subst (Gives c.narrow-then-narrow.result c.narrow-then-narrow.new.bx) (sym f)
+    (second_gives c.narrow-in-Some-back_binary.result c.narrow-then-narrow.result c.narrow-in-Some-back_binary.new.bx c.narrow-then-narrow.new.bx (went c.args.entry.now c.args.bx.now (term_at (terms c.args.nodes.now) c.in-Two.a) c.in-Some-back_binary.both.0)
+    (λ r. went c.args.entry.now r (term_at (terms c.args.nodes.now) c.in-Two.b) c.in-Some-back_binary.both.1) c.if-narrow.true c.narrow-in-Some-back_binary.ensures.narrowed c.narrow-then-narrow.ensures.narrowed)

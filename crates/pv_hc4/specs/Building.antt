@@ -1,0 +1,28 @@
+-- How a graph grows by the nodes of one more term.
+use Rattle.std.specs.Prelude.{ℕ, ◌≡◌, ◌⊎◌, ◌+◌, ◌<◌, ◌≤◌, List, [], ◌∷◌, ◌++◌, length}
+use Rattle.pv_expr.specs.Terms.{Term, constant, place, one, two}
+use Rattle.pv_hc4.specs.declared.node.Node.{Node}
+use Rattle.pv_hc4.specs.Nodes.{terms, term_at, node_at}
+
+-- s is t or a part of t
+abbrev pub IsPart : Term → Term → Type 0
+IsPart s (constant p q) = s ≡ constant p q
+IsPart s (place i) = s ≡ place i
+IsPart s (one u t) = (s ≡ one u t) ⊎ IsPart s t
+IsPart s (two o t u) = (s ≡ two o t u) ⊎ (IsPart s t ⊎ IsPart s u)
+
+-- new is old with some more nodes; one of its nodes stands for t, and each that is new for a part of t
+pub record Grows (old new : List Node) (number : ℕ) (t : Term) : Type 0 where
+  pub more : List Node
+  pub is : new ≡ old ++ more
+  pub within : number < length new
+  pub term : term_at (terms new) number ≡ t
+  pub parts : (k : ℕ) → length old ≤ k → k < length new → IsPart (term_at (terms new) k) t
+
+-- new has the node at this number, and no new node but that
+pub record Holds (old new : List Node) (number : ℕ) (n : Node) : Type 0 where
+  pub more : List Node
+  pub is : new ≡ old ++ more
+  pub within : number < length new
+  pub node : node_at new number ≡ n
+  pub only : (k : ℕ) → length old ≤ k → k < length new → k ≡ number

@@ -1,0 +1,32 @@
+-- The interval of an expression on a box, by the upward pass of HC4-revise.
+use Rattle.std.specs.Prelude.{ℕ, ℤ, Bool, true, false, not, ◌&&◌, List, Option, Some, None}
+use Rattle.pv_num.specs.Arithmetic.{ratio_of}
+use Rattle.pv_num.specs.declared.num.End.TheVariants.{Down, Up}
+use Rattle.pv_interval.specs.Bounds.{Bounds, between}
+use Rattle.pv_interval.specs.Tables as table
+use Rattle.pv_expr.specs.Terms.{Unary, negation, absolute, power, Binary, sum, difference, product, quotient, least, greatest, Term, constant, place, one, two}
+use Rattle.pv_hc4.specs.Chain.{chain, at}
+
+-- the least interval with format ends that holds p/q
+abbrev pub constant_of : ℤ → ℕ → Bounds
+constant_of p q = between (ratio_of Down p q) (ratio_of Up p q)
+
+abbrev pub unary_of : Unary → Bounds → Bounds
+unary_of negation x = table.negated x
+unary_of absolute x = table.absolute x
+unary_of (power n) x = table.power_of x n
+
+-- empty where the divisor is [0,0]
+abbrev pub binary_of : Binary → Bounds → Bounds → Option Bounds
+binary_of sum x y = Some (table.sum_of x y)
+binary_of difference x y = Some (table.difference_of x y)
+binary_of product x y = Some (table.product_of x y)
+binary_of quotient x y = table.quotient_of x y
+binary_of least x y = Some (table.least_of x y)
+binary_of greatest x y = Some (table.greatest_of x y)
+
+abbrev pub forward_of : List Bounds → Term → Option Bounds
+forward_of b (constant p q) = Some (constant_of p q)
+forward_of b (place i) = Some (at b i)
+forward_of b (one u t) = chain (forward_of b t) (λ x. Some (unary_of u x))
+forward_of b (two o t u) = chain (forward_of b t) (λ x. chain (forward_of b u) (λ y. binary_of o x y))
