@@ -16,6 +16,7 @@ use Rattle.pv_num.specs.declared.convert.Parts.{Parts}
 use Rattle.pv_num.specs.declared.convert.Parts.TheVariants.{NegInf as NegInfParts, Fin as FinParts, PosInf as PosInfParts}
 use Rattle.pv_num.specs.declared.magnitude.Magnitude.{Magnitude}
 use Rattle.pv_num.proofs.Align.{shifted_to, shifted_twice}
+use Rattle.pv_num.proofs.Rounds.{below_all}
 use Rattle.pv_num.proofs.Rounding.{greatest_upto-passes, greatest_upto-greatest}
 use Rattle.pv_num.proofs.Scales.{at_unit, unit_pos}
 
@@ -60,7 +61,7 @@ twos-divides : (n : ℕ) → n % 2 ^ twos n ≡ 0
 unfolding twos
 twos-divides n = eqb-true _ _ (greatest_upto-passes (λ k. n % 2 ^ k == 0) n (eq-eqb _ _ (ap (λ x. n % x) (pow-zero 2) ∙ mod-one n)))
 
-twos-greatest : (n q k : ℕ) → 0 < n → q * 2 ^ k ≡ n → k ≤ twos n
+pub twos-greatest : (n q k : ℕ) → 0 < n → q * 2 ^ k ≡ n → k ≤ twos n
 unfolding twos
 twos-greatest n q k p e =
     greatest_upto-greatest (λ k. n % 2 ^ k == 0) n k (exponent_small n q k p e)
@@ -222,3 +223,34 @@ parts_with s t n p e h = h ∙ ap (λ x. parts_of (Fin (with_sign x n))) (sym e)
 -- Two roundings that meet are the value.
 pub met : (v lo hi : ℕ) → lo * fine ≤ v → v ≤ hi * fine → hi ≤ lo → lo * fine ≡ v
 met v lo hi a b h = let k : hi * fine ≤ lo * fine = mul-le-mul_right fine h in omega (arith, a, b, k)
+
+-- ---- The parts of a size are small
+
+pub odd_below : (n : ℕ) → 0 < n → IsGridSize n → odd_of n < 2 ^ 62
+odd_below n p g =
+    let k : g.exponent ≤ twos n = twos-greatest n g.mantissa g.exponent p (sym g.value) in
+    let d : twos n - g.exponent + g.exponent ≡ twos n = omega (arith, k) in
+    let a : odd_of n * 2 ^ (twos n - g.exponent) * 2 ^ g.exponent ≡ g.mantissa * 2 ^ g.exponent = shifted_to (odd_of n) (twos n - g.exponent) g.exponent (twos n) d ∙ odd_of-value n ∙ g.value in
+    let b : odd_of n * 2 ^ (twos n - g.exponent) ≡ g.mantissa = eq_of_mul-eq-mul_right (2 ^ g.exponent) (pow_pos g.exponent) _ _ a in
+    let c : odd_of n ≤ odd_of n * 2 ^ (twos n - g.exponent) = le-mul_of_pos_right (odd_of n) (pow_pos (twos n - g.exponent)) in
+    let fits : g.mantissa < 2 ^ 62 = g.mantissa_fits in
+    omega (arith, b, c, fits)
+
+twos_under : (n t : ℕ) → t ≡ 962 → 0 < n → IsGridSize n → twos n < 62 + t
+twos_under n t q p g =
+    let odd : 0 < odd_of n = elim (cases_eq (odd_of n) 0) [
+      | inl z ↦ let w : odd_of n * 2 ^ twos n ≡ 0 = ap (λ x. x * 2 ^ twos n) z ∙ zero-mul (2 ^ twos n) in absurd (omega (arith, w, odd_of-value n, p))
+      | inr c ↦ omega (arith, c)
+    ] in
+    let low : 1 * 2 ^ twos n ≤ odd_of n * 2 ^ twos n = mul-le-mul_right (2 ^ twos n) (omega (arith, odd)) in
+    let high : n < 2 ^ (62 + t) = below_all n t q g in
+    elim (cases_lt (twos n) (62 + t)) [
+      | inl l ↦ l
+      | inr l ↦
+          let two : 0 < 2 = omega arith in
+          let up : 2 ^ (62 + t) ≤ 2 ^ twos n = pow-le-pow_right two l in
+          absurd (omega (arith, up, low, high, odd_of-value n))
+    ]
+
+pub twos_below : (n : ℕ) → 0 < n → IsGridSize n → twos n < 1024
+twos_below n p g = twos_under n 962 refl p g

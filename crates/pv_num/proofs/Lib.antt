@@ -14,3 +14,4 @@ pub mod Searches
 pub mod Signs
 pub mod Sizes
 pub mod Sums
+pub mod Texts

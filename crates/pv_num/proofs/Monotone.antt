@@ -57,7 +57,7 @@ rounded-monotone Up a c b p l = up_monotone a c b _ _ l (rounded-is Up a b p) (r
 cancel_pos : (m n b : ℕ) → 0 < b → m * b ≤ n * b → m ≤ n
 cancel_pos m n b p h = le_of_mul-le-mul_right h p
 
-cancel : (f n : ℤ) (b : ℕ) → 0 < b → (f *ℤ pos b) ≤ℤ (n *ℤ pos b) → f ≤ℤ n
+pub cancel : (f n : ℤ) (b : ℕ) → 0 < b → (f *ℤ pos b) ≤ℤ (n *ℤ pos b) → f ≤ℤ n
 cancel (pos m) (pos n) b p h = pos_le m n (cancel_pos m n b p (le_pos (m * b) (n * b) h))
 cancel (pos m) (negsuc n) b p h =
     let k : 0 < suc n * b = mul-pos (omega arith) p in

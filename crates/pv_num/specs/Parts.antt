@@ -1,4 +1,4 @@
-use Rattle.std.specs.Prelude.{suc, zero, ◌≡◌, ℕ, ◌+◌, ◌*◌, ◌/◌, ◌%◌, ◌^◌, ◌==◌, ◌⊎◌, ℤ, pos, negsuc, neg_ℤ, ◌+ℤ◌, ◌-ℤ◌, ◌*ℤ◌, ◌<ℤ◌, ◌≤◌, unsigned_abs, List, ◌∷◌, ◌++◌, codes, Option, Some, None}
+use Rattle.std.specs.Prelude.{suc, zero, ◌≡◌, ℕ, ◌+◌, ◌*◌, ◌/◌, ◌%◌, ◌^◌, ◌==◌, ◌⊎◌, ℤ, pos, negsuc, neg_ℤ, ◌+ℤ◌, ◌-ℤ◌, ◌*ℤ◌, ◌<ℤ◌, ◌≤◌, ◌<◌, unsigned_abs, List, ◌∷◌, ◌++◌, codes, length, slice_index, Option, Some, None}
 use Rattle.std.specs.Fmt.{signed_decimal}
 use Rattle.pv_num.specs.Extended.{Extended, NegInf, Fin, PosInf}
 use Rattle.pv_num.specs.Grid.{IsGrid}
@@ -72,3 +72,15 @@ number_text x = parts_text (parts_of x)
 abbrev pub IsFineExponent : ℤ → Option ℕ → Type 0
 IsFineExponent e None = (e <ℤ negsuc 1535) ⊎ (pos 2560 <ℤ e)
 IsFineExponent e (Some at) = (pos at ≡ e +ℤ pos 1536) × (at ≤ 4096)
+
+-- ---- Reading
+
+-- x is a number of the format or an infinite end.
+abbrev pub IsNumber : Extended → Type 0
+IsNumber NegInf = Unit {0}
+IsNumber (Fin z) = IsGrid z
+IsNumber PosInf = Unit {0}
+
+-- No byte is a colon.
+abbrev pub HasNoColon : List ℕ → Type 0
+HasNoColon bytes = (k : ℕ) → k < length bytes → slice_index bytes k ≡ 58 → ⊥

@@ -11,6 +11,8 @@ mod quotient;
 mod root;
 mod round;
 mod sum;
+#[cfg(test)]
+mod tests;
 mod text;
 
 pub use convert::Parts;

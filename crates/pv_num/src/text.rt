@@ -1,6 +1,8 @@
 //! The spelling of numbers: `m:e` in decimal with canonical parts, `-oo` and `+oo`.
-ghost use Rattle.std.specs.Prelude.{◌≡◌, ◌++◌, ◌^◌, ◌<◌, IfSome, OnOk, OnErr, take, vec_len, is_ok, if◌then◌else◌};
-ghost use Rattle.pv_num.specs.Parts.{number_text, parts_text};
+ghost use Rattle.std.specs.Prelude.{◌≡◌, ◌↔◌, ◌==◌, position, IsTrue, ◌+◌, ◌++◌, ◌∷◌, ℕ, List, length, drop, IfSome, ◌^◌, ◌<◌, ℤ, unsigned_abs, OnOk, OnErr, take, vec_len, is_ok, if◌then◌else◌};
+ghost use Rattle.pv_num.specs.Parts.{number_text, parts_text, IsNumber};
+ghost use Rattle.pv_num.specs.Extended.{Extended};
+ghost use Rattle.std.specs.Fmt.{signed_decimal};
 
 use crate::convert::Parts;
 use crate::memory::Memory;
@@ -23,20 +25,22 @@ impl Num {
     }
 
     /// The number of a spelling. None exactly where the bytes are not the spelling of a number.
-    pub fn read_text(bytes: &[u8]) -> Option<Num> {
-        if bytes == b"-oo".as_slice() {
+    pub fn read_text(bytes: &[u8]) -> Option<Num>
+        ensures sound { IfSome result (λ x. bytes.now ≡ number_text x) }
+        ensures complete { (x : Extended) → IsNumber x → bytes.now ≡ number_text x → result ≡ Some x }
+    {
+        if same_bytes(bytes, b"-oo") {
             return Some(Num::NEG_INF);
         }
-        if bytes == b"+oo".as_slice() {
+        if same_bytes(bytes, b"+oo") {
             return Some(Num::POS_INF);
         }
-        let colon = bytes.iter().position(|b| *b == b':')?;
-        let m = read_whole(&bytes[..colon])?;
-        let e = read_whole(&bytes[colon + 1..])?;
-        let number = Num::fin(m, i16::try_from(e).ok()?)?;
-        match number.parts() {
-            Parts::Fin { m: own_m, e: own_e } if own_m == m && own_e as i64 == e => Some(number),
-            _ => None,
+        let (m, e) = read_parts(bytes)?;
+        let number = Num::fin(m, e)?;
+        if are_parts(number.parts(), m, e) {
+            Some(number)
+        } else {
+            None
         }
     }
 }
@@ -59,36 +63,71 @@ fn append(parts: Parts, out: &mut Vec<u8>) -> Result<(), Memory>
     Ok(())
 }
 
-// A whole number with no plus sign and no leading zeros.
-fn read_whole(bytes: &[u8]) -> Option<i64> {
-    match bytes {
-        [b'-', digits @ ..] => {
-            let n = read_digits(digits)?;
-            if n == 0 { None } else { Some(-(n as i64)) }
-        }
-        _ => Some(read_digits(bytes)? as i64),
+fn are_parts(parts: Parts, m: i64, e: i16) -> bool
+    ensures { IsTrue result ↔ (parts ≡ Parts.Fin m e) }
+{
+    parts == Parts::Fin { m, e }
+}
+
+// Two whole numbers with a colon between.
+fn read_parts(bytes: &[u8]) -> Option<(i64, i16)>
+    ensures sound { IfSome result (λ p. bytes.now ≡ signed_decimal p.0 ++ 58 ∷ signed_decimal p.1) }
+    ensures complete { (m e : ℤ) → unsigned_abs m < 2 ^ 63 → unsigned_abs e < 2 ^ 15 → bytes.now ≡ signed_decimal m ++ 58 ∷ signed_decimal e → result ≡ Some (m, e) }
+{
+    let colon = colon_of(bytes)?;
+    let m = read_whole(&bytes[..colon])?;
+    let e = read_whole(&bytes[colon + 1..])?;
+    let e = small(e)?;
+    Some((m, e))
+}
+
+fn small(e: i64) -> Option<i16>
+    ensures sound { IfSome result (λ s. s ≡ e) }
+    ensures complete { unsigned_abs e < 2 ^ 15 → result ≡ Some e }
+{
+    if e < -32_767 {
+        return None;
+    }
+    if e > 32_767 {
+        return None;
+    }
+    Some(e as i16)
+}
+
+// Where the first colon is.
+fn colon_of(bytes: &[u8]) -> Option<usize>
+    ensures found { IfSome result (λ i. i < length bytes.now) }
+    ensures split { IfSome result (λ i. bytes.now ≡ take i bytes.now ++ 58 ∷ drop (i + 1) bytes.now) }
+    ensures first { result ≡ position (λ b. b == 58) bytes.now }
+{
+    bytes.iter().position(|b| *b == b':')
+}
+
+// A whole number in the one spelling that is written.
+fn read_whole(bytes: &[u8]) -> Option<i64>
+    ensures sound { IfSome result (λ z. bytes.now ≡ signed_decimal z) }
+    ensures complete { (z : ℤ) → unsigned_abs z < 2 ^ 63 → bytes.now ≡ signed_decimal z → result ≡ Some z }
+{
+    let number = parsed(bytes)?;
+    let mut digits = Buffer::new();
+    if same_bytes(digits.format(number).as_bytes(), bytes) {
+        Some(number)
+    } else {
+        None
     }
 }
 
-// A whole number below 2^62 in decimal digits, the first of which is 0 only where it is the only one.
-fn read_digits(bytes: &[u8]) -> Option<u64>
-    ensures { IfSome result (λ n. n < 2 ^ 62) }
+fn same_bytes(a: &[u8], b: &[u8]) -> bool
+    ensures { IsTrue result ↔ (a.now ≡ b.now) }
 {
-    if bytes.is_empty() || bytes.len() > 19 {
-        return None;
+    a == b
+}
+
+fn parsed(bytes: &[u8]) -> Option<i64>
+    ensures { (z : ℤ) → unsigned_abs z < 2 ^ 63 → bytes.now ≡ signed_decimal z → result ≡ Some z }
+{
+    match std::str::from_utf8(bytes) {
+        Ok(text) => text.parse::<i64>().ok(),
+        Err(_) => None,
     }
-    if bytes.len() > 1 && bytes[0] == b'0' {
-        return None;
-    }
-    let mut n: u128 = 0;
-    for b in bytes {
-        if !b.is_ascii_digit() {
-            return None;
-        }
-        n = n * 10 + (*b - b'0') as u128;
-        if n >= 0x4000_0000_0000_0000 {
-            return None;
-        }
-    }
-    Some(n as u64)
 }

@@ -1,0 +1,89 @@
+//! Worked cases, whose values come from exact integers and fractions.
+use crate::{End, Num, Parts};
+use std::test::Fail;
+
+mod vectors;
+
+#[derive(Clone, Copy)]
+pub(crate) enum Operation {
+    Add,
+    Mul,
+    Div,
+}
+
+fn outcome(operation: Operation, a: Num, b: Num, side: End) -> Num {
+    match operation {
+        Operation::Add => a.add(b, side),
+        Operation::Mul => a.mul(b, side),
+        Operation::Div => {
+            if b == Num::ZERO {
+                return b;
+            }
+            a.div(b, side)
+        }
+    }
+}
+
+fn number(text: &str) -> Option<Num> {
+    Num::read_text(text.as_bytes())
+}
+
+#[test]
+fn arithmetic(rt: HostRuntime) -> Result<(), Fail> {
+    for (operation, a, b, side, want) in vectors::CASES.iter() {
+        let a = number(a).ok_or("no number")?;
+        let b = number(b).ok_or("no number")?;
+        let mut text = Vec::new(rt.alloc());
+        outcome(*operation, a, b, *side).write_text(&mut text)?;
+        assert_eq!(rt; text.as_slice(), want.as_bytes());
+    }
+    Ok(())
+}
+
+#[test]
+fn conversions(rt: HostRuntime) {
+    for text in [
+        "2:0",
+        "+1:0",
+        "01:0",
+        "0:1",
+        "",
+        "1:0 ",
+        "-0:0",
+        "1",
+        "1:512",
+        "4611686018427387905:450",
+    ] {
+        assert!(rt; number(text).is_none(), "at {text}");
+    }
+    assert_eq!(rt; Num::fin(1, 511), number("1:511"));
+    assert_eq!(rt; Num::fin(1, 512), None);
+    assert_eq!(rt; Num::fin(1, -513), None);
+    assert_eq!(rt; Num::fin(2, -513), number("1:-512"));
+    assert_eq!(rt;
+        Num::from_ratio(1, 10, End::Down),
+        number("3689348814741910323:-65").unwrap_or(Num::ZERO)
+    );
+    assert_eq!(rt;
+        Num::from_ratio(1, 10, End::Up),
+        number("922337203685477581:-63").unwrap_or(Num::ZERO)
+    );
+    assert_eq!(rt; Num::ONE.neg().parts(), Parts::Fin { m: -1, e: 0 });
+}
+
+#[test]
+fn roots_and_middles(rt: HostRuntime) -> Result<(), Fail> {
+    let two = Num::fin(2, 0).ok_or("no number")?;
+    let root = two.root(2, End::Down);
+    let next = root.add(Num::fin(1, -61).ok_or("no number")?, End::Up);
+    assert!(rt; Num::ZERO <= root && Num::ZERO <= next);
+    assert!(rt; root.pow(2, End::Up) <= two);
+    assert!(rt; two < next.pow(2, End::Up));
+    let nine = Num::fin(9, 0).ok_or("no number")?;
+    assert_eq!(rt; nine.root(2, End::Up), Num::fin(3, 0).ok_or("no number")?);
+    assert_eq!(rt; nine.floor(9), 9);
+    let least = Num::fin(1, -512).ok_or("no number")?;
+    assert_eq!(rt; Num::middle(Num::ZERO, Num::ONE), Num::fin(1, -1));
+    assert_eq!(rt; Num::middle(Num::ZERO, least), None);
+    Ok(())
+}

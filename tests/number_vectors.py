@@ -1,0 +1,156 @@
+"""Arithmetic cases of pv_num, worked out with exact integers and fractions.
+
+Run `python3 tests/number_vectors.py` at the top of the repository: it writes crates/pv_num/src/tests/vectors.rt.
+A number is a whole number N of units of 2^-512 that is m * 2^k with m < 2^62 and k <= 962, or an infinite end.
+"""
+import random
+from fractions import Fraction
+from pathlib import Path
+
+UNIT = 1 << 512
+TOP = ((1 << 62) - 1) << 962
+LOW, HIGH = "-oo", "+oo"
+
+
+def floor_grid(q: Fraction) -> int:
+    """The greatest format number that is at most q, for q from 0 on."""
+    n = q.numerator // q.denominator
+    if n >= TOP:
+        return TOP
+    cut = max(n.bit_length() - 62, 0)
+    return (n >> cut) << cut
+
+
+def ceil_grid(q: Fraction):
+    """The least format number that is at least q, for q from 0 on, or +oo."""
+    low = floor_grid(q)
+    if low == q:
+        return low
+    cut = max(low.bit_length() - 62, 0)
+    step = low + (1 << cut)
+    return HIGH if step > TOP else step
+
+
+def rounded(q: Fraction, side: str):
+    if q >= 0:
+        return floor_grid(q) if side == "Down" else ceil_grid(q)
+    other = ceil_grid(-q) if side == "Down" else floor_grid(-q)
+    return LOW if other == HIGH else -other
+
+
+def sign(x) -> int:
+    if x == LOW:
+        return -1
+    if x == HIGH:
+        return 1
+    return (x > 0) - (x < 0)
+
+
+def infinite(s: int):
+    return 0 if s == 0 else (HIGH if s > 0 else LOW)
+
+
+def is_end(x) -> bool:
+    return x in (LOW, HIGH)
+
+
+def add(a, b, side):
+    if is_end(a) or is_end(b):
+        ends = {x for x in (a, b) if is_end(x)}
+        if len(ends) == 2:
+            return LOW if side == "Down" else HIGH
+        return ends.pop()
+    return rounded(Fraction(a + b), side)
+
+
+def negated(a):
+    return {LOW: HIGH, HIGH: LOW}.get(a) or (0 if a == 0 else -a)
+
+
+def mul(a, b, side):
+    if is_end(a) or is_end(b):
+        return infinite(sign(a) * sign(b))
+    return rounded(Fraction(a * b, UNIT), side)
+
+
+def div(a, b, side):
+    if is_end(b):
+        return 0
+    if is_end(a):
+        return infinite(sign(a) * sign(b))
+    return rounded(Fraction(a * UNIT, b), side)
+
+
+def text(x) -> str:
+    if is_end(x):
+        return x
+    if x == 0:
+        return "0:0"
+    e = (x & -x).bit_length() - 1
+    return f"{x >> e}:{e - 512}"
+
+
+def number(m: int, e: int) -> int:
+    k = e + 512
+    return m << k if k >= 0 else m >> -k
+
+
+FIXED = [0, 1, -1, UNIT, -UNIT, 3 * UNIT, -7 * UNIT, TOP, -TOP, LOW, HIGH, number(1, -1), number(1, 62),
+         number((1 << 62) - 1, 0), number(-((1 << 62) - 1), 0), number((1 << 61) + 1, -512), number(10, 0)]
+
+
+def some(rng) -> int:
+    m = rng.getrandbits(rng.choice([1, 5, 20, 40, 61, 62]))
+    e = rng.choice([-512, -511, -450, -200, -62, -61, -10, 0, 0, 5, 61, 200, 400, 449, 450])
+    return number(rng.choice([1, -1]) * m, e)
+
+
+def near(rng, a):
+    """A number close to a in size, so that sums cancel or meet a tie."""
+    if is_end(a) or a == 0:
+        return some(rng)
+    k = max(abs(a).bit_length() - 62, 0)
+    m = (abs(a) >> k) + rng.choice([-1, 0, 1, 2])
+    m = min(max(m, 1), (1 << 62) - 1)
+    k = min(max(k + rng.choice([-66, -65, -64, -63, -2, -1, 0, 1]), 0), 962)
+    return rng.choice([1, -1]) * (m << k)
+
+
+def pairs(rng):
+    for i, a in enumerate(FIXED):
+        for b in (FIXED[i], FIXED[(5 * i + 3) % len(FIXED)], TOP, LOW, HIGH):
+            yield a, b
+    for _ in range(60):
+        a = some(rng)
+        yield a, rng.choice([some(rng), near(rng, a)])
+
+
+def cases():
+    rng = random.Random(20091)
+    for i, (a, b) in enumerate(pairs(rng)):
+        side = "Down" if i % 2 == 0 else "Up"
+        for name, op in (("Add", add), ("Mul", mul), ("Div", div)):
+            if name == "Div" and b == 0:
+                continue
+            yield name, text(a), text(b), side, text(op(a, b, side))
+
+
+def main():
+    lines = [
+        "//! Cases of exact arithmetic. Written by tests/number_vectors.py: change them there.",
+        "use crate::End::{self, Down, Up};",
+        "use crate::tests::Operation::{self, Add, Div, Mul};",
+        "",
+    ]
+    rows = list(cases())
+    lines.append(f"pub(super) static CASES: [(Operation, &str, &str, End, &str); {len(rows)}] = [")
+    for name, a, b, side, want in rows:
+        lines.append(f"    ({name}, \"{a}\", \"{b}\", {side}, \"{want}\"),")
+    lines.append("];")
+    target = Path(__file__).resolve().parents[1] / "crates/pv_num/src/tests/vectors.rt"
+    target.write_text("\n".join(lines) + "\n")
+    print(len(rows), "cases")
+
+
+if __name__ == "__main__":
+    main()
