@@ -205,6 +205,9 @@ pub record Separator (t : List ℕ) (i : ℕ) : Type 0 where
   pub onward : i < ends
   pub within : ends ≤ length t
 
+feed_or_end : (t : List ℕ) (at : ℕ) → (at ≡ length t) ⊎ (¬ (¬ (get_or t at 0 ≡ 10))) → (at ≡ length t) ⊎ (get_or t at 0 ≡ 10)
+feed_or_end t at ends = ⊎_elim (λ h. inl h) (λ no_other. ⊎_elim (λ feed. inr feed) (λ other. absurd (no_other other)) (cases_eq (get_or t at 0) 10)) ends
+
 line_from : (t : List ℕ) (i : ℕ) → get_or t i 0 ≡ 47 → get_or t (i + 1) 0 ≡ 47 → Separator t i
 line_from t i first second =
     let some : i + 1 < length t = inside t (i + 1) (omega arith) in
@@ -217,7 +220,7 @@ line_from t i first second =
         after = stop.ordered;
         within = stop.within;
         one_line = stop.each;
-        ends = ⊎_elim (λ h. inl h) (λ no_other. ⊎_elim (λ feed. inr feed) (λ other. absurd (no_other other)) (cases_eq (get_or t stop.at 0) 10)) stop.ends;
+        ends = feed_or_end t stop.at stop.ends;
       });
       onward = omega (arith, stop.ordered);
       within = stop.within;

@@ -4,6 +4,7 @@ pub mod Gaps
 pub mod Numerals
 pub mod Powers
 pub mod Slices
+pub mod TokenNumbers
 pub mod Unique
 pub mod Words
 pub mod Pairs
