@@ -98,16 +98,6 @@ impl IBox {
         Ok((low, high))
     }
 
-    /// Whether the width of every place is at most `eps`.
-    pub fn is_small(&self, eps: Num) -> bool {
-        for i in 0..self.dims() {
-            if self.get(i).width() > eps {
-                return false;
-            }
-        }
-        true
-    }
-
     /// Becomes the hull of both, place by place.
     pub fn hull(&mut self, other: &IBox)
         requires { length self.old ≡ length other.now }

@@ -1,8 +1,9 @@
-ghost use Rattle.std.specs.Prelude.{◌≡◌, ◌≢◌, ◌<◌, ◌≤◌, IsTrue, IfSome, length, drop, slice_index_or};
+ghost use Rattle.std.specs.Prelude.{◌⊎◌, ◌%◌, ◌≡◌, ◌≢◌, ◌<◌, ◌≤◌, IsTrue, IfSome, Some, length, drop, slice_index_or};
 ghost use Rattle.pv_num.specs.Extended.{NegInf, PosInf};
 ghost use Rattle.pv_num.specs.Order.{le, lt};
 ghost use Rattle.pv_interval.specs.Bounds.{Bounds, IsInterval};
 ghost use Rattle.pv_box.specs.Boxes.{IsInside};
+ghost use Rattle.pv_box.specs.Choice.{choose_of, wider as wider_of, cut_of as cut_at, cut_below, cut_above, strictly_between, widest_from as widest_of, first_from as first_of, is_small_of, choice_of, round_from};
 
 use crate::IBox;
 use pv_interval::Interval;
@@ -17,9 +18,19 @@ pub enum Bisector {
     Round,
 }
 
+// A place that can be bisected, with its cut and its width.
+#[derive(Clone, Copy)]
+struct Candidate {
+    var: u8,
+    at: Num,
+    width: Num,
+}
+
 impl IBox {
     /// The place at which the box is cut and where; None where no place can be cut.
+    #[tactic(auto, unfolding(crate::specs::Choice::choose_of))]
     pub fn choose(&self, by: Bisector, path_len: u32) -> Option<(u8, Num)>
+        ensures choice { result ≡ choose_of by path_len self.now }
         ensures place { IfSome result (λ c. c.0 < length self.now) }
         ensures inside { IfSome result (λ c. IsInside c.1 (slice_index_or self.now c.0 (record { lo = c.1; hi = c.1 }))) }
     {
@@ -29,7 +40,21 @@ impl IBox {
         }
     }
 
+    // The first place of greatest width among those that can be cut.
+    fn widest(&self) -> Option<(u8, Num)>
+        ensures widest { result ≡ choice_of (widest_of 0 self.now) }
+        ensures place { IfSome result (λ c. c.0 < length self.now) }
+        ensures inside { IfSome result (λ c. IsInside c.1 (slice_index_or self.now c.0 (record { lo = c.1; hi = c.1 }))) }
+    {
+        match self.widest_from(0) {
+            Some(Candidate { var, at, width: _ }) => Some((var, at)),
+            None => None,
+        }
+    }
+
+    // The first place at or behind the turn of the path's length, going round.
     fn in_turn(&self, path_len: u32) -> Option<(u8, Num)>
+        ensures turn { result ≡ round_from (path_len % length self.now) self.now }
         ensures place { IfSome result (λ c. c.0 < length self.now) }
         ensures inside { IfSome result (λ c. IsInside c.1 (slice_index_or self.now c.0 (record { lo = c.1; hi = c.1 }))) }
     {
@@ -40,43 +65,80 @@ impl IBox {
         }
     }
 
-    // The first place from `start` on that can be cut.
-    fn first_from(&self, start: u8) -> Option<(u8, Num)>
-        ensures place { IfSome result (λ c. c.0 < length self.now) }
-        ensures inside { IfSome result (λ c. IsInside c.1 (slice_index_or self.now c.0 (record { lo = c.1; hi = c.1 }))) }
+    /// Whether the width of every place is at most `eps`.
+    pub fn is_small(&self, eps: Num) -> bool
+        ensures { result ≡ is_small_of eps self.now }
     {
-        for i in start..self.dims() {
-            if let Some(at) = cut_of(self.get(i)) {
-                return Some((i, at));
-            }
-        }
-        None
+        self.is_small_from(eps, 0)
     }
 
-    // The first place of greatest width among those that can be cut.
-    fn widest(&self) -> Option<(u8, Num)>
+    // Whether the places from number `i` on are small.
+    fn is_small_from(&self, eps: Num, i: u8) -> bool
+        requires { i ≤ length self.now }
+        ensures { result ≡ is_small_of eps (drop i self.now) }
+    {
+        if i >= self.dims() {
+            return true;
+        }
+        self.get(i).width() <= eps && self.is_small_from(eps, i + 1)
+    }
+
+    // The first place from number `i` on that can be cut.
+    fn first_from(&self, i: u8) -> Option<(u8, Num)>
+        requires { i ≤ length self.now }
+        ensures first { result ≡ first_of i (drop i self.now) }
         ensures place { IfSome result (λ c. c.0 < length self.now) }
         ensures inside { IfSome result (λ c. IsInside c.1 (slice_index_or self.now c.0 (record { lo = c.1; hi = c.1 }))) }
     {
-        let mut best: Option<(u8, Num)> = None;
-        let mut width = Num::NEG_INF;
-        for i in 0..self.dims() {
-            let part = self.get(i);
-            if let Some(at) = cut_of(part) {
-                if width < part.width() {
-                    width = part.width();
-                    best = Some((i, at));
-                }
+        if i >= self.dims() {
+            return None;
+        }
+        match cut_of(self.get(i)) {
+            Some(at) => Some((i, at)),
+            None => self.first_from(i + 1),
+        }
+    }
+
+    // Of the places from number `i` on one of greatest width that can be cut, the first among equals.
+    fn widest_from(&self, i: u8) -> Option<Candidate>
+        requires { i ≤ length self.now }
+        ensures widest { result ≡ widest_of i (drop i self.now) }
+        ensures place { IfSome result (λ c. c.var < length self.now) }
+        ensures inside { IfSome result (λ c. IsInside c.at (slice_index_or self.now c.var (record { lo = c.at; hi = c.at }))) }
+    {
+        if i >= self.dims() {
+            return None;
+        }
+        let later = self.widest_from(i + 1);
+        let part = self.get(i);
+        match cut_of(part) {
+            Some(at) => Some(wider(i, at, part.width(), later)),
+            None => later,
+        }
+    }
+}
+
+// This candidate, if it is at least as wide as the best of the later ones.
+fn wider(var: u8, at: Num, width: Num, later: Option<Candidate>) -> Candidate
+    ensures one { (result ≡ record { var = var; at = at; width = width }) ⊎ (later ≡ Some result) }
+    ensures best { wider_of (Some at) var width later ≡ Some result }
+{
+    match later {
+        Some(best) => {
+            if best.width <= width {
+                Candidate { var, at, width }
+            } else {
+                best
             }
         }
-        best
+        None => Candidate { var, at, width },
     }
 }
 
 // Where an interval is cut; None where it can't be.
-
 fn cut_of(part: Interval) -> Option<Num>
-    ensures { IfSome result (λ at. IsInside at part) }
+    ensures cut { result ≡ cut_at part }
+    ensures inside { IfSome result (λ at. IsInside at part) }
 {
     let (lo, hi) = (part.lo(), part.hi());
     if lo == Num::NEG_INF {
@@ -93,10 +155,12 @@ fn cut_of(part: Interval) -> Option<Num>
 }
 
 // The cut of what reaches from -oo up to `hi`.
+#[tactic(auto, unfolding(crate::specs::Choice::cut_below))]
 fn below(hi: Num) -> Option<Num>
-    ensures { IfSome result (λ at. IsInside at (record { lo = NegInf; hi = hi })) }
+    ensures cut { result ≡ cut_below hi }
+    ensures inside { IfSome result (λ at. IsInside at (record { lo = NegInf; hi = hi })) }
 {
-    if hi > Num::ZERO {
+    if Num::ZERO < hi {
         return Some(Num::ZERO);
     }
     let out = hi.add(hi, End::Down).sub(Num::ONE, End::Down);
@@ -104,8 +168,10 @@ fn below(hi: Num) -> Option<Num>
 }
 
 // The cut of what reaches from `lo` up to +oo.
+#[tactic(auto, unfolding(crate::specs::Choice::cut_above))]
 fn above(lo: Num) -> Option<Num>
-    ensures { IfSome result (λ at. IsInside at (record { lo = lo; hi = PosInf })) }
+    ensures cut { result ≡ cut_above lo }
+    ensures inside { IfSome result (λ at. IsInside at (record { lo = lo; hi = PosInf })) }
 {
     if lo < Num::ZERO {
         return Some(Num::ZERO);
@@ -115,7 +181,8 @@ fn above(lo: Num) -> Option<Num>
 }
 
 fn strictly(lo: Num, at: Num, hi: Num) -> Option<Num>
-    ensures { IfSome result (λ a. IsInside a (record { lo = lo; hi = hi })) }
+    ensures cut { result ≡ strictly_between lo at hi }
+    ensures inside { IfSome result (λ a. IsInside a (record { lo = lo; hi = hi })) }
 {
     if lo < at && at < hi { Some(at) } else { None }
 }

@@ -1,0 +1,88 @@
+-- Where a box is cut, and when it is small.
+use Rattle.std.specs.Prelude.{ℕ, ◌+◌, ◌%◌, Bool, true, ◌&&◌, pos, Option, Some, None, List, [], ◌∷◌, length, drop, if◌then◌else◌}
+use Rattle.pv_num.specs.Extended.{Extended, NegInf, Fin, PosInf}
+use Rattle.pv_num.specs.Grid.{unit}
+use Rattle.pv_num.specs.Order.{le, lt}
+use Rattle.pv_num.specs.Arithmetic.{add_of, sub_of, middle_of}
+use Rattle.pv_num.specs.declared.num.End.TheVariants.{Down, Up}
+use Rattle.pv_interval.specs.Bounds.{Bounds}
+use Rattle.pv_interval.specs.Tables.{nought, width_of}
+use Rattle.pv_box.specs.declared.choice.Candidate.{Candidate}
+use Rattle.pv_box.specs.declared.choice.Bisector.{Bisector}
+use Rattle.pv_box.specs.declared.choice.Bisector.TheVariants.{Largest, Round}
+
+abbrev pub one : Extended
+one = Fin (pos unit)
+
+-- c, where it lies strictly between two ends
+abbrev pub strictly_between : Extended → Extended → Extended → Option Extended
+strictly_between lo c hi = if lt lo c && lt c hi then Some c else None
+
+-- the cut of [-oo,h]: 0 or 2h - 1
+unfoldable pub cut_below : Extended → Option Extended
+cut_below h =
+    if lt nought h then Some nought
+    else strictly_between NegInf (sub_of Down (add_of Down h h) one) h
+
+-- the cut of [l,+oo]: 0 or 2l + 1
+unfoldable pub cut_above : Extended → Option Extended
+cut_above l =
+    if lt l nought then Some nought
+    else strictly_between l (add_of Up (add_of Up l l) one) PosInf
+
+-- the cut between two ends; None where there is none
+abbrev pub cut_between : Extended → Extended → Option Extended
+cut_between NegInf NegInf = cut_below NegInf
+cut_between NegInf (Fin h) = cut_below (Fin h)
+cut_between NegInf PosInf = Some nought
+cut_between (Fin l) NegInf = None
+cut_between (Fin l) (Fin h) = middle_of (Fin l) (Fin h)
+cut_between (Fin l) PosInf = cut_above (Fin l)
+cut_between PosInf NegInf = None
+cut_between PosInf (Fin h) = None
+cut_between PosInf PosInf = cut_above PosInf
+
+-- a variable with a cut can be bisected
+unfoldable pub cut_of : Bounds → Option Extended
+cut_of x = cut_between x.lo x.hi
+
+-- the first one, if it is at least as wide as the best of the later ones
+abbrev pub wider : Option Extended → ℕ → Extended → Option Candidate → Option Candidate
+wider None i w best = best
+wider (Some c) i w None = Some (record { var = i; at = c; width = w })
+wider (Some c) i w (Some best) = if le best.width w then Some (record { var = i; at = c; width = w }) else Some best
+
+-- of the places from number i on, one of greatest width that can be bisected, the first among equals
+abbrev pub widest_from : ℕ → List Bounds → Option Candidate
+widest_from i [] = None
+widest_from i (x ∷ xs) = wider (cut_of x) i (width_of x) (widest_from (i + 1) xs)
+
+abbrev pub choice_of : Option Candidate → Option (ℕ × Extended)
+choice_of None = None
+choice_of (Some c) = Some (c.var, c.at)
+
+abbrev pub at_or_later : Option Extended → ℕ → Option (ℕ × Extended) → Option (ℕ × Extended)
+at_or_later None i later = later
+at_or_later (Some c) i later = Some (i, c)
+
+-- the first place from number i on that can be bisected
+abbrev pub first_from : ℕ → List Bounds → Option (ℕ × Extended)
+first_from i [] = None
+first_from i (x ∷ xs) = at_or_later (cut_of x) i (first_from (i + 1) xs)
+
+abbrev pub or_else : Option (ℕ × Extended) → Option (ℕ × Extended) → Option (ℕ × Extended)
+or_else None other = other
+or_else (Some c) other = Some c
+
+-- the first place at or behind number t that can be bisected, and else the first of all
+abbrev pub round_from : ℕ → List Bounds → Option (ℕ × Extended)
+round_from t b = or_else (first_from t (drop t b)) (first_from 0 b)
+
+unfoldable pub choose_of : Bisector → ℕ → List Bounds → Option (ℕ × Extended)
+choose_of Largest path_len b = choice_of (widest_from 0 b)
+choose_of Round path_len b = round_from (path_len % length b) b
+
+-- the width of each place is at most eps
+abbrev pub is_small_of : Extended → List Bounds → Bool
+is_small_of eps [] = true
+is_small_of eps (x ∷ xs) = le (width_of x) eps && is_small_of eps xs
