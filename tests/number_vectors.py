@@ -81,13 +81,14 @@ def div(a, b, side):
     return rounded(Fraction(a * UNIT, b), side)
 
 
-def text(x) -> str:
+def parts(x):
+    """The canonical mantissa and exponent; the exponent 999 stands for an infinite end."""
     if is_end(x):
-        return x
+        return (sign(x), 999)
     if x == 0:
-        return "0:0"
+        return (0, 0)
     e = (x & -x).bit_length() - 1
-    return f"{x >> e}:{e - 512}"
+    return (x >> e, e - 512)
 
 
 def number(m: int, e: int) -> int:
@@ -132,7 +133,7 @@ def cases():
         for name, op in (("Add", add), ("Mul", mul), ("Div", div)):
             if name == "Div" and b == 0:
                 continue
-            yield name, text(a), text(b), side, text(op(a, b, side))
+            yield name, parts(a), parts(b), side, parts(op(a, b, side))
 
 
 def main():
@@ -140,12 +141,13 @@ def main():
         "//! Cases of exact arithmetic. Written by tests/number_vectors.py: change them there.",
         "use crate::End::{self, Down, Up};",
         "use crate::tests::Operation::{self, Add, Div, Mul};",
+        "use crate::tests::Spelled;",
         "",
     ]
     rows = list(cases())
-    lines.append(f"pub(super) static CASES: [(Operation, &str, &str, End, &str); {len(rows)}] = [")
+    lines.append(f"pub(super) static CASES: [(Operation, Spelled, Spelled, End, Spelled); {len(rows)}] = [")
     for name, a, b, side, want in rows:
-        lines.append(f"    ({name}, \"{a}\", \"{b}\", {side}, \"{want}\"),")
+        lines.append(f"    ({name}, {a}, {b}, {side}, {want}),")
     lines.append("];")
     target = Path(__file__).resolve().parents[1] / "crates/pv_num/src/tests/vectors.rt"
     target.write_text("\n".join(lines) + "\n")

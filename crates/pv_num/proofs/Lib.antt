@@ -7,6 +7,7 @@ pub mod Operations
 pub mod Orders
 pub mod Powers
 pub mod Quotients
+pub mod Ratios
 pub mod Rounding
 pub mod Rounds
 pub mod Scales
