@@ -1,8 +1,8 @@
-use Rattle.std.proofs.Common.{rules, IsTrue, nat_eq, Fits, w64, ◌≡◌, ℕ, zero, suc, ◌+◌, ◌-◌, ◌*◌, ◌/◌, ◌%◌, ◌^◌, ◌<◌, ◌≤◌, ◌↔◌, arith, refl, inl, inr, ap, sym, subst, ◌∙◌}
+use Rattle.std.proofs.Common.{rules, IsTrue, nat_eq, Fits, w64, ◌≡◌, ℕ, suc, ◌+◌, ◌-◌, ◌*◌, ◌/◌, ◌%◌, ◌^◌, ◌<◌, ◌≤◌, ◌↔◌, arith, inl, inr, ap, sym, subst, ◌∙◌}
 use Rattle.std.proofs.lemmas.Bool.{cases_lt, eqb-true, eq-eqb}
-use Rattle.std.proofs.lemmas.Nat.{pow_pos, pow-add, shl_below, shr_below, shr_split, mod_below, leading_top}
+use Rattle.std.proofs.lemmas.Nat.{pow_pos, pow-add, shl_below, shr_below, leading_top}
 use lib.Count.{count_leading_zeros}
-use Rattle.std.proofs.Math.Nat.{two-pow-succ, mul-le-mul_right, mul-lt-mul_of_pos_right, lt_of_mul-lt-mul_right, le_of_mul-le-mul_right, mul_assoc, mul_right_comm, add-mul, one-mul, mul-one, lt_of_lt_of_le, le_trans, pow-le-pow_right, mod-eq_of_lt, div-mul-le_self, lt-div-mul-add, eq_of_mul-eq-mul_right, le-mul_of_pos_right, mul_comm}
+use Rattle.std.proofs.Math.Nat.{two-pow-succ, mul-le-mul_right, mul-lt-mul_of_pos_right, lt_of_mul-lt-mul_right, mul_assoc, add-mul, one-mul, lt_of_lt_of_le, pow-le-pow_right, mod-eq_of_lt, div-mul-le_self, lt-div-mul-add, eq_of_mul-eq-mul_right}
 
 -- a * 2 ^ d * 2 ^ c is a * 2 ^ (d + c)
 pub shifted_twice : (a d c : ℕ) → a * 2 ^ d * 2 ^ c ≡ a * 2 ^ (d + c)

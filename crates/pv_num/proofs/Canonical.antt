@@ -1,24 +1,22 @@
-use Rattle.std.proofs.Common.{◌≡◌, ◌≢◌, ℕ, zero, suc, ◌+◌, ◌-◌, ◌*◌, ◌/◌, ◌%◌, ◌^◌, ◌<◌, ◌≤◌, ◌⊎◌, ◌==◌, inl, inr, Bool, true, false, IsTrue, Option, Some, None, arith, refl, ap, sym, subst, ◌∙◌, zero-mul, add-one, ℤ, pos, negsuc, neg_ℤ, ◌*ℤ◌, ◌+ℤ◌, ◌-ℤ◌, ◌≤ℤ◌, ◌<ℤ◌, unsigned_abs, to_z, of_z, w64, eqb-true}
+use Rattle.std.proofs.Common.{◌≡◌, ℕ, zero, suc, ◌+◌, ◌-◌, ◌*◌, ◌/◌, ◌%◌, ◌^◌, ◌<◌, ◌≤◌, ◌==◌, inl, inr, Bool, true, false, arith, refl, ap, sym, subst, ◌∙◌, zero-mul, add-one, ℤ, pos, negsuc, neg_ℤ, ◌*ℤ◌, ◌+ℤ◌, ◌-ℤ◌, unsigned_abs, to_z, of_z, w64, eqb-true}
 use mir.Syntax.{w16}
-use Rattle.std.proofs.lemmas.Int.{ints, to_z_pos}
-use Rattle.std.proofs.lemmas.Bool.{cases_lt, cases_eq, cases_order, true≢false, eq-eqb}
-use Rattle.std.proofs.lemmas.Nat.{pow_pos, pow-add, mod-pow-add, shl_below}
+use Rattle.std.proofs.lemmas.Int.{ints}
+use Rattle.std.proofs.lemmas.Bool.{cases_lt, cases_eq, true≢false, eq-eqb}
+use Rattle.std.proofs.lemmas.Nat.{pow_pos, pow-add, mod-pow-add}
 use Rattle.std.proofs.lemmas.Nat.Bits.{bit_at-trailing_zeros}
-use Rattle.std.proofs.Math.IntN.{negsuc-*ℤ-pos, pos-*ℤ-pos}
-use Rattle.std.proofs.Math.Nat.{div-add-mod', mod-one, mul-mod_left, mul-div_cancel, mul_assoc, mul_comm, mul-one, mul-le-mul_right, mul-pos, pow-zero, pow-suc, two-pow-succ, eq_of_mul-eq-mul_right, le_of_mul-le-mul_right, le-mul_of_pos_right, lt_of_lt_of_le, pow-le-pow_right, mul-div-mul_right, div-eq_of_lt, mod-eq_of_lt, lt_of_mul-lt-mul_right}
+use Rattle.std.proofs.Math.IntN.{negsuc-*ℤ-pos}
+use Rattle.std.proofs.Math.Nat.{div-add-mod', mod-one, mul-mod_left, mul-div_cancel, mul-le-mul_right, pow-zero, two-pow-succ, eq_of_mul-eq-mul_right, le-mul_of_pos_right, lt_of_lt_of_le, pow-le-pow_right, mul-div-mul_right, div-eq_of_lt, mod-eq_of_lt, lt_of_mul-lt-mul_right}
 use lib.Count.{count_trailing_zeros}
 use Rattle.pv_num.specs.Extended.{Extended, NegInf, Fin, PosInf}
-use Rattle.pv_num.specs.Grid.{IsGridSize, IsGrid, unit}
-use Rattle.pv_num.specs.Rounding.{greatest_upto}
-use Rattle.pv_num.specs.Sizes.{size_of, fine, magnitude_of, is_negative_of, is_infinite_of, with_sign, IsFloor, IsCeiling, IsSized}
-use Rattle.pv_num.specs.Parts.{IsValueAt, IsValue, IsFin, IsCanonical, IsPartsOf, twos, odd_of, exponent_parts, parts_of}
+use Rattle.pv_num.specs.Grid.{IsGridSize, unit}
+use Rattle.pv_num.specs.Sizes.{fine, magnitude_of, is_negative_of, is_infinite_of, with_sign}
+use Rattle.pv_num.specs.Parts.{IsValueAt, IsValue, IsCanonical, IsPartsOf, twos, odd_of, exponent_parts, parts_of}
 use Rattle.pv_num.specs.declared.convert.Parts.{Parts}
-use Rattle.pv_num.specs.declared.convert.Parts.TheVariants.{NegInf as NegInfParts, Fin as FinParts, PosInf as PosInfParts}
-use Rattle.pv_num.specs.declared.magnitude.Magnitude.{Magnitude}
+use Rattle.pv_num.specs.declared.convert.Parts.TheVariants.{Fin as FinParts}
 use Rattle.pv_num.proofs.Align.{shifted_to, shifted_twice}
 use Rattle.pv_num.proofs.Rounds.{below_all}
 use Rattle.pv_num.proofs.Rounding.{greatest_upto-passes, greatest_upto-greatest}
-use Rattle.pv_num.proofs.Scales.{at_unit, unit_pos}
+use Rattle.pv_num.proofs.Scales.{at_unit}
 
 -- ---- Trailing zeros
 

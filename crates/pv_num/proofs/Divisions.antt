@@ -1,15 +1,15 @@
-use Rattle.std.proofs.Common.{◌≡◌, ℕ, zero, suc, ◌+◌, ◌-◌, ◌*◌, ◌/◌, ◌%◌, ◌^◌, ◌<◌, ◌≤◌, ◌⊎◌, inl, inr, Option, Some, None, arith, refl, ap, sym, subst, ◌∙◌, zero-mul}
+use Rattle.std.proofs.Common.{◌≡◌, ℕ, suc, ◌+◌, ◌-◌, ◌*◌, ◌/◌, ◌^◌, ◌<◌, ◌≤◌, inl, inr, Option, Some, None, arith, ap, sym, subst, ◌∙◌, zero-mul}
 use Rattle.std.proofs.lemmas.Bool.{cases_lt, cases_eq}
-use Rattle.std.proofs.lemmas.Nat.{pow_pos, pow-add, le-div, mul-le}
-use Rattle.std.proofs.Math.Nat.{mul-le-mul_right, mul-lt-mul_of_pos_right, lt_of_mul-lt-mul_right, le_of_mul-le-mul_right, mul_assoc, mul_comm, mul_right_comm, mul-mul-mul_comm, mul-pos, lt_of_le_of_lt, lt_of_lt_of_le, two-pow-succ, add-mul, one-mul, div-add-mod'}
+use Rattle.std.proofs.lemmas.Nat.{pow_pos, le-div, mul-le}
+use Rattle.std.proofs.Math.Nat.{mul-le-mul_right, mul-lt-mul_of_pos_right, lt_of_mul-lt-mul_right, mul_assoc, mul_comm, mul_right_comm, mul-pos, two-pow-succ, add-mul, one-mul, div-add-mod'}
 use Rattle.pv_num.specs.Grid.{IsGridSize, unit}
-use Rattle.pv_num.specs.Sizes.{size_of, IsFloorSize, IsCeilingSize, IsFloor, IsCeiling, IsSized, fine}
+use Rattle.pv_num.specs.Sizes.{size_of, IsSized, fine}
 use Rattle.pv_num.specs.declared.magnitude.Magnitude.{Magnitude}
 use Rattle.pv_num.specs.declared.magnitude.Toward.{Toward}
 use Rattle.pv_num.specs.declared.magnitude.Toward.TheVariants.{Zero, Away}
 use Rattle.pv_num.proofs.Align.{shifted_to, shifted_twice}
 use Rattle.pv_num.proofs.Rounds.{gap, at_fine, fine_pos}
-use Rattle.pv_num.proofs.Scales.{equal_sized, by_unit, unit_pos, at_unit}
+use Rattle.pv_num.proofs.Scales.{equal_sized, by_unit}
 
 -- No size times b lies strictly between lo and hi.
 pub record IsGap (b lo hi : ℕ) : Type 0 where

@@ -1,17 +1,17 @@
-use Rattle.std.proofs.Common.{◌≡◌, ◌≢◌, ℕ, zero, suc, ◌+◌, ◌-◌, ◌*◌, ◌/◌, ◌%◌, ◌^◌, ◌<◌, ◌≤◌, ◌⊎◌, inl, inr, Bool, true, false, Option, Some, None, arith, refl, ap, sym, subst, ◌∙◌, zero-mul, ℤ, pos, negsuc, neg_ℤ, ◌*ℤ◌, ◌+ℤ◌, ◌-ℤ◌, ◌≤ℤ◌, ◌<ℤ◌, unsigned_abs}
+use Rattle.std.proofs.Common.{◌≡◌, ◌≢◌, ℕ, zero, suc, ◌+◌, ◌*◌, ◌^◌, ◌<◌, ◌≤◌, ◌⊎◌, inl, inr, Bool, true, false, Option, Some, None, arith, refl, ap, sym, subst, ◌∙◌, zero-mul, ℤ, pos, negsuc, neg_ℤ, ◌*ℤ◌, ◌+ℤ◌, ◌<ℤ◌, unsigned_abs}
 use Rattle.std.proofs.lemmas.Int.{ints, unsigned_abs-mul}
-use Rattle.std.proofs.lemmas.Bool.{cases_lt, cases_eq, true≢false, le-ltb}
-use Rattle.std.proofs.lemmas.Nat.{pow_pos, pow-add}
+use Rattle.std.proofs.lemmas.Bool.{cases_eq, le-ltb}
+use Rattle.std.proofs.lemmas.Nat.{pow_pos}
 use Rattle.std.specs.Int.Signed.{lt_z}
 use Rattle.std.proofs.Math.IntN.{negsuc-*ℤ-pos}
-use Rattle.std.proofs.Math.Nat.{mul-le-mul_right, mul_assoc, lt_of_lt_of_le, pow-le-pow_right, eq_of_mul-eq-mul_right, mul-le-mul_left, one-mul}
-use Rattle.pv_num.specs.Extended.{Extended, NegInf, Fin, PosInf}
+use Rattle.std.proofs.Math.Nat.{mul-le-mul_right, lt_of_lt_of_le, pow-le-pow_right, eq_of_mul-eq-mul_right}
+use Rattle.pv_num.specs.Extended.{Extended, Fin}
 use Rattle.pv_num.specs.Grid.{IsGridSize, IsGrid}
 use Rattle.pv_num.specs.Sizes.{size_of, fine, with_sign, signed_of}
 use Rattle.pv_num.specs.Parts.{IsValueAt, IsValue, IsFin, IsFineExponent}
 use Rattle.pv_num.specs.declared.magnitude.Magnitude.{Magnitude}
-use Rattle.pv_num.proofs.Align.{shifted_to, shifted_twice}
-use Rattle.pv_num.proofs.Rounds.{at_fine, below_all, is_grid, fine_pos}
+use Rattle.pv_num.proofs.Align.{shifted_to}
+use Rattle.pv_num.proofs.Rounds.{at_fine, below_all, is_grid}
 use Rattle.pv_num.proofs.Signs.{neg_size}
 
 value_size : (m z : ℤ) (k : ℕ) → z *ℤ pos (2 ^ k) ≡ m → unsigned_abs z * 2 ^ k ≡ unsigned_abs m

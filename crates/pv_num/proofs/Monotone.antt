@@ -1,18 +1,18 @@
-use Rattle.std.proofs.Common.{◌≡◌, ℕ, zero, suc, ◌+◌, ◌-◌, ◌*◌, ◌/◌, ◌%◌, ◌^◌, ◌<◌, ◌≤◌, Bool, true, false, IsTrue, arith, refl, ap, sym, subst, ◌∙◌, zero-mul, ℤ, pos, negsuc, neg_ℤ, ◌*ℤ◌, ◌+ℤ◌, ◌≤ℤ◌, ◌<ℤ◌, unsigned_abs}
+use Rattle.std.proofs.Common.{◌≡◌, ℕ, zero, suc, ◌*◌, ◌<◌, ◌≤◌, IsTrue, arith, refl, ap, sym, subst, ◌∙◌, zero-mul, ℤ, pos, negsuc, neg_ℤ, ◌*ℤ◌, ◌≤ℤ◌, ◌<ℤ◌}
 use Rattle.std.proofs.lemmas.Int.{ints}
 use Rattle.std.proofs.lemmas.Bool.{true≢false}
 use Rattle.std.proofs.Math.Nat.{mul-le-mul, mul-pos, mul-zero, le_of_mul-le-mul_right}
-use Rattle.std.proofs.Math.IntN.{negsuc-*ℤ-pos, neg_ℤ-neg_ℤ}
+use Rattle.std.proofs.Math.IntN.{negsuc-*ℤ-pos}
 use Rattle.pv_num.specs.Extended.{Extended, NegInf, Fin, PosInf}
-use Rattle.pv_num.specs.Grid.{IsGridSize, IsGrid, unit}
-use Rattle.pv_num.specs.Order.{lt, le}
-use Rattle.pv_num.specs.Rounding.{IsGreatestBelow, IsLeastAbove, IsDown, IsUp, IsRounded, rounded}
-use Rattle.pv_num.specs.Arithmetic.{neg_of, mul_of, pow_of, infinite_by}
+use Rattle.pv_num.specs.Grid.{IsGrid, unit}
+use Rattle.pv_num.specs.Order.{le}
+use Rattle.pv_num.specs.Rounding.{IsDown, IsUp, rounded}
+use Rattle.pv_num.specs.Arithmetic.{neg_of, mul_of, pow_of}
 use Rattle.pv_num.specs.declared.num.End.{End}
 use Rattle.pv_num.specs.declared.num.End.TheVariants.{Down, Up}
-use Rattle.pv_num.proofs.Signs.{neg_grid, pos_le, le_pos, neg_le, neg-mul, below-neg, above-neg, zero_grid}
+use Rattle.pv_num.proofs.Signs.{neg_grid, pos_le, le_pos, neg-mul, below-neg, above-neg, zero_grid}
 use Rattle.pv_num.proofs.Scales.{unit_pos}
-use Rattle.pv_num.proofs.Rounding.{rounded-is, rounded-unique, down-unique, up-unique}
+use Rattle.pv_num.proofs.Rounding.{rounded-is, rounded-unique}
 use Rattle.pv_num.proofs.Orders.{le-Fin, Fin-le, le-refl, NegInf-le, le-PosInf}
 
 -- ---- Rounding is monotone

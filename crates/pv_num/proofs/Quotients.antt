@@ -1,7 +1,7 @@
-use Rattle.std.proofs.Common.{◌≡◌, ℕ, zero, suc, ◌+◌, ◌-◌, ◌*◌, ◌/◌, ◌%◌, ◌^◌, ◌<◌, ◌≤◌, ◌↔◌, ◌⊎◌, Option, Some, None, arith, refl, inl, inr, ap, sym, subst, ◌∙◌, zero-mul}
-use Rattle.std.proofs.lemmas.Bool.{cases_lt, cases_eq}
-use Rattle.std.proofs.lemmas.Nat.{pow_pos, pow-add, shl_below}
-use Rattle.std.proofs.Math.Nat.{mul-le-mul_right, mul_assoc, mul_comm, add-mul, lt_of_lt_of_le, pow-le-pow_right, mod-eq_of_lt, two-pow-succ}
+use Rattle.std.proofs.Common.{◌≡◌, ℕ, suc, ◌+◌, ◌-◌, ◌*◌, ◌%◌, ◌^◌, ◌<◌, ◌≤◌, arith, inl, inr, ap, sym, subst, ◌∙◌}
+use Rattle.std.proofs.lemmas.Bool.{cases_lt}
+use Rattle.std.proofs.lemmas.Nat.{pow-add, shl_below}
+use Rattle.std.proofs.Math.Nat.{mul-le-mul_right, mul_assoc, lt_of_lt_of_le, pow-le-pow_right, mod-eq_of_lt, two-pow-succ}
 
 -- ---- Numbers shifted to a number of bits
 

@@ -1,10 +1,9 @@
-use Rattle.std.proofs.Common.{lit≤, ◌≡◌, ◌≢◌, ℕ, zero, suc, ◌+◌, ◌*◌, ◌^◌, ◌<◌, ◌≤◌, IsTrue, arith, refl, ap, sym, subst, ◌∙◌, ℤ, pos, negsuc, neg_ℤ, ◌*ℤ◌, ◌≤ℤ◌, ◌<ℤ◌, unsigned_abs}
+use Rattle.std.proofs.Common.{lit≤, ◌≢◌, ℕ, suc, ◌*◌, ◌^◌, ◌<◌, ◌≤◌, IsTrue, arith, sym, subst, ℤ, pos, negsuc, neg_ℤ, ◌*ℤ◌, ◌≤ℤ◌, ◌<ℤ◌, unsigned_abs}
 use Rattle.std.proofs.lemmas.Int.{ints}
 use Rattle.std.proofs.lemmas.Nat.{mul-le}
 use Rattle.std.proofs.Math.IntN.{negsuc-*ℤ-pos}
-use Rattle.std.proofs.Math.Nat.{le_trans}
 use Rattle.pv_num.specs.Extended.{Extended, NegInf, Fin, PosInf}
-use Rattle.pv_num.specs.Grid.{IsGrid, unit}
+use Rattle.pv_num.specs.Grid.{unit}
 use Rattle.pv_num.specs.Order.{le}
 use Rattle.pv_num.specs.Rounding.{IsDown, IsUp, rounded, top_size}
 use Rattle.pv_num.specs.Arithmetic.{ratio_of}
@@ -13,7 +12,6 @@ use Rattle.pv_num.specs.declared.num.End.TheVariants.{Down, Up}
 use Rattle.pv_num.proofs.Rounds.{top_grid}
 use Rattle.pv_num.proofs.Signs.{pos_le, neg_grid, neg-mul}
 use Rattle.pv_num.proofs.Rounding.{rounded-is}
-use Rattle.pv_num.proofs.Scales.{unit_pos}
 use Rattle.pv_num.proofs.Monotone.{rounded-monotone, rounded-zero}
 
 -- A ratio from 0 on is rounded to a number from 0 on.

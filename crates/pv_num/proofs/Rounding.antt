@@ -1,15 +1,15 @@
-use Rattle.std.proofs.Common.{◌≡◌, ℕ, zero, suc, ◌+◌, ◌-◌, ◌*◌, ◌/◌, ◌%◌, ◌^◌, ◌<◌, ◌≤◌, ◌↔◌, ◌⊎◌, Bool, true, false, ◌==◌, cond, nat_lt, ◌&&◌, ◌||◌, Option, Some, None, arith, refl, inl, inr, ap, sym, subst, ◌∙◌, zero-mul, ℤ, pos, negsuc, neg_ℤ, ◌*ℤ◌, ◌+ℤ◌, ◌≤ℤ◌, ◌<ℤ◌, unsigned_abs, ltb-true, eqb-true}
+use Rattle.std.proofs.Common.{◌≡◌, ℕ, zero, suc, ◌+◌, ◌-◌, ◌*◌, ◌/◌, ◌%◌, ◌^◌, ◌<◌, ◌≤◌, Bool, true, false, ◌==◌, nat_lt, ◌&&◌, Option, Some, None, arith, refl, inl, inr, ap, sym, subst, ◌∙◌, ℤ, pos, negsuc, neg_ℤ, ◌*ℤ◌, ◌≤ℤ◌, ◌<ℤ◌, ltb-true, eqb-true}
 use Rattle.std.proofs.lemmas.Int.{ints}
-use Rattle.std.proofs.lemmas.Bool.{cases_lt, cases_eq, cases_Bool, true≢false, cond-true, cond-false, or_cases, and_parts, and_from, or_left, or_right, lt-ltb, eq-eqb, both_ways}
-use Rattle.std.proofs.lemmas.Nat.{pow_pos, pow-add}
-use Rattle.std.proofs.Math.Nat.{div-add-mod', le-div_iff_mul-le, div-lt_iff_lt-mul, mul-mod_left, mul-div_cancel, add-mul, one-mul, pow-zero, mul-one, div-mul-le_self}
+use Rattle.std.proofs.lemmas.Bool.{cases_lt, cases_eq, cases_Bool, cond-true, cond-false, or_cases, and_parts, and_from, or_left, or_right, lt-ltb, eq-eqb, both_ways}
+use Rattle.std.proofs.lemmas.Nat.{pow_pos}
+use Rattle.std.proofs.Math.Nat.{div-add-mod', le-div_iff_mul-le, div-lt_iff_lt-mul, mul-mod_left, mul-div_cancel, add-mul, one-mul, pow-zero, mul-one}
 use Rattle.pv_num.specs.Extended.{Extended, NegInf, Fin, PosInf}
-use Rattle.pv_num.specs.Grid.{IsGridSize, IsGrid}
-use Rattle.pv_num.specs.Rounding.{IsGreatestBelow, IsLeastAbove, IsDown, IsUp, IsRounded, greatest_upto, first_from, is_size_within, is_size, top_size, size_below, size_above, at_most_minus, at_least_plus, rounded}
+use Rattle.pv_num.specs.Grid.{IsGridSize}
+use Rattle.pv_num.specs.Rounding.{IsDown, IsUp, IsRounded, greatest_upto, first_from, is_size_within, is_size, top_size, size_below, size_above, at_most_minus, at_least_plus, rounded}
 use Rattle.pv_num.specs.Sizes.{IsFloorSize, IsCeilingSize}
 use Rattle.pv_num.specs.declared.num.End.{End}
 use Rattle.pv_num.specs.declared.num.End.TheVariants.{Down, Up}
-use Rattle.pv_num.proofs.Rounds.{is_grid, at_most_top}
+use Rattle.pv_num.proofs.Rounds.{at_most_top}
 use Rattle.pv_num.proofs.Signs.{down_pos, down_neg, up_pos, up_neg, down_none, up_none, zero_grid}
 
 -- ---- Searches through the whole numbers

@@ -1,7 +1,7 @@
-use Rattle.std.proofs.Common.{lit<, lit≤, ◌≡◌, ℕ, zero, suc, ◌+◌, ◌-◌, ◌*◌, ◌/◌, ◌%◌, ◌^◌, ◌<◌, ◌≤◌, ◌↔◌, ◌⊎◌, IsTrue, Bool, true, false, Option, Some, None, arith, refl, inl, inr, ap, sym, subst, ◌∙◌}
+use Rattle.std.proofs.Common.{lit<, lit≤, ◌≡◌, ℕ, suc, ◌+◌, ◌-◌, ◌*◌, ◌^◌, ◌<◌, ◌≤◌, ◌↔◌, IsTrue, Bool, true, false, Option, Some, None, arith, refl, inl, inr, ap, sym, subst, ◌∙◌}
 use Rattle.std.proofs.lemmas.Bool.{cases_lt, true≢false}
 use Rattle.std.proofs.lemmas.Nat.{pow_pos, pow-add, shl_below}
-use Rattle.std.proofs.Math.Nat.{mul-le-mul, mul-le-mul_right, mul-lt-mul_of_pos_right, lt_of_mul-lt-mul_right, le_of_mul-le-mul_right, mul_assoc, mul_right_comm, add-mul, one-mul, lt_of_lt_of_le, lt_of_le_of_lt, le_trans, pow-le-pow_right, eq_of_mul-eq-mul_right, le_of_eq, two-pow-succ}
+use Rattle.std.proofs.Math.Nat.{mul-le-mul, mul-le-mul_right, lt_of_mul-lt-mul_right, le_of_mul-le-mul_right, mul_assoc, lt_of_lt_of_le, lt_of_le_of_lt, pow-le-pow_right, two-pow-succ}
 use Rattle.pv_num.specs.Grid.{IsGridSize}
 use Rattle.pv_num.specs.Rounding.{top_size}
 use Rattle.pv_num.specs.Sizes.{size_of, IsSizeOf, IsSizeAbove, IsFloorSize, IsCeilingSize, IsFloor, IsCeiling, IsSized, fine}
@@ -9,7 +9,7 @@ use Rattle.pv_num.specs.declared.magnitude.Magnitude.{Magnitude}
 use Rattle.pv_num.specs.declared.magnitude.Toward.{Toward}
 use Rattle.pv_num.specs.declared.magnitude.Toward.TheVariants.{Zero, Away}
 use Rattle.pv_num.proofs.Sizes.{exponent_orders}
-use Rattle.pv_num.proofs.Align.{shifted_to, shifted_twice}
+use Rattle.pv_num.proofs.Align.{shifted_to}
 
 pub at_fine : (P : ℕ → Type 0) → ((s : ℕ) → s ≡ 1024 → P (2 ^ s)) → P fine
 unfolding fine

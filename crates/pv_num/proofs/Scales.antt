@@ -1,16 +1,14 @@
-use Rattle.std.proofs.Common.{◌≡◌, ℕ, zero, suc, ◌+◌, ◌-◌, ◌*◌, ◌/◌, ◌%◌, ◌^◌, ◌<◌, ◌≤◌, Bool, true, false, Option, Some, None, arith, refl, ap, sym, subst, ◌∙◌, zero-mul, ℤ, pos, negsuc, neg_ℤ, ◌*ℤ◌, ◌+ℤ◌, unsigned_abs}
+use Rattle.std.proofs.Common.{◌≡◌, ℕ, ◌+◌, ◌-◌, ◌*◌, ◌^◌, ◌<◌, ◌≤◌, Bool, Option, Some, None, arith, refl, ap, sym, subst, ◌∙◌}
 use Rattle.std.proofs.lemmas.Nat.{pow_pos, pow-add}
-use Rattle.std.proofs.Math.Nat.{mul-le-mul_right, mul-lt-mul_of_pos_right, lt_of_mul-lt-mul_right, le_of_mul-le-mul_right, mul_assoc, mul_comm, mul_right_comm, mul-mul-mul_comm, mul-pos}
-use Rattle.pv_num.specs.Extended.{Extended, NegInf, Fin, PosInf}
-use Rattle.pv_num.specs.Grid.{IsGridSize, unit}
-use Rattle.pv_num.specs.Rounding.{IsRounded, rounded}
-use Rattle.pv_num.specs.Sizes.{size_of, IsFloorSize, IsCeilingSize, IsFloor, IsCeiling, IsSized, fine, signed_of, toward_of, with_sign}
+use Rattle.std.proofs.Math.Nat.{mul-le-mul_right, mul-lt-mul_of_pos_right, lt_of_mul-lt-mul_right, le_of_mul-le-mul_right, mul_assoc, mul_right_comm, mul-mul-mul_comm}
+use Rattle.pv_num.specs.Grid.{unit}
+use Rattle.pv_num.specs.Rounding.{rounded}
+use Rattle.pv_num.specs.Sizes.{size_of, IsSized, fine, signed_of, toward_of, with_sign}
 use Rattle.pv_num.specs.declared.num.End.{End}
-use Rattle.pv_num.specs.declared.num.End.TheVariants.{Down, Up}
 use Rattle.pv_num.specs.declared.magnitude.Magnitude.{Magnitude}
 use Rattle.pv_num.specs.declared.magnitude.Toward.{Toward}
 use Rattle.pv_num.specs.declared.magnitude.Toward.TheVariants.{Zero, Away}
-use Rattle.pv_num.proofs.Align.{shifted_to, shifted_twice}
+use Rattle.pv_num.proofs.Align.{shifted_to}
 use Rattle.pv_num.proofs.Rounds.{at_fine, fine_pos}
 use Rattle.pv_num.proofs.Signs.{signed_rounded}
 use Rattle.pv_num.proofs.Rounding.{rounded-unique}

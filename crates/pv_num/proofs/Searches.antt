@@ -1,18 +1,17 @@
-use Rattle.std.proofs.Common.{◌≡◌, ℕ, zero, suc, ◌+◌, ◌-◌, ◌*◌, ◌/◌, ◌%◌, ◌^◌, ◌<◌, ◌≤◌, ◌⊎◌, inl, inr, Bool, true, false, not, ◌&&◌, cond, IsTrue, Option, Some, None, arith, refl, ap, sym, subst, ◌∙◌, zero-mul, add-one, ℤ, pos}
+use Rattle.std.proofs.Common.{◌≡◌, ℕ, zero, suc, ◌+◌, ◌-◌, ◌*◌, ◌/◌, ◌%◌, ◌^◌, ◌<◌, ◌≤◌, ◌⊎◌, inl, inr, Bool, true, false, not, IsTrue, Option, Some, None, arith, refl, ap, sym, subst, ◌∙◌, ℤ, pos}
 use Rattle.std.proofs.lemmas.Bool.{true≢false, cases_lt, cases_eq, cases_Bool, cond-true, cond-false, and_parts, and_from, both_ways}
-use Rattle.std.proofs.lemmas.Nat.{pow_pos}
-use Rattle.std.proofs.Math.Nat.{div-add-mod', div-eq_of_lt-le, two-pow-succ, pow-zero, mul-one, lt_irrefl, add-mul, one-mul}
+use Rattle.std.proofs.Math.Nat.{div-add-mod', two-pow-succ, lt_irrefl}
 use Rattle.pv_num.specs.Extended.{Extended, NegInf, Fin, PosInf}
-use Rattle.pv_num.specs.Grid.{IsGridSize, IsGrid, unit}
-use Rattle.pv_num.specs.Order.{lt, le}
+use Rattle.pv_num.specs.Grid.{IsGridSize}
+use Rattle.pv_num.specs.Order.{le}
 use Rattle.pv_num.specs.Rounding.{greatest_upto, first_from, is_size, top_size, at_least_plus}
 use Rattle.pv_num.specs.Arithmetic.{pow_of, is_root_below, is_root_above, root_of}
 use Rattle.pv_num.specs.Roots.{exponent_at, mantissa_at, size_at, is_reached}
 use Rattle.pv_num.specs.declared.num.End.{End}
 use Rattle.pv_num.specs.declared.num.End.TheVariants.{Down, Up}
-use Rattle.pv_num.proofs.Rounds.{is_grid, at_most_top, top_grid, above_gap}
-use Rattle.pv_num.proofs.Rounding.{greatest_upto-le, greatest_upto-greatest, first_from-found, Found, grid-size, size-grid}
-use Rattle.pv_num.proofs.Orders.{le-trans, le-PosInf}
+use Rattle.pv_num.proofs.Rounds.{is_grid, at_most_top, above_gap}
+use Rattle.pv_num.proofs.Rounding.{greatest_upto-greatest, first_from-found, Found, grid-size, size-grid}
+use Rattle.pv_num.proofs.Orders.{le-trans}
 use Rattle.pv_num.proofs.Monotone.{power-monotone}
 
 -- ---- The sizes without gaps

@@ -1,16 +1,13 @@
-use Rattle.std.proofs.Common.{◌≡◌, ℕ, zero, suc, ◌+◌, ◌-◌, ◌*◌, ◌/◌, ◌%◌, ◌^◌, ◌<◌, ◌≤◌, ◌↔◌, ◌⊎◌, Bool, true, false, Option, Some, None, arith, refl, inl, inr, ap, sym, subst, ◌∙◌, zero-mul, ℤ, pos, negsuc, neg_ℤ, ◌*ℤ◌, ◌+ℤ◌, ◌≤ℤ◌, ◌<ℤ◌, unsigned_abs}
+use Rattle.std.proofs.Common.{◌≡◌, ℕ, zero, suc, ◌*◌, ◌<◌, ◌≤◌, Bool, true, false, Option, Some, None, arith, refl, ap, sym, subst, ◌∙◌, zero-mul, ℤ, pos, negsuc, neg_ℤ, ◌*ℤ◌, ◌≤ℤ◌, ◌<ℤ◌, unsigned_abs}
 use Rattle.std.proofs.lemmas.Int.{ints}
-use Rattle.std.proofs.Math.IntN.{neg_ℤ-neg_ℤ, negsuc-*ℤ-pos, pos-*ℤ-pos}
+use Rattle.std.proofs.Math.IntN.{neg_ℤ-neg_ℤ, negsuc-*ℤ-pos}
 use Rattle.std.proofs.Math.Nat.{mul-pos}
-use Rattle.pv_num.specs.Extended.{Extended, NegInf, Fin, PosInf}
 use Rattle.pv_num.specs.Grid.{IsGridSize, IsGrid}
-use Rattle.pv_num.specs.Rounding.{IsGreatestBelow, IsLeastAbove, IsDown, IsUp, IsRounded, rounded}
-use Rattle.pv_num.specs.Sizes.{size_of, IsFloorSize, IsCeilingSize, IsFloor, IsCeiling, IsSized, signed_of, toward_of, with_sign}
+use Rattle.pv_num.specs.Rounding.{IsGreatestBelow, IsLeastAbove, IsRounded}
+use Rattle.pv_num.specs.Sizes.{size_of, IsFloorSize, IsCeilingSize, IsSized, signed_of, toward_of, with_sign}
 use Rattle.pv_num.specs.declared.num.End.{End}
 use Rattle.pv_num.specs.declared.num.End.TheVariants.{Down, Up}
 use Rattle.pv_num.specs.declared.magnitude.Magnitude.{Magnitude}
-use Rattle.pv_num.specs.declared.magnitude.Toward.{Toward}
-use Rattle.pv_num.specs.declared.magnitude.Toward.TheVariants.{Zero, Away}
 use Rattle.pv_num.proofs.Rounds.{is_grid}
 
 pub pos_le : (m n : ℕ) → m ≤ n → pos m ≤ℤ pos n

@@ -1,9 +1,8 @@
-use Rattle.std.proofs.Common.{◌≡◌, ℕ, zero, suc, ◌+◌, ◌-◌, ◌*◌, ◌/◌, ◌%◌, ◌^◌, ◌<◌, ◌≤◌, ◌↔◌, ◌⊎◌, Option, Some, None, arith, refl, inl, inr, ap, sym, subst, ◌∙◌, zero-mul}
+use Rattle.std.proofs.Common.{◌≡◌, ℕ, ◌+◌, ◌-◌, ◌*◌, ◌%◌, ◌^◌, ◌<◌, ◌≤◌, Option, Some, None, arith, inl, inr, ap, sym, subst, ◌∙◌, zero-mul}
 use Rattle.std.proofs.lemmas.Bool.{cases_lt, cases_eq}
 use Rattle.std.proofs.lemmas.Nat.{pow_pos, pow-add, shl_below}
-use Rattle.std.proofs.Math.Nat.{mul-le-mul_right, mul-lt-mul_of_pos_right, mul-pos, lt_of_mul-lt-mul_right, le_of_mul-le-mul_right, mul_assoc, mul_comm, add-mul, mul-sub, one-mul, lt_of_lt_of_le, lt_of_le_of_lt, pow-le-pow_right, mod-eq_of_lt, two-pow-succ, sub-zero}
-use Rattle.pv_num.specs.Grid.{IsGridSize}
-use Rattle.pv_num.specs.Sizes.{size_of, IsFloorSize, IsCeilingSize, IsFloor, IsCeiling, IsSized, fine}
+use Rattle.std.proofs.Math.Nat.{mul-le-mul_right, mul-pos, lt_of_mul-lt-mul_right, le_of_mul-le-mul_right, mul_comm, add-mul, mul-sub, lt_of_lt_of_le, lt_of_le_of_lt, pow-le-pow_right, mod-eq_of_lt, sub-zero}
+use Rattle.pv_num.specs.Sizes.{size_of, IsSized, fine}
 use Rattle.pv_num.specs.declared.magnitude.Magnitude.{Magnitude}
 use Rattle.pv_num.specs.declared.magnitude.Toward.{Toward}
 use Rattle.pv_num.specs.declared.magnitude.Toward.TheVariants.{Zero, Away}

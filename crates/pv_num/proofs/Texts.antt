@@ -1,7 +1,7 @@
-use Rattle.std.proofs.Common.{FitsSigned, to_z, of_z, w64, ◌≡◌, ◌≢◌, ℕ, zero, suc, ◌+◌, ◌-◌, ◌*◌, ◌^◌, ◌<◌, ◌≤◌, ◌==◌, nat_lt, inl, inr, Bool, true, false, not, Option, Some, None, List, [], ◌∷◌, ◌++◌, length, get_or, take, drop, arith, refl, ap, sym, subst, ◌∙◌, add-one, ℤ, pos, negsuc, neg_ℤ, ◌+ℤ◌, ◌-ℤ◌, ◌*ℤ◌, ◌≤ℤ◌, unsigned_abs, length-append, length-drop, eqb-true}
-use Rattle.std.proofs.lemmas.List.{get_or_append_left, get_or-append_right}
+use Rattle.std.proofs.Common.{FitsSigned, to_z, of_z, w64, ◌≡◌, ℕ, zero, suc, ◌+◌, ◌-◌, ◌^◌, ◌<◌, ◌==◌, nat_lt, Bool, true, false, not, Option, Some, None, List, [], ◌∷◌, ◌++◌, length, get_or, take, drop, arith, refl, ap, sym, subst, ◌∙◌, ℤ, pos, negsuc, neg_ℤ, ◌+ℤ◌, ◌-ℤ◌, ◌*ℤ◌, ◌≤ℤ◌, unsigned_abs, length-append, length-drop}
+use Rattle.std.proofs.lemmas.List.{get_or-append_right}
 use Rattle.std.proofs.Math.Seq.{take-append_seam, drop-append-add, take-length}
-use Rattle.std.proofs.lemmas.Bool.{cases_order, cases_lt, cases_eq, true≢false, both_ways, eq-eqb, ne_eqb, cond-true, cond-false, lt-ltb}
+use Rattle.std.proofs.lemmas.Bool.{both_ways, ne_eqb, cond-true, lt-ltb}
 use Rattle.std.proofs.lemmas.Fmt.{decimal_is_IsNumeral}
 use Rattle.std.proofs.lemmas.Int.{ints, fits_signed_from_abs, to_z-of_z}
 use mir.Syntax.{w16}
@@ -15,10 +15,10 @@ use Rattle.pv_num.specs.Grid.{IsGridSize, IsGrid}
 use Rattle.pv_num.specs.Sizes.{with_sign}
 use Rattle.pv_num.specs.Parts.{HasNoColon, IsNumber, IsValueAt, IsValue, IsFin, IsPartsOf, number_text, parts_text, parts_of, odd_of, twos, exponent_parts}
 use Rattle.pv_num.specs.declared.convert.Parts.{Parts}
-use Rattle.pv_num.specs.declared.convert.Parts.TheVariants.{NegInf as NegInfParts, Fin as FinParts, PosInf as PosInfParts}
+use Rattle.pv_num.specs.declared.convert.Parts.TheVariants.{Fin as FinParts}
 use Rattle.pv_num.proofs.Monotone.{cancel}
 use Rattle.std.proofs.lemmas.Nat.{pow_pos}
-use Rattle.pv_num.proofs.Canonical.{odd_of-value, odd_of-odd, twos-greatest, twos_below, odd_below, parts_of-are, parts_of-signed}
+use Rattle.pv_num.proofs.Canonical.{twos_below, odd_below, parts_of-are, parts_of-signed}
 
 digit_not_colon : (c : ℕ) → digit_value c < 10 → c ≡ 58 → ⊥
 digit_not_colon c h e = let k : digit_value 58 < 10 = subst (λ x. digit_value x < 10) e h in omega (arith, k)

@@ -1,11 +1,9 @@
-use Rattle.std.proofs.Common.{◌≡◌, ℕ, zero, suc, ◌+◌, ◌*◌, ◌^◌, ◌<◌, ◌≤◌, arith, refl, cond, ap, sym, subst, ◌∙◌, ℤ, pos, negsuc, Bool, true, false}
-use Rattle.std.specs.Ordering.{int_cmp, nat_cmp, is_lt, is_le, is_gt, is_eq, eq_by_cmp, on, then_cmp, ordering_reverse, MatchOrdering}
-use Rattle.std.specs.Cmp.{IsTotalOrder, IsEquivalence, IsPartialEquivalence, IsPartialOrder, signed_Decides, nat_cmp_total, int_cmp_total, on_total, then_total, eq_by_cmp_equiv, partial_equiv_from_equiv, partial_order_from_agreeing_total}
+use Rattle.std.proofs.Common.{◌≡◌, ℕ, refl, ap, sym, ◌∙◌, ℤ, pos}
+use Rattle.std.specs.Ordering.{int_cmp, nat_cmp, eq_by_cmp, on, then_cmp, ordering_reverse}
+use Rattle.std.specs.Cmp.{IsTotalOrder, IsEquivalence, IsPartialEquivalence, signed_Decides, nat_cmp_total, int_cmp_total, on_total, then_total, eq_by_cmp_equiv, partial_equiv_from_equiv}
 use Rattle.std.specs.Bool.{Decides}
-use Rattle.std.specs.declared.cmp.Ordering.{Ordering}
-use Rattle.std.specs.declared.cmp.Ordering.TheVariants.{Less, Equal, Greater}
 use Rattle.pv_num.specs.Extended.{Extended, NegInf, Fin, PosInf}
-use Rattle.pv_num.specs.Order.{order_of, lt, le}
+use Rattle.pv_num.specs.Order.{order_of}
 
 -- ---- The order is total, and equality is that of the order
 

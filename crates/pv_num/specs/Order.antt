@@ -1,4 +1,4 @@
-use Rattle.std.specs.Prelude.{ℤ, Bool, cond}
+use Rattle.std.specs.Prelude.{Bool, cond}
 use Rattle.std.specs.Ordering.{int_cmp, is_lt, is_le}
 use Rattle.std.specs.declared.cmp.Ordering.{Ordering}
 use Rattle.std.specs.declared.cmp.Ordering.TheVariants.{Less, Equal, Greater}

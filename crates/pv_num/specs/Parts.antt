@@ -1,4 +1,4 @@
-use Rattle.std.specs.Prelude.{suc, zero, ◌≡◌, ℕ, ◌+◌, ◌*◌, ◌/◌, ◌%◌, ◌^◌, ◌==◌, ◌⊎◌, ℤ, pos, negsuc, neg_ℤ, ◌+ℤ◌, ◌-ℤ◌, ◌*ℤ◌, ◌<ℤ◌, ◌≤◌, ◌<◌, unsigned_abs, List, ◌∷◌, ◌++◌, codes, length, slice_index, Option, Some, None}
+use Rattle.std.specs.Prelude.{suc, zero, ◌≡◌, ℕ, ◌/◌, ◌%◌, ◌^◌, ◌==◌, ◌⊎◌, ℤ, pos, negsuc, neg_ℤ, ◌+ℤ◌, ◌-ℤ◌, ◌*ℤ◌, ◌<ℤ◌, ◌≤◌, ◌<◌, unsigned_abs, List, ◌∷◌, ◌++◌, codes, length, slice_index, Option, Some, None}
 use Rattle.std.specs.Fmt.{signed_decimal}
 use Rattle.pv_num.specs.Extended.{Extended, NegInf, Fin, PosInf}
 use Rattle.pv_num.specs.Grid.{IsGrid}

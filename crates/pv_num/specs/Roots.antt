@@ -1,4 +1,4 @@
-use Rattle.std.specs.Prelude.{ℕ, ◌+◌, ◌-◌, ◌*◌, ◌/◌, ◌^◌, pos, Bool, not}
+use Rattle.std.specs.Prelude.{ℕ, ◌-◌, ◌*◌, ◌/◌, ◌^◌, pos, Bool, not}
 use Rattle.pv_num.specs.Extended.{Extended, Fin}
 use Rattle.pv_num.specs.Order.{le}
 use Rattle.pv_num.specs.Arithmetic.{pow_of}

@@ -1,4 +1,4 @@
-use Rattle.std.specs.Prelude.{suc, zero, ◌≡◌, ℕ, ◌+◌, ◌*◌, ◌/◌, ◌^◌, ◌<◌, ◌≤◌, ℤ, pos, negsuc, neg_ℤ, cond, nat_le}
+use Rattle.std.specs.Prelude.{suc, zero, ◌≡◌, ℕ, ◌+◌, ◌*◌, ◌/◌, ◌^◌, ◌<◌, ◌≤◌, pos, negsuc, neg_ℤ, cond, nat_le}
 use Rattle.pv_num.specs.Extended.{Extended, NegInf, Fin, PosInf}
 use Rattle.pv_num.specs.declared.num.Class.{Class}
 use Rattle.pv_num.specs.declared.num.Class.TheVariants.{MinusOo, Negative, NonNegative, PlusOo}

@@ -1,7 +1,7 @@
-use Rattle.std.proofs.Common.{◌≡◌, ◌+◌, ◌*◌, ◌^◌, ◌<◌, true, false, ap, ◌∙◌, arith}
+use Rattle.std.proofs.Common.{◌+◌, ◌*◌, ◌^◌, ◌<◌, true, false}
 use Rattle.std.proofs.lemmas.Nat.{pow_pos}
 use Rattle.std.proofs.Math.Nat.{mul-pos, pos_of_ne-zero}
-use Rattle.pv_num.specs.Sizes.{with_sign, size_of}
+use Rattle.pv_num.specs.Sizes.{size_of}
 use Rattle.pv_num.proofs.Canonical.{parts_from, exponent_word, negative_word, positive_word, size_value, parts_with}
 use Rattle.pv_num.proofs.convert.odd_parts.Goals as goal
 

@@ -1,4 +1,4 @@
-use Rattle.std.proofs.Common.{◌≡◌, ◌-◌, ◌*◌, ◌^◌, ◌<◌, ◌≤◌, sym, subst}
+use Rattle.std.proofs.Common.{◌*◌, ◌^◌, ◌<◌, ◌≤◌, sym, subst}
 use Rattle.pv_num.proofs.Quotients.{length_fits, aligned_high, aligned_whole, aligned_low}
 use Rattle.pv_num.proofs.quotient.left_aligned.Goals as goal
 

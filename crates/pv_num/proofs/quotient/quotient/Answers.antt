@@ -1,4 +1,4 @@
-use Rattle.std.proofs.Common.{◌≡◌, ◌+◌, ◌-◌, ◌*◌, ◌/◌, ◌^◌, ◌<◌, ◌≤◌, suc, arith, ap, sym, subst, ◌∙◌, zero-mul}
+use Rattle.std.proofs.Common.{◌≡◌, ◌+◌, ◌-◌, ◌*◌, ◌/◌, ◌^◌, ◌<◌, suc, arith, ap, subst, ◌∙◌, zero-mul}
 use Rattle.pv_num.specs.Grid.{unit}
 use Rattle.pv_num.specs.Sizes.{size_of, IsSized, fine}
 use Rattle.pv_num.proofs.Divisions.{division_sized, large_quotient, quotient_rest, quotient_whole, quotient_sized, zero_sized_at, divisor_pos}

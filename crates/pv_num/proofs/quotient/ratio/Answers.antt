@@ -1,6 +1,6 @@
-use Rattle.std.proofs.Common.{◌≡◌, ◌+◌, ◌-◌, ◌*◌, ◌/◌, ◌^◌, ◌<◌, ◌≤◌, suc, arith, ap, sym, subst, ◌∙◌, zero-mul}
+use Rattle.std.proofs.Common.{◌≡◌, ◌+◌, ◌-◌, ◌*◌, ◌^◌, ◌<◌, suc, arith, ap, subst, ◌∙◌, zero-mul}
 use Rattle.pv_num.specs.Grid.{unit}
-use Rattle.pv_num.specs.Sizes.{size_of, IsSized, fine}
+use Rattle.pv_num.specs.Sizes.{IsSized, fine}
 use Rattle.pv_num.proofs.Divisions.{division_sized, large_ratio, ratio_sized, zero_sized_at}
 use Rattle.pv_num.proofs.quotient.ratio.Goals as goal
 

@@ -1,4 +1,4 @@
-use Rattle.std.proofs.Common.{◌≡◌, ◌-◌, ap, ◌∙◌, sym, pos}
+use Rattle.std.proofs.Common.{ap, ◌∙◌, pos}
 use Rattle.pv_num.specs.Extended.{Fin}
 use Rattle.pv_num.specs.Roots.{size_at}
 use Rattle.pv_num.proofs.Searches.{root_down_is}

@@ -1,4 +1,4 @@
-use Rattle.std.proofs.Common.{◌≡◌, ◌∙◌, arith}
+use Rattle.std.proofs.Common.{◌∙◌, arith}
 use Rattle.pv_num.proofs.Searches.{root_up_is, root_up_none}
 use Rattle.pv_num.proofs.root.root_up.Goals as goal
 

@@ -1,5 +1,5 @@
-use Rattle.std.proofs.Common.{◌≡◌, ℕ, ◌+◌, ◌-◌, ◌*◌, ◌/◌, ◌%◌, ◌^◌, ◌<◌, ◌≤◌, ◌↔◌, IsTrue, nat_eq, true, arith, refl, sym, subst, ◌∙◌, ap, Fits, w64}
-use Rattle.pv_num.proofs.Align.{one_below, left_fits, left_whole, left_exact, left_next, kept_fits, kept_below, kept_above, kept_exact, kept_tested, all_dropped, is_small}
+use Rattle.std.proofs.Common.{◌≡◌, ◌+◌, ◌-◌, ◌^◌, ◌<◌, arith, refl, sym, subst}
+use Rattle.pv_num.proofs.Align.{one_below, left_fits, left_whole, left_exact, left_next, kept_fits, kept_below, kept_above, kept_tested, all_dropped, is_small}
 use Rattle.pv_num.proofs.round.aligned.Goals as goal
 
 pub overflow_shl-result : goal.overflow_shl-result

@@ -1,4 +1,4 @@
-use Rattle.std.proofs.Common.{◌≡◌, ◌+◌, ◌*◌, ◌^◌, ◌<◌, ◌≤◌, arith, refl, sym, ap, zero-mul, ◌∙◌}
+use Rattle.std.proofs.Common.{◌+◌, ◌*◌, ◌^◌, arith, refl, ap, zero-mul, ◌∙◌}
 use Rattle.pv_num.proofs.Align.{fits_under, whole_fits, whole_justified}
 use Rattle.pv_num.proofs.Rounds.{zero_sized, beyond_sized, sized}
 use Rattle.pv_num.proofs.round.round.Goals as goal

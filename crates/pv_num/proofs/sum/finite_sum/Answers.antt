@@ -1,4 +1,4 @@
-use Rattle.std.proofs.Common.{◌≡◌, ◌<◌, ◌≤◌, ◌∙◌, refl, arith}
+use Rattle.std.proofs.Common.{◌∙◌, refl}
 use Rattle.pv_num.proofs.Operations.{smaller_finite, larger_finite, alike_finite, not_smaller}
 use Rattle.pv_num.proofs.sum.finite_sum.Goals as goal
 

@@ -1,5 +1,4 @@
 use Rattle.std.proofs.Common.{arith, refl}
-use Rattle.std.proofs.lemmas.Bool.{true≢false}
 use Rattle.pv_num.proofs.Sizes.{exponent_orders}
 use Rattle.pv_num.proofs.sum.is_smaller.Goals as goal
 

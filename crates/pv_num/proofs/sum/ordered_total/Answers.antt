@@ -1,5 +1,5 @@
-use Rattle.std.proofs.Common.{◌≡◌, ◌+◌, ◌-◌, ◌*◌, ◌^◌, ◌<◌, ◌≤◌, arith, refl, sym, subst}
-use Rattle.pv_num.specs.Sizes.{size_of, IsSized, fine}
+use Rattle.std.proofs.Common.{◌≡◌, ◌+◌, ◌-◌, ◌*◌, ◌^◌, arith, subst}
+use Rattle.pv_num.specs.Sizes.{IsSized, fine}
 use Rattle.pv_num.proofs.Sums.{near_sum, far_sum}
 use Rattle.pv_num.proofs.sum.ordered_total.Goals as goal
 

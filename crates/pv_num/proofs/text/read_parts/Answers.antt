@@ -1,4 +1,4 @@
-use Rattle.std.proofs.Common.{arith, ◌≡◌, ◌++◌, ◌∷◌, Some, None, ap, sym, ◌∙◌, length, take, drop, ◌+◌, ◌^◌, ◌<◌, subst, to_z, of_z, w64, ℤ, ℕ, unsigned_abs}
+use Rattle.std.proofs.Common.{arith, ◌≡◌, sym, ◌∙◌, length, ◌^◌, ◌<◌, subst, to_z, of_z, w64, unsigned_abs}
 use Rattle.std.specs.Fmt.{signed_decimal}
 use Rattle.pv_num.proofs.Texts.{whole_no_colon, first_colon, front_of, rest_of, none_some, some_some, word64, word16, pair_at}
 use Rattle.pv_num.proofs.text.read_parts.Goals as goal

@@ -1,4 +1,4 @@
-use Rattle.std.proofs.Common.{◌≡◌, None, subst, ◌+ℤ◌, ℕ, ◌<◌, ◌^◌, ap, ◌∙◌, arith, unsigned_abs, of_z, w64, zero, suc, pos, negsuc}
+use Rattle.std.proofs.Common.{◌≡◌, None, subst, ◌+ℤ◌, ◌<◌, ◌^◌, ap, ◌∙◌, arith, unsigned_abs, of_z, w64, pos, negsuc}
 use Rattle.std.proofs.lemmas.Int.{ints, to_z-of_z}
 use mir.Val.{SFits}
 use mir.Syntax.{w16}

@@ -1,4 +1,3 @@
-use Rattle.std.proofs.Common.{arith}
 use Rattle.pv_num.proofs.Orders.{floor_fits, floor_is}
 use Rattle.pv_num.proofs.num.Num.floor.Goals as goal
 

@@ -1,6 +1,4 @@
 use Rattle.std.proofs.Common.{ap, sym, subst, ◌∙◌}
-use Rattle.pv_num.specs.Extended.{Fin}
-use Rattle.pv_num.specs.Sizes.{with_sign}
 use Rattle.pv_num.specs.Parts.{IsPartsOf, parts_of}
 use Rattle.pv_num.proofs.Canonical.{finite_is, parts_of-are}
 use Rattle.pv_num.proofs.num.Num.parts.Goals as goal

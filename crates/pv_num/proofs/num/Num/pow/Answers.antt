@@ -1,5 +1,4 @@
-use Rattle.std.proofs.Common.{◌≡◌, ap, sym, refl, ◌∙◌}
-use Rattle.pv_num.specs.Extended.{Fin}
+use Rattle.std.proofs.Common.{ap, sym}
 use Rattle.pv_num.specs.Grid.{unit}
 use Rattle.pv_num.specs.Arithmetic.{pow_of}
 use Rattle.pv_num.proofs.num.Num.pow.Goals as goal

@@ -1,7 +1,6 @@
-use Rattle.std.proofs.Common.{rules, w64, arith, ◌≡◌, ◌++◌, ◌∷◌, Some, None, ap, sym, subst, ◌∙◌, refl}
-use Rattle.pv_num.specs.Extended.{Fin}
+use Rattle.std.proofs.Common.{rules, w64, Some, ap, sym, ◌∙◌}
 use Rattle.pv_num.specs.Parts.{number_text, parts_of}
-use Rattle.pv_num.proofs.Texts.{minus_text, plus_text, minus_only, plus_only, finite_text, spelling, spelled_text, parts_spell, fin_is, none_some, some_some, not_ends, word64, word16, pair_first, pair_second, no_fin, the_fin, the_parts}
+use Rattle.pv_num.proofs.Texts.{minus_text, plus_text, minus_only, plus_only, finite_text, spelling, spelled_text, parts_spell, none_some, not_ends, word64, word16, pair_first, pair_second, no_fin, the_fin, the_parts}
 use Rattle.std.proofs.lemmas.Int.{to_z-of_z}
 use mir.Val.{SFits}
 use mir.Syntax.{w16}

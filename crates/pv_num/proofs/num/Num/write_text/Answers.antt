@@ -1,4 +1,4 @@
-use Rattle.std.proofs.Common.{◌≡◌, ◌++◌, ap, ◌∙◌}
+use Rattle.std.proofs.Common.{◌++◌, ap, ◌∙◌}
 use Rattle.pv_num.specs.Parts.{number_text, parts_text}
 use Rattle.pv_num.proofs.num.Num.write_text.Goals as goal
 
