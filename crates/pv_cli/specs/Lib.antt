@@ -3,3 +3,5 @@ pub mod Refusals
 pub mod Fetched
 pub mod Told
 pub mod Answers
+pub mod Lines
+pub mod Faults

@@ -1,15 +1,23 @@
 //! The command line of the paver: words in, a status out.
 #![tactic(auto)]
 
-mod cause;
+mod decimal;
 mod fetched;
+mod gate;
 mod main_call;
+mod node_text;
+mod options;
+mod paving;
+mod printing;
 mod refusal;
+mod settles;
 mod status;
 mod telling;
 mod values;
 mod words;
+mod work;
 
+pub use gate::{Gate, NoGate};
 pub use main_call::paver_main;
 pub use refusal::Refusal;
 pub use status::Status;

@@ -1,23 +1,26 @@
 ghost use Rattle.std.specs.Prelude.{◌≡◌, ℕ, List, IfOk, IfErr, OnOk, OnErr, IsErrOf};
 ghost use Rattle.pv_io.specs.Outside.{Rose, appended, AppendsFront};
-ghost use Rattle.pv_cli.specs.Answers.{IsPrinted, IsSilent, IsOfSystem, HasCause, IsWorkRefusal, IsPrintRefusal};
+ghost use Rattle.pv_cli.specs.Answers.{IsPrinted, IsSilent, IsOfSystem, HasCause, IsPrintRefusal};
 ghost use Rattle.pv_cli.specs.Refusals.{status_of};
 ghost use Rattle.pv_cli.specs.Told.{Tells};
 
 use crate::fetched::system_text;
+use crate::options::Options;
 use crate::telling::tell;
 use crate::words::Words;
-use crate::{Refusal, Status, words};
+use crate::work::work;
+use crate::{Gate, Refusal, Status, options, words};
 use pv_io::{Folder, Sink, WriteRefused};
 use std::alloc::Global;
 
 /// Runs the command that the words give, of which word 0 is the program's name.
-pub fn paver_main<F: Folder, K: Sink, E: Sink>(
+pub fn paver_main<F: Folder, K: Sink, E: Sink, G: Gate>(
     alloc: Global,
     words: &[String],
     folder: &mut F,
     out: &mut K,
     err: &mut E,
+    gate: &G,
 ) -> Status
     ensures contents { (name : List ℕ) → F.content folder.new name ≡ F.content folder.old name }
     ensures no_store { F.store_faults folder.new ≡ F.store_faults folder.old }
@@ -33,24 +36,22 @@ pub fn paver_main<F: Folder, K: Sink, E: Sink>(
         Ok(request) => request,
         Err(refusal) => return tell(alloc, err, refusal, ""),
     };
-    match answer(alloc, &request, folder, out) {
+    let Some(options) = options::read(&request) else {
+        return tell(alloc, err, Refusal::Usage, request.system);
+    };
+    match answer(alloc, &request, options, folder, out, gate) {
         Ok(status) => status,
         Err(refusal) => tell(alloc, err, refusal, request.system),
     }
 }
 
-// What the work of a command came to.
-#[derive(Drop)]
-struct Report {
-    whole: bool,
-    text: Vec<u8>,
-}
-
-fn answer<F: Folder, K: Sink>(
+fn answer<F: Folder, K: Sink, G: Gate>(
     alloc: Global,
     request: &Words<'_>,
+    options: Options,
     folder: &mut F,
     out: &mut K,
+    gate: &G,
 ) -> Result<Status, Refusal>
     ensures contents { (name : List ℕ) → F.content folder.new name ≡ F.content folder.old name }
     ensures no_store { F.store_faults folder.new ≡ F.store_faults folder.old }
@@ -61,7 +62,7 @@ fn answer<F: Folder, K: Sink>(
     ensures cause { IfErr result (λ refusal. HasCause refusal (F.content folder.old request.now.system.now)) }
 {
     let text = system_text(alloc, folder, request.system)?;
-    let report = work(alloc, request, &text)?;
+    let report = work(alloc, request, options, &text, gate)?;
     print(out, &report.text)?;
     Ok(if report.whole {
         Status::Done
@@ -81,10 +82,4 @@ fn print<K: Sink>(out: &mut K, text: &[u8]) -> Result<(), Refusal>
         Err(WriteRefused::Failed) => Err(Refusal::WriteFault),
         Err(WriteRefused::Memory) => Err(Refusal::Memory),
     }
-}
-
-fn work(alloc: Global, request: &Words<'_>, text: &[u8]) -> Result<Report, Refusal>
-    ensures { IfErr result IsWorkRefusal }
-{
-    Err(Refusal::Memory)
 }

@@ -2,8 +2,8 @@ ghost use Rattle.std.specs.Prelude.{◌≡◌, [], ◌++◌, IfOk, OnOk, decimal
 ghost use Rattle.pv_cli.specs.Refusals.{status_of, cause_name, words_of, line_of};
 
 use crate::Status;
-use crate::cause::Cause;
-use itoa::Buffer;
+use crate::decimal::push_decimal;
+use pv_parse::Cause;
 use std::alloc::{AllocError, AllocFailed, Global};
 
 /// What ends a command before its work is printed.
@@ -92,7 +92,7 @@ impl Refusal {
             } => fault_words(alloc, line, column, byte, cause),
             Refusal::Contract { byte } => {
                 let mut words = Vec::from_slice(alloc, b"contract: refused at byte ")?;
-                push_decimal(&mut words, byte)?;
+                push_decimal(&mut words, u64::from(byte))?;
                 Ok(words)
             }
             Refusal::ReadFault => joined(alloc, b"read fault: ", name),
@@ -121,21 +121,14 @@ fn fault_words(
     ensures { IfOk result (λ words. words.items ≡ words_of (Refusal.System line column byte cause) []) }
 {
     let mut words = Vec::from_slice(alloc, b"system: line ")?;
-    push_decimal(&mut words, line)?;
+    push_decimal(&mut words, u64::from(line))?;
     words.extend_from_slice(b" column ")?;
-    push_decimal(&mut words, column)?;
+    push_decimal(&mut words, u64::from(column))?;
     words.extend_from_slice(b" byte ")?;
-    push_decimal(&mut words, byte)?;
+    push_decimal(&mut words, u64::from(byte))?;
     words.extend_from_slice(b": ")?;
     words.extend_from_slice(name_of(cause).as_bytes())?;
     Ok(words)
-}
-
-fn push_decimal(out: &mut Vec<u8>, n: u32) -> Result<(), AllocError>
-    ensures { OnOk result (out.new.items ≡ out.old.items ++ decimal n) }
-{
-    let mut digits = Buffer::new();
-    out.extend_from_slice(digits.format(n).as_bytes())
 }
 
 fn name_of(cause: Cause) -> &'static str

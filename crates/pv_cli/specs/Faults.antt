@@ -1,0 +1,9 @@
+-- The refusal for a fault of a text.
+use Rattle.pv_parse.specs.declared.cause.ParseRefused.{ParseRefused}
+use Rattle.pv_parse.specs.declared.cause.ParseRefused.TheVariants as parse
+use Rattle.pv_cli.specs.declared.refusal.Refusal.{Refusal}
+use Rattle.pv_cli.specs.declared.refusal.Refusal.TheVariants.{System, Memory}
+
+abbrev pub refusal_of : ParseRefused → Refusal
+refusal_of parse.Memory = Memory
+refusal_of (parse.Fault byte line column cause) = System line column byte cause

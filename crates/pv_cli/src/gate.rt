@@ -1,0 +1,15 @@
+use pv_tree::Path;
+
+/// What each worker passes before it settles a node.
+pub trait Gate {
+    /// Lets a worker through to the node at a path.
+    fn enter(&self, worker: u64, path: Path);
+}
+
+/// A gate that lets everyone through at once.
+#[derive(Clone, Copy, Debug, PartialEq, Eq)]
+pub struct NoGate;
+
+impl Gate for NoGate {
+    fn enter(&self, _worker: u64, _path: Path) {}
+}

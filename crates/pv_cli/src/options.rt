@@ -1,0 +1,58 @@
+ghost use Rattle.std.specs.Prelude.{◌≡◌, ◌≤◌, IfSome};
+
+use crate::values::count_of;
+use crate::words::Words;
+use pv_box::Bisector;
+use pv_num::{End, Num};
+use pv_parse::read_number;
+
+const P_LIMIT: i128 = 10_000_000_000_000_000_000_000_000_000_000_000_000;
+
+const Q_LIMIT: u128 = 1_000_000_000_000_000_000_000_000_000_000_000_000;
+
+/// The values of the options, or what stands for those that are not given.
+#[derive(Clone, Copy)]
+pub(crate) struct Options {
+    pub eps: Num,
+    pub depth: u32,
+    pub bisector: Bisector,
+    pub workers: u32,
+    pub boxes: u64,
+}
+
+/// Reads the values of the options; None where one is outside its range or spelling.
+pub(crate) fn read(words: &Words<'_>) -> Option<Options>
+    ensures depth { IfSome result (λ o. (1 ≤ o.depth) × (o.depth ≤ 200)) }
+    ensures workers { IfSome result (λ o. (1 ≤ o.workers) × (o.workers ≤ 16)) }
+    ensures boxes { IfSome result (λ o. (1 ≤ o.boxes) × (o.boxes ≤ 100000)) }
+{
+    let eps = number_of(words.eps.unwrap_or("0.125"))?;
+    let depth = count_of(words.depth.unwrap_or("60"), 1, 200)? as u32;
+    let bisector = bisector_of(words.bisect.unwrap_or("largest"))?;
+    let workers = count_of(words.workers.unwrap_or("4"), 1, 16)? as u32;
+    let boxes = count_of(words.boxes.unwrap_or("20000"), 1, 100_000)?;
+    Some(Options {
+        eps,
+        depth,
+        bisector,
+        workers,
+        boxes,
+    })
+}
+
+// An unsigned number, rounded down.
+fn number_of(text: &str) -> Option<Num> {
+    let (p, q) = read_number(text.as_bytes())?;
+    if p < 0 || p >= P_LIMIT || q == 0 || q > Q_LIMIT {
+        return None;
+    }
+    Some(Num::from_ratio(p, q, End::Down))
+}
+
+fn bisector_of(text: &str) -> Option<Bisector> {
+    match text {
+        "largest" => Some(Bisector::Largest),
+        "round" => Some(Bisector::Round),
+        _ => None,
+    }
+}
