@@ -1,3 +1,4 @@
 pub mod Halves
 pub mod Inside
 pub mod Cuts
+pub mod Hulls

@@ -39,11 +39,6 @@ pub record IsInside (a : Extended) (x : Bounds) : Type 0 where
   pub above : IsTrue (lt x.lo a)
   pub below : IsTrue (lt a x.hi)
 
--- c is the hull of a and b, place by place
-pub record IsHull (a b c : List Bounds) : Type 0 where
-  pub dims : length c ≡ length a
-  pub place : (k : ℕ) (d : Bounds) → k < length a → slice_index_or c k d ≡ hull_of (slice_index_or a k d) (slice_index_or b k d)
-
 -- c is what lies in a and in b, place by place
 pub record IsMeet (a b c : List Bounds) : Type 0 where
   pub dims : length c ≡ length a
@@ -58,3 +53,9 @@ pub record IsApart (a b : List Bounds) : Type 0 where
 -- the width of each place is at most eps
 abbrev pub IsSmall : Extended → List Bounds → Type 0
 IsSmall eps b = All (λ x. IsTrue (le (width_of x) eps)) b
+
+-- the hull of two boxes, place by place
+abbrev pub hull_boxes : List Bounds → List Bounds → List Bounds
+hull_boxes [] b = []
+hull_boxes (x ∷ a) [] = x ∷ a
+hull_boxes (x ∷ a) (y ∷ b) = hull_of x y ∷ hull_boxes a b

@@ -2,7 +2,7 @@ ghost use Rattle.std.specs.Prelude.{◌≡◌, ◌↔◌, ◌<◌, ◌≤◌, �
 ghost use Rattle.pv_num.specs.Order.{le, lt};
 ghost use Rattle.pv_interval.specs.Bounds.{Bounds, IsInterval};
 ghost use Rattle.pv_interval.specs.Tables.{width_of, meet_of};
-ghost use Rattle.pv_box.specs.Boxes.{IsBox, IsInside, IsSmall, lower_half, upper_half, IsHull, IsMeet, IsApart};
+ghost use Rattle.pv_box.specs.Boxes.{IsBox, IsInside, IsSmall, lower_half, upper_half, hull_boxes, IsMeet, IsApart};
 
 use pv_interval::Interval;
 use pv_num::Num;
@@ -101,7 +101,7 @@ impl IBox {
     /// Becomes the hull of both, place by place.
     pub fn hull(&mut self, other: &IBox)
         requires { length self.old ≡ length other.now }
-        ensures { length self.new ≡ length self.old }
+        ensures { self.new ≡ hull_boxes self.old other.now }
     {
         for i in 0..self.dims() {
             let part = self.get(i).hull(other.get(i));
