@@ -18,7 +18,7 @@ hull_places (x ∷ a) (y ∷ b) (z ∷ c) e f h =
     let q : c ≡ hull_boxes a b = hull_places a b c (omega arith) (omega arith) (λ k d l. h (suc k) d (omega arith)) in
     ap (λ w. w ∷ c) p ∙ ap (λ w. hull_of x y ∷ w) q
 
-in_range : (s : List Bounds) (i : ℕ) (d e : Bounds) → i < length s → get_or s i d ≡ get_or s i e
+pub in_range : (s : List Bounds) (i : ℕ) (d e : Bounds) → i < length s → get_or s i d ≡ get_or s i e
 in_range [] i d e h = absurd (omega arith)
 in_range (x ∷ s) zero d e h = refl
 in_range (x ∷ s) (suc i) d e h = in_range s i d e (omega arith)

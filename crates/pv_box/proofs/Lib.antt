@@ -2,3 +2,5 @@ pub mod Halves
 pub mod Inside
 pub mod Cuts
 pub mod Hulls
+pub mod Columns
+pub mod Places

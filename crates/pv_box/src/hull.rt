@@ -1,4 +1,7 @@
-ghost use Rattle.std.specs.Prelude.{ℕ, [], slice_index_or, ◌≡◌, ◌<◌, ◌≤◌, All, length, IfOk, IfSome};
+//! The q-hull of boxes (Chabert and Jaulin, 2009): what may lie in at least q of them, place by place.
+ghost use Rattle.std.specs.Prelude.{[], slice_index_or, ◌≡◌, ◌<◌, ◌≤◌, All, length, drop, IfOk, Some, ◌+◌};
+ghost use Rattle.pv_interval.specs.Bounds.{Bounds, everything};
+ghost use Rattle.pv_box.specs.QHull.{q_hull_of, place_hull_of, column, least_end, greatest_end, count_holding as count_of, is_in_enough, lower_of, upper_of};
 
 use crate::IBox;
 use pv_interval::Interval;
@@ -6,13 +9,14 @@ use pv_num::Num;
 use std::alloc::{AllocError, Global};
 
 impl IBox {
-    /// In each place what reaches from the least to the greatest end that lies in at least `q` of the intervals;
-    /// None where a place has no such end.
+    /// In each place what reaches from the least lower end to the greatest upper end that lie in at least `q` of the
+    /// intervals; None where a place has no such end.
+    #[tactic(auto, unfolding(crate::specs::QHull::q_hull_of))]
     pub fn q_hull(alloc: Global, q: u32, boxes: &[IBox]) -> Result<Option<IBox>, AllocError>
         requires some { 0 < length boxes.now }
         requires equal { All (λ b. length b ≡ length (slice_index_or boxes.now 0 [])) boxes.now }
         requires q { 1 ≤ q }
-        ensures { IfOk result (λ found. IfSome found (λ b. length b ≡ length (slice_index_or boxes.now 0 []))) }
+        ensures { IfOk result (λ found. found ≡ q_hull_of q boxes.now) }
     {
         let mut hull = boxes[0].clone_of(alloc)?;
         for i in 0..hull.dims() {
@@ -26,32 +30,92 @@ impl IBox {
 }
 
 // The q-hull of one place.
+#[tactic(auto, unfolding(crate::specs::QHull::place_hull_of))]
 fn place_hull(q: u32, i: u8, boxes: &[IBox]) -> Option<Interval>
     requires { All (λ b. i < length b) boxes.now }
+    ensures { result ≡ place_hull_of q (column i boxes.now) }
 {
-    let mut lo: Option<Num> = None;
-    let mut hi: Option<Num> = None;
-    for bx in boxes {
-        let part = bx.get(i);
-        if lies_in_enough(q, i, boxes, part.lo()) && lo.is_none_or(|least| part.lo() < least) {
-            lo = Some(part.lo());
-        }
-        if lies_in_enough(q, i, boxes, part.hi()) && hi.is_none_or(|most| part.hi() > most) {
-            hi = Some(part.hi());
-        }
+    let lo = least_lower_end(q, i, boxes, 0)?;
+    let hi = greatest_upper_end(q, i, boxes, 0)?;
+    Interval::new(lo, hi)
+}
+
+// The least lower end, of the boxes from number `at` on, that lies in enough of all.
+fn least_lower_end(q: u32, i: u8, boxes: &[IBox], at: usize) -> Option<Num>
+    requires places { All (λ b. i < length b) boxes.now }
+    requires within { at ≤ length boxes.now }
+    ensures { result ≡ least_end q (column i boxes.now) (drop at (column i boxes.now)) }
+{
+    if at >= boxes.len() {
+        return None;
     }
-    Interval::new(lo?, hi?)
+    let end = boxes[at].get(i).lo();
+    let best = least_lower_end(q, i, boxes, at + 1);
+    lower(lies_in_enough(q, i, boxes, end), end, best)
+}
+
+// The greatest upper end, of the boxes from number `at` on, that lies in enough of all.
+fn greatest_upper_end(q: u32, i: u8, boxes: &[IBox], at: usize) -> Option<Num>
+    requires places { All (λ b. i < length b) boxes.now }
+    requires within { at ≤ length boxes.now }
+    ensures { result ≡ greatest_end q (column i boxes.now) (drop at (column i boxes.now)) }
+{
+    if at >= boxes.len() {
+        return None;
+    }
+    let end = boxes[at].get(i).hi();
+    let best = greatest_upper_end(q, i, boxes, at + 1);
+    upper(lies_in_enough(q, i, boxes, end), end, best)
+}
+
+// The lesser of this end, where it counts, and the best so far.
+fn lower(counts: bool, end: Num, best: Option<Num>) -> Option<Num>
+    ensures { result ≡ lower_of counts end best }
+{
+    if !counts {
+        return best;
+    }
+    match best {
+        Some(other) => Some(if end <= other { end } else { other }),
+        None => Some(end),
+    }
+}
+
+// The greater of this end, where it counts, and the best so far.
+fn upper(counts: bool, end: Num, best: Option<Num>) -> Option<Num>
+    ensures { result ≡ upper_of counts end best }
+{
+    if !counts {
+        return best;
+    }
+    match best {
+        Some(other) => Some(if end <= other { other } else { end }),
+        None => Some(end),
+    }
 }
 
 // Whether a number lies in place `i` of at least `q` boxes.
 fn lies_in_enough(q: u32, i: u8, boxes: &[IBox], n: Num) -> bool
     requires { All (λ b. i < length b) boxes.now }
+    ensures { result ≡ is_in_enough q (column i boxes.now) n }
 {
-    let mut count = 0u32;
-    for bx in boxes {
-        if bx.get(i).contains(n) {
-            count = count.saturating_add(1);
-        }
+    q as usize <= count_holding(i, boxes, n, 0)
+}
+
+// How many of the boxes from number `at` on hold a number in place `i`.
+fn count_holding(i: u8, boxes: &[IBox], n: Num, at: usize) -> usize
+    requires places { All (λ b. i < length b) boxes.now }
+    requires within { at ≤ length boxes.now }
+    ensures count { result ≡ count_of (drop at (column i boxes.now)) n }
+    ensures few { result + at ≤ length boxes.now }
+{
+    if at >= boxes.len() {
+        return 0;
     }
-    count >= q
+    let later = count_holding(i, boxes, n, at + 1);
+    if boxes[at].get(i).contains(n) {
+        later + 1
+    } else {
+        later
+    }
 }

@@ -1,0 +1,18 @@
+use Rattle.std.proofs.Common.{arith, ◌+◌, ◌<◌, length, drop, sym}
+use Rattle.pv_box.specs.QHull.{column}
+use Rattle.pv_box.proofs.Columns.{column_end, column_row, least_step, least_none}
+use Rattle.pv_box.proofs.hull.+least_lower_end.Goals as goal
+
+pub returns-then-at-boxes : goal.returns-then-at-boxes
+returns-then-at-boxes t c =
+    sym (least_none c.args.q (column c.args.i c.args.boxes.now) (drop c.args.at (column c.args.i c.args.boxes.now))
+    (column_end c.args.i c.args.boxes.now c.args.at c.if-at-boxes.true))
+
+pub returns : goal.returns
+returns t c =
+    let within : c.args.at < length c.args.boxes.now = omega arith in
+    let e = column_row c.args.i c.args.boxes.now c.args.at c.index-boxes-at.result c.get.result within c.index-boxes-at.is
+    (c.requires.places c.args.at c.index-boxes-at.result within) c.get.ensures.value in
+    let all = column c.args.i c.args.boxes.now in
+    least_step c.args.q all (drop c.args.at all) (drop (c.args.at + 1) all) c.get.result c.lower.result c.least_lower_end-best.result
+    c.lies_in_enough.result c.lo-end.result e c.lower.ensures c.lies_in_enough.ensures c.lo-end.ensures.value c.least_lower_end-best.ensures
