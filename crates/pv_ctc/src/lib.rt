@@ -4,11 +4,15 @@
 //! 173 (2009).
 #![tactic(auto)]
 
+mod contract;
+mod graphs;
 pub mod program;
 mod reading;
+mod sure;
 mod token;
 mod writing;
 
+pub use graphs::Graphs;
 pub use program::Program;
 pub use reading::ProgramRefused;
 

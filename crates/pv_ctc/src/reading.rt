@@ -1,6 +1,7 @@
 // From a text to a program.
 
 ghost use Rattle.std.specs.Prelude.{◌≡◌, ◌+◌, ◌<◌, ◌≤◌, length, IfOk};
+ghost use Rattle.pv_ctc.specs.Plans.{plan_of, plans_of, IsFor, AreFor};
 
 use crate::program::{NODE_LIMIT, Program, TEXT_LIMIT, TURN_LIMIT};
 use crate::token::{Token, Word, token_at};
@@ -29,7 +30,9 @@ impl<T: Drop> From<AllocFailed<T>> for ProgramRefused {
 
 impl Program {
     /// Reads the program of a text, for a system of `count` constraints.
-    pub fn read(alloc: Global, text: &[u8], count: u32) -> Result<Program, ProgramRefused> {
+    pub fn read(alloc: Global, text: &[u8], count: u32) -> Result<Program, ProgramRefused>
+        ensures fits { IfOk result (λ p. IsFor count (plan_of p)) }
+    {
         if text.len() > TEXT_LIMIT {
             return Err(ProgramRefused::Bad { byte: 4096 });
         }
@@ -67,7 +70,8 @@ impl<'a> Reader<'a> {
 
     // The next token must be this one.
     fn want(&mut self, token: Token) -> Result<(), ProgramRefused>
-        ensures { self.new.named ≡ self.old.named }
+        ensures named { self.new.named ≡ self.old.named }
+        ensures count { self.new.count ≡ self.old.count }
     {
         let (found, end) = token_at(self.text, self.at);
         if found != token {
@@ -79,7 +83,9 @@ impl<'a> Reader<'a> {
 
     // The next token must be a number in a range.
     fn number(&mut self, low: u32, high: u32) -> Result<u32, ProgramRefused>
-        ensures { self.new.named ≡ self.old.named }
+        ensures named { self.new.named ≡ self.old.named }
+        ensures count { self.new.count ≡ self.old.count }
+        ensures range { IfOk result (λ n. (low ≤ n) × (n ≤ high)) }
     {
         let (found, end) = token_at(self.text, self.at);
         match found {
@@ -93,7 +99,8 @@ impl<'a> Reader<'a> {
 
     // The next token must be a word, and is the name of one more node.
     fn word(&mut self) -> Result<Word, ProgramRefused>
-        ensures { IfOk result (λ _. self.new.named ≡ self.old.named + 1) }
+        ensures named { IfOk result (λ _. self.new.named ≡ self.old.named + 1) }
+        ensures count { self.new.count ≡ self.old.count }
     {
         let (found, end) = token_at(self.text, self.at);
         match found {
@@ -108,7 +115,8 @@ impl<'a> Reader<'a> {
 
     // Whether the next token is a comma, which is then taken.
     fn comma(&mut self) -> bool
-        ensures { self.new.named ≡ self.old.named }
+        ensures named { self.new.named ≡ self.old.named }
+        ensures count { self.new.count ≡ self.old.count }
     {
         let (found, end) = token_at(self.text, self.at);
         if found == Token::Comma {
@@ -120,7 +128,9 @@ impl<'a> Reader<'a> {
 
     #[cycle(reading)]
     fn program(&mut self, alloc: Global) -> Result<Program, ProgramRefused>
-        ensures { IfOk result (λ _. self.old.named < self.new.named) }
+        ensures named { IfOk result (λ _. self.old.named < self.new.named) }
+        ensures count { self.new.count ≡ self.old.count }
+        ensures fits { IfOk result (λ p. IsFor self.old.count (plan_of p)) }
     {
         let word = self.word()?;
         self.want(Token::Open)?;
@@ -132,7 +142,9 @@ impl<'a> Reader<'a> {
     // What stands between the parentheses behind a word.
     #[cycle(reading)]
     fn arguments(&mut self, alloc: Global, word: Word) -> Result<Program, ProgramRefused>
-        ensures { IfOk result (λ _. self.old.named ≤ self.new.named) }
+        ensures named { IfOk result (λ _. self.old.named ≤ self.new.named) }
+        ensures count { self.new.count ≡ self.old.count }
+        ensures fits { IfOk result (λ p. IsFor self.old.count (plan_of p)) }
     {
         match word {
             Word::Hc4 => Ok(Program::Hc4(self.constraint()?)),
@@ -159,7 +171,9 @@ impl<'a> Reader<'a> {
 
     // The next token must be the number of a constraint.
     fn constraint(&mut self) -> Result<u32, ProgramRefused>
-        ensures { self.new.named ≡ self.old.named }
+        ensures named { self.new.named ≡ self.old.named }
+        ensures count { self.new.count ≡ self.old.count }
+        ensures range { IfOk result (λ i. i < self.old.count) }
     {
         if self.count == 0 {
             return Err(Self::refusal(self.at));
@@ -170,7 +184,10 @@ impl<'a> Reader<'a> {
     // One program or more, with commas between them.
     #[cycle(reading)]
     fn parts(&mut self, alloc: Global) -> Result<Vec<Program>, ProgramRefused>
-        ensures { IfOk result (λ _. self.old.named ≤ self.new.named) }
+        ensures named { IfOk result (λ _. self.old.named ≤ self.new.named) }
+        ensures count { self.new.count ≡ self.old.count }
+        ensures some { IfOk result (λ ps. 1 ≤ length ps.items) }
+        ensures fits { IfOk result (λ ps. AreFor self.old.count (plans_of ps.items)) }
     {
         let mut parts = Vec::new(alloc);
         parts.push(self.program(alloc)?)?;

@@ -1,5 +1,6 @@
 -- A program names one more node than its arguments, so the room for further nodes falls on each way round.
-use Rattle.std.proofs.Common.{◌+◌, ◌≤◌, ◌-◌, ◌*◌}
+use Rattle.std.proofs.Common.{◌+◌, ◌≤◌, ◌-◌, ◌*◌, ◌≡◌, length}
+use Rattle.pv_ctc.specs.Plans.{plans_of, AreFor}
 use Rattle.pv_ctc.proofs.reading.Reader.+reading.Given as goal
 
 abbrev pub decreases-arguments : goal.decreases-arguments
@@ -12,7 +13,12 @@ abbrev pub decreases-program : goal.decreases-program
 decreases-program l = 3 * (256 - l.self.now.named)
 
 abbrev pub invariant-parts-loop-alloc : goal.invariant-parts-loop-alloc
-invariant-parts-loop-alloc l = l.fn.self.named ≤ l.self.named
+invariant-parts-loop-alloc l = record {
+  named : l.fn.self.named ≤ l.self.named;
+  count : l.self.count ≡ l.fn.self.count;
+  some : 1 ≤ length l.parts.items;
+  fits : AreFor l.fn.self.count (plans_of l.parts.items);
+}
 
 abbrev pub decreases-parts-loop-alloc : goal.decreases-parts-loop-alloc
 decreases-parts-loop-alloc l = 256 - l.self.named

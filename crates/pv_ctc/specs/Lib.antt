@@ -1,0 +1,2 @@
+pub mod GraphLists
+pub mod Plans

@@ -1,0 +1,51 @@
+// The graphs of a system's constraints.
+
+ghost use Rattle.std.specs.Prelude.{◌≡◌, ◌<◌, ◌≤◌, length, map, IfOk};
+ghost use Rattle.pv_hc4.specs.Graphs.{sides_of, sides_named};
+ghost use Rattle.pv_ctc.specs.GraphLists.{AreGraphs};
+
+use pv_expr::System;
+use pv_hc4::Graph;
+use pv_num::Memory;
+use std::alloc::Global;
+use std::marker::Model;
+
+/// The graph of each constraint of a system, in their order.
+#[derive(Drop)]
+pub struct Graphs {
+    pub(crate) graphs: Vec<Graph>,
+    dims: u8,
+}
+
+impl Model for Graphs {
+    ghost use Rattle.pv_ctc.specs.GraphLists.{GraphList, AreGraphs};
+
+    ghost Value = { GraphList };
+
+    ghost view = { λ g. record { graphs = g.graphs.items; dims = g.dims } };
+
+    ghost invariant = { λ g. AreGraphs (record { graphs = g.graphs.items; dims = g.dims }) };
+}
+
+impl Graphs {
+    /// Makes the graph of each constraint.
+    pub fn of(alloc: Global, system: &System) -> Result<Graphs, Memory>
+        ensures sides { IfOk result (λ g. map sides_of g.graphs ≡ map sides_named system.now.constraints) }
+        ensures dims { IfOk result (λ g. g.dims ≡ length system.now.names) }
+    {
+        let dims = system.variable_count();
+        let mut graphs = Vec::new(alloc);
+        for i in 0..system.constraint_count() {
+            graphs.push(Graph::of(alloc, system.constraint(i), dims)?)?;
+        }
+        Ok(Graphs { graphs, dims })
+    }
+
+    /// How many constraints there are.
+    pub fn count(&self) -> u32
+        ensures value { result ≡ length self.now.graphs }
+        ensures graphs { AreGraphs self.now }
+    {
+        self.graphs.len() as u32
+    }
+}

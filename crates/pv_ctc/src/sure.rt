@@ -1,0 +1,108 @@
+// Whether every point of a box is a member of a program's set, as the intervals show.
+
+ghost use Rattle.std.specs.Prelude.{◌≡◌, ℕ, ◌<◌, ◌≤◌, length, IfOk};
+ghost use Rattle.pv_ctc.specs.Plans.{plan_of, plans_of, IsFor, AreFor};
+
+use crate::graphs::Graphs;
+use crate::program::Program;
+use pv_box::IBox;
+use pv_hc4::Scratch;
+use pv_num::Memory;
+use std::alloc::Global;
+
+impl Program {
+    /// Whether the program is sure on a box: where it is, every point of the box is in the
+    /// program's set.
+    pub fn sure(&self, alloc: Global, graphs: &Graphs, bx: &IBox) -> Result<bool, Memory>
+        requires program { IsFor (length graphs.now.graphs) (plan_of self.now) }
+        requires dims { length bx.now ≡ graphs.now.dims }
+    {
+        let mut scratch = Scratch::new(alloc);
+        is_sure(self, graphs, &mut scratch, bx)
+    }
+}
+
+#[cycle(sureness)]
+fn is_sure(
+    program: &Program,
+    graphs: &Graphs,
+    scratch: &mut Scratch,
+    bx: &IBox,
+) -> Result<bool, Memory>
+    requires program { IsFor (length graphs.now.graphs) (plan_of program.now) }
+    requires dims { length bx.now ≡ graphs.now.dims }
+{
+    match program {
+        Program::Hc4(i) => constraint_is_sure(graphs, *i as usize, scratch, bx),
+        Program::Compose(parts) => all_are_sure(parts, graphs, scratch, bx),
+        Program::Union(parts) => so_many_are_sure(1, parts, graphs, scratch, bx),
+        Program::QInter(q, parts) => so_many_are_sure(*q, parts, graphs, scratch, bx),
+        Program::Fix(_, part) => is_sure(part, graphs, scratch, bx),
+        Program::Prop(_) => constraints_are_sure(graphs, scratch, bx),
+    }
+}
+
+fn constraint_is_sure(
+    graphs: &Graphs,
+    i: usize,
+    scratch: &mut Scratch,
+    bx: &IBox,
+) -> Result<bool, Memory>
+    requires constraint { i < length graphs.now.graphs }
+    requires dims { length bx.now ≡ graphs.now.dims }
+{
+    graphs.graphs[i].sure_in(scratch, bx)
+}
+
+fn constraints_are_sure(graphs: &Graphs, scratch: &mut Scratch, bx: &IBox) -> Result<bool, Memory>
+    requires dims { length bx.now ≡ graphs.now.dims }
+{
+    for i in 0..graphs.graphs.len() {
+        if !constraint_is_sure(graphs, i, scratch, bx)? {
+            return Ok(false);
+        }
+    }
+    Ok(true)
+}
+
+#[cycle(sureness)]
+fn all_are_sure(
+    parts: &[Program],
+    graphs: &Graphs,
+    scratch: &mut Scratch,
+    bx: &IBox,
+) -> Result<bool, Memory>
+    requires programs { AreFor (length graphs.now.graphs) (plans_of parts.now) }
+    requires dims { length bx.now ≡ graphs.now.dims }
+{
+    for part in parts {
+        if !is_sure(part, graphs, scratch, bx)? {
+            return Ok(false);
+        }
+    }
+    Ok(true)
+}
+
+// Whether at least q of the parts are sure.
+#[cycle(sureness)]
+fn so_many_are_sure(
+    q: u32,
+    parts: &[Program],
+    graphs: &Graphs,
+    scratch: &mut Scratch,
+    bx: &IBox,
+) -> Result<bool, Memory>
+    requires programs { AreFor (length graphs.now.graphs) (plans_of parts.now) }
+    requires dims { length bx.now ≡ graphs.now.dims }
+{
+    let mut missing = q;
+    for part in parts {
+        if missing == 0 {
+            return Ok(true);
+        }
+        if is_sure(part, graphs, scratch, bx)? {
+            missing -= 1;
+        }
+    }
+    Ok(missing == 0)
+}
