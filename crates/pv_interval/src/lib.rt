@@ -8,3 +8,6 @@ mod laws;
 
 pub use interval::Interval;
 pub use laws::inclusion;
+
+#[cfg(test)]
+mod tests;
