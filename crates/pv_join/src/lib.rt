@@ -1,2 +1,11 @@
-//! Not begun.
+//! Joins of pavings over one box, and the audit of a paving against a settler.
 #![tactic(auto)]
+
+mod check;
+mod merge;
+mod outcomes;
+mod verdict;
+
+pub use check::audit;
+pub use merge::{join, JoinRefused};
+pub use verdict::Audit;

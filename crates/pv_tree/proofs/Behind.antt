@@ -1,5 +1,5 @@
 -- The open leaves that stand behind a path.
-use Rattle.std.proofs.Common.{◌≡◌, ◌⊎◌, inl, inr, ℕ, zero, suc, ◌+◌, ◌-◌, ◌<◌, ◌≤◌, Bool, true, false, cond, IsTrue, Option, Some, None, List, [], ◌∷◌, ◌++◌, map, length, drop, get_or, refl, sym, ◌∙◌, ap, arith, append_assoc, length-append, add-one}
+use Rattle.std.proofs.Common.{◌≡◌, ℕ, suc, ◌+◌, ◌-◌, ◌<◌, ◌≤◌, Bool, true, false, cond, Option, Some, None, List, [], ◌∷◌, ◌++◌, map, length, drop, get_or, refl, sym, ◌∙◌, ap, arith, length-append}
 use Rattle.std.specs.List.{filter}
 use Rattle.std.proofs.lemmas.List.Elements.{filter-append}
 use Rattle.std.proofs.Math.Seq.{drop-cons, drop-length}
@@ -8,13 +8,13 @@ use Rattle.pv_num.specs.Extended.{Extended}
 use Rattle.pv_interval.specs.Bounds.{Bounds}
 use Rattle.pv_tree.specs.Trees.{Tree, leaf, removed, inner, small, cut, first, behind, precedes, opens, subtree}
 use Rattle.pv_tree.specs.Arena.{cell_at, kids_of, whole_tree}
-use Rattle.pv_tree.specs.Spots.{IsSpot, AreCutInto, opens_below, first_below, first_behind, either}
+use Rattle.pv_tree.specs.Spots.{AreCutInto, opens_below, first_below, first_behind, either}
 use Rattle.pv_tree.specs.declared.cell.Cell.{Cell}
 use Rattle.pv_tree.specs.declared.cell.Cell.TheVariants.{Open, Removed, Inner, Small, Cut}
 use Rattle.pv_tree.specs.declared.cell.Node.{Node}
 use Rattle.pv_tree.specs.declared.search.Spot.{Spot}
 use Rattle.pv_tree.specs.declared.search.Pair.{Pair}
-use Rattle.pv_tree.proofs.Searches.{listed, opens_below-is, cut_listed, one_more, below_opens, map_same, first_of_two, first_is_open}
+use Rattle.pv_tree.proofs.Searches.{listed, opens_below-is, cut_listed, one_more, below_opens, map_same, first_of_two}
 
 filter_keep : (test : List Bool → Bool) (b : Bool) (xs : List (List Bool)) → ((q : List Bool) → test (b ∷ q) ≡ true) → filter test (map (λ p. b ∷ p) xs) ≡ map (λ p. b ∷ p) xs
 filter_keep test b [] h = refl

@@ -1,6 +1,6 @@
 -- Every point of the root box lies in some leaf or removed part.
-use Rattle.std.proofs.Common.{◌≡◌, ◌⊎◌, inl, inr, ℕ, zero, suc, ◌+◌, ◌<◌, ◌≤◌, Bool, true, false, List, [], ◌∷◌, length, refl, sym, ◌∙◌, ap, arith}
-use Rattle.std.specs.Prelude.{ℤ, pos, ◌*ℤ◌, ◌≤ℤ◌, ◌<ℤ◌}
+use Rattle.std.proofs.Common.{◌⊎◌, inl, inr, ℕ, zero, suc, ◌<◌, List, [], ◌∷◌, arith}
+use Rattle.std.specs.Prelude.{ℤ, pos, ◌*ℤ◌, ◌≤ℤ◌}
 use Rattle.std.proofs.lemmas.Int.{ints}
 use Rattle.pv_num.specs.Extended.{Extended, NegInf, Fin, PosInf}
 use Rattle.pv_num.specs.Grid.{unit}
@@ -8,7 +8,7 @@ use Rattle.pv_interval.specs.Bounds.{Bounds}
 use Rattle.pv_interval.specs.Points.{IsBelow, IsAbove, Lies, Point}
 use Rattle.pv_box.specs.Boxes.{LieIn, PointIn, lower_half, upper_half}
 use Rattle.pv_tree.specs.Trees.{Tree, leaf, removed, inner, small, cut, Paves, IsStrictlyInside, IsBetween}
-use Rattle.pv_tree.specs.Sets.{IsCovered, Covers}
+use Rattle.pv_tree.specs.Sets.{Covers}
 use Rattle.pv_tree.proofs.Placing.{lt_or}
 
 le_or : (a b : ℤ) → (a ≤ℤ b) ⊎ (b ≤ℤ a)

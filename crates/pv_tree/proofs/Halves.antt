@@ -1,21 +1,20 @@
 -- The halves of a cut box, place by place.
-use Rattle.std.proofs.Common.{◌≡◌, ◌&&◌, if◌then◌else◌, ℕ, zero, suc, ◌+◌, ◌<◌, ◌≤◌, Bool, true, false, IsTrue, ℤ, Option, Some, None, List, [], ◌∷◌, ◌++◌, take, drop, ◌-◌, length, get_or, set, add-one, length-take, subst, refl, sym, ◌∙◌, ap, arith}
+use Rattle.std.proofs.Common.{◌≡◌, ◌&&◌, if◌then◌else◌, ℕ, zero, suc, ◌+◌, ◌<◌, ◌≤◌, Bool, true, false, IsTrue, ℤ, Option, Some, None, List, [], ◌∷◌, ◌++◌, take, drop, ◌-◌, length, get_or, set, length-take, subst, refl, sym, ◌∙◌, ap, arith}
 use Rattle.std.specs.Ordering.{int_cmp, is_lt, is_le}
 use Rattle.std.specs.declared.cmp.Ordering.{Ordering}
 use Rattle.std.specs.declared.cmp.Ordering.TheVariants.{Less, Equal, Greater}
 use Rattle.pv_num.specs.Extended.{Extended, NegInf, Fin, PosInf}
-use Rattle.pv_num.specs.Order.{le, lt}
+use Rattle.pv_num.specs.Order.{lt}
 use Rattle.pv_interval.specs.Bounds.{Bounds, interval_from, between}
 use Rattle.pv_box.specs.Boxes.{lower_half, upper_half}
 use Rattle.pv_tree.specs.Trees.{IsStrictlyInside, IsBetween, half_of, Tree, leaf, removed, inner, small, cut, subtree, box_of, Paves, outcome_at, top, to_at, to_of}
 use Rattle.std.specs.Option.{option_map, IsSome}
-use Rattle.pv_tree.specs.Arena.{tree_at, whole_tree, reach, cell_at, kept, kids_of, start_of, IsLinked, IsWhole, cell_along, start_along, HasHalves, half_at}
+use Rattle.pv_tree.specs.Arena.{tree_at, whole_tree, reach, cell_at, kept, start_of, IsLinked, IsWhole, cell_along, start_along, HasHalves, half_at}
 use Rattle.pv_tree.specs.declared.cell.Cell.{Cell}
 use Rattle.pv_tree.specs.declared.cell.Cell.TheVariants.{Open, Removed, Inner, Small, Cut}
 use Rattle.pv_tree.specs.declared.cell.Node.{Node}
 use Rattle.pv_tree.specs.declared.outcome.Counts.{Counts}
 use Rattle.pv_tree.specs.declared.outcome.Outcome.{Outcome}
-use Rattle.pv_tree.specs.declared.outcome.Outcome.TheVariants as outcome
 use Rattle.pv_tree.proofs.ArenaFacts.{shown, tree_at-is}
 use Rattle.pv_tree.proofs.Wholes.{subtree_there, take_length, half_length}
 use Rattle.std.proofs.lemmas.List.{length-drop}

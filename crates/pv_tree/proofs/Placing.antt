@@ -1,20 +1,18 @@
 -- An arena after one open node was settled, and after nodes were marked as closed.
-use Rattle.std.proofs.Common.{if◌then◌else◌, ◌≡◌, ◌≢◌, ◌⊎◌, inl, inr, ℕ, zero, suc, ◌+◌, ◌-◌, ◌*◌, ◌<◌, ◌≤◌, max, Bool, true, false, cond, eqb, IsTrue, Option, Some, None, List, [], ◌∷◌, ◌++◌, map, length, take, drop, refl, sym, ◌∙◌, ap, arith, append_assoc, length-append, slice_index_or, subst, append-nil}
-use Rattle.std.proofs.lemmas.List.{append_cancel_left, take-append-le, drop-append-le, length-drop}
+use Rattle.std.proofs.Common.{if◌then◌else◌, ◌≡◌, ◌⊎◌, inl, inr, ℕ, zero, suc, ◌+◌, ◌-◌, ◌<◌, ◌≤◌, Bool, true, false, cond, eqb, Some, None, List, [], ◌∷◌, ◌++◌, length, take, drop, refl, sym, ◌∙◌, ap, arith, length-append, subst}
+use Rattle.std.proofs.lemmas.List.{take-append-le, drop-append-le, length-drop}
 use Rattle.std.proofs.lemmas.Bool.{eq-eqb, ne_eqb}
 use Rattle.std.proofs.lemmas.Bool.Decides.{eqb_tells}
 use Rattle.std.proofs.lemmas.List.{get_or_past}
 use Rattle.pv_tree.specs.declared.outcome.Outcome.TheVariants as outcome
-use Rattle.std.specs.Option.{option_map}
-use Rattle.pv_num.specs.Extended.{Extended}
 use Rattle.pv_interval.specs.Bounds.{Bounds}
-use Rattle.pv_tree.specs.Trees.{Tree, leaf, removed, inner, small, cut, subtree, graft, height, settled, top}
-use Rattle.pv_tree.specs.Arena.{tree_at, reach, cell_at, closed_at, kept, kids_of, start_of, side, Family, IsLinked, IsArena, open_node, IsClosed, IsPlaced, is_cut, outcome_of, Shows, IsLonger, IsRemarked, MarksRight, HasKids}
+use Rattle.pv_tree.specs.Trees.{cut, height, settled}
+use Rattle.pv_tree.specs.Arena.{tree_at, cell_at, closed_at, kept, kids_of, start_of, Family, IsLinked, open_node, IsClosed, IsPlaced, is_cut, outcome_of, Shows, IsLonger, IsRemarked, MarksRight}
 use Rattle.pv_tree.specs.declared.cell.Cell.{Cell}
 use Rattle.pv_tree.specs.declared.cell.Cell.TheVariants.{Open, Removed, Inner, Small, Cut}
 use Rattle.pv_tree.specs.declared.cell.Node.{Node}
 use Rattle.pv_tree.specs.declared.outcome.Outcome.{Outcome}
-use Rattle.pv_tree.proofs.ArenaFacts.{shown, tree_at-is, tree_at-zero, deep, grafted, other}
+use Rattle.pv_tree.proofs.ArenaFacts.{shown, tree_at-is, tree_at-zero}
 
 pub lt_or : (a b : ℕ) → (a < b) ⊎ (b ≤ a)
 lt_or a zero = inr (omega arith)

@@ -1,18 +1,17 @@
 -- The first open leaf below a node.
-use Rattle.std.proofs.Common.{◌≡◌, ◌≢◌, ◌⊎◌, inl, inr, ℕ, zero, suc, ◌+◌, ◌-◌, ◌*◌, ◌<◌, ◌≤◌, Bool, true, false, IsTrue, Option, Some, None, List, [], ◌∷◌, ◌++◌, map, length, refl, sym, ◌∙◌, ap, arith, append_assoc, length-append, append-nil, subst}
+use Rattle.std.proofs.Common.{◌≡◌, ◌⊎◌, inl, inr, ℕ, zero, suc, ◌+◌, ◌-◌, ◌<◌, ◌≤◌, Bool, true, false, Option, Some, None, List, [], ◌∷◌, ◌++◌, map, length, refl, sym, ◌∙◌, ap, arith, append_assoc, length-append, append-nil}
 use Rattle.std.specs.Option.{option_map, IfSome}
-use Rattle.pv_num.specs.Extended.{Extended}
 use Rattle.pv_interval.specs.Bounds.{Bounds}
 use Rattle.pv_tree.specs.Trees.{Tree, leaf, removed, inner, small, cut, opens, first, subtree}
-use Rattle.pv_tree.specs.Arena.{tree_at, whole_tree, reach, cell_at, closed_at, kept, kids_of, side, HasKids, MarksRight, IsClosed, is_open_cell, IsWhole, IsLinked}
-use Rattle.pv_tree.specs.Spots.{IsSearchable, IsSpot, AreCutInto, AreChildren, opens_below, first_below, first_behind, first_of_pair, either}
+use Rattle.pv_tree.specs.Arena.{tree_at, whole_tree, reach, cell_at, closed_at, kids_of, side, MarksRight, IsClosed, is_open_cell, IsWhole}
+use Rattle.pv_tree.specs.Spots.{IsSearchable, IsSpot, AreCutInto, opens_below, first_below, either}
 use Rattle.pv_tree.specs.declared.cell.Cell.{Cell}
 use Rattle.pv_tree.specs.declared.cell.Cell.TheVariants.{Open, Removed, Inner, Small, Cut}
 use Rattle.pv_tree.specs.declared.cell.Node.{Node}
 use Rattle.pv_tree.specs.declared.search.Spot.{Spot}
 use Rattle.pv_tree.specs.declared.search.Pair.{Pair}
 use Rattle.pv_tree.specs.declared.outcome.Counts.{Counts}
-use Rattle.pv_tree.proofs.ArenaFacts.{shown, tree_at-is, tree_at-zero, reach-is, step_to, reach_label}
+use Rattle.pv_tree.proofs.ArenaFacts.{shown, tree_at-is, tree_at-zero, step_to, reach_label}
 use Rattle.pv_tree.proofs.Wholes.{whole_kids}
 
 abbrev pub listed : List Node → ℕ → Cell → List (List Bool)

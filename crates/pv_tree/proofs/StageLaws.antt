@@ -1,15 +1,15 @@
 -- Full trees and stages of a lawful rule: they pave, they are sound, and a step leads from stage to stage.
-use Rattle.std.proofs.Common.{◌≡◌, ◌⊎◌, inl, inr, ℕ, zero, suc, ◌+◌, ◌-◌, ◌<◌, ◌≤◌, max, Bool, true, false, IsTrue, Option, Some, None, List, [], ◌∷◌, ◌++◌, map, length, get_or, set, length-set, get_or-set_same, get_or-set_other, if◌then◌else◌, refl, sym, ◌∙◌, ap, arith, subst}
+use Rattle.std.proofs.Common.{◌≡◌, inl, inr, ℕ, zero, suc, ◌+◌, ◌-◌, ◌<◌, ◌≤◌, Bool, true, false, Some, None, List, [], ◌∷◌, ◌++◌, map, length, get_or, set, length-set, get_or-set_same, get_or-set_other, if◌then◌else◌, refl, sym, ◌∙◌, ap, arith, subst}
 use Rattle.std.specs.Prelude.{All}
 use Rattle.pv_num.specs.Extended.{Extended, NegInf, Fin, PosInf}
 use Rattle.std.proofs.lemmas.Bool.Decides.{eqb_tells}
 use Rattle.pv_num.specs.Order.{order_of}
 use Rattle.pv_interval.specs.Bounds.{Bounds, IsInterval, between}
 use Rattle.pv_interval.specs.Points.{Point}
-use Rattle.pv_box.specs.Boxes.{IsBox, PointIn, lower_half, upper_half}
-use Rattle.pv_tree.specs.Trees.{Tree, leaf, removed, inner, small, cut, top, subtree, outcome_at, graft, box_of, opens, settled, height, Paves, Fits, KeepsBox, CutsAbove, HasDepth, IsWithin, IsStrictlyInside, IsBetween}
+use Rattle.pv_box.specs.Boxes.{IsBox, lower_half, upper_half}
+use Rattle.pv_tree.specs.Trees.{Tree, leaf, removed, inner, small, cut, top, subtree, outcome_at, graft, box_of, opens, settled, Paves, Fits, KeepsBox, CutsAbove, HasDepth, IsStrictlyInside, IsBetween}
 use Rattle.pv_tree.specs.Stages.{Rule, full, full_of, Grows, IsStage}
-use Rattle.pv_tree.specs.Sets.{IsSound, IsSoundOutcome, LosesNone}
+use Rattle.pv_tree.specs.Sets.{IsSound, IsSoundOutcome}
 use Rattle.pv_tree.specs.Laws.{IsLawful}
 use Rattle.pv_tree.specs.declared.outcome.Outcome.{Outcome}
 use Rattle.pv_tree.specs.declared.outcome.Outcome.TheVariants.{Removed, Inner, Small, Cut}
@@ -42,33 +42,33 @@ full-is rule (suc d) b k o e = ap (grown rule (suc d) k) e
 pub grows_top : (s t : Tree) (o : Outcome) → Grows s t → top s ≡ Some o → top t ≡ Some o
 grows_top s t o h e = h [] o e
 
-record IsCut (t : Tree) (to : List Bounds) (v : ℕ) (a : Extended) : Type 0 where
-  low : Tree
-  high : Tree
-  is : t ≡ cut to v a low high
+pub record IsCut (t : Tree) (to : List Bounds) (v : ℕ) (a : Extended) : Type 0 where
+  pub low : Tree
+  pub high : Tree
+  pub is : t ≡ cut to v a low high
 
-top_removed : (t : Tree) → top t ≡ Some Removed → t ≡ removed
+pub top_removed : (t : Tree) → top t ≡ Some Removed → t ≡ removed
 top_removed leaf e = cc
 top_removed removed e = refl
 top_removed (inner x) e = cc
 top_removed (small x) e = cc
 top_removed (cut x w b l r) e = cc
 
-top_inner : (t : Tree) (to : List Bounds) → top t ≡ Some (Inner to) → t ≡ inner to
+pub top_inner : (t : Tree) (to : List Bounds) → top t ≡ Some (Inner to) → t ≡ inner to
 top_inner leaf to e = cc
 top_inner removed to e = cc
 top_inner (inner x) to e = let w : x ≡ to = cc in ap inner w
 top_inner (small x) to e = cc
 top_inner (cut x w b l r) to e = cc
 
-top_small : (t : Tree) (to : List Bounds) → top t ≡ Some (Small to) → t ≡ small to
+pub top_small : (t : Tree) (to : List Bounds) → top t ≡ Some (Small to) → t ≡ small to
 top_small leaf to e = cc
 top_small removed to e = cc
 top_small (inner x) to e = cc
 top_small (small x) to e = let w : x ≡ to = cc in ap small w
 top_small (cut x w b l r) to e = cc
 
-top_cut : (t : Tree) (to : List Bounds) (v : ℕ) (a : Extended) → top t ≡ Some (Cut to v a) → IsCut t to v a
+pub top_cut : (t : Tree) (to : List Bounds) (v : ℕ) (a : Extended) → top t ≡ Some (Cut to v a) → IsCut t to v a
 top_cut leaf to v a e = cc
 top_cut removed to v a e = cc
 top_cut (inner x) to v a e = cc
@@ -169,7 +169,7 @@ graft_grows removed (b ∷ p) s e = cc
 graft_grows (inner to) (b ∷ p) s e = cc
 graft_grows (small to) (b ∷ p) s e = cc
 
-settled_grows : (t : Tree) (o : Outcome) → top t ≡ Some o → Grows (settled o) t
+pub settled_grows : (t : Tree) (o : Outcome) → top t ≡ Some o → Grows (settled o) t
 settled_grows t Removed e = subst (Grows removed) (sym (top_removed t e)) (grows_self removed)
 settled_grows t (Inner to) e = subst (Grows (inner to)) (sym (top_inner t to e)) (grows_self (inner to))
 settled_grows t (Small to) e = subst (Grows (small to)) (sym (top_small t to e)) (grows_self (small to))
@@ -317,11 +317,11 @@ module _ (rule : Rule) (depth dims : ℕ) (inside : Point → Type 0) (laws : Is
   top_grown d k (Small to) = refl
   top_grown d k (Cut to v a) = refl
 
-  top_leaf : (b : List Bounds) (k : ℕ) → top (full_of rule depth b leaf k) ≡ Some (rule b (depth - k) k)
+  pub top_leaf : (b : List Bounds) (k : ℕ) → top (full_of rule depth b leaf k) ≡ Some (rule b (depth - k) k)
   unfolding full_of
   top_leaf b k = ap top (full-is rule (depth - k) b k (rule b (depth - k) k) refl) ∙ top_grown (depth - k) k (rule b (depth - k) k)
 
-  full_of_cut : (b to : List Bounds) (v : ℕ) (a : Extended) (l r : Tree) (k : ℕ) → full_of rule depth b (cut to v a l r) k ≡ cut to v a (full_of rule depth (lower_half to v a) l (suc k)) (full_of rule depth (upper_half to v a) r (suc k))
+  pub full_of_cut : (b to : List Bounds) (v : ℕ) (a : Extended) (l r : Tree) (k : ℕ) → full_of rule depth b (cut to v a l r) k ≡ cut to v a (full_of rule depth (lower_half to v a) l (suc k)) (full_of rule depth (upper_half to v a) r (suc k))
   unfolding full_of
   full_of_cut b to v a l r k = refl
 

@@ -1,6 +1,5 @@
 -- What grafting does to a tree.
-use Rattle.std.proofs.Common.{◌≡◌, ℕ, zero, suc, ◌+◌, ◌-◌, ◌<◌, ◌≤◌, max, Bool, true, false, IsTrue, Option, Some, None, List, [], ◌∷◌, ◌++◌, map, length, refl, sym, ◌∙◌, ap, arith}
-use Rattle.pv_num.specs.Extended.{Extended}
+use Rattle.std.proofs.Common.{◌≡◌, Bool, true, false, Some, List, [], ◌∷◌, arith}
 use Rattle.pv_interval.specs.Bounds.{Bounds}
 use Rattle.pv_box.specs.Boxes.{lower_half, upper_half}
 use Rattle.pv_tree.specs.Trees.{Tree, leaf, removed, inner, small, cut, subtree, graft, box_of, Paves, counts_of, settled_of, settled, Fits, KeepsBox, sum_of_counts}
@@ -47,3 +46,16 @@ graft_counts leaf (c ∷ p) s e = cc
 graft_counts removed (c ∷ p) s e = cc
 graft_counts (inner to) (c ∷ p) s e = cc
 graft_counts (small to) (c ∷ p) s e = cc
+
+settled_one : (o : Outcome) → settled_of (counts_of (settled o)) ≡ 1
+settled_one Removed = refl
+settled_one (Inner to) = refl
+settled_one (Small to) = refl
+settled_one (Cut to v a) = refl
+
+-- a settled leaf is one settled node more
+pub settled_more : (t : Tree) (p : List Bool) (o : Outcome) → subtree t p ≡ Some leaf → settled_of (counts_of (graft t p (settled o))) ≡ settled_of (counts_of t) + 1
+settled_more t p o e =
+    let h : Adds (counts_of t) (counts_of (settled o)) (counts_of (graft t p (settled o))) = graft_counts t p (settled o) e in
+    let one : settled_of (counts_of (settled o)) ≡ 1 = settled_one o in
+    omega (arith, h.cut, h.removed, h.inner, h.small, one)

@@ -1,11 +1,9 @@
 -- Steps of the walks through an arena.
-use Rattle.std.proofs.Common.{if◌then◌else◌, ◌≡◌, ◌≢◌, ◌⊎◌, inl, inr, ℕ, zero, suc, ◌+◌, ◌-◌, ◌*◌, ◌<◌, ◌≤◌, max, Bool, true, false, cond, eqb, IsTrue, Option, Some, None, List, [], ◌∷◌, ◌++◌, map, length, take, drop, set, get_or, refl, sym, ◌∙◌, ap, arith, append_assoc, length-append, length-take, length-set, slice_index_or, subst, append-nil, get_or-take, get_or-set_same, get_or-set_other, add-one}
+use Rattle.std.proofs.Common.{if◌then◌else◌, ◌≡◌, ◌≢◌, inl, inr, ℕ, zero, suc, ◌+◌, ◌-◌, ◌<◌, ◌≤◌, Bool, true, false, Some, None, List, [], ◌∷◌, ◌++◌, length, take, drop, set, get_or, refl, sym, ◌∙◌, ap, arith, length-append, length-take, length-set, slice_index_or, subst, get_or-take, get_or-set_same, get_or-set_other, add-one}
 use Rattle.std.proofs.Math.Seq.{drop-cons}
 use Rattle.std.proofs.lemmas.Bool.Decides.{eqb_tells}
-use Rattle.std.proofs.lemmas.List.{get_or_past, get_or_default, get_or_append_left, get_or-append_right}
-use Rattle.pv_num.specs.Extended.{Extended}
-use Rattle.pv_interval.specs.Bounds.{Bounds}
-use Rattle.pv_tree.specs.Arena.{tree_at, reach, cell_at, closed_at, kept, kids_of, start_of, side, Family, IsLinked, IsArena, open_node, IsClosed, IsPlaced, is_cut, outcome_of, Shows, IsLonger, IsRemarked, MarksRight, HasKids}
+use Rattle.std.proofs.lemmas.List.{get_or_past, get_or_append_left, get_or-append_right}
+use Rattle.pv_tree.specs.Arena.{reach, cell_at, closed_at, kids_of, side, open_node, IsClosed, IsPlaced, is_cut, IsRemarked, MarksRight}
 use Rattle.pv_tree.specs.declared.cell.Cell.{Cell}
 use Rattle.pv_tree.specs.declared.cell.Cell.TheVariants.{Open, Removed, Inner, Small, Cut}
 use Rattle.pv_tree.specs.declared.cell.Node.{Node}

@@ -1,5 +1,5 @@
 -- A whole paving after an open leaf was settled.
-use Rattle.std.proofs.Common.{if◌then◌else◌, ◌≡◌, ◌≢◌, ◌⊎◌, inl, inr, ℕ, zero, suc, ◌+◌, ◌-◌, ◌*◌, ◌<◌, ◌≤◌, max, Bool, true, false, IsTrue, Option, Some, None, List, [], ◌∷◌, ◌++◌, map, length, take, drop, refl, sym, ◌∙◌, ap, arith, slice_index_or, subst, mul-suc}
+use Rattle.std.proofs.Common.{if◌then◌else◌, ◌≡◌, inl, inr, ℕ, zero, suc, ◌+◌, ◌-◌, ◌*◌, ◌<◌, ◌≤◌, Bool, true, false, Option, Some, None, List, [], ◌∷◌, ◌++◌, length, take, drop, refl, sym, ◌∙◌, ap, arith, subst, mul-suc}
 use Rattle.std.specs.Option.{option_map}
 use Rattle.std.proofs.lemmas.Bool.Decides.{eqb_tells}
 use Rattle.std.proofs.Math.ListN.{drop_of_length-le}
@@ -7,8 +7,8 @@ use Rattle.std.proofs.Math.Seq.{take-append_seam}
 use Rattle.pv_num.specs.Extended.{Extended}
 use Rattle.pv_interval.specs.Bounds.{Bounds}
 use Rattle.pv_box.specs.Boxes.{IsBox, lower_half, upper_half}
-use Rattle.pv_tree.specs.Trees.{Tree, leaf, removed, inner, small, cut, subtree, graft, height, settled, top, box_of, Paves, IsPaving, Fits, KeepsBox, HasDepth, IsWithin, counts_of, settled_of, shape_of}
-use Rattle.pv_tree.specs.Arena.{tree_at, whole_tree, reach, cell_at, closed_at, kept, kids_of, start_of, side, Family, IsLinked, IsArena, open_node, IsClosed, IsPlaced, is_cut, is_a_cut, outcome_of, Shows, IsLonger, IsRemarked, MarksRight, HasKids, IsWhole, HasRoom, HasPlaces, places_of, Adds, shape_of_cell, shape_of_found, cell_along}
+use Rattle.pv_tree.specs.Trees.{Tree, leaf, removed, inner, small, cut, subtree, graft, height, settled, box_of, Paves, Fits, KeepsBox, HasDepth, IsWithin, counts_of, settled_of, shape_of}
+use Rattle.pv_tree.specs.Arena.{tree_at, whole_tree, reach, cell_at, closed_at, kept, kids_of, start_of, IsLinked, open_node, IsPlaced, is_cut, is_a_cut, outcome_of, Shows, IsLonger, IsRemarked, MarksRight, HasKids, IsWhole, HasPlaces, places_of, Adds, shape_of_cell, shape_of_found, cell_along}
 use Rattle.pv_tree.specs.declared.cell.Cell.{Cell}
 use Rattle.pv_tree.specs.declared.cell.Cell.TheVariants.{Open, Removed, Inner, Small, Cut}
 use Rattle.pv_tree.specs.declared.cell.Node.{Node}
@@ -16,8 +16,8 @@ use Rattle.pv_tree.specs.declared.outcome.Counts.{Counts}
 use Rattle.pv_tree.specs.declared.outcome.Outcome.{Outcome}
 use Rattle.pv_tree.specs.declared.outcome.Outcome.TheVariants as outcome
 use Rattle.pv_tree.proofs.TreeFacts.{graft_paves, settled_paves, graft_counts}
-use Rattle.pv_tree.proofs.ArenaFacts.{shown, tree_at-is, tree_at-zero, deep, deep-is, grafted, other, subtree-reach, reach_label}
-use Rattle.pv_tree.proofs.Placing.{low_whole, settled_tree, relabel, relinked, tree_remarked, linked_remarked, longer_length, longer_kept}
+use Rattle.pv_tree.proofs.ArenaFacts.{shown, tree_at-is, deep, deep-is, grafted, subtree-reach, reach_label}
+use Rattle.pv_tree.proofs.Placing.{low_whole, settled_tree, relabel, relinked, tree_remarked, linked_remarked, longer_kept}
 
 pub open_tree : (d : ℕ) (es : List Bounds) → whole_tree d es (open_node ∷ []) ≡ leaf
 open_tree d es = tree_at-is d es (open_node ∷ []) 200 0 Open refl

@@ -1,6 +1,6 @@
 -- How trees are told apart: each has a code, which no other tree has.
-use Rattle.std.specs.Prelude.{◌≡◌, ℕ, zero, suc, List, ◌⊎◌, ℤ, refl}
-use Rattle.std.proofs.Common.{ap, subst, sym, inl, inr}
+use Rattle.std.specs.Prelude.{◌≡◌, ℕ, List, ◌⊎◌, ℤ, refl}
+use Rattle.std.proofs.Common.{ap, inl, inr}
 use Rattle.std.specs.Coded.{Coded, code_by, coded×, coded⊎, coded_ℕ, coded_ℤ, coded_list}
 use base.Stored.{Gv, gnil, gnum, gcons, coded_unit}
 use Rattle.pv_num.specs.Extended.{Extended, NegInf, Fin, PosInf}

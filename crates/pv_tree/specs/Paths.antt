@@ -1,7 +1,7 @@
 -- A path of steps in an array that is false behind its last step.
-use Rattle.std.specs.Prelude.{◌≡◌, ℕ, ◌+◌, ◌-◌, ◌<◌, ◌≤◌, Bool, true, false, List, [], ◌∷◌, ◌++◌, map, length, take, drop, refl, slice_set}
-use Rattle.std.proofs.Common.{arith, sym, ◌∙◌, ap, replicate, length-take, min}
-use Rattle.std.proofs.lemmas.List.{take-append-drop, drop-replicate}
+use Rattle.std.specs.Prelude.{◌≡◌, ℕ, ◌-◌, ◌≤◌, Bool, false, List, ◌++◌, length, take, drop}
+use Rattle.std.proofs.Common.{arith, sym, ◌∙◌, ap, replicate, length-take}
+use Rattle.std.proofs.lemmas.List.{take-append-drop}
 use Rattle.pv_tree.specs.declared.path.Path.TheInside.{Inside}
 
 abbrev pub steps_of : Inside → List Bool

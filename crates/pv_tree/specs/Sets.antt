@@ -1,9 +1,8 @@
 -- Which points of a box an outcome, or a tree, says something of.
-use Rattle.std.specs.Prelude.{◌≡◌, ℕ, zero, suc, ◌+◌, ◌-◌, ◌<◌, ◌≤◌, ◌⊎◌, Bool, true, false, List, [], ◌∷◌, length}
-use Rattle.pv_num.specs.Extended.{Extended}
+use Rattle.std.specs.Prelude.{◌⊎◌, List}
 use Rattle.pv_interval.specs.Bounds.{Bounds}
 use Rattle.pv_interval.specs.Points.{Point}
-use Rattle.pv_box.specs.Boxes.{IsBox, PointIn, lower_half, upper_half}
+use Rattle.pv_box.specs.Boxes.{PointIn, lower_half, upper_half}
 use Rattle.pv_tree.specs.Trees.{Tree, leaf, removed, inner, small, cut}
 use Rattle.pv_tree.specs.declared.outcome.Outcome.{Outcome}
 use Rattle.pv_tree.specs.declared.outcome.Outcome.TheVariants.{Removed, Inner, Small, Cut}

@@ -2,8 +2,7 @@
 use Rattle.std.specs.Prelude.{◌≡◌, ℕ, zero, suc, ◌+◌, ◌-◌, ◌<◌, ◌≤◌, Bool, true, false, Option, Some, None, List, [], ◌∷◌, ◌++◌, map, length}
 use Rattle.std.specs.Option.{option_map}
 use Rattle.pv_tree.specs.Trees.{first, behind}
-use Rattle.pv_tree.specs.Arena.{cell_at, closed_at, reach, kids_of, HasKids, MarksRight}
-use Rattle.pv_tree.specs.declared.cell.Cell.{Cell}
+use Rattle.pv_tree.specs.Arena.{cell_at, reach, kids_of, HasKids, MarksRight}
 use Rattle.pv_tree.specs.declared.cell.Cell.TheVariants.{Open, Removed, Inner, Small, Cut}
 use Rattle.pv_tree.specs.declared.cell.Node.{Node}
 use Rattle.pv_tree.specs.declared.search.Spot.{Spot}

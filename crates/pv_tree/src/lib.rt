@@ -10,6 +10,8 @@ mod paving;
 mod search;
 mod settler;
 mod steps;
+#[cfg(test)]
+mod tests;
 
 pub use batch::Batch;
 pub use outcome::{Counts, Outcome, Shape};

@@ -1,5 +1,5 @@
 //! Pavings.
-ghost use Rattle.std.specs.Prelude.{◌≡◌, ◌+◌, ◌-◌, ◌*◌, ◌<◌, ◌≤◌, ◌^◌, ◌++◌, if◌then◌else◌, is_ok, IfOk, IfErr, OnOk, IfSome, IsSome, Some, length};
+ghost use Rattle.std.specs.Prelude.{◌≡◌, ◌+◌, ◌-◌, ◌*◌, ◌<◌, ◌≤◌, ◌^◌, ◌++◌, if◌then◌else◌, is_ok, IfOk, IfErr, OnOk, OnErr, IfSome, IsSome, Some, length};
 ghost use Rattle.pv_tree.specs.Sets.{Covers};
 ghost use Rattle.pv_tree.specs.Trees.{Tree, leaf, subtree, graft, settled, Fits, HasDepth, IsPaving, box_of, to_at, shape_of, counts_of, settled_of, opens, first, behind, Seen};
 
@@ -100,6 +100,7 @@ impl Paving {
         ensures tree { self.new.tree ≡ self.old.tree }
         ensures spare { OnOk result (settles ≤ self.new.spare) }
         ensures no_less { self.old.spare ≤ self.new.spare }
+        ensures refused { OnErr result (self.new.spare ≡ self.old.spare) }
     {
         if settles <= self.spare {
             return Ok(());

@@ -1,4 +1,4 @@
-use Rattle.std.proofs.Common.{◌≡◌, ◌<◌, ◌≤◌, length, sym, ap, ◌∙◌, subst, arith}
+use Rattle.std.proofs.Common.{sym, subst, arith}
 use Rattle.pv_tree.specs.Arena.{IsRemarked, HasKids, MarksRight}
 use Rattle.pv_tree.proofs.Wholes.{remarked_back}
 use Rattle.pv_tree.proofs.arena.close_way.Goals as goal

@@ -1,4 +1,4 @@
-use Rattle.std.proofs.Common.{◌≡◌, ◌+◌, ◌<◌, length, take, drop, sym, ap, ◌∙◌, Some, true, false, arith}
+use Rattle.std.proofs.Common.{◌+◌, length, take, drop, sym, ap, ◌∙◌}
 use Rattle.pv_tree.specs.Arena.{reach, side}
 use Rattle.pv_tree.proofs.Walks.{descend_stop, descend_step, side_there}
 use Rattle.pv_tree.proofs.arena.descend.Goals as goal

@@ -1,4 +1,4 @@
-use Rattle.std.proofs.Common.{◌+◌, ◌<◌, ◌≡◌, length, sym, ap, ◌∙◌, refl, arith}
+use Rattle.std.proofs.Common.{◌+◌, ◌<◌, length, ap, ◌∙◌, arith}
 use Rattle.std.proofs.lemmas.List.{get_or_default}
 use Rattle.pv_tree.specs.Arena.{open_node, kids_of}
 use Rattle.pv_tree.proofs.arena.kids_at.Goals as goal

@@ -1,5 +1,5 @@
-use Rattle.std.proofs.Common.{◌≡◌, sym, ◌∙◌, ap, set, Some, None, length}
-use Rattle.pv_interval.specs.Bounds.{between, interval_from}
+use Rattle.std.proofs.Common.{sym, ◌∙◌, ap}
+use Rattle.pv_interval.specs.Bounds.{interval_from}
 use Rattle.pv_tree.proofs.Halves.{inside_there, lower_some, lower_is}
 use Rattle.pv_tree.proofs.arena.lower.Goals as goal
 

@@ -1,4 +1,4 @@
-use Rattle.std.proofs.Common.{◌≡◌, ◌<◌, ◌++◌, ◌∷◌, [], length, sym, ap, ◌∙◌, subst, arith}
+use Rattle.std.proofs.Common.{◌<◌, ◌++◌, ◌∷◌, [], length, sym, ap, ◌∙◌, subst, arith}
 use Rattle.pv_tree.specs.Arena.{IsPlaced, is_cut, open_node}
 use Rattle.pv_tree.proofs.Walks.{placed_cut}
 use Rattle.pv_tree.proofs.arena.place.Goals as goal

@@ -1,5 +1,5 @@
-use Rattle.std.proofs.Common.{◌≡◌, ◌<◌, sym, ◌∙◌, ap, drop, length, arith, Some, None, get_or, false}
-use Rattle.pv_tree.specs.Spots.{either, first_below, first_behind}
+use Rattle.std.proofs.Common.{sym, ◌∙◌, ap, drop, length, get_or, false}
+use Rattle.pv_tree.specs.Spots.{either, first_below}
 use Rattle.pv_tree.proofs.Behind.{later_none, later_end, later_low, later_high, low_rest, high_rest, no_rest, more_steps}
 use Rattle.pv_tree.proofs.search.+later.Goals as goal
 

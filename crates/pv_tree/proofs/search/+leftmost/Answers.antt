@@ -1,4 +1,4 @@
-use Rattle.std.proofs.Common.{◌≡◌, sym, ◌∙◌, ap}
+use Rattle.std.proofs.Common.{sym, ◌∙◌, ap}
 use Rattle.std.proofs.lemmas.List.{get_or_read}
 use Rattle.pv_tree.specs.Arena.{open_node, is_open_cell}
 use Rattle.pv_tree.proofs.Searches.{first_closed, first_open_here, first_ended, first_low, first_high}

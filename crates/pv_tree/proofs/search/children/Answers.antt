@@ -1,4 +1,4 @@
-use Rattle.std.proofs.Common.{◌≡◌, sym, ◌∙◌}
+use Rattle.std.proofs.Common.{sym}
 use Rattle.pv_tree.proofs.Searches.{child_spots}
 use Rattle.pv_tree.proofs.search.children.Goals as goal
 

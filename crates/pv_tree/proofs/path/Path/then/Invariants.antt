@@ -1,4 +1,4 @@
-use Rattle.std.proofs.Common.{◌≡◌, ◌≤◌, ◌+◌, ◌++◌, length, take}
+use Rattle.std.proofs.Common.{◌≡◌, ◌++◌, take}
 use Rattle.pv_tree.proofs.path.Path.then.Given as goal
 
 abbrev pub invariant-loop-i : goal.invariant-loop-i

@@ -1,4 +1,4 @@
-use Rattle.std.proofs.Common.{◌≡◌, ◌<◌, ◌-◌, sym, ◌∙◌, ap, subst, length, Some, None, arith, get_or, false}
+use Rattle.std.proofs.Common.{◌≡◌, ◌<◌, ◌-◌, sym, ◌∙◌, ap, subst, length, Some, None, get_or, false}
 use Rattle.pv_tree.specs.contracts.paving.Paving.{the_view}
 use Rattle.std.specs.Option.{IsSome}
 use Rattle.pv_tree.specs.Trees.{subtree, box_of}

@@ -1,4 +1,4 @@
-use Rattle.std.proofs.Common.{◌≡◌, subst}
+use Rattle.std.proofs.Common.{subst}
 use Rattle.pv_tree.specs.Sets.{Covers}
 use Rattle.pv_tree.proofs.Covered.{covers}
 use Rattle.pv_tree.proofs.paving.Paving.dims.Goals as goal

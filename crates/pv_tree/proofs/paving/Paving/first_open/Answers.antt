@@ -1,7 +1,7 @@
-use Rattle.std.proofs.Common.{◌≡◌, sym, ◌∙◌, ap, subst, length, Some, None}
-use Rattle.pv_tree.specs.Trees.{first, opens, subtree, leaf}
+use Rattle.std.proofs.Common.{◌≡◌, sym, ◌∙◌, ap, subst, length}
+use Rattle.pv_tree.specs.Trees.{first, opens}
 use Rattle.pv_tree.specs.Spots.{IsSpot, first_below}
-use Rattle.pv_tree.proofs.Searches.{root_spot, whole_searchable, first_whole, first_is_open, some_is}
+use Rattle.pv_tree.proofs.Searches.{root_spot, whole_searchable, first_whole, some_is}
 use Rattle.pv_tree.proofs.paving.Paving.first_open.Goals as goal
 use Rattle.pv_tree.proofs.paving.Paving.first_open.Goals.{After-leftmost}
 

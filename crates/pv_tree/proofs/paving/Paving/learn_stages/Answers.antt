@@ -1,4 +1,3 @@
-use Rattle.std.proofs.Common.{◌≡◌, sym, ◌∙◌}
 use Rattle.pv_tree.proofs.StageLaws.{stage_sound, whole_stage, opening_stage, grows_paves, full_of_paves}
 use Rattle.pv_tree.proofs.paving.Paving.learn_stages.Goals as goal
 

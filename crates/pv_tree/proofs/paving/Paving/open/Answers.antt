@@ -1,4 +1,4 @@
-use Rattle.std.proofs.Common.{◌≡◌, ◌∷◌, [], length, sym, ap, ◌∙◌, subst, refl, arith, vec_len, vec_capacity, ◌++◌}
+use Rattle.std.proofs.Common.{◌∷◌, [], length, sym, ap, ◌∙◌, subst, arith, ◌++◌}
 use Rattle.pv_tree.specs.Trees.{leaf, counts_of}
 use Rattle.pv_tree.specs.Arena.{whole_tree, IsWhole, open_node}
 use Rattle.pv_tree.proofs.Wholes.{open_whole, open_tree}

@@ -1,6 +1,6 @@
-use Rattle.std.proofs.Common.{◌≡◌, ◌<◌, ◌≤◌, ◌+◌, ◌*◌, ◌-◌, ◌∷◌, [], length, sym, ap, ◌∙◌, subst, refl, arith, vec_len, vec_capacity, ◌++◌, Some, None, take}
-use Rattle.pv_tree.specs.Trees.{leaf, counts_of, settled, subtree, box_of, Fits, graft}
-use Rattle.pv_tree.specs.Arena.{whole_tree, IsWhole, open_node, HasKids, reach, places_of, HasPlaces, cell_at, MarksRight, Shows}
+use Rattle.std.proofs.Common.{◌≡◌, ◌<◌, ◌≤◌, ◌+◌, length, sym, ap, ◌∙◌, subst, arith, vec_len, vec_capacity, take}
+use Rattle.pv_tree.specs.Trees.{settled, subtree, box_of, Fits, graft}
+use Rattle.pv_tree.specs.Arena.{reach, places_of, Shows}
 use Rattle.pv_tree.proofs.Wholes.{whole_kids, found, some_open, few_places, put_places, placed_kids, put_marks, put_whole, put_tree, less_room, more_nodes, one_room}
 use Rattle.pv_tree.proofs.paving.Paving.put_in_room.Goals as goal
 

@@ -1,8 +1,7 @@
-use Rattle.std.proofs.Common.{◌≡◌, ◌-◌, sym, ◌∙◌, ap, subst, length}
+use Rattle.std.proofs.Common.{◌-◌, sym, ◌∙◌, ap, subst, length}
 use Rattle.std.specs.Prelude.{is_ok}
-use Rattle.pv_tree.specs.Trees.{Fits, HasDepth, CutsAbove, box_of, graft, settled, subtree}
+use Rattle.pv_tree.specs.Trees.{Fits, CutsAbove, box_of, graft, settled}
 use Rattle.pv_tree.specs.Stages.{IsStage}
-use Rattle.pv_box.specs.Boxes.{IsBox}
 use Rattle.pv_tree.proofs.StageLaws.{step_stage, depth_from, stage_either}
 use Rattle.pv_tree.proofs.paving.Paving.settle_leaf.Goals as goal
 

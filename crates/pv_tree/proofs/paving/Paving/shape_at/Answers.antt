@@ -1,6 +1,6 @@
-use Rattle.std.proofs.Common.{◌≡◌, sym, ◌∙◌, ap, subst, length}
+use Rattle.std.proofs.Common.{sym, ◌∙◌, ap, length}
 use Rattle.pv_tree.specs.Trees.{shape_of, subtree}
-use Rattle.pv_tree.specs.Arena.{cell_along, shape_of_found, shape_of_cell}
+use Rattle.pv_tree.specs.Arena.{cell_along, shape_of_found}
 use Rattle.pv_tree.proofs.Wholes.{whole_kids, shape_there}
 use Rattle.pv_tree.proofs.paving.Paving.shape_at.Goals as goal
 

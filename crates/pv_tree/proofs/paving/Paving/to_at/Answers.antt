@@ -1,4 +1,4 @@
-use Rattle.std.proofs.Common.{◌≡◌, ◌≤◌, ◌+◌, sym, ◌∙◌, ap, subst, length, Some, None, take, arith}
+use Rattle.std.proofs.Common.{◌≡◌, ◌≤◌, ◌+◌, sym, ◌∙◌, ap, subst, length, Some, take, arith}
 use Rattle.std.specs.Option.{IsSome, option_map}
 use Rattle.pv_tree.specs.Trees.{to_at}
 use Rattle.pv_tree.specs.contracts.paving.Paving.{the_view}
