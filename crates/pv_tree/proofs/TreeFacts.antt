@@ -1,5 +1,5 @@
 -- What grafting does to a tree.
-use Rattle.std.proofs.Common.{◌≡◌, Bool, true, false, Some, List, [], ◌∷◌, arith}
+use Rattle.std.proofs.Common.{refl, ◌+◌, ◌≡◌, Bool, true, false, Some, List, [], ◌∷◌, arith}
 use Rattle.pv_interval.specs.Bounds.{Bounds}
 use Rattle.pv_box.specs.Boxes.{lower_half, upper_half}
 use Rattle.pv_tree.specs.Trees.{Tree, leaf, removed, inner, small, cut, subtree, graft, box_of, Paves, counts_of, settled_of, settled, Fits, KeepsBox, sum_of_counts}
