@@ -75,13 +75,15 @@ join_leaf_right t = join_swap leaf t t (join_leaf_left t)
 
 pub join_cut : (to : List Bounds) (v : ℕ) (a : Extended) (l r m n x y : Tree) → IsJoin l m x → IsJoin r n y → IsJoin (cut to v a l r) (cut to v a m n) (cut to v a x y)
 join_cut to v a l r m n x y h k = record {
-    agree = λ p. elim p as (λ q. (o u : Outcome) → outcome_at (cut to v a l r) q ≡ Some o → outcome_at (cut to v a m n) q ≡ Some u → o ≡ u) [
-        [] ↦ λ o u e f. let w : Some o ≡ Some u = sym e ∙ f in cc
-      | c ∷ q ↦ elim c as (λ d. (o u : Outcome) → outcome_at (cut to v a l r) (d ∷ q) ≡ Some o → outcome_at (cut to v a m n) (d ∷ q) ≡ Some u → o ≡ u) [ false ↦ h.agree q | true ↦ k.agree q ] ];
-    takes = λ p. elim p as (λ q. outcome_at (cut to v a x y) q ≡ settled_side (outcome_at (cut to v a l r) q) (outcome_at (cut to v a m n) q)) [
-        [] ↦ refl
-      | c ∷ q ↦ elim c as (λ d. outcome_at (cut to v a x y) (d ∷ q) ≡ settled_side (outcome_at (cut to v a l r) (d ∷ q)) (outcome_at (cut to v a m n) (d ∷ q))) [ false ↦ h.takes q | true ↦ k.takes q ] ]
-  }
+  agree = λ p. elim p as (λ q. (o u : Outcome) → outcome_at (cut to v a l r) q ≡ Some o → outcome_at (cut to v a m n) q ≡ Some u → o ≡ u) [
+    | [] ↦ λ o u e f. let w : Some o ≡ Some u = sym e ∙ f in cc
+    | c ∷ q ↦ elim c as (λ d. (o u : Outcome) → outcome_at (cut to v a l r) (d ∷ q) ≡ Some o → outcome_at (cut to v a m n) (d ∷ q) ≡ Some u → o ≡ u) [ false ↦ h.agree q | true ↦ k.agree q ]
+  ];
+  takes = λ p. elim p as (λ q. outcome_at (cut to v a x y) q ≡ settled_side (outcome_at (cut to v a l r) q) (outcome_at (cut to v a m n) q)) [
+    | [] ↦ refl
+    | c ∷ q ↦ elim c as (λ d. outcome_at (cut to v a x y) (d ∷ q) ≡ settled_side (outcome_at (cut to v a l r) (d ∷ q)) (outcome_at (cut to v a m n) (d ∷ q))) [ false ↦ h.takes q | true ↦ k.takes q ]
+  ];
+}
 
 -- of three trees
 side_three : (x y z : Option Outcome) → settled_side (settled_side x y) z ≡ settled_side x (settled_side y z)

@@ -1,4 +1,3 @@
 pub mod Shapes
 pub mod JoinFacts
 pub mod Overlays
-pub mod AuditFacts

@@ -1,11 +1,7 @@
-//! Joins of pavings over one box, and the audit of a paving against a settler.
+//! Joins of pavings over one box.
 #![tactic(auto)]
 
-mod check;
 mod merge;
 mod outcomes;
-mod verdict;
 
-pub use check::audit;
-pub use merge::{join, JoinRefused};
-pub use verdict::Audit;
+pub use merge::{JoinRefused, join};

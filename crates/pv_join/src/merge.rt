@@ -3,10 +3,10 @@ ghost use Rattle.std.specs.Prelude.{◌≡◌, IfErr, IfOk, OnOk, IsSome, length
 ghost use Rattle.pv_tree.specs.Trees.{Tree, subtree, outcome_at, box_of, Fits, HasDepth};
 ghost use Rattle.pv_join.specs.Joins.{IsJoin, IsOverlaid, IsRefusal, IsReady, IsSettledAs, IsMismatch, IsJoinRefusal, is_a_cut};
 
+use crate::outcomes::{outcome_of, same_outcome};
 use pv_num::Memory;
 use pv_tree::{Outcome, Path, Paving};
 use std::alloc::Global;
-use crate::outcomes::{outcome_of, same_outcome};
 
 /// Why two pavings have no join.
 #[derive(Drop)]
@@ -38,7 +38,12 @@ pub(crate) fn is_cut(outcome: &Outcome) -> bool
 }
 
 /// Settles the node at a path, or finds that it is settled so.
-fn settle_as(alloc: Global, into: &mut Paving, path: Path, theirs: Outcome) -> Result<(), JoinRefused>
+fn settle_as(
+    alloc: Global,
+    into: &mut Paving,
+    path: Path,
+    theirs: Outcome,
+) -> Result<(), JoinRefused>
     requires there { IsSome (subtree into.old.tree path) }
     requires fits { Fits (box_of into.old.root into.old.tree path) theirs }
     requires depth { HasDepth path theirs }

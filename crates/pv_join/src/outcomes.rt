@@ -32,7 +32,11 @@ fn kept(alloc: Global, paving: &Paving, path: Path) -> Result<IBox, Memory>
 }
 
 /// The outcome of the node at a path; None where it is not settled or not there.
-pub(crate) fn outcome_of(alloc: Global, paving: &Paving, path: Path) -> Result<Option<Outcome>, Memory>
+pub(crate) fn outcome_of(
+    alloc: Global,
+    paving: &Paving,
+    path: Path,
+) -> Result<Option<Outcome>, Memory>
     ensures { IfOk result (λ o. o ≡ outcome_at paving.now.tree path) }
 {
     match paving.shape_at(path) {
