@@ -1,8 +1,9 @@
 // Values of numbers.
 
-ghost use Rattle.std.specs.Prelude.{◌≡◌, ℕ, ◌+◌, ◌*◌, ◌^◌, ◌<◌, ◌≤◌, List, ◌++◌, length, min, EachIndex, MatchOption, slice_index};
+ghost use Rattle.std.specs.Prelude.{◌≡◌, ℕ, pos, ◌≤ℤ◌, IfSome, ◌+◌, ◌*◌, ◌^◌, ◌<◌, ◌≤◌, List, ◌++◌, length, min, EachIndex, MatchOption, slice_index};
 ghost use Rattle.std.specs.Int.{IsGcd};
 ghost use Rattle.std.specs.Str.Parse.{digits_value};
+ghost use Rattle.pv_expr.specs.Systems.{IsFraction};
 ghost use Rattle.pv_parse.specs.Numbers.{Caps, IsLowest, IsNumeral, IsRead, IsValue, TooWide, decimal_in};
 ghost use Rattle.pv_parse.specs.Tokens.{IsDigit, IsNumber};
 ghost use Rattle.pv_parse.specs.declared.number.Decimal.{Decimal};
@@ -28,7 +29,9 @@ struct Decimal {
 /// lowest terms. None where the text is no number or is too wide: D·10^s with s below -36 or above
 /// 36, or with more than 37 digits in D and the zeros that s puts behind it.
 pub fn read_number(text: &[u8]) -> Option<(i128, u128)>
-    ensures { MatchOption result ((d : Decimal) → IsNumeral text.now d → TooWide d) (λ v. IsRead text.now v) }
+    ensures read { MatchOption result ((d : Decimal) → IsNumeral text.now d → TooWide d) (λ v. IsRead text.now v) }
+    ensures fraction { IfSome result (λ v. IsFraction v.0 v.1) }
+    ensures not_negative { IfSome result (λ v. pos 0 ≤ℤ v.0) }
 {
     if !is_digit(byte_at(text, 0)) {
         return None;
@@ -86,7 +89,9 @@ fn with_digits(value: u128, digits: &[u8]) -> u128
 fn value_of(decimal: Decimal) -> Option<(i128, u128)>
     requires up { decimal.up ≤ 10 ^ 37 }
     requires down { decimal.down ≤ 10 ^ 38 }
-    ensures { MatchOption result (TooWide decimal) (λ v. (¬ TooWide decimal) × IsValue decimal v) }
+    ensures value { MatchOption result (TooWide decimal) (λ v. (¬ TooWide decimal) × IsValue decimal v) }
+    ensures fraction { IfSome result (λ v. IsFraction v.0 v.1) }
+    ensures not_negative { IfSome result (λ v. pos 0 ≤ℤ v.0) }
 {
     if decimal.up > decimal.down + MOST || decimal.down > decimal.up + MOST {
         return None;
@@ -111,6 +116,7 @@ fn power_of_ten(n: u32) -> u128
     ensures value { result ≡ 10 ^ n }
     ensures least { 1 ≤ result }
     ensures most { result ≤ 10 ^ 37 }
+    ensures lower { n ≤ 36 → result ≤ 10 ^ 36 }
 {
     10u128.pow(n)
 }
@@ -119,7 +125,10 @@ fn power_of_ten(n: u32) -> u128
 fn in_lowest_terms(a: u128, b: u128) -> (i128, u128)
     requires above { a < 10 ^ 37 }
     requires below { 0 < b }
-    ensures { IsLowest a b result }
+    requires most { b ≤ 10 ^ 36 }
+    ensures lowest { IsLowest a b result }
+    ensures fraction { IsFraction result.0 result.1 }
+    ensures not_negative { pos 0 ≤ℤ result.0 }
 {
     let common = gcd(a, b);
     ((a / common) as i128, b / common)
