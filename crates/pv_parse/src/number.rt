@@ -19,10 +19,10 @@ const MOST: u128 = 36;
 
 /// The number digits·10^(up - down).
 #[derive(Clone, Copy, Debug, PartialEq, Eq)]
-struct Decimal {
-    digits: u128,
-    up: u128,
-    down: u128,
+pub(crate) struct Decimal {
+    pub digits: u128,
+    pub up: u128,
+    pub down: u128,
 }
 
 /// The value of an unsigned number that is the whole text, as a numerator and a denominator in
