@@ -11,3 +11,6 @@ pub use constraint::{Constraint, Relation};
 pub use domain::{Bound, Domain};
 pub use expr::Expr;
 pub use system::System;
+
+#[cfg(test)]
+mod tests;
