@@ -11,3 +11,6 @@ pub use laws::keeps_arguments;
 pub use order::{back_abs, back_max, back_min, back_neg};
 pub use power::back_pow;
 pub use ring::{back_add, back_div, back_mul, back_sub};
+
+#[cfg(test)]
+mod tests;
