@@ -1,3 +1,4 @@
 pub mod Shapes
 pub mod JoinFacts
 pub mod Overlays
+pub mod AuditFacts

@@ -119,7 +119,7 @@ middle old mid over p o there over_there e c h =
           }
     ]
 
-some_is : (o : Option Tree) (t : Tree) → o ≡ Some t → IsSome o
+pub some_is : (o : Option Tree) (t : Tree) → o ≡ Some t → IsSome o
 some_is o t e = subst (λ (x : Option Tree). IsSome x) (sym e) refl
 
 pub short_there : (old mid over : Tree) (p : List Bool) → IsMiddle old mid over p → height over ≤ 200 → length p < 200

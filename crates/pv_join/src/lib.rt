@@ -1,7 +1,11 @@
-//! Joins of pavings over one box.
+//! Joins of pavings over one box, and the audit of a paving against a settler.
 #![tactic(auto)]
 
+mod check;
 mod merge;
 mod outcomes;
+mod verdict;
 
+pub use check::audit;
 pub use merge::{JoinRefused, join};
+pub use verdict::Audit;
