@@ -86,29 +86,17 @@ join_cut to v a l r m n x y h k = record {
 }
 
 -- of three trees
-side_three : (x y z : Option Outcome) → settled_side (settled_side x y) z ≡ settled_side x (settled_side y z)
+pub side_three : (x y z : Option Outcome) → settled_side (settled_side x y) z ≡ settled_side x (settled_side y z)
 side_three None y z = refl
 side_three (Some o) y z = refl
 
-side_some : (x y : Option Outcome) (o : Outcome) → settled_side x y ≡ Some o → (x ≡ Some o) ⊎ (y ≡ Some o)
+pub side_some : (x y : Option Outcome) (o : Outcome) → settled_side x y ≡ Some o → (x ≡ Some o) ⊎ (y ≡ Some o)
 side_some None y o e = inr e
 side_some (Some u) y o e = inl e
 
-side_left : (x y : Option Outcome) (o : Outcome) → x ≡ Some o → settled_side x y ≡ Some o
+pub side_left : (x y : Option Outcome) (o : Outcome) → x ≡ Some o → settled_side x y ≡ Some o
 side_left None y o e = cc
 side_left (Some u) y o e = e
-
--- the join as a tree, where the two agree
-pub joined : Tree → Tree → Tree
-joined leaf t = t
-joined removed t = removed
-joined (inner x) t = inner x
-joined (small x) t = small x
-joined (cut x v a l r) (cut y w b m n) = cut x v a (joined l m) (joined r n)
-joined (cut x v a l r) leaf = cut x v a l r
-joined (cut x v a l r) removed = cut x v a l r
-joined (cut x v a l r) (inner y) = cut x v a l r
-joined (cut x v a l r) (small y) = cut x v a l r
 
 -- grafts and paths
 pub graft_at : (t : Tree) (p : List Bool) (s u : Tree) → subtree t p ≡ Some s → subtree (graft t p u) p ≡ Some u

@@ -2,3 +2,4 @@ pub mod Shapes
 pub mod JoinFacts
 pub mod Overlays
 pub mod AuditFacts
+pub mod JoinLaws

@@ -1,5 +1,7 @@
 -- The join of two trees over one box.
-use Rattle.std.specs.Prelude.{◌≡◌, ◌≢◌, ◌⊎◌, ◌++◌, true, false, Option, Some, None, IsTrue, List, Bool}
+use Rattle.pv_interval.specs.Bounds.{Bounds}
+use Rattle.pv_tree.specs.Stages.{Rule, IsStage}
+use Rattle.std.specs.Prelude.{ℕ, ◌≡◌, ◌≢◌, ◌⊎◌, ◌++◌, true, false, Option, Some, None, IsTrue, List, Bool}
 use Rattle.std.specs.Option.{IsSome}
 use Rattle.pv_tree.specs.Trees.{Tree, Seen, subtree, outcome_at, precedes, graft, settled, box_of}
 use Rattle.pv_tree.specs.declared.outcome.Outcome.{Outcome}
@@ -72,3 +74,17 @@ is_a_cut (Cut to var at) = true
 abbrev pub IsJoinRefusal : Tree → Tree → JoinRefused → Type 0
 IsJoinRefusal a b refused.Memory = Unit {0}
 IsJoinRefusal a b (refused.Disagree p) = IsFirstDisagreement a b p
+
+-- A join is the exchanged join too, the only one, that of one tree with itself, and associative; and stages of one opening join to a stage.
+pub record HasJoinLaws (a b t : Tree) : Type 0 where
+  pub exchanged : IsJoin b a t
+  pub alone : (u : Tree) → IsJoin a b u → u ≡ t
+  pub same : a ≡ b → t ≡ a
+  pub associates : (c u : Tree) → IsJoin t c u → (v : Tree) × (IsJoin b c v × IsJoin a v u)
+  pub stages : (rule : Rule) (depth : ℕ) (root : List Bounds) (opening : Tree) → IsStage rule depth root opening a → IsStage rule depth root opening b → IsStage rule depth root opening t
+
+-- Two trees that disagree are no stages of one opening.
+abbrev pub AreNoStages : Tree → Tree → JoinRefused → Type 0
+AreNoStages a b refused.Memory = Unit {0}
+AreNoStages a b (refused.Disagree p) =
+    (rule : Rule) (depth : ℕ) (root : List Bounds) (opening : Tree) → IsStage rule depth root opening a → IsStage rule depth root opening b → ⊥

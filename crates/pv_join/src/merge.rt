@@ -1,7 +1,7 @@
 //! Joins of pavings.
 ghost use Rattle.std.specs.Prelude.{◌≡◌, IfErr, IfOk, OnOk, IsSome, length};
 ghost use Rattle.pv_tree.specs.Trees.{Tree, subtree, outcome_at, box_of, Fits, HasDepth};
-ghost use Rattle.pv_join.specs.Joins.{IsJoin, IsOverlaid, IsRefusal, IsReady, IsSettledAs, IsMismatch, IsJoinRefusal, is_a_cut};
+ghost use Rattle.pv_join.specs.Joins.{IsJoin, IsOverlaid, IsRefusal, IsReady, IsSettledAs, IsMismatch, IsJoinRefusal, HasJoinLaws, AreNoStages, is_a_cut};
 
 use crate::outcomes::{outcome_of, same_outcome};
 use pv_num::Memory;
@@ -98,6 +98,8 @@ pub fn join(alloc: Global, a: &Paving, b: &Paving) -> Result<Paving, JoinRefused
     ensures root { IfOk result (λ p. p.root ≡ a.now.root) }
     ensures is_join { IfOk result (λ p. IsJoin a.now.tree b.now.tree p.tree) }
     ensures refusal { IfErr result (λ e. IsJoinRefusal a.now.tree b.now.tree e) }
+    ensures laws { IfOk result (λ p. HasJoinLaws a.now.tree b.now.tree p.tree) }
+    ensures no_stages { IfErr result (λ e. AreNoStages a.now.tree b.now.tree e) }
 {
     let mut into = a.clone_of(alloc)?;
     match overlay(alloc, &mut into, b, Path::root()) {
