@@ -1,15 +1,210 @@
-// What no clause says yet.
+// What no clause says yet: tables of texts, and texts at the limits.
 
+mod faults;
 mod lexical;
+mod systems;
 mod tokens;
 
-use crate::reader::parse;
+use crate::cause::{Cause, ParseRefused};
+use crate::number::read_number;
+use crate::reader::{parse, parse_expr};
+use faults::FAULTS;
+use pv_expr::Expr;
+use std::alloc::{AllocError, Global};
 use std::test::Fail;
+use systems::SYSTEMS;
+
+const DISCS: &[u8] =
+    b"/* two discs and a line */\nConstants\n  r = 2.1;\nVariables\n  x in [-4, 4], y in [-4, 4];\nConstraints\n  sqr(x - 0.5) + y^2 <= r^2;  // first disc\n  sqr(x + 0.5) + y^2 <= 4;\n  y >= 0.1 * x;\nend\n";
+
+// So many copies of a part between two others.
+fn around(
+    alloc: Global,
+    before: &[u8],
+    part: &[u8],
+    copies: u32,
+    after: &[u8],
+) -> Result<Vec<u8>, AllocError> {
+    let mut text = Vec::from_slice(alloc, before)?;
+    for _ in 0..copies {
+        text.extend_from_slice(part)?;
+    }
+    text.extend_from_slice(after)?;
+    Ok(text)
+}
+
+fn outcome(alloc: Global, text: &[u8]) -> Option<(u32, Cause)> {
+    match parse(alloc, text) {
+        Err(ParseRefused::Fault { byte, cause, .. }) => Some((byte, cause)),
+        _ => None,
+    }
+}
 
 #[test]
-fn reads_a_system(rt: HostRuntime) -> Result<(), Fail> {
-    let text = b"Variables x in [0,4]; Constraints x <= 1; end";
-    let system = parse(rt.alloc(), text)?;
-    assert_eq!(rt; system.variable_count(), 1);
+fn numbers(rt: HostRuntime) {
+    assert_eq!(rt;
+        read_number(b"1e36"),
+        Some((1_000_000_000_000_000_000_000_000_000_000_000_000, 1))
+    );
+    assert_eq!(rt; read_number(b"1e37"), None);
+    assert_eq!(rt; read_number(b"0.50"), Some((1, 2)));
+}
+
+#[test]
+fn faults_have_their_place_and_cause(rt: HostRuntime) {
+    for (i, (text, byte, line, column, cause)) in FAULTS.iter().enumerate() {
+        let wanted = ParseRefused::Fault {
+            byte: *byte,
+            line: *line,
+            column: *column,
+            cause: *cause,
+        };
+        match parse(rt.alloc(), text) {
+            Ok(_) => assert!(rt; false, "fault {i} is read"),
+            Err(refused) => assert_eq!(rt; refused, wanted, "fault {i}"),
+        }
+    }
+}
+
+#[test]
+fn systems_have_their_canonical_text(rt: HostRuntime) -> Result<(), Fail> {
+    for (i, (text, canonical)) in SYSTEMS.iter().enumerate() {
+        let system = parse(rt.alloc(), text)?;
+        assert_eq!(rt;
+            system.canonical_text(rt.alloc())?.as_slice(),
+            *canonical,
+            "system {i}"
+        );
+    }
+    Ok(())
+}
+
+#[test]
+fn cut_texts_are_faults(rt: HostRuntime) {
+    let whole = DISCS.len() - 1;
+    for n in 0..whole {
+        assert!(rt; outcome(rt.alloc(), &DISCS[..n]).is_some(), "cut at {n}");
+    }
+    assert!(rt; parse(rt.alloc(), &DISCS[..whole]).is_ok());
+    assert!(rt; parse(rt.alloc(), DISCS).is_ok());
+}
+
+#[test]
+fn limits(rt: HostRuntime) -> Result<(), Fail> {
+    let alloc = rt.alloc();
+    let start: &[u8] = b"Variables x; Constraints ";
+    let nested = around(alloc, start, b"(", 100, b"x")?;
+    let closed = around(alloc, nested.as_slice(), b")", 100, b" < 1; end")?;
+    assert!(rt; parse(alloc, closed.as_slice()).is_ok());
+    let deeper = around(alloc, start, b"(", 101, b"x")?;
+    assert_eq!(rt;
+        outcome(alloc, deeper.as_slice()),
+        Some((125, Cause::TooDeep))
+    );
+    let word = around(alloc, start, b"(", 100, b"abs(x)")?;
+    assert_eq!(rt;
+        outcome(alloc, word.as_slice()),
+        Some((125, Cause::Unexpected))
+    );
+    let sum = around(
+        alloc,
+        b"Variables x; Constraints x",
+        b"+x",
+        1000,
+        b" < 1; end",
+    )?;
+    assert!(rt; parse(alloc, sum.as_slice()).is_ok());
+    let longer = around(
+        alloc,
+        b"Variables x; Constraints x",
+        b"+x",
+        1001,
+        b" < 1; end",
+    )?;
+    assert_eq!(rt;
+        outcome(alloc, longer.as_slice()),
+        Some((2026, Cause::TooDeep))
+    );
+    let blanks = around(alloc, b"", b" ", 65537, b"")?;
+    assert_eq!(rt;
+        parse(alloc, blanks.as_slice()).err(),
+        Some(ParseRefused::Fault {
+            byte: 65536,
+            line: 1,
+            column: 65537,
+            cause: Cause::TextTooLong,
+        })
+    );
+    Ok(())
+}
+
+// Functions f1 to f15, each the sum of two calls of the one before.
+fn doubling(alloc: Global, call: &[u8]) -> Result<Vec<u8>, AllocError> {
+    let mut text = Vec::from_slice(alloc, b"function fa(a) return a+a; end ")?;
+    for k in b'b'..=b'o' {
+        text.extend_from_slice(b"function f")?;
+        text.push(k)?;
+        text.extend_from_slice(b"(a) return f")?;
+        text.push(k - 1)?;
+        text.extend_from_slice(b"(a)+f")?;
+        text.push(k - 1)?;
+        text.extend_from_slice(b"(a); end ")?;
+    }
+    text.extend_from_slice(b"Variables x; Constraints ")?;
+    text.extend_from_slice(call)?;
+    text.extend_from_slice(b"; end")?;
+    Ok(text)
+}
+
+#[test]
+fn expanded_sizes(rt: HostRuntime) -> Result<(), Fail> {
+    let alloc = rt.alloc();
+    let fits = doubling(alloc, b"fo(x) <= 1")?;
+    assert!(rt; parse(alloc, fits.as_slice()).is_ok());
+    let large = doubling(alloc, b"fo(x) <= -1")?;
+    let first = large.len() as u32 - 16;
+    assert_eq!(rt;
+        outcome(alloc, large.as_slice()),
+        Some((first, Cause::TooLarge))
+    );
+    let vast = doubling(alloc, b"x < 1; fo(fo(fo(fo(fo(x))))) <= 1")?;
+    assert_eq!(rt;
+        outcome(alloc, vast.as_slice()),
+        Some((vast.len() as u32 - 31, Cause::TooLarge))
+    );
+    Ok(())
+}
+
+#[test]
+fn expressions(rt: HostRuntime) -> Result<(), Fail> {
+    let system = parse(
+        rt.alloc(),
+        b"Constants k = 1; Variables x in [0,4]; Constraints x <= k; end",
+    )?;
+    match parse_expr(rt.alloc(), &system, b"2*x+1")? {
+        Expr::Add(left, right) => {
+            assert!(rt; matches!(&*left, Expr::Mul(_, _)));
+            assert!(rt; matches!(&*right, Expr::Const { p: 1, q: 1 }));
+        }
+        _ => assert!(rt; false, "no sum"),
+    }
+    for (text, byte, cause) in [
+        (b"2*".as_slice(), 2, Cause::EndOfText),
+        (b"x k", 2, Cause::Unexpected),
+        (b" k", 1, Cause::UnknownName),
+        (b"x<1", 1, Cause::Unexpected),
+        (b"x^33", 2, Cause::BadExponent),
+    ] {
+        let wanted = ParseRefused::Fault {
+            byte,
+            line: 1,
+            column: byte + 1,
+            cause,
+        };
+        match parse_expr(rt.alloc(), &system, text) {
+            Ok(_) => assert!(rt; false, "read"),
+            Err(refused) => assert_eq!(rt; refused, wanted),
+        }
+    }
     Ok(())
 }
