@@ -10,3 +10,5 @@ pub mod Words
 pub mod Pairs
 pub mod Wide
 pub mod Lowest
+pub mod Piles
+pub mod Derivations

@@ -1,3 +1,6 @@
+pub mod Faults
+pub mod Grammar
+pub mod Sentences
 pub mod Names
 pub mod Numbers
 pub mod Places

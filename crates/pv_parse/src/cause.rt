@@ -85,18 +85,33 @@ impl fmt::Display for ParseRefused {
 impl Error for ParseRefused {}
 
 impl From<AllocError> for ParseRefused {
+    ghost use Rattle.std.specs.Prelude.{◌≡◌};
+    ghost use Rattle.pv_parse.specs.declared.cause.ParseRefused.TheVariants.{Memory};
+
+    ghost from_gives = { λ _ e. e ≡ Memory };
+
     fn from(_e: AllocError) -> ParseRefused {
         ParseRefused::Memory
     }
 }
 
 impl<T: Drop> From<AllocFailed<T>> for ParseRefused {
+    ghost use Rattle.std.specs.Prelude.{◌≡◌};
+    ghost use Rattle.pv_parse.specs.declared.cause.ParseRefused.TheVariants.{Memory};
+
+    ghost from_gives = { λ _ e. e ≡ Memory };
+
     fn from(_e: AllocFailed<T>) -> ParseRefused {
         ParseRefused::Memory
     }
 }
 
 impl From<Memory> for ParseRefused {
+    ghost use Rattle.std.specs.Prelude.{◌≡◌};
+    ghost use Rattle.pv_parse.specs.declared.cause.ParseRefused.TheVariants.{Memory};
+
+    ghost from_gives = { λ _ e. e ≡ Memory };
+
     fn from(_e: Memory) -> ParseRefused {
         ParseRefused::Memory
     }

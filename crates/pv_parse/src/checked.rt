@@ -109,6 +109,13 @@ fn room_after_one(n: u8, constraint: &Constraint, room: u64) -> Option<u64>
     left_of(n, &constraint.right, 2000, room)
 }
 
+/// Whether each variable is below n, each constant a fraction within the limits and each exponent at most 32.
+pub(crate) fn is_over(n: u8, e: &Expr) -> bool
+    ensures { OnTrue result (IsOver n (term_of e.now)) }
+{
+    left_of(n, e, 2000, 65536).is_some()
+}
+
 // What is left of the room for nodes, where an expression is over n variables, not too deep, and has room.
 #[cycle(walk)]
 fn left_of(n: u8, e: &Expr, depth: u64, room: u64) -> Option<u64>

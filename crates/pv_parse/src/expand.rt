@@ -1,9 +1,9 @@
 // The expansion of calls: top-down, over what is used alone.
 
-use crate::cause::ParseRefused;
 use crate::code::{Binary, Op, Unary};
 use crate::measure::{Measure, measures};
 use pv_expr::Expr;
+use pv_num::Memory;
 use std::alloc::Global;
 
 /// A function: its size, and the part of its code that is used.
@@ -19,9 +19,9 @@ impl Function {
         alloc: Global,
         functions: &[Function],
         body: &[Op],
-    ) -> Result<Function, ParseRefused> {
+    ) -> Result<Function, Memory> {
         let Some(measure) = measures(alloc, functions, body)?.pop() else {
-            return Err(ParseRefused::Memory);
+            return Err(Memory);
         };
         let mut code = used_code(alloc, functions, body, 1)?;
         for op in &mut code {
@@ -63,7 +63,7 @@ pub(crate) fn used_code(
     functions: &[Function],
     code: &[Op],
     values: usize,
-) -> Result<Vec<Op>, ParseRefused> {
+) -> Result<Vec<Op>, Memory> {
     let mut wanted: Vec<bool> = Vec::new(alloc);
     for _ in 0..values {
         wanted.push(true)?;
@@ -97,7 +97,7 @@ fn want_arguments(
     op: Op,
     used: bool,
     wanted: &mut Vec<bool>,
-) -> Result<(), ParseRefused> {
+) -> Result<(), Memory> {
     match op {
         Op::One(_) => wanted.push(used)?,
         Op::Two(_) => {
@@ -125,7 +125,7 @@ pub(crate) fn expand(
     functions: &[Function],
     code: &[Op],
     arguments: &[Expr],
-) -> Result<Vec<Expr>, ParseRefused> {
+) -> Result<Vec<Expr>, Memory> {
     let mut stack: Vec<Expr> = Vec::new(alloc);
     for op in code {
         let made = match *op {
@@ -141,7 +141,7 @@ pub(crate) fn expand(
                 two(alloc, binary, taken(&mut stack)?, right)?
             }
             Op::Call { function, .. } => called(alloc, functions, function, &mut stack)?,
-            Op::Define | Op::Relate(_) => return Err(ParseRefused::Memory),
+            Op::Define | Op::Relate(_) => return Err(Memory),
         };
         stack.push(made)?;
     }
@@ -154,10 +154,10 @@ fn called(
     functions: &[Function],
     function: u8,
     stack: &mut Vec<Expr>,
-) -> Result<Expr, ParseRefused> {
+) -> Result<Expr, Memory> {
     let i = function as usize;
     if i >= functions.len() {
-        return Err(ParseRefused::Memory);
+        return Err(Memory);
     }
     let callee = &functions[i];
     let first = stack.len().saturating_sub(callee.used_count());
@@ -170,18 +170,18 @@ fn called(
     )?)
 }
 
-fn taken(stack: &mut Vec<Expr>) -> Result<Expr, ParseRefused> {
-    stack.pop().ok_or(ParseRefused::Memory)
+fn taken(stack: &mut Vec<Expr>) -> Result<Expr, Memory> {
+    stack.pop().ok_or(Memory)
 }
 
-fn argument(alloc: Global, arguments: &[Expr], i: u8) -> Result<Expr, ParseRefused> {
+fn argument(alloc: Global, arguments: &[Expr], i: u8) -> Result<Expr, Memory> {
     match arguments.get(i as usize) {
         Some(e) => Ok(e.clone_of(alloc)?),
-        None => Err(ParseRefused::Memory),
+        None => Err(Memory),
     }
 }
 
-fn one(alloc: Global, unary: Unary, a: Expr) -> Result<Expr, ParseRefused> {
+fn one(alloc: Global, unary: Unary, a: Expr) -> Result<Expr, Memory> {
     let a = Box::new(alloc, a)?;
     Ok(match unary {
         Unary::Neg => Expr::Neg(a),
@@ -190,7 +190,7 @@ fn one(alloc: Global, unary: Unary, a: Expr) -> Result<Expr, ParseRefused> {
     })
 }
 
-fn two(alloc: Global, binary: Binary, a: Expr, b: Expr) -> Result<Expr, ParseRefused> {
+fn two(alloc: Global, binary: Binary, a: Expr, b: Expr) -> Result<Expr, Memory> {
     let a = Box::new(alloc, a)?;
     let b = Box::new(alloc, b)?;
     Ok(match binary {

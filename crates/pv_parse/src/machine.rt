@@ -1,8 +1,12 @@
 // The grammar as a predictive machine: a stack of the items that are still to come, and the code of what was read.
 
-use crate::cause::ParseRefused;
+ghost use Rattle.std.specs.Bool.{OnTrue, OnFalse};
+ghost use Rattle.std.specs.Prelude.{◌≡◌, [], ◌∷◌, ◌++◌, IfOk, OnOk, Some, true};
+ghost use Rattle.pv_parse.specs.Grammar.{pile, MayEnd, Follows, Settles, produced, step_of, system_items, expression_items, body_items, domain_items};
+
 use crate::code::{Binary, Op, Unary};
 use crate::symbol::{Fixed, Symbol};
+use pv_num::Memory;
 use std::alloc::Global;
 
 /// What may or must come.
@@ -40,32 +44,6 @@ pub(crate) enum Item {
     Then(Op),
 }
 
-/// What a text of a system has.
-const SYSTEM: [Item; 14] = [
-    Item::MaybeConstants,
-    Item::MaybeFunctions,
-    Item::Exactly(Fixed::Variables),
-    Item::WantVariable,
-    Item::MoreVariables,
-    Item::MaybeFunctions,
-    Item::Exactly(Fixed::Constraints),
-    Item::WantFactor,
-    Item::MoreFactors,
-    Item::MoreTerms,
-    Item::WantRelation,
-    Item::MoreConstraints,
-    Item::Exactly(Fixed::End),
-    Item::Exactly(Fixed::EndOfText),
-];
-
-/// What a text of one expression has.
-const EXPRESSION: [Item; 4] = [
-    Item::WantFactor,
-    Item::MoreFactors,
-    Item::MoreTerms,
-    Item::Exactly(Fixed::EndOfText),
-];
-
 #[derive(Drop)]
 pub(crate) struct Machine {
     stack: Vec<Item>,
@@ -73,156 +51,228 @@ pub(crate) struct Machine {
 }
 
 impl Machine {
+    fn empty(alloc: Global) -> Machine
+        ensures stack { pile result.stack.items ≡ [] }
+        ensures code { result.code.items ≡ [] }
+    {
+        Machine {
+            stack: Vec::new(alloc),
+            code: Vec::new(alloc),
+        }
+    }
+
     /// A machine at the start of a system's text.
-    pub(crate) fn for_system(alloc: Global) -> Result<Machine, ParseRefused> {
-        Machine::of(alloc, &SYSTEM)
+    pub(crate) fn for_system(alloc: Global) -> Result<Machine, Memory>
+        ensures stack { IfOk result (λ m. pile m.stack.items ≡ system_items) }
+        ensures code { IfOk result (λ m. m.code.items ≡ []) }
+    {
+        let mut machine = Machine::empty(alloc);
+        machine.put(Item::Exactly(Fixed::End))?;
+        machine.put(Item::MoreConstraints)?;
+        machine.put(Item::WantRelation)?;
+        machine.put_expression()?;
+        machine.put(Item::Exactly(Fixed::Constraints))?;
+        machine.put(Item::MaybeFunctions)?;
+        machine.put(Item::MoreVariables)?;
+        machine.put(Item::WantVariable)?;
+        machine.put(Item::Exactly(Fixed::Variables))?;
+        machine.put(Item::MaybeFunctions)?;
+        machine.put(Item::MaybeConstants)?;
+        Ok(machine)
     }
 
     /// A machine at the start of an expression's text.
-    pub(crate) fn for_expression(alloc: Global) -> Result<Machine, ParseRefused> {
-        Machine::of(alloc, &EXPRESSION)
-    }
-
-    fn of(alloc: Global, items: &[Item]) -> Result<Machine, ParseRefused> {
-        let mut machine = Machine {
-            stack: Vec::new(alloc),
-            code: Vec::new(alloc),
-        };
-        machine.expect(items)?;
+    pub(crate) fn for_expression(alloc: Global) -> Result<Machine, Memory>
+        ensures stack { IfOk result (λ m. pile m.stack.items ≡ expression_items) }
+        ensures code { IfOk result (λ m. m.code.items ≡ []) }
+    {
+        let mut machine = Machine::empty(alloc);
+        machine.put_expression()?;
         Ok(machine)
     }
 
     /// The code of all that was read.
-    pub(crate) fn into_code(self) -> Vec<Op> {
+    pub(crate) fn into_code(self) -> Vec<Op>
+        ensures { result.items ≡ self.code.items }
+    {
         self.code
     }
 
     /// Takes off the items that end before the token, writes their code, and takes off the item that the token meets.
-    pub(crate) fn settle(&mut self, symbol: Symbol) -> Result<Option<Item>, ParseRefused> {
+    pub(crate) fn settle(&mut self, symbol: Symbol) -> Result<Option<Item>, Memory>
+        ensures { IfOk result (λ met. Settles (pile self.old.stack.items) self.old.code.items met (pile self.new.stack.items) self.new.code.items) }
+    {
         while let Some(item) = self.stack.pop() {
             if item.stays(symbol) {
                 return Ok(Some(item));
             }
-            if let Item::Then(op) = item {
-                self.code.push(op)?;
-            }
+            self.end(item)?;
         }
         Ok(None)
     }
 
+    // Writes the step of an item that ends.
+    fn end(&mut self, item: Item) -> Result<(), Memory>
+        ensures stack { OnOk result (self.new.stack ≡ self.old.stack) }
+        ensures code { OnOk result (self.new.code.items ≡ self.old.code.items ++ step_of item) }
+    {
+        match item {
+            Item::Then(op) => self.write(op),
+            _ => Ok(()),
+        }
+    }
+
+    fn write(&mut self, op: Op) -> Result<(), Memory>
+        ensures stack { OnOk result (self.new.stack ≡ self.old.stack) }
+        ensures code { OnOk result (self.new.code.items ≡ self.old.code.items ++ op ∷ []) }
+    {
+        self.code.push(op)?;
+        Ok(())
+    }
+
+    // Puts an item on the stack.
+    fn put(&mut self, item: Item) -> Result<(), Memory>
+        ensures stack { OnOk result (pile self.new.stack.items ≡ item ∷ pile self.old.stack.items) }
+        ensures code { OnOk result (self.new.code ≡ self.old.code) }
+    {
+        self.stack.push(item)?;
+        Ok(())
+    }
+
+    fn put_expression(&mut self) -> Result<(), Memory>
+        ensures stack { OnOk result (pile self.new.stack.items ≡ Item.WantFactor ∷ Item.MoreFactors ∷ Item.MoreTerms ∷ pile self.old.stack.items) }
+        ensures code { OnOk result (self.new.code ≡ self.old.code) }
+    {
+        self.put(Item::MoreTerms)?;
+        self.put(Item::MoreFactors)?;
+        self.put(Item::WantFactor)
+    }
+
     /// Takes the token where the item stood; false where the grammar does not allow it there.
-    pub(crate) fn take(&mut self, item: Item, symbol: Symbol) -> Result<bool, ParseRefused> {
+    pub(crate) fn take(&mut self, item: Item, symbol: Symbol) -> Result<bool, Memory>
+        ensures { IfOk result (λ b. OnTrue b (Follows (produced item symbol) (pile self.old.stack.items) self.old.code.items (pile self.new.stack.items) self.new.code.items)) }
+    {
         match item {
             Item::Exactly(fixed) => match symbol {
                 Symbol::Fixed(found) => Ok(found == fixed),
                 _ => Ok(false),
             },
             Item::WantFactor => self.take_factor(symbol),
-            Item::MoreFactors | Item::MoreTerms => self.take_operator(item, symbol),
+            Item::MoreFactors => self.take_factors(symbol),
+            Item::MoreTerms => self.take_terms(symbol),
             Item::MaybePower | Item::WantExponent => self.take_power(item, symbol),
             Item::MoreArguments(n) => self.take_argument(n, symbol),
-            Item::WantRelation | Item::MoreConstraints | Item::MaybeConstraint =>
-                self.take_constraint(item, symbol),
-            Item::MaybeConstants | Item::WantConstant | Item::MoreConstants | Item::MaybeConstant =>
-                self.take_constant(item, symbol),
-            Item::WantEquals
-            | Item::MaybeSign
-            | Item::WantValue
-            | Item::WantBound
-            | Item::MaybeSemicolon
-            | Item::Then(_) => Ok(ends_with(item, symbol)),
-            Item::MaybeFunctions
-            | Item::WantFunctionName
-            | Item::WantParameter
-            | Item::MoreParameters => self.take_function(item, symbol),
-            Item::WantVariable | Item::MoreVariables | Item::MaybeVariable | Item::MaybeDomain =>
-                self.take_variable(item, symbol),
+            Item::WantRelation | Item::MoreConstraints => self.take_relation(item, symbol),
+            Item::MaybeConstraint => self.take_constraint(symbol),
+            Item::MaybeConstants | Item::WantConstant => self.take_constant(item, symbol),
+            Item::MoreConstants | Item::MaybeConstant => self.take_constants(item, symbol),
+            Item::MaybeFunctions => self.take_function(symbol),
+            Item::MoreParameters => self.take_parameters(symbol),
+            Item::WantVariable | Item::MoreVariables => self.take_variable(item, symbol),
+            Item::MaybeVariable | Item::MaybeDomain => self.take_variables(item, symbol),
+            _ => Ok(ends_with(item, symbol)),
         }
     }
 
-    // Puts the items on the stack, the first on top.
-    fn expect(&mut self, items: &[Item]) -> Result<(), ParseRefused> {
-        for item in items.iter().rev() {
-            self.stack.push(*item)?;
-        }
-        Ok(())
-    }
-
-    fn expect_true(&mut self, items: &[Item]) -> Result<bool, ParseRefused> {
-        self.expect(items)?;
+    fn operand(&mut self, op: Op) -> Result<bool, Memory>
+        ensures taken { IfOk result (λ b. b ≡ true) }
+        ensures stack { OnOk result (pile self.new.stack.items ≡ Item.MaybePower ∷ pile self.old.stack.items) }
+        ensures code { OnOk result (self.new.code.items ≡ self.old.code.items ++ op ∷ []) }
+    {
+        self.write(op)?;
+        self.put(Item::MaybePower)?;
         Ok(true)
     }
 
-    fn operand(&mut self, op: Op) -> Result<bool, ParseRefused> {
-        self.code.push(op)?;
-        self.expect_true(&[Item::MaybePower])
-    }
-
-    fn take_factor(&mut self, symbol: Symbol) -> Result<bool, ParseRefused> {
+    fn take_factor(&mut self, symbol: Symbol) -> Result<bool, Memory>
+        ensures { IfOk result (λ b. OnTrue b (Follows (produced Item.WantFactor symbol) (pile self.old.stack.items) self.old.code.items (pile self.new.stack.items) self.new.code.items)) }
+    {
         match symbol {
-            Symbol::Fixed(Fixed::Plus) => self.expect_true(&[Item::WantFactor]),
-            Symbol::Fixed(Fixed::Minus) => self.expect_true(&[
-                Item::WantFactor,
-                Item::Then(Op::One(Unary::Neg)),
-            ]),
-            Symbol::Fixed(Fixed::Open) => self.expect_true(&[
-                Item::WantFactor,
-                Item::MoreFactors,
-                Item::MoreTerms,
-                Item::MoreArguments(0),
-                Item::MaybePower,
-            ]),
-            Symbol::Number { value, .. } | Symbol::Constant(value) => self.operand(Op::Constant(
-                value,
-            )),
+            Symbol::Fixed(Fixed::Plus) => {
+                self.put(Item::WantFactor)?;
+                Ok(true)
+            }
+            Symbol::Fixed(Fixed::Minus) => {
+                self.put(Item::Then(Op::One(Unary::Neg)))?;
+                self.put(Item::WantFactor)?;
+                Ok(true)
+            }
+            Symbol::Fixed(Fixed::Open) => {
+                self.put(Item::MaybePower)?;
+                self.put(Item::MoreArguments(0))?;
+                self.put_expression()?;
+                Ok(true)
+            }
+            Symbol::Number { value, .. } => self.operand(Op::Constant(value)),
+            Symbol::Constant(value) => self.operand(Op::Constant(value)),
             Symbol::Variable(i) => self.operand(Op::Variable(i)),
             Symbol::Parameter(i) => self.operand(Op::Parameter(i)),
-            Symbol::Function { op, arity } => self.take_call(op, arity),
-            Symbol::Unknown => Ok(true),
+            Symbol::Function { op, arity } => {
+                self.put(Item::MaybePower)?;
+                self.put(Item::Then(op))?;
+                self.put(Item::MoreArguments(arity.saturating_sub(1)))?;
+                self.put_expression()?;
+                self.put(Item::Exactly(Fixed::Open))?;
+                Ok(true)
+            }
+            Symbol::Unknown => {
+                self.put(Item::MaybePower)?;
+                Ok(true)
+            }
             _ => Ok(false),
         }
     }
 
-    fn take_call(&mut self, op: Op, arity: u8) -> Result<bool, ParseRefused> {
-        self.expect_true(&[
-            Item::Exactly(Fixed::Open),
-            Item::WantFactor,
-            Item::MoreFactors,
-            Item::MoreTerms,
-            Item::MoreArguments(arity.saturating_sub(1)),
-            Item::Then(op),
-            Item::MaybePower,
-        ])
-    }
-
-    fn take_operator(&mut self, item: Item, symbol: Symbol) -> Result<bool, ParseRefused> {
-        match (item, symbol) {
-            (Item::MoreFactors, Symbol::Fixed(Fixed::Star)) => self.factor_after(Binary::Mul),
-            (Item::MoreFactors, Symbol::Fixed(Fixed::Slash)) => self.factor_after(Binary::Div),
-            (Item::MoreTerms, Symbol::Fixed(Fixed::Plus)) => self.term_after(Binary::Add),
-            (Item::MoreTerms, Symbol::Fixed(Fixed::Minus)) => self.term_after(Binary::Sub),
+    fn take_factors(&mut self, symbol: Symbol) -> Result<bool, Memory>
+        ensures { IfOk result (λ b. OnTrue b (Follows (produced Item.MoreFactors symbol) (pile self.old.stack.items) self.old.code.items (pile self.new.stack.items) self.new.code.items)) }
+    {
+        match symbol {
+            Symbol::Fixed(Fixed::Star) => {
+                self.put(Item::MoreFactors)?;
+                self.put(Item::Then(Op::Two(Binary::Mul)))?;
+                self.put(Item::WantFactor)?;
+                Ok(true)
+            }
+            Symbol::Fixed(Fixed::Slash) => {
+                self.put(Item::MoreFactors)?;
+                self.put(Item::Then(Op::Two(Binary::Div)))?;
+                self.put(Item::WantFactor)?;
+                Ok(true)
+            }
             _ => Ok(false),
         }
     }
 
-    fn factor_after(&mut self, op: Binary) -> Result<bool, ParseRefused> {
-        self.expect_true(&[Item::WantFactor, Item::Then(Op::Two(op)), Item::MoreFactors])
+    fn take_terms(&mut self, symbol: Symbol) -> Result<bool, Memory>
+        ensures { IfOk result (λ b. OnTrue b (Follows (produced Item.MoreTerms symbol) (pile self.old.stack.items) self.old.code.items (pile self.new.stack.items) self.new.code.items)) }
+    {
+        match symbol {
+            Symbol::Fixed(Fixed::Plus) => {
+                self.put(Item::MoreTerms)?;
+                self.put(Item::Then(Op::Two(Binary::Add)))?;
+                self.put(Item::MoreFactors)?;
+                self.put(Item::WantFactor)?;
+                Ok(true)
+            }
+            Symbol::Fixed(Fixed::Minus) => {
+                self.put(Item::MoreTerms)?;
+                self.put(Item::Then(Op::Two(Binary::Sub)))?;
+                self.put(Item::MoreFactors)?;
+                self.put(Item::WantFactor)?;
+                Ok(true)
+            }
+            _ => Ok(false),
+        }
     }
 
-    fn term_after(&mut self, op: Binary) -> Result<bool, ParseRefused> {
-        self.expect_true(&[
-            Item::WantFactor,
-            Item::MoreFactors,
-            Item::Then(Op::Two(op)),
-            Item::MoreTerms,
-        ])
-    }
-
-    fn take_power(&mut self, item: Item, symbol: Symbol) -> Result<bool, ParseRefused> {
+    fn take_power(&mut self, item: Item, symbol: Symbol) -> Result<bool, Memory>
+        ensures { IfOk result (λ b. OnTrue b (Follows (produced item symbol) (pile self.old.stack.items) self.old.code.items (pile self.new.stack.items) self.new.code.items)) }
+    {
         match (item, symbol) {
-            (Item::MaybePower, Symbol::Fixed(Fixed::Caret)) => self.expect_true(&[
-                Item::WantExponent,
-            ]),
+            (Item::MaybePower, Symbol::Fixed(Fixed::Caret)) => {
+                self.put(Item::WantExponent)?;
+                Ok(true)
+            }
             (
                 Item::WantExponent,
                 Symbol::Number {
@@ -230,126 +280,192 @@ impl Machine {
                     ..
                 },
             ) => {
-                self.code.push(Op::One(Unary::Pow(n)))?;
+                self.write(Op::One(Unary::Pow(n)))?;
                 Ok(true)
             }
             _ => Ok(false),
         }
     }
 
-    fn take_argument(&mut self, more: u8, symbol: Symbol) -> Result<bool, ParseRefused> {
+    fn take_argument(&mut self, more: u8, symbol: Symbol) -> Result<bool, Memory>
+        ensures { IfOk result (λ b. OnTrue b (Follows (produced (Item.MoreArguments more) symbol) (pile self.old.stack.items) self.old.code.items (pile self.new.stack.items) self.new.code.items)) }
+    {
         match symbol {
             Symbol::Fixed(Fixed::Close) => Ok(more == 0),
-            Symbol::Fixed(Fixed::Comma) if more > 0 => self.expect_true(&[
-                Item::WantFactor,
-                Item::MoreFactors,
-                Item::MoreTerms,
-                Item::MoreArguments(more - 1),
-            ]),
-            _ => Ok(false),
-        }
-    }
-
-    fn take_constraint(&mut self, item: Item, symbol: Symbol) -> Result<bool, ParseRefused> {
-        match (item, symbol) {
-            (Item::WantRelation, Symbol::Relation(relation)) => self.expect_true(&[
-                Item::WantFactor,
-                Item::MoreFactors,
-                Item::MoreTerms,
-                Item::Then(Op::Relate(relation)),
-            ]),
-            (Item::MoreConstraints, Symbol::Fixed(Fixed::Semicolon)) => self.expect_true(&[
-                Item::MaybeConstraint,
-            ]),
-            (Item::MaybeConstraint, _) => {
-                self.expect(&[
-                    Item::MoreFactors,
-                    Item::MoreTerms,
-                    Item::WantRelation,
-                    Item::MoreConstraints,
-                ])?;
-                self.take_factor(symbol)
+            Symbol::Fixed(Fixed::Comma) => {
+                if more == 0 {
+                    return Ok(false);
+                }
+                self.put(Item::MoreArguments(more - 1))?;
+                self.put_expression()?;
+                Ok(true)
             }
             _ => Ok(false),
         }
     }
 
-    fn take_constant(&mut self, item: Item, symbol: Symbol) -> Result<bool, ParseRefused> {
+    fn take_relation(&mut self, item: Item, symbol: Symbol) -> Result<bool, Memory>
+        ensures { IfOk result (λ b. OnTrue b (Follows (produced item symbol) (pile self.old.stack.items) self.old.code.items (pile self.new.stack.items) self.new.code.items)) }
+    {
         match (item, symbol) {
-            (Item::MaybeConstants, Symbol::Fixed(Fixed::Constants)) => self.expect_true(&[
-                Item::WantConstant,
-                Item::MoreConstants,
-            ]),
-            (Item::WantConstant, Symbol::Declared { .. }) => self.expect_true(&[
-                Item::WantEquals,
-                Item::MaybeSign,
-                Item::WantValue,
-            ]),
-            (Item::MoreConstants, Symbol::Fixed(Fixed::Comma | Fixed::Semicolon)) =>
-                self.expect_true(&[Item::MaybeConstant]),
-            (Item::MaybeConstant, Symbol::Declared { .. }) => self.expect_true(&[
-                Item::WantEquals,
-                Item::MaybeSign,
-                Item::WantValue,
-                Item::MoreConstants,
-            ]),
+            (Item::WantRelation, Symbol::Relation(relation)) => {
+                self.put(Item::Then(Op::Relate(relation)))?;
+                self.put_expression()?;
+                Ok(true)
+            }
+            (Item::MoreConstraints, Symbol::Fixed(Fixed::Semicolon)) => {
+                self.put(Item::MaybeConstraint)?;
+                Ok(true)
+            }
             _ => Ok(false),
         }
     }
 
-    fn take_function(&mut self, item: Item, symbol: Symbol) -> Result<bool, ParseRefused> {
+    fn take_constraint(&mut self, symbol: Symbol) -> Result<bool, Memory>
+        ensures { IfOk result (λ b. OnTrue b (Follows (produced Item.MaybeConstraint symbol) (pile self.old.stack.items) self.old.code.items (pile self.new.stack.items) self.new.code.items)) }
+    {
+        self.put(Item::MoreConstraints)?;
+        self.put(Item::WantRelation)?;
+        self.put(Item::MoreTerms)?;
+        self.put(Item::MoreFactors)?;
+        self.take_factor(symbol)
+    }
+
+    fn take_constant(&mut self, item: Item, symbol: Symbol) -> Result<bool, Memory>
+        ensures { IfOk result (λ b. OnTrue b (Follows (produced item symbol) (pile self.old.stack.items) self.old.code.items (pile self.new.stack.items) self.new.code.items)) }
+    {
         match (item, symbol) {
-            (Item::MaybeFunctions, Symbol::Fixed(Fixed::Function)) => self.expect_true(&[
-                Item::WantFunctionName,
-                Item::Exactly(Fixed::Open),
-                Item::WantParameter,
-                Item::MoreParameters,
-                Item::Exactly(Fixed::Return),
-                Item::WantFactor,
-                Item::MoreFactors,
-                Item::MoreTerms,
-                Item::Then(Op::Define),
-                Item::MaybeSemicolon,
-                Item::Exactly(Fixed::End),
-                Item::MaybeSemicolon,
-                Item::MaybeFunctions,
-            ]),
-            (Item::WantFunctionName | Item::WantParameter, Symbol::Declared { .. }) => Ok(true),
-            (Item::MoreParameters, Symbol::Fixed(Fixed::Comma)) => self.expect_true(&[
-                Item::WantParameter,
-                Item::MoreParameters,
-            ]),
-            (Item::MoreParameters, Symbol::Fixed(Fixed::Close)) => Ok(true),
+            (Item::MaybeConstants, Symbol::Fixed(Fixed::Constants)) => {
+                self.put(Item::MoreConstants)?;
+                self.put(Item::WantConstant)?;
+                Ok(true)
+            }
+            (Item::WantConstant, Symbol::Declared { .. }) => {
+                self.put(Item::WantValue)?;
+                self.put(Item::MaybeSign)?;
+                self.put(Item::WantEquals)?;
+                Ok(true)
+            }
             _ => Ok(false),
         }
     }
 
-    fn take_variable(&mut self, item: Item, symbol: Symbol) -> Result<bool, ParseRefused> {
+    fn take_constants(&mut self, item: Item, symbol: Symbol) -> Result<bool, Memory>
+        ensures { IfOk result (λ b. OnTrue b (Follows (produced item symbol) (pile self.old.stack.items) self.old.code.items (pile self.new.stack.items) self.new.code.items)) }
+    {
         match (item, symbol) {
-            (Item::WantVariable, Symbol::Declared { .. }) => self.expect_true(&[Item::MaybeDomain]),
-            (Item::MoreVariables, Symbol::Fixed(Fixed::Comma | Fixed::Semicolon)) =>
-                self.expect_true(&[Item::MaybeVariable]),
-            (Item::MaybeVariable, Symbol::Declared { .. }) => self.expect_true(&[
-                Item::MaybeDomain,
-                Item::MoreVariables,
-            ]),
-            (Item::MaybeDomain, Symbol::Fixed(Fixed::In)) => self.expect_true(&[
-                Item::Exactly(Fixed::OpenBracket),
-                Item::MaybeSign,
-                Item::WantBound,
-                Item::Exactly(Fixed::Comma),
-                Item::MaybeSign,
-                Item::WantBound,
-                Item::Exactly(Fixed::CloseBracket),
-            ]),
+            (Item::MoreConstants, Symbol::Fixed(Fixed::Comma | Fixed::Semicolon)) => {
+                self.put(Item::MaybeConstant)?;
+                Ok(true)
+            }
+            (Item::MaybeConstant, Symbol::Declared { .. }) => {
+                self.put(Item::MoreConstants)?;
+                self.put(Item::WantValue)?;
+                self.put(Item::MaybeSign)?;
+                self.put(Item::WantEquals)?;
+                Ok(true)
+            }
             _ => Ok(false),
         }
+    }
+
+    fn take_function(&mut self, symbol: Symbol) -> Result<bool, Memory>
+        ensures { IfOk result (λ b. OnTrue b (Follows (produced Item.MaybeFunctions symbol) (pile self.old.stack.items) self.old.code.items (pile self.new.stack.items) self.new.code.items)) }
+    {
+        match symbol {
+            Symbol::Fixed(Fixed::Function) => {
+                self.put_body()?;
+                self.put(Item::Exactly(Fixed::Return))?;
+                self.put(Item::MoreParameters)?;
+                self.put(Item::WantParameter)?;
+                self.put(Item::Exactly(Fixed::Open))?;
+                self.put(Item::WantFunctionName)?;
+                Ok(true)
+            }
+            _ => Ok(false),
+        }
+    }
+
+    // A function from its body on, and the functions behind it.
+    fn put_body(&mut self) -> Result<(), Memory>
+        ensures stack { OnOk result (pile self.new.stack.items ≡ body_items ++ pile self.old.stack.items) }
+        ensures code { OnOk result (self.new.code ≡ self.old.code) }
+    {
+        self.put(Item::MaybeFunctions)?;
+        self.put(Item::MaybeSemicolon)?;
+        self.put(Item::Exactly(Fixed::End))?;
+        self.put(Item::MaybeSemicolon)?;
+        self.put(Item::Then(Op::Define))?;
+        self.put_expression()
+    }
+
+    fn take_parameters(&mut self, symbol: Symbol) -> Result<bool, Memory>
+        ensures { IfOk result (λ b. OnTrue b (Follows (produced Item.MoreParameters symbol) (pile self.old.stack.items) self.old.code.items (pile self.new.stack.items) self.new.code.items)) }
+    {
+        match symbol {
+            Symbol::Fixed(Fixed::Comma) => {
+                self.put(Item::MoreParameters)?;
+                self.put(Item::WantParameter)?;
+                Ok(true)
+            }
+            Symbol::Fixed(Fixed::Close) => Ok(true),
+            _ => Ok(false),
+        }
+    }
+
+    fn take_variable(&mut self, item: Item, symbol: Symbol) -> Result<bool, Memory>
+        ensures { IfOk result (λ b. OnTrue b (Follows (produced item symbol) (pile self.old.stack.items) self.old.code.items (pile self.new.stack.items) self.new.code.items)) }
+    {
+        match (item, symbol) {
+            (Item::WantVariable, Symbol::Declared { .. }) => {
+                self.put(Item::MaybeDomain)?;
+                Ok(true)
+            }
+            (Item::MoreVariables, Symbol::Fixed(Fixed::Comma | Fixed::Semicolon)) => {
+                self.put(Item::MaybeVariable)?;
+                Ok(true)
+            }
+            _ => Ok(false),
+        }
+    }
+
+    fn take_variables(&mut self, item: Item, symbol: Symbol) -> Result<bool, Memory>
+        ensures { IfOk result (λ b. OnTrue b (Follows (produced item symbol) (pile self.old.stack.items) self.old.code.items (pile self.new.stack.items) self.new.code.items)) }
+    {
+        match (item, symbol) {
+            (Item::MaybeVariable, Symbol::Declared { .. }) => {
+                self.put(Item::MoreVariables)?;
+                self.put(Item::MaybeDomain)?;
+                Ok(true)
+            }
+            (Item::MaybeDomain, Symbol::Fixed(Fixed::In)) => {
+                self.put_domain()?;
+                Ok(true)
+            }
+            _ => Ok(false),
+        }
+    }
+
+    fn put_domain(&mut self) -> Result<(), Memory>
+        ensures stack { OnOk result (pile self.new.stack.items ≡ domain_items ++ pile self.old.stack.items) }
+        ensures code { OnOk result (self.new.code ≡ self.old.code) }
+    {
+        self.put(Item::Exactly(Fixed::CloseBracket))?;
+        self.put(Item::WantBound)?;
+        self.put(Item::MaybeSign)?;
+        self.put(Item::Exactly(Fixed::Comma))?;
+        self.put(Item::WantBound)?;
+        self.put(Item::MaybeSign)?;
+        self.put(Item::Exactly(Fixed::OpenBracket))
     }
 }
 
 // Whether the token is all that the item has.
-fn ends_with(item: Item, symbol: Symbol) -> bool {
+fn ends_with(item: Item, symbol: Symbol) -> bool
+    ensures { OnTrue result (produced item symbol ≡ Some ([], [])) }
+{
     match (item, symbol) {
+        (Item::WantFunctionName | Item::WantParameter, Symbol::Declared { .. }) => true,
         (Item::WantEquals, Symbol::Relation(pv_expr::Relation::Eq)) => true,
         (Item::MaybeSign, Symbol::Fixed(Fixed::Plus | Fixed::Minus)) => true,
         (Item::WantValue, Symbol::Number { .. }) => true,
@@ -362,7 +478,9 @@ fn ends_with(item: Item, symbol: Symbol) -> bool {
 
 impl Item {
     // Whether the item meets the token: it must come, or it may and the token begins it.
-    fn stays(self, symbol: Symbol) -> bool {
+    fn stays(self, symbol: Symbol) -> bool
+        ensures { OnFalse result (MayEnd self) }
+    {
         match (self, symbol) {
             (Item::Then(_), _) => false,
             (Item::MaybeConstants, Symbol::Fixed(f)) => f == Fixed::Constants,
@@ -383,7 +501,9 @@ impl Item {
     }
 
     // Whether nothing may come in its place.
-    fn may_end(self) -> bool {
+    fn may_end(self) -> bool
+        ensures { OnTrue result (MayEnd self) }
+    {
         match self {
             Item::MaybeConstants | Item::MoreConstants | Item::MaybeConstant => true,
             Item::MaybeSign | Item::MaybeFunctions | Item::MaybeSemicolon => true,

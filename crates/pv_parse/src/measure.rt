@@ -1,8 +1,8 @@
 // How large an expression is after the expansion of its calls, found without expanding it.
 
-use crate::cause::ParseRefused;
 use crate::code::Op;
 use crate::expand::Function;
+use pv_num::Memory;
 use std::alloc::Global;
 
 /// The size of an expanded expression, with counts that stop at 2^64 - 1. A parameter counts as nothing.
@@ -107,7 +107,7 @@ pub(crate) fn measures(
     alloc: Global,
     functions: &[Function],
     code: &[Op],
-) -> Result<Vec<Measure>, ParseRefused> {
+) -> Result<Vec<Measure>, Memory> {
     let mut stack: Vec<Measure> = Vec::new(alloc);
     for op in code {
         let made = match *op {

@@ -1,9 +1,14 @@
 // Texts to systems and expressions.
 
-ghost use Rattle.std.specs.Prelude.{◌≤◌, length, IsOk};
+ghost use Rattle.std.specs.Prelude.{◌≡◌, ◌≤◌, ◌+◌, ◌<◌, length, IsOk, OnOk, IfOk, IfErr, IsErrAnd};
+ghost use Rattle.pv_expr.specs.Terms.{term_of};
+ghost use Rattle.pv_expr.specs.Systems.{IsOver};
+ghost use Rattle.pv_parse.specs.Faults.{IsPlaced, SaysTooLong};
+ghost use Rattle.pv_parse.specs.Grammar.{pile};
+ghost use Rattle.pv_parse.specs.Sentences.{IsSentence, IsSystemText, IsExpressionText};
 
 use crate::cause::{Cause, ParseRefused};
-use crate::checked::system_of;
+use crate::checked::{is_over, system_of};
 use crate::code::Op;
 use crate::expand::{Function, expand, used_code};
 use crate::machine::{Item, Machine};
@@ -12,8 +17,9 @@ use crate::place::line_and_column;
 use crate::scanner::next_token;
 use crate::scope::Scope;
 use crate::symbol::{Fixed, Symbol};
-use crate::token::Kind;
+use crate::token::{Kind, Token};
 use pv_expr::{Constraint, Expr, Relation, System};
+use pv_num::Memory;
 use std::alloc::Global;
 
 /// The longest text that is read, in bytes.
@@ -26,7 +32,11 @@ const MAX_DEPTH: u64 = 2000;
 /// The system of a text.
 ///
 /// The fault is at the first token such that no text of a system begins with the tokens up to and with it.
-pub fn parse(alloc: Global, text: &[u8]) -> Result<System, ParseRefused> {
+pub fn parse(alloc: Global, text: &[u8]) -> Result<System, ParseRefused>
+    ensures grammatical { IfOk result (λ s. IsSystemText text.now) }
+    ensures placed { IfErr result (λ e. IsPlaced text.now e) }
+    ensures long { 65536 < length text.now → IsErrAnd result SaysTooLong }
+{
     refuse_long(text)?;
     let mut scope = Scope::new(alloc);
     let mut machine = Machine::for_system(alloc)?;
@@ -34,29 +44,39 @@ pub fn parse(alloc: Global, text: &[u8]) -> Result<System, ParseRefused> {
     if let Some(bracket) = scope.bad_bounds {
         return Err(fault_within(text, bracket, Cause::BadBounds));
     }
-    let constraints = expanded(
-        alloc,
-        text,
-        machine.into_code().as_slice(),
-        scope.starts.as_slice(),
-    )?;
+    let code = machine.into_code();
+    let constraints = match expanded(alloc, text, code.as_slice(), scope.starts.as_slice()) {
+        Ok(constraints) => constraints,
+        Err(refused) => return Err(refused),
+    };
     system_of(scope.variables, scope.domains, constraints).ok_or(ParseRefused::Memory)
 }
 
 /// The expression of a text, over the variables of a system.
-pub fn parse_expr(alloc: Global, system: &System, text: &[u8]) -> Result<Expr, ParseRefused> {
+pub fn parse_expr(alloc: Global, system: &System, text: &[u8]) -> Result<Expr, ParseRefused>
+    ensures grammatical { IfOk result (λ e. IsExpressionText text.now) }
+    ensures over { IfOk result (λ e. IsOver (length system.now.names) (term_of e)) }
+    ensures placed { IfErr result (λ e. IsPlaced text.now e) }
+    ensures long { 65536 < length text.now → IsErrAnd result SaysTooLong }
+{
     refuse_long(text)?;
     let mut scope = Scope::of_system(alloc, system)?;
     let mut machine = Machine::for_expression(alloc)?;
     read_tokens(text, &mut scope, &mut machine)?;
-    match expand(alloc, &[], machine.into_code().as_slice(), &[])?.pop() {
-        Some(e) => Ok(e),
-        None => Err(ParseRefused::Memory),
+    let Some(e) = expand(alloc, &[], machine.into_code().as_slice(), &[])?.pop() else {
+        return Err(ParseRefused::Memory);
+    };
+    if is_over(system.variable_count(), &e) {
+        Ok(e)
+    } else {
+        Err(ParseRefused::Memory)
     }
 }
 
 fn refuse_long(text: &[u8]) -> Result<(), ParseRefused>
-    ensures { IsOk result → length text.now ≤ 65536 }
+    ensures short { IsOk result → length text.now ≤ 65536 }
+    ensures placed { IfErr result (λ e. IsPlaced text.now e) }
+    ensures long { IfErr result SaysTooLong }
 {
     if text.len() > MAX_TEXT {
         Err(fault(text, MAX_TEXT, Cause::TextTooLong))
@@ -66,7 +86,9 @@ fn refuse_long(text: &[u8]) -> Result<(), ParseRefused>
 }
 
 // The fault at a place that was kept.
-fn fault_within(text: &[u8], byte: usize, cause: Cause) -> ParseRefused {
+fn fault_within(text: &[u8], byte: usize, cause: Cause) -> ParseRefused
+    ensures { IsPlaced text.now result }
+{
     if byte <= text.len() && byte <= MAX_TEXT {
         fault(text, byte, cause)
     } else {
@@ -77,6 +99,8 @@ fn fault_within(text: &[u8], byte: usize, cause: Cause) -> ParseRefused {
 fn fault(text: &[u8], byte: usize, cause: Cause) -> ParseRefused
     requires within { byte ≤ length text.now }
     requires short { byte ≤ 65536 }
+    ensures placed { IsPlaced text.now result }
+    ensures long { byte ≡ 65536 → cause ≡ Cause.TextTooLong → SaysTooLong result }
 {
     let (line, column) = line_and_column(text, byte);
     ParseRefused::Fault {
@@ -89,41 +113,51 @@ fn fault(text: &[u8], byte: usize, cause: Cause) -> ParseRefused
 
 fn read_tokens(text: &[u8], scope: &mut Scope, machine: &mut Machine) -> Result<(), ParseRefused>
     requires { length text.now ≤ 65536 }
+    ensures placed { IfErr result (λ e. IsPlaced text.now e) }
+    ensures sentence { OnOk result (IsSentence text.now (pile machine.old.stack.items) machine.old.code.items machine.new.code.items) }
 {
     let mut from = 0;
     loop {
         let token = next_token(text, from);
         let symbol = scope.symbol_of(text, token);
-        if let Some(cause) = refusal(machine, symbol)? {
-            return Err(fault(text, token.start, cause));
+        let Some(item) = machine.settle(symbol)? else {
+            return ended(text, token, symbol);
+        };
+        if !machine.take(item, symbol)? {
+            return Err(fault(text, token.start, cause_of(item, symbol)));
         }
         if let Some(cause) = scope.count(symbol, text, token)? {
             return Err(fault(text, token.start, cause));
         }
         if token.kind == Kind::End {
-            return Ok(());
+            return Err(ParseRefused::Memory);
         }
         from = token.end;
     }
 }
 
-// Why the grammar does not allow a token; None where it does, and then the token is taken.
-fn refusal(machine: &mut Machine, symbol: Symbol) -> Result<Option<Cause>, ParseRefused> {
-    let Some(item) = machine.settle(symbol)? else {
-        return Ok(Some(cause_of(None, symbol)));
-    };
-    if machine.take(item, symbol)? {
-        Ok(None)
-    } else {
-        Ok(Some(cause_of(Some(item), symbol)))
+// Where nothing more may come, only the end of the text is right.
+fn ended(text: &[u8], token: Token, symbol: Symbol) -> Result<(), ParseRefused>
+    requires within { token.start ≤ length text.now }
+    requires short { length text.now ≤ 65536 }
+    ensures ends { IsOk result → token.kind ≡ Kind.End }
+    ensures placed { IfErr result (λ e. IsPlaced text.now e) }
+{
+    if token.kind == Kind::End {
+        return Ok(());
     }
+    let cause = match symbol {
+        Symbol::Never(cause) => cause,
+        _ => Cause::Unexpected,
+    };
+    Err(fault(text, token.start, cause))
 }
 
-fn cause_of(item: Option<Item>, symbol: Symbol) -> Cause {
+fn cause_of(item: Item, symbol: Symbol) -> Cause {
     match (item, symbol) {
         (_, Symbol::Never(cause)) => cause,
         (_, Symbol::Fixed(Fixed::EndOfText)) => Cause::EndOfText,
-        (Some(Item::WantExponent), _) => Cause::BadExponent,
+        (Item::WantExponent, _) => Cause::BadExponent,
         _ => Cause::Unexpected,
     }
 }
@@ -161,7 +195,9 @@ fn expanded(
     Ok(constraints)
 }
 
-fn too_large(text: &[u8], starts: &[usize], i: usize) -> ParseRefused {
+fn too_large(text: &[u8], starts: &[usize], i: usize) -> ParseRefused
+    ensures { IsPlaced text.now result }
+{
     match starts.get(i) {
         Some(start) => fault_within(text, *start, Cause::TooLarge),
         None => ParseRefused::Memory,
@@ -174,7 +210,7 @@ fn room_for(
     functions: &[Function],
     code: &[Op],
     before: u64,
-) -> Result<u64, ParseRefused> {
+) -> Result<u64, Memory> {
     let mut nodes = before;
     for side in measures(alloc, functions, code)?.as_slice() {
         nodes = nodes.saturating_add(side.nodes);
@@ -190,7 +226,7 @@ fn constraint(
     functions: &[Function],
     code: &[Op],
     relation: Relation,
-) -> Result<Constraint, ParseRefused> {
+) -> Result<Constraint, Memory> {
     let used = used_code(alloc, functions, code, 2)?;
     let mut sides = expand(alloc, functions, used.as_slice(), &[])?;
     match (sides.pop(), sides.pop()) {
@@ -199,6 +235,6 @@ fn constraint(
             relation,
             right,
         }),
-        _ => Err(ParseRefused::Memory),
+        _ => Err(Memory),
     }
 }

@@ -1,8 +1,9 @@
 // What names stand for, and what the limits count, token by token.
 
-ghost use Rattle.std.specs.Prelude.{◌≤◌, length};
+ghost use Rattle.std.specs.Prelude.{◌≡◌, ◌≢◌, ◌≤◌, [], length};
+ghost use Rattle.pv_parse.specs.Sentences.{IsNameSymbol, IsNumberSymbol, StandsFor, bytes_of};
 
-use crate::cause::{Cause, ParseRefused};
+use crate::cause::Cause;
 use crate::checked::in_order;
 use crate::code::{Binary, Op, Unary};
 use crate::fraction::Fraction;
@@ -11,6 +12,7 @@ use crate::number::read_number;
 use crate::symbol::{Fixed, Symbol};
 use crate::token::{Kind, Token};
 use pv_expr::{Bound, Domain, Relation, System};
+use pv_num::Memory;
 use std::alloc::Global;
 use std::collections::BTreeMap;
 
@@ -100,7 +102,7 @@ impl Scope {
     }
 
     /// The scope of one expression over the variables of a system.
-    pub(crate) fn of_system(alloc: Global, system: &System) -> Result<Scope, ParseRefused> {
+    pub(crate) fn of_system(alloc: Global, system: &System) -> Result<Scope, Memory> {
         let mut scope = Scope::new(alloc);
         scope.phase = Phase::Sides;
         for i in 0..system.variable_count() {
@@ -114,24 +116,28 @@ impl Scope {
     pub(crate) fn symbol_of(&self, text: &[u8], token: Token) -> Symbol
         requires ordered { token.start ≤ token.end }
         requires within { token.end ≤ length text.now }
+        ensures { StandsFor (bytes_of text.now token) token.kind result }
     {
         let bytes = &text[token.start..token.end];
         match token.kind {
             Kind::Name => self.symbol_of_name(bytes),
             Kind::Number => symbol_of_number(bytes),
-            Kind::Bad => Symbol::Never(Cause::BadByte),
             kind => symbol_of_mark(kind),
         }
     }
 
-    fn symbol_of_name(&self, name: &[u8]) -> Symbol {
+    fn symbol_of_name(&self, name: &[u8]) -> Symbol
+        ensures { IsNameSymbol result }
+    {
         match word_of(name) {
             Some(word) => symbol_of_word(word),
             None => self.resolve(name),
         }
     }
 
-    fn resolve(&self, name: &[u8]) -> Symbol {
+    fn resolve(&self, name: &[u8]) -> Symbol
+        ensures { IsNameSymbol result }
+    {
         match self.phase {
             Phase::Between => Symbol::Unknown,
             Phase::Constants | Phase::FunctionName | Phase::Variables => Symbol::Declared {
@@ -152,7 +158,9 @@ impl Scope {
         }
     }
 
-    fn use_of(&self, name: &[u8], with_variables: bool) -> Symbol {
+    fn use_of(&self, name: &[u8], with_variables: bool) -> Symbol
+        ensures { IsNameSymbol result }
+    {
         match self.names.get(name) {
             Some(Meaning::Constant(value)) => Symbol::Constant(*value),
             Some(Meaning::Variable(i)) if with_variables => Symbol::Variable(*i),
@@ -161,7 +169,9 @@ impl Scope {
         }
     }
 
-    fn call_of(&self, function: u8) -> Symbol {
+    fn call_of(&self, function: u8) -> Symbol
+        ensures { IsNameSymbol result }
+    {
         match self.arities.get(function as usize) {
             Some(arity) => Symbol::Function {
                 op: Op::Call {
@@ -198,7 +208,7 @@ impl Scope {
         symbol: Symbol,
         text: &[u8],
         token: Token,
-    ) -> Result<Option<Cause>, ParseRefused>
+    ) -> Result<Option<Cause>, Memory>
         requires ordered { token.start ≤ token.end }
         requires within { token.end ≤ length text.now }
     {
@@ -254,7 +264,7 @@ impl Scope {
         }
     }
 
-    fn declare(&mut self, name: &[u8], taken: bool) -> Result<Option<Cause>, ParseRefused> {
+    fn declare(&mut self, name: &[u8], taken: bool) -> Result<Option<Cause>, Memory> {
         if self.phase == Phase::Variables && self.variables.len() == MAX_VARIABLES {
             return Ok(Some(Cause::TooManyVariables));
         }
@@ -275,7 +285,7 @@ impl Scope {
         Ok(None)
     }
 
-    fn declare_variable(&mut self, name: Vec<u8>) -> Result<(), ParseRefused> {
+    fn declare_variable(&mut self, name: Vec<u8>) -> Result<(), Memory> {
         let number = self.variables.len().min(MAX_VARIABLES) as u8;
         self.variables
             .push(String::from_utf8_lossy(self.alloc, name.as_slice())?)?;
@@ -288,7 +298,7 @@ impl Scope {
     }
 
     // The value of a constant, or a bound.
-    fn count_value(&mut self, value: Fraction) -> Result<Option<Cause>, ParseRefused> {
+    fn count_value(&mut self, value: Fraction) -> Result<Option<Cause>, Memory> {
         let signed = if self.negative {
             value.opposite()
         } else {
@@ -323,7 +333,7 @@ impl Scope {
         self.negative = false;
     }
 
-    fn count_fixed(&mut self, fixed: Fixed, token: Token) -> Result<Option<Cause>, ParseRefused> {
+    fn count_fixed(&mut self, fixed: Fixed, token: Token) -> Result<Option<Cause>, Memory> {
         match fixed {
             Fixed::Constants => self.phase = Phase::Constants,
             Fixed::Variables => self.phase = Phase::Variables,
@@ -364,7 +374,7 @@ impl Scope {
         self.operations = 0;
     }
 
-    fn end_block(&mut self) -> Result<(), ParseRefused> {
+    fn end_block(&mut self) -> Result<(), Memory> {
         if self.phase == Phase::Body {
             self.arities
                 .push(self.parameters.len().min(MAX_PARAMETERS) as u8)?;
@@ -390,7 +400,9 @@ impl Scope {
     }
 }
 
-fn symbol_of_number(bytes: &[u8]) -> Symbol {
+fn symbol_of_number(bytes: &[u8]) -> Symbol
+    ensures { IsNumberSymbol bytes.now result }
+{
     match read_number(bytes) {
         Some((p, q)) => Symbol::Number {
             value: Fraction { p, q },
@@ -412,7 +424,12 @@ fn exponent_of(bytes: &[u8]) -> Option<u8> {
     if n <= 32 { Some(n) } else { None }
 }
 
-fn symbol_of_mark(kind: Kind) -> Symbol {
+// The symbol of a token that is no name and no number.
+fn symbol_of_mark(kind: Kind) -> Symbol
+    requires no_name { kind ≢ Kind.Name }
+    requires no_number { kind ≢ Kind.Number }
+    ensures { StandsFor [] kind result }
+{
     match kind {
         Kind::LessEqual => Symbol::Relation(Relation::Le),
         Kind::GreaterEqual => Symbol::Relation(Relation::Ge),
@@ -435,7 +452,9 @@ fn symbol_of_mark(kind: Kind) -> Symbol {
     }
 }
 
-fn symbol_of_word(word: Word) -> Symbol {
+fn symbol_of_word(word: Word) -> Symbol
+    ensures { IsNameSymbol result }
+{
     match word {
         Word::Constants => Symbol::Fixed(Fixed::Constants),
         Word::Variables => Symbol::Fixed(Fixed::Variables),

@@ -59,10 +59,7 @@ fn faults_have_their_place_and_cause(rt: HostRuntime) {
             column: *column,
             cause: *cause,
         };
-        match parse(rt.alloc(), text) {
-            Ok(_) => assert!(rt; false, "fault {i} is read"),
-            Err(refused) => assert_eq!(rt; refused, wanted, "fault {i}"),
-        }
+        assert_eq!(rt; parse(rt.alloc(), text).err(), Some(wanted), "fault {i}");
     }
 }
 
@@ -175,19 +172,29 @@ fn expanded_sizes(rt: HostRuntime) -> Result<(), Fail> {
     Ok(())
 }
 
+fn is_twice_and_one(e: &Expr) -> bool {
+    match e {
+        Expr::Add(left, right) => is_twice(left) && matches!(&**right, Expr::Const { p: 1, q: 1 }),
+        _ => false,
+    }
+}
+
+fn is_twice(e: &Expr) -> bool {
+    match e {
+        Expr::Mul(left, right) => matches!(&**left, Expr::Const { p: 2, q: 1 })
+            && matches!(&**right, Expr::Var(0)),
+        _ => false,
+    }
+}
+
 #[test]
 fn expressions(rt: HostRuntime) -> Result<(), Fail> {
     let system = parse(
         rt.alloc(),
         b"Constants k = 1; Variables x in [0,4]; Constraints x <= k; end",
     )?;
-    match parse_expr(rt.alloc(), &system, b"2*x+1")? {
-        Expr::Add(left, right) => {
-            assert!(rt; matches!(&*left, Expr::Mul(_, _)));
-            assert!(rt; matches!(&*right, Expr::Const { p: 1, q: 1 }));
-        }
-        _ => assert!(rt; false, "no sum"),
-    }
+    let e = parse_expr(rt.alloc(), &system, b"2*x+1")?;
+    assert!(rt; is_twice_and_one(&e));
     for (text, byte, cause) in [
         (b"2*".as_slice(), 2, Cause::EndOfText),
         (b"x k", 2, Cause::Unexpected),
@@ -201,10 +208,7 @@ fn expressions(rt: HostRuntime) -> Result<(), Fail> {
             column: byte + 1,
             cause,
         };
-        match parse_expr(rt.alloc(), &system, text) {
-            Ok(_) => assert!(rt; false, "read"),
-            Err(refused) => assert_eq!(rt; refused, wanted),
-        }
+        assert_eq!(rt; parse_expr(rt.alloc(), &system, text).err(), Some(wanted));
     }
     Ok(())
 }
