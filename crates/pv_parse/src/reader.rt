@@ -168,7 +168,9 @@ fn expanded(
     text: &[u8],
     code: &[Op],
     starts: &[usize],
-) -> Result<Vec<Constraint>, ParseRefused> {
+) -> Result<Vec<Constraint>, ParseRefused>
+    ensures { IfErr result (λ e. IsPlaced text.now e) }
+{
     let mut functions = Vec::new(alloc);
     let mut constraints = Vec::new(alloc);
     let mut nodes = 0;
