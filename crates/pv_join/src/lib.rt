@@ -4,6 +4,8 @@
 mod check;
 mod merge;
 mod outcomes;
+#[cfg(test)]
+mod tests;
 mod verdict;
 
 pub use check::audit;
