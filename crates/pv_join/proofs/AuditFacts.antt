@@ -1,21 +1,19 @@
 -- An audit node by node, and what it says of the whole tree.
-use Rattle.std.proofs.Common.{◌≡◌, ◌≢◌, ◌⊎◌, inl, inr, ℕ, zero, suc, ◌+◌, ◌-◌, ◌<◌, ◌≤◌, Bool, true, false, IsTrue, Option, Some, None, List, [], ◌∷◌, ◌++◌, length, refl, sym, ◌∙◌, ap, arith, subst, append_assoc, append-nil}
+use Rattle.std.proofs.Common.{◌≡◌, ℕ, suc, ◌+◌, ◌-◌, ◌<◌, ◌≤◌, Bool, true, false, IsTrue, Some, None, List, [], ◌∷◌, ◌++◌, length, refl, sym, ◌∙◌, ap, arith, subst, append_assoc, append-nil}
 use Rattle.std.specs.Option.{IsSome}
 use Rattle.std.specs.Prelude.{Result, Ok, Err, IfOk}
-use Rattle.pv_num.specs.Extended.{Extended}
 use Rattle.pv_interval.specs.Bounds.{Bounds}
 use Rattle.pv_interval.specs.Points.{Point}
 use Rattle.pv_box.specs.Boxes.{IsBox, lower_half, upper_half}
 use Rattle.pv_tree.specs.Trees.{Tree, leaf, removed, inner, small, cut, top, subtree, outcome_at, settled, precedes, height, Paves, box_of}
 use Rattle.pv_tree.specs.Stages.{Rule, full_of, Grows, IsStage}
-use Rattle.pv_tree.specs.Sets.{IsSound}
 use Rattle.pv_tree.specs.Laws.{IsLawful}
 use Rattle.pv_tree.specs.declared.outcome.Outcome.{Outcome}
 use Rattle.pv_tree.specs.declared.outcome.Outcome.TheVariants.{Removed, Inner, Small, Cut}
 use Rattle.pv_tree.proofs.StageLaws.{grows_leaf, grows_cut, grows_low, grows_high, settled_grows, top_leaf, leaf_cut, half_box, stage_sound}
 use Rattle.pv_tree.proofs.Wholes.{half_length, within_length}
 use Rattle.pv_join.specs.Joins.{is_a_cut}
-use Rattle.pv_join.specs.Audits.{due_at, IsDue, IsFirstDifference, IsVerdict, IsVerdictBelow, IsDifference, IsSoundIfHonest}
+use Rattle.pv_join.specs.Audits.{due_at, IsDue, IsVerdict, IsVerdictBelow, IsSoundIfHonest}
 use Rattle.pv_join.specs.declared.verdict.Audit.{Audit}
 use Rattle.pv_join.specs.declared.verdict.Audit.TheVariants as verdict
 use Rattle.pv_join.proofs.JoinFacts.{top_is, some_there, open_there, end_top, cut_top, IsCutTree, subtree_low, subtree_high, cut_height}

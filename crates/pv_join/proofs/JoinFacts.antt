@@ -1,15 +1,13 @@
 -- Joins and first disagreements, node by node.
-use Rattle.std.proofs.Common.{◌≡◌, ◌≢◌, ◌⊎◌, inl, inr, ℕ, zero, suc, ◌+◌, ◌<◌, ◌≤◌, max, Bool, true, false, IsTrue, Option, Some, None, List, [], ◌∷◌, ◌++◌, length, refl, sym, ◌∙◌, ap, arith, subst}
+use Rattle.std.proofs.Common.{◌≡◌, ◌⊎◌, inl, inr, ℕ, suc, ◌<◌, ◌≤◌, max, Bool, true, false, Option, Some, None, List, [], ◌∷◌, ◌++◌, length, refl, sym, ◌∙◌, ap, arith, subst}
 use Rattle.pv_num.specs.Extended.{Extended}
 use Rattle.pv_interval.specs.Bounds.{Bounds}
-use Rattle.pv_box.specs.Boxes.{IsBox, lower_half, upper_half}
-use Rattle.pv_tree.specs.Trees.{Tree, leaf, removed, inner, small, cut, top, subtree, outcome_at, graft, settled, precedes, Paves, Fits, HasDepth, height, box_of}
-use Rattle.pv_tree.specs.Stages.{Rule, full_of, Grows, IsStage}
+use Rattle.pv_tree.specs.Trees.{Tree, leaf, removed, inner, small, cut, top, subtree, outcome_at, graft, settled, Paves, Fits, HasDepth, height, box_of}
 use Rattle.pv_tree.specs.declared.outcome.Outcome.{Outcome}
 use Rattle.pv_tree.specs.declared.outcome.Outcome.TheVariants.{Removed, Inner, Small, Cut}
 use Rattle.std.specs.Option.{IsSome}
 use Rattle.pv_tree.proofs.Halves.{paves_below}
-use Rattle.pv_join.specs.Joins.{settled_side, Agree, IsJoin, DisagreeAt, IsFirstDisagreement, is_a_cut, IsOverlaid, HasPart, IsRefusal, IsReady, IsSettledAs, IsMismatch}
+use Rattle.pv_join.specs.Joins.{settled_side, IsJoin, is_a_cut}
 use Rattle.pv_join.proofs.Shapes.{outcome_top, top_there}
 
 -- trees that are settled alike are the same

@@ -1,12 +1,11 @@
 -- The laws of joins.
-use Rattle.std.proofs.Common.{◌≡◌, ◌≢◌, ◌⊎◌, inl, inr, ℕ, Bool, true, false, Option, Some, None, List, [], ◌∷◌, refl, sym, ◌∙◌, ap, subst}
-use Rattle.pv_num.specs.Extended.{Extended}
+use Rattle.std.proofs.Common.{◌≡◌, inl, inr, true, false, Option, Some, None, List, [], ◌∷◌, refl, sym, ◌∙◌, ap, subst}
 use Rattle.pv_interval.specs.Bounds.{Bounds}
 use Rattle.pv_tree.specs.Trees.{Tree, leaf, removed, inner, small, cut, outcome_at}
-use Rattle.pv_tree.specs.Stages.{Rule, full_of, Grows, IsStage}
+use Rattle.pv_tree.specs.Stages.{full_of, Grows}
 use Rattle.pv_tree.specs.declared.outcome.Outcome.{Outcome}
 use Rattle.pv_tree.specs.declared.outcome.Outcome.TheVariants.{Removed, Inner, Small, Cut}
-use Rattle.pv_join.specs.Joins.{settled_side, Agree, IsJoin, DisagreeAt, IsFirstDisagreement, IsJoinRefusal, HasJoinLaws, AreNoStages}
+use Rattle.pv_join.specs.Joins.{settled_side, Agree, IsJoin, IsJoinRefusal, HasJoinLaws, AreNoStages}
 use Rattle.pv_join.specs.declared.merge.JoinRefused.{JoinRefused}
 use Rattle.pv_join.specs.declared.merge.JoinRefused.TheVariants as refused
 use Rattle.pv_join.proofs.JoinFacts.{join_unique, join_swap, join_self, join_leaf_left, join_leaf_right, join_cut, side_three, side_some, side_left}

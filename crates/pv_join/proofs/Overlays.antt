@@ -1,17 +1,17 @@
 -- One step of laying a tree over another.
-use Rattle.std.proofs.Common.{◌≡◌, ◌≢◌, ◌⊎◌, inl, inr, ℕ, zero, suc, ◌+◌, ◌<◌, ◌≤◌, Bool, true, false, IsTrue, Option, Some, None, List, [], ◌∷◌, ◌++◌, length, refl, sym, ◌∙◌, ap, arith, subst, append_assoc, append-nil}
+use Rattle.std.proofs.Common.{◌≡◌, ◌≢◌, ◌⊎◌, inl, inr, ℕ, ◌<◌, ◌≤◌, Bool, true, false, IsTrue, Option, Some, None, List, [], ◌∷◌, ◌++◌, length, refl, sym, ◌∙◌, ap, arith, subst, append_assoc, append-nil}
 use Rattle.std.specs.Option.{IsSome}
 use Rattle.std.specs.Prelude.{Result, Ok, Err, OnOk, IfErr}
 use Rattle.pv_num.specs.Extended.{Extended}
 use Rattle.pv_interval.specs.Bounds.{Bounds}
-use Rattle.pv_tree.specs.Trees.{Tree, leaf, removed, inner, small, cut, top, subtree, outcome_at, graft, settled, precedes, height, HasDepth, box_of, half_of, Seen}
+use Rattle.pv_tree.specs.Trees.{Tree, leaf, cut, top, subtree, outcome_at, graft, settled, precedes, height, Seen}
 use Rattle.pv_tree.specs.declared.outcome.Outcome.{Outcome}
 use Rattle.pv_tree.specs.declared.outcome.Outcome.TheVariants.{Removed, Inner, Small, Cut}
 use Rattle.pv_tree.proofs.Halves.{box_child}
-use Rattle.pv_join.specs.Joins.{settled_side, Agree, IsJoin, DisagreeAt, IsFirstDisagreement, is_a_cut, IsOverlaid, HasPart, IsRefusal, IsReady, IsSettledAs, IsMismatch, IsJoinRefusal}
+use Rattle.pv_join.specs.Joins.{IsJoin, DisagreeAt, IsFirstDisagreement, is_a_cut, IsOverlaid, HasPart, IsRefusal, IsReady, IsSettledAs, IsMismatch, IsJoinRefusal}
 use Rattle.pv_join.specs.declared.merge.JoinRefused.{JoinRefused}
 use Rattle.pv_join.specs.declared.merge.JoinRefused.TheVariants as refused
-use Rattle.pv_join.proofs.JoinFacts.{join_unique, join_swap, join_self, join_leaf_left, join_leaf_right, join_cut, graft_at, graft_same, graft_twice, subtree_low, subtree_high, graft_low, graft_high, cut_height, top_is, some_there, open_top, IsCutTree, cut_top, end_top, open_there}
+use Rattle.pv_join.proofs.JoinFacts.{join_unique, join_self, join_leaf_left, join_leaf_right, join_cut, graft_at, graft_same, graft_twice, subtree_low, subtree_high, graft_low, graft_high, cut_height, top_is, some_there, open_top, IsCutTree, cut_top, end_top, open_there}
 
 some_same : (o : Option Tree) (s t : Tree) → o ≡ Some s → o ≡ Some t → s ≡ t
 some_same o s t e f = let w : Some s ≡ Some t = sym e ∙ f in cc

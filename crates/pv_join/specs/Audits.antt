@@ -1,5 +1,5 @@
 -- Where a tree's outcomes are a rule's.
-use Rattle.std.specs.Prelude.{◌≡◌, ◌≢◌, ◌-◌, ◌++◌, ℕ, Option, Some, None, IsTrue, List, Bool, length}
+use Rattle.std.specs.Prelude.{◌≡◌, ◌≢◌, ◌-◌, ◌++◌, ℕ, Some, IsTrue, List, Bool, length}
 use Rattle.pv_interval.specs.Bounds.{Bounds}
 use Rattle.pv_tree.specs.Trees.{Tree, leaf, outcome_at, precedes, box_of}
 use Rattle.pv_interval.specs.Points.{Point}

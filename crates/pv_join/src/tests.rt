@@ -1,9 +1,9 @@
 //! Two open pavings join.
+use crate::merge::join;
 use pv_box::IBox;
 use pv_interval::Interval;
 use pv_tree::{Path, Paving};
 use std::test::Fail;
-use crate::merge::join;
 
 #[test]
 fn open_pavings_join(rt: HostRuntime) -> Result<(), Fail> {

@@ -1,9 +1,8 @@
-use Rattle.std.proofs.Common.{◌≡◌, ◌<◌, ◌+◌, ◌++◌, ◌∷◌, [], sym, ◌∙◌, subst, length, length-append, ap, rules, arith, true, false, refl}
+use Rattle.std.proofs.Common.{◌≡◌, ◌<◌, ◌+◌, ◌++◌, ◌∷◌, [], sym, ◌∙◌, subst, length, length-append, ap, rules, true, false, refl}
 use Rattle.std.specs.Option.{IsSome}
-use Rattle.pv_tree.specs.Trees.{subtree, outcome_at}
+use Rattle.pv_tree.specs.Trees.{subtree}
 use Rattle.pv_join.specs.Audits.{IsVerdictBelow}
-use Rattle.pv_join.specs.declared.verdict.Audit.TheVariants as verdict
-use Rattle.pv_join.proofs.AuditFacts.{open_due, here_due, end_due, cut_due, differs_here, differs_low, verdict_high, child_there, short_path, not_false, if_ok_map}
+use Rattle.pv_join.proofs.AuditFacts.{open_due, here_due, end_due, differs_here, differs_low, verdict_high, child_there, short_path, not_false, if_ok_map}
 use Rattle.pv_join.proofs.check.+audit_below.Goals as goal
 
 pub returns-in_default-clause-verdict : goal.returns-in_default-clause-verdict

@@ -1,4 +1,3 @@
-use Rattle.std.proofs.Common.{◌≡◌, sym, ◌∙◌}
 use Rattle.pv_join.proofs.AuditFacts.{verdict_whole, honest_sound, if_ok_map}
 use Rattle.pv_join.proofs.check.audit.Goals as goal
 

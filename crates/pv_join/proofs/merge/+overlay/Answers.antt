@@ -1,5 +1,5 @@
-use Rattle.std.proofs.Common.{◌≡◌, ◌<◌, ◌+◌, ◌++◌, ◌∷◌, [], sym, ◌∙◌, subst, length, length-append, ap, rules, arith, true, false}
-use Rattle.pv_tree.specs.Trees.{subtree, outcome_at, Fits, box_of}
+use Rattle.std.proofs.Common.{◌≡◌, ◌<◌, ◌+◌, ◌∷◌, [], sym, ◌∙◌, subst, length, length-append, ap, rules, true, false}
+use Rattle.pv_tree.specs.Trees.{subtree, Fits}
 use Rattle.pv_join.specs.Joins.{IsOverlaid, IsReady, IsRefusal}
 use Rattle.pv_join.proofs.JoinFacts.{top_is, some_there, fits_there, depth_there}
 use Rattle.pv_join.proofs.Overlays.{overlaid_open, overlaid_end, mismatch_refusal, middle, short_there, ready_low, past_low, ready_high, overlaid_cut, refusal_low, refusal_high, on_ok_map, if_err_map}

@@ -1,5 +1,5 @@
-use Rattle.std.proofs.Common.{◌≡◌, sym, ◌∙◌, subst}
-use Rattle.pv_join.specs.Joins.{IsJoin, IsJoinRefusal, IsOverlaid, IsRefusal}
+use Rattle.std.proofs.Common.{subst}
+use Rattle.pv_join.specs.Joins.{IsJoin, IsJoinRefusal}
 use Rattle.pv_join.proofs.Overlays.{join_whole, refusal_whole}
 use Rattle.pv_join.proofs.JoinLaws.{join_laws, no_stages}
 use Rattle.pv_join.proofs.merge.join.Goals as goal

@@ -1,4 +1,4 @@
-use Rattle.std.proofs.Common.{◌≡◌, sym, ◌∙◌}
+use Rattle.std.proofs.Common.{sym, ◌∙◌}
 use Rattle.pv_join.proofs.JoinFacts.{open_there}
 use Rattle.pv_join.proofs.merge.settle_as.Goals as goal
 

@@ -1,4 +1,3 @@
-use Rattle.std.proofs.Common.{◌≡◌, sym}
 use Rattle.pv_join.proofs.Shapes.{inner_kept, small_kept, cut_kept, inner_is, small_is, cut_is, absent_is, open_is, removed_is}
 use Rattle.pv_join.proofs.outcomes.outcome_of.Goals as goal
 
