@@ -18,11 +18,11 @@ pub(crate) struct Options {
     pub bisector: Bisector,
     pub workers: u32,
     pub boxes: u64,
+    ghost depth_fits: { (1 ≤ depth) × (depth ≤ 200) },
 }
 
 /// Reads the values of the options; None where one is outside its range or spelling.
 pub(crate) fn read(words: &Words<'_>) -> Option<Options>
-    ensures depth { IfSome result (λ o. (1 ≤ o.depth) × (o.depth ≤ 200)) }
     ensures workers { IfSome result (λ o. (1 ≤ o.workers) × (o.workers ≤ 16)) }
     ensures boxes { IfSome result (λ o. (1 ≤ o.boxes) × (o.boxes ≤ 100000)) }
 {

@@ -3,6 +3,7 @@ ghost use Rattle.pv_tree.specs.Trees.{Fits, KeepsBox, CutsAbove};
 
 use pv_box::IBox;
 use pv_num::Memory;
+use pv_settle::SystemSettler;
 use pv_tree::Outcome;
 use std::alloc::Global;
 
@@ -27,4 +28,22 @@ pub(crate) trait Settles {
         ensures fits { IfOk result (λ o. Fits bx.now o) }
         ensures keeps_box { IfOk result (λ o. KeepsBox o) }
         ensures ends { IfOk result (λ o. CutsAbove depth_left o) };
+}
+
+impl Settles for SystemSettler {
+    ghost dims = { λ s. s };
+
+    fn depth(&self) -> u32 {
+        SystemSettler::depth(self)
+    }
+
+    fn settle(
+        &self,
+        alloc: Global,
+        bx: &IBox,
+        depth_left: u32,
+        path_len: u32,
+    ) -> Result<Outcome, Memory> {
+        SystemSettler::settle(self, alloc, bx, depth_left, path_len)
+    }
 }
