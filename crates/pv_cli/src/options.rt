@@ -1,4 +1,6 @@
-ghost use Rattle.std.specs.Prelude.{◌≡◌, ◌≤◌, IfSome};
+ghost use Rattle.std.specs.Prelude.{◌≡◌, ◌≢◌, ◌≤◌, pos, IsTrue, IfSome};
+ghost use Rattle.pv_num.specs.Extended.{Fin, PosInf};
+ghost use Rattle.pv_num.specs.Order.{le};
 
 use crate::values::count_of;
 use crate::words::Words;
@@ -18,6 +20,8 @@ pub(crate) struct Options {
     pub bisector: Bisector,
     pub workers: u32,
     pub boxes: u64,
+    ghost eps_from: { IsTrue (le (Fin (pos 0)) eps) },
+    ghost eps_finite: { eps ≢ PosInf },
     ghost depth_fits: { (1 ≤ depth) × (depth ≤ 200) },
 }
 
@@ -41,12 +45,20 @@ pub(crate) fn read(words: &Words<'_>) -> Option<Options>
 }
 
 // An unsigned number, rounded down.
-fn number_of(text: &str) -> Option<Num> {
+fn number_of(text: &str) -> Option<Num>
+    ensures from { IfSome result (λ n. IsTrue (le (Fin (pos 0)) n)) }
+    ensures finite { IfSome result (λ n. n ≢ PosInf) }
+{
     let (p, q) = read_number(text.as_bytes())?;
     if p < 0 || p >= P_LIMIT || q == 0 || q > Q_LIMIT {
         return None;
     }
-    Some(Num::from_ratio(p, q, End::Down))
+    let number = Num::from_ratio(p, q, End::Down);
+    if number >= Num::ZERO && number < Num::POS_INF {
+        Some(number)
+    } else {
+        None
+    }
 }
 
 fn bisector_of(text: &str) -> Option<Bisector> {

@@ -1,4 +1,5 @@
 ghost use Rattle.std.specs.Prelude.{◌≡◌, ◌≤◌, ℕ, IfOk, length};
+ghost use Rattle.pv_settle.specs.Rules.{dims_of};
 ghost use Rattle.pv_tree.specs.Trees.{Fits, KeepsBox, CutsAbove};
 
 use pv_box::IBox;
@@ -31,7 +32,7 @@ pub(crate) trait Settles {
 }
 
 impl Settles for SystemSettler {
-    ghost dims = { λ s. s };
+    ghost dims = { dims_of };
 
     fn depth(&self) -> u32 {
         SystemSettler::depth(self)
