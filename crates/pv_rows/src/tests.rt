@@ -1,0 +1,116 @@
+use crate::table::{FORMS, REFUSED, Row, WORK};
+use pv_cli::{NoGate, Status, paver_main};
+use pv_io::{MemFolder, MemSink};
+use std::alloc::Global;
+use std::collections::BTreeMap;
+use std::process::Abort;
+use std::test::Fail;
+
+// What a call came to.
+#[derive(Drop)]
+struct Answer {
+    status: Status,
+    out: MemSink,
+    err: MemSink,
+}
+
+// The numbers of the calls that fail.
+#[derive(Clone, Copy)]
+struct Fails {
+    folder: &'static [u64],
+    out: &'static [u64],
+    err: &'static [u64],
+}
+
+const NONE: Fails = Fails {
+    folder: &[],
+    out: &[],
+    err: &[],
+};
+
+fn call(alloc: Global, words: &str, system: &str, fails: Fails) -> Result<Answer, Fail> {
+    let mut list = vec![in alloc; String::from_str(alloc, "paver")?]?;
+    for word in words.split(' ').filter(|w| !w.is_empty()) {
+        list.push(String::from_str(alloc, word)?)?;
+    }
+    let mut files = BTreeMap::new(alloc);
+    files.insert(
+        String::from_str(alloc, "s")?,
+        system.as_bytes().to_vec(alloc)?,
+    )?;
+    let mut folder = MemFolder::new(alloc, files, fails.folder.to_vec(alloc)?);
+    let mut out = MemSink::new(alloc, fails.out.to_vec(alloc)?);
+    let mut err = MemSink::new(alloc, fails.err.to_vec(alloc)?);
+    let status = paver_main(alloc, &list, &mut folder, &mut out, &mut err, &NoGate);
+    Ok(Answer { status, out, err })
+}
+
+fn check(rt: &impl Abort, alloc: Global, rows: &[Row]) -> Result<(), Fail> {
+    for row in rows {
+        let answer = call(alloc, row.words, row.system, NONE)?;
+        let words = row.words;
+        assert_eq!(rt; answer.status.code(), row.status, "{words}");
+        assert_eq!(rt; answer.out.bytes(), row.out.as_bytes(), "{words}");
+        assert_eq!(rt; answer.err.bytes(), row.err.as_bytes(), "{words}");
+    }
+    Ok(())
+}
+
+#[test]
+fn worked_examples(rt: HostRuntime) -> Result<(), Fail> {
+    check(&rt, rt.alloc(), &FORMS)?;
+    check(&rt, rt.alloc(), &WORK)
+}
+
+#[test]
+fn refused_words(rt: HostRuntime) -> Result<(), Fail> {
+    check(&rt, rt.alloc(), &REFUSED)
+}
+
+const HALF_LINE: &str = "Variables x in [0,4]; Constraints x <= 1; end\n";
+
+#[test]
+fn the_budget_ends_a_run(rt: HostRuntime) -> Result<(), Fail> {
+    let square = "Variables x in [0,9999999], y in [0,9999999]; Constraints x < y; end\n";
+    let answer = call(rt.alloc(), "run s", square, NONE)?;
+    assert_eq!(rt; answer.status.code(), 1);
+    assert!(rt; answer.out.bytes().starts_with(b"settled 20000 "));
+    Ok(())
+}
+
+// The call with these failures has a status and a line, and prints nothing.
+fn faulty(
+    rt: &impl Abort,
+    alloc: Global,
+    system: &str,
+    fails: Fails,
+    status: u8,
+    line: &str,
+) -> Result<(), Fail> {
+    let answer = call(alloc, "run s", system, fails)?;
+    assert_eq!(rt; answer.status.code(), status);
+    assert_eq!(rt; answer.out.bytes(), "".as_bytes());
+    assert_eq!(rt; answer.err.bytes(), line.as_bytes());
+    Ok(())
+}
+
+#[test]
+fn faults_of_the_outside(rt: HostRuntime) -> Result<(), Fail> {
+    let no_read = Fails {
+        folder: &[0],
+        ..NONE
+    };
+    let alloc = rt.alloc();
+    faulty(&rt, alloc, HALF_LINE, no_read, 5, "read fault: s\n")?;
+    let no_print = Fails { out: &[0], ..NONE };
+    faulty(
+        &rt,
+        alloc,
+        HALF_LINE,
+        no_print,
+        6,
+        "write fault: standard output\n",
+    )?;
+    let no_line = Fails { err: &[0], ..NONE };
+    faulty(&rt, alloc, "Variables", no_line, 3, "")
+}
