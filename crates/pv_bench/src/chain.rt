@@ -41,7 +41,11 @@ pub fn last_of(operation: Operation, steps: u64) -> Num {
 
 // 3/2 for sums, and a little less than 1 for products and quotients.
 fn operand(operation: Operation) -> Num {
-    let parts = if operation == Operation::Add { (3, -1) } else { (2305843009213693951, -61) };
+    let parts = if operation == Operation::Add {
+        (3, -1)
+    } else {
+        (2305843009213693951, -61)
+    };
     Num::fin(parts.0, parts.1).unwrap_or(Num::ONE)
 }
 

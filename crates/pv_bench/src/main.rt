@@ -6,8 +6,7 @@
 mod chain;
 
 use chain::{Operation, last_of};
-use std::env;
-use std::io;
+use std::{env, io};
 
 fn main(rt: HostRuntime) -> io::Result<()> {
     let mut operation = Operation::Nothing;
