@@ -3,7 +3,8 @@
 
     python3 tests/reader_cases.py
 
-writes crates/pv_parse/src/tests/{faults,systems}.rt, after a comparison with the reference reader.
+writes crates/pv_parse/src/tests/systems.rt, after a comparison with the reference reader; tests/reader_table.py runs
+the whole table on the real program.
 """
 import sys
 from pathlib import Path
@@ -170,27 +171,21 @@ def literal(text):
 
 def main():
     folder = Path(__file__).parent.parent / "crates/pv_parse/src/tests"
-    rows, wrong = [], 0
+    wrong = 0
     for cause, marked in FAULTS:
         assert marked.count("¶") == 1, marked
         at = len(marked[:marked.index("¶")].encode())
-        text = marked.replace("¶", "").encode()
-        found = first_fault(text)
+        found = first_fault(marked.replace("¶", "").encode())
         if found is None or (found[1], found[0]) != (cause, at):
             wrong += 1
             print("differs:", marked, found, at)
-        rows.append((text, at, *place(text, at), cause))
     for text in GOOD:
         found = first_fault(text.encode())
         if found is not None:
             wrong += 1
             print("not good for the reference:", text, found)
-    print(len(rows), "faults,", len(GOOD), "good,", wrong, "differ")
+    print(len(FAULTS), "faults,", len(GOOD), "good,", wrong, "differ")
     head = "// Written by tests/reader_cases.py, which has the table by hand.\n\n"
-    body = head + "use crate::cause::Cause;\n\n/// Texts with the byte, the line, the column and the cause of their fault.\n"
-    body += f"pub(super) const FAULTS: [(&[u8], u32, u32, u32, Cause); {len(rows)}] = [\n"
-    body += "".join(f"    ({literal(t)}, {at}, {line}, {column}, Cause::{cause}),\n" for t, at, line, column, cause in rows)
-    (folder / "faults.rt").write_text(body + "];\n")
     body = head + "/// Texts of systems, and their canonical texts.\n"
     body += f"pub(super) const SYSTEMS: [(&[u8], &[u8]); {len(GOOD)}] = [\n"
     body += "".join(f"    ({literal(t.encode())}, {literal(canonical(t))}),\n" for t in GOOD)

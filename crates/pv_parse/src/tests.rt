@@ -1,6 +1,6 @@
-// What no clause says yet: tables of texts, and texts at the limits.
+// What no clause says yet: a table of texts, and texts at the limits. The table of faults is run on the real program,
+// by tests/reader_table.py: with it among these tests the prover does not finish.
 
-mod faults;
 mod lexical;
 mod systems;
 mod tokens;
@@ -8,7 +8,6 @@ mod tokens;
 use crate::cause::{Cause, ParseRefused};
 use crate::number::read_number;
 use crate::reader::{parse, parse_expr};
-use faults::FAULTS;
 use pv_expr::Expr;
 use std::alloc::{AllocError, Global};
 use std::test::Fail;
@@ -48,19 +47,6 @@ fn numbers(rt: HostRuntime) {
     );
     assert_eq!(rt; read_number(b"1e37"), None);
     assert_eq!(rt; read_number(b"0.50"), Some((1, 2)));
-}
-
-#[test]
-fn faults_have_their_place_and_cause(rt: HostRuntime) {
-    for (i, (text, byte, line, column, cause)) in FAULTS.iter().enumerate() {
-        let wanted = ParseRefused::Fault {
-            byte: *byte,
-            line: *line,
-            column: *column,
-            cause: *cause,
-        };
-        assert_eq!(rt; parse(rt.alloc(), text).err(), Some(wanted), "fault {i}");
-    }
 }
 
 #[test]
@@ -153,21 +139,26 @@ fn doubling(alloc: Global, call: &[u8]) -> Result<Vec<u8>, AllocError> {
     Ok(text)
 }
 
+// The fault of a constraint that begins so many bytes before the end.
+fn too_large_before_end(text: &[u8], back: usize) -> Option<(u32, Cause)> {
+    let byte = u32::try_from(text.len().checked_sub(back)?).ok()?;
+    Some((byte, Cause::TooLarge))
+}
+
 #[test]
 fn expanded_sizes(rt: HostRuntime) -> Result<(), Fail> {
     let alloc = rt.alloc();
     let fits = doubling(alloc, b"fo(x) <= 1")?;
     assert!(rt; parse(alloc, fits.as_slice()).is_ok());
     let large = doubling(alloc, b"fo(x) <= -1")?;
-    let first = large.len() as u32 - 16;
     assert_eq!(rt;
         outcome(alloc, large.as_slice()),
-        Some((first, Cause::TooLarge))
+        too_large_before_end(large.as_slice(), 16)
     );
     let vast = doubling(alloc, b"x < 1; fo(fo(fo(fo(fo(x))))) <= 1")?;
     assert_eq!(rt;
         outcome(alloc, vast.as_slice()),
-        Some((vast.len() as u32 - 31, Cause::TooLarge))
+        too_large_before_end(vast.as_slice(), 31)
     );
     Ok(())
 }

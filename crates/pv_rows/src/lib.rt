@@ -1,6 +1,8 @@
-//! The worked examples of the commands, over a folder in memory. This crate is tests alone.
+//! The worked examples that cross crates: commands over a folder in memory, and numbers. This crate is tests alone.
 #![tactic(auto)]
 
+#[cfg(test)]
+mod numbers;
 #[cfg(test)]
 mod table;
 #[cfg(test)]

@@ -114,3 +114,19 @@ fn faults_of_the_outside(rt: HostRuntime) -> Result<(), Fail> {
     let no_line = Fails { err: &[0], ..NONE };
     faulty(&rt, alloc, "Variables", no_line, 3, "")
 }
+
+const TWO_DISCS: &str =
+    "/* two discs and a line */\nConstants\n  r = 2.1;\nVariables\n  x in [-4, 4], y in [-4, 4];\nConstraints\n  sqr(x - 0.5) + y^2 <= r^2;  // first disc\n  sqr(x + 0.5) + y^2 <= 4;\n  y >= 0.1 * x;\nend\n";
+
+#[test]
+fn any_number_of_workers_prints_the_same(rt: HostRuntime) -> Result<(), Fail> {
+    let one = call(rt.alloc(), "run s --workers 1", TWO_DISCS, NONE)?;
+    assert_eq!(rt; one.status.code(), 0);
+    let summary = b"settled 323 cut 161 removed 0 inner 74 small 88 open 0\n";
+    assert!(rt; one.out.bytes().starts_with(summary));
+    let two = call(rt.alloc(), "run s --workers 2", TWO_DISCS, NONE)?;
+    assert_eq!(rt; two.out.bytes(), one.out.bytes());
+    let eight = call(rt.alloc(), "run s --workers 8", TWO_DISCS, NONE)?;
+    assert_eq!(rt; eight.out.bytes(), one.out.bytes());
+    Ok(())
+}
