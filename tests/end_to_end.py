@@ -16,6 +16,7 @@ from pathlib import Path
 sys.path.insert(0, str(Path(__file__).parent))
 from cases import CASES  # noqa: E402
 from examples import EXAMPLES  # noqa: E402
+from reader_cases import canonical  # noqa: E402
 from soundness import faults_of_paving  # noqa: E402
 
 HERE = Path(__file__).parent
@@ -74,6 +75,14 @@ def faults_of_example(paver, name, words, expected):
     return faults + faults_of_paving(system.read_text(), words, printed)
 
 
+def faults_of_check(paver, name):
+    """The canonical text of an example, beside that of the reference reader."""
+    system = HERE.parent / "examples" / f"{name}.mbx"
+    answer = run(paver, ["check", str(system)], HERE)
+    wanted = canonical(system.read_text())
+    return [] if answer.returncode == 0 and answer.stdout == wanted else [f"{answer.stdout[:300]!r} {answer.stderr!r}"]
+
+
 def expected_summaries():
     lines = (HERE / "expected" / "summaries.txt").read_text().splitlines()
     return {name: (digest, summary) for name, digest, summary in (line.split(" ", 2) for line in lines)}
@@ -84,6 +93,7 @@ def main():
     expected = expected_summaries()
     checks = [(case.name, faults_of_case, (paver, case)) for case in CASES]
     checks += [(f"example {name}", faults_of_example, (paver, name, words, expected)) for name, words in EXAMPLES]
+    checks += [(f"check of {name}", faults_of_check, (paver, name)) for name, _ in EXAMPLES]
     passed = failed = 0
     for name, check, arguments in checks:
         if word not in name:
