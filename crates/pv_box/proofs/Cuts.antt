@@ -1,8 +1,8 @@
 -- The cut of an interval, case by case.
-use Rattle.std.proofs.Common.{◌≡◌, ◌≢◌, refl, sym, ◌∙◌, ap, cond, rules}
-use Rattle.std.specs.Prelude.{Bool, true, false, Option, Some, None}
+use Rattle.std.proofs.Common.{◌≡◌, ◌≢◌, refl, ◌∙◌, ap, cond}
+use Rattle.std.specs.Prelude.{false, Some}
 use Rattle.pv_num.specs.Extended.{Extended, NegInf, Fin, PosInf}
-use Rattle.pv_num.specs.Order.{le, lt}
+use Rattle.pv_num.specs.Order.{lt}
 use Rattle.pv_num.specs.Arithmetic.{add_of, sub_of, middle_of}
 use Rattle.pv_num.specs.declared.num.End.TheVariants.{Down, Up}
 use Rattle.pv_interval.specs.Bounds.{Bounds}

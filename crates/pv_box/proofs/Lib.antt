@@ -4,3 +4,4 @@ pub mod Cuts
 pub mod Hulls
 pub mod Columns
 pub mod Places
+pub mod QHullKept

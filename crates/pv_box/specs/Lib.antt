@@ -1,3 +1,4 @@
 pub mod Boxes
 pub mod Choice
 pub mod QHull
+pub mod Members

@@ -4,6 +4,7 @@
 mod boxes;
 mod choice;
 mod hull;
+pub mod laws;
 
 pub use boxes::IBox;
 pub use choice::Bisector;

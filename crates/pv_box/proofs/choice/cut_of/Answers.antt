@@ -1,4 +1,4 @@
-use Rattle.std.proofs.Common.{◌≡◌, sym, ◌∙◌, true, false}
+use Rattle.std.proofs.Common.{sym, ◌∙◌}
 use Rattle.pv_box.proofs.Inside.{inside_of}
 use Rattle.pv_box.proofs.Cuts.{cut_all, cut_down, cut_up, cut_inner}
 use Rattle.pv_box.proofs.choice.cut_of.Goals as goal

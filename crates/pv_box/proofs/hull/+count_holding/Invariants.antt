@@ -1,4 +1,4 @@
-use Rattle.std.proofs.Common.{ℕ, ◌-◌, length}
+use Rattle.std.proofs.Common.{◌-◌, length}
 use Rattle.pv_box.proofs.hull.+count_holding.Given as goal
 
 abbrev pub decreases-count_holding : goal.decreases-count_holding

@@ -1,4 +1,4 @@
-use Rattle.std.proofs.Common.{ℕ, ◌-◌, length}
+use Rattle.std.proofs.Common.{◌-◌, length}
 use Rattle.pv_box.proofs.hull.+greatest_upper_end.Given as goal
 
 abbrev pub decreases-greatest_upper_end : goal.decreases-greatest_upper_end

@@ -1,4 +1,4 @@
-use Rattle.std.proofs.Common.{ℕ, ◌-◌, length}
+use Rattle.std.proofs.Common.{◌-◌, length}
 use Rattle.pv_box.proofs.hull.+least_lower_end.Given as goal
 
 abbrev pub decreases-least_lower_end : goal.decreases-least_lower_end

@@ -1,4 +1,4 @@
-use Rattle.std.proofs.Common.{ℕ, ◌-◌, length}
+use Rattle.std.proofs.Common.{◌-◌, length}
 use Rattle.pv_box.proofs.boxes.IBox.+first_from.Given as goal
 
 abbrev pub decreases-first_from : goal.decreases-first_from

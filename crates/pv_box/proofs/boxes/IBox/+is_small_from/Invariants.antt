@@ -1,4 +1,4 @@
-use Rattle.std.proofs.Common.{ℕ, ◌-◌, length}
+use Rattle.std.proofs.Common.{◌-◌, length}
 use Rattle.pv_box.proofs.boxes.IBox.+is_small_from.Given as goal
 
 abbrev pub decreases-is_small_from : goal.decreases-is_small_from

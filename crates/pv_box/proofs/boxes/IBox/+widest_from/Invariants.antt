@@ -1,4 +1,4 @@
-use Rattle.std.proofs.Common.{ℕ, ◌-◌, length}
+use Rattle.std.proofs.Common.{◌-◌, length}
 use Rattle.pv_box.proofs.boxes.IBox.+widest_from.Given as goal
 
 abbrev pub decreases-widest_from : goal.decreases-widest_from

@@ -1,4 +1,4 @@
-use Rattle.std.proofs.Common.{arith, ◌≡◌, length, ap, ◌∙◌, ◌<◌}
+use Rattle.std.proofs.Common.{arith, length, ap, ◌∙◌, ◌<◌}
 use Rattle.pv_box.proofs.Hulls.{hull_places, hull_done, hull_left}
 use Rattle.pv_box.proofs.boxes.IBox.hull.Goals as goal
 use Rattle.std.proofs.Math.ListN.{length-set}

@@ -1,4 +1,4 @@
-use Rattle.std.proofs.Common.{arith, ◌≡◌, ◌<◌, length, get_or, [], ap, ◌∙◌, sym}
+use Rattle.std.proofs.Common.{arith, ◌<◌, length, get_or, [], ap, ◌∙◌, sym}
 use Rattle.std.proofs.Math.ListN.{length-set}
 use Rattle.pv_box.proofs.Places.{place_done, hull_found, hull_missing, first_length}
 use Rattle.pv_box.proofs.boxes.IBox.q_hull.Goals as goal
