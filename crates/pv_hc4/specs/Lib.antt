@@ -6,3 +6,4 @@ pub mod Graphs
 pub mod Pass
 pub mod Building
 pub mod Totality
+pub mod Members

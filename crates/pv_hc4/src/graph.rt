@@ -1,6 +1,6 @@
 // The graph of a constraint.
 
-ghost use Rattle.std.specs.Prelude.{◌≡◌, ℕ, ◌<◌, ◌≤◌, length, IfOk, OnOk, OnErr, IsOk, MatchResult, Some};
+ghost use Rattle.std.specs.Prelude.{◌≡◌, ℕ, ◌+◌, ◌<◌, ◌≤◌, length, IfOk, OnOk, OnErr, IsOk, MatchResult, Some};
 ghost use Rattle.pv_expr.specs.Terms.{term_of};
 ghost use Rattle.pv_expr.specs.Systems.{IsOver};
 ghost use Rattle.pv_hc4.specs.Revise.{revised};
@@ -12,6 +12,7 @@ use crate::forward::forward_all;
 use crate::node::Node;
 use crate::revise::revise_values;
 use crate::revised::Revised;
+use crate::steps::Steps;
 use crate::total::{decides, is_total};
 use pv_box::IBox;
 use pv_expr::{Constraint, Relation};
@@ -19,6 +20,7 @@ use pv_interval::Interval;
 use pv_num::Memory;
 use std::alloc::Global;
 use std::marker::Model;
+use std::sync::ledger::Ledger;
 
 /// The intervals of a constraint's two sides on a box.
 #[derive(Clone, Copy, Debug)]
@@ -128,6 +130,37 @@ impl Graph {
             &mut scratch.values,
             bx,
         ))
+    }
+
+    /// As `revise`; the steps rise by one.
+    pub fn revise_counted<L: Ledger>(
+        &self,
+        alloc: Global,
+        bx: &mut IBox,
+        steps: &mut Steps<L>,
+    ) -> Result<Revised, Memory>
+        requires { length bx.old ≡ self.now.dims }
+        ensures answer { IfOk result (λ r. IsAnswer (revised (sides_of self.now) bx.old) r bx.old bx.new) }
+        ensures unchanged { OnErr result (bx.new ≡ bx.old) }
+        ensures counted { steps.new ≡ steps.old + 1 }
+    {
+        self.revise_counted_in(&mut Scratch::new(alloc), bx, steps)
+    }
+
+    /// As `revise_counted`, with room that is kept.
+    pub fn revise_counted_in<L: Ledger>(
+        &self,
+        scratch: &mut Scratch,
+        bx: &mut IBox,
+        steps: &mut Steps<L>,
+    ) -> Result<Revised, Memory>
+        requires { length bx.old ≡ self.now.dims }
+        ensures answer { IfOk result (λ r. IsAnswer (revised (sides_of self.now) bx.old) r bx.old bx.new) }
+        ensures unchanged { OnErr result (bx.new ≡ bx.old) }
+        ensures counted { steps.new ≡ steps.old + 1 }
+    {
+        steps.tick();
+        self.revise_in(scratch, bx)
     }
 
     /// Whether the constraint holds at every point of the box, as the intervals of its sides show.

@@ -12,8 +12,10 @@ mod node;
 mod relate;
 mod revise;
 mod revised;
+mod steps;
 mod total;
 
 pub use graph::{Forward, Graph, Scratch};
 pub use node::{BinaryOp, Node, UnaryOp};
 pub use revised::Revised;
+pub use steps::Steps;
