@@ -2,6 +2,7 @@
 #![tactic(auto)]
 
 mod convert;
+pub mod laws;
 mod magnitude;
 mod memory;
 mod num;
