@@ -1,9 +1,10 @@
 -- Where a box is cut, and when it is small.
-use Rattle.std.specs.Prelude.{ℕ, ◌+◌, ◌%◌, Bool, true, ◌&&◌, pos, Option, Some, None, List, [], ◌∷◌, length, drop, if◌then◌else◌}
+use Rattle.std.specs.Prelude.{ℕ, ◌+◌, ◌%◌, ◌+ℤ◌, ◌-ℤ◌, ◌*ℤ◌, ℤ, Bool, true, ◌&&◌, pos, Option, Some, None, List, [], ◌∷◌, length, drop, if◌then◌else◌}
 use Rattle.pv_num.specs.Extended.{Extended, NegInf, Fin, PosInf}
 use Rattle.pv_num.specs.Grid.{unit}
 use Rattle.pv_num.specs.Order.{le, lt}
-use Rattle.pv_num.specs.Arithmetic.{add_of, sub_of, middle_of}
+use Rattle.pv_num.specs.Rounding.{rounded}
+use Rattle.pv_num.specs.Arithmetic.{middle_of}
 use Rattle.pv_num.specs.declared.num.End.TheVariants.{Down, Up}
 use Rattle.pv_interval.specs.Bounds.{Bounds}
 use Rattle.pv_interval.specs.Tables.{nought, width_of}
@@ -11,36 +12,31 @@ use Rattle.pv_box.specs.declared.choice.Candidate.{Candidate}
 use Rattle.pv_box.specs.declared.choice.Bisector.{Bisector}
 use Rattle.pv_box.specs.declared.choice.Bisector.TheVariants.{Largest, Round}
 
-abbrev pub one : Extended
-one = Fin (pos unit)
-
 -- c, where it lies strictly between two ends
 abbrev pub strictly_between : Extended → Extended → Extended → Option Extended
 strictly_between lo c hi = if lt lo c && lt c hi then Some c else None
 
--- the cut of [-oo,h]: 0 or 2h - 1
-unfoldable pub cut_below : Extended → Option Extended
+-- the cut of [-oo,h], all in units: 0 where h is above 0, else 2h - 1, which is exact until it is rounded down once
+unfoldable pub cut_below : ℤ → Option Extended
 cut_below h =
-    if lt nought h then Some nought
-    else strictly_between NegInf (sub_of Down (add_of Down h h) one) h
+    if lt nought (Fin h) then Some nought
+    else strictly_between NegInf (rounded Down (pos 2 *ℤ h -ℤ pos unit) 1) (Fin h)
 
--- the cut of [l,+oo]: 0 or 2l + 1
-unfoldable pub cut_above : Extended → Option Extended
+-- the cut of [l,+oo], all in units: 0 where l is below 0, else 2l + 1, which is exact until it is rounded up once
+unfoldable pub cut_above : ℤ → Option Extended
 cut_above l =
-    if lt l nought then Some nought
-    else strictly_between l (add_of Up (add_of Up l l) one) PosInf
+    if lt (Fin l) nought then Some nought
+    else strictly_between (Fin l) (rounded Up (pos 2 *ℤ l +ℤ pos unit) 1) PosInf
 
 -- the cut between two ends; None where there is none
 abbrev pub cut_between : Extended → Extended → Option Extended
-cut_between NegInf NegInf = cut_below NegInf
-cut_between NegInf (Fin h) = cut_below (Fin h)
+cut_between NegInf NegInf = None
+cut_between NegInf (Fin h) = cut_below h
 cut_between NegInf PosInf = Some nought
 cut_between (Fin l) NegInf = None
 cut_between (Fin l) (Fin h) = middle_of (Fin l) (Fin h)
-cut_between (Fin l) PosInf = cut_above (Fin l)
-cut_between PosInf NegInf = None
-cut_between PosInf (Fin h) = None
-cut_between PosInf PosInf = cut_above PosInf
+cut_between (Fin l) PosInf = cut_above l
+cut_between PosInf h = None
 
 -- a variable with a cut can be bisected
 unfoldable pub cut_of : Bounds → Option Extended

@@ -3,10 +3,11 @@ ghost use Rattle.pv_num.specs.Extended.{NegInf, PosInf};
 ghost use Rattle.pv_num.specs.Order.{le, lt};
 ghost use Rattle.pv_interval.specs.Bounds.{Bounds, IsInterval};
 ghost use Rattle.pv_box.specs.Boxes.{IsInside};
-ghost use Rattle.pv_box.specs.Choice.{choose_of, wider as wider_of, cut_of as cut_at, cut_below, cut_above, strictly_between, widest_from as widest_of, first_from as first_of, is_small_of, choice_of, round_from};
+ghost use Rattle.pv_box.specs.Choice.{choose_of, wider as wider_of, cut_of as cut_at, cut_between, strictly_between, widest_from as widest_of, first_from as first_of, is_small_of, choice_of, round_from};
 
 use crate::IBox;
 use pv_interval::Interval;
+use pv_num::laws::is_number;
 use pv_num::{End, Num};
 
 /// How the place at which a box is cut is chosen.
@@ -142,11 +143,7 @@ fn cut_of(part: Interval) -> Option<Num>
 {
     let (lo, hi) = (part.lo(), part.hi());
     if lo == Num::NEG_INF {
-        return if hi == Num::POS_INF {
-            Some(Num::ZERO)
-        } else {
-            below(hi)
-        };
+        return below(hi);
     }
     if hi == Num::POS_INF {
         return above(lo);
@@ -154,28 +151,28 @@ fn cut_of(part: Interval) -> Option<Num>
     Num::middle(lo, hi)
 }
 
-// The cut of what reaches from -oo up to `hi`.
-#[tactic(auto, unfolding(crate::specs::Choice::cut_below))]
+// The cut of what reaches from -oo up to `hi`. A number doubles exactly, or leaves the range and then has no cut.
 fn below(hi: Num) -> Option<Num>
-    ensures cut { result ≡ cut_below hi }
+    ensures cut { result ≡ cut_between NegInf hi }
     ensures inside { IfSome result (λ at. IsInside at (record { lo = NegInf; hi = hi })) }
 {
     if Num::ZERO < hi {
         return Some(Num::ZERO);
     }
+    is_number(hi);
     let out = hi.add(hi, End::Down).sub(Num::ONE, End::Down);
     strictly(Num::NEG_INF, out, hi)
 }
 
-// The cut of what reaches from `lo` up to +oo.
-#[tactic(auto, unfolding(crate::specs::Choice::cut_above))]
+// The cut of what reaches from `lo` up to +oo, likewise.
 fn above(lo: Num) -> Option<Num>
-    ensures cut { result ≡ cut_above lo }
+    ensures cut { result ≡ cut_between lo PosInf }
     ensures inside { IfSome result (λ at. IsInside at (record { lo = lo; hi = PosInf })) }
 {
     if lo < Num::ZERO {
         return Some(Num::ZERO);
     }
+    is_number(lo);
     let out = lo.add(lo, End::Up).add(Num::ONE, End::Up);
     strictly(lo, out, Num::POS_INF)
 }
