@@ -8,3 +8,7 @@ pub mod Relating
 pub mod Revising
 pub mod Totals
 pub mod Constants
+pub mod Lying
+pub mod Comparing
+pub mod Keeping
+pub mod Sureness

@@ -1,10 +1,14 @@
 -- Points at which a constraint holds, and boxes that lie in one another.
-use Rattle.std.specs.Prelude.{IsTrue, List, [], ◌∷◌}
+use Rattle.std.specs.Prelude.{ℕ, IsTrue, List, [], ◌∷◌, length}
 use Rattle.pv_num.specs.Order.{le}
 use Rattle.pv_interval.specs.Bounds.{Bounds}
 use Rattle.pv_interval.specs.Points.{Point}
+use Rattle.pv_box.specs.Boxes.{PointIn}
+use Rattle.pv_box.specs.Members.{PointInSome}
+use Rattle.pv_expr.specs.Systems.{IsOver}
 use Rattle.pv_expr.specs.Terms.{HoldsBetween}
-use Rattle.pv_hc4.specs.Revise.{Sides}
+use Rattle.pv_hc4.specs.Revise.{Sides, revised}
+use Rattle.pv_hc4.specs.Totality.{sure_of}
 
 -- both sides are defined at the point, and stand in the relation there
 abbrev pub HoldsAt : Sides → Point → Type 0
@@ -16,3 +20,16 @@ AreWithin [] [] = Unit {0}
 AreWithin [] (y ∷ ys) = ⊥
 AreWithin (x ∷ xs) [] = ⊥
 AreWithin (x ∷ xs) (y ∷ ys) = IsTrue (le y.lo x.lo) × IsTrue (le x.hi y.hi) × AreWithin xs ys
+
+-- both sides are over n variables
+abbrev pub AreOver : ℕ → Sides → Type 0
+AreOver n s = IsOver n s.left × IsOver n s.right
+
+-- each point of a box at which the constraint holds lies in what a revision leaves
+abbrev pub KeepsPoints : Type 0
+KeepsPoints =
+    (s : Sides) (n : ℕ) (b : List Bounds) (x : Point) → AreOver n s → PointIn x b → HoldsAt s x → PointInSome x (revised s b)
+
+-- where a constraint is sure on a box, it holds at each of its points
+abbrev pub SureHolds : Type 0
+SureHolds = (s : Sides) (b : List Bounds) (x : Point) → AreOver (length b) s → PointIn x b → IsTrue (sure_of s b) → HoldsAt s x

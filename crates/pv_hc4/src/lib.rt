@@ -7,6 +7,7 @@
 mod builder;
 mod forward;
 mod graph;
+pub mod laws;
 mod narrow;
 mod node;
 mod relate;

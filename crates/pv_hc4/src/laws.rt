@@ -1,0 +1,14 @@
+//! What a revision and the sure test say of points, as contracts.
+ghost use Rattle.pv_hc4.specs.Members.{KeepsPoints, SureHolds};
+
+/// HC4-revise (Benhamou et al., 1999) loses no solution: each rational point of a box at which a constraint holds lies
+/// in what a revision leaves of the box, which is then not empty. It holds by its contract alone; the call does nothing.
+pub fn keeps_points()
+    ensures { KeepsPoints }
+{}
+
+/// Where the sure test says yes, the constraint holds at each rational point of the box. It holds by its contract
+/// alone; the call does nothing.
+pub fn sure_holds()
+    ensures { SureHolds }
+{}
