@@ -12,3 +12,4 @@ pub mod Lying
 pub mod Comparing
 pub mod Keeping
 pub mod Sureness
+pub mod Within

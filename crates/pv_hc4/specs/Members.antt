@@ -1,9 +1,9 @@
 -- Points at which a constraint holds, and boxes that lie in one another.
-use Rattle.std.specs.Prelude.{ℕ, IsTrue, List, [], ◌∷◌, length}
+use Rattle.std.specs.Prelude.{ℕ, ◌≡◌, Some, IsTrue, List, [], ◌∷◌, length}
 use Rattle.pv_num.specs.Order.{le}
 use Rattle.pv_interval.specs.Bounds.{Bounds}
 use Rattle.pv_interval.specs.Points.{Point}
-use Rattle.pv_box.specs.Boxes.{PointIn}
+use Rattle.pv_box.specs.Boxes.{IsBox, PointIn}
 use Rattle.pv_box.specs.Members.{PointInSome}
 use Rattle.pv_expr.specs.Systems.{IsOver}
 use Rattle.pv_expr.specs.Terms.{HoldsBetween}
@@ -33,3 +33,11 @@ KeepsPoints =
 -- where a constraint is sure on a box, it holds at each of its points
 abbrev pub SureHolds : Type 0
 SureHolds = (s : Sides) (b : List Bounds) (x : Point) → AreOver (length b) s → PointIn x b → IsTrue (sure_of s b) → HoldsAt s x
+
+-- what a revision leaves lies in the box
+abbrev pub LeavesWithin : Type 0
+LeavesWithin = (s : Sides) (b c : List Bounds) → revised s b ≡ Some c → AreWithin c b
+
+-- what a revision leaves of a box is a box
+abbrev pub LeavesBox : Type 0
+LeavesBox = (s : Sides) (n : ℕ) (b c : List Bounds) → AreOver n s → IsBox b → revised s b ≡ Some c → IsBox c
