@@ -1,5 +1,5 @@
 -- What a change of one open node does to the tree of an arena.
-use Rattle.std.proofs.Common.{◌≡◌, ◌≢◌, ℕ, zero, suc, ◌+◌, ◌≤◌, Bool, true, false, Option, Some, None, List, [], ◌∷◌, ◌++◌, length, refl, sym, ◌∙◌, ap, arith, append_assoc, length-append, append-nil}
+use Rattle.std.proofs.Common.{◌≡◌, ◌≢◌, ℕ, zero, suc, ◌+◌, ◌<◌, ◌≤◌, Bool, true, false, Some, None, List, [], ◌∷◌, ◌++◌, length, refl, sym, ◌∙◌, ap, arith, append_assoc, length-append, append-nil}
 use Rattle.std.proofs.lemmas.List.{append_cancel_left}
 use Rattle.std.specs.Option.{option_map}
 use Rattle.pv_interval.specs.Bounds.{Bounds}
@@ -8,6 +8,7 @@ use Rattle.pv_tree.specs.Arena.{tree_at, reach, cell_at, kept, kids_of, start_of
 use Rattle.pv_tree.specs.declared.cell.Cell.{Cell}
 use Rattle.pv_tree.specs.declared.cell.Cell.TheVariants.{Open, Removed, Inner, Small, Cut}
 use Rattle.pv_tree.specs.declared.cell.Node.{Node}
+use Rattle.pv_tree.proofs.Cells.{has_kids_there, reach-is}
 
 -- so many levels below a path
 abbrev pub deep : List Bool → ℕ → ℕ
@@ -33,13 +34,6 @@ tree_at-is d es ns f k x e = ap (shown d es ns f) e
 pub tree_at-zero : (d : ℕ) (es : List Bounds) (ns : List Node) (k : ℕ) → tree_at d es ns 0 k ≡ removed
 unfolding tree_at
 tree_at-zero d es ns k = refl
-
-abbrev pub step_to : List Node → Bool → List Bool → Option ℕ → Option ℕ
-step_to ns b p None = None
-step_to ns b p (Some c) = reach ns (side b c) p
-
-pub reach-is : (ns : List Node) (b : Bool) (p : List Bool) (k : ℕ) (x : Cell) → cell_at ns k ≡ x → reach ns k (b ∷ p) ≡ step_to ns b p (kids_of x)
-reach-is ns b p k x e = ap (λ (y : Cell). step_to ns b p (kids_of y)) e
 
 -- a path leads to a node whose tree is the subtree there
 module _ (d : ℕ) (es : List Bounds) (ns : List Node) (f : ℕ) where
@@ -82,7 +76,7 @@ module _ (d : ℕ) (es : List Bounds) (ns : List Node) (label : ℕ → List Boo
   reach_label [] k j r = let e : k ≡ j = cc in ap label (sym e) ∙ sym (append-nil (label k))
   reach_label (b ∷ p) k j r = reach_label_cell b p (reach_label p) k j (cell_at ns k) refl r
 
-  module _ (fs : List Bounds) (ms : List Node) (j : ℕ) (same : (k : ℕ) → k ≢ j → cell_at ms k ≡ cell_at ns k) (stays : (s : ℕ) → s + d ≤ length es → kept d fs s ≡ kept d es s) where
+  module _ (fs : List Bounds) (ms : List Node) (j : ℕ) (same : (k : ℕ) → k < length ns → k ≢ j → cell_at ms k ≡ cell_at ns k) (stays : (s : ℕ) → s + d ≤ length es → kept d fs s ≡ kept d es s) where
     abbrev Far : ℕ → Type 0
     Far k = (q : List Bool) → label j ≡ label k ++ q → ⊥
 
@@ -95,19 +89,20 @@ module _ (d : ℕ) (es : List Bounds) (ns : List Node) (label : ℕ → List Boo
     far_child : (k c : ℕ) (b : Bool) → kids_of (cell_at ns k) ≡ Some c → Far k → Far (side b c)
     far_child k c b e far q h = far (b ∷ q) (h ∙ past (label k) (label (side b c)) b q (child_label ns label k c b (linked.kids k c e)))
 
-    shown_same : (f k : ℕ) → Far k → ((k : ℕ) → Far k → Stays f k) → (x : Cell) → cell_at ns k ≡ x → shown d fs ms f x ≡ shown d es ns f x
+    shown_same : (f k : ℕ) → Far k → ((k : ℕ) → k < length ns → Far k → Stays f k) → (x : Cell) → cell_at ns k ≡ x → shown d fs ms f x ≡ shown d es ns f x
     shown_same f k far ih Open e = refl
     shown_same f k far ih Removed e = refl
     shown_same f k far ih (Inner s) e = ap inner (stays s (linked.starts k s (ap start_of e)))
     shown_same f k far ih (Small s) e = ap small (stays s (linked.starts k s (ap start_of e)))
-    shown_same f k far ih (Cut s v a c) e = λ i.
-        cut (stays s (linked.starts k s (ap start_of e)) i) v a (ih c (far_child k c false (ap kids_of e) far) i) (ih (c + 1) (far_child k c true (ap kids_of e) far) i)
+    shown_same f k far ih (Cut s v a c) e =
+        let high : c + 1 < length ns = (linked.kids k c (ap kids_of e)).there in
+        let low : c < length ns = omega arith in
+        λ i. cut (stays s (linked.starts k s (ap start_of e)) i) v a (ih c low (far_child k c false (ap kids_of e) far) i) (ih (c + 1) high (far_child k c true (ap kids_of e) far) i)
 
-    pub other : (f k : ℕ) → Far k → Stays f k
-    other zero k far = tree_at-zero d fs ms k ∙ sym (tree_at-zero d es ns k)
-    other (suc f) k far =
-        let x : Cell = cell_at ns k in
-        tree_at-is d fs ms f k (cell_at ns k) (same k (not_here k far)) ∙ shown_same f k far (other f) (cell_at ns k) refl
+    pub other : (f k : ℕ) → k < length ns → Far k → Stays f k
+    other zero k there far = tree_at-zero d fs ms k ∙ sym (tree_at-zero d es ns k)
+    other (suc f) k there far =
+        tree_at-is d fs ms f k (cell_at ns k) (same k there (not_here k far)) ∙ shown_same f k far (other f) (cell_at ns k) refl
         ∙ sym (tree_at-is d es ns f k (cell_at ns k) refl)
 
     abbrev Grafted : ℕ → List Bool → ℕ → Type 0
@@ -123,16 +118,19 @@ module _ (d : ℕ) (es : List Bounds) (ns : List Node) (label : ℕ → List Boo
         let ne : k ≢ j = λ h. no_end (label k) p false (ap label h ∙ l) in
         let low : reach ns c p ≡ Some j = sym (reach-is ns false p k (Cut s v a c) e) ∙ r in
         let far : Far (c + 1) = λ q h. let w : true ∷ q ≡ false ∷ p = append_cancel_left (label k) (true ∷ q) (false ∷ p) (sym (past (label k) (label (c + 1)) true q (linked.kids k c (ap kids_of e)).high) ∙ sym h ∙ l) in cc in
-        tree_at-is d fs ms (deep p f) k (Cut s v a c) (same k ne ∙ e)
-        ∙ (λ i. cut (stays s (linked.starts k s (ap start_of e)) i) v a (ih c low i) (other (deep p f) (c + 1) far i))
+        let there : c + 1 < length ns = (linked.kids k c (ap kids_of e)).there in
+        tree_at-is d fs ms (deep p f) k (Cut s v a c) (same k (has_kids_there ns k c (ap kids_of e)) ne ∙ e)
+        ∙ (λ i. cut (stays s (linked.starts k s (ap start_of e)) i) v a (ih c low i) (other (deep p f) (c + 1) there far i))
         ∙ sym (ap (λ (t : Tree). graft t (false ∷ p) (tree_at d fs ms f j)) (tree_at-is d es ns (deep p f) k (Cut s v a c) e))
     grafted_cell f true p ih k (Cut s v a c) e r =
         let l : label j ≡ label k ++ true ∷ p = reach_label (true ∷ p) k j r in
         let ne : k ≢ j = λ h. no_end (label k) p true (ap label h ∙ l) in
         let high : reach ns (c + 1) p ≡ Some j = sym (reach-is ns true p k (Cut s v a c) e) ∙ r in
         let far : Far c = λ q h. let w : false ∷ q ≡ true ∷ p = append_cancel_left (label k) (false ∷ q) (true ∷ p) (sym (past (label k) (label c) false q (linked.kids k c (ap kids_of e)).low) ∙ sym h ∙ l) in cc in
-        tree_at-is d fs ms (deep p f) k (Cut s v a c) (same k ne ∙ e)
-        ∙ (λ i. cut (stays s (linked.starts k s (ap start_of e)) i) v a (other (deep p f) c far i) (ih (c + 1) high i))
+        let there : c + 1 < length ns = (linked.kids k c (ap kids_of e)).there in
+        let low_there : c < length ns = omega arith in
+        tree_at-is d fs ms (deep p f) k (Cut s v a c) (same k (has_kids_there ns k c (ap kids_of e)) ne ∙ e)
+        ∙ (λ i. cut (stays s (linked.starts k s (ap start_of e)) i) v a (other (deep p f) c low_there far i) (ih (c + 1) high i))
         ∙ sym (ap (λ (t : Tree). graft t (true ∷ p) (tree_at d fs ms f j)) (tree_at-is d es ns (deep p f) k (Cut s v a c) e))
 
     pub grafted : (f : ℕ) (p : List Bool) (k : ℕ) → reach ns k p ≡ Some j → Grafted f p k

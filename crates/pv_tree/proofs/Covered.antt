@@ -9,7 +9,7 @@ use Rattle.pv_interval.specs.Points.{IsBelow, IsAbove, Lies, Point}
 use Rattle.pv_box.specs.Boxes.{LieIn, PointIn, lower_half, upper_half}
 use Rattle.pv_tree.specs.Trees.{Tree, leaf, removed, inner, small, cut, Paves, IsStrictlyInside, IsBetween}
 use Rattle.pv_tree.specs.Sets.{Covers}
-use Rattle.pv_tree.proofs.Placing.{lt_or}
+use Rattle.pv_tree.proofs.Cells.{lt_or}
 
 le_or : (a b : ℤ) → (a ≤ℤ b) ⊎ (b ≤ℤ a)
 le_or a b = grind (arith, ints)

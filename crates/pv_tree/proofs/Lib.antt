@@ -1,9 +1,12 @@
 pub mod PathSteps
 pub mod TreeFacts
+pub mod Cells
 pub mod ArenaFacts
 pub mod Placing
 pub mod Walks
 pub mod Wholes
+pub mod Intaken
+pub mod Grafts
 pub mod Searches
 pub mod Halves
 pub mod Behind

@@ -1,33 +1,18 @@
 -- An arena after one open node was settled, and after nodes were marked as closed.
-use Rattle.std.proofs.Common.{if◌then◌else◌, ◌≡◌, ◌⊎◌, inl, inr, ℕ, zero, suc, ◌+◌, ◌-◌, ◌<◌, ◌≤◌, Bool, true, false, cond, eqb, Some, None, List, [], ◌∷◌, ◌++◌, length, take, drop, refl, sym, ◌∙◌, ap, arith, length-append, subst}
+use Rattle.std.proofs.Common.{if◌then◌else◌, ◌≡◌, inl, inr, ℕ, zero, suc, ◌+◌, ◌-◌, ◌<◌, ◌≤◌, Bool, true, false, cond, eqb, Some, List, [], ◌∷◌, ◌++◌, length, take, drop, refl, sym, ◌∙◌, ap, arith, length-append, subst}
 use Rattle.std.proofs.lemmas.List.{take-append-le, drop-append-le, length-drop}
 use Rattle.std.proofs.lemmas.Bool.{eq-eqb, ne_eqb}
 use Rattle.std.proofs.lemmas.Bool.Decides.{eqb_tells}
-use Rattle.std.proofs.lemmas.List.{get_or_past}
 use Rattle.pv_tree.specs.declared.outcome.Outcome.TheVariants as outcome
 use Rattle.pv_interval.specs.Bounds.{Bounds}
 use Rattle.pv_tree.specs.Trees.{cut, height, settled}
-use Rattle.pv_tree.specs.Arena.{tree_at, cell_at, closed_at, kept, kids_of, start_of, Family, IsLinked, open_node, IsClosed, IsPlaced, is_cut, outcome_of, Shows, IsLonger, IsRemarked, MarksRight}
+use Rattle.pv_tree.specs.Arena.{tree_at, reach, side, cell_at, closed_at, kept, kids_of, start_of, Family, IsLinked, IsClosed, IsPlaced, is_cut, outcome_of, Shows, IsLonger, IsRemarked, MarksRight}
 use Rattle.pv_tree.specs.declared.cell.Cell.{Cell}
 use Rattle.pv_tree.specs.declared.cell.Cell.TheVariants.{Open, Removed, Inner, Small, Cut}
 use Rattle.pv_tree.specs.declared.cell.Node.{Node}
 use Rattle.pv_tree.specs.declared.outcome.Outcome.{Outcome}
+use Rattle.pv_tree.proofs.Cells.{lt_or, missing, has_kids_there, reach-kids, onward, still_leads, same_reach}
 use Rattle.pv_tree.proofs.ArenaFacts.{shown, tree_at-is, tree_at-zero}
-
-pub lt_or : (a b : ℕ) → (a < b) ⊎ (b ≤ a)
-lt_or a zero = inr (omega arith)
-lt_or zero (suc b) = inl (omega arith)
-lt_or (suc a) (suc b) = elim (lt_or a b) [ inl h ↦ inl (omega arith) | inr h ↦ inr (omega arith) ]
-
-pub missing : (ns : List Node) (k : ℕ) → length ns ≤ k → cell_at ns k ≡ Open
-missing ns k h = ap (λ (n : Node). n.cell) (get_or_past ns k open_node h)
-
-pub missing_mark : (ns : List Node) (k : ℕ) → length ns ≤ k → closed_at ns k ≡ false
-missing_mark ns k h = ap (λ (n : Node). n.closed) (get_or_past ns k open_node h)
-
--- a node with children is there
-pub has_kids_there : (ns : List Node) (k c : ℕ) → kids_of (cell_at ns k) ≡ Some c → k < length ns
-has_kids_there ns k c e = elim (lt_or k (length ns)) [ inl h ↦ h | inr h ↦ let w : None ≡ Some c = sym (ap kids_of (missing ns k h)) ∙ e in cc ]
 
 abbrev pub relabel : (ℕ → List Bool) → ℕ → ℕ → ℕ → List Bool
 relabel label j c k = cond (eqb k c) (label j ++ false ∷ []) (cond (eqb k (c + 1)) (label j ++ true ∷ []) (label k))
@@ -188,10 +173,39 @@ module _ (d : ℕ) (es fs : List Bounds) (ns ms : List Node) (label : ℕ → Li
         | inr h ↦ subst (IsClosed ms) (sym (placed.others k h.1)) (is_closed_stays (cell_at ns k) (linked.closed k (sym (placed.flags k h.1) ∙ e)))
       ]
 
+      -- the paths of the nodes, old and new
+      lead_old : (k i : ℕ) (p : List Bool) → reach ns k p ≡ Some i → reach ms k p ≡ Some i
+      lead_old k i p r = still_leads ns ms j (λ n _ ne. placed.others n ne) open_here p k i r
+
+      lead_new : (b : Bool) (c : ℕ) → kids_of (cell_at ms j) ≡ Some c → reach ms 0 (label j ++ b ∷ []) ≡ Some (side b c)
+      lead_new b c e = onward ms (b ∷ []) (label j) 0 j (lead_old 0 j (label j) (linked.reached j there)) ∙ reach-kids ms b [] j (Some c) e
+
+      new_led : (y : Cell) → cell_at ms j ≡ y → ((c : ℕ) → kids_of y ≡ Some c → c ≡ length ns) → length ms ≡ length ns + (if is_cut y then 2 else 0) → (k : ℕ) → length ns ≤ k → k < length ms → reach ms 0 (relabelled k) ≡ Some k
+      new_led Open e ks size k past here = absurd (omega arith)
+      new_led Removed e ks size k past here = absurd (omega arith)
+      new_led (Inner s) e ks size k past here = absurd (omega arith)
+      new_led (Small s) e ks size k past here = absurd (omega arith)
+      new_led (Cut s v a c) e ks size k past here =
+          let at_end : c ≡ length ns = ks c refl in
+          let kids : kids_of (cell_at ms j) ≡ Some (length ns) = ap kids_of e ∙ ap Some at_end in
+          elim (lt_or (length ns) k) [
+            | inr le ↦ let w : k ≡ length ns = omega arith in
+                ap (λ (n : ℕ). reach ms 0 (relabelled n)) w ∙ ap (reach ms 0) (relabel-low label j (length ns)) ∙ lead_new false (length ns) kids ∙ ap Some (sym w)
+            | inl lt ↦ let w : k ≡ length ns + 1 = omega arith in
+                ap (λ (n : ℕ). reach ms 0 (relabelled n)) w ∙ ap (reach ms 0) (relabel-high label j (length ns)) ∙ lead_new true (length ns) kids ∙ ap Some (sym w)
+          ]
+
+      led : (k : ℕ) → k < length ms → reach ms 0 (relabelled k) ≡ Some k
+      led k here = elim (lt_or k (length ns)) [
+        | inl lt ↦ ap (reach ms 0) (relabel-old label j (length ns) k lt) ∙ lead_old 0 k (label k) (linked.reached k lt)
+        | inr le ↦ new_led x placed.here shows.kids_there placed.size k le here
+      ]
+
       pub relinked : IsLinked d fs ms relabelled
       relinked = record {
         some = let h : length ns ≤ length ms = size_at_least in omega arith;
         root = relabel-old label j (length ns) 0 linked.some ∙ linked.root;
+        reached = led;
         kids = families;
         starts = starts;
         closed = marks;
@@ -216,6 +230,7 @@ module _ (d : ℕ) (es : List Bounds) (ns ms : List Node) (remarked : IsRemarked
   linked_remarked label h = record {
     some = let s : 0 < length ns = h.some in omega (arith, remarked.size);
     root = h.root;
+    reached = λ k here. same_reach ns ms remarked.cells (label k) 0 ∙ h.reached k (let e : length ms ≡ length ns = remarked.size in omega arith);
     kids = λ k c e. let f : Family ns label k c = h.kids k c (sym (ap kids_of (remarked.cells k)) ∙ e) in
         record { there = let t : c + 1 < length ns = f.there in omega (arith, remarked.size); low = f.low; high = f.high; short = f.short };
     starts = λ k s e. h.starts k s (sym (ap start_of (remarked.cells k)) ∙ e);

@@ -11,7 +11,8 @@ use Rattle.pv_tree.specs.declared.cell.Node.{Node}
 use Rattle.pv_tree.specs.declared.search.Spot.{Spot}
 use Rattle.pv_tree.specs.declared.search.Pair.{Pair}
 use Rattle.pv_tree.specs.declared.outcome.Counts.{Counts}
-use Rattle.pv_tree.proofs.ArenaFacts.{shown, tree_at-is, tree_at-zero, step_to, reach_label}
+use Rattle.pv_tree.proofs.Cells.{step_to}
+use Rattle.pv_tree.proofs.ArenaFacts.{shown, tree_at-is, tree_at-zero, reach_label}
 use Rattle.pv_tree.proofs.Wholes.{whole_kids}
 
 abbrev pub listed : List Node → ℕ → Cell → List (List Bool)

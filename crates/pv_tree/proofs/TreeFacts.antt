@@ -47,7 +47,7 @@ graft_counts removed (c ∷ p) s e = cc
 graft_counts (inner to) (c ∷ p) s e = cc
 graft_counts (small to) (c ∷ p) s e = cc
 
-settled_one : (o : Outcome) → settled_of (counts_of (settled o)) ≡ 1
+pub settled_one : (o : Outcome) → settled_of (counts_of (settled o)) ≡ 1
 settled_one Removed = refl
 settled_one (Inner to) = refl
 settled_one (Small to) = refl

@@ -7,8 +7,7 @@ use Rattle.pv_tree.specs.Arena.{reach, cell_at, closed_at, kids_of, side, open_n
 use Rattle.pv_tree.specs.declared.cell.Cell.{Cell}
 use Rattle.pv_tree.specs.declared.cell.Cell.TheVariants.{Open, Removed, Inner, Small, Cut}
 use Rattle.pv_tree.specs.declared.cell.Node.{Node}
-use Rattle.pv_tree.proofs.ArenaFacts.{reach-is, step_to}
-use Rattle.pv_tree.proofs.Placing.{lt_or}
+use Rattle.pv_tree.proofs.Cells.{lt_or, reach-is, step_to}
 
 pub side_there : (b : Bool) (c n : ℕ) → c + 1 < n → side b c < n
 side_there true c n h = h

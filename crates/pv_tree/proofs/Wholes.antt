@@ -15,7 +15,8 @@ use Rattle.pv_tree.specs.declared.cell.Node.{Node}
 use Rattle.pv_tree.specs.declared.outcome.Counts.{Counts}
 use Rattle.pv_tree.specs.declared.outcome.Outcome.{Outcome}
 use Rattle.pv_tree.specs.declared.outcome.Outcome.TheVariants as outcome
-use Rattle.pv_tree.proofs.TreeFacts.{graft_paves, settled_paves, graft_counts}
+use Rattle.std.proofs.Math.Nat.{mul-add}
+use Rattle.pv_tree.proofs.TreeFacts.{graft_paves, settled_paves, settled_one, graft_counts}
 use Rattle.pv_tree.proofs.ArenaFacts.{shown, tree_at-is, deep, deep-is, grafted, subtree-reach, reach_label}
 use Rattle.pv_tree.proofs.Placing.{low_whole, settled_tree, relabel, relinked, tree_remarked, linked_remarked, longer_kept}
 
@@ -30,8 +31,8 @@ open_mark : (k : ℕ) → closed_at (open_node ∷ []) k ≡ false
 open_mark zero = refl
 open_mark (suc k) = refl
 
-pub open_whole : (b : List Bounds) (es : List Bounds) → IsBox b → IsWhole b es (open_node ∷ []) (counts_of leaf)
-open_whole b es h =
+pub open_whole : (b : List Bounds) (es : List Bounds) → length es ≡ 0 → IsBox b → IsWhole b es (open_node ∷ []) (counts_of leaf)
+open_whole b es none h =
     let t : whole_tree (length b) es (open_node ∷ []) ≡ leaf = open_tree (length b) es in
     record {
       arena = record {
@@ -39,6 +40,7 @@ open_whole b es h =
         linked = record {
           some = omega arith;
           root = refl;
+          reached = λ k here. let w : 0 ≡ k = omega arith in ap Some w;
           kids = λ k c e. let w : None ≡ Some c = sym (ap kids_of (open_cell k)) ∙ e in cc;
           starts = λ k s e. let w : None ≡ Some s = sym (ap start_of (open_cell k)) ∙ e in cc;
           closed = λ k e. let w : false ≡ true = sym (open_mark k) ∙ e in cc;
@@ -47,6 +49,8 @@ open_whole b es h =
       paving = record { box = h; paves = subst (Paves b) (sym t) tt; depth = let e : height (whole_tree (length b) es (open_node ∷ [])) ≡ 0 = ap height t in omega arith };
       counted = sym (ap counts_of t);
       bound = omega arith;
+      few_nodes = omega arith;
+      few_ends = omega arith;
     }
 
 pub whole_kids : (b es : List Bounds) (ns : List Node) (counts : Counts) → IsWhole b es ns counts → HasKids ns
@@ -158,6 +162,13 @@ module _ (d : ℕ) (es : List Bounds) (ns : List Node) (p : List Bool) (short : 
       let w : tree_at d es ns (suc left) j ≡ leaf = cc in
       leaf_is_open d es ns left (cell_at ns j) (sym (tree_at-is d es ns left j (cell_at ns j) refl) ∙ w)
 
+at_most : (n m : ℕ) (y : Bool) → m ≡ n + (if y then 2 else 0) → m ≤ n + 2
+at_most n m true e = omega (arith, e)
+at_most n m false e = omega (arith, e)
+
+pub more_nodes : (ns ms : List Node) (j : ℕ) (x : Cell) → IsPlaced ns ms j x → length ms ≤ length ns + 2
+more_nodes ns ms j x placed = at_most (length ns) (length ms) (is_cut x) placed.size
+
 module _ (b es fs : List Bounds) (ns ms ks : List Node) (counts after : Counts) (p : List Bool) (j : ℕ) (x : Cell) (o : Outcome) where
   module _ (whole : IsWhole b es ns counts) (short : length p ≤ 200) (reached : reach ns 0 (take (length p) p) ≡ Some j) (there : j < length ns) (is_open : subtree (whole_tree (length b) es ns) p ≡ Some leaf)
       (fits : Fits (box_of b (whole_tree (length b) es ns) p) o) (keeps : KeepsBox o) (depth : HasDepth p o) (longer : IsLonger es fs) (shows : Shows (length b) fs x o (length ns)) (placed : IsPlaced ns ms j x)
@@ -176,7 +187,7 @@ module _ (b es fs : List Bounds) (ns ms ks : List Node) (counts after : Counts) 
         let g : ℕ = 200 - length p in
         tree_remarked (length b) fs ms ks remarked 201 0
         ∙ ap (λ (f : ℕ). tree_at (length b) fs ms f 0) (sym (fuel (length b) es ns p short))
-        ∙ grafted (length b) es ns whole.arena.label whole.arena.linked fs ms j placed.others (longer_kept (length b) es fs longer) (suc (200 - length p)) p 0 reach_p
+        ∙ grafted (length b) es ns whole.arena.label whole.arena.linked fs ms j (λ k _ ne. placed.others k ne) (longer_kept (length b) es fs longer) (suc (200 - length p)) p 0 reach_p
         ∙ ap (λ (f : ℕ). graft (tree_at (length b) es ns f 0) p (tree_at (length b) fs ms (suc (200 - length p)) j)) (fuel (length b) es ns p short)
         ∙ ap (graft (whole_tree (length b) es ns) p)
         (settled_tree (length b) es fs ns ms whole.arena.label whole.arena.linked j x o longer (open_there (length b) es ns p short j reached is_open) there shows placed
@@ -201,8 +212,21 @@ module _ (b es fs : List Bounds) (ns ms ks : List Node) (counts after : Counts) 
         let part : settled_of (counts_of (settled o)) + (counts_of (settled o)).open_leaves ≡ 1 + (if is_a_cut o then 2 else 0) = settled_size o in
         omega (arith, size, part, remarked.size, adds.cut, adds.removed, adds.inner, adds.small, adds.open_leaves, whole.bound)
 
-    pub put_whole : IsWhole b fs ks after
-    put_whole = record {
+    put_settled : settled_of after ≡ settled_of counts + 1
+    put_settled = let one : settled_of (counts_of (settled o)) ≡ 1 = settled_one o in omega (arith, adds.cut, adds.removed, adds.inner, adds.small, one)
+
+    put_few_nodes : length ks ≤ 1 + 2 * settled_of after
+    put_few_nodes = omega (arith, remarked.size, more_nodes ns ms j x placed, put_settled, whole.few_nodes)
+
+    put_few_ends : length fs ≤ length es + length b → length fs ≤ length b * settled_of after
+    put_few_ends few =
+        let e : length b * settled_of after ≡ length b * (settled_of counts + 1) = ap (λ (n : ℕ). length b * n) put_settled in
+        let m : length b * (settled_of counts + 1) ≡ length b * settled_of counts + length b * 1 = mul-add (length b) (settled_of counts) 1 in
+        let w : length es ≤ length b * settled_of counts = whole.few_ends in
+        omega arith
+
+    pub put_whole : length fs ≤ length es + length b → IsWhole b fs ks after
+    put_whole few = record {
       arena = record { label = relabel whole.arena.label j (length ns); linked = put_linked };
       paving = record {
         box = whole.paving.box;
@@ -211,6 +235,8 @@ module _ (b es fs : List Bounds) (ns ms ks : List Node) (counts after : Counts) 
       };
       counted = put_counted;
       bound = put_bound;
+      few_nodes = put_few_nodes;
+      few_ends = put_few_ends few;
     }
 
 module _ (b es fs : List Bounds) (ns ms : List Node) (counts : Counts) (p : List Bool) (j : ℕ) (x : Cell) (o : Outcome) where
@@ -219,13 +245,6 @@ module _ (b es fs : List Bounds) (ns ms : List Node) (counts : Counts) (p : List
       let label_j : whole.arena.label j ≡ p = reach_label (length b) es ns whole.arena.label whole.arena.linked p 0 j (ap (reach ns 0) (sym (take_length p)) ∙ reached) ∙ ap (λ (l : List Bool). l ++ p) whole.arena.linked.root in
       (relinked (length b) es fs ns ms whole.arena.label whole.arena.linked j x o longer (open_there (length b) es ns p short j reached is_open) there shows placed
       (λ c. let h : length p < 200 = short_cut p o (sym (cut_alike (length b) fs x o shows.outcome) ∙ c) depth in let e : length (whole.arena.label j) ≡ length p = ap length label_j in omega arith)).closed
-
-at_most : (n m : ℕ) (y : Bool) → m ≡ n + (if y then 2 else 0) → m ≤ n + 2
-at_most n m true e = omega (arith, e)
-at_most n m false e = omega (arith, e)
-
-pub more_nodes : (ns ms : List Node) (j : ℕ) (x : Cell) → IsPlaced ns ms j x → length ms ≤ length ns + 2
-more_nodes ns ms j x placed = at_most (length ns) (length ms) (is_cut x) placed.size
 
 pub one_room : (d spare ends room places : ℕ) → places ≤ d → 1 ≤ spare → ends + d * spare ≤ room → ends + places ≤ room
 one_room d zero ends room places few some h = absurd (omega arith)

@@ -55,6 +55,11 @@ abbrev pub side : Bool → ℕ → ℕ
 side false c = c
 side true c = c + 1
 
+-- The node that a path leads to.
+abbrev pub reach : List Node → ℕ → List Bool → Option ℕ
+reach ns k [] = Some k
+reach ns k (b ∷ p) = elim (kids_of (cell_at ns k)) [ None ↦ None | Some c ↦ reach ns (side b c) p ]
+
 -- A node and its children, each with the path that leads to it.
 pub record Family (ns : List Node) (label : ℕ → List Bool) (k c : ℕ) : Type 0 where
   pub there : c + 1 < length ns
@@ -69,10 +74,11 @@ IsClosed ns (Inner s) = Unit {0}
 IsClosed ns (Small s) = Unit {0}
 IsClosed ns (Cut s var at c) = (closed_at ns c ≡ true) × (closed_at ns (c + 1) ≡ true)
 
--- Every node has a path of its own, so none is shared and none is its own child.
+-- Every node has a path of its own that leads to it, so none is shared and none is its own child.
 pub record IsLinked (d : ℕ) (es : List Bounds) (ns : List Node) (label : ℕ → List Bool) : Type 0 where
   pub some : 0 < length ns
   pub root : label 0 ≡ []
+  pub reached : (k : ℕ) → k < length ns → reach ns 0 (label k) ≡ Some k
   pub kids : (k c : ℕ) → kids_of (cell_at ns k) ≡ Some c → Family ns label k c
   pub starts : (k s : ℕ) → start_of (cell_at ns k) ≡ Some s → s + d ≤ length es
   pub closed : (k : ℕ) → closed_at ns k ≡ true → IsClosed ns (cell_at ns k)
@@ -90,17 +96,14 @@ pub record IsWhole (b : List Bounds) (es : List Bounds) (ns : List Node) (counts
   pub paving : IsPaving b (whole_tree (length b) es ns)
   pub counted : counts ≡ counts_of (whole_tree (length b) es ns)
   pub bound : settled_of counts + counts.open_leaves ≤ length ns
+  pub few_nodes : length ns ≤ 1 + 2 * settled_of counts
+  pub few_ends : length es ≤ length b * settled_of counts
 
 -- There is room for so many settlings.
 pub record HasRoom (d spare nodes nodes_room ends ends_room : ℕ) : Type 0 where
   pub for_nodes : nodes + 2 * spare ≤ nodes_room
   pub for_ends : ends + d * spare ≤ ends_room
   pub few : spare ≤ 2 ^ 40
-
--- The node that a path leads to.
-abbrev pub reach : List Node → ℕ → List Bool → Option ℕ
-reach ns k [] = Some k
-reach ns k (b ∷ p) = elim (kids_of (cell_at ns k)) [ None ↦ None | Some c ↦ reach ns (side b c) p ]
 
 abbrev pub is_cut : Cell → Bool
 is_cut Open = false

@@ -4,6 +4,7 @@ pub mod Paths
 pub mod PathText
 pub mod Arena
 pub mod Spots
+pub mod Intakes
 pub mod Sets
 pub mod Stages
 pub mod Laws

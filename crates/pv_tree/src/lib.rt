@@ -4,6 +4,7 @@
 mod arena;
 mod batch;
 mod cell;
+mod intake;
 mod outcome;
 mod path;
 mod paving;

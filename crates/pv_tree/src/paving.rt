@@ -1,13 +1,14 @@
 //! Pavings.
 ghost use Rattle.std.specs.Prelude.{◌≡◌, ◌+◌, ◌-◌, ◌*◌, ◌<◌, ◌≤◌, ◌^◌, ◌++◌, if◌then◌else◌, is_ok, IfOk, IfErr, OnOk, OnErr, IfSome, IsSome, Some, length};
 ghost use Rattle.pv_tree.specs.Sets.{Covers};
-ghost use Rattle.pv_tree.specs.Trees.{Tree, leaf, subtree, graft, settled, Fits, HasDepth, IsPaving, box_of, to_at, shape_of, counts_of, settled_of, opens, first, behind, Seen};
+ghost use Rattle.pv_tree.specs.Trees.{Tree, leaf, subtree, graft, settled, Fits, HasDepth, IsPaving, box_of, to_at, shape_of, counts_of, settled_of, height, opens, first, behind, Seen};
 
 use crate::arena::{
     cell_after, cell_shape, child_box, close_way, copy_out, descend, lay_down, place, start_at,
     tally,
 };
 use crate::cell::Node;
+use crate::intake::{Shift, combine, take_ends, take_nodes};
 use crate::outcome::{Counts, Outcome, Shape};
 use crate::path::Path;
 use crate::search::{Spot, later, leftmost};
@@ -132,6 +133,30 @@ impl Paving {
         place(&mut self.nodes, at, cell);
         self.counts = tally(self.counts, &outcome);
         self.spare -= 1;
+        close_way(&mut self.nodes, path);
+    }
+
+    /// Puts a stage of an open leaf's box in the leaf's place, in reserved room.
+    pub fn graft(&mut self, path: Path, stage: &Paving)
+        requires open { subtree self.old.tree path ≡ Some leaf }
+        requires root { stage.now.root ≡ box_of self.old.root self.old.tree path }
+        requires depth { length path + height stage.now.tree ≤ 200 }
+        requires room { settled_of (counts_of stage.now.tree) ≤ self.old.spare }
+        ensures root { self.new.root ≡ self.old.root }
+        ensures tree { self.new.tree ≡ graft self.old.tree path stage.now.tree }
+        ensures spare { self.old.spare ≤ self.new.spare + settled_of (counts_of stage.now.tree) }
+    {
+        let Some(at) = descend(&self.nodes, path, path.len()) else {
+            unreachable!()
+        };
+        let by = Shift {
+            nodes: self.nodes.len() - 1,
+            ends: self.ends.len(),
+        };
+        take_ends(&mut self.ends, &stage.ends);
+        take_nodes(&mut self.nodes, at, &stage.nodes, by);
+        self.counts = combine(self.counts, stage.counts);
+        self.spare -= stage.counts.settled();
         close_way(&mut self.nodes, path);
     }
 

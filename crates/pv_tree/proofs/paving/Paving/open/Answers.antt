@@ -7,7 +7,7 @@ use Rattle.pv_tree.proofs.paving.Paving.open.Goals as goal
 pub invariant_of-result : goal.invariant_of-result
 invariant_of-result c =
     let one = c.in_ok-push.ensures.items ∙ ap (λ l. l ++ open_node ∷ []) c.new-nodes.ensures.items in (
-      subst (λ ns. IsWhole c.args.bx c.new.result.items ns (counts_of leaf)) (sym one) (open_whole c.args.bx c.new.result.items c.dims-places.ensures.is_box),
+      subst (λ ns. IsWhole c.args.bx c.new.result.items ns (counts_of leaf)) (sym one) (open_whole c.args.bx c.new.result.items (ap length c.new.ensures.items) c.dims-places.ensures.is_box),
       record { for_nodes = omega (arith, c.push.new.self.small); for_ends = omega (arith, c.new.ensures.len); few = omega arith },
     )
 

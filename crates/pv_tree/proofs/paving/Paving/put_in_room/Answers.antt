@@ -56,7 +56,8 @@ invariant_of-self c =
     let more : length c.place.new.nodes.items ≤ length c.self.inside.nodes.items + 2 = more_nodes c.self.inside.nodes.items c.place.new.nodes.items c.in-Some.at c.lay_down-cell.result c.place.ensures.placed in
     let count : vec_len c.place.new.nodes ≤ vec_len c.self.inside.nodes + 2 = (let e = c.place.new.nodes.ok.0 in let f = c.self.inside.nodes.ok.0 in omega (arith, more)) in (
       put_whole c.self.inside.root c.self.inside.ends.items c.lay_down-cell.new.ends.items c.self.inside.nodes.items c.place.new.nodes.items c.close_way.new.nodes.items c.self.inside.counts c.tally-self-inside.result c.args.path c.in-Some.at c.lay_down-cell.result c.args.outcome
-          c.self.invariant.0 c.len.ensures.few reached there is_open fits c.lay_down-cell.ensures.keeps c.requires.depth c.lay_down-cell.ensures.longer shows c.place.ensures.placed c.close_way.ensures.remarked c.tally-self-inside.ensures,
+          c.self.invariant.0 c.len.ensures.few reached there is_open fits c.lay_down-cell.ensures.keeps c.requires.depth c.lay_down-cell.ensures.longer shows c.place.ensures.placed c.close_way.ensures.remarked c.tally-self-inside.ensures
+          (let e = c.lay_down-cell.ensures.length in let m = c.lay_down-cell.new.ends.ok.0 in let n = c.self.inside.ends.ok.0 in omega (arith, few)),
       record {
         for_nodes = omega (arith, c.close_way.ensures.count, c.close_way.ensures.capacity, c.place.ensures.capacity, c.self.invariant.1.for_nodes, count, (subst (λ n. 1 ≤ n) (sym (ap (λ s. s.spare) c.self.view_is)) c.requires.room));
         for_ends = less_room (length c.self.inside.root) c.self.inside.spare (vec_len c.self.inside.ends) (vec_capacity c.self.inside.ends) (places_of c.args.outcome) _ _ few
