@@ -13,3 +13,4 @@ pub mod Comparing
 pub mod Keeping
 pub mod Sureness
 pub mod Within
+pub mod Pointing

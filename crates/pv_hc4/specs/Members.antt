@@ -9,10 +9,26 @@ use Rattle.pv_expr.specs.Systems.{IsOver}
 use Rattle.pv_expr.specs.Terms.{HoldsBetween}
 use Rattle.pv_hc4.specs.Revise.{Sides, revised}
 use Rattle.pv_hc4.specs.Totality.{sure_of}
+use Rattle.pv_hc4.specs.declared.revised.Revised.{Revised}
+use Rattle.pv_hc4.specs.declared.revised.Revised.TheVariants.{Kept, Changed, Empty}
 
 -- both sides are defined at the point, and stand in the relation there
 abbrev pub HoldsAt : Sides → Point → Type 0
 HoldsAt s x = HoldsBetween s.left s.relation s.right x.places x.under
+
+-- the constraint holds at each point of the box
+abbrev pub HoldsOn : Sides → List Bounds → Type 0
+HoldsOn s b = (x : Point) → PointIn x b → HoldsAt s x
+
+-- a revision that left the box new did not lose the point
+abbrev pub Stays : Point → Revised → List Bounds → Type 0
+Stays x Kept new = PointIn x new
+Stays x Changed new = PointIn x new
+Stays x Empty new = ⊥
+
+-- a revision lost no point of the old box at which the constraint holds
+abbrev pub LosesNone : Sides → Revised → List Bounds → List Bounds → Type 0
+LosesNone s r old new = (x : Point) → PointIn x old → HoldsAt s x → Stays x r new
 
 -- a box lies in another, place by place
 abbrev pub AreWithin : List Bounds → List Bounds → Type 0

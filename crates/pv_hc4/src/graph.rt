@@ -1,11 +1,12 @@
 // The graph of a constraint.
 
-ghost use Rattle.std.specs.Prelude.{◌≡◌, ℕ, ◌+◌, ◌<◌, ◌≤◌, length, IfOk, OnOk, OnErr, IsOk, MatchResult, Some};
+ghost use Rattle.std.specs.Prelude.{◌≡◌, ℕ, ◌+◌, ◌<◌, ◌≤◌, length, IsTrue, IfOk, OnOk, OnErr, IsOk, MatchResult, Some};
 ghost use Rattle.pv_expr.specs.Terms.{term_of};
 ghost use Rattle.pv_expr.specs.Systems.{IsOver};
 ghost use Rattle.pv_hc4.specs.Revise.{revised};
 ghost use Rattle.pv_hc4.specs.Graphs.{sides_of, sides_named, IsAnswer, IsGraph, AreReady};
 ghost use Rattle.pv_hc4.specs.Totality.{forward_sides, sure_of};
+ghost use Rattle.pv_hc4.specs.Members.{AreOver, AreWithin, HoldsOn, LosesNone};
 
 use crate::builder::Builder;
 use crate::forward::forward_all;
@@ -59,6 +60,7 @@ impl Graph {
         requires right { IsOver dims (term_of constraint.now.right) }
         ensures sides { IfOk result (λ g. sides_of g ≡ sides_named constraint.now) }
         ensures dims { IfOk result (λ g. g.dims ≡ dims) }
+        ensures over { IfOk result (λ g. AreOver g.dims (sides_of g)) }
     {
         let mut builder = Builder::new(alloc);
         let left = builder.add(&constraint.left, dims)?;
@@ -105,13 +107,23 @@ impl Graph {
         ))
     }
 
+    /// Every graph's sides are over its variables. It holds by its contract alone; the call does nothing.
+    pub fn learn(&self)
+        ensures { AreOver self.now.dims (sides_of self.now) }
+    {
+        let _ = &self.nodes;
+    }
+
     /// HC4-revise: narrows the box to what is left of it when each variable's occurrences are
     /// narrowed by the constraint. After `Empty`, and after want of memory, the box is as before.
     pub fn revise(&self, alloc: Global, bx: &mut IBox) -> Result<Revised, Memory>
         requires { length bx.old ≡ self.now.dims }
         ensures answer { IfOk result (λ r. IsAnswer (revised (sides_of self.now) bx.old) r bx.old bx.new) }
         ensures unchanged { OnErr result (bx.new ≡ bx.old) }
+        ensures within { AreWithin bx.new bx.old }
+        ensures points { IfOk result (λ r. LosesNone (sides_of self.now) r bx.old bx.new) }
     {
+        self.learn();
         self.revise_in(&mut Scratch::new(alloc), bx)
     }
 
@@ -166,8 +178,10 @@ impl Graph {
     /// Whether the constraint holds at every point of the box, as the intervals of its sides show.
     pub fn sure(&self, alloc: Global, bx: &IBox) -> Result<bool, Memory>
         requires { length bx.now ≡ self.now.dims }
-        ensures { IfOk result (λ r. r ≡ sure_of (sides_of self.now) bx.now) }
+        ensures answer { IfOk result (λ r. r ≡ sure_of (sides_of self.now) bx.now) }
+        ensures holds { IfOk result (λ r. IsTrue r → HoldsOn (sides_of self.now) bx.now) }
     {
+        self.learn();
         self.sure_in(&mut Scratch::new(alloc), bx)
     }
 
