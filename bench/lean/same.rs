@@ -3,6 +3,7 @@
 //!
 //!     rustc --edition 2021 -O bench/lean/same.rs -o /tmp/same && /tmp/same mul 10000000
 use std::env::args;
+use std::hint::black_box;
 
 #[derive(Clone, Copy, PartialEq, Eq)]
 enum End {
@@ -209,8 +210,9 @@ impl Num {
 fn main() {
     let words: Vec<String> = args().collect();
     let steps: u64 = words[2].parse().unwrap();
-    let half = Num { class: Class::NonNegative, exponent: 451, mantissa: 3 << 60 };
-    let below_one = Num { class: Class::NonNegative, exponent: 450, mantissa: 2305843009213693951 << 1 };
+    // behind a black box: a program whose operand is known when it is compiled leaves half of add out
+    let half = black_box(Num { class: Class::NonNegative, exponent: 451, mantissa: 3 << 60 });
+    let below_one = black_box(Num { class: Class::NonNegative, exponent: 450, mantissa: 2305843009213693951 << 1 });
     let mut x = ONE;
     let mut i = 0;
     while i < steps {

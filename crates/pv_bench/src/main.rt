@@ -1,4 +1,4 @@
-//! Dependent chains of sums, products and quotients, for measuring: prints the last number.
+//! Dependent chains of operations on numbers, for measuring: prints the last number.
 //!
 //!     pv_bench add 10000000
 #![tactic(auto)]
@@ -17,6 +17,6 @@ fn main(rt: HostRuntime) -> io::Result<()> {
             None => steps = word.as_str().parse().unwrap_or(0),
         }
     }
-    let last = last_of(operation, steps);
+    let last = last_of(rt.alloc(), operation, steps);
     println!(rt; "{:?}", last.parts())
 }

@@ -62,7 +62,7 @@ fn first_reached(z: Num, n: u8, side: End) -> u128
 {
     let mut low: u128 = 0;
     let mut high = TOP_INDEX + 1;
-    let mut step = if n == 2 { 1u128 } else { TOP_INDEX };
+    let mut step = 1u128;
     let mut at = guess(z, n).min(TOP_INDEX);
     while low < high {
         let reached = reaches(z, n, side, at);
@@ -113,11 +113,22 @@ fn reaches(z: Num, n: u8, side: End, index: u128) -> bool
     }
 }
 
-// Where to look first: a square root is found by that of a whole number. Nothing rests on it.
-fn guess(z: Num, n: u8) -> u128 {
-    if n != 2 || z.class != Class::NonNegative || z.mantissa == 0 {
+// Where to look first. Nothing rests on it.
+fn guess(z: Num, n: u8) -> u128
+    requires { (1 ≤ n) × (n ≤ 32) }
+{
+    if z.class != Class::NonNegative || z.mantissa == 0 {
         return TOP_INDEX / 2;
     }
+    if n == 2 {
+        square_root(z)
+    } else {
+        near_root(z, n)
+    }
+}
+
+// The index of a square root, found by that of a whole number.
+fn square_root(z: Num) -> u128 {
     let shift = z.mantissa.leading_zeros() as u16 + 62 - 2;
     let odd = (z.exponent + shift) % 2;
     let shift = shift - odd;
@@ -125,6 +136,68 @@ fn guess(z: Num, n: u8) -> u128 {
     let exponent = (z.exponent + 512 + 128 - shift) / 2;
     let root = wide.isqrt();
     (exponent.saturating_sub(64) as u128) * 0x2000_0000_0000_0000 + root + 1
+}
+
+// The index of a root, found by Newton's method from the logarithm on.
+fn near_root(z: Num, n: u8) -> u128
+    requires { (1 ≤ n) × (n ≤ 32) }
+{
+    let mut root = number_at(by_logarithm(z, n).min(TOP_INDEX));
+    for _ in 0..NEWTON_STEPS {
+        root = improved(z, n, root);
+    }
+    root.exponent as u128 * 0x2000_0000_0000_0000 + root.mantissa as u128
+}
+
+// From an error of less than a hundredth on, each step doubles the number of right bits.
+const NEWTON_STEPS: u8 = 4;
+
+// One step of Newton's method: ((n - 1) x + z / x^(n-1)) / n.
+fn improved(z: Num, n: u8, x: Num) -> Num
+    requires { (1 ≤ n) × (n ≤ 32) }
+{
+    if x < Num::ZERO {
+        return x;
+    }
+    let power = x.pow(n - 1, End::Down);
+    let times = Num::from_ratio(n as i128, 1, End::Down);
+    if power == Num::ZERO || times == Num::ZERO {
+        return x;
+    }
+    let rest = z.div(power, End::Down).sub(x, End::Down);
+    x.add(rest.div(times, End::Down), End::Down)
+}
+
+// The index of a number whose n-th power is about a number above 0: the logarithm of that to the base 2, with 16 bits
+// behind the point, is divided by n.
+fn by_logarithm(z: Num, n: u8) -> u128
+    requires { (1 ≤ n) × (n ≤ 32) }
+{
+    let zeros = z.mantissa.leading_zeros();
+    let fraction = ((z.mantissa << zeros.min(63)) >> 47) % ONE_BELOW;
+    let whole = (z.exponent as u64 + 64).saturating_sub(zeros as u64 + 1);
+    // a whole multiple of n is added and taken away again, so that nothing is below 0
+    let logarithm = whole * ONE_BELOW
+        + fraction
+        + bend(fraction)
+        + UNIT_BITS * (n as u64 - 1) * ONE_BELOW;
+    let part = logarithm / n as u64;
+    let mantissa = ONE_BELOW + part % ONE_BELOW - bend(part % ONE_BELOW);
+    let exponent = (part / ONE_BELOW).saturating_sub(61);
+    exponent as u128 * 0x2000_0000_0000_0000 + (mantissa as u128) * 0x2000_0000_0000
+}
+
+const ONE_BELOW: u64 = 0x1_0000;
+
+// A number of so many bits is about 1.
+const UNIT_BITS: u64 = 512;
+
+// What the logarithm of 1 + x is above x, for x from 0 to 1, both times 2^16; 2^x is as much below 1 + x.
+fn bend(x: u64) -> u64
+    requires { x < 65536 }
+    ensures { result ≤ x }
+{
+    x * (ONE_BELOW - x) / ONE_BELOW * 22_500 / ONE_BELOW
 }
 
 // The number of an index.
