@@ -6,3 +6,4 @@ pub mod Hulls
 pub mod Columns
 pub mod Places
 pub mod QHullKept
+pub mod Kept

@@ -224,7 +224,7 @@ place_keeps (suc q) n d xs some h =
 
 -- ---- All places
 
-lies_at : (ns : List ℤ) (d : ℕ) (b : List Bounds) (k : ℕ) → LieIn ns d b → k < length b
+pub lies_at : (ns : List ℤ) (d : ℕ) (b : List Bounds) (k : ℕ) → LieIn ns d b → k < length b
     → Lies (get_or ns k (pos 0)) d (get_or b k everything)
 lies_at [] d [] k h l = absurd (omega arith)
 lies_at [] d (x ∷ b) k h l = absurd h

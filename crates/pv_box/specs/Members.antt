@@ -1,8 +1,9 @@
--- When a point lies in enough of some boxes, and that their q-hull then holds it.
+-- Which points halves, hulls, meets and q-hulls of boxes keep.
 use Rattle.std.specs.Prelude.{◌≡◌, ℕ, zero, suc, ◌≤◌, ◌⊎◌, All, Option, Some, None, List, [], ◌∷◌, length, slice_index_or}
+use Rattle.pv_num.specs.Extended.{Extended}
 use Rattle.pv_interval.specs.Bounds.{Bounds}
 use Rattle.pv_interval.specs.Points.{Point}
-use Rattle.pv_box.specs.Boxes.{PointIn}
+use Rattle.pv_box.specs.Boxes.{PointIn, lower_half, upper_half, hull_boxes, IsMeet, IsApart}
 use Rattle.pv_box.specs.QHull.{q_hull_of}
 
 -- the point lies in at least q of the boxes
@@ -22,3 +23,26 @@ HullKeepsMembers =
     (q : ℕ) (boxes : List (List Bounds)) (p : Point) → 1 ≤ q
     → All (λ b. length b ≡ length (slice_index_or boxes 0 [])) boxes
     → InAtLeast q p boxes → PointInSome p (q_hull_of q boxes)
+
+-- the halves of a box, wherever it is cut, cover it
+abbrev pub HalvesCover : Type 0
+HalvesCover =
+    (b : List Bounds) (v : ℕ) (a : Extended) (p : Point) → PointIn p b
+    → PointIn p (lower_half b v a) ⊎ PointIn p (upper_half b v a)
+
+-- each point of one of two boxes lies in their hull
+abbrev pub HullKeepsEither : Type 0
+HullKeepsEither =
+    (a b : List Bounds) (p : Point) → length a ≡ length b → PointIn p a ⊎ PointIn p b → PointIn p (hull_boxes a b)
+
+-- the meet of two boxes has the points of both, and no other
+abbrev pub MeetKeepsCommon : Type 0
+MeetKeepsCommon = (a b c : List Bounds) (p : Point) → IsMeet a b c → PointIn p a → PointIn p b → PointIn p c
+
+abbrev pub MeetIsCommon : Type 0
+MeetIsCommon =
+    (a b c : List Bounds) (p : Point) → length a ≡ length b → IsMeet a b c → PointIn p c → PointIn p a × PointIn p b
+
+-- two boxes that are apart in some place have no point in common
+abbrev pub ApartHaveNone : Type 0
+ApartHaveNone = (a b : List Bounds) (p : Point) → length a ≡ length b → IsApart a b → PointIn p a → PointIn p b → ⊥

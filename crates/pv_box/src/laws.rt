@@ -1,8 +1,17 @@
-//! That the q-hull loses no point, as a contract.
-ghost use Rattle.pv_box.specs.Members.{HullKeepsMembers};
+//! That no point is lost, as contracts. Each holds by its contract alone, and the calls do nothing.
+ghost use Rattle.pv_box.specs.Members.{HalvesCover, HullKeepsEither, MeetKeepsCommon, MeetIsCommon, ApartHaveNone, HullKeepsMembers};
 
-/// Every rational point that lies in at least `q` of some boxes lies in their q-hull. It holds by its contract alone; the
-/// call does nothing.
+/// The halves of a box cover it; the hull of two boxes holds the points of each; their meet has exactly the points of
+/// both, of which boxes that are apart have none.
+pub fn box_members()
+    ensures halves { HalvesCover }
+    ensures hulls { HullKeepsEither }
+    ensures meets { MeetKeepsCommon }
+    ensures met { MeetIsCommon }
+    ensures apart { ApartHaveNone }
+{}
+
+/// Every rational point that lies in at least `q` of some boxes lies in their q-hull.
 pub fn q_hull_members()
     ensures { HullKeepsMembers }
 {}

@@ -8,3 +8,6 @@ pub mod laws;
 
 pub use boxes::IBox;
 pub use choice::Bisector;
+
+#[cfg(test)]
+mod tests;
