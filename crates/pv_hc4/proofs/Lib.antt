@@ -14,3 +14,4 @@ pub mod Keeping
 pub mod Sureness
 pub mod Within
 pub mod Pointing
+pub mod Numbering

@@ -11,13 +11,20 @@ IsPart s (place i) = s ≡ place i
 IsPart s (one u t) = (s ≡ one u t) ⊎ IsPart s t
 IsPart s (two o t u) = (s ≡ two o t u) ⊎ (IsPart s t ⊎ IsPart s u)
 
--- new is old with some more nodes; one of its nodes stands for t, and each that is new for a part of t
+-- the term stands somewhere in the list
+pub record HasTerm (ts : List Term) (t : Term) : Type 0 where
+  pub number : ℕ
+  pub within : number < length ts
+  pub is : term_at ts number ≡ t
+
+-- new is old with some more nodes; one of its nodes stands for t, each that is new for a part of t, and each part of t has one
 pub record Grows (old new : List Node) (number : ℕ) (t : Term) : Type 0 where
   pub more : List Node
   pub is : new ≡ old ++ more
   pub within : number < length new
   pub term : term_at (terms new) number ≡ t
   pub parts : (k : ℕ) → length old ≤ k → k < length new → IsPart (term_at (terms new) k) t
+  pub whole : (s : Term) → IsPart s t → HasTerm (terms new) s
 
 -- new has the node at this number, and no new node but that
 pub record Holds (old new : List Node) (number : ℕ) (n : Node) : Type 0 where

@@ -11,7 +11,7 @@ use Rattle.pv_hc4.specs.Chain.{at}
 use Rattle.pv_hc4.specs.Forward.{forward_of, constant_of}
 use Rattle.pv_hc4.specs.Nodes.{AreOrdered, terms, term_at, node_at}
 use Rattle.pv_hc4.specs.Revise.{Sides}
-use Rattle.pv_hc4.specs.Building.{IsPart}
+use Rattle.pv_hc4.specs.Building.{IsPart, HasTerm}
 use Rattle.pv_hc4.specs.declared.revised.Revised.{Revised}
 use Rattle.pv_hc4.specs.declared.revised.Revised.TheVariants.{Kept, Changed, Empty}
 
@@ -47,7 +47,7 @@ sides_of g = record { left = term_at (terms g.nodes) g.left; relation = g.relati
 abbrev pub sides_named : Constraint → Sides
 sides_named c = record { left = term_of c.left; relation = c.relation; right = term_of c.right }
 
--- each node reads earlier ones, and stands for a part of one of the sides
+-- each node reads earlier ones, and stands for a part of one of the sides; each part has its node, and no two nodes are equal
 pub record IsGraph (g : Parts) : Type 0 where
   pub ordered : AreOrdered g.nodes g.dims
   pub left_in : g.left < length g.nodes
@@ -55,6 +55,8 @@ pub record IsGraph (g : Parts) : Type 0 where
   pub left_over : IsOver g.dims (term_at (terms g.nodes) g.left)
   pub right_over : IsOver g.dims (term_at (terms g.nodes) g.right)
   pub used : (k : ℕ) → k < length g.nodes → IsPart (term_at (terms g.nodes) k) (term_at (terms g.nodes) g.left) ⊎ IsPart (term_at (terms g.nodes) k) (term_at (terms g.nodes) g.right)
+  pub whole : (t : Term) → IsPart t (term_at (terms g.nodes) g.left) ⊎ IsPart t (term_at (terms g.nodes) g.right) → HasTerm (terms g.nodes) t
+  pub apart : (j k : ℕ) → j < length g.nodes → k < length g.nodes → node_at g.nodes j ≡ node_at g.nodes k → j ≡ k
 
 -- what revise answers where the new box is o: Kept exactly where it is the old one, and the old box after Empty
 abbrev pub IsAnswer : Option (List Bounds) → Revised → List Bounds → List Bounds → Type 0

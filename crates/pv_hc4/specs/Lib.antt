@@ -7,3 +7,4 @@ pub mod Pass
 pub mod Building
 pub mod Totality
 pub mod Members
+pub mod Numbers

@@ -1,12 +1,14 @@
 // From the sides of a constraint to numbered nodes.
 
-ghost use Rattle.std.specs.Prelude.{◌≡◌, ℕ, ◌<◌, ◌≤◌, length, IfOk, OnOk, [], Some, IfSome};
+ghost use Rattle.std.specs.Prelude.{◌≡◌, ◌≢◌, ℕ, ◌<◌, ◌≤◌, length, IfOk, OnOk, [], Some, IfSome, IfNone, if◌then◌else◌};
+ghost use Rattle.std.specs.HashMap.{get};
 ghost use Rattle.pv_expr.specs.Terms.{term_of, one, two};
 ghost use Rattle.pv_expr.specs.Systems.{IsOver, IsFraction};
 ghost use Rattle.pv_hc4.specs.Forward.{constant_of};
 ghost use Rattle.pv_hc4.specs.Nodes.{AreOrdered, ReadsBelow, FitsNode, IsPower, node_at, unary_named, binary_named};
 ghost use Rattle.pv_hc4.specs.Graphs.{AreReady, IsReady};
 ghost use Rattle.pv_hc4.specs.Building.{Grows, Holds};
+ghost use Rattle.pv_hc4.specs.Numbers.{same_node, AreNumbered};
 
 use crate::node::{BinaryOp, Node, UnaryOp};
 use pv_expr::Expr;
@@ -20,13 +22,14 @@ use std::collections::HashMap;
 pub struct Builder {
     pub nodes: Vec<Node>,
     pub ready: Vec<Interval>,
-    numbers: HashMap<Node, usize>,
+    pub numbers: HashMap<Node, usize>,
 }
 
 impl Builder {
     pub fn new(alloc: Global) -> Builder
         ensures nodes { result.nodes.items ≡ [] }
         ensures ready { result.ready.items ≡ [] }
+        ensures numbered { AreNumbered result.nodes.items result.numbers }
     {
         Builder {
             nodes: Vec::new(alloc),
@@ -37,9 +40,11 @@ impl Builder {
 
     // The number of a node that is there already.
     fn find(&self, node: Node) -> Option<usize>
-        ensures { IfSome result (λ i. (i < length self.now.nodes.items) × (node_at self.now.nodes.items i ≡ node)) }
+        requires { AreNumbered self.now.nodes.items self.now.numbers }
+        ensures found { IfSome result (λ i. (i < length self.now.nodes.items) × (node_at self.now.nodes.items i ≡ node)) }
+        ensures missing { IfNone result ((k : ℕ) → k < length self.now.nodes.items → node_at self.now.nodes.items k ≢ node) }
     {
-        let number = self.numbers.get(&node).copied()?;
+        let number = number_in(&self.numbers, node)?;
         if *self.nodes.get(number)? == node {
             return Some(number);
         }
@@ -50,12 +55,14 @@ impl Builder {
     fn number(&mut self, node: Node, own: Interval, dims: u8) -> Result<usize, Memory>
         requires ordered { AreOrdered self.old.nodes.items dims }
         requires ready { AreReady self.old.nodes.items self.old.ready.items }
+        requires numbered { AreNumbered self.old.nodes.items self.old.numbers }
         requires reads { ReadsBelow (length self.old.nodes.items) node }
         requires fits { FitsNode dims node }
         requires own { IsReady node own }
         ensures holds { IfOk result (λ i. Holds self.old.nodes.items self.new.nodes.items i node) }
         ensures ordered { OnOk result (AreOrdered self.new.nodes.items dims) }
         ensures ready { OnOk result (AreReady self.new.nodes.items self.new.ready.items) }
+        ensures numbered { OnOk result (AreNumbered self.new.nodes.items self.new.numbers) }
     {
         if let Some(number) = self.find(node) {
             return Ok(number);
@@ -63,7 +70,7 @@ impl Builder {
         let number = self.nodes.len();
         self.nodes.push(node)?;
         self.ready.push(own)?;
-        self.numbers.insert(node, number)?;
+        put_number(&mut self.numbers, node, number)?;
         Ok(number)
     }
 
@@ -72,10 +79,12 @@ impl Builder {
     pub fn add(&mut self, e: &Expr, dims: u8) -> Result<usize, Memory>
         requires ordered { AreOrdered self.old.nodes.items dims }
         requires ready { AreReady self.old.nodes.items self.old.ready.items }
+        requires numbered { AreNumbered self.old.nodes.items self.old.numbers }
         requires over { IsOver dims (term_of e.now) }
         ensures grows { IfOk result (λ i. Grows self.old.nodes.items self.new.nodes.items i (term_of e.now)) }
         ensures ordered { OnOk result (AreOrdered self.new.nodes.items dims) }
         ensures ready { OnOk result (AreReady self.new.nodes.items self.new.ready.items) }
+        ensures numbered { OnOk result (AreNumbered self.new.nodes.items self.new.numbers) }
     {
         match e {
             Expr::Const { p, q } => {
@@ -98,11 +107,13 @@ impl Builder {
     fn add_one(&mut self, op: UnaryOp, a: &Expr, dims: u8) -> Result<usize, Memory>
         requires ordered { AreOrdered self.old.nodes.items dims }
         requires ready { AreReady self.old.nodes.items self.old.ready.items }
+        requires numbered { AreNumbered self.old.nodes.items self.old.numbers }
         requires power { IsPower op }
         requires over { IsOver dims (term_of a.now) }
         ensures grows { IfOk result (λ i. Grows self.old.nodes.items self.new.nodes.items i (one (unary_named op) (term_of a.now))) }
         ensures ordered { OnOk result (AreOrdered self.new.nodes.items dims) }
         ensures ready { OnOk result (AreReady self.new.nodes.items self.new.ready.items) }
+        ensures numbered { OnOk result (AreNumbered self.new.nodes.items self.new.numbers) }
     {
         let a = self.add(a, dims)?;
         self.number(Node::One(op, a), Interval::ALL, dims)
@@ -112,16 +123,31 @@ impl Builder {
     fn add_two(&mut self, op: BinaryOp, a: &Expr, b: &Expr, dims: u8) -> Result<usize, Memory>
         requires ordered { AreOrdered self.old.nodes.items dims }
         requires ready { AreReady self.old.nodes.items self.old.ready.items }
+        requires numbered { AreNumbered self.old.nodes.items self.old.numbers }
         requires over_a { IsOver dims (term_of a.now) }
         requires over_b { IsOver dims (term_of b.now) }
         ensures grows { IfOk result (λ i. Grows self.old.nodes.items self.new.nodes.items i (two (binary_named op) (term_of a.now) (term_of b.now))) }
         ensures ordered { OnOk result (AreOrdered self.new.nodes.items dims) }
         ensures ready { OnOk result (AreReady self.new.nodes.items self.new.ready.items) }
+        ensures numbered { OnOk result (AreNumbered self.new.nodes.items self.new.numbers) }
     {
         let a = self.add(a, dims)?;
         let b = self.add(b, dims)?;
         self.number(Node::Two(op, a, b), Interval::ALL, dims)
     }
+}
+
+fn number_in(numbers: &HashMap<Node, usize>, node: Node) -> Option<usize>
+    ensures { result ≡ get same_node numbers.now node }
+{
+    numbers.get(&node).copied()
+}
+
+fn put_number(numbers: &mut HashMap<Node, usize>, node: Node, number: usize) -> Result<(), Memory>
+    ensures { OnOk result ((q : Node) → get same_node numbers.new q ≡ (if same_node node q then Some number else get same_node numbers.old q)) }
+{
+    numbers.insert(node, number)?;
+    Ok(())
 }
 
 // The least interval that holds a constant.

@@ -6,6 +6,7 @@ ghost use Rattle.pv_expr.specs.Systems.{IsOver};
 ghost use Rattle.pv_hc4.specs.Revise.{revised};
 ghost use Rattle.pv_hc4.specs.Graphs.{sides_of, sides_named, IsAnswer, IsGraph, AreReady};
 ghost use Rattle.pv_hc4.specs.Totality.{forward_sides, sure_of};
+ghost use Rattle.pv_hc4.specs.Numbers.{CountsParts};
 ghost use Rattle.pv_hc4.specs.Members.{AreOver, AreWithin, HoldsOn, LosesNone};
 
 use crate::builder::Builder;
@@ -78,7 +79,8 @@ impl Graph {
 
     /// How many different subexpressions the two sides have.
     pub fn node_count(&self) -> u64
-        ensures { result ≡ length self.now.nodes }
+        ensures count { result ≡ length self.now.nodes }
+        ensures parts { CountsParts (sides_of self.now) result }
     {
         self.nodes.len() as u64
     }

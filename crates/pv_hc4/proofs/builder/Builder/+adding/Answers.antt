@@ -2,17 +2,17 @@ use Rattle.std.proofs.Common.{rules, arith, ◌≡◌, ℕ, ◌<◌, ◌≤◌, 
 use Rattle.std.proofs.lemmas.Result.{IfOk-weaker}
 use Rattle.pv_expr.specs.Terms.{term_of, one, two, constant, place}
 use Rattle.pv_hc4.specs.Nodes.{AreOrdered, ReadsBelow, FitsNode, IsPower, node_at, unary_named, binary_named}
-use Rattle.pv_hc4.specs.Building.{Grows, Holds}
+use Rattle.pv_hc4.specs.Building.{IsPart, Grows, Holds}
 use Rattle.pv_hc4.proofs.Building.{leaf_grown, one_grown, two_grown}
 use Rattle.pv_hc4.proofs.builder.Builder.+adding.Goals as goal
 
 pub add-returns-in-Const-clause-grows : goal.add-returns-in-Const-clause-grows
 add-returns-in-Const-clause-grows t c =
-    leaf_grown c.number.result c.args.self.now.nodes.items c.number.new.self.nodes.items c.args.dims _ (term_of c.args.e.now) c.number.ensures.ordered c.number.ensures.holds (λ ts. ap (λ p. constant p c.in-Const.q) (search rules) ∙ sym (ap term_of c.in-Const.is))
+    leaf_grown c.number.result c.args.self.now.nodes.items c.number.new.self.nodes.items c.args.dims _ (term_of c.args.e.now) c.number.ensures.ordered c.number.ensures.holds (λ ts. ap (λ p. constant p c.in-Const.q) (search rules) ∙ sym (ap term_of c.in-Const.is)) (λ s. subst (λ t. IsPart s t → s ≡ t) (sym (ap term_of c.in-Const.is)) (λ e. e))
 
 pub add-returns-in-Var-clause-grows : goal.add-returns-in-Var-clause-grows
 add-returns-in-Var-clause-grows t c =
-    leaf_grown c.number-in-Var.result c.args.self.now.nodes.items c.number-in-Var.new.self.nodes.items c.args.dims _ (term_of c.args.e.now) c.number-in-Var.ensures.ordered c.number-in-Var.ensures.holds (λ ts. sym (ap term_of c.in-Var.is))
+    leaf_grown c.number-in-Var.result c.args.self.now.nodes.items c.number-in-Var.new.self.nodes.items c.args.dims _ (term_of c.args.e.now) c.number-in-Var.ensures.ordered c.number-in-Var.ensures.holds (λ ts. sym (ap term_of c.in-Var.is)) (λ s. subst (λ t. IsPart s t → s ≡ t) (sym (ap term_of c.in-Var.is)) (λ e. e))
 
 pub add_one-returns-clause-grows : goal.add_one-returns-clause-grows
 add_one-returns-clause-grows t c =
