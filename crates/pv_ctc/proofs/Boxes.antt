@@ -1,5 +1,7 @@
 -- Lists of boxes over the same variables.
-use Rattle.std.proofs.Common.{◌≡◌, ℕ, zero, suc, ◌+◌, ◌<◌, List, [], ◌∷◌, ◌++◌, length, refl, ap, sym, ◌∙◌}
+use Rattle.std.proofs.Common.{◌≡◌, ℕ, zero, suc, ◌+◌, ◌<◌, List, [], ◌∷◌, ◌++◌, length, refl, ap, sym, ◌∙◌, drop, get_or, add-one}
+use Rattle.std.proofs.Math.Seq.{drop-cons}
+use Rattle.pv_ctc.specs.Contracting.{hull_with}
 use Rattle.std.specs.Prelude.{All, Option, Some, None, slice_index_or}
 use Rattle.pv_box.specs.Boxes.{hull_boxes}
 use Rattle.pv_box.specs.QHull.{chain, column, place_hull_of, places_from, q_hull_of}
@@ -29,3 +31,9 @@ from_length q k (suc n) bs c e = taken (place_hull_of q (column k bs)) (places_f
 pub q_hull_length : (q n : ℕ) (bs : List (List Bounds)) (c : List Bounds) → All (λ b. length b ≡ n) bs → 0 < length bs → q_hull_of q bs ≡ Some c → length c ≡ n
 unfolding q_hull_of
 q_hull_length q n bs c h l e = from_length q 0 (length (slice_index_or bs 0 [])) bs c e ∙ h 0 [] l
+
+pub hull_more : (bs : List (List Bounds)) (i : ℕ) (b new c : List Bounds) → i < length bs → c ≡ get_or bs i c → new ≡ hull_boxes b c → hull_with new (drop (i + 1) bs) ≡ hull_with b (drop i bs)
+hull_more bs i b new c h e f =
+    ap (λ x. hull_with x (drop (i + 1) bs)) (f ∙ ap (hull_boxes b) e)
+    ∙ ap (λ n. hull_with (hull_boxes b (get_or bs i c)) (drop n bs)) (add-one i)
+    ∙ sym (ap (hull_with b) (drop-cons bs i c h))

@@ -3,3 +3,7 @@ pub mod Lengths
 pub mod Sizes
 pub mod Boxes
 pub mod Collected
+pub mod Turns
+pub mod Marking
+pub mod Parts
+pub mod Counting

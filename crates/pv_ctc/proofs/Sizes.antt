@@ -18,7 +18,7 @@ abbrev mutual
   plans_size no_plan = 0
   plans_size (plan_and p ps) = plan_size p + plans_size ps + 1
 
-vec_plans : (v : Vec Program Global) (xs : List Program) → xs ≡ v.items → plans_in (hidden-the_row-Program-0 v) ≡ plans_of xs
+pub vec_plans : (v : Vec Program Global) (xs : List Program) → xs ≡ v.items → plans_in (hidden-the_row-Program-0 v) ≡ plans_of xs
 vec_plans v xs e = row_plans (hidden-the_row-Program-0 v) ∙ ap plans_of (items_hidden-the_row-Program-0 v ∙ sym e)
 
 below : (m n t : ℕ) → m ≡ n + 1 → 2 * m ≡ t → 2 * n + 1 < t

@@ -1,2 +1,6 @@
+pub mod Contracting
 pub mod GraphLists
+pub mod Marks
 pub mod Plans
+pub mod Steps
+pub mod Sureness

@@ -1,10 +1,14 @@
 // What a program does to a box.
 
-ghost use Rattle.std.specs.Prelude.{◌≡◌, ℕ, ◌<◌, ◌≤◌, length, IfOk, IfSome, All, IsTrue};
+ghost use Rattle.std.specs.Prelude.{◌≡◌, ℕ, ◌<◌, ◌≤◌, length, IfOk, IfSome, All};
 ghost use Rattle.pv_ctc.specs.Plans.{plan_of, plans_of, IsFor, AreFor};
+ghost use Rattle.pv_ctc.specs.Contracting.{sides_in, contract_of, effects, in_order, results, turns_of};
+ghost use Rattle.pv_ctc.specs.Steps.{IsStep};
 
 use crate::graphs::Graphs;
+use crate::hulls::{take_hull, take_q_hull};
 use crate::program::Program;
+use crate::propagation::{propagate, revise};
 use pv_box::IBox;
 use pv_hc4::{Revised, Scratch};
 use pv_num::Memory;
@@ -20,7 +24,8 @@ impl Program {
     ) -> Result<Option<IBox>, Memory>
         requires program { IsFor (length graphs.now.graphs) (plan_of self.now) }
         requires dims { length bx.now ≡ graphs.now.dims }
-        ensures { IfOk result (λ o. IfSome o (λ b. length b ≡ length bx.now)) }
+        ensures left { IfOk result (λ o. o ≡ contract_of (sides_in graphs.now) (plan_of self.now) bx.now) }
+        ensures dims { IfOk result (λ o. IfSome o (λ b. length b ≡ length bx.now)) }
     {
         let mut scratch = Scratch::new(alloc);
         let mut to = bx.clone_of(alloc)?;
@@ -43,13 +48,14 @@ fn narrow_by(
     requires program { IsFor (length graphs.now.graphs) (plan_of program.now) }
     requires dims { length bx.old ≡ graphs.now.dims }
     ensures dims { length bx.new ≡ length bx.old }
+    ensures step { IfOk result (λ r. IsStep (contract_of (sides_in graphs.now) (plan_of program.now) bx.old) r bx.old bx.new) }
 {
     match program {
         Program::Hc4(i) => revise(graphs, *i as usize, scratch, bx),
         Program::Compose(parts) => narrow_in_order(alloc, parts, graphs, scratch, bx),
         Program::Union(parts) => {
             let found = left_by_each(alloc, parts, graphs, scratch, bx)?;
-            Ok(take_hull(&found, bx))
+            take_hull(alloc, &found, bx)
         }
         Program::QInter(q, parts) => {
             let found = left_by_each(alloc, parts, graphs, scratch, bx)?;
@@ -58,19 +64,6 @@ fn narrow_by(
         Program::Fix(turns, part) => narrow_in_turns(alloc, *turns, part, graphs, scratch, bx),
         Program::Prop(turns) => propagate(*turns, graphs, scratch, bx),
     }
-}
-
-fn revise(
-    graphs: &Graphs,
-    i: usize,
-    scratch: &mut Scratch,
-    bx: &mut IBox,
-) -> Result<Revised, Memory>
-    requires constraint { i < length graphs.now.graphs }
-    requires dims { length bx.old ≡ graphs.now.dims }
-    ensures dims { length bx.new ≡ length bx.old }
-{
-    graphs.graphs[i].revise_in(scratch, bx)
 }
 
 // Each part in order.
@@ -85,6 +78,7 @@ fn narrow_in_order(
     requires programs { AreFor (length graphs.now.graphs) (plans_of parts.now) }
     requires dims { length bx.old ≡ graphs.now.dims }
     ensures dims { length bx.new ≡ length bx.old }
+    ensures step { IfOk result (λ r. IsStep (in_order (effects (sides_in graphs.now) (plans_of parts.now)) bx.old) r bx.old bx.new) }
 {
     let mut answer = Revised::Kept;
     for part in parts {
@@ -110,9 +104,12 @@ fn narrow_in_turns(
     requires program { IsFor (length graphs.now.graphs) (plan_of part.now) }
     requires dims { length bx.old ≡ graphs.now.dims }
     ensures dims { length bx.new ≡ length bx.old }
+    ensures step { IfOk result (λ r. IsStep (turns_of turns (contract_of (sides_in graphs.now) (plan_of part.now)) bx.old) r bx.old bx.new) }
 {
     let mut answer = Revised::Kept;
-    for _ in 0..turns {
+    let mut left = turns;
+    while left > 0 {
+        left -= 1;
         match narrow_by(alloc, part, graphs, scratch, bx)? {
             Revised::Empty => return Ok(Revised::Empty),
             Revised::Changed => answer = Revised::Changed,
@@ -133,7 +130,8 @@ fn left_by_each(
 ) -> Result<Vec<IBox>, Memory>
     requires programs { AreFor (length graphs.now.graphs) (plans_of parts.now) }
     requires dims { length bx.now ≡ graphs.now.dims }
-    ensures { IfOk result (λ v. All (λ b. length b ≡ length bx.now) v.items) }
+    ensures dims { IfOk result (λ v. All (λ b. length b ≡ length bx.now) v.items) }
+    ensures found { IfOk result (λ v. v.items ≡ results (effects (sides_in graphs.now) (plans_of parts.now)) bx.now) }
 {
     let mut found: Vec<IBox> = Vec::new(alloc);
     for part in parts {
@@ -144,86 +142,4 @@ fn left_by_each(
         }
     }
     Ok(found)
-}
-
-// Makes the box the hull of others; empty where there are none.
-fn take_hull(found: &[IBox], bx: &mut IBox) -> Revised
-    requires { All (λ b. length b ≡ length bx.old) found.now }
-    ensures { length bx.new ≡ length bx.old }
-{
-    if found.is_empty() {
-        return Revised::Empty;
-    }
-    bx.copy_from(&found[0]);
-    for other in found {
-        bx.hull(other);
-    }
-    Revised::Changed
-}
-
-// Makes the box the q-hull of others; empty where that is.
-fn take_q_hull(alloc: Global, q: u32, found: &[IBox], bx: &mut IBox) -> Result<Revised, Memory>
-    requires q { 1 ≤ q }
-    requires dims { All (λ b. length b ≡ length bx.old) found.now }
-    ensures { length bx.new ≡ length bx.old }
-{
-    if found.is_empty() {
-        return Ok(Revised::Empty);
-    }
-    match IBox::q_hull(alloc, q, found)? {
-        Some(hull) => {
-            bx.copy_from(&hull);
-            Ok(Revised::Changed)
-        }
-        None => Ok(Revised::Empty),
-    }
-}
-
-// All constraints in order, repeated until a turn changes nothing.
-fn propagate(
-    turns: u32,
-    graphs: &Graphs,
-    scratch: &mut Scratch,
-    bx: &mut IBox,
-) -> Result<Revised, Memory>
-    requires dims { length bx.old ≡ graphs.now.dims }
-    ensures dims { length bx.new ≡ length bx.old }
-{
-    let mut answer = Revised::Kept;
-    let mut clean = [false; 64];
-    for _ in 0..turns {
-        match propagate_once(graphs, &mut clean, scratch, bx)? {
-            Revised::Empty => return Ok(Revised::Empty),
-            Revised::Changed => answer = Revised::Changed,
-            Revised::Kept => return Ok(answer),
-        }
-    }
-    Ok(answer)
-}
-
-// One turn over the constraints that were not kept by this very box.
-fn propagate_once(
-    graphs: &Graphs,
-    clean: &mut [bool; 64],
-    scratch: &mut Scratch,
-    bx: &mut IBox,
-) -> Result<Revised, Memory>
-    requires dims { length bx.old ≡ graphs.now.dims }
-    ensures dims { length bx.new ≡ length bx.old }
-{
-    let mut answer = Revised::Kept;
-    for i in 0..graphs.graphs.len() {
-        if clean[i] {
-            continue;
-        }
-        match revise(graphs, i, scratch, bx)? {
-            Revised::Empty => return Ok(Revised::Empty),
-            Revised::Kept => clean[i] = true,
-            Revised::Changed => {
-                *clean = [false; 64];
-                answer = Revised::Changed;
-            }
-        }
-    }
-    Ok(answer)
 }

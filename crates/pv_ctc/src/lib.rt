@@ -6,7 +6,9 @@
 
 mod contract;
 mod graphs;
+mod hulls;
 pub mod program;
+mod propagation;
 mod reading;
 mod sure;
 mod token;

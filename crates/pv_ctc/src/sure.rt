@@ -1,7 +1,10 @@
 // Whether every point of a box is a member of a program's set, as the intervals show.
 
-ghost use Rattle.std.specs.Prelude.{◌≡◌, ℕ, ◌<◌, ◌≤◌, length, IfOk};
+ghost use Rattle.std.specs.Prelude.{◌≡◌, ℕ, ◌<◌, ◌≤◌, length, nat_le, IfOk};
+ghost use Rattle.pv_hc4.specs.Totality.{sure_of};
+ghost use Rattle.pv_ctc.specs.Contracting.{sides_in, side_at};
 ghost use Rattle.pv_ctc.specs.Plans.{plan_of, plans_of, IsFor, AreFor};
+ghost use Rattle.pv_ctc.specs.Sureness.{program_sure, parts_sure, constraints_sure, all_true, count_true};
 
 use crate::graphs::Graphs;
 use crate::program::Program;
@@ -16,6 +19,7 @@ impl Program {
     pub fn sure(&self, alloc: Global, graphs: &Graphs, bx: &IBox) -> Result<bool, Memory>
         requires program { IsFor (length graphs.now.graphs) (plan_of self.now) }
         requires dims { length bx.now ≡ graphs.now.dims }
+        ensures { IfOk result (λ t. t ≡ program_sure (sides_in graphs.now) (plan_of self.now) bx.now) }
     {
         let mut scratch = Scratch::new(alloc);
         is_sure(self, graphs, &mut scratch, bx)
@@ -31,6 +35,7 @@ fn is_sure(
 ) -> Result<bool, Memory>
     requires program { IsFor (length graphs.now.graphs) (plan_of program.now) }
     requires dims { length bx.now ≡ graphs.now.dims }
+    ensures { IfOk result (λ t. t ≡ program_sure (sides_in graphs.now) (plan_of program.now) bx.now) }
 {
     match program {
         Program::Hc4(i) => constraint_is_sure(graphs, *i as usize, scratch, bx),
@@ -50,12 +55,14 @@ fn constraint_is_sure(
 ) -> Result<bool, Memory>
     requires constraint { i < length graphs.now.graphs }
     requires dims { length bx.now ≡ graphs.now.dims }
+    ensures { IfOk result (λ t. t ≡ sure_of (side_at (sides_in graphs.now) i) bx.now) }
 {
     graphs.graphs[i].sure_in(scratch, bx)
 }
 
 fn constraints_are_sure(graphs: &Graphs, scratch: &mut Scratch, bx: &IBox) -> Result<bool, Memory>
     requires dims { length bx.now ≡ graphs.now.dims }
+    ensures { IfOk result (λ t. t ≡ all_true (constraints_sure (sides_in graphs.now) bx.now)) }
 {
     for i in 0..graphs.graphs.len() {
         if !constraint_is_sure(graphs, i, scratch, bx)? {
@@ -74,6 +81,7 @@ fn all_are_sure(
 ) -> Result<bool, Memory>
     requires programs { AreFor (length graphs.now.graphs) (plans_of parts.now) }
     requires dims { length bx.now ≡ graphs.now.dims }
+    ensures { IfOk result (λ t. t ≡ all_true (parts_sure (sides_in graphs.now) (plans_of parts.now) bx.now)) }
 {
     for part in parts {
         if !is_sure(part, graphs, scratch, bx)? {
@@ -94,6 +102,7 @@ fn so_many_are_sure(
 ) -> Result<bool, Memory>
     requires programs { AreFor (length graphs.now.graphs) (plans_of parts.now) }
     requires dims { length bx.now ≡ graphs.now.dims }
+    ensures { IfOk result (λ t. t ≡ nat_le q (count_true (parts_sure (sides_in graphs.now) (plans_of parts.now) bx.now))) }
 {
     let mut missing = q;
     for part in parts {

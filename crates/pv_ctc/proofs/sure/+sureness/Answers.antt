@@ -1,4 +1,7 @@
-use Rattle.std.proofs.Common.{rules, arith, length, ◌∙◌, ◌≡◌}
+use Rattle.std.proofs.Common.{rules, arith, length, ◌∙◌, ◌≡◌, sym, subst}
+use Rattle.std.specs.Prelude.{IfOk}
+use Rattle.pv_ctc.specs.Contracting.{sides_in}
+use Rattle.pv_ctc.proofs.Counting.{compose_sure, union_sure, qinter_sure}
 use Rattle.pv_ctc.proofs.Rows.{compose_parts, union_parts, qinter_parts, fits_at}
 use Rattle.pv_ctc.proofs.Sizes.{compose_falls, union_falls, qinter_falls, part_falls}
 use Rattle.pv_ctc.proofs.sure.+sureness.Goals as goal
@@ -17,3 +20,15 @@ all_are_sure-is_sure-requires t c = (part_falls c.args.parts.now c.loop-part.par
 
 pub so_many_are_sure-is_sure-requires : goal.so_many_are_sure-is_sure-requires
 so_many_are_sure-is_sure-requires t c = (part_falls c.args.parts.now c.loop-part.part-index c.part-item.result t c.loop-part-test.true c.part-item.is c.decreases, (fits_at (length c.args.graphs.now.graphs) c.args.parts.now c.loop-part.part-index c.part-item.result c.requires.programs c.loop-part-test.true c.part-item.is, c.requires.dims))
+
+pub is_sure-returns-in-Compose : goal.is_sure-returns-in-Compose
+is_sure-returns-in-Compose t c =
+    subst (λ o. IfOk c.all_are_sure.result (λ r. r ≡ o)) (sym (compose_sure (sides_in c.args.graphs.now) c.args.program.now c.in-Compose.parts c.deref.result.now c.args.bx.now c.in-Compose.is c.deref.ensures.value)) c.all_are_sure.ensures
+
+pub is_sure-returns-in-Union : goal.is_sure-returns-in-Union
+is_sure-returns-in-Union t c =
+    subst (λ o. IfOk c.so_many_are_sure.result (λ r. r ≡ o)) (sym (union_sure (sides_in c.args.graphs.now) c.args.program.now c.in-Union.parts c.deref-in-Union.result.now c.args.bx.now c.in-Union.is c.deref-in-Union.ensures.value)) c.so_many_are_sure.ensures
+
+pub is_sure-returns-in-QInter : goal.is_sure-returns-in-QInter
+is_sure-returns-in-QInter t c =
+    subst (λ o. IfOk c.so_many_are_sure-in-QInter.result (λ r. r ≡ o)) (sym (qinter_sure (sides_in c.args.graphs.now) c.in-QInter.q c.args.program.now c.in-QInter.parts c.deref-in-QInter.result.now c.args.bx.now c.in-QInter.is c.deref-in-QInter.ensures.value)) c.so_many_are_sure-in-QInter.ensures
