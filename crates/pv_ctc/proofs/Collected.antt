@@ -1,8 +1,7 @@
 -- One more graph.
-use Rattle.std.proofs.Common.{◌≡◌, ℕ, zero, suc, ◌+◌, ◌<◌, List, [], ◌∷◌, ◌++◌, length, take, refl, ap, sym, ◌∙◌, subst, arith, add-one}
+use Rattle.std.proofs.Common.{◌≡◌, ℕ, zero, suc, ◌+◌, List, [], ◌∷◌, ◌++◌, take, refl, ap, sym, ◌∙◌, add-one}
 use Rattle.std.specs.Prelude.{map, slice_get, Some}
 use Rattle.pv_expr.specs.declared.constraint.Constraint.{Constraint}
-use Rattle.pv_hc4.specs.Revise.{Sides}
 use Rattle.pv_hc4.specs.Graphs.{Parts, sides_of, sides_named}
 
 mapped : {A B : Type 0} (f : A → B) (xs : List A) (y : A) → map f (xs ++ y ∷ []) ≡ map f xs ++ f y ∷ []

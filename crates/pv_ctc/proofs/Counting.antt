@@ -1,6 +1,6 @@
 -- Tests of several parts, and how many of them hold.
-use Rattle.std.proofs.Common.{◌≡◌, ℕ, zero, suc, ◌+◌, ◌-◌, ◌<◌, ◌≤◌, List, [], ◌∷◌, length, refl, ap, sym, ◌∙◌, subst, arith, get_or, drop, add-one, Vec, Global}
-use Rattle.std.specs.Prelude.{Option, Bool, true, false, ◌&&◌, nat_le, cond, map}
+use Rattle.std.proofs.Common.{◌≡◌, ℕ, suc, ◌+◌, ◌<◌, List, ◌∷◌, length, ap, sym, ◌∙◌, arith, get_or, drop, add-one, Vec, Global}
+use Rattle.std.specs.Prelude.{Bool, true, false, ◌&&◌, nat_le, cond}
 use Rattle.std.proofs.Math.Seq.{drop-cons}
 use Rattle.std.proofs.lemmas.Bool.Decides.{nat_tests}
 use Rattle.pv_interval.specs.Bounds.{Bounds}

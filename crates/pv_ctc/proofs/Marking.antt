@@ -1,8 +1,8 @@
 -- Marks of constraints that would keep the box.
-use Rattle.std.proofs.Common.{◌≡◌, ℕ, zero, suc, ◌+◌, ◌<◌, List, [], ◌∷◌, length, refl, ap, sym, ◌∙◌, subst, arith, get_or, set, inl, inr}
-use Rattle.std.specs.Prelude.{Option, Some, None, Bool, true, false, replicate}
+use Rattle.std.proofs.Common.{◌≡◌, ℕ, zero, suc, List, refl, ap, sym, ◌∙◌, get_or, set, inl, inr}
+use Rattle.std.specs.Prelude.{Some, Bool, true, false, replicate}
 use Rattle.std.proofs.lemmas.Bool.{cases_eq, true≢false}
-use Rattle.std.proofs.lemmas.List.{get_or-set_same, get_or-set_other}
+use Rattle.std.proofs.lemmas.List.{get_or-set_other}
 use Rattle.pv_interval.specs.Bounds.{Bounds}
 use Rattle.pv_hc4.specs.Revise.{Sides, revised}
 use Rattle.pv_ctc.specs.Contracting.{side_at}

@@ -1,6 +1,5 @@
 -- What a program of several parts leaves of a box.
 use Rattle.std.proofs.Common.{◌≡◌, ℕ, List, ap, ◌∙◌, Vec, Global}
-use Rattle.std.specs.Prelude.{Option}
 use Rattle.pv_interval.specs.Bounds.{Bounds}
 use Rattle.pv_hc4.specs.Revise.{Sides}
 use Rattle.pv_ctc.specs.declared.program.Program.{Program, Compose, Union, QInter}

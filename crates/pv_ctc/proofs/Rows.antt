@@ -1,10 +1,10 @@
 -- The programs of a list, as they stand in a program and as a list.
-use Rattle.std.proofs.Common.{◌≡◌, ℕ, zero, suc, ◌+◌, ◌<◌, ◌≤◌, get_or, List, [], ◌∷◌, ◌++◌, length, refl, ap, sym, ◌∙◌, arith, subst}
+use Rattle.std.proofs.Common.{◌≡◌, ℕ, zero, suc, ◌<◌, ◌≤◌, get_or, List, [], ◌∷◌, ◌++◌, length, refl, ap, sym, ◌∙◌, arith, subst}
 use Rattle.pv_ctc.specs.declared.program.Program.{Program, Row_of-Program, end_of-Program, more_of-Program, items-the_row-Program, items_hidden-the_row-Program-0}
 use Rattle.std.proofs.Common.{Vec, Global}
 use Rattle.pv_ctc.specs.declared.program.Program.{Compose, Union, QInter}
 use Rattle.pv_ctc.specs.declared.program.Program.TheBlock.{hidden-the_row-Program-0}
-use Rattle.pv_ctc.specs.Plans.{Plan, Plans, no_plan, plan_and, plan_of, plans_in, plans_of, plan_count, AreFor, IsFor}
+use Rattle.pv_ctc.specs.Plans.{plan_and, plan_of, plans_in, plans_of, plan_count, AreFor, IsFor}
 
 pub row_plans : {m : _} → (k : Row_of-Program m) → plans_in k ≡ plans_of (items-the_row-Program m k)
 row_plans end_of-Program = refl

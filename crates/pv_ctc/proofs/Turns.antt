@@ -12,7 +12,7 @@ use Rattle.pv_hc4.specs.Revise.{Sides, revised}
 use Rattle.pv_hc4.specs.declared.revised.Revised.{Revised}
 use Rattle.pv_hc4.specs.declared.revised.Revised.TheVariants.{Kept, Changed, Empty}
 use Rattle.pv_ctc.specs.declared.program.Program.{Program}
-use Rattle.pv_ctc.specs.Contracting.{Effect, side_at, in_order, turns_of, all_revised, contract_of, effects, with_result, results}
+use Rattle.pv_ctc.specs.Contracting.{Effect, side_at, in_order, turns_of, contract_of, effects, with_result, results}
 use Rattle.pv_ctc.specs.Plans.{plan_of, plans_of}
 use Rattle.pv_ctc.specs.Steps.{IsStep, IsSoFar}
 

@@ -1,5 +1,5 @@
 -- The graphs of a system's constraints.
-use Rattle.std.specs.Prelude.{◌≡◌, ℕ, ◌<◌, ◌≤◌, List, length, All}
+use Rattle.std.specs.Prelude.{◌≡◌, ℕ, ◌≤◌, List, length, All}
 use Rattle.pv_hc4.specs.Graphs.{Parts}
 
 pub record GraphList : Type 0 where

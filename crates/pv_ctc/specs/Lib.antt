@@ -4,3 +4,4 @@ pub mod Marks
 pub mod Plans
 pub mod Steps
 pub mod Sureness
+pub mod Members

@@ -1,9 +1,7 @@
 -- Constraints that a revision would leave as they are.
-use Rattle.std.specs.Prelude.{◌≡◌, ◌⊎◌, ℕ, Bool, true, false, List, Some, slice_index_or}
+use Rattle.std.specs.Prelude.{◌≡◌, ℕ, Bool, true, false, List, Some, slice_index_or}
 use Rattle.pv_interval.specs.Bounds.{Bounds}
 use Rattle.pv_hc4.specs.Revise.{Sides, revised}
-use Rattle.pv_hc4.specs.declared.revised.Revised.{Revised}
-use Rattle.pv_hc4.specs.declared.revised.Revised.TheVariants.{Empty}
 use Rattle.pv_ctc.specs.Contracting.{side_at}
 
 -- a revision by each marked constraint would keep the box

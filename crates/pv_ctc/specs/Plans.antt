@@ -1,5 +1,5 @@
 -- A contractor program as a tree, apart from where it lies in memory.
-use Rattle.std.specs.Prelude.{ℕ, zero, suc, ◌+◌, ◌<◌, ◌≤◌, List, [], ◌∷◌}
+use Rattle.std.specs.Prelude.{ℕ, ◌+◌, ◌<◌, ◌≤◌, List, [], ◌∷◌}
 use Rattle.pv_ctc.specs.declared.program.Program.{Program, Row_of-Program, end_of-Program, more_of-Program}
 use Rattle.pv_ctc.specs.declared.program.Program.TheVariants.{Hc4, Compose', Union', QInter', Fix', Prop}
 

@@ -1,4 +1,4 @@
-use Rattle.std.proofs.Common.{rules, arith, length, drop, ◌+◌, ◌++◌, [], ◌∷◌, refl, ◌∙◌, ◌≡◌, ap, sym, subst}
+use Rattle.std.proofs.Common.{length, drop, ◌+◌, ◌++◌, [], ◌∷◌, refl, ◌∙◌, ◌≡◌, ap, sym, subst}
 use Rattle.std.specs.Prelude.{All, IfOk}
 use Rattle.pv_ctc.specs.Contracting.{sides_in, contract_of, effects, results, with_result, hull_all, q_hull_all}
 use Rattle.pv_ctc.specs.Plans.{plan_of, plans_of}

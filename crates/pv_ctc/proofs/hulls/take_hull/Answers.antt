@@ -1,4 +1,4 @@
-use Rattle.std.proofs.Common.{◌≡◌, ◌+◌, length, ap, sym, ◌∙◌, refl, drop, arith}
+use Rattle.std.proofs.Common.{length, ap, ◌∙◌, refl}
 use Rattle.pv_ctc.proofs.Boxes.{hulls_length, hull_more}
 use Rattle.pv_ctc.proofs.hulls.take_hull.Goals as goal
 

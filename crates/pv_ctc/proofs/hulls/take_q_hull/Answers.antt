@@ -1,4 +1,4 @@
-use Rattle.std.proofs.Common.{◌≡◌, length, ap, sym, ◌∙◌, rules}
+use Rattle.std.proofs.Common.{length, sym, ◌∙◌, rules}
 use Rattle.pv_ctc.proofs.Boxes.{q_hull_length}
 use Rattle.pv_ctc.proofs.hulls.take_q_hull.Goals as goal
 

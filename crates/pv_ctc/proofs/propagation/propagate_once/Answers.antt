@@ -1,9 +1,8 @@
-use Rattle.std.proofs.Common.{◌≡◌, ◌+◌, ◌<◌, length, refl, ap, sym, ◌∙◌, subst, arith, drop}
-use Rattle.std.specs.Prelude.{Some, map}
+use Rattle.std.proofs.Common.{◌<◌, length, ap, sym, ◌∙◌, subst, arith}
+use Rattle.std.specs.Prelude.{Some}
 use Rattle.std.proofs.lemmas.List.{length-map}
 use Rattle.pv_hc4.specs.Graphs.{sides_of}
 use Rattle.pv_hc4.specs.Revise.{revised}
-use Rattle.pv_hc4.specs.declared.revised.Revised.TheVariants.{Kept, Changed}
 use Rattle.pv_ctc.specs.Contracting.{sides_in, side_at, all_revised}
 use Rattle.pv_ctc.specs.Marks.{AreClean}
 use Rattle.pv_ctc.specs.Steps.{IsStep, IsSoFar}

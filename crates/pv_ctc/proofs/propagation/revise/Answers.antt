@@ -1,4 +1,3 @@
-use Rattle.std.proofs.Common.{◌≡◌, length}
 use Rattle.pv_hc4.specs.Graphs.{sides_of}
 use Rattle.pv_ctc.proofs.Lengths.{result_length}
 use Rattle.pv_ctc.proofs.propagation.revise.Goals as goal

@@ -1,4 +1,4 @@
-use Rattle.std.proofs.Common.{rules, arith, length, ◌∙◌, ◌≡◌, sym, subst}
+use Rattle.std.proofs.Common.{length, ◌≡◌, sym, subst}
 use Rattle.std.specs.Prelude.{IfOk}
 use Rattle.pv_ctc.specs.Contracting.{sides_in}
 use Rattle.pv_ctc.proofs.Counting.{compose_sure, union_sure, qinter_sure}

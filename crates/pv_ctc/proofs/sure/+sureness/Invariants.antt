@@ -1,4 +1,4 @@
-use Rattle.std.proofs.Common.{◌≡◌, ◌+◌, ◌*◌, length, drop}
+use Rattle.std.proofs.Common.{◌≡◌, ◌+◌, ◌*◌, drop}
 use Rattle.std.specs.Prelude.{nat_le}
 use Rattle.pv_ctc.specs.Contracting.{sides_in}
 use Rattle.pv_ctc.specs.Sureness.{parts_sure, all_true, count_true}

@@ -1,7 +1,7 @@
-use Rattle.std.proofs.Common.{◌≡◌, ◌+◌, length, List, [], ◌∷◌, ◌++◌, ap, sym, ◌∙◌, subst, arith, length-append}
-use Rattle.std.specs.Prelude.{All, map, take}
+use Rattle.std.proofs.Common.{◌≡◌, length, [], ◌∷◌, ap, sym, ◌∙◌, subst, arith, length-append}
+use Rattle.std.specs.Prelude.{All, map}
 use Rattle.std.proofs.lemmas.List.Elements.{All-push}
-use Rattle.pv_hc4.specs.Graphs.{sides_of, sides_named}
+use Rattle.pv_hc4.specs.Graphs.{sides_of}
 use Rattle.pv_ctc.proofs.Collected.{sides_more}
 use Rattle.pv_ctc.proofs.graphs.Graphs.of.Goals as goal
 

@@ -1,8 +1,8 @@
-use Rattle.std.proofs.Common.{rules, ◌≡◌, ◌≤◌, ℕ, length, arith, ap, sym, subst, ◌∙◌}
+use Rattle.std.proofs.Common.{◌≡◌, ◌≤◌, length, arith, sym, subst, ◌∙◌}
 use Rattle.pv_ctc.specs.declared.program.Program.{items_hidden-the_row-Program-0}
 use Rattle.pv_ctc.specs.declared.program.Program.TheBlock.{hidden-the_row-Program-0}
-use Rattle.std.proofs.Common.{List, [], ◌∷◌, ◌++◌, length-append}
-use Rattle.pv_ctc.specs.Plans.{plan_of, plans_of, plan_count, IsFor, AreFor}
+use Rattle.std.proofs.Common.{[], ◌∷◌, length-append}
+use Rattle.pv_ctc.specs.Plans.{plan_of, plans_of, IsFor, AreFor}
 use Rattle.pv_ctc.proofs.Rows.{row_fits, row_fits_q, plans_more}
 use Rattle.pv_ctc.proofs.reading.Reader.+reading.Goals as goal
 
