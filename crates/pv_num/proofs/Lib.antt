@@ -1,4 +1,5 @@
 pub mod Align
+pub mod AlikeSums
 pub mod Canonical
 pub mod Divisions
 pub mod Exact

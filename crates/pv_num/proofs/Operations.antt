@@ -137,3 +137,17 @@ alike_finite side a b t x y at p q r f g ep eq ex ey d w et h =
 
 pub not_smaller : (x y : ℕ) → (x < y → false ≡ true) → y ≤ x
 not_smaller x y h = elim (cases_lt x y) [ inl l ↦ absurd (true≢false (sym (h l))) | inr l ↦ l ]
+
+same_signs : (p q : Bool) → p ≡ q → not (beq p q) ≡ false
+same_signs true true e = refl
+same_signs true false e = absurd (true≢false e)
+same_signs false true e = absurd (true≢false (sym e))
+same_signs false false e = refl
+
+-- A sum of numbers of one sign, over 1.
+pub alike_whole : (side : End) (a b : Extended) (t : Toward) (x y : ℕ) (p : Bool) (r : Option Magnitude) → is_infinite_of a ≡ false → is_infinite_of b ≡ false → is_negative_of a ≡ is_negative_of b → p ≡ is_negative_of a → x ≡ magnitude_of a → y ≡ magnitude_of b → t ≡ toward_of side p → IsSized t (x + y) 1 r → signed_of p r ≡ rounded side (whole_of a +ℤ whole_of b) 1
+alike_whole side a b t x y p r f g same ep ex ey et h =
+    let one : 0 < 1 = omega arith in
+    ap (λ z. signed_of z r) ep
+    ∙ signed_to side (is_negative_of a) (magnitude_of a + magnitude_of b) 1 r _ (sum_alike a b f g (same_signs _ _ same)) one
+    (restated side p (is_negative_of a) t (x + y) (magnitude_of a + magnitude_of b) 1 r ep et (ap (λ z. z + y) ex ∙ ap (λ z. magnitude_of a + z) ey) h)

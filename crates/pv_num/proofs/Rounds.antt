@@ -156,7 +156,7 @@ floored : (m e v b : ℕ) (r : Option Magnitude) → m < 2 ^ 62 → e ≤ 962 �
 floored m e v b None f k j lo hi kept = kept
 floored m e v b (Some n) f k j lo hi kept = subst (IsFloorSize v b) (sym kept) (floor_between m e v b f k j lo hi)
 
-sized_at : (t : Toward) (m e v b : ℕ) (x : Bool) (r : Option Magnitude) → 0 < b → m < 2 ^ 62 → e ≤ 962 → (0 < e → 2 ^ 61 ≤ m) → m * 2 ^ e * b ≤ v → v < (m + 1) * 2 ^ e * b → (IsTrue x ↔ (m * 2 ^ e * b ≡ v)) → (IsTrue x → IsSizeOf r (m * 2 ^ e)) → (t ≡ Zero → IsSizeOf r (m * 2 ^ e)) → (x ≡ false → t ≡ Away → IsSizeAbove r m e) → IsSized t v b r
+pub sized_at : (t : Toward) (m e v b : ℕ) (x : Bool) (r : Option Magnitude) → 0 < b → m < 2 ^ 62 → e ≤ 962 → (0 < e → 2 ^ 61 ≤ m) → m * 2 ^ e * b ≤ v → v < (m + 1) * 2 ^ e * b → (IsTrue x ↔ (m * 2 ^ e * b ≡ v)) → (IsTrue x → IsSizeOf r (m * 2 ^ e)) → (t ≡ Zero → IsSizeOf r (m * 2 ^ e)) → (x ≡ false → t ≡ Away → IsSizeAbove r m e) → IsSized t v b r
 sized_at Zero m e v b x r p f k j lo hi t kept down up = floored m e v b r f k j lo hi (down refl)
 sized_at Away m e v b x r p f k j lo hi t kept down up = ceiled m e v b x r p f k j lo hi t kept (λ q. up q refl)
 

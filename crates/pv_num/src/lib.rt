@@ -1,6 +1,7 @@
 //! Numbers m * 2^e with a mantissa of 62 bits and two infinite ends, in exact arithmetic that rounds to a named side.
 #![tactic(auto)]
 
+mod alike;
 mod convert;
 pub mod laws;
 mod magnitude;

@@ -61,7 +61,7 @@ fn aligned(parts: u128, at: u16, cut: u16) -> (u64, bool)
 
 // The rounding of a size above the largest.
 #[inline]
-fn beyond(toward: Toward) -> Option<Magnitude>
+pub(crate) fn beyond(toward: Toward) -> Option<Magnitude>
     ensures largest { toward ≡ Toward.Zero → IsSizeOf result top_size }
     ensures none { toward ≡ Toward.Away → result ≡ None }
 {
@@ -73,7 +73,7 @@ fn beyond(toward: Toward) -> Option<Magnitude>
 
 // The size itself, or the next one for a value that lies between the two.
 #[inline]
-fn next(mantissa: u64, exponent: u16, exact: bool, toward: Toward) -> Option<Magnitude>
+pub(crate) fn next(mantissa: u64, exponent: u16, exact: bool, toward: Toward) -> Option<Magnitude>
     requires mantissa_fits { mantissa < 2 ^ 62 }
     requires exponent_fits { exponent ≤ 962 }
     requires justified { 0 < exponent → 2 ^ 61 ≤ mantissa }

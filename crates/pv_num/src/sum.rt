@@ -6,6 +6,7 @@ ghost use Rattle.pv_num.specs.Rounding.{rounded};
 ghost use Rattle.pv_num.specs.Sizes.{size_of, IsSized, fine, whole_of, is_infinite_of};
 ghost use Rattle.pv_num.specs.Arithmetic.{add_of, sub_of, middle_of, between, end_of};
 
+use crate::alike::alike_sum;
 use crate::magnitude::{FINE_BITS, Magnitude, Toward};
 use crate::num::{Class, End, Num, signed, toward};
 use crate::round::round;
@@ -24,6 +25,9 @@ impl Num {
         }
         if other.is_infinite() {
             return infinite_sum(self, other, side);
+        }
+        if self.is_negative() == other.is_negative() {
+            return alike_sum(self, other, side);
         }
         finite_sum(self, other, FINE_BITS, side)
     }
