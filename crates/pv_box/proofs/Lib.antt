@@ -5,5 +5,7 @@ pub mod Doubles
 pub mod Hulls
 pub mod Columns
 pub mod Places
+pub mod Enough
 pub mod QHullKept
+pub mod QHullThere
 pub mod Kept

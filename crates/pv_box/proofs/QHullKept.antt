@@ -1,19 +1,15 @@
--- A number of at least q intervals lies between the two ends of their q-hull: among the intervals that hold it take the
--- greatest of the lower ends, which lies in all of them, and the least of the upper ends.
-use Rattle.std.proofs.Common.{◌≡◌, ℕ, zero, suc, ◌+◌, ◌<◌, ◌≤◌, List, [], ◌∷◌, length, get_or, sym, ◌∙◌, ap, subst, arith, refl, ◌⊎◌, inl, inr, cond}
-use Rattle.std.specs.Prelude.{All, IsTrue, Bool, true, false, ◌&&◌, Option, Some, None, ℤ, pos}
-use Rattle.std.proofs.lemmas.Bool.{le-leb}
+-- A point of at least q boxes lies in their q-hull, place by place.
+use Rattle.std.proofs.Common.{◌≡◌, ℕ, zero, suc, ◌+◌, ◌<◌, ◌≤◌, List, [], ◌∷◌, length, get_or, sym, ◌∙◌, ap, subst, arith, refl, ◌⊎◌, inl, inr}
+use Rattle.std.specs.Prelude.{All, true, Option, Some, None, ℤ, pos}
 use Rattle.pv_num.specs.Extended.{Extended, NegInf, Fin, PosInf}
-use Rattle.pv_num.specs.Order.{le, lt, lesser, greater}
-use Rattle.pv_interval.specs.Bounds.{Bounds, everything, between, interval_from}
+use Rattle.pv_num.specs.Order.{lt}
+use Rattle.pv_interval.specs.Bounds.{Bounds, everything}
 use Rattle.pv_interval.specs.Points.{IsBelow, IsAbove, Lies, LiesInSome, Point}
-use Rattle.pv_interval.specs.Tables.{holds}
-use Rattle.pv_interval.proofs.Ends.{le_refl, le_trans}
 use Rattle.pv_interval.proofs.Values.{below_le, above_le, across}
-use Rattle.pv_interval.proofs.Choices.{lesser_left, lesser_right, greater_left, greater_right, lesser_either, greater_either}
 use Rattle.pv_box.specs.Boxes.{LieIn}
-use Rattle.pv_box.specs.QHull.{chain, column, count_holding, is_in_enough, lower_of, upper_of, least_end, greatest_end, place_hull_of, places_from, q_hull_of}
+use Rattle.pv_box.specs.QHull.{chain, column, place_hull_of, places_from, q_hull_of}
 use Rattle.pv_box.specs.Members.{InAtLeast, PointInSome, HullKeepsMembers}
+use Rattle.pv_box.proofs.Enough.{IsSplit, AtLeast, IsRound, place_round}
 
 -- ---- One place
 
@@ -28,160 +24,11 @@ some_under q n d [] h = absurd h
 some_under q n d (x ∷ xs) (inl h) = h.0.some
 some_under q n d (x ∷ xs) (inr h) = some_under q n d xs h
 
-holds_yes : (x : Bounds) (e : Extended) → IsTrue (le x.lo e) → IsTrue (le e x.hi) → holds x e ≡ true
-holds_yes x e h k = ap (λ w. w && le e x.hi) h ∙ k
-
-count_more : (x : Bounds) (xs : List Bounds) (e : Extended) (m : ℕ) → m ≤ count_holding xs e → m ≤ count_holding (x ∷ xs) e
-count_more x xs e m h = omega arith
-
-count_one_more : (x : Bounds) (xs : List Bounds) (e : Extended) (m : ℕ) → holds x e ≡ true → m ≤ count_holding xs e
-    → suc m ≤ count_holding (x ∷ xs) e
-count_one_more x xs e m t h = let p = ap {B = ℕ} (λ w. cond w 1 0) t in omega (arith, p)
-
-enough : (q : ℕ) (xs : List Bounds) (e : Extended) → q ≤ count_holding xs e → is_in_enough q xs e ≡ true
-enough q xs e h = le-leb _ _ h
-
--- ---- The lower end
-
-abbrev IsLowerEnd : Extended → List Bounds → Type 0
-IsLowerEnd e [] = ⊥
-IsLowerEnd e (x ∷ xs) = (e ≡ x.lo) ⊎ IsLowerEnd e xs
-
--- e is a lower end that is at most n / d, and what lies between e and n / d lies in at least q of the intervals
-record LowerEnd (q : ℕ) (n : ℤ) (d : ℕ) (xs : List Bounds) : Type 0 where
-  pub at : Extended
-  pub is : IsLowerEnd at xs
-  pub low : IsBelow at n d
-  pub counted : (f : Extended) → IsTrue (le at f) → IsBelow f n d → q ≤ count_holding xs f
-
-first_lower : (n : ℤ) (d : ℕ) (x : Bounds) (xs : List Bounds) → Lies n d x → LowerEnd 1 n d (x ∷ xs)
-first_lower n d x xs h = record {
-  at = x.lo;
-  is = inl refl;
-  low = h.low;
-  counted = λ f k l. count_one_more x xs f 0 (holds_yes x f k (across f x.hi n d h.some l h.high)) (omega arith);
-}
-
-pick_lower : (P : Extended → Type 0) (e f : Extended) → P e → P f → P (greater e f)
-pick_lower P e f p q = greater_either P e f p q
-
-next_lower : (q : ℕ) (n : ℤ) (d : ℕ) (x : Bounds) (xs : List Bounds) → Lies n d x → LowerEnd q n d xs → LowerEnd (suc q) n d (x ∷ xs)
-next_lower q n d x xs h r = record {
-  at = greater x.lo r.at;
-  is = pick_lower (λ e. IsLowerEnd e (x ∷ xs)) x.lo r.at (inl refl) (inr r.is);
-  low = pick_lower (λ e. IsBelow e n d) x.lo r.at h.low r.low;
-  counted = λ f k l.
-      count_one_more x xs f q
-      (holds_yes x f (le_trans x.lo (greater x.lo r.at) f (greater_left x.lo r.at) k) (across f x.hi n d h.some l h.high))
-      (r.counted f (le_trans r.at (greater x.lo r.at) f (greater_right x.lo r.at) k) l);
-}
-
-later_lower : (q : ℕ) (n : ℤ) (d : ℕ) (x : Bounds) (xs : List Bounds) → LowerEnd q n d xs → LowerEnd q n d (x ∷ xs)
-later_lower q n d x xs r = record {
-  at = r.at;
-  is = inr r.is;
-  low = r.low;
-  counted = λ f k l. count_more x xs f q (r.counted f k l);
-}
-
-lower_end : (q : ℕ) (n : ℤ) (d : ℕ) (xs : List Bounds) → LiesInAtLeast (suc q) n d xs → LowerEnd (suc q) n d xs
-lower_end q n d [] h = absurd h
-lower_end zero n d (x ∷ xs) (inl h) = first_lower n d x xs h.0
-lower_end (suc q) n d (x ∷ xs) (inl h) = next_lower (suc q) n d x xs h.0 (lower_end q n d xs h.1)
-lower_end q n d (x ∷ xs) (inr h) = later_lower (suc q) n d x xs (lower_end q n d xs h)
-
--- an answer that is there and at most e
-abbrev IsUpTo : Extended → Option Extended → Type 0
-IsUpTo e None = ⊥
-IsUpTo e (Some g) = IsTrue (le g e)
-
-takes_lower : (t : Bool) (e : Extended) (best : Option Extended) → t ≡ true → IsUpTo e (lower_of t e best)
-takes_lower false e best h = absurd (cc)
-takes_lower true e None h = le_refl e
-takes_lower true e (Some f) h = lesser_left e f
-
-keeps_lower : (t : Bool) (e f : Extended) (best : Option Extended) → IsUpTo e best → IsUpTo e (lower_of t f best)
-keeps_lower false e f best h = h
-keeps_lower true e f None h = absurd h
-keeps_lower true e f (Some g) h = le_trans (lesser f g) g e (lesser_right f g) h
-
-least_upto : (q : ℕ) (all xs : List Bounds) (e : Extended) → is_in_enough q all e ≡ true → IsLowerEnd e xs → IsUpTo e (least_end q all xs)
-least_upto q all [] e h k = absurd k
-least_upto q all (x ∷ xs) e h (inl k) =
-    subst (λ w. IsUpTo w (lower_of (is_in_enough q all x.lo) x.lo (least_end q all xs))) (sym k)
-    (takes_lower (is_in_enough q all x.lo) x.lo (least_end q all xs) (ap (λ w. is_in_enough q all w) (sym k) ∙ h))
-least_upto q all (x ∷ xs) e h (inr k) =
-    keeps_lower (is_in_enough q all x.lo) e x.lo (least_end q all xs) (least_upto q all xs e h k)
-
--- ---- The upper end
-
-abbrev IsUpperEnd : Extended → List Bounds → Type 0
-IsUpperEnd e [] = ⊥
-IsUpperEnd e (x ∷ xs) = (e ≡ x.hi) ⊎ IsUpperEnd e xs
-
-record UpperEnd (q : ℕ) (n : ℤ) (d : ℕ) (xs : List Bounds) : Type 0 where
-  pub at : Extended
-  pub is : IsUpperEnd at xs
-  pub high : IsAbove at n d
-  pub counted : (f : Extended) → IsTrue (le f at) → IsAbove f n d → q ≤ count_holding xs f
-
-first_upper : (n : ℤ) (d : ℕ) (x : Bounds) (xs : List Bounds) → Lies n d x → UpperEnd 1 n d (x ∷ xs)
-first_upper n d x xs h = record {
-  at = x.hi;
-  is = inl refl;
-  high = h.high;
-  counted = λ f k l. count_one_more x xs f 0 (holds_yes x f (across x.lo f n d h.some h.low l) k) (omega arith);
-}
-
-next_upper : (q : ℕ) (n : ℤ) (d : ℕ) (x : Bounds) (xs : List Bounds) → Lies n d x → UpperEnd q n d xs → UpperEnd (suc q) n d (x ∷ xs)
-next_upper q n d x xs h r = record {
-  at = lesser x.hi r.at;
-  is = lesser_either (λ e. IsUpperEnd e (x ∷ xs)) x.hi r.at (inl refl) (inr r.is);
-  high = lesser_either (λ e. IsAbove e n d) x.hi r.at h.high r.high;
-  counted = λ f k l.
-      count_one_more x xs f q
-      (holds_yes x f (across x.lo f n d h.some h.low l) (le_trans f (lesser x.hi r.at) x.hi k (lesser_left x.hi r.at)))
-      (r.counted f (le_trans f (lesser x.hi r.at) r.at k (lesser_right x.hi r.at)) l);
-}
-
-later_upper : (q : ℕ) (n : ℤ) (d : ℕ) (x : Bounds) (xs : List Bounds) → UpperEnd q n d xs → UpperEnd q n d (x ∷ xs)
-later_upper q n d x xs r = record {
-  at = r.at;
-  is = inr r.is;
-  high = r.high;
-  counted = λ f k l. count_more x xs f q (r.counted f k l);
-}
-
-upper_end : (q : ℕ) (n : ℤ) (d : ℕ) (xs : List Bounds) → LiesInAtLeast (suc q) n d xs → UpperEnd (suc q) n d xs
-upper_end q n d [] h = absurd h
-upper_end zero n d (x ∷ xs) (inl h) = first_upper n d x xs h.0
-upper_end (suc q) n d (x ∷ xs) (inl h) = next_upper (suc q) n d x xs h.0 (upper_end q n d xs h.1)
-upper_end q n d (x ∷ xs) (inr h) = later_upper (suc q) n d x xs (upper_end q n d xs h)
-
--- an answer that is there and at least e
-abbrev IsFrom : Extended → Option Extended → Type 0
-IsFrom e None = ⊥
-IsFrom e (Some g) = IsTrue (le e g)
-
-takes_upper : (t : Bool) (e : Extended) (best : Option Extended) → t ≡ true → IsFrom e (upper_of t e best)
-takes_upper false e best h = absurd (cc)
-takes_upper true e None h = le_refl e
-takes_upper true e (Some f) h = greater_left e f
-
-keeps_upper : (t : Bool) (e f : Extended) (best : Option Extended) → IsFrom e best → IsFrom e (upper_of t f best)
-keeps_upper false e f best h = h
-keeps_upper true e f None h = absurd h
-keeps_upper true e f (Some g) h = le_trans e g (greater f g) h (greater_right f g)
-
-greatest_from : (q : ℕ) (all xs : List Bounds) (e : Extended) → is_in_enough q all e ≡ true → IsUpperEnd e xs → IsFrom e (greatest_end q all xs)
-greatest_from q all [] e h k = absurd k
-greatest_from q all (x ∷ xs) e h (inl k) =
-    subst (λ w. IsFrom w (upper_of (is_in_enough q all x.hi) x.hi (greatest_end q all xs))) (sym k)
-    (takes_upper (is_in_enough q all x.hi) x.hi (greatest_end q all xs) (ap (λ w. is_in_enough q all w) (sym k) ∙ h))
-greatest_from q all (x ∷ xs) e h (inr k) =
-    keeps_upper (is_in_enough q all x.hi) e x.hi (greatest_end q all xs) (greatest_from q all xs e h k)
-
--- ---- The hull of one place
+round_it : (q : ℕ) (n : ℤ) (d : ℕ) (xs : List Bounds) → LiesInAtLeast q n d xs → AtLeast (λ e. IsBelow e n d) (λ e. IsAbove e n d) q xs
+round_it zero n d xs h = tt
+round_it (suc q) n d [] h = absurd h
+round_it (suc q) n d (x ∷ xs) (inl h) = inl ((h.0.low, h.0.high), round_it q n d xs h.1)
+round_it (suc q) n d (x ∷ xs) (inr h) = inr (round_it (suc q) n d xs h)
 
 open_low : (l : Extended) (n : ℤ) (d : ℕ) → IsBelow l n d → lt l PosInf ≡ true
 open_low NegInf n d h = refl
@@ -193,34 +40,24 @@ open_high NegInf n d h = absurd h
 open_high (Fin e) n d h = refl
 open_high PosInf n d h = refl
 
-if_all : (r s t : Bool) (n : ℤ) (d : ℕ) (x : Bounds) → r ≡ true → s ≡ true → t ≡ true → Lies n d x
-    → LiesInSome n d (cond (r && (s && t)) (Some x) None)
-if_all true true true n d x e f g h = h
-if_all true true false n d x e f g h = absurd (cc)
-if_all true false t n d x e f g h = absurd (cc)
-if_all false s t n d x e f g h = absurd (cc)
+split_at : (n : ℤ) (d : ℕ) → 0 < d → IsSplit (λ e. IsBelow e n d) (λ e. IsAbove e n d)
+split_at n d some = record {
+  cross = λ e f h k. across e f n d some h k;
+  down = λ e f h k. below_le e f n d h k;
+  up = λ e f h k. above_le e f n d h k;
+  low_open = λ e h. open_low e n d h;
+  high_open = λ e h. open_high e n d h;
+}
 
-ends_hold : (l h : Extended) (n : ℤ) (d : ℕ) → 0 < d → IsBelow l n d → IsAbove h n d → LiesInSome n d (interval_from l h)
-ends_hold l h n d some low high =
-    if_all (le l h) (lt l PosInf) (lt NegInf h) n d (between l h) (across l h n d some low high) (open_low l n d low)
-    (open_high h n d high) (record { some = some; low = low; high = high })
-
-both_ends : (l h : Option Extended) (e f : Extended) (n : ℤ) (d : ℕ) → 0 < d → IsUpTo e l → IsBelow e n d → IsFrom f h → IsAbove f n d
-    → LiesInSome n d (chain l (λ a. chain h (λ b. interval_from a b)))
-both_ends None h e f n d some p low q high = absurd p
-both_ends (Some a) None e f n d some p low q high = absurd q
-both_ends (Some a) (Some b) e f n d some p low q high =
-    ends_hold a b n d some (below_le a e n d p low) (above_le f b n d q high)
+in_round : (n : ℤ) (d : ℕ) (o : Option Bounds) → 0 < d → IsRound (λ e. IsBelow e n d) (λ e. IsAbove e n d) o → LiesInSome n d o
+in_round n d o some r = subst (LiesInSome n d) (sym r.is) (record { some = some; low = r.low; high = r.high })
 
 place_keeps : (q : ℕ) (n : ℤ) (d : ℕ) (xs : List Bounds) → 1 ≤ q → LiesInAtLeast q n d xs → LiesInSome n d (place_hull_of q xs)
-unfolding place_hull_of
 place_keeps zero n d xs some h = absurd (omega arith)
 place_keeps (suc q) n d xs some h =
-    let l = lower_end q n d xs h in
-    let u = upper_end q n d xs h in
-    both_ends (least_end (suc q) xs xs) (greatest_end (suc q) xs xs) l.at u.at n d (some_under q n d xs h)
-    (least_upto (suc q) xs xs l.at (enough (suc q) xs l.at (l.counted l.at (le_refl l.at) l.low)) l.is) l.low
-    (greatest_from (suc q) xs xs u.at (enough (suc q) xs u.at (u.counted u.at (le_refl u.at) u.high)) u.is) u.high
+    let under = some_under q n d xs h in
+    in_round n d (place_hull_of (suc q) xs) under
+    (place_round (λ e. IsBelow e n d) (λ e. IsAbove e n d) (split_at n d under) (suc q) xs some (round_it (suc q) n d xs h))
 
 -- ---- All places
 

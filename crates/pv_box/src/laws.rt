@@ -1,5 +1,5 @@
 //! That no point is lost, as contracts. Each holds by its contract alone, and the calls do nothing.
-ghost use Rattle.pv_box.specs.Members.{HalvesCover, HullKeepsEither, MeetKeepsCommon, MeetIsCommon, ApartHaveNone, HullKeepsMembers};
+ghost use Rattle.pv_box.specs.Members.{HalvesCover, HullKeepsEither, MeetKeepsCommon, MeetIsCommon, ApartHaveNone, HullKeepsMembers, HullIsThere, HullIsMissing};
 
 /// The halves of a box cover it; the hull of two boxes holds the points of each; their meet has exactly the points of
 /// both, of which boxes that are apart have none.
@@ -14,4 +14,10 @@ pub fn box_members()
 /// Every rational point that lies in at least `q` of some boxes lies in their q-hull.
 pub fn q_hull_members()
     ensures { HullKeepsMembers }
+{}
+
+/// The q-hull is there exactly where each place has an end that lies in at least `q` of the intervals.
+pub fn q_hull_there()
+    ensures there { HullIsThere }
+    ensures missing { HullIsMissing }
 {}
