@@ -3,6 +3,7 @@
 
     make && python3 bench/run.py            everything
     python3 bench/run.py numbers            nanoseconds for add, mul and div in a dependent chain
+    python3 bench/run.py calls              nanoseconds for the other calls of pv_num
     python3 bench/run.py paving             settled nodes a second, and the share of time that printing takes
     python3 bench/run.py growth             how the time grows as --eps is halved
 
@@ -50,13 +51,22 @@ def yardstick(folder, name):
 
 
 def numbers(folder):
-    programs = {"pv_num": TOP / "crates/pv_bench/out/pv_bench", "lean Rust": yardstick(folder, "numbers")}
+    programs = {"pv_num": TOP / "crates/pv_bench/out/pv_bench", "lean Rust": yardstick(folder, "numbers"),
+                "same code": yardstick(folder, "same")}
     for name, program in programs.items():
         if program and program.exists():
             empty, _ = seconds([program, "none", STEPS])
             for operation in ("add", "mul", "div"):
                 spent, _ = seconds([program, operation, STEPS])
                 print(f"{name:10} {operation}: {(spent - empty) / STEPS * 1e9:6.1f} ns")
+
+
+def calls(_):
+    program = TOP / "crates/pv_bench/out/pv_bench"
+    fed, _ = seconds([program, "fed", STEPS // 10])
+    for operation in ("sub", "neg", "cmp", "pow3", "root2", "root3", "root31", "middle", "ratio", "parts", "text"):
+        spent, _ = seconds([program, operation, STEPS // 10])
+        print(f"{operation:7} {(spent - fed) / STEPS * 1e10:8.1f} ns")
 
 
 def paving(folder):
@@ -83,7 +93,7 @@ def growth(_):
 
 
 def main():
-    parts = {"numbers": numbers, "paving": paving, "growth": growth}
+    parts = {"numbers": numbers, "calls": calls, "paving": paving, "growth": growth}
     with tempfile.TemporaryDirectory() as folder:
         for part in sys.argv[1:] or parts:
             parts[part](folder)

@@ -123,18 +123,42 @@ fn is_smaller(x: Magnitude, y: Magnitude) -> bool {
 }
 
 #[inline]
-fn ordered_total(x: Magnitude, y: Magnitude, at: u16, toward: Toward) -> Option<Magnitude> {
-    let distance = x.exponent - y.exponent;
-    if distance <= FAR {
-        round(((x.mantissa as u128) << distance) + y.mantissa as u128, y.exponent + at, toward)
-    } else {
-        round(((x.mantissa as u128) << FAR) + (y.mantissa != 0) as u128, x.exponent - FAR + at, toward)
+fn next(mantissa: u64, exponent: u16, exact: bool, toward: Toward) -> Option<Magnitude> {
+    if exact || toward == Toward::Zero {
+        return Some(Magnitude { mantissa, exponent });
     }
+    raised(mantissa, exponent)
 }
 
 #[inline]
-fn total(x: Magnitude, y: Magnitude, at: u16, toward: Toward) -> Option<Magnitude> {
-    if x.exponent < y.exponent { ordered_total(y, x, at, toward) } else { ordered_total(x, y, at, toward) }
+fn size_sum(x: Magnitude, y: Magnitude, toward: Toward) -> Option<Magnitude> {
+    if x.exponent < y.exponent { ordered_sum(y, x, toward) } else { ordered_sum(x, y, toward) }
+}
+
+#[inline]
+fn ordered_sum(x: Magnitude, y: Magnitude, toward: Toward) -> Option<Magnitude> {
+    let part = shifted(y.mantissa, x.exponent - y.exponent);
+    let sum = x.mantissa + part.0;
+    if sum < 1 << 62 {
+        return next(sum, x.exponent, part.1, toward);
+    }
+    if x.exponent == TOP_EXPONENT {
+        return match toward {
+            Toward::Zero => Some(Magnitude { mantissa: (1 << 62) - 1, exponent: 962 }),
+            Toward::Away => None,
+        };
+    }
+    let half = sum / 2;
+    next(half, x.exponent + 1, part.1 && half * 2 == sum, toward)
+}
+
+#[inline]
+fn shifted(mantissa: u64, distance: u16) -> (u64, bool) {
+    if distance >= 64 {
+        return (0, mantissa == 0);
+    }
+    let kept = mantissa >> distance;
+    (kept, kept << distance == mantissa)
 }
 
 #[inline]
@@ -168,7 +192,7 @@ impl Num {
         let (x, y, at) = (self.size(), other.size(), FINE_BITS);
         let less = self.is_negative();
         if less == other.is_negative() {
-            return signed(less, total(x, y, at, toward(side, less)));
+            return signed(less, size_sum(x, y, toward(side, less)));
         }
         if is_smaller(x, y) {
             signed(!less, difference(y, x, at, toward(side, !less)))

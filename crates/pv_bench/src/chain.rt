@@ -9,6 +9,7 @@ use std::alloc::Global;
 #[derive(Clone, Copy, PartialEq, Eq)]
 pub enum Operation {
     Nothing,
+    Fed,
     Add,
     Subtract,
     Multiply,
@@ -29,6 +30,7 @@ impl Operation {
     pub fn named(word: &str) -> Option<Operation> {
         match word {
             "none" => Some(Operation::Nothing),
+            "fed" => Some(Operation::Fed),
             "add" => Some(Operation::Add),
             "sub" => Some(Operation::Subtract),
             "mul" => Some(Operation::Multiply),
