@@ -7,3 +7,6 @@ pub mod Turns
 pub mod Marking
 pub mod Parts
 pub mod Counting
+pub mod Shrinking
+pub mod Keeping
+pub mod Props

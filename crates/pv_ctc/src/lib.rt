@@ -7,6 +7,7 @@
 mod contract;
 mod graphs;
 mod hulls;
+pub mod laws;
 pub mod program;
 mod propagation;
 mod reading;
