@@ -1,5 +1,6 @@
 ghost use Rattle.std.specs.Prelude.{◌≡◌, ◌≤◌, ℕ, IfOk, length};
 ghost use Rattle.pv_settle.specs.Rules.{dims_of};
+ghost use Rattle.pv_settle.specs.Settlers.{rule_of};
 ghost use Rattle.pv_tree.specs.Trees.{Fits, KeepsBox, CutsAbove};
 
 use pv_box::IBox;
@@ -32,7 +33,7 @@ pub(crate) trait Settles {
 }
 
 impl Settles for SystemSettler {
-    ghost dims = { dims_of };
+    ghost dims = { λ s. dims_of (rule_of s) };
 
     fn depth(&self) -> u32 {
         SystemSettler::depth(self)

@@ -1,1 +1,1 @@
-pub mod Geometry
+pub mod Making

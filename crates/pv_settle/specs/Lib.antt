@@ -1,1 +1,6 @@
+pub mod Choosing
+pub mod Geometry
+pub mod Laws
 pub mod Rules
+pub mod Settlers
+pub mod Settling

@@ -7,6 +7,7 @@
 
 mod settings;
 mod settler;
+mod step;
 mod texts;
 
 pub use settings::Settings;

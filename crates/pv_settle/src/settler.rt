@@ -1,11 +1,14 @@
 // The settler of a system.
 
-ghost use Rattle.std.specs.Prelude.{◌≡◌, ◌≢◌, ◌<◌, ◌≤◌, pos, IsTrue, length, IfOk, IfSome, List};
+ghost use Rattle.std.specs.Prelude.{◌≡◌, ◌≢◌, ◌<◌, ◌≤◌, pos, IsTrue, length, map, IfOk, IfSome, List, Some};
 ghost use Rattle.pv_num.specs.Extended.{Fin, PosInf};
 ghost use Rattle.pv_num.specs.Order.{le};
-ghost use Rattle.pv_tree.specs.Trees.{Fits, KeepsBox, CutsAbove, IsWithin};
-ghost use Rattle.pv_interval.specs.Bounds.{Bounds};
+ghost use Rattle.pv_hc4.specs.Graphs.{sides_named};
+ghost use Rattle.pv_expr.specs.Searches.{search_bounds};
+ghost use Rattle.pv_ctc.specs.Contracting.{sides_in, contract_of};
+ghost use Rattle.pv_ctc.specs.Members.{AllOver};
 ghost use Rattle.pv_ctc.specs.Plans.{plan_of, IsFor};
+ghost use Rattle.pv_ctc.proofs.Props.{IsFor-prop, AllOver-prop};
 
 use crate::settings::Settings;
 use pv_box::IBox;
@@ -14,7 +17,6 @@ use pv_expr::System;
 use pv_num::Memory;
 use pv_tree::Outcome;
 use std::alloc::Global;
-use std::marker::Model;
 
 /// A system with the program and the settings by which its boxes are settled.
 #[derive(Drop)]
@@ -22,26 +24,20 @@ pub struct SystemSettler {
     pub(crate) system: System,
     pub(crate) program: Program,
     pub(crate) settings: Settings,
-    graphs: Graphs,
-}
-
-impl Model for SystemSettler {
-    ghost use Rattle.std.specs.Coded.{codes};
-    ghost use Rattle.pv_settle.specs.Rules.{Rule, IsRule};
-    ghost use Rattle.pv_expr.specs.contracts.expr.Expr as e;
-    ghost use Rattle.pv_ctc.specs.contracts.program.Program as p;
-
-    ghost Value = { Rule };
-
-    ghost coded = { Prim.hlevel (codes, e.the_row.coded, p.the_row.coded) };
-
-    ghost view = { λ s. record { system = s.system; program = s.program; eps = s.settings.eps; depth = s.settings.depth; bisector = s.settings.bisector; graphs = s.graphs } };
-
-    ghost invariant = { λ s. IsRule (record { system = s.system; program = s.program; eps = s.settings.eps; depth = s.settings.depth; bisector = s.settings.bisector; graphs = s.graphs }) };
+    pub(crate) graphs: Graphs,
+    ghost names_some: { 1 ≤ length system.names },
+    ghost names_few: { length system.names ≤ 12 },
+    ghost depth_some: { 1 ≤ settings.depth },
+    ghost depth_few: { settings.depth ≤ 200 },
+    ghost dims: { graphs.dims ≡ length system.names },
+    ghost over: { AllOver graphs.dims (sides_in graphs) } by { AllOver-prop graphs.dims (sides_in graphs) },
+    ghost program_fits: { IsFor (length (sides_in graphs)) (plan_of program) } by { IsFor-prop (length (sides_in graphs)) (plan_of program) },
 }
 
 impl SystemSettler {
-    ghost use Rattle.pv_settle.specs.Rules.{dims_of, IsRule};
+    ghost use Rattle.pv_settle.specs.Rules.{dims_of};
+    ghost use Rattle.pv_settle.specs.Settlers.{rule_of};
+    ghost use Rattle.pv_settle.specs.Settling.{settle_by, settle_left};
 
     /// The settler of a system. The program was read for as many constraints as the system has.
     pub fn new(
@@ -55,8 +51,12 @@ impl SystemSettler {
         requires eps_finite { settings.eps ≢ PosInf }
         requires depth_some { 1 ≤ settings.depth }
         requires depth_few { settings.depth ≤ 200 }
-        ensures system { IfOk result (λ s. s.system ≡ system) }
-        ensures depth { IfOk result (λ s. s.depth ≡ settings.depth) }
+        ensures system { IfOk result (λ s. (rule_of s).system ≡ system) }
+        ensures program { IfOk result (λ s. (rule_of s).program ≡ program) }
+        ensures eps { IfOk result (λ s. (rule_of s).eps ≡ settings.eps) }
+        ensures depth { IfOk result (λ s. (rule_of s).depth ≡ settings.depth) }
+        ensures bisector { IfOk result (λ s. (rule_of s).bisector ≡ settings.bisector) }
+        ensures sides { IfOk result (λ s. sides_in (rule_of s).graphs ≡ map sides_named system.constraints) }
     {
         let graphs = Graphs::of(alloc, &system)?;
         let _constraints = system.constraint_count();
@@ -70,16 +70,16 @@ impl SystemSettler {
 
     /// How many variables the system has, from 1 to 12.
     pub fn dims(&self) -> u8
-        ensures value { result ≡ dims_of self.now }
-        ensures rule { IsRule self.now }
+        ensures value { result ≡ dims_of (rule_of self.now) }
+        ensures limits { (1 ≤ result) × (result ≤ 12) }
     {
         self.system.variable_count()
     }
 
     /// The most cuts on a path, from 1 to 200.
     pub fn depth(&self) -> u32
-        ensures value { result ≡ self.now.depth }
-        ensures rule { IsRule self.now }
+        ensures value { result ≡ (rule_of self.now).depth }
+        ensures limits { (1 ≤ result) × (result ≤ 200) }
     {
         self.settings.depth
     }
@@ -92,25 +92,12 @@ impl SystemSettler {
         depth_left: u32,
         path_len: u32,
     ) -> Result<Outcome, Memory>
-        requires { length bx.now ≡ dims_of self.now }
-        ensures fits { IfOk result (λ o. Fits bx.now o) }
-        ensures keeps { IfOk result (λ o. KeepsBox o) }
-        ensures ends { IfOk result (λ o. CutsAbove depth_left o) }
-    {
-        match self.contracted(alloc, bx)? {
-            Some(to) => self.settle_contracted(alloc, to, depth_left, path_len),
-            None => Ok(Outcome::Removed),
-        }
-    }
-
-    // What the program leaves of a box.
-    fn contracted(&self, alloc: Global, bx: &IBox) -> Result<Option<IBox>, Memory>
-        requires { length bx.now ≡ dims_of self.now }
-        ensures { IfOk result (λ o. IfSome o (λ c. IsWithin c bx.now × (length c ≡ length bx.now))) }
+        requires { length bx.now ≡ dims_of (rule_of self.now) }
+        ensures { IfOk result (λ o. o ≡ settle_by (rule_of self.now) bx.now depth_left path_len) }
     {
         match self.program.contract(alloc, &self.graphs, bx)? {
-            Some(to) => within(alloc, bx, &to),
-            None => Ok(None),
+            Some(to) => self.settle_contracted(alloc, to, depth_left, path_len),
+            None => Ok(Outcome::Removed),
         }
     }
 
@@ -122,12 +109,9 @@ impl SystemSettler {
         depth_left: u32,
         path_len: u32,
     ) -> Result<Outcome, Memory>
-        requires { length to ≡ dims_of self.now }
-        ensures fits { IfOk result (λ o. (b : List Bounds) → IsWithin to b → Fits b o) }
-        ensures keeps { IfOk result (λ o. KeepsBox o) }
-        ensures ends { IfOk result (λ o. CutsAbove depth_left o) }
+        requires { length to ≡ dims_of (rule_of self.now) }
+        ensures { IfOk result (λ o. o ≡ settle_left (rule_of self.now) to depth_left path_len) }
     {
-        let _places = to.dims();
         if self.program.sure(alloc, &self.graphs, &to)? {
             return Ok(Outcome::Inner { to });
         }
@@ -146,7 +130,8 @@ impl SystemSettler {
 
     /// The search box: the system's search intervals in order.
     pub fn search_box(&self, alloc: Global) -> Result<IBox, Memory>
-        ensures { IfOk result (λ b. length b ≡ dims_of self.now) }
+        ensures intervals { IfOk result (λ b. b ≡ map search_bounds (rule_of self.now).system.domains) }
+        ensures dims { IfOk result (λ b. length b ≡ dims_of (rule_of self.now)) }
     {
         let mut parts = Vec::new(alloc);
         for i in 0..self.system.variable_count() {
@@ -154,16 +139,4 @@ impl SystemSettler {
         }
         Ok(IBox::new(parts))
     }
-}
-
-// The meet of a box with what contraction left of it.
-fn within(alloc: Global, bx: &IBox, to: &IBox) -> Result<Option<IBox>, Memory>
-    requires { length to.now ≡ length bx.now }
-    ensures { IfOk result (λ o. IfSome o (λ c. IsWithin c bx.now × (length c ≡ length bx.now))) }
-{
-    let mut kept = bx.clone_of(alloc)?;
-    if kept.meet(to) {
-        return Ok(Some(kept));
-    }
-    Ok(None)
 }
