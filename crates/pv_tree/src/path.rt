@@ -12,7 +12,8 @@ pub const MOST_STEPS: u32 = 200;
 /// Paths are ordered as their nodes in preorder.
 #[derive(Clone, Copy, PartialEq, Eq, PartialOrd, Ord)]
 pub struct Path {
-    steps: [bool; 200],
+    // Step i is bit 63 - i % 64 of word i / 64, so that the words' order is that of the steps; the bits behind are 0.
+    words: [u64; 4],
     len: u8,
 }
 
@@ -36,7 +37,7 @@ impl Model for Path {
 impl Path {
     /// The path of the root, which has no step.
     pub const ROOT: Path = Path {
-        steps: [false; 200],
+        words: [0; 4],
         len: 0,
     };
 
@@ -60,9 +61,9 @@ impl Path {
         requires { length self < 200 }
         ensures { result ≡ self ++ false ∷ [] }
     {
-        let steps = self.steps;
+        let words = self.words;
         Path {
-            steps,
+            words,
             len: self.len + 1,
         }
     }
@@ -72,10 +73,10 @@ impl Path {
         requires { length self < 200 }
         ensures { result ≡ self ++ true ∷ [] }
     {
-        let mut steps = self.steps;
-        steps[self.len as usize] = true;
+        let mut words = self.words;
+        words[(self.len / 64) as usize] |= 1u64 << (63 - self.len % 64);
         Path {
-            steps,
+            words,
             len: self.len + 1,
         }
     }
@@ -85,7 +86,7 @@ impl Path {
         requires { i < length self }
         ensures { result ≡ slice_index_or self i false }
     {
-        self.steps[i as usize]
+        (self.words[(i / 64) as usize] >> (63 - i % 64)) & 1 == 1
     }
 
     /// The steps of this path, and then those of another.
@@ -108,11 +109,12 @@ impl Path {
     pub fn write_text(self, out: &mut Vec<u8>) -> Result<(), Memory>
         ensures written { out.new.items ≡ (if is_ok result then out.old.items ++ path_text self else out.old.items) }
     {
-        out.reserve(1 + self.len as usize)?;
-        if self.len == 0 {
+        let steps = self.len();
+        out.reserve(1 + steps as usize)?;
+        if steps == 0 {
             out.push_reserved(b'.');
         }
-        for i in 0..self.len() {
+        for i in 0..steps {
             out.push_reserved(if self.step(i) { b'1' } else { b'0' });
         }
         Ok(())
