@@ -51,12 +51,12 @@ joined_hold x None p h k = absurd h
 joined_hold x (Some xs) None h k = absurd k
 joined_hold x (Some xs) (Some ys) h k = AllHold-append x xs ys h k
 
-unary_back : (u : Unary) (f : Fraction) (z y : Bounds) → LiesIn f y → LiesIn (unary_value u f) z → InSome f (back_1 u z y)
+pub unary_back : (u : Unary) (f : Fraction) (z y : Bounds) → LiesIn f y → LiesIn (unary_value u f) z → InSome f (back_1 u z y)
 unary_back negation f z y h l = back_neg_keeps f z y h l
 unary_back absolute f z y h l = back_abs_keeps f z y h l
 unary_back (power n) f z y h l = back_pow_keeps f z y n h l
 
-binary_back : (o : Binary) (f g v : Fraction) (z x y : Bounds) → binary_value o f g ≡ Some v → LiesIn f x → LiesIn g y → LiesIn v z → PairIn f g (back_2 o z x y)
+pub binary_back : (o : Binary) (f g v : Fraction) (z x y : Bounds) → binary_value o f g ≡ Some v → LiesIn f x → LiesIn g y → LiesIn v z → PairIn f g (back_2 o z x y)
 binary_back sum f g v z x y e h k l = back_add_keeps f g z x y h k (subst (λ w. LiesIn w z) (sym (same_value (plus f g) v e)) l)
 binary_back difference f g v z x y e h k l = back_sub_keeps f g z x y h k (subst (λ w. LiesIn w z) (sym (same_value (minus f g) v e)) l)
 binary_back product f g v z x y e h k l = back_mul_keeps f g z x y h k (subst (λ w. LiesIn w z) (sym (same_value (times f g) v e)) l)

@@ -15,3 +15,4 @@ pub mod Sureness
 pub mod Within
 pub mod Pointing
 pub mod Numbering
+pub mod Whole

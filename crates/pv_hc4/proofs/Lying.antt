@@ -61,12 +61,12 @@ constant_lies p q h = record {
   high = above_rounded (p *ℤ pos unit) p q q (omega arith) (omega (arith, ints));
 }
 
-unary_lies : (u : Unary) (f : Fraction) (x : Bounds) → LiesIn f x → LiesIn (unary_value u f) (unary_of u x)
+pub unary_lies : (u : Unary) (f : Fraction) (x : Bounds) → LiesIn f x → LiesIn (unary_value u f) (unary_of u x)
 unary_lies negation f x h = opposite_keeps f x h
 unary_lies absolute f x h = absolute_keeps f x h
 unary_lies (power n) f x h = power_keeps f x n h
 
-binary_lies : (o : Binary) (f g v : Fraction) (x y : Bounds) → binary_value o f g ≡ Some v → LiesIn f x → LiesIn g y → InSome v (binary_of o x y)
+pub binary_lies : (o : Binary) (f g v : Fraction) (x y : Bounds) → binary_value o f g ≡ Some v → LiesIn f x → LiesIn g y → InSome v (binary_of o x y)
 binary_lies sum f g v x y e h k = subst (λ w. LiesIn w (table.sum_of x y)) (same_value (plus f g) v e) (sum_keeps f g x y h k)
 binary_lies difference f g v x y e h k = subst (λ w. LiesIn w (table.difference_of x y)) (same_value (minus f g) v e) (difference_keeps f g x y h k)
 binary_lies product f g v x y e h k = subst (λ w. LiesIn w (table.product_of x y)) (same_value (times f g) v e) (product_keeps f g x y h k)

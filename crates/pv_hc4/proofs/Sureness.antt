@@ -56,7 +56,7 @@ quotient_defined : (f g : Fraction) (o : Option Bounds) → InSome g o → divid
 quotient_defined f g None h e = absurd h
 quotient_defined f g (Some y) h e = over_defined f g.top g.under y h (not_true (has_nought y) e)
 
-binary_defined : (k : Binary) (f g : Fraction) (o : Option Bounds) → InSome g o → divides_well k o ≡ true → IsDefined (binary_value k f g)
+pub binary_defined : (k : Binary) (f g : Fraction) (o : Option Bounds) → InSome g o → divides_well k o ≡ true → IsDefined (binary_value k f g)
 binary_defined sum f g o h e = record { v = plus f g; is = refl }
 binary_defined difference f g o h e = record { v = minus f g; is = refl }
 binary_defined product f g o h e = record { v = times f g; is = refl }

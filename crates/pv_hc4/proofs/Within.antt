@@ -33,7 +33,7 @@ abbrev pub Inside : Bounds → Option Bounds → Type 0
 Inside x None = Unit {0}
 Inside x (Some y) = IsTrue (le x.lo y.lo) × IsTrue (le y.hi x.hi)
 
-meet_inside : (x y : Bounds) → Inside x (meet_of x y)
+pub meet_inside : (x y : Bounds) → Inside x (meet_of x y)
 unfolding meet_of
 meet_inside x y = cond_keeps (Inside x) (le (greater x.lo y.lo) (lesser x.hi y.hi))
     (Some (record { lo = greater x.lo y.lo; hi = lesser x.hi y.hi })) None
@@ -223,12 +223,12 @@ pow_fine z x n k h =
     (λ w j. signs_fine x (even_roots w n) h (root_down_open w.lo n, root_up_open w.hi n)))
     (λ t. meet_open x (between (odd_low z.lo n) (odd_high z.hi n)) h (odd_low_open z.lo n) (odd_high_open z.hi n)))
 
-unary_back_fine : (u : Unary) (z x : Bounds) → IsInterval z → IsInterval x → Fine (back_1 u z x)
+pub unary_back_fine : (u : Unary) (z x : Bounds) → IsInterval z → IsInterval x → Fine (back_1 u z x)
 unary_back_fine negation z x k h = neg_fine z x k h
 unary_back_fine absolute z x k h = abs_fine z x k h
 unary_back_fine (power n) z x k h = pow_fine z x n k h
 
-binary_back_fine : (o : Binary) (z x y : Bounds) → IsInterval z → IsInterval x → IsInterval y → FinePair (back_2 o z x y)
+pub binary_back_fine : (o : Binary) (z x y : Bounds) → IsInterval z → IsInterval x → IsInterval y → FinePair (back_2 o z x y)
 binary_back_fine sum z x y k h i = add_fine z x y k h i
 binary_back_fine difference z x y k h i = sub_fine z x y k h i
 binary_back_fine product z x y k h i = mul_fine z x y k h i
@@ -238,7 +238,7 @@ binary_back_fine greatest z x y k h i = max_fine z x y k h i
 
 -- ---- the pass up
 
-unary_fine : (u : Unary) (x : Bounds) → IsInterval x → IsInterval (unary_of u x)
+pub unary_fine : (u : Unary) (x : Bounds) → IsInterval x → IsInterval (unary_of u x)
 unary_fine negation x h = negated_interval x h
 unary_fine absolute x h = absolute_interval x h
 unary_fine (power n) x h = power_interval x n h

@@ -57,3 +57,7 @@ LeavesWithin = (s : Sides) (b c : List Bounds) → revised s b ≡ Some c → Ar
 -- what a revision leaves of a box is a box
 abbrev pub LeavesBox : Type 0
 LeavesBox = (s : Sides) (n : ℕ) (b c : List Bounds) → AreOver n s → IsBox b → revised s b ≡ Some c → IsBox c
+
+-- a constraint that is sure on a box leaves it as it is
+abbrev pub SureLeaves : Type 0
+SureLeaves = (s : Sides) (n : ℕ) (b : List Bounds) → AreOver n s → IsBox b → IsTrue (sure_of s b) → revised s b ≡ Some b

@@ -1,5 +1,5 @@
 //! What a revision and the sure test say of points, as contracts.
-ghost use Rattle.pv_hc4.specs.Members.{KeepsPoints, SureHolds, LeavesWithin, LeavesBox};
+ghost use Rattle.pv_hc4.specs.Members.{KeepsPoints, SureHolds, LeavesWithin, LeavesBox, SureLeaves};
 
 /// HC4-revise (Benhamou et al., 1999) loses no solution: each rational point of a box at which a constraint holds lies
 /// in what a revision leaves of the box, which is then not empty. It holds by its contract alone; the call does nothing.
@@ -13,8 +13,9 @@ pub fn sure_holds()
     ensures { SureHolds }
 {}
 
-/// What a revision leaves of a box is a box that lies in it. It holds by its contract alone; the call does nothing.
+/// What a revision leaves of a box is a box that lies in it, and all of it where the constraint is sure there. It holds by its contract alone; the call does nothing.
 pub fn narrows()
     ensures within { LeavesWithin }
     ensures boxes { LeavesBox }
+    ensures sure { SureLeaves }
 {}

@@ -12,6 +12,7 @@ use crate::narrow::narrow;
 use crate::node::Node;
 use crate::relate::related;
 use crate::revised::Revised;
+use crate::total::{decides, is_total};
 use pv_box::IBox;
 use pv_expr::Relation;
 use pv_interval::Interval;
@@ -85,6 +86,23 @@ fn narrow_sides(
     }
 }
 
+// Whether the constraint is sure on the box that the values were made for: then it narrows nothing.
+fn narrows_nothing(
+    nodes: &[Node],
+    values: &[Interval],
+    left: usize,
+    relation: Relation,
+    right: usize,
+    bx: &IBox,
+) -> bool
+    requires graph { IsGraph (record { nodes = nodes.now; left = left; relation = relation; right = right; dims = length bx.now }) }
+    requires valued { AreValues bx.now nodes.now values.now }
+    ensures { IsTrue result → revised (sides_of (record { nodes = nodes.now; left = left; relation = relation; right = right; dims = length bx.now })) bx.now ≡ Some bx.now }
+{
+    let _dims = bx.dims();
+    decides(relation, values[left], values[right]) && is_total(nodes, values, bx)
+}
+
 // Revises the box by the constraint between two nodes. At the entry the values have the constants'.
 pub fn revise_values(
     nodes: &[Node],
@@ -100,6 +118,9 @@ pub fn revise_values(
 {
     if !forward_all(nodes, bx, values) {
         return Revised::Empty;
+    }
+    if narrows_nothing(nodes, values, left, relation, right, bx) {
+        return Revised::Kept;
     }
     match related(relation, values[left], values[right]) {
         Some(both) => narrow_sides(nodes, values, left, right, both, bx),
