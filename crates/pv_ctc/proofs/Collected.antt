@@ -21,3 +21,6 @@ sides_more gs g cs i c h e s =
     ∙ sym (mapped sides_named (take i cs) c)
     ∙ sym (ap (map sides_named) (take_more cs i c e))
     ∙ sym (ap (λ n. map sides_named (take n cs)) (add-one i))
+
+pub named_more : (cs : List Constraint) (i : ℕ) (c : Constraint) → slice_get cs i ≡ Some c → map sides_named (take (i + 1) cs) ≡ map sides_named (take i cs) ++ sides_named c ∷ []
+named_more cs i c e = ap (λ n. map sides_named (take n cs)) (add-one i) ∙ ap (map sides_named) (take_more cs i c e) ∙ mapped sides_named (take i cs) c

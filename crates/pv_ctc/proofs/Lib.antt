@@ -10,3 +10,4 @@ pub mod Counting
 pub mod Shrinking
 pub mod Keeping
 pub mod Props
+pub mod Locality

@@ -1,7 +1,11 @@
 -- Marks of constraints that would keep the box.
-use Rattle.std.proofs.Common.{◌≡◌, ℕ, zero, suc, List, refl, ap, sym, ◌∙◌, get_or, set, inl, inr}
+use Rattle.std.proofs.Common.{◌≡◌, ◌≢◌, ◌⊎◌, ℕ, zero, suc, ◌+◌, ◌<◌, ◌≤◌, List, [], ◌∷◌, ◌++◌, length, refl, ap, sym, ◌∙◌, subst, arith, get_or, set, take, inl, inr}
+use Rattle.pv_interval.specs.Bounds.{everything}
+use Rattle.pv_hc4.specs.Chain.{at}
+use Rattle.pv_ctc.specs.Uses.{AreUses, HaveUses, AreAlikeFor, has_variable}
+use Rattle.pv_ctc.proofs.Locality.{stays}
 use Rattle.std.specs.Prelude.{Some, Bool, true, false, replicate}
-use Rattle.std.proofs.lemmas.Bool.{cases_eq, true≢false}
+use Rattle.std.proofs.lemmas.Bool.{cases_eq, cases_lt, true≢false}
 use Rattle.std.proofs.lemmas.List.{get_or-set_other}
 use Rattle.pv_interval.specs.Bounds.{Bounds}
 use Rattle.pv_hc4.specs.Revise.{Sides, revised}
@@ -14,11 +18,77 @@ unmarked (suc n) zero = refl
 unmarked (suc n) (suc k) = unmarked n k
 
 pub no_marks : (ss : List Sides) (b : List Bounds) → AreClean ss (replicate 64 false) b
-no_marks ss b = λ k h. absurd (true≢false (sym h ∙ unmarked 64 k))
+no_marks ss b = λ k l h. absurd (true≢false (sym h ∙ unmarked 64 k))
 
 pub one_mark : (ss : List Sides) (marks : List Bool) (i : ℕ) (b : List Bounds) → revised (side_at ss i) b ≡ Some b → AreClean ss marks b → AreClean ss (set marks i true) b
-one_mark ss marks i b e h = λ k t.
+one_mark ss marks i b e h = λ k l t.
     elim (cases_eq k i) [
       | inl q ↦ ap (λ j. revised (side_at ss j) b) q ∙ e
-      | inr q ↦ h k (sym (get_or-set_other marks i k true false q) ∙ t)
+      | inr q ↦ h k l (sym (get_or-set_other marks i k true false q) ∙ t)
     ]
+
+pub uses_more : (us : List (List Bool)) (u : List Bool) (ss : List Sides) (s : Sides) → HaveUses us ss → AreUses u s → HaveUses (us ++ u ∷ []) (ss ++ s ∷ [])
+uses_more [] u [] s h k = (k, tt)
+uses_more [] u (t ∷ ss) s h k = absurd h
+uses_more (v ∷ us) u [] s h k = absurd h
+uses_more (v ∷ us) u (t ∷ ss) s h k = (h.0, uses_more us u ss s h.1 k)
+
+pub uses_at : (us : List (List Bool)) (ss : List Sides) (i : ℕ) (u : List Bool) → HaveUses us ss → i < length ss → u ≡ get_or us i u → AreUses u (side_at ss i)
+uses_at [] [] i u h l e = absurd (omega arith)
+uses_at [] (s ∷ ss) i u h l e = absurd h
+uses_at (v ∷ us) [] i u h l e = absurd h
+uses_at (v ∷ us) (s ∷ ss) zero u h l e = subst (λ w. AreUses w s) (sym e) h.0
+uses_at (v ∷ us) (s ∷ ss) (suc i) u h l e = uses_at us ss i u h.1 (omega arith) e
+
+pub uses_length : (us : List (List Bool)) (ss : List Sides) → HaveUses us ss → length us ≡ length ss
+uses_length [] [] h = refl
+uses_length [] (s ∷ ss) h = absurd h
+uses_length (v ∷ us) [] h = absurd h
+uses_length (v ∷ us) (s ∷ ss) h = ap suc (uses_length us ss h.1)
+
+beyond : (b : List Bounds) (i : ℕ) → length b ≤ i → at b i ≡ everything
+beyond [] i h = refl
+beyond (x ∷ b) zero h = absurd (omega arith)
+beyond (x ∷ b) (suc i) h = beyond b i (omega arith)
+
+at_take : (b : List Bounds) (n i : ℕ) → i < n → at (take n b) i ≡ at b i
+at_take b zero i h = absurd (omega arith)
+at_take [] (suc n) i h = refl
+at_take (x ∷ b) (suc n) zero h = refl
+at_take (x ∷ b) (suc n) (suc i) h = at_take b n i (omega arith)
+
+same_place : (s : Sides) (u : List Bool) (entry b d : List Bounds) → AreUses u s → length d ≤ 12 → length b ≡ length d → take (length d) entry ≡ b → AreAlikeFor u entry d → (i : ℕ) → has_variable i s ≡ true → (i < length d) ⊎ (length d ≤ i) → at b i ≡ at d i
+same_place s u entry b d w l m t a i k (inl h) = sym (ap (λ x. at x i) t) ∙ at_take entry (length d) i h ∙ a i h (w i (omega arith) ∙ k)
+same_place s u entry b d w l m t a i k (inr h) = beyond b i (omega arith) ∙ sym (beyond d i h)
+
+-- a mark stays where no place of the constraint's variables changed
+pub mark_stays : (s : Sides) (u : List Bool) (entry b d : List Bounds) → AreUses u s → length d ≤ 12 → length b ≡ length d → take (length d) entry ≡ b → AreAlikeFor u entry d → revised s b ≡ Some b → revised s d ≡ Some d
+mark_stays s u entry b d w l m t a e = stays s b d m (λ i k. same_place s u entry b d w l m t a i k (cases_lt i (length d))) e
+
+unset : (ms : List Bool) (i : ℕ) → get_or (set ms i false) i false ≡ false
+unset [] i = refl
+unset (m ∷ ms) zero = refl
+unset (m ∷ ms) (suc i) = unset ms i
+
+-- one more constraint was looked at: its mark was taken away, or it would keep the new box as it kept the old one
+pub more_done : (ss : List Sides) (ms now : List Bool) (i : ℕ) (e b : List Bounds) → (now ≡ set ms i false) ⊎ ((now ≡ ms) × (i < length ss → revised (side_at ss i) e ≡ Some e → revised (side_at ss i) b ≡ Some b)) → ((k : ℕ) → k < i → k < length ss → get_or ms k false ≡ true → revised (side_at ss k) b ≡ Some b) → ((k : ℕ) → i ≤ k → k < length ss → get_or ms k false ≡ true → revised (side_at ss k) e ≡ Some e) → (k : ℕ) → k < i + 1 → k < length ss → get_or now k false ≡ true → revised (side_at ss k) b ≡ Some b
+more_done ss ms now i e b (inl q) d f k h l t =
+    elim (cases_eq k i) [
+      | inl p ↦ absurd (true≢false (sym t ∙ ap (λ x. get_or x k false) q ∙ ap (λ j. get_or (set ms i false) j false) p ∙ unset ms i))
+      | inr p ↦ d k (omega (arith, p)) l (sym (ap (λ x. get_or x k false) q ∙ get_or-set_other ms i k false false p) ∙ t)
+    ]
+more_done ss ms now i e b (inr q) d f k h l t =
+    elim (cases_eq k i) [
+      | inl p ↦
+          let il : i < length ss = omega arith in
+          let it : get_or ms i false ≡ true = ap (λ j. get_or ms j false) (sym p) ∙ sym (ap (λ x. get_or x k false) q.0) ∙ t in
+          let ii : i ≤ i = omega arith in
+          subst (λ j. revised (side_at ss j) b ≡ Some b) (sym p) (q.1 il (f i ii il it))
+      | inr p ↦ d k (omega (arith, p)) l (sym (ap (λ x. get_or x k false) q.0) ∙ t)
+    ]
+
+pub more_left : (ss : List Sides) (ms now : List Bool) (i : ℕ) (e : List Bounds) → (now ≡ set ms i false) ⊎ (now ≡ ms) → ((k : ℕ) → i ≤ k → k < length ss → get_or ms k false ≡ true → revised (side_at ss k) e ≡ Some e) → (k : ℕ) → i + 1 ≤ k → k < length ss → get_or now k false ≡ true → revised (side_at ss k) e ≡ Some e
+more_left ss ms now i e (inl q) f k h l t =
+    let p : k ≢ i = λ r. absurd (omega arith) in
+    f k (omega arith) l (sym (ap (λ x. get_or x k false) q ∙ get_or-set_other ms i k false false p) ∙ t)
+more_left ss ms now i e (inr q) f k h l t = f k (omega arith) l (sym (ap (λ x. get_or x k false) q) ∙ t)

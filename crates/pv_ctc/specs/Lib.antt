@@ -4,4 +4,5 @@ pub mod Marks
 pub mod Plans
 pub mod Steps
 pub mod Sureness
+pub mod Uses
 pub mod Members

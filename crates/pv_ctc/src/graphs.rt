@@ -4,6 +4,7 @@ ghost use Rattle.std.specs.Prelude.{◌≡◌, ◌<◌, ◌≤◌, length, map, 
 ghost use Rattle.pv_hc4.specs.Graphs.{sides_of, sides_named};
 ghost use Rattle.pv_ctc.specs.GraphLists.{AreGraphs};
 
+use crate::uses::uses_of;
 use pv_expr::System;
 use pv_hc4::Graph;
 use pv_num::Memory;
@@ -14,17 +15,21 @@ use std::marker::Model;
 #[derive(Drop)]
 pub struct Graphs {
     pub(crate) graphs: Vec<Graph>,
+    pub(crate) uses: Vec<[bool; 12]>,
     dims: u8,
 }
 
 impl Model for Graphs {
+    ghost use Rattle.std.specs.Prelude.{map};
+    ghost use Rattle.pv_hc4.specs.Graphs.{sides_of};
     ghost use Rattle.pv_ctc.specs.GraphLists.{GraphList, AreGraphs};
+    ghost use Rattle.pv_ctc.specs.Uses.{HaveUses};
 
     ghost Value = { GraphList };
 
     ghost view = { λ g. record { graphs = g.graphs.items; dims = g.dims } };
 
-    ghost invariant = { λ g. AreGraphs (record { graphs = g.graphs.items; dims = g.dims }) };
+    ghost invariant = { λ g. AreGraphs (record { graphs = g.graphs.items; dims = g.dims }) × HaveUses g.uses.items (map sides_of g.graphs.items) };
 }
 
 impl Graphs {
@@ -35,10 +40,13 @@ impl Graphs {
     {
         let dims = system.variable_count();
         let mut graphs = Vec::new(alloc);
+        let mut uses = Vec::new(alloc);
         for i in 0..system.constraint_count() {
-            graphs.push(Graph::of(alloc, system.constraint(i), dims)?)?;
+            let constraint = system.constraint(i);
+            uses.push(uses_of(constraint))?;
+            graphs.push(Graph::of(alloc, constraint, dims)?)?;
         }
-        Ok(Graphs { graphs, dims })
+        Ok(Graphs { graphs, uses, dims })
     }
 
     /// How many constraints there are.

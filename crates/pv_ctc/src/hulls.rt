@@ -67,7 +67,7 @@ fn is_same(a: &IBox, b: &IBox) -> bool
     true
 }
 
-fn same_interval(x: Interval, y: Interval) -> bool
+pub fn same_interval(x: Interval, y: Interval) -> bool
     ensures { IsTrue result ↔ (x ≡ y) }
 {
     x.lo() == y.lo() && x.hi() == y.hi()

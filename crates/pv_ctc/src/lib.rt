@@ -13,6 +13,7 @@ mod propagation;
 mod reading;
 mod sure;
 mod token;
+mod uses;
 mod writing;
 
 pub use graphs::Graphs;

@@ -1,15 +1,19 @@
 // Revisions by single constraints, and by all of them.
 
-ghost use Rattle.std.specs.Prelude.{◌≡◌, ◌⊎◌, ◌<◌, ◌≤◌, length, IfOk};
+ghost use Rattle.std.specs.Prelude.{◌≡◌, ◌⊎◌, ◌<◌, ◌≤◌, length, take, IfOk, IsFalse};
 ghost use Rattle.pv_hc4.specs.Revise.{revised};
 ghost use Rattle.pv_hc4.specs.declared.revised.Revised.TheVariants.{Empty};
 ghost use Rattle.pv_ctc.specs.Contracting.{sides_in, side_at, turns_of, all_revised};
 ghost use Rattle.pv_ctc.specs.Steps.{IsStep};
+ghost use Rattle.pv_hc4.specs.Chain.{at};
 ghost use Rattle.pv_ctc.specs.Marks.{AreClean};
+ghost use Rattle.pv_ctc.specs.Uses.{AreAlikeFor};
 
 use crate::graphs::Graphs;
+use crate::hulls::same_interval;
 use pv_box::IBox;
 use pv_hc4::{Revised, Scratch};
+use pv_interval::Interval;
 use pv_num::Memory;
 
 // One revision.
@@ -70,14 +74,59 @@ fn propagate_once(
         if clean[i] {
             continue;
         }
+        let entry = places(bx);
         match revise(graphs, i, scratch, bx)? {
             Revised::Empty => return Ok(Revised::Empty),
             Revised::Kept => clean[i] = true,
             Revised::Changed => {
-                *clean = [false; 64];
+                unmark(graphs, clean, &entry, bx);
                 answer = Revised::Changed;
             }
         }
     }
     Ok(answer)
+}
+
+// Takes the marks from the constraints that have a variable whose place is not as it was.
+fn unmark(graphs: &Graphs, clean: &mut [bool; 64], entry: &[Interval; 12], bx: &IBox)
+    requires dims { length (take (length bx.now) entry.now) ≡ length bx.now }
+    requires marks { AreClean (sides_in graphs.now) clean.old (take (length bx.now) entry.now) }
+    ensures { AreClean (sides_in graphs.now) clean.new bx.now }
+{
+    let _places = bx.dims();
+    for i in 0..graphs.graphs.len() {
+        if has_changed(&graphs.uses[i], entry, bx) {
+            clean[i] = false;
+        }
+    }
+}
+
+// Whether the place of some of these variables is not as it was.
+fn has_changed(uses: &[bool; 12], entry: &[Interval; 12], bx: &IBox) -> bool
+    ensures { IsFalse result → AreAlikeFor uses.now entry.now bx.now }
+{
+    for i in 0..bx.dims() {
+        if uses[i as usize] && !same_interval(entry[i as usize], place(bx, i)) {
+            return true;
+        }
+    }
+    false
+}
+
+// The places of a box.
+fn places(bx: &IBox) -> [Interval; 12]
+    ensures { take (length bx.now) result ≡ bx.now }
+{
+    let mut places = [Interval::ALL; 12];
+    for i in 0..bx.dims() {
+        places[i as usize] = place(bx, i);
+    }
+    places
+}
+
+fn place(bx: &IBox, i: u8) -> Interval
+    requires { i < length bx.now }
+    ensures { result ≡ at bx.now i }
+{
+    bx.get(i)
 }
