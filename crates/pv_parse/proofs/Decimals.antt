@@ -189,3 +189,10 @@ read_of t p c (Some v) is whole caps (narrow, value) =
       narrow = subst (λ d. ¬ TooWide d) same narrow;
       value = subst (λ d. IsValue d v) same value;
     }
+
+-- what is kept of a small value is the value
+pub small_is : (limit n v : ℕ) → 32 < limit → n ≡ min limit v → n ≤ 32 → n ≡ v
+small_is limit n v most kept few = omega arith
+
+pub small_kept : (limit n v : ℕ) → 32 < limit → n ≡ min limit v → v ≤ 32 → n ≤ 32
+small_kept limit n v most kept few = omega arith

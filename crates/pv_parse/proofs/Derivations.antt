@@ -1,14 +1,10 @@
 -- One step of the machine, read backward: what is a sentence behind a token is one with it.
-use Rattle.std.proofs.Common.{◌≡◌, ℕ, List, [], ◌∷◌, ◌++◌, refl, ap, sym, subst, ◌∙◌, append_assoc, length, Option, Some, None}
+use Rattle.std.proofs.Common.{◌≡◌, List, [], ◌∷◌, ◌++◌, refl, ap, sym, subst, ◌∙◌, append_assoc, Option, Some, None}
 use Rattle.std.proofs.lemmas.List.{append-nil}
 use Rattle.pv_parse.specs.declared.code.Op.{Op}
 use Rattle.pv_parse.specs.declared.symbol.Symbol.{Symbol}
-use Rattle.pv_parse.specs.declared.token.Token.{Token}
-use Rattle.pv_parse.specs.declared.token.Kind.TheVariants.{End}
 use Rattle.pv_parse.specs.declared.machine.Item.{Item}
-use Rattle.pv_parse.specs.Tokens.{IsNext}
 use Rattle.pv_parse.specs.Grammar.{Produced, produced, MayEnd, step_of, Derives, done, left_out, begun, Settles, emptied, met, ended, Follows}
-use Rattle.pv_parse.specs.Sentences.{Spells, StandsFor, bytes_of, IsSentence}
 
 -- the symbols can be derived from the items, and lead from one code to the other
 pub record Leads (items : List Item) (ss : List Symbol) (code after : List Op) : Type 0 where
@@ -29,13 +25,13 @@ behind : Option Item → List Item → List Symbol → List Op → List Op → T
 behind None rest ss code after = Leads rest ss code after
 behind (Some i) rest ss code after = Leads (i ∷ rest) ss code after
 
-settled : (items : List Item) (code : List Op) (o : Option Item) (rest : List Item) (code' : List Op) → Settles items code o rest code' →
+settled : (s : Symbol) (items : List Item) (code : List Op) (o : Option Item) (rest : List Item) (code' : List Op) → Settles s items code o rest code' →
     (ss : List Symbol) (after : List Op) → behind o rest ss code' after → Leads items ss code after
 unfolding behind
-settled items code o rest code' (emptied ops) ss after l = l
-settled items code o rest code' (met i items' ops) ss after l = l
-settled items code o rest code' (ended i items' ops o' rest' more may s) ss after l =
-    leads_out i items' ss ops after may (settled items' (ops ++ step_of i) o' rest' more s ss after l)
+settled s items code o rest code' (emptied ops) ss after l = l
+settled s items code o rest code' (met i items' ops meets) ss after l = l
+settled s items code o rest code' (ended i items' ops o' rest' more may unlike h) ss after l =
+    leads_out i items' ss ops after may (settled s items' (ops ++ step_of i) o' rest' more h ss after l)
 
 leads_begun : (i : Item) (rest : List Item) (s : Symbol) (ss : List Symbol) (code after : List Op) (p : Produced) (items' : List Item) (code' : List Op) →
     produced i s ≡ Some p → items' ≡ p.0 ++ rest → code' ≡ code ++ p.1 → Leads items' ss code' after → Leads (i ∷ rest) (s ∷ ss) code after
@@ -52,23 +48,20 @@ leads_taken i rest s ss code after (Some p) items' code' e f l = leads_begun i r
 
 -- one token: settled, and then taken
 pub leads_back : (items rest items' : List Item) (code code' code'' after : List Op) (i : Item) (s : Symbol) (ss : List Symbol) →
-    Settles items code (Some i) rest code' → Follows (produced i s) rest code' items' code'' →
+    Settles s items code (Some i) rest code' → Follows (produced i s) rest code' items' code'' →
     Leads items' ss code'' after → Leads items (s ∷ ss) code after
 unfolding behind
 leads_back items rest items' code code' code'' after i s ss settles follows l =
-    settled items code (Some i) rest code' settles (s ∷ ss) after
+    settled s items code (Some i) rest code' settles (s ∷ ss) after
     (leads_taken i rest s ss code' after (produced i s) items' code'' refl follows l)
 
 -- the end: nothing is left that must come
-settled_end : (items : List Item) (code : List Op) (o : Option Item) (rest : List Item) (code' : List Op) → Settles items code o rest code' →
+settled_end : (s : Symbol) (items : List Item) (code : List Op) (o : Option Item) (rest : List Item) (code' : List Op) → Settles s items code o rest code' →
     o ≡ None → Leads items [] code code'
-settled_end items code o rest code' (emptied ops) e = record { steps = []; derived = done; code_is = sym (append-nil ops) }
-settled_end items code o rest code' (met i items' ops) e = cc
-settled_end items code o rest code' (ended i items' ops o' rest' more may s) e =
-    leads_out i items' [] ops more may (settled_end items' (ops ++ step_of i) o' rest' more s e)
+settled_end s items code o rest code' (emptied ops) e = record { steps = []; derived = done; code_is = sym (append-nil ops) }
+settled_end s items code o rest code' (met i items' ops meets) e = cc
+settled_end s items code o rest code' (ended i items' ops o' rest' more may unlike h) e =
+    leads_out i items' [] ops more may (settled_end s items' (ops ++ step_of i) o' rest' more h e)
 
-pub leads_end : (items rest : List Item) (code code' : List Op) → Settles items code None rest code' → Leads items [] code code'
-leads_end items rest code code' s = settled_end items code None rest code' s refl
-
-pub sentence_of : (t : List ℕ) (items : List Item) (ss : List Symbol) (code after : List Op) → Spells t 0 ss → Leads items ss code after → IsSentence t items code after
-sentence_of t items ss code after spelled l = record { symbols = ss; steps = l.steps; spelled = spelled; derived = l.derived; code_is = l.code_is }
+pub leads_end : (s : Symbol) (items rest : List Item) (code code' : List Op) → Settles s items code None rest code' → Leads items [] code code'
+leads_end s items rest code code' h = settled_end s items code None rest code' h refl

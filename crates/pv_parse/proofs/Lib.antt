@@ -12,3 +12,9 @@ pub mod Wide
 pub mod Lowest
 pub mod Piles
 pub mod Derivations
+pub mod Orderly
+pub mod Forward
+pub mod Exponents
+pub mod Reached
+pub mod Refusals
+pub mod OneReading

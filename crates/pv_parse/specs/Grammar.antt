@@ -1,17 +1,16 @@
 -- The grammar. A text is a list of items. Each item has at most one way to begin with a given token: `produced` says
 -- what must come behind that token, and which steps of the expression's code are written. An item may be left out
 -- where `MayEnd` says so. So `MoreTerms` stands for { ("+" | "-") term }, and `MaybeDomain` for an optional domain.
-use Rattle.std.specs.Prelude.{◌≡◌, ℕ, zero, suc, ◌-◌, List, [], ◌∷◌, ◌++◌, Option, Some, None, reverse}
-use Rattle.pv_expr.specs.declared.constraint.Relation.{Relation}
+use Rattle.std.specs.Prelude.{◌≡◌, ◌≢◌, ◌⊎◌, Bool, true, false, ℕ, zero, suc, ◌-◌, List, [], ◌∷◌, ◌++◌, Option, Some, None, reverse}
 use Rattle.pv_expr.specs.declared.constraint.Relation.TheVariants.{Eq}
 use Rattle.pv_parse.specs.declared.code.Op.{Op}
-use Rattle.pv_parse.specs.declared.code.Op.TheVariants.{Constant, Variable, Parameter, One, Two, Call, Define, Relate}
+use Rattle.pv_parse.specs.declared.code.Op.TheVariants.{Constant, Variable, Parameter, One, Two, Define, Relate}
 use Rattle.pv_parse.specs.declared.code.Unary.TheVariants.{Neg, Pow}
 use Rattle.pv_parse.specs.declared.code.Binary.TheVariants.{Add, Sub, Mul, Div}
 use Rattle.pv_parse.specs.declared.symbol.Fixed.{Fixed}
 use Rattle.pv_parse.specs.declared.symbol.Fixed.TheVariants.{Plus, Minus, Star, Slash, Caret, Open, Close, OpenBracket, CloseBracket, Comma, Semicolon, Constants, Variables, Constraints, Function as FunctionWord, Return, End, In, Oo, EndOfText}
 use Rattle.pv_parse.specs.declared.symbol.Symbol.{Symbol}
-use Rattle.pv_parse.specs.declared.symbol.Symbol.TheVariants.{Never, Fixed as FixedToken, Relation as RelationToken, Number, Declared, Constant as ConstantName, Variable as VariableName, Parameter as ParameterName, Function as FunctionName, Unknown}
+use Rattle.pv_parse.specs.declared.symbol.Symbol.TheVariants.{Fixed as FixedToken, Relation as RelationToken, Number, Declared, Constant as ConstantName, Variable as VariableName, Parameter as ParameterName, Function as FunctionName, Unknown}
 use Rattle.pv_parse.specs.declared.machine.Item.{Item}
 use Rattle.pv_parse.specs.declared.machine.Item.TheVariants.{Exactly, MaybeConstants, WantConstant, MoreConstants, MaybeConstant, WantEquals, MaybeSign, WantValue, MaybeFunctions, WantFunctionName, WantParameter, MoreParameters, MaybeSemicolon, WantVariable, MoreVariables, MaybeVariable, MaybeDomain, WantBound, WantRelation, MoreConstraints, MaybeConstraint, WantFactor, MoreFactors, MoreTerms, MaybePower, WantExponent, MoreArguments, Then}
 
@@ -233,20 +232,48 @@ system_items =
 abbrev pub expression_items : List Item
 expression_items = expression_behind []
 
+abbrev pub IsStart : List Item → Type 0
+IsStart items = (items ≡ system_items) ⊎ (items ≡ expression_items)
+
+-- tokens that are a text of the items have one code
+abbrev pub IsReadOnce : List Item → Type 0
+IsReadOnce items = (ss : List Symbol) (ops ops' : List Op) → Derives items ss ops → Derives items ss ops' → ops ≡ ops'
+
 -- ---- The machine
 
 -- the items of a stack, the top first
 unfoldable pub pile : List Item → List Item
 pile items = reverse items
 
--- the items of the pile end until one is met, and it is taken off
-pub data Settles : List Item → List Op → Option Item → List Item → List Op → Type 0 where
-  emptied : (ops : List Op) → Settles [] ops None [] ops
-  met : (i : Item) (items : List Item) (ops : List Op) → Settles (i ∷ items) ops (Some i) items ops
+-- before a token the items of the pile end that may and do not begin with it; the one behind them is met, and taken off
+pub data Settles (s : Symbol) : List Item → List Op → Option Item → List Item → List Op → Type 0 where
+  emptied : (ops : List Op) → Settles s [] ops None [] ops
+  met : (i : Item) (items : List Item) (ops : List Op) → (MayEnd i → produced i s ≢ None) → Settles s (i ∷ items) ops (Some i) items ops
   ended : (i : Item) (items : List Item) (ops : List Op) (o : Option Item) (rest : List Item) (more : List Op) →
-      MayEnd i → Settles items (ops ++ step_of i) o rest more → Settles (i ∷ items) ops o rest more
+      MayEnd i → produced i s ≡ None → Settles s items (ops ++ step_of i) o rest more → Settles s (i ∷ items) ops o rest more
 
 -- the pile and the code after a token was taken
 abbrev pub Follows : Option Produced → List Item → List Op → List Item → List Op → Type 0
 Follows None items ops items' ops' = ⊥
 Follows (Some p) items ops items' ops' = (items' ≡ p.0 ++ items) × (ops' ≡ ops ++ p.1)
+
+-- a token was taken, or the item does not begin with it
+abbrev pub Takes : Bool → Option Produced → List Item → List Op → List Item → List Op → Type 0
+Takes true o items ops items' ops' = Follows o items ops items' ops'
+Takes false o items ops items' ops' = o ≡ None
+
+-- an item whose text is one token or none, and writes no more than its own step
+abbrev pub IsShort : Item → Type 0
+IsShort WantEquals = Unit {0}
+IsShort MaybeSign = Unit {0}
+IsShort WantValue = Unit {0}
+IsShort WantFunctionName = Unit {0}
+IsShort WantParameter = Unit {0}
+IsShort MaybeSemicolon = Unit {0}
+IsShort WantBound = Unit {0}
+IsShort (Then op) = Unit {0}
+IsShort i = ⊥
+
+abbrev pub is_exponent : Item → Bool
+is_exponent WantExponent = true
+is_exponent i = false

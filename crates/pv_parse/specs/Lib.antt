@@ -1,7 +1,9 @@
 pub mod Faults
 pub mod Grammar
+pub mod Limits
 pub mod Sentences
 pub mod Names
 pub mod Numbers
 pub mod Places
 pub mod Tokens
+pub mod Words

@@ -1,11 +1,11 @@
 -- The value of a number in decimal digits, and which numbers are too wide.
-use Rattle.std.specs.Prelude.{◌≡◌, ℕ, ◌+◌, ◌-◌, ◌*◌, ◌^◌, ◌<◌, max, min, ◌⊎◌, List, ◌++◌, length, slice_range, if◌then◌else◌, ℤ, pos}
+use Rattle.std.specs.Prelude.{slice_index, ◌≤◌, ◌≡◌, ℕ, ◌+◌, ◌-◌, ◌*◌, ◌^◌, ◌<◌, max, min, ◌⊎◌, List, ◌++◌, length, slice_range, if◌then◌else◌, ℤ, pos}
 use Rattle.std.specs.Int.{IsGcd}
 use Rattle.std.specs.Int.Digits.{digits_of}
 use Rattle.std.specs.Str.Parse.{digits_value}
 use Rattle.pv_parse.specs.declared.number.Decimal.{Decimal}
 use Rattle.pv_parse.specs.declared.numeral.Parts.{Parts}
-use Rattle.pv_parse.specs.Tokens.{IsNumber}
+use Rattle.pv_parse.specs.Tokens.{IsDigit, IsNumber}
 
 -- a number's digits without its point
 abbrev pub digits_in : List ℕ → Parts → List ℕ
@@ -67,3 +67,9 @@ pub record Caps (c d : Decimal) : Type 0 where
   pub powers :
       ((c.up ≡ d.up) × (c.down ≡ d.down))
       ⊎ (((c.up + 36 < c.down) × (d.up + 36 < d.down)) ⊎ ((c.down + 36 < c.up) × (d.down + 36 < d.up)))
+
+-- digits alone, with a value of at most 32
+pub record IsExponentText (t : List ℕ) (n : ℕ) : Type 0 where
+  pub digits : (k : ℕ) → k < length t → IsDigit (slice_index t k)
+  pub value : n ≡ digits_value 10 t
+  pub most : n ≤ 32

@@ -1,5 +1,9 @@
 // The words that can't be declared.
 
+ghost use Rattle.std.specs.Prelude.{◌≡◌};
+ghost use Rattle.std.specs.Str.{bytes_eq};
+ghost use Rattle.pv_parse.specs.Words.{inner_word, outside, outside_more, word_in};
+
 /// A word that no text can declare. Block words have two spellings.
 #[derive(Clone, Copy, Debug, PartialEq, Eq)]
 pub(crate) enum Word {
@@ -20,31 +24,126 @@ pub(crate) enum Word {
 }
 
 /// The word that a name is, or None where the text may declare it.
-pub(crate) fn word_of(name: &[u8]) -> Option<Word> {
-    match name {
-        b"Constants" | b"constants" => Some(Word::Constants),
-        b"Variables" | b"variables" => Some(Word::Variables),
-        b"Constraints" | b"constraints" => Some(Word::Constraints),
-        b"Function" | b"function" => Some(Word::Function),
-        b"Return" | b"return" => Some(Word::Return),
-        b"End" | b"end" => Some(Word::End),
-        b"in" => Some(Word::In),
-        b"oo" => Some(Word::Oo),
-        b"abs" => Some(Word::Abs),
-        b"sqr" => Some(Word::Sqr),
-        b"min" => Some(Word::Min),
-        b"max" => Some(Word::Max),
-        _ => outside(name),
+pub(crate) fn word_of(name: &[u8]) -> Option<Word>
+    ensures { result ≡ word_in name.now }
+{
+    if is_text(name, "Constants") {
+        Some(Word::Constants)
+    } else if is_text(name, "constants") {
+        Some(Word::Constants)
+    } else if is_text(name, "Variables") {
+        Some(Word::Variables)
+    } else if is_text(name, "variables") {
+        Some(Word::Variables)
+    } else if is_text(name, "Constraints") {
+        Some(Word::Constraints)
+    } else if is_text(name, "constraints") {
+        Some(Word::Constraints)
+    } else if is_text(name, "Function") {
+        Some(Word::Function)
+    } else if is_text(name, "function") {
+        Some(Word::Function)
+    } else if is_text(name, "Return") {
+        Some(Word::Return)
+    } else if is_text(name, "return") {
+        Some(Word::Return)
+    } else if is_text(name, "End") {
+        Some(Word::End)
+    } else if is_text(name, "end") {
+        Some(Word::End)
+    } else {
+        inner_word(name)
     }
 }
 
-// A word that this profile leaves out.
-fn outside(name: &[u8]) -> Option<Word> {
-    match name {
-        b"sqrt" | b"root" | b"exp" | b"log" | b"ln" | b"sign" | b"pi" => Some(Word::Outside),
-        b"cos" | b"sin" | b"tan" | b"acos" | b"asin" | b"atan" | b"atan2" => Some(Word::Outside),
-        b"cosh" | b"sinh" | b"tanh" | b"acosh" | b"asinh" | b"atanh" => Some(Word::Outside),
-        b"for" | b"sum" | b"Minimize" | b"minimize" => Some(Word::Outside),
-        _ => None,
+// Words of bounds and expressions.
+fn inner_word(name: &[u8]) -> Option<Word>
+    ensures { result ≡ inner_word name.now }
+{
+    if is_text(name, "in") {
+        Some(Word::In)
+    } else if is_text(name, "oo") {
+        Some(Word::Oo)
+    } else if is_text(name, "abs") {
+        Some(Word::Abs)
+    } else if is_text(name, "sqr") {
+        Some(Word::Sqr)
+    } else if is_text(name, "min") {
+        Some(Word::Min)
+    } else if is_text(name, "max") {
+        Some(Word::Max)
+    } else {
+        outside(name)
     }
+}
+
+// Words that this profile leaves out.
+fn outside(name: &[u8]) -> Option<Word>
+    ensures { result ≡ outside name.now }
+{
+    if is_text(name, "sqrt") {
+        Some(Word::Outside)
+    } else if is_text(name, "root") {
+        Some(Word::Outside)
+    } else if is_text(name, "exp") {
+        Some(Word::Outside)
+    } else if is_text(name, "log") {
+        Some(Word::Outside)
+    } else if is_text(name, "ln") {
+        Some(Word::Outside)
+    } else if is_text(name, "cos") {
+        Some(Word::Outside)
+    } else if is_text(name, "sin") {
+        Some(Word::Outside)
+    } else if is_text(name, "tan") {
+        Some(Word::Outside)
+    } else if is_text(name, "acos") {
+        Some(Word::Outside)
+    } else if is_text(name, "asin") {
+        Some(Word::Outside)
+    } else if is_text(name, "atan") {
+        Some(Word::Outside)
+    } else if is_text(name, "atan2") {
+        Some(Word::Outside)
+    } else {
+        outside_more(name)
+    }
+}
+
+fn outside_more(name: &[u8]) -> Option<Word>
+    ensures { result ≡ outside_more name.now }
+{
+    if is_text(name, "cosh") {
+        Some(Word::Outside)
+    } else if is_text(name, "sinh") {
+        Some(Word::Outside)
+    } else if is_text(name, "tanh") {
+        Some(Word::Outside)
+    } else if is_text(name, "acosh") {
+        Some(Word::Outside)
+    } else if is_text(name, "asinh") {
+        Some(Word::Outside)
+    } else if is_text(name, "atanh") {
+        Some(Word::Outside)
+    } else if is_text(name, "sign") {
+        Some(Word::Outside)
+    } else if is_text(name, "pi") {
+        Some(Word::Outside)
+    } else if is_text(name, "for") {
+        Some(Word::Outside)
+    } else if is_text(name, "sum") {
+        Some(Word::Outside)
+    } else if is_text(name, "Minimize") {
+        Some(Word::Outside)
+    } else if is_text(name, "minimize") {
+        Some(Word::Outside)
+    } else {
+        None
+    }
+}
+
+fn is_text(name: &[u8], text: &str) -> bool
+    ensures { result ≡ bytes_eq name.now text.now }
+{
+    name == text.as_bytes()
 }

@@ -1,8 +1,8 @@
 // The grammar as a predictive machine: a stack of the items that are still to come, and the code of what was read.
 
 ghost use Rattle.std.specs.Bool.{OnTrue, OnFalse};
-ghost use Rattle.std.specs.Prelude.{◌≡◌, [], ◌∷◌, ◌++◌, IfOk, OnOk, Some, true};
-ghost use Rattle.pv_parse.specs.Grammar.{pile, MayEnd, Follows, Settles, produced, step_of, system_items, expression_items, body_items, domain_items};
+ghost use Rattle.std.specs.Prelude.{◌≡◌, ◌≢◌, [], ◌∷◌, ◌++◌, IfOk, OnOk, Some, None, true, if◌then◌else◌};
+ghost use Rattle.pv_parse.specs.Grammar.{pile, MayEnd, Takes, Settles, IsShort, is_exponent, produced, step_of, system_items, expression_items, body_items, domain_items};
 
 use crate::code::{Binary, Op, Unary};
 use crate::symbol::{Fixed, Symbol};
@@ -100,7 +100,7 @@ impl Machine {
 
     /// Takes off the items that end before the token, writes their code, and takes off the item that the token meets.
     pub(crate) fn settle(&mut self, symbol: Symbol) -> Result<Option<Item>, Memory>
-        ensures { IfOk result (λ met. Settles (pile self.old.stack.items) self.old.code.items met (pile self.new.stack.items) self.new.code.items) }
+        ensures { IfOk result (λ met. Settles symbol (pile self.old.stack.items) self.old.code.items met (pile self.new.stack.items) self.new.code.items) }
     {
         while let Some(item) = self.stack.pop() {
             if item.stays(symbol) {
@@ -150,7 +150,7 @@ impl Machine {
 
     /// Takes the token where the item stood; false where the grammar does not allow it there.
     pub(crate) fn take(&mut self, item: Item, symbol: Symbol) -> Result<bool, Memory>
-        ensures { IfOk result (λ b. OnTrue b (Follows (produced item symbol) (pile self.old.stack.items) self.old.code.items (pile self.new.stack.items) self.new.code.items)) }
+        ensures { IfOk result (λ b. Takes b (produced item symbol) (pile self.old.stack.items) self.old.code.items (pile self.new.stack.items) self.new.code.items) }
     {
         match item {
             Item::Exactly(fixed) => match symbol {
@@ -160,17 +160,23 @@ impl Machine {
             Item::WantFactor => self.take_factor(symbol),
             Item::MoreFactors => self.take_factors(symbol),
             Item::MoreTerms => self.take_terms(symbol),
-            Item::MaybePower | Item::WantExponent => self.take_power(item, symbol),
+            Item::MaybePower => self.take_power(symbol),
+            Item::WantExponent => self.take_exponent(symbol),
             Item::MoreArguments(n) => self.take_argument(n, symbol),
-            Item::WantRelation | Item::MoreConstraints => self.take_relation(item, symbol),
+            Item::WantRelation => self.take_relation(symbol),
+            Item::MoreConstraints => self.take_next(symbol),
             Item::MaybeConstraint => self.take_constraint(symbol),
-            Item::MaybeConstants | Item::WantConstant => self.take_constant(item, symbol),
-            Item::MoreConstants | Item::MaybeConstant => self.take_constants(item, symbol),
             Item::MaybeFunctions => self.take_function(symbol),
             Item::MoreParameters => self.take_parameters(symbol),
-            Item::WantVariable | Item::MoreVariables => self.take_variable(item, symbol),
-            Item::MaybeVariable | Item::MaybeDomain => self.take_variables(item, symbol),
-            _ => Ok(ends_with(item, symbol)),
+            Item::MaybeConstants => self.take_block(symbol),
+            Item::WantConstant => self.take_constant(symbol),
+            Item::MoreConstants => self.take_constants(symbol),
+            Item::MaybeConstant => self.take_further_constant(symbol),
+            Item::WantVariable => self.take_variable(symbol),
+            Item::MoreVariables => self.take_variables(symbol),
+            Item::MaybeVariable => self.take_further_variable(symbol),
+            Item::MaybeDomain => self.take_domain(symbol),
+            _ => Ok(item.is_alone(symbol)),
         }
     }
 
@@ -185,7 +191,7 @@ impl Machine {
     }
 
     fn take_factor(&mut self, symbol: Symbol) -> Result<bool, Memory>
-        ensures { IfOk result (λ b. OnTrue b (Follows (produced Item.WantFactor symbol) (pile self.old.stack.items) self.old.code.items (pile self.new.stack.items) self.new.code.items)) }
+        ensures { IfOk result (λ b. Takes b (produced Item.WantFactor symbol) (pile self.old.stack.items) self.old.code.items (pile self.new.stack.items) self.new.code.items) }
     {
         match symbol {
             Symbol::Fixed(Fixed::Plus) => {
@@ -224,7 +230,7 @@ impl Machine {
     }
 
     fn take_factors(&mut self, symbol: Symbol) -> Result<bool, Memory>
-        ensures { IfOk result (λ b. OnTrue b (Follows (produced Item.MoreFactors symbol) (pile self.old.stack.items) self.old.code.items (pile self.new.stack.items) self.new.code.items)) }
+        ensures { IfOk result (λ b. Takes b (produced Item.MoreFactors symbol) (pile self.old.stack.items) self.old.code.items (pile self.new.stack.items) self.new.code.items) }
     {
         match symbol {
             Symbol::Fixed(Fixed::Star) => {
@@ -244,7 +250,7 @@ impl Machine {
     }
 
     fn take_terms(&mut self, symbol: Symbol) -> Result<bool, Memory>
-        ensures { IfOk result (λ b. OnTrue b (Follows (produced Item.MoreTerms symbol) (pile self.old.stack.items) self.old.code.items (pile self.new.stack.items) self.new.code.items)) }
+        ensures { IfOk result (λ b. Takes b (produced Item.MoreTerms symbol) (pile self.old.stack.items) self.old.code.items (pile self.new.stack.items) self.new.code.items) }
     {
         match symbol {
             Symbol::Fixed(Fixed::Plus) => {
@@ -265,21 +271,26 @@ impl Machine {
         }
     }
 
-    fn take_power(&mut self, item: Item, symbol: Symbol) -> Result<bool, Memory>
-        ensures { IfOk result (λ b. OnTrue b (Follows (produced item symbol) (pile self.old.stack.items) self.old.code.items (pile self.new.stack.items) self.new.code.items)) }
+    fn take_power(&mut self, symbol: Symbol) -> Result<bool, Memory>
+        ensures { IfOk result (λ b. Takes b (produced Item.MaybePower symbol) (pile self.old.stack.items) self.old.code.items (pile self.new.stack.items) self.new.code.items) }
     {
-        match (item, symbol) {
-            (Item::MaybePower, Symbol::Fixed(Fixed::Caret)) => {
+        match symbol {
+            Symbol::Fixed(Fixed::Caret) => {
                 self.put(Item::WantExponent)?;
                 Ok(true)
             }
-            (
-                Item::WantExponent,
-                Symbol::Number {
-                    exponent: Some(n),
-                    ..
-                },
-            ) => {
+            _ => Ok(false),
+        }
+    }
+
+    fn take_exponent(&mut self, symbol: Symbol) -> Result<bool, Memory>
+        ensures { IfOk result (λ b. Takes b (produced Item.WantExponent symbol) (pile self.old.stack.items) self.old.code.items (pile self.new.stack.items) self.new.code.items) }
+    {
+        match symbol {
+            Symbol::Number {
+                exponent: Some(n),
+                ..
+            } => {
                 self.write(Op::One(Unary::Pow(n)))?;
                 Ok(true)
             }
@@ -288,7 +299,7 @@ impl Machine {
     }
 
     fn take_argument(&mut self, more: u8, symbol: Symbol) -> Result<bool, Memory>
-        ensures { IfOk result (λ b. OnTrue b (Follows (produced (Item.MoreArguments more) symbol) (pile self.old.stack.items) self.old.code.items (pile self.new.stack.items) self.new.code.items)) }
+        ensures { IfOk result (λ b. Takes b (produced (Item.MoreArguments more) symbol) (pile self.old.stack.items) self.old.code.items (pile self.new.stack.items) self.new.code.items) }
     {
         match symbol {
             Symbol::Fixed(Fixed::Close) => Ok(more == 0),
@@ -304,16 +315,24 @@ impl Machine {
         }
     }
 
-    fn take_relation(&mut self, item: Item, symbol: Symbol) -> Result<bool, Memory>
-        ensures { IfOk result (λ b. OnTrue b (Follows (produced item symbol) (pile self.old.stack.items) self.old.code.items (pile self.new.stack.items) self.new.code.items)) }
+    fn take_relation(&mut self, symbol: Symbol) -> Result<bool, Memory>
+        ensures { IfOk result (λ b. Takes b (produced Item.WantRelation symbol) (pile self.old.stack.items) self.old.code.items (pile self.new.stack.items) self.new.code.items) }
     {
-        match (item, symbol) {
-            (Item::WantRelation, Symbol::Relation(relation)) => {
+        match symbol {
+            Symbol::Relation(relation) => {
                 self.put(Item::Then(Op::Relate(relation)))?;
                 self.put_expression()?;
                 Ok(true)
             }
-            (Item::MoreConstraints, Symbol::Fixed(Fixed::Semicolon)) => {
+            _ => Ok(false),
+        }
+    }
+
+    fn take_next(&mut self, symbol: Symbol) -> Result<bool, Memory>
+        ensures { IfOk result (λ b. Takes b (produced Item.MoreConstraints symbol) (pile self.old.stack.items) self.old.code.items (pile self.new.stack.items) self.new.code.items) }
+    {
+        match symbol {
+            Symbol::Fixed(Fixed::Semicolon) => {
                 self.put(Item::MaybeConstraint)?;
                 Ok(true)
             }
@@ -322,7 +341,7 @@ impl Machine {
     }
 
     fn take_constraint(&mut self, symbol: Symbol) -> Result<bool, Memory>
-        ensures { IfOk result (λ b. OnTrue b (Follows (produced Item.MaybeConstraint symbol) (pile self.old.stack.items) self.old.code.items (pile self.new.stack.items) self.new.code.items)) }
+        ensures { IfOk result (λ b. Takes b (produced Item.MaybeConstraint symbol) (pile self.old.stack.items) self.old.code.items (pile self.new.stack.items) self.new.code.items) }
     {
         self.put(Item::MoreConstraints)?;
         self.put(Item::WantRelation)?;
@@ -331,16 +350,24 @@ impl Machine {
         self.take_factor(symbol)
     }
 
-    fn take_constant(&mut self, item: Item, symbol: Symbol) -> Result<bool, Memory>
-        ensures { IfOk result (λ b. OnTrue b (Follows (produced item symbol) (pile self.old.stack.items) self.old.code.items (pile self.new.stack.items) self.new.code.items)) }
+    fn take_block(&mut self, symbol: Symbol) -> Result<bool, Memory>
+        ensures { IfOk result (λ b. Takes b (produced Item.MaybeConstants symbol) (pile self.old.stack.items) self.old.code.items (pile self.new.stack.items) self.new.code.items) }
     {
-        match (item, symbol) {
-            (Item::MaybeConstants, Symbol::Fixed(Fixed::Constants)) => {
+        match symbol {
+            Symbol::Fixed(Fixed::Constants) => {
                 self.put(Item::MoreConstants)?;
                 self.put(Item::WantConstant)?;
                 Ok(true)
             }
-            (Item::WantConstant, Symbol::Declared { .. }) => {
+            _ => Ok(false),
+        }
+    }
+
+    fn take_constant(&mut self, symbol: Symbol) -> Result<bool, Memory>
+        ensures { IfOk result (λ b. Takes b (produced Item.WantConstant symbol) (pile self.old.stack.items) self.old.code.items (pile self.new.stack.items) self.new.code.items) }
+    {
+        match symbol {
+            Symbol::Declared { .. } => {
                 self.put(Item::WantValue)?;
                 self.put(Item::MaybeSign)?;
                 self.put(Item::WantEquals)?;
@@ -350,15 +377,23 @@ impl Machine {
         }
     }
 
-    fn take_constants(&mut self, item: Item, symbol: Symbol) -> Result<bool, Memory>
-        ensures { IfOk result (λ b. OnTrue b (Follows (produced item symbol) (pile self.old.stack.items) self.old.code.items (pile self.new.stack.items) self.new.code.items)) }
+    fn take_constants(&mut self, symbol: Symbol) -> Result<bool, Memory>
+        ensures { IfOk result (λ b. Takes b (produced Item.MoreConstants symbol) (pile self.old.stack.items) self.old.code.items (pile self.new.stack.items) self.new.code.items) }
     {
-        match (item, symbol) {
-            (Item::MoreConstants, Symbol::Fixed(Fixed::Comma | Fixed::Semicolon)) => {
+        match symbol {
+            Symbol::Fixed(Fixed::Comma | Fixed::Semicolon) => {
                 self.put(Item::MaybeConstant)?;
                 Ok(true)
             }
-            (Item::MaybeConstant, Symbol::Declared { .. }) => {
+            _ => Ok(false),
+        }
+    }
+
+    fn take_further_constant(&mut self, symbol: Symbol) -> Result<bool, Memory>
+        ensures { IfOk result (λ b. Takes b (produced Item.MaybeConstant symbol) (pile self.old.stack.items) self.old.code.items (pile self.new.stack.items) self.new.code.items) }
+    {
+        match symbol {
+            Symbol::Declared { .. } => {
                 self.put(Item::MoreConstants)?;
                 self.put(Item::WantValue)?;
                 self.put(Item::MaybeSign)?;
@@ -370,7 +405,7 @@ impl Machine {
     }
 
     fn take_function(&mut self, symbol: Symbol) -> Result<bool, Memory>
-        ensures { IfOk result (λ b. OnTrue b (Follows (produced Item.MaybeFunctions symbol) (pile self.old.stack.items) self.old.code.items (pile self.new.stack.items) self.new.code.items)) }
+        ensures { IfOk result (λ b. Takes b (produced Item.MaybeFunctions symbol) (pile self.old.stack.items) self.old.code.items (pile self.new.stack.items) self.new.code.items) }
     {
         match symbol {
             Symbol::Fixed(Fixed::Function) => {
@@ -400,7 +435,7 @@ impl Machine {
     }
 
     fn take_parameters(&mut self, symbol: Symbol) -> Result<bool, Memory>
-        ensures { IfOk result (λ b. OnTrue b (Follows (produced Item.MoreParameters symbol) (pile self.old.stack.items) self.old.code.items (pile self.new.stack.items) self.new.code.items)) }
+        ensures { IfOk result (λ b. Takes b (produced Item.MoreParameters symbol) (pile self.old.stack.items) self.old.code.items (pile self.new.stack.items) self.new.code.items) }
     {
         match symbol {
             Symbol::Fixed(Fixed::Comma) => {
@@ -413,15 +448,23 @@ impl Machine {
         }
     }
 
-    fn take_variable(&mut self, item: Item, symbol: Symbol) -> Result<bool, Memory>
-        ensures { IfOk result (λ b. OnTrue b (Follows (produced item symbol) (pile self.old.stack.items) self.old.code.items (pile self.new.stack.items) self.new.code.items)) }
+    fn take_variable(&mut self, symbol: Symbol) -> Result<bool, Memory>
+        ensures { IfOk result (λ b. Takes b (produced Item.WantVariable symbol) (pile self.old.stack.items) self.old.code.items (pile self.new.stack.items) self.new.code.items) }
     {
-        match (item, symbol) {
-            (Item::WantVariable, Symbol::Declared { .. }) => {
+        match symbol {
+            Symbol::Declared { .. } => {
                 self.put(Item::MaybeDomain)?;
                 Ok(true)
             }
-            (Item::MoreVariables, Symbol::Fixed(Fixed::Comma | Fixed::Semicolon)) => {
+            _ => Ok(false),
+        }
+    }
+
+    fn take_variables(&mut self, symbol: Symbol) -> Result<bool, Memory>
+        ensures { IfOk result (λ b. Takes b (produced Item.MoreVariables symbol) (pile self.old.stack.items) self.old.code.items (pile self.new.stack.items) self.new.code.items) }
+    {
+        match symbol {
+            Symbol::Fixed(Fixed::Comma | Fixed::Semicolon) => {
                 self.put(Item::MaybeVariable)?;
                 Ok(true)
             }
@@ -429,16 +472,24 @@ impl Machine {
         }
     }
 
-    fn take_variables(&mut self, item: Item, symbol: Symbol) -> Result<bool, Memory>
-        ensures { IfOk result (λ b. OnTrue b (Follows (produced item symbol) (pile self.old.stack.items) self.old.code.items (pile self.new.stack.items) self.new.code.items)) }
+    fn take_further_variable(&mut self, symbol: Symbol) -> Result<bool, Memory>
+        ensures { IfOk result (λ b. Takes b (produced Item.MaybeVariable symbol) (pile self.old.stack.items) self.old.code.items (pile self.new.stack.items) self.new.code.items) }
     {
-        match (item, symbol) {
-            (Item::MaybeVariable, Symbol::Declared { .. }) => {
+        match symbol {
+            Symbol::Declared { .. } => {
                 self.put(Item::MoreVariables)?;
                 self.put(Item::MaybeDomain)?;
                 Ok(true)
             }
-            (Item::MaybeDomain, Symbol::Fixed(Fixed::In)) => {
+            _ => Ok(false),
+        }
+    }
+
+    fn take_domain(&mut self, symbol: Symbol) -> Result<bool, Memory>
+        ensures { IfOk result (λ b. Takes b (produced Item.MaybeDomain symbol) (pile self.old.stack.items) self.old.code.items (pile self.new.stack.items) self.new.code.items) }
+    {
+        match symbol {
+            Symbol::Fixed(Fixed::In) => {
                 self.put_domain()?;
                 Ok(true)
             }
@@ -460,18 +511,13 @@ impl Machine {
     }
 }
 
-// Whether the token is all that the item has.
-fn ends_with(item: Item, symbol: Symbol) -> bool
-    ensures { OnTrue result (produced item symbol ≡ Some ([], [])) }
+// Whether it is a bound without its sign.
+fn is_bound(symbol: Symbol) -> bool
+    ensures { produced Item.WantBound symbol ≡ (if result then Some ([], []) else None) }
 {
-    match (item, symbol) {
-        (Item::WantFunctionName | Item::WantParameter, Symbol::Declared { .. }) => true,
-        (Item::WantEquals, Symbol::Relation(pv_expr::Relation::Eq)) => true,
-        (Item::MaybeSign, Symbol::Fixed(Fixed::Plus | Fixed::Minus)) => true,
-        (Item::WantValue, Symbol::Number { .. }) => true,
-        (Item::WantBound, Symbol::Number { .. } | Symbol::Constant(_) | Symbol::Unknown) => true,
-        (Item::WantBound, Symbol::Fixed(Fixed::Oo)) => true,
-        (Item::MaybeSemicolon, Symbol::Fixed(Fixed::Semicolon)) => true,
+    match symbol {
+        Symbol::Number { .. } | Symbol::Constant(_) | Symbol::Unknown => true,
+        Symbol::Fixed(Fixed::Oo) => true,
         _ => false,
     }
 }
@@ -479,30 +525,64 @@ fn ends_with(item: Item, symbol: Symbol) -> bool
 impl Item {
     // Whether the item meets the token: it must come, or it may and the token begins it.
     fn stays(self, symbol: Symbol) -> bool
-        ensures { OnFalse result (MayEnd self) }
+        ensures ends { OnFalse result (MayEnd self × (produced self symbol ≡ None)) }
+        ensures meets { OnTrue result (MayEnd self → produced self symbol ≢ None) }
     {
-        match (self, symbol) {
-            (Item::Then(_), _) => false,
-            (Item::MaybeConstants, Symbol::Fixed(f)) => f == Fixed::Constants,
-            (Item::MaybeFunctions, Symbol::Fixed(f)) => f == Fixed::Function,
-            (Item::MoreConstants | Item::MoreVariables, Symbol::Fixed(f)) => f == Fixed::Comma
-                || f == Fixed::Semicolon,
-            (Item::MaybeSign | Item::MoreTerms, Symbol::Fixed(f)) => f == Fixed::Plus
-                || f == Fixed::Minus,
-            (Item::MaybeSemicolon | Item::MoreConstraints, Symbol::Fixed(f)) => f
-                == Fixed::Semicolon,
-            (Item::MoreFactors, Symbol::Fixed(f)) => f == Fixed::Star || f == Fixed::Slash,
-            (Item::MaybePower, Symbol::Fixed(f)) => f == Fixed::Caret,
-            (Item::MaybeDomain, Symbol::Fixed(f)) => f == Fixed::In,
-            (Item::MaybeConstant | Item::MaybeVariable, Symbol::Declared { .. }) => true,
-            (Item::MaybeConstraint, _) => symbol.begins(),
-            _ => !self.may_end(),
+        match self {
+            Item::Then(_) => false,
+            Item::MaybeConstants => matches!(symbol, Symbol::Fixed(Fixed::Constants)),
+            Item::MaybeFunctions => matches!(symbol, Symbol::Fixed(Fixed::Function)),
+            Item::MoreConstants | Item::MoreVariables => matches!(
+                symbol,
+                Symbol::Fixed(Fixed::Comma | Fixed::Semicolon)
+            ),
+            Item::MaybeSign | Item::MoreTerms => matches!(
+                symbol,
+                Symbol::Fixed(Fixed::Plus | Fixed::Minus)
+            ),
+            Item::MaybeSemicolon | Item::MoreConstraints => matches!(
+                symbol,
+                Symbol::Fixed(Fixed::Semicolon)
+            ),
+            Item::MoreFactors => matches!(symbol, Symbol::Fixed(Fixed::Star | Fixed::Slash)),
+            Item::MaybePower => matches!(symbol, Symbol::Fixed(Fixed::Caret)),
+            Item::MaybeDomain => matches!(symbol, Symbol::Fixed(Fixed::In)),
+            Item::MaybeConstant | Item::MaybeVariable => matches!(symbol, Symbol::Declared { .. }),
+            Item::MaybeConstraint => symbol.begins(),
+            _ => true,
         }
+    }
+
+    // Whether the token is all of the item's text, for an item that writes nothing and has no more than one token.
+    fn is_alone(self, symbol: Symbol) -> bool
+        requires { IsShort self }
+        ensures { produced self symbol ≡ (if result then Some ([], []) else None) }
+    {
+        match self {
+            Item::WantFunctionName | Item::WantParameter => matches!(
+                symbol,
+                Symbol::Declared { .. }
+            ),
+            Item::WantEquals => matches!(symbol, Symbol::Relation(pv_expr::Relation::Eq)),
+            Item::MaybeSign => matches!(symbol, Symbol::Fixed(Fixed::Plus | Fixed::Minus)),
+            Item::WantValue => matches!(symbol, Symbol::Number { .. }),
+            Item::WantBound => is_bound(symbol),
+            Item::MaybeSemicolon => matches!(symbol, Symbol::Fixed(Fixed::Semicolon)),
+            _ => false,
+        }
+    }
+
+    /// Whether it is the exponent of a power.
+    pub(crate) fn is_exponent(self) -> bool
+        ensures { result ≡ is_exponent self }
+    {
+        matches!(self, Item::WantExponent)
     }
 
     // Whether nothing may come in its place.
     fn may_end(self) -> bool
-        ensures { OnTrue result (MayEnd self) }
+        ensures may { OnTrue result (MayEnd self) }
+        ensures must { OnFalse result (¬ MayEnd self) }
     {
         match self {
             Item::MaybeConstants | Item::MoreConstants | Item::MaybeConstant => true,

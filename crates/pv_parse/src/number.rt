@@ -1,10 +1,11 @@
 // Values of numbers.
 
 ghost use Rattle.std.specs.Prelude.{◌≡◌, ℕ, pos, ◌≤ℤ◌, IfSome, ◌+◌, ◌*◌, ◌^◌, ◌<◌, ◌≤◌, List, ◌++◌, length, min, EachIndex, MatchOption, slice_index};
+ghost use Rattle.std.specs.Bool.{MatchBool};
 ghost use Rattle.std.specs.Int.{IsGcd};
 ghost use Rattle.std.specs.Str.Parse.{digits_value};
 ghost use Rattle.pv_expr.specs.Systems.{IsFraction};
-ghost use Rattle.pv_parse.specs.Numbers.{Caps, IsLowest, IsNumeral, IsRead, IsValue, TooWide, decimal_in};
+ghost use Rattle.pv_parse.specs.Numbers.{Caps, IsExponentText, IsLowest, IsNumeral, IsRead, IsValue, TooWide, decimal_in};
 ghost use Rattle.pv_parse.specs.Tokens.{IsDigit, IsNumber};
 ghost use Rattle.pv_parse.specs.declared.number.Decimal.{Decimal};
 
@@ -42,6 +43,28 @@ pub fn read_number(text: &[u8]) -> Option<(i128, u128)>
     } else {
         None
     }
+}
+
+/// The value of digits alone, where it is at most 32.
+pub(crate) fn exponent_of(text: &[u8]) -> Option<u8>
+    ensures { MatchOption result (¬ ((n : ℕ) × IsExponentText text.now n)) (λ n. IsExponentText text.now n) }
+{
+    if !are_digits(text) {
+        return None;
+    }
+    let n = with_digits(0, text);
+    if n <= 32 { Some(n as u8) } else { None }
+}
+
+fn are_digits(text: &[u8]) -> bool
+    ensures { MatchBool result (EachIndex text.now (λ k. IsDigit (slice_index text.now k))) (¬ EachIndex text.now (λ k. IsDigit (slice_index text.now k))) }
+{
+    for byte in text {
+        if !is_digit(*byte) {
+            return false;
+        }
+    }
+    true
 }
 
 // The digits and the power of ten of a number, without more of them than `value_of` needs.

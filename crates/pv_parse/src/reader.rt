@@ -1,17 +1,20 @@
 // Texts to systems and expressions.
 
-ghost use Rattle.std.specs.Prelude.{◌≡◌, ◌≤◌, ◌+◌, ◌<◌, length, IsOk, OnOk, IfOk, IfErr, IsErrAnd};
+ghost use Rattle.std.specs.Prelude.{◌≡◌, false, ◌≤◌, ◌+◌, ◌<◌, length, IsOk, OnOk, IfOk, IfErr, IsErrAnd};
 ghost use Rattle.pv_expr.specs.Terms.{term_of};
 ghost use Rattle.pv_expr.specs.Systems.{IsOver};
-ghost use Rattle.pv_parse.specs.Faults.{IsPlaced, SaysTooLong};
+ghost use Rattle.pv_parse.specs.Faults.{IsAt, IsCausedBy, IsLong, IsPlaced, IsFirstOf, IsRefusal, SaysTooLong, refusal};
+ghost use Rattle.pv_parse.specs.Limits.{nothing};
+ghost use Rattle.pv_parse.specs.Grammar.{IsStart, system_items, expression_items};
 ghost use Rattle.pv_parse.specs.Grammar.{pile};
 ghost use Rattle.pv_parse.specs.Sentences.{IsSentence, IsSystemText, IsExpressionText};
 
 use crate::cause::{Cause, ParseRefused};
 use crate::checked::{is_over, system_of};
 use crate::code::Op;
+use crate::counts::{Counts, Phase};
 use crate::expand::{Function, expand, used_code};
-use crate::machine::{Item, Machine};
+use crate::machine::Machine;
 use crate::measure::measures;
 use crate::place::line_and_column;
 use crate::scanner::next_token;
@@ -36,11 +39,12 @@ pub fn parse(alloc: Global, text: &[u8]) -> Result<System, ParseRefused>
     ensures grammatical { IfOk result (λ s. IsSystemText text.now) }
     ensures placed { IfErr result (λ e. IsPlaced text.now e) }
     ensures long { 65536 < length text.now → IsErrAnd result SaysTooLong }
+    ensures fault { IfErr result (λ e. IsRefusal text.now (nothing Phase.Between) system_items e) }
 {
     refuse_long(text)?;
     let mut scope = Scope::new(alloc);
     let mut machine = Machine::for_system(alloc)?;
-    read_tokens(text, &mut scope, &mut machine)?;
+    read_tokens(text, Counts::none(Phase::Between), &mut scope, &mut machine)?;
     if let Some(bracket) = scope.bad_bounds {
         return Err(fault_within(text, bracket, Cause::BadBounds));
     }
@@ -58,11 +62,12 @@ pub fn parse_expr(alloc: Global, system: &System, text: &[u8]) -> Result<Expr, P
     ensures over { IfOk result (λ e. IsOver (length system.now.names) (term_of e)) }
     ensures placed { IfErr result (λ e. IsPlaced text.now e) }
     ensures long { 65536 < length text.now → IsErrAnd result SaysTooLong }
+    ensures fault { IfErr result (λ e. IsRefusal text.now (nothing Phase.Sides) expression_items e) }
 {
     refuse_long(text)?;
     let mut scope = Scope::of_system(alloc, system)?;
     let mut machine = Machine::for_expression(alloc)?;
-    read_tokens(text, &mut scope, &mut machine)?;
+    read_tokens(text, Counts::none(Phase::Sides), &mut scope, &mut machine)?;
     let Some(e) = expand(alloc, &[], machine.into_code().as_slice(), &[])?.pop() else {
         return Err(ParseRefused::Memory);
     };
@@ -77,6 +82,7 @@ fn refuse_long(text: &[u8]) -> Result<(), ParseRefused>
     ensures short { IsOk result → length text.now ≤ 65536 }
     ensures placed { IfErr result (λ e. IsPlaced text.now e) }
     ensures long { IfErr result SaysTooLong }
+    ensures size { IfErr result (IsLong text.now) }
 {
     if text.len() > MAX_TEXT {
         Err(fault(text, MAX_TEXT, Cause::TextTooLong))
@@ -87,7 +93,8 @@ fn refuse_long(text: &[u8]) -> Result<(), ParseRefused>
 
 // The fault at a place that was kept.
 fn fault_within(text: &[u8], byte: usize, cause: Cause) -> ParseRefused
-    ensures { IsPlaced text.now result }
+    ensures placed { IsPlaced text.now result }
+    ensures cause { IsCausedBy cause result }
 {
     if byte <= text.len() && byte <= MAX_TEXT {
         fault(text, byte, cause)
@@ -100,6 +107,7 @@ fn fault(text: &[u8], byte: usize, cause: Cause) -> ParseRefused
     requires within { byte ≤ length text.now }
     requires short { byte ≤ 65536 }
     ensures placed { IsPlaced text.now result }
+    ensures at { IsAt byte cause result }
     ensures long { byte ≡ 65536 → cause ≡ Cause.TextTooLong → SaysTooLong result }
 {
     let (line, column) = line_and_column(text, byte);
@@ -111,26 +119,35 @@ fn fault(text: &[u8], byte: usize, cause: Cause) -> ParseRefused
     }
 }
 
-fn read_tokens(text: &[u8], scope: &mut Scope, machine: &mut Machine) -> Result<(), ParseRefused>
-    requires { length text.now ≤ 65536 }
+fn read_tokens(
+    text: &[u8],
+    start: Counts,
+    scope: &mut Scope,
+    machine: &mut Machine,
+) -> Result<(), ParseRefused>
+    requires short { length text.now ≤ 65536 }
+    requires start { IsStart (pile machine.now.stack.items) }
     ensures placed { IfErr result (λ e. IsPlaced text.now e) }
-    ensures sentence { OnOk result (IsSentence text.now (pile machine.old.stack.items) machine.old.code.items machine.new.code.items) }
+    ensures sentence { OnOk result (IsSentence text.now start (pile machine.old.stack.items) machine.old.code.items machine.new.code.items) }
+    ensures fault { IfErr result (λ e. IsFirstOf text.now start (pile machine.old.stack.items) e) }
 {
     let mut from = 0;
+    let mut counts = start;
     loop {
         let token = next_token(text, from);
-        let symbol = scope.symbol_of(text, token);
+        let symbol = scope.symbol_of(text, token, counts.phase);
         let Some(item) = machine.settle(symbol)? else {
             return ended(text, token, symbol);
         };
         if !machine.take(item, symbol)? {
-            return Err(fault(text, token.start, cause_of(item, symbol)));
+            return Err(fault(text, token.start, refusal(item.is_exponent(), symbol)));
         }
-        if let Some(cause) = scope.count(symbol, text, token)? {
-            return Err(fault(text, token.start, cause));
-        }
-        if token.kind == Kind::End {
-            return Err(ParseRefused::Memory);
+        match counts.counted(symbol) {
+            Ok(next) => {
+                scope.take_in(symbol, counts.phase, text, token)?;
+                counts = next;
+            }
+            Err(cause) => return Err(fault(text, token.start, cause)),
         }
         from = token.end;
     }
@@ -142,23 +159,28 @@ fn ended(text: &[u8], token: Token, symbol: Symbol) -> Result<(), ParseRefused>
     requires short { length text.now ≤ 65536 }
     ensures ends { IsOk result → token.kind ≡ Kind.End }
     ensures placed { IfErr result (λ e. IsPlaced text.now e) }
+    ensures at { IfErr result (λ e. IsAt token.start (refusal false symbol) e) }
 {
     if token.kind == Kind::End {
         return Ok(());
     }
-    let cause = match symbol {
-        Symbol::Never(cause) => cause,
-        _ => Cause::Unexpected,
-    };
-    Err(fault(text, token.start, cause))
+    Err(fault(text, token.start, refusal(false, symbol)))
 }
 
-fn cause_of(item: Item, symbol: Symbol) -> Cause {
-    match (item, symbol) {
-        (_, Symbol::Never(cause)) => cause,
-        (_, Symbol::Fixed(Fixed::EndOfText)) => Cause::EndOfText,
-        (Item::WantExponent, _) => Cause::BadExponent,
-        _ => Cause::Unexpected,
+// The cause of a token that the grammar refuses.
+fn refusal(behind_caret: bool, symbol: Symbol) -> Cause
+    ensures { result ≡ refusal behind_caret symbol }
+{
+    match symbol {
+        Symbol::Never(cause) => cause,
+        Symbol::Fixed(Fixed::EndOfText) => Cause::EndOfText,
+        _ => {
+            if behind_caret {
+                Cause::BadExponent
+            } else {
+                Cause::Unexpected
+            }
+        }
     }
 }
 
@@ -169,7 +191,8 @@ fn expanded(
     code: &[Op],
     starts: &[usize],
 ) -> Result<Vec<Constraint>, ParseRefused>
-    ensures { IfErr result (λ e. IsPlaced text.now e) }
+    ensures placed { IfErr result (λ e. IsPlaced text.now e) }
+    ensures cause { IfErr result (IsCausedBy Cause.TooLarge) }
 {
     let mut functions = Vec::new(alloc);
     let mut constraints = Vec::new(alloc);
@@ -198,7 +221,8 @@ fn expanded(
 }
 
 fn too_large(text: &[u8], starts: &[usize], i: usize) -> ParseRefused
-    ensures { IsPlaced text.now result }
+    ensures placed { IsPlaced text.now result }
+    ensures cause { IsCausedBy Cause.TooLarge result }
 {
     match starts.get(i) {
         Some(start) => fault_within(text, *start, Cause::TooLarge),

@@ -1,14 +1,17 @@
-// What names stand for, and what the limits count, token by token.
+// What names stand for, and what the parts of a text declare, token by token.
 
-ghost use Rattle.std.specs.Prelude.{◌≡◌, ◌≢◌, ◌≤◌, [], length};
-ghost use Rattle.pv_parse.specs.Sentences.{IsNameSymbol, IsNumberSymbol, StandsFor, bytes_of};
+ghost use Rattle.std.specs.Prelude.{◌≡◌, ◌≢◌, ◌≤◌, [], false, length};
+ghost use Rattle.pv_parse.specs.Sentences.{IsNameSymbol, IsNumberSymbol, IsOwnName, IsUse, StandsFor, bytes_of, word_symbol};
+ghost use Rattle.pv_parse.specs.Words.{word_in};
+ghost use Rattle.pv_parse.specs.declared.counts.Phase.{Phase};
 
 use crate::cause::Cause;
 use crate::checked::in_order;
 use crate::code::{Binary, Op, Unary};
+use crate::counts::Phase;
 use crate::fraction::Fraction;
 use crate::keyword::{Word, word_of};
-use crate::number::read_number;
+use crate::number::{exponent_of, read_number};
 use crate::symbol::{Fixed, Symbol};
 use crate::token::{Kind, Token};
 use pv_expr::{Bound, Domain, Relation, System};
@@ -22,29 +25,6 @@ const MAX_PARAMETERS: usize = 12;
 
 const MAX_VARIABLES: usize = 12;
 
-const MAX_CONSTRAINTS: usize = 64;
-
-const MAX_LEVEL: u32 = 100;
-
-const MAX_OPERATIONS: u32 = 1000;
-
-// The part of the text that a token stands in.
-#[derive(Clone, Copy, Debug, PartialEq, Eq)]
-enum Phase {
-    /// Between blocks, where no name can stand.
-    Between,
-    Constants,
-    FunctionName,
-    Parameters,
-    Body,
-    Variables,
-    Bounds,
-    /// Where a constraint may begin.
-    NextConstraint,
-    /// Within a constraint, or within the text of one expression.
-    Sides,
-}
-
 // What a name was declared as. A function that is not finished has a number and no arity yet.
 #[derive(Clone, Copy)]
 enum Meaning {
@@ -53,11 +33,10 @@ enum Meaning {
     Function(u8),
 }
 
-/// The declarations so far, and the counts that have limits.
+/// The declarations so far.
 #[derive(Drop)]
 pub(crate) struct Scope {
     alloc: Global,
-    phase: Phase,
     names: BTreeMap<Vec<u8>, Meaning>,
     /// The name of the constant whose value is to come.
     pending: Vec<u8>,
@@ -75,8 +54,6 @@ pub(crate) struct Scope {
     pub(crate) bad_bounds: Option<usize>,
     /// Where each constraint begins.
     pub(crate) starts: Vec<usize>,
-    level: u32,
-    operations: u32,
 }
 
 impl Scope {
@@ -84,7 +61,6 @@ impl Scope {
     pub(crate) fn new(alloc: Global) -> Scope {
         Scope {
             alloc,
-            phase: Phase::Between,
             names: BTreeMap::new(alloc),
             pending: Vec::new(alloc),
             negative: false,
@@ -96,15 +72,12 @@ impl Scope {
             has_lower: false,
             bad_bounds: None,
             starts: Vec::new(alloc),
-            level: 0,
-            operations: 0,
         }
     }
 
     /// The scope of one expression over the variables of a system.
     pub(crate) fn of_system(alloc: Global, system: &System) -> Result<Scope, Memory> {
         let mut scope = Scope::new(alloc);
-        scope.phase = Phase::Sides;
         for i in 0..system.variable_count() {
             let name = Vec::from_slice(alloc, system.name(i).as_bytes())?;
             scope.names.insert(name, Meaning::Variable(i))?;
@@ -113,32 +86,32 @@ impl Scope {
     }
 
     /// What a token is for the grammar, here.
-    pub(crate) fn symbol_of(&self, text: &[u8], token: Token) -> Symbol
+    pub(crate) fn symbol_of(&self, text: &[u8], token: Token, phase: Phase) -> Symbol
         requires ordered { token.start ≤ token.end }
         requires within { token.end ≤ length text.now }
-        ensures { StandsFor (bytes_of text.now token) token.kind result }
+        ensures { StandsFor phase (bytes_of text.now token) token.kind result }
     {
         let bytes = &text[token.start..token.end];
         match token.kind {
-            Kind::Name => self.symbol_of_name(bytes),
+            Kind::Name => self.symbol_of_name(bytes, phase),
             Kind::Number => symbol_of_number(bytes),
             kind => symbol_of_mark(kind),
         }
     }
 
-    fn symbol_of_name(&self, name: &[u8]) -> Symbol
-        ensures { IsNameSymbol result }
+    fn symbol_of_name(&self, name: &[u8], phase: Phase) -> Symbol
+        ensures { IsNameSymbol phase (word_in name.now) result }
     {
         match word_of(name) {
             Some(word) => symbol_of_word(word),
-            None => self.resolve(name),
+            None => self.resolve(name, phase),
         }
     }
 
-    fn resolve(&self, name: &[u8]) -> Symbol
-        ensures { IsNameSymbol result }
+    fn resolve(&self, name: &[u8], phase: Phase) -> Symbol
+        ensures { IsOwnName phase result }
     {
-        match self.phase {
+        match phase {
             Phase::Between => Symbol::Unknown,
             Phase::Constants | Phase::FunctionName | Phase::Variables => Symbol::Declared {
                 taken: self.names.contains_key(name),
@@ -159,7 +132,7 @@ impl Scope {
     }
 
     fn use_of(&self, name: &[u8], with_variables: bool) -> Symbol
-        ensures { IsNameSymbol result }
+        ensures { IsUse with_variables result }
     {
         match self.names.get(name) {
             Some(Meaning::Constant(value)) => Symbol::Constant(*value),
@@ -170,7 +143,7 @@ impl Scope {
     }
 
     fn call_of(&self, function: u8) -> Symbol
-        ensures { IsNameSymbol result }
+        ensures { IsUse false result }
     {
         match self.arities.get(function as usize) {
             Some(arity) => Symbol::Function {
@@ -202,87 +175,40 @@ impl Scope {
         }
     }
 
-    /// Counts a token that the grammar allows, or says which limit or declaration forbids it.
-    pub(crate) fn count(
+    /// Takes in a token that the grammar and the limits allow, in a phase of the text.
+    pub(crate) fn take_in(
         &mut self,
         symbol: Symbol,
+        phase: Phase,
         text: &[u8],
         token: Token,
-    ) -> Result<Option<Cause>, Memory>
+    ) -> Result<(), Memory>
         requires ordered { token.start ≤ token.end }
         requires within { token.end ≤ length text.now }
     {
-        if self.phase == Phase::NextConstraint && symbol.begins() {
-            if self.starts.len() == MAX_CONSTRAINTS {
-                return Ok(Some(Cause::TooManyConstraints));
-            }
+        if phase == Phase::NextConstraint && symbol.begins() {
             self.starts.push(token.start)?;
-            self.phase = Phase::Sides;
-        }
-        if self.phase == Phase::Sides || self.phase == Phase::Body {
-            if let Some(cause) = self.count_operation(symbol) {
-                return Ok(Some(cause));
-            }
         }
         match symbol {
-            Symbol::Unknown => Ok(Some(Cause::UnknownName)),
-            Symbol::Declared { taken } => self.declare(&text[token.start..token.end], taken),
-            Symbol::Number { value, .. } | Symbol::Constant(value) => self.count_value(value),
-            Symbol::Fixed(fixed) => self.count_fixed(fixed, token),
-            _ => Ok(None),
+            Symbol::Declared { .. } => self.declare(&text[token.start..token.end], phase),
+            Symbol::Number { value, .. } | Symbol::Constant(value) => self.take_value(value, phase),
+            Symbol::Fixed(fixed) => self.take_fixed(fixed, phase, token),
+            _ => Ok(()),
         }
     }
 
-    // Operations and levels of an expression.
-    fn count_operation(&mut self, symbol: Symbol) -> Option<Cause> {
-        if symbol.operates() {
-            if self.operations >= MAX_OPERATIONS {
-                return Some(Cause::TooDeep);
-            }
-            self.operations += 1;
-        }
-        self.count_level(symbol)
-    }
-
-    fn count_level(&mut self, symbol: Symbol) -> Option<Cause> {
-        let full = self.level >= MAX_LEVEL;
-        match symbol {
-            Symbol::Fixed(Fixed::Open) => {
-                if full {
-                    return Some(Cause::TooDeep);
-                }
-                self.level += 1;
-                None
-            }
-            Symbol::Fixed(Fixed::Close) => {
-                self.level = self.level.saturating_sub(1);
-                None
-            }
-            // The `(` that must follow would open a level too many.
-            Symbol::Function { .. } => { if full { Some(Cause::Unexpected) } else { None } }
-            _ => None,
-        }
-    }
-
-    fn declare(&mut self, name: &[u8], taken: bool) -> Result<Option<Cause>, Memory> {
-        if self.phase == Phase::Variables && self.variables.len() == MAX_VARIABLES {
-            return Ok(Some(Cause::TooManyVariables));
-        }
-        if taken {
-            return Ok(Some(Cause::DuplicateName));
-        }
+    fn declare(&mut self, name: &[u8], phase: Phase) -> Result<(), Memory> {
         let own = Vec::from_slice(self.alloc, name)?;
-        match self.phase {
+        match phase {
             Phase::Constants => self.pending = own,
             Phase::FunctionName => {
                 let number = self.arities.len().min(MAX_FUNCTIONS) as u8;
                 self.names.insert(own, Meaning::Function(number))?;
-                self.phase = Phase::Parameters;
             }
             Phase::Parameters => self.parameters.push(own)?,
             _ => self.declare_variable(own)?,
         }
-        Ok(None)
+        Ok(())
     }
 
     fn declare_variable(&mut self, name: Vec<u8>) -> Result<(), Memory> {
@@ -298,13 +224,13 @@ impl Scope {
     }
 
     // The value of a constant, or a bound.
-    fn count_value(&mut self, value: Fraction) -> Result<Option<Cause>, Memory> {
+    fn take_value(&mut self, value: Fraction, phase: Phase) -> Result<(), Memory> {
         let signed = if self.negative {
             value.opposite()
         } else {
             value
         };
-        match self.phase {
+        match phase {
             Phase::Constants => {
                 let name = std::mem::replace(&mut self.pending, Vec::new(self.alloc));
                 self.names.insert(name, Meaning::Constant(signed))?;
@@ -318,7 +244,7 @@ impl Scope {
             }
             _ => {}
         }
-        Ok(None)
+        Ok(())
     }
 
     fn bound(&mut self, bound: Bound) {
@@ -333,25 +259,10 @@ impl Scope {
         self.negative = false;
     }
 
-    fn count_fixed(&mut self, fixed: Fixed, token: Token) -> Result<Option<Cause>, Memory> {
+    fn take_fixed(&mut self, fixed: Fixed, phase: Phase, token: Token) -> Result<(), Memory> {
         match fixed {
-            Fixed::Constants => self.phase = Phase::Constants,
-            Fixed::Variables => self.phase = Phase::Variables,
-            Fixed::Constraints => self.begin_constraint(),
-            Fixed::Function => {
-                if self.arities.len() == MAX_FUNCTIONS {
-                    return Ok(Some(Cause::TooManyFunctions));
-                }
-                self.phase = Phase::FunctionName;
-            }
-            Fixed::Comma
-                if self.phase == Phase::Parameters && self.parameters.len() == MAX_PARAMETERS =>
-                return Ok(Some(Cause::Unexpected)),
-            Fixed::Return => self.begin_body(),
-            Fixed::End => self.end_block()?,
-            Fixed::Semicolon if self.phase == Phase::Sides => self.begin_constraint(),
-            Fixed::Minus => self.negative = self.phase == Phase::Constants
-                || self.phase == Phase::Bounds,
+            Fixed::End if phase == Phase::Body => self.end_function()?,
+            Fixed::Minus => self.negative = phase == Phase::Constants || phase == Phase::Bounds,
             Fixed::OpenBracket => self.begin_bounds(token),
             Fixed::CloseBracket => self.end_bounds(),
             Fixed::Oo => self.bound(if self.negative {
@@ -361,37 +272,22 @@ impl Scope {
             }),
             _ => {}
         }
-        Ok(None)
+        Ok(())
     }
 
-    fn begin_constraint(&mut self) {
-        self.phase = Phase::NextConstraint;
-        self.operations = 0;
-    }
-
-    fn begin_body(&mut self) {
-        self.phase = Phase::Body;
-        self.operations = 0;
-    }
-
-    fn end_block(&mut self) -> Result<(), Memory> {
-        if self.phase == Phase::Body {
-            self.arities
-                .push(self.parameters.len().min(MAX_PARAMETERS) as u8)?;
-            self.parameters.clear();
-        }
-        self.phase = Phase::Between;
+    fn end_function(&mut self) -> Result<(), Memory> {
+        self.arities
+            .push(self.parameters.len().min(MAX_PARAMETERS) as u8)?;
+        self.parameters.clear();
         Ok(())
     }
 
     fn begin_bounds(&mut self, token: Token) {
-        self.phase = Phase::Bounds;
         self.bracket = token.start;
         self.has_lower = false;
     }
 
     fn end_bounds(&mut self) {
-        self.phase = Phase::Variables;
         if let Some(domain) = self.domains.last() {
             if self.bad_bounds.is_none() && !in_order(*domain) {
                 self.bad_bounds = Some(self.bracket);
@@ -412,23 +308,11 @@ fn symbol_of_number(bytes: &[u8]) -> Symbol
     }
 }
 
-// The value of digits alone, where it is at most 32.
-fn exponent_of(bytes: &[u8]) -> Option<u8> {
-    let mut n: u8 = 0;
-    for b in bytes {
-        if !b.is_ascii_digit() {
-            return None;
-        }
-        n = n.saturating_mul(10).saturating_add(*b - b'0');
-    }
-    if n <= 32 { Some(n) } else { None }
-}
-
 // The symbol of a token that is no name and no number.
 fn symbol_of_mark(kind: Kind) -> Symbol
     requires no_name { kind ≢ Kind.Name }
     requires no_number { kind ≢ Kind.Number }
-    ensures { StandsFor [] kind result }
+    ensures { StandsFor Phase.Between [] kind result }
 {
     match kind {
         Kind::LessEqual => Symbol::Relation(Relation::Le),
@@ -453,7 +337,7 @@ fn symbol_of_mark(kind: Kind) -> Symbol
 }
 
 fn symbol_of_word(word: Word) -> Symbol
-    ensures { IsNameSymbol result }
+    ensures { result ≡ word_symbol word }
 {
     match word {
         Word::Constants => Symbol::Fixed(Fixed::Constants),

@@ -1,5 +1,10 @@
 // Tokens as the grammar sees them: names are resolved.
 
+ghost use Rattle.std.specs.Prelude.{◌≡◌, ◌≢◌, None, is_some};
+ghost use Rattle.std.specs.Bool.{OnTrue, OnFalse};
+ghost use Rattle.pv_parse.specs.Grammar.{factor};
+ghost use Rattle.pv_parse.specs.Limits.{operates};
+
 use crate::cause::Cause;
 use crate::code::Op;
 use crate::fraction::Fraction;
@@ -60,7 +65,11 @@ pub(crate) enum Symbol {
 
 impl Symbol {
     /// Whether an expression can begin with it.
-    pub(crate) fn begins(self) -> bool {
+    pub(crate) fn begins(self) -> bool
+        ensures no { OnFalse result (factor self ≡ None) }
+        ensures yes { OnTrue result (factor self ≢ None) }
+        ensures test { result ≡ is_some (factor self) }
+    {
         match self {
             Symbol::Fixed(Fixed::Plus | Fixed::Minus | Fixed::Open) => true,
             Symbol::Number { .. } | Symbol::Constant(_) => true,
@@ -71,7 +80,9 @@ impl Symbol {
     }
 
     /// Whether it counts as an operation within a constraint or a body.
-    pub(crate) fn operates(self) -> bool {
+    pub(crate) fn operates(self) -> bool
+        ensures { result ≡ operates self }
+    {
         match self {
             Symbol::Fixed(Fixed::Plus | Fixed::Minus | Fixed::Star) => true,
             Symbol::Fixed(Fixed::Slash | Fixed::Caret) => true,

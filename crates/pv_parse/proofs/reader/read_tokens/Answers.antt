@@ -1,36 +1,82 @@
-use Rattle.std.proofs.Common.{◌≡◌, ◌≤◌, ◌∷◌, Bool, true, false, List, length, arith, rules, subst, Some, None, Option, Result, Ok, Err, IsOk, OnOk, []}
-use Rattle.std.specs.Bool.{OnTrue}
-use Rattle.pv_parse.specs.declared.code.Op.{Op}
-use Rattle.pv_parse.specs.declared.symbol.Symbol.{Symbol}
-use Rattle.pv_parse.specs.declared.token.Kind.TheVariants.{End}
+use Rattle.std.proofs.Common.{arith, subst, sym, ◌∙◌, Option, false}
+use Rattle.pv_parse.specs.declared.cause.Cause.{Cause}
+use Rattle.pv_parse.specs.declared.cause.ParseRefused.{ParseRefused}
 use Rattle.pv_parse.specs.declared.machine.Item.{Item}
+use Rattle.pv_parse.specs.Faults.{IsAt, IsFirst, IsFirstOf, refusal}
 use Rattle.pv_parse.specs.Grammar.{pile, Settles}
-use Rattle.pv_parse.specs.Sentences.{IsSentence, Spells}
-use Rattle.pv_parse.proofs.Derivations.{Leads, leads_back, leads_end}
+use Rattle.pv_parse.proofs.Reached.{forbidden, refused, starts, taken_not_end, taken_on, too_much, whole}
+use Rattle.pv_parse.proofs.Refusals.{first_at, if_err, on_ok, taken_false, taken_true}
 use Rattle.pv_parse.proofs.reader.read_tokens.Goals as goal
 
-from_true : {P : Type 0} (b : Bool) → OnTrue b P → b ≡ true → P
-from_true true p e = p
-from_true false p e = cc
-
-on_ok : {V E P : Type 0} (r : Result V E) → (IsOk r → P) → OnOk r P
-on_ok (Ok v) f = f (search rules)
-on_ok (Err e) f = search rules
+pub loop-item-init : goal.loop-item-init
+loop-item-init c = record {
+  within = omega arith;
+  reached = starts c.args.text.now c.args.start (pile c.args.machine.now.stack.items) c.args.machine.now.code.items c.requires.start;
+}
 
 pub returns-in_default-clause-sentence : goal.returns-in_default-clause-sentence
 returns-in_default-clause-sentence c =
-    let settles = subst (λ (o : Option Item). Settles (pile c.loop-item.machine.stack.items) c.loop-item.machine.code.items o (pile c.settle.new.self.stack.items) c.settle.new.self.code.items) c.in_default.is c.in_ok-item.ensures in
-    let ends = leads_end _ _ _ _ settles in
-    on_ok _ (λ ok. c.loop-item.invariant.back [] c.settle.new.self.code.items (c.next_token-token.result, c.next_token-token.ensures.next, c.ended.ensures.ends ok) ends)
+    let settles = subst (λ (o : Option Item). Settles c.symbol_of-symbol.result (pile c.loop-item.machine.stack.items) c.loop-item.machine.code.items o (pile c.settle.new.self.stack.items) c.settle.new.self.code.items) c.in_default.is c.in_ok-item.ensures in
+    on_ok c.ended.result (λ ok. whole c.args.text.now c.args.start c.loop-item.counts (pile c.args.machine.now.stack.items) c.args.machine.now.code.items
+    (pile c.loop-item.machine.stack.items) c.loop-item.machine.code.items c.loop-item.from c.loop-item.invariant.reached
+    c.next_token-token.result c.symbol_of-symbol.result (pile c.settle.new.self.stack.items) c.settle.new.self.code.items
+    c.next_token-token.ensures.next (c.ended.ensures.ends ok) settles)
+
+pub returns-in_default-clause-fault : goal.returns-in_default-clause-fault
+returns-in_default-clause-fault c =
+    let settles = subst (λ (o : Option Item). Settles c.symbol_of-symbol.result (pile c.loop-item.machine.stack.items) c.loop-item.machine.code.items o (pile c.settle.new.self.stack.items) c.settle.new.self.code.items) c.in_default.is c.in_ok-item.ensures in
+    if_err (λ (e : ParseRefused). IsAt c.next_token-token.result.start (refusal false c.symbol_of-symbol.result) e)
+    (λ (e : ParseRefused). IsFirstOf c.args.text.now c.args.start (pile c.args.machine.now.stack.items) e)
+    c.ended.result
+    (λ e at. first_at c.args.text.now c.args.start (pile c.args.machine.now.stack.items) c.next_token-token.result.start (refusal false c.symbol_of-symbol.result) e at
+    (too_much c.args.text.now c.args.start c.loop-item.counts (pile c.args.machine.now.stack.items) c.args.machine.now.code.items
+    (pile c.loop-item.machine.stack.items) c.loop-item.machine.code.items c.loop-item.from c.loop-item.invariant.reached
+    c.next_token-token.result c.symbol_of-symbol.result (pile c.settle.new.self.stack.items) c.settle.new.self.code.items
+    c.next_token-token.ensures.next c.symbol_of-symbol.ensures settles))
+    c.ended.ensures.at
+
+pub returns-then-not-branch-clause-fault : goal.returns-then-not-branch-clause-fault
+returns-then-not-branch-clause-fault c =
+    let settles = subst (λ (o : Option Item). Settles c.symbol_of-symbol.result (pile c.loop-item.machine.stack.items) c.loop-item.machine.code.items o (pile c.settle.new.self.stack.items) c.settle.new.self.code.items) c.in-Some.is c.in_ok-item.ensures in
+    let never = taken_false _ _ _ _ _ _ c.in_ok-take.ensures c.if-not-branch.true in
+    first_at c.args.text.now c.args.start (pile c.args.machine.now.stack.items) c.next_token-token.result.start c.refusal.result c.fault.result c.fault.ensures.at
+    (subst (λ (k : Cause). IsFirst c.args.text.now c.args.start (pile c.args.machine.now.stack.items) c.next_token-token.result.start k) (sym c.refusal.ensures)
+    (refused c.args.text.now c.args.start c.loop-item.counts (pile c.args.machine.now.stack.items) c.args.machine.now.code.items
+    (pile c.loop-item.machine.stack.items) c.loop-item.machine.code.items c.loop-item.from c.loop-item.invariant.reached
+    c.next_token-token.result c.symbol_of-symbol.result c.in-Some.item (pile c.settle.new.self.stack.items) c.settle.new.self.code.items c.is_exponent.result
+    c.next_token-token.ensures.next c.symbol_of-symbol.ensures settles never (sym c.is_exponent.ensures)))
+
+pub returns-in-Err-clause-fault : goal.returns-in-Err-clause-fault
+returns-in-Err-clause-fault c =
+    let settles = subst (λ (o : Option Item). Settles c.symbol_of-symbol.result (pile c.loop-item.machine.stack.items) c.loop-item.machine.code.items o (pile c.settle.new.self.stack.items) c.settle.new.self.code.items) c.in-Some.is c.in_ok-item.ensures in
+    let follows = taken_true _ _ _ _ _ _ c.in_ok-take.ensures c.if-not-branch.false in
+    first_at c.args.text.now c.args.start (pile c.args.machine.now.stack.items) c.next_token-token.result.start c.in-Err.cause c.fault-in-Err.result c.fault-in-Err.ensures.at
+    (forbidden c.args.text.now c.args.start c.loop-item.counts (pile c.args.machine.now.stack.items) c.args.machine.now.code.items
+    (pile c.loop-item.machine.stack.items) c.loop-item.machine.code.items c.loop-item.from c.loop-item.invariant.reached
+    c.next_token-token.result c.symbol_of-symbol.result c.in-Some.item (pile c.settle.new.self.stack.items) c.settle.new.self.code.items
+    (pile c.take.new.self.stack.items) c.take.new.self.code.items c.in-Err.cause
+    c.next_token-token.ensures.next c.symbol_of-symbol.ensures settles follows (sym c.counted.ensures ∙ c.in-Err.is))
+
+pub loop-item-smaller : goal.loop-item-smaller
+loop-item-smaller c =
+    let settles = subst (λ (o : Option Item). Settles c.symbol_of-symbol.result (pile c.loop-item.machine.stack.items) c.loop-item.machine.code.items o (pile c.settle.new.self.stack.items) c.settle.new.self.code.items) c.in-Some.is c.in_ok-item.ensures in
+    let follows = taken_true _ _ _ _ _ _ c.in_ok-take.ensures c.if-not-branch.false in
+    let on = c.next_token-token.ensures.progress
+    (taken_not_end c.args.text.now c.args.start c.loop-item.counts (pile c.args.machine.now.stack.items) c.args.machine.now.code.items
+    (pile c.loop-item.machine.stack.items) c.loop-item.machine.code.items c.loop-item.from c.loop-item.invariant.reached
+    c.next_token-token.result c.symbol_of-symbol.result c.in-Some.item (pile c.settle.new.self.stack.items) c.settle.new.self.code.items
+    (pile c.take.new.self.stack.items) c.take.new.self.code.items c.symbol_of-symbol.ensures settles follows) in
+    omega (arith, on, c.next_token-token.ensures.onward, c.next_token-token.ensures.within)
 
 pub loop-item-preserved : goal.loop-item-preserved
 loop-item-preserved c =
-    let settles = subst (λ (o : Option Item). Settles (pile c.loop-item.machine.stack.items) c.loop-item.machine.code.items o (pile c.settle.new.self.stack.items) c.settle.new.self.code.items) c.in-Some.is c.in_ok-item.ensures in
-    let follows = from_true _ c.in_ok-take.ensures c.if-not-branch.false in
+    let settles = subst (λ (o : Option Item). Settles c.symbol_of-symbol.result (pile c.loop-item.machine.stack.items) c.loop-item.machine.code.items o (pile c.settle.new.self.stack.items) c.settle.new.self.code.items) c.in-Some.is c.in_ok-item.ensures in
+    let follows = taken_true _ _ _ _ _ _ c.in_ok-take.ensures c.if-not-branch.false in
     record {
-      within = omega (arith, c.next_token-token.ensures.within);
-      back = λ ss after spelled leads.
-          c.loop-item.invariant.back (c.symbol_of-symbol.result ∷ ss) after
-          (c.next_token-token.result, c.next_token-token.ensures.next, (search rules), c.symbol_of-symbol.ensures, spelled)
-          (leads_back _ _ _ _ _ _ _ _ _ _ settles follows leads);
+      within = c.next_token-token.ensures.within;
+      reached = taken_on c.args.text.now c.args.start c.loop-item.counts c.in-Ok.next (pile c.args.machine.now.stack.items) c.args.machine.now.code.items
+          (pile c.loop-item.machine.stack.items) c.loop-item.machine.code.items c.loop-item.from c.loop-item.invariant.reached
+          c.next_token-token.result c.symbol_of-symbol.result c.in-Some.item (pile c.settle.new.self.stack.items) c.settle.new.self.code.items
+          (pile c.take.new.self.stack.items) c.take.new.self.code.items
+          c.next_token-token.ensures.next c.symbol_of-symbol.ensures settles follows (sym c.counted.ensures ∙ c.in-Ok.is);
     }

@@ -1,5 +1,3 @@
-use Rattle.std.proofs.Common.{◌≡◌, ◌∙◌, ap, arith}
-use Rattle.pv_parse.specs.Grammar.{pile}
 use Rattle.pv_parse.proofs.Piles.{pile-push}
 use Rattle.pv_parse.proofs.machine.Machine.put.Goals as goal
 

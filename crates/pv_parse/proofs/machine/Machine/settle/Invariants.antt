@@ -6,8 +6,8 @@ use Rattle.pv_parse.proofs.machine.Machine.settle.Given as goal
 
 abbrev pub invariant-loop-item : goal.invariant-loop-item
 invariant-loop-item l = (o : Option Item) (rest : List Item) (more : List Op) →
-    Settles (pile l.self.stack.items) l.self.code.items o rest more →
-    Settles (pile l.initial.self.stack.items) l.initial.self.code.items o rest more
+    Settles l.symbol (pile l.self.stack.items) l.self.code.items o rest more →
+    Settles l.symbol (pile l.initial.self.stack.items) l.initial.self.code.items o rest more
 
 abbrev pub decreases-loop-item : goal.decreases-loop-item
 decreases-loop-item l = vec_len l.self.stack

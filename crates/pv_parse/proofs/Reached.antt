@@ -1,0 +1,249 @@
+-- What is known behind the tokens that were taken: the loop of the reader, in both directions.
+use Rattle.std.proofs.Common.{◌≡◌, ◌≢◌, ℕ, Bool, false, List, [], ◌∷◌, ◌++◌, refl, sym, ap, ◌∙◌, subst, append_assoc, Option, Some, None, Result, Ok, Err, ⊎_elim}
+use Rattle.std.proofs.lemmas.List.{append-nil}
+use Rattle.pv_parse.specs.declared.cause.Cause.{Cause}
+use Rattle.pv_parse.specs.declared.code.Op.{Op}
+use Rattle.pv_parse.specs.declared.counts.Counts.{Counts}
+use Rattle.pv_parse.specs.declared.counts.Phase.{Phase}
+use Rattle.pv_parse.specs.declared.machine.Item.{Item}
+use Rattle.pv_parse.specs.declared.symbol.Fixed.TheVariants.{EndOfText}
+use Rattle.pv_parse.specs.declared.symbol.Symbol.{Symbol}
+use Rattle.pv_parse.specs.declared.symbol.Symbol.TheVariants.{Fixed as FixedToken}
+use Rattle.pv_parse.specs.declared.token.Kind.{Kind}
+use Rattle.pv_parse.specs.declared.token.Kind.TheVariants.{End}
+use Rattle.pv_parse.specs.declared.token.Token.{Token}
+use Rattle.pv_parse.specs.Faults.{Begins, IsCause, NoneBegins, IsFirst, refusal, behind_caret}
+use Rattle.pv_parse.specs.Faults.IsCause.{not_allowed, beyond}
+use Rattle.pv_parse.specs.Grammar.{Derives, Follows, IsStart, MayEnd, Produced, Settles, emptied, ended, is_exponent, met, produced, step_of}
+use Rattle.pv_parse.specs.Limits.{Counted, counted}
+use Rattle.pv_parse.specs.Sentences.{IsSentence, SpellsTo, StandsFor, bytes_of}
+use Rattle.pv_parse.specs.Tokens.{IsNext}
+use Rattle.pv_parse.proofs.Derivations.{Leads, leads_back, leads_end}
+use Rattle.pv_parse.proofs.Exponents.{AtExponent, expression_plain, system_plain, IsUsual, Met, behind_last, no_end, settled_met, taken_plain}
+use Rattle.pv_parse.proofs.Forward.{Closing, GoesOn, closing, refused_forth, settled_forth, settled_orderly, taken_forth, taken_orderly}
+use Rattle.pv_parse.proofs.Orderly.{Orderly, expression_orderly, system_orderly}
+
+pub record Reached (t : List ℕ) (start counts : Counts) (first : List Item) (initial : List Op) (items : List Item) (code : List Op) (from : ℕ) : Type 0 where
+  pub before : List Symbol
+  pub spelled : SpellsTo t start 0 before from
+  pub within : Counted start before counts
+  pub orderly : Orderly items
+  pub exponent : AtExponent (behind_caret before) items
+  pub forth : (ss : List Symbol) → GoesOn first (before ++ ss) → GoesOn items ss
+  pub back : (ss : List Symbol) (after : List Op) → Leads items ss code after → Leads first (before ++ ss) initial after
+
+pub at_start : (t : List ℕ) (start : Counts) (items : List Item) (code : List Op) → Orderly items → AtExponent false items → Reached t start start items code items code 0
+at_start t start items code o e = record {
+  before = [];
+  spelled = refl;
+  within = refl;
+  orderly = o;
+  exponent = e;
+  forth = λ ss g. g;
+  back = λ ss after l. l;
+}
+
+pub starts : (t : List ℕ) (start : Counts) (items : List Item) (code : List Op) → IsStart items → Reached t start start items code items code 0
+starts t start items code is =
+    ⊎_elim
+    (λ e. at_start t start items code (subst Orderly (sym e) system_orderly) (subst (AtExponent false) (sym e) system_plain))
+    (λ e. at_start t start items code (subst Orderly (sym e) expression_orderly) (subst (AtExponent false) (sym e) expression_plain))
+    is
+
+-- ---- Lists of tokens, with one more behind them
+
+ok_err : {c : Counts} {cause : Cause} (r : Result Counts Cause) → r ≡ Ok c → r ≡ Err cause → ⊥
+ok_err r e f = cc
+
+ok_same : {v w : Counts} (r : Result Counts Cause) → r ≡ Ok v → r ≡ Ok w → v ≡ w
+ok_same r e f = cc
+
+counted_one : (c : Counts) (ss : List Symbol) (d e : Counts) (s : Symbol) → Counted c ss d → counted d s ≡ Ok e → Counted c (ss ++ s ∷ []) e
+counted_one c [] d e s same one = (e, subst (λ (x : Counts). counted x s ≡ Ok e) (sym same) one, refl)
+counted_one c (r ∷ ss) d e s (m, first, rest) one = (m, first, counted_one m ss d e s rest one)
+
+spells_one : (t : List ℕ) (c : Counts) (from : ℕ) (ss : List Symbol) (to : ℕ) (x : Token) (s : Symbol) (d e : Counts) → SpellsTo t c from ss to → Counted c ss d → IsNext t to x →
+    ¬ (x.kind ≡ End) → StandsFor d.phase (bytes_of t x) x.kind s → counted d s ≡ Ok e → SpellsTo t c from (ss ++ s ∷ []) x.end
+spells_one t c from [] to x s d e same is next inside stands one = (
+  x,
+  e,
+  subst (λ (n : ℕ). IsNext t n x) (sym same) next,
+  inside,
+  subst (λ (k : Counts). StandsFor k.phase (bytes_of t x) x.kind s) (sym is) stands,
+  subst (λ (k : Counts). counted k s ≡ Ok e) (sym is) one,
+  refl,
+)
+spells_one t c from (r ∷ ss) to x s d e (y, m, next', inside', stands', one', rest) (m', first, more) next inside stands one =
+    (y, m, next', inside', stands', one', spells_one t m y.end ss to x s d e rest (subst (λ (k : Counts). Counted k ss d) (ok_same (counted c r) first one') more) next inside stands one)
+
+-- a token that an item takes is not the end of the text
+end_symbol : (p : Phase) (t : List ℕ) (x : Token) (kind : Kind) (s : Symbol) → StandsFor p (bytes_of t x) kind s → kind ≡ End → s ≡ FixedToken EndOfText
+end_symbol p t x kind s stands e = subst (λ (k : Kind). StandsFor p (bytes_of t x) k s) e stands
+
+follows_some : (o : Option Produced) (rest : List Item) (code : List Op) (items' : List Item) (code' : List Op) → Follows o rest code items' code' → o ≢ None
+follows_some None rest code items' code' f e = f
+follows_some (Some p) rest code items' code' f e = cc
+
+not_end : (p : Phase) (t : List ℕ) (x : Token) (i : Item) (s : Symbol) (rest : List Item) (code : List Op) (items' : List Item) (code' : List Op) →
+    StandsFor p (bytes_of t x) x.kind s → IsUsual i → Follows (produced i s) rest code items' code' → ¬ (x.kind ≡ End)
+not_end p t x i s rest code items' code' stands u f ends =
+    follows_some (produced i s) rest code items' code' f
+    (ap (λ (z : Symbol). produced i z) (end_symbol p t x x.kind s stands ends) ∙ no_end i u)
+
+pub taken_not_end : (t : List ℕ) (start counts : Counts) (first : List Item) (initial : List Op) (items : List Item) (code : List Op) (from : ℕ) →
+    Reached t start counts first initial items code from →
+    (x : Token) (s : Symbol) (i : Item) (rest : List Item) (code' : List Op) (items'' : List Item) (code'' : List Op) →
+    StandsFor counts.phase (bytes_of t x) x.kind s → Settles s items code (Some i) rest code' → Follows (produced i s) rest code' items'' code'' → ¬ (x.kind ≡ End)
+taken_not_end t start counts first initial items code from r x s i rest code' items'' code'' stands settles follows =
+    let m : Met (behind_caret r.before) (Some i) rest = settled_met (behind_caret r.before) s items code (Some i) rest code' settles r.exponent in
+    not_end counts.phase t x i s rest code' items'' code'' stands m.1 follows
+
+-- ---- A token is taken
+
+pub taken_on : (t : List ℕ) (start counts next : Counts) (first : List Item) (initial : List Op) (items : List Item) (code : List Op) (from : ℕ) →
+    Reached t start counts first initial items code from →
+    (x : Token) (s : Symbol) (i : Item) (rest : List Item) (code' : List Op) (items'' : List Item) (code'' : List Op) →
+    IsNext t from x → StandsFor counts.phase (bytes_of t x) x.kind s → Settles s items code (Some i) rest code' → Follows (produced i s) rest code' items'' code'' →
+    counted counts s ≡ Ok next → Reached t start next first initial items'' code'' x.end
+taken_on t start counts next first initial items code from r x s i rest code' items'' code'' is_next stands settles follows one =
+    let m : Met (behind_caret r.before) (Some i) rest = settled_met (behind_caret r.before) s items code (Some i) rest code' settles r.exponent in
+    let o : Orderly (i ∷ rest) = settled_orderly s items code (Some i) rest code' settles r.orderly in
+    record {
+      before = r.before ++ s ∷ [];
+      spelled = spells_one t start 0 r.before from x s counts next r.spelled r.within is_next (not_end counts.phase t x i s rest code' items'' code'' stands m.1 follows) stands one;
+      within = counted_one start r.before counts next s r.within one;
+      orderly = taken_orderly i s rest code' items'' code'' (produced i s) refl follows o;
+      exponent = subst (λ (b : Bool). AtExponent b items'') (sym (behind_last r.before s)) (taken_plain i s rest code' items'' code'' (produced i s) refl follows m.1 m.2);
+      forth = λ ss g.
+          taken_forth i s rest code' items'' code'' (produced i s) refl follows o ss
+          (settled_forth s items code (Some i) rest code' settles ss (r.forth (s ∷ ss) (subst (GoesOn first) (append_assoc r.before (s ∷ []) ss) g)));
+      back = λ ss after l.
+          subst (λ (z : List Symbol). Leads first z initial after) (sym (append_assoc r.before (s ∷ []) ss))
+          (r.back (s ∷ ss) after (leads_back items rest items'' code code' code'' after i s ss settles follows l));
+    }
+
+-- ---- The end of the text
+
+pub whole : (t : List ℕ) (start counts : Counts) (first : List Item) (initial : List Op) (items : List Item) (code : List Op) (from : ℕ) →
+    Reached t start counts first initial items code from →
+    (x : Token) (s : Symbol) (rest : List Item) (code' : List Op) →
+    IsNext t from x → x.kind ≡ End → Settles s items code None rest code' → IsSentence t start first initial code'
+whole t start counts first initial items code from r x s rest code' is_next ends settles =
+    let l : Leads first (r.before ++ []) initial code' = r.back [] code' (leads_end s items rest code code' settles) in
+    record {
+      symbols = r.before;
+      steps = l.steps;
+      counts = counts;
+      spelled = (from, x, r.spelled, is_next, ends);
+      within = r.within;
+      derived = subst (λ (z : List Symbol). Derives first z l.steps) (append-nil r.before) l.derived;
+      code_is = l.code_is;
+    }
+
+-- ---- A token is refused
+
+begins_here : (t : List ℕ) (start counts : Counts) (first : List Item) (initial : List Op) (items : List Item) (code : List Op) (from : ℕ) →
+    (r : Reached t start counts first initial items code from) → Begins first r.before
+begins_here t start counts first initial items code from r =
+    let c : Closing items = closing items in
+    let l : Leads first (r.before ++ c.symbols) initial (code ++ c.steps) = r.back c.symbols (code ++ c.steps) (record { steps = c.steps; derived = c.derived; code_is = refl }) in
+    record { rest = c.symbols; steps = l.steps; derived = l.derived }
+
+-- a token that the grammar takes
+begins_with : (t : List ℕ) (start counts : Counts) (first : List Item) (initial : List Op) (items : List Item) (code : List Op) (from : ℕ) →
+    (r : Reached t start counts first initial items code from) →
+    (s : Symbol) (i : Item) (rest : List Item) (code' : List Op) (items'' : List Item) (code'' : List Op) →
+    Settles s items code (Some i) rest code' → Follows (produced i s) rest code' items'' code'' → Begins first (r.before ++ s ∷ [])
+begins_with t start counts first initial items code from r s i rest code' items'' code'' settles follows =
+    let c : Closing items'' = closing items'' in
+    let here : Leads items'' c.symbols code'' (code'' ++ c.steps) = record { steps = c.steps; derived = c.derived; code_is = refl } in
+    let l : Leads first (r.before ++ s ∷ c.symbols) initial (code'' ++ c.steps) =
+    r.back (s ∷ c.symbols) (code'' ++ c.steps) (leads_back items rest items'' code code' code'' (code'' ++ c.steps) i s c.symbols settles follows here) in
+    record {
+      rest = c.symbols;
+      steps = l.steps;
+      derived = subst (λ (z : List Symbol). Derives first z l.steps) (sym (append_assoc r.before (s ∷ []) c.symbols)) l.derived;
+    }
+
+-- what is left of a text that begins with one token more
+left_over : (t : List ℕ) (start counts : Counts) (first : List Item) (initial : List Op) (items : List Item) (code : List Op) (from : ℕ) →
+    (r : Reached t start counts first initial items code from) (s : Symbol) → (b : Begins first (r.before ++ s ∷ [])) → GoesOn items (s ∷ b.rest)
+left_over t start counts first initial items code from r s b =
+    r.forth (s ∷ b.rest) (subst (GoesOn first) (append_assoc r.before (s ∷ []) b.rest) (record { steps = b.steps; derived = b.derived }))
+
+abbrev MeetsOf : Option Item → Symbol → Type 0
+MeetsOf None s = Unit {0}
+MeetsOf (Some i) s = MayEnd i → produced i s ≢ None
+
+settles_meets : (s : Symbol) (items : List Item) (code : List Op) (o : Option Item) (rest : List Item) (code' : List Op) → Settles s items code o rest code' → MeetsOf o s
+settles_meets s items code o rest code' (emptied ops) = tt
+settles_meets s items code o rest code' (met i items' ops meets) = meets
+settles_meets s items code o rest code' (ended i items' ops o' rest' more may never k) = settles_meets s items' (ops ++ step_of i) o' rest' more k
+
+counted_split : (c : Counts) (ss : List Symbol) (d : Counts) (s : Symbol) (rest : List Symbol) (e : Counts) (cause : Cause) → Counted c ss d → counted d s ≡ Err cause →
+    Counted c (ss ++ s ∷ rest) e → ⊥
+counted_split c [] d s rest e cause same err (m, one, more) = ok_err (counted c s) one (ap (λ (x : Counts). counted x s) same ∙ err)
+counted_split c (r ∷ ss) d s rest e cause (m, first, to) err (m', first', more) =
+    counted_split m ss d s rest e cause to err (subst (λ (x : Counts). Counted x (ss ++ s ∷ rest) e) (ok_same (counted c r) first' first) more)
+
+none_begins : (c : Counts) (items : List Item) (before : List Symbol) (d : Counts) (s : Symbol) (cause : Cause) → Counted c before d → IsCause items before d s cause →
+    NoneBegins c items (before ++ s ∷ [])
+none_begins c items before d s cause within (not_allowed never is) b e counts = never b
+none_begins c items before d s cause within (beyond begins err) b e counts =
+    counted_split c before d s b.rest e cause within err (subst (λ (z : List Symbol). Counted c z e) (append_assoc before (s ∷ []) b.rest) counts)
+
+first_fault : (t : List ℕ) (start counts : Counts) (first : List Item) (initial : List Op) (items : List Item) (code : List Op) (from : ℕ) →
+    (r : Reached t start counts first initial items code from) →
+    (x : Token) (s : Symbol) (cause : Cause) → IsNext t from x → StandsFor counts.phase (bytes_of t x) x.kind s → IsCause first r.before counts s cause →
+    IsFirst t start first x.start cause
+first_fault t start counts first initial items code from r x s cause is_next stands because = record {
+  before = r.before;
+  from = from;
+  token = x;
+  symbol = s;
+  counts = counts;
+  spelled = r.spelled;
+  next = is_next;
+  place = refl;
+  stands = stands;
+  within = r.within;
+  begins = begins_here t start counts first initial items code from r;
+  none = none_begins start first r.before counts s cause r.within because;
+  because = because;
+}
+
+-- the item that is met does not begin with it
+pub refused : (t : List ℕ) (start counts : Counts) (first : List Item) (initial : List Op) (items : List Item) (code : List Op) (from : ℕ) →
+    Reached t start counts first initial items code from →
+    (x : Token) (s : Symbol) (i : Item) (rest : List Item) (code' : List Op) (b : Bool) →
+    IsNext t from x → StandsFor counts.phase (bytes_of t x) x.kind s → Settles s items code (Some i) rest code' → produced i s ≡ None → is_exponent i ≡ b →
+    IsFirst t start first x.start (refusal b s)
+refused t start counts first initial items code from r x s i rest code' b is_next stands settles never wanted =
+    let m : Met (behind_caret r.before) (Some i) rest = settled_met (behind_caret r.before) s items code (Some i) rest code' settles r.exponent in
+    first_fault t start counts first initial items code from r x s (refusal b s) is_next stands
+    (not_allowed
+    (λ begins. refused_forth i s rest begins.rest (settles_meets s items code (Some i) rest code' settles) never
+    (settled_forth s items code (Some i) rest code' settles begins.rest (left_over t start counts first initial items code from r s begins)))
+    (ap (λ (z : Bool). refusal z s) (sym wanted ∙ m.0)))
+
+-- nothing more may come
+pub too_much : (t : List ℕ) (start counts : Counts) (first : List Item) (initial : List Op) (items : List Item) (code : List Op) (from : ℕ) →
+    Reached t start counts first initial items code from →
+    (x : Token) (s : Symbol) (rest : List Item) (code' : List Op) →
+    IsNext t from x → StandsFor counts.phase (bytes_of t x) x.kind s → Settles s items code None rest code' → IsFirst t start first x.start (refusal false s)
+too_much t start counts first initial items code from r x s rest code' is_next stands settles =
+    let m : Met (behind_caret r.before) None rest = settled_met (behind_caret r.before) s items code None rest code' settles r.exponent in
+    first_fault t start counts first initial items code from r x s (refusal false s) is_next stands
+    (not_allowed
+    (λ begins. settled_forth s items code None rest code' settles begins.rest (left_over t start counts first initial items code from r s begins))
+    (ap (λ (z : Bool). refusal z s) (sym m)))
+
+-- the limits or the declarations forbid it
+pub forbidden : (t : List ℕ) (start counts : Counts) (first : List Item) (initial : List Op) (items : List Item) (code : List Op) (from : ℕ) →
+    Reached t start counts first initial items code from →
+    (x : Token) (s : Symbol) (i : Item) (rest : List Item) (code' : List Op) (items'' : List Item) (code'' : List Op) (cause : Cause) →
+    IsNext t from x → StandsFor counts.phase (bytes_of t x) x.kind s → Settles s items code (Some i) rest code' → Follows (produced i s) rest code' items'' code'' →
+    counted counts s ≡ Err cause → IsFirst t start first x.start cause
+forbidden t start counts first initial items code from r x s i rest code' items'' code'' cause is_next stands settles follows one =
+    first_fault t start counts first initial items code from r x s cause is_next stands
+    (beyond (begins_with t start counts first initial items code from r s i rest code' items'' code'' settles follows) one)
