@@ -11,3 +11,4 @@ pub mod Shrinking
 pub mod Keeping
 pub mod Props
 pub mod Locality
+pub mod Spelling

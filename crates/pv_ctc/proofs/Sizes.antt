@@ -40,3 +40,11 @@ part_size (q ∷ ps) (suc k) p l e = let g : k < length ps = omega arith in let 
 
 pub part_falls : (ps : List Program) (k : ℕ) (p : Program) (t : ℕ) → k < length ps → p ≡ get_or ps k p → 2 * plans_size (plans_of ps) + 1 ≡ t → 2 * plan_size (plan_of p) < t
 part_falls ps k p t l e h = let s : plan_size (plan_of p) ≤ plans_size (plans_of ps) = part_size ps k p l e in omega arith
+
+part_below : (ps : List Program) (k : ℕ) (p : Program) → k < length ps → p ≡ get_or ps k p → plan_size (plan_of p) < plans_size (plans_of ps)
+part_below [] k p l e = absurd (omega arith)
+part_below (q ∷ ps) zero p l e = let s : plan_size (plan_of p) ≡ plan_size (plan_of q) = ap (λ x. plan_size (plan_of x)) e in omega arith
+part_below (q ∷ ps) (suc k) p l e = let g : k < length ps = omega arith in let s : plan_size (plan_of p) < plans_size (plans_of ps) = part_below ps k p g e in omega arith
+
+pub part_falls_far : (ps : List Program) (k : ℕ) (p : Program) (t : ℕ) → k < length ps → p ≡ get_or ps k p → 2 * plans_size (plans_of ps) ≡ t → 2 * plan_size (plan_of p) < t
+part_falls_far ps k p t l e h = let s : plan_size (plan_of p) < plans_size (plans_of ps) = part_below ps k p l e in omega arith

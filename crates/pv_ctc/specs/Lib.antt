@@ -4,5 +4,6 @@ pub mod Marks
 pub mod Plans
 pub mod Steps
 pub mod Sureness
+pub mod Texts
 pub mod Uses
 pub mod Members

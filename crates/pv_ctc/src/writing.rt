@@ -1,12 +1,18 @@
 // From a program to its text.
 
+ghost use Rattle.std.specs.Prelude.{◌≡◌, ◌++◌, codes, decimal, IfOk, OnOk};
+ghost use Rattle.pv_ctc.specs.Plans.{plan_of, plans_of};
+ghost use Rattle.pv_ctc.specs.Texts.{program_text, parts_text, comma_text};
+
 use crate::program::Program;
 use itoa::Buffer;
 use std::alloc::{AllocError, Global};
 
 impl Program {
     /// The one spelling of the program.
-    pub fn text(&self, alloc: Global) -> Result<Vec<u8>, AllocError> {
+    pub fn text(&self, alloc: Global) -> Result<Vec<u8>, AllocError>
+        ensures { IfOk result (λ text. text.items ≡ program_text (plan_of self.now)) }
+    {
         let mut out = Vec::new(alloc);
         write_program(&mut out, self)?;
         Ok(out)
@@ -14,49 +20,77 @@ impl Program {
 }
 
 #[cycle(writing)]
-fn write_program(out: &mut Vec<u8>, program: &Program) -> Result<(), AllocError> {
+fn write_program(out: &mut Vec<u8>, program: &Program) -> Result<(), AllocError>
+    ensures { OnOk result (out.new.items ≡ out.old.items ++ program_text (plan_of program.now)) }
+{
     match program {
-        Program::Hc4(i) => write_leaf(out, b"hc4(", *i)?,
-        Program::Prop(turns) => write_leaf(out, b"prop(", *turns)?,
-        Program::Compose(parts) => {
-            out.extend_from_slice(b"compose(")?;
-            write_parts(out, parts)?;
-        }
-        Program::Union(parts) => {
-            out.extend_from_slice(b"union(")?;
-            write_parts(out, parts)?;
-        }
+        Program::Hc4(i) => write_leaf(out, b"hc4(", *i),
+        Program::Prop(turns) => write_leaf(out, b"prop(", *turns),
+        Program::Compose(parts) => write_list(out, b"compose(", parts),
+        Program::Union(parts) => write_list(out, b"union(", parts),
         Program::QInter(q, parts) => {
-            write_leaf(out, b"qinter(", *q)?;
-            out.extend_from_slice(b",")?;
-            write_parts(out, parts)?;
+            write_head(out, b"qinter(", *q)?;
+            write_list(out, b",", parts)
         }
         Program::Fix(turns, part) => {
-            write_leaf(out, b"fix(", *turns)?;
-            out.extend_from_slice(b",")?;
+            write_head(out, b"fix(", *turns)?;
+            put(out, b",")?;
             write_program(out, part)?;
+            put(out, b")")
         }
     }
-    out.extend_from_slice(b")")?;
-    Ok(())
+}
+
+// What stands in front of some programs, and then these, with commas between them.
+#[cycle(writing)]
+fn write_list(out: &mut Vec<u8>, head: &[u8], parts: &[Program]) -> Result<(), AllocError>
+    ensures { OnOk result (out.new.items ≡ out.old.items ++ (head.now ++ parts_text 0 (plans_of parts.now) ++ codes ")")) }
+{
+    put(out, head)?;
+    write_parts(out, parts)?;
+    put(out, b")")
 }
 
 // The programs of a list, with commas between them.
 #[cycle(writing)]
-fn write_parts(out: &mut Vec<u8>, parts: &[Program]) -> Result<(), AllocError> {
-    for (i, part) in parts.iter().enumerate() {
-        if i > 0 {
-            out.extend_from_slice(b",")?;
-        }
-        write_program(out, part)?;
+fn write_parts(out: &mut Vec<u8>, parts: &[Program]) -> Result<(), AllocError>
+    ensures { OnOk result (out.new.items ≡ out.old.items ++ parts_text 0 (plans_of parts.now)) }
+{
+    for i in 0..parts.len() {
+        write_comma(out, i)?;
+        write_program(out, &parts[i])?;
     }
     Ok(())
 }
 
+fn write_comma(out: &mut Vec<u8>, i: usize) -> Result<(), AllocError>
+    ensures { OnOk result (out.new.items ≡ out.old.items ++ comma_text i) }
+{
+    if i == 0 {
+        return Ok(());
+    }
+    put(out, b",")
+}
+
+// A word with its parenthesis, a number, and the other parenthesis.
+fn write_leaf(out: &mut Vec<u8>, word: &[u8], n: u32) -> Result<(), AllocError>
+    ensures { OnOk result (out.new.items ≡ out.old.items ++ (word.now ++ decimal n ++ codes ")")) }
+{
+    write_head(out, word, n)?;
+    put(out, b")")
+}
+
 // A word with its parenthesis, and a number.
-fn write_leaf(out: &mut Vec<u8>, word: &[u8], n: u32) -> Result<(), AllocError> {
-    let mut buffer = Buffer::new();
-    out.extend_from_slice(word)?;
-    out.extend_from_slice(buffer.format(n).as_bytes())?;
-    Ok(())
+fn write_head(out: &mut Vec<u8>, word: &[u8], n: u32) -> Result<(), AllocError>
+    ensures { OnOk result (out.new.items ≡ out.old.items ++ (word.now ++ decimal n)) }
+{
+    let mut digits = Buffer::new();
+    put(out, word)?;
+    put(out, digits.format(n).as_bytes())
+}
+
+fn put(out: &mut Vec<u8>, bytes: &[u8]) -> Result<(), AllocError>
+    ensures { OnOk result (out.new.items ≡ out.old.items ++ bytes.now) }
+{
+    out.extend_from_slice(bytes)
 }
