@@ -17,6 +17,7 @@ paver: $(SOURCES)
 
 bench: paver
 	cd crates/pv_bench && rt run -- add 1000 >/dev/null 2>&1
+	cd crates/pv_tree_bench && rt run -- none 0 >/dev/null 2>&1
 	python3 bench/run.py
 
 demo: paver

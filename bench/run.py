@@ -6,6 +6,7 @@
     python3 bench/run.py calls              nanoseconds for the other calls of pv_num
     python3 bench/run.py paving             settled nodes a second, and the share of time that printing takes
     python3 bench/run.py growth             how the time grows as --eps is halved
+    python3 bench/run.py trees              milliseconds for settling, counting, copying, joining and auditing a large tree
 
 Each figure is the best of five runs. Needs rustc for the yardstick; without it only paver's own figures are printed.
 """
@@ -92,8 +93,16 @@ def growth(_):
         print(f"{name:6} eps {eps:.6f} {settled:7} nodes {spent:7.3f} s {spent / settled * 1e6:6.2f} us a node")
 
 
+def trees(_):
+    program = TOP / "crates/pv_tree_bench/out/pv_tree_bench"
+    built, _ = seconds([program, "none", 0])
+    for work, times in ("settle", 1), ("count", 1000), ("clone", 20), ("join", 5), ("audit", 5):
+        spent, _ = seconds([program, work, times])
+        print(f"{work:7} {max(spent - built, 0) / times * 1000:8.1f} ms")
+
+
 def main():
-    parts = {"numbers": numbers, "calls": calls, "paving": paving, "growth": growth}
+    parts = {"numbers": numbers, "calls": calls, "paving": paving, "growth": growth, "trees": trees}
     with tempfile.TemporaryDirectory() as folder:
         for part in sys.argv[1:] or parts:
             parts[part](folder)

@@ -1,0 +1,10 @@
+//! A plain settler, whose set is a half-space, and settling by it: for worked examples of trees and for measurements.
+#![tactic(auto)]
+
+mod above;
+mod steps;
+#[cfg(test)]
+mod tests;
+
+pub use above::Above;
+pub use steps::{settle_first, settle_in_room};
