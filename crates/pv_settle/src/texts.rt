@@ -1,29 +1,38 @@
 // The settings' text and the identity of a settler.
 
+ghost use Rattle.std.specs.Prelude.{◌≡◌, ◌++◌, decimal, IfOk, OnOk};
+ghost use Rattle.pv_num.specs.Parts.{number_text};
+ghost use Rattle.pv_settle.specs.Settlers.{rule_of};
+ghost use Rattle.pv_settle.specs.Spelling.{bisector_text, settings_text, identity_of};
+
 use crate::settler::SystemSettler;
 use itoa::Buffer;
 use pv_box::Bisector;
-use pv_num::Memory;
+use pv_num::{Memory, Num};
 use sha2::{Digest, Sha256};
 use std::alloc::Global;
 
 impl SystemSettler {
     /// The settings, a line each: the width, the depth, the bisector and the program.
-    pub fn settings_text(&self, alloc: Global) -> Result<Vec<u8>, Memory> {
+    pub fn settings_text(&self, alloc: Global) -> Result<Vec<u8>, Memory>
+        ensures { IfOk result (λ text. text.items ≡ settings_text (rule_of self.now)) }
+    {
+        let program = self.program.text(alloc)?;
         let mut out = Vec::new(alloc);
-        let mut buffer = Buffer::new();
-        out.extend_from_slice(b"eps ")?;
-        self.settings.eps.write_text(&mut out)?;
-        out.extend_from_slice(b"\ndepth ")?;
-        out.extend_from_slice(buffer.format(self.settings.depth).as_bytes())?;
-        out.extend_from_slice(bisector_text(self.settings.bisector))?;
-        out.extend_from_slice(&self.program.text(alloc)?)?;
-        out.extend_from_slice(b"\n")?;
+        put(&mut out, b"eps ")?;
+        put_end(&mut out, self.settings.eps)?;
+        put(&mut out, b"\ndepth ")?;
+        put_number(&mut out, self.settings.depth)?;
+        put(&mut out, bisector_text(self.settings.bisector))?;
+        put(&mut out, &program)?;
+        put(&mut out, b"\n")?;
         Ok(out)
     }
 
     /// The SHA-256 digest of the system's canonical text followed by the settings' text.
-    pub fn identity(&self, alloc: Global) -> Result<[u8; 32], Memory> {
+    pub fn identity(&self, alloc: Global) -> Result<[u8; 32], Memory>
+        ensures { IfOk result (λ digest. digest ≡ identity_of (rule_of self.now)) }
+    {
         let canonical = self.system.canonical_text(alloc)?;
         let settings = self.settings_text(alloc)?;
         let mut hasher = Sha256::new();
@@ -33,9 +42,32 @@ impl SystemSettler {
     }
 }
 
-fn bisector_text(bisector: Bisector) -> &'static [u8] {
+fn bisector_text(bisector: Bisector) -> &'static [u8]
+    ensures { result.now ≡ bisector_text bisector }
+{
     match bisector {
         Bisector::Largest => b"\nbisect largest\ncontract ",
         Bisector::Round => b"\nbisect round\ncontract ",
     }
+}
+
+fn put(out: &mut Vec<u8>, bytes: &[u8]) -> Result<(), Memory>
+    ensures { OnOk result (out.new.items ≡ out.old.items ++ bytes.now) }
+{
+    out.extend_from_slice(bytes)?;
+    Ok(())
+}
+
+fn put_number(out: &mut Vec<u8>, n: u32) -> Result<(), Memory>
+    ensures { OnOk result (out.new.items ≡ out.old.items ++ decimal n) }
+{
+    let mut digits = Buffer::new();
+    put(out, digits.format(n).as_bytes())
+}
+
+fn put_end(out: &mut Vec<u8>, end: Num) -> Result<(), Memory>
+    ensures { OnOk result (out.new.items ≡ out.old.items ++ number_text end) }
+{
+    end.write_text(out)?;
+    Ok(())
 }
