@@ -1,17 +1,16 @@
 -- A graph grows by whole terms.
-use Rattle.std.proofs.Common.{◌≡◌, ◌⊎◌, inl, inr, ℕ, ◌+◌, ◌<◌, ◌≤◌, List, [], ◌∷◌, ◌++◌, length, refl, ap, sym, ◌∙◌, subst, arith, append_assoc, length-append}
+use Rattle.std.proofs.Common.{◌≡◌, inl, inr, ℕ, ◌<◌, ◌≤◌, List, [], ◌++◌, length, refl, ap, sym, ◌∙◌, subst, arith, append_assoc, length-append}
 use Rattle.std.proofs.lemmas.Bool.{cases_lt}
 use Rattle.std.specs.Prelude.{Result, Ok, Err, IfOk, OnOk}
 use Rattle.pv_expr.specs.Terms.{Term, constant, place, one, two}
 use Rattle.pv_hc4.specs.declared.node.Node.{Node}
-use Rattle.pv_hc4.specs.declared.node.Node.TheVariants.{Constant, Place, One, Two}
+use Rattle.pv_hc4.specs.declared.node.Node.TheVariants.{One, Two}
 use Rattle.pv_hc4.specs.declared.node.UnaryOp.{UnaryOp}
 use Rattle.pv_hc4.specs.declared.node.BinaryOp.{BinaryOp}
 use Rattle.pv_hc4.specs.Nodes.{term_at, node_at, node_term, terms, AreOrdered, unary_named, binary_named}
 use Rattle.pv_hc4.specs.Building.{IsPart, HasTerm, Grows, Holds}
 use Rattle.pv_expr.specs.declared.constraint.Relation.{Relation}
 use Rattle.pv_expr.specs.Systems.{IsOver}
-use Rattle.pv_hc4.specs.Revise.{Sides}
 use Rattle.pv_hc4.specs.Graphs.{IsGraph, sides_of}
 use Rattle.pv_hc4.proofs.Growth.{term_step, terms_keep, length-terms}
 

@@ -1,6 +1,6 @@
 -- Ends and the values of two sides.
-use Rattle.std.proofs.Common.{◌≡◌, ℕ, zero, suc, ◌<◌, ◌≤◌, refl, ap, sym, ◌∙◌, subst, arith, rules}
-use Rattle.std.specs.Prelude.{IsTrue, Bool, true, false, ℤ, pos, ◌*ℤ◌, ◌≤ℤ◌, ◌<ℤ◌}
+use Rattle.std.proofs.Common.{◌≡◌, ℕ, ◌<◌, refl, ap, arith, rules}
+use Rattle.std.specs.Prelude.{IsTrue, true, ℤ, pos, ◌*ℤ◌, ◌≤ℤ◌, ◌<ℤ◌}
 use Rattle.std.proofs.lemmas.Int.{ints, by_lt_z}
 use Rattle.pv_num.specs.Extended.{Extended, NegInf, Fin, PosInf}
 use Rattle.pv_num.specs.Grid.{unit}
@@ -8,7 +8,7 @@ use Rattle.std.specs.Ordering.{eq_by_cmp}
 use Rattle.pv_num.specs.Order.{le, lt, order_of}
 use Rattle.pv_interval.specs.Points.{IsBelow, IsAbove}
 use Rattle.pv_interval.proofs.Integers.{swap_last}
-use Rattle.pv_interval.proofs.Products.{times_pos, times_pos_strict, cancel_pos, trans}
+use Rattle.pv_interval.proofs.Products.{times_pos, times_pos_strict, cancel_pos}
 use Rattle.pv_interval.proofs.Multiples.{unit_some}
 use Rattle.pv_interval.proofs.Values.{below_le}
 

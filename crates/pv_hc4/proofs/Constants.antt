@@ -1,5 +1,5 @@
 -- The interval of a constant is one.
-use Rattle.std.proofs.Common.{◌≡◌, ◌≢◌, ℕ, ◌<◌, ◌≤◌, refl, ap, sym, ◌∙◌, arith, rules}
+use Rattle.std.proofs.Common.{◌≡◌, ◌≢◌, ℕ, ◌≤◌, refl, ap, ◌∙◌, arith, rules}
 use Rattle.std.specs.Prelude.{IsTrue, ℤ, pos, ◌*ℤ◌, Option, Some, None, Bool, true, false, cond, ◌&&◌}
 use Rattle.std.proofs.lemmas.Int.{ints}
 use Rattle.pv_num.specs.Extended.{Extended, NegInf, Fin, PosInf}

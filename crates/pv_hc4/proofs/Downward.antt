@@ -1,9 +1,9 @@
 -- The downward pass, node by node.
-use Rattle.std.proofs.Common.{◌≡◌, ℕ, ◌+◌, ◌<◌, ◌≤◌, List, [], ◌∷◌, ◌++◌, length, refl, ap, sym, ◌∙◌, subst, arith, get_or}
+use Rattle.std.proofs.Common.{◌≡◌, ℕ, ◌<◌, List, [], ◌∷◌, ◌++◌, length, refl, ap, sym, ◌∙◌, subst, arith, get_or}
 use Rattle.std.specs.Prelude.{Option, Some, None, slice_set}
 use Rattle.pv_interval.specs.Bounds.{Bounds}
 use Rattle.pv_interval.specs.Tables.{meet_of}
-use Rattle.pv_expr.specs.Terms.{Term, constant, place, one, two, Unary, Binary}
+use Rattle.pv_expr.specs.Terms.{Term, one, two, Unary, Binary}
 use Rattle.pv_interval.specs.Bounds.{everything}
 use Rattle.std.specs.Prelude.{Bool, true, false}
 use Rattle.std.proofs.lemmas.List.{get_or_read}
@@ -15,7 +15,7 @@ use Rattle.pv_hc4.specs.Graphs.{AreValues}
 use Rattle.pv_hc4.specs.Chain.{chain, at, Gives}
 use Rattle.pv_hc4.specs.Forward.{forward_of}
 use Rattle.pv_hc4.specs.Revise.{back_1, back_2, Target, joined, targets_of, applied, went}
-use Rattle.pv_hc4.specs.Nodes.{term_at, node_at, node_term, terms, AreOrdered, ReadsBelow, unary_named, binary_named}
+use Rattle.pv_hc4.specs.Nodes.{term_at, node_term, terms, AreOrdered, ReadsBelow, unary_named, binary_named}
 use Rattle.pv_hc4.proofs.Growth.{term_step}
 use Rattle.pv_hc4.proofs.Passing.{node_default}
 

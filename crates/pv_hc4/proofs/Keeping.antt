@@ -1,18 +1,17 @@
 -- A revision keeps each point at which the constraint holds.
-use Rattle.std.proofs.Common.{◌≡◌, ◌≢◌, ℕ, zero, suc, ◌+◌, ◌<◌, ◌≤◌, List, [], ◌∷◌, ◌++◌, length, refl, ap, sym, ◌∙◌, subst, arith, rules, eqb-true}
-use Rattle.std.specs.Prelude.{IsTrue, Option, Some, None, Bool, true, false, ℤ, pos, ◌*ℤ◌, ◌≤ℤ◌, ◌<ℤ◌, slice_get, nat_eq, if◌then◌else◌}
+use Rattle.std.proofs.Common.{◌≡◌, ℕ, suc, ◌+◌, ◌<◌, List, [], ◌∷◌, ◌++◌, ap, sym, ◌∙◌, subst, arith, eqb-true}
+use Rattle.std.specs.Prelude.{Option, Some, None, true, ℤ, pos, ◌*ℤ◌, ◌≤ℤ◌, ◌<ℤ◌, slice_get, nat_eq}
 use Rattle.std.proofs.lemmas.Int.{ints}
-use Rattle.pv_num.specs.Order.{le, lt, lesser, greater}
+use Rattle.pv_num.specs.Order.{le, lt}
 use Rattle.pv_interval.specs.Bounds.{Bounds}
 use Rattle.pv_interval.specs.Fractions.{Fraction, plus, minus, times, least as lesser_of, greatest as larger_of}
-use Rattle.pv_interval.specs.Points.{IsBelow, IsAbove, Lies, LiesIn, LiesInSome, Point}
+use Rattle.pv_interval.specs.Points.{IsBelow, IsAbove, LiesIn, LiesInSome, Point}
 use Rattle.pv_interval.specs.Tables.{meet_of}
 use Rattle.pv_interval.proofs.Choices.{lesser_either, greater_either}
 use Rattle.pv_interval.proofs.Ends.{lt_not}
 use Rattle.pv_interval.proofs.Orders.{cond_keeps, above_down, below_up, meet_keeps}
-use Rattle.pv_interval.proofs.Values.{across, below_le}
+use Rattle.pv_interval.proofs.Values.{across}
 use Rattle.pv_project.specs.Kept.{PairIn}
-use Rattle.pv_project.specs.Projections.{back_add_of, back_sub_of, back_mul_of, back_min_of, back_max_of}
 use Rattle.pv_project.proofs.Kept.{back_add_keeps, back_sub_keeps, back_mul_keeps, back_div_keeps, back_min_keeps, back_max_keeps, back_neg_keeps, back_abs_keeps}
 use Rattle.pv_project.proofs.RootsKept.{back_pow_keeps}
 use Rattle.pv_project.proofs.Same.{IsSame, same_back, same_lies}
@@ -21,13 +20,13 @@ use Rattle.pv_box.specs.Members.{PointInSome}
 use Rattle.pv_expr.specs.Systems.{IsOver}
 use Rattle.pv_expr.specs.declared.constraint.Relation.{Relation}
 use Rattle.pv_expr.specs.declared.constraint.Relation.TheVariants.{Eq, Le, Ge, Lt, Gt}
-use Rattle.pv_expr.specs.Terms.{Unary, negation, absolute, power, Binary, sum, difference, product, quotient, least, greatest, Term, constant, place, one, two, unary_value, binary_value, with_one, with_two, coordinate, value_at, Stands, HoldsBetween}
-use Rattle.pv_hc4.specs.Chain.{chain, at}
+use Rattle.pv_expr.specs.Terms.{Unary, negation, absolute, power, Binary, sum, difference, product, quotient, least, greatest, Term, constant, place, one, two, unary_value, binary_value, coordinate, value_at, Stands}
+use Rattle.pv_hc4.specs.Chain.{chain}
 use Rattle.pv_hc4.specs.Forward.{forward_of}
 use Rattle.pv_hc4.specs.Revise.{back_1, back_2, Target, joined, targets_of, place_of, places_from, Sides, ordered_of, swapped, related_of, both_targets, revised}
 use Rattle.pv_hc4.specs.Members.{HoldsAt}
 use Rattle.pv_hc4.proofs.Lying.{InSome, same_value, one_value, two_values, forward_lies}
-use Rattle.pv_hc4.proofs.Comparing.{through_end, no_room}
+use Rattle.pv_hc4.proofs.Comparing.{no_room}
 
 -- ---- targets hold the coordinates of their variables
 

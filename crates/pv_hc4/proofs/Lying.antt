@@ -1,10 +1,10 @@
 -- The value of a term at a point of the box lies in its forward interval.
-use Rattle.std.proofs.Common.{◌≡◌, ℕ, zero, suc, ◌<◌, ◌≤◌, List, [], ◌∷◌, length, refl, ap, sym, ◌∙◌, subst, arith}
+use Rattle.std.proofs.Common.{◌≡◌, ℕ, zero, suc, ◌≤◌, List, [], ◌∷◌, refl, subst, arith}
 use Rattle.std.specs.Prelude.{Option, Some, None, ℤ, pos, ◌*ℤ◌, slice_get}
 use Rattle.std.proofs.lemmas.Int.{ints}
 use Rattle.pv_num.specs.Grid.{unit}
 use Rattle.pv_interval.specs.Bounds.{Bounds}
-use Rattle.pv_interval.specs.Fractions.{Fraction, plus, minus, times, over, opposite, size, power as raised, least as lesser, greatest as larger}
+use Rattle.pv_interval.specs.Fractions.{Fraction, plus, minus, times, least as lesser, greatest as larger}
 use Rattle.pv_interval.specs.Points.{Lies, LiesIn, LiesInSome, Point}
 use Rattle.pv_interval.specs.Tables as table
 use Rattle.pv_interval.proofs.Values.{below_rounded, above_rounded}

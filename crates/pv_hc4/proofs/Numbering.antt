@@ -1,10 +1,10 @@
 -- The map of numbers as the graph grows, and that equal terms have one node.
-use Rattle.std.proofs.Common.{◌≡◌, ◌≢◌, ℕ, zero, suc, ◌+◌, ◌<◌, ◌≤◌, List, [], ◌∷◌, ◌++◌, length, refl, ap, sym, ◌∙◌, subst, arith, inl, inr, cond, Bool, true, false, length-append, rules}
-use Rattle.std.specs.Prelude.{Option, Some, None}
+use Rattle.std.proofs.Common.{◌≡◌, ◌≢◌, ℕ, zero, suc, ◌<◌, ◌≤◌, List, [], ◌∷◌, ◌++◌, length, refl, ap, sym, ◌∙◌, subst, arith, inl, inr, cond, Bool, true, false, length-append, rules}
+use Rattle.std.specs.Prelude.{Some}
 use Rattle.std.specs.HashMap.{HashMap, get}
 use Rattle.std.proofs.lemmas.Bool.{cases_lt}
 use Rattle.std.proofs.lemmas.List.{get_or_append_left}
-use Rattle.pv_expr.specs.Terms.{Term, constant, place, one, two, Unary, negation, absolute, power, Binary, sum, difference, product, quotient, least, greatest}
+use Rattle.pv_expr.specs.Terms.{Term, Binary, sum, difference, product, quotient, least, greatest}
 use Rattle.pv_hc4.specs.declared.node.Node.{Node}
 use Rattle.pv_hc4.specs.declared.node.Node.TheVariants.{Constant, Place, One, Two}
 use Rattle.pv_hc4.specs.declared.node.UnaryOp.{UnaryOp}
@@ -12,7 +12,7 @@ use Rattle.pv_hc4.specs.declared.node.UnaryOp.TheVariants.{Neg, Abs, Pow}
 use Rattle.pv_hc4.specs.declared.node.BinaryOp.{BinaryOp}
 use Rattle.pv_hc4.specs.declared.node.BinaryOp.TheVariants.{Add, Sub, Mul, Div, Min, Max}
 use Rattle.pv_hc4.specs.Nodes.{term_at, node_at, node_term, terms, AreOrdered, ReadsBelow, unary_named, binary_named}
-use Rattle.pv_hc4.specs.Numbers.{same_node, AreNumbered, IsPartOfSides, CountsParts}
+use Rattle.pv_hc4.specs.Numbers.{same_node, AreNumbered, CountsParts}
 use Rattle.pv_hc4.specs.Graphs.{Parts, IsGraph, sides_of}
 use Rattle.pv_hc4.proofs.Growth.{term_step, length-terms}
 

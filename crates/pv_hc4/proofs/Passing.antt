@@ -1,11 +1,11 @@
 -- The forward pass: each node's interval is its term's.
-use Rattle.std.proofs.Common.{◌≡◌, ◌≢◌, ℕ, zero, suc, ◌+◌, ◌<◌, ◌≤◌, List, [], ◌∷◌, length, refl, ap, sym, ◌∙◌, subst, arith, get_or, inl, inr, below_more}
+use Rattle.std.proofs.Common.{◌≡◌, ◌≢◌, ℕ, zero, suc, ◌+◌, ◌<◌, List, [], ◌∷◌, length, refl, ap, sym, ◌∙◌, subst, arith, get_or, inl, inr, below_more}
 use Rattle.std.proofs.lemmas.List.{get_or_read, get_or-set_same, get_or-set_other}
 use Rattle.std.proofs.lemmas.Bool.{cases_eq}
 use Rattle.pv_interval.specs.Bounds.{everything}
-use Rattle.std.specs.Prelude.{Option, Some, None, slice_set}
+use Rattle.std.specs.Prelude.{Option, Some, slice_set}
 use Rattle.pv_interval.specs.Bounds.{Bounds}
-use Rattle.pv_expr.specs.Terms.{Term, constant, place, one, two}
+use Rattle.pv_expr.specs.Terms.{Term}
 use Rattle.pv_hc4.specs.declared.node.Node.{Node}
 use Rattle.pv_hc4.specs.declared.node.Node.TheVariants.{Constant, Place, One, Two}
 use Rattle.pv_hc4.specs.Chain.{chain, at}

@@ -1,5 +1,5 @@
 -- What a revision and the sure test say of points, from their exact answers.
-use Rattle.std.proofs.Common.{◌≡◌, ℕ, List, [], ◌∷◌, length, refl, ap, sym, ◌∙◌, subst}
+use Rattle.std.proofs.Common.{◌≡◌, ℕ, List, [], ◌∷◌, length, refl, sym, ◌∙◌, subst}
 use Rattle.std.specs.Prelude.{IsTrue, Bool, Option, Some, None, Result, Ok, Err, IfOk, OnErr}
 use Rattle.pv_interval.specs.Bounds.{Bounds}
 use Rattle.pv_interval.specs.Points.{Point}
@@ -9,7 +9,7 @@ use Rattle.pv_box.specs.Members.{PointInSome}
 use Rattle.pv_hc4.specs.Graphs.{IsAnswer}
 use Rattle.pv_hc4.specs.Revise.{Sides, revised}
 use Rattle.pv_hc4.specs.Totality.{sure_of}
-use Rattle.pv_hc4.specs.Members.{AreOver, AreWithin, HoldsAt, HoldsOn, Stays, LosesNone}
+use Rattle.pv_hc4.specs.Members.{AreOver, AreWithin, HoldsOn, Stays, LosesNone}
 use Rattle.pv_hc4.specs.declared.revised.Revised.{Revised}
 use Rattle.pv_hc4.specs.declared.revised.Revised.TheVariants.{Kept, Changed, Empty}
 use Rattle.pv_hc4.proofs.Keeping.{revised-keeps}

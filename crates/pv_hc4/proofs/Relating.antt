@@ -1,5 +1,5 @@
 -- The new intervals of two sides.
-use Rattle.std.proofs.Common.{◌≡◌, refl, ap, sym, ◌∙◌, subst}
+use Rattle.std.proofs.Common.{◌≡◌, ap, sym, ◌∙◌}
 use Rattle.std.specs.Prelude.{Option, Some, None, Bool, true, false, cond, ◌&&◌}
 use Rattle.pv_num.specs.Extended.{Extended, NegInf, PosInf}
 use Rattle.pv_num.specs.Order.{le, lt, lesser, greater}

@@ -1,16 +1,13 @@
 -- A revision as its definition, from a pass up and two walks down.
-use Rattle.std.proofs.Common.{◌≡◌, ◌⊎◌, inl, inr, ℕ, ◌+◌, ◌<◌, ◌≤◌, List, [], ◌∷◌, ◌++◌, length, refl, ap, sym, ◌∙◌, subst, get_or, arith}
-use Rattle.std.specs.Prelude.{Option, Some, None, Bool, true, false}
+use Rattle.std.proofs.Common.{◌≡◌, ◌⊎◌, inl, inr, ℕ, ◌<◌, List, [], ◌∷◌, ◌++◌, length, refl, ap, sym, ◌∙◌, subst, get_or, arith}
+use Rattle.std.specs.Prelude.{Option, Some, None}
 use Rattle.std.proofs.lemmas.List.{get_or_read}
 use Rattle.pv_interval.specs.Bounds.{Bounds, everything}
-use Rattle.pv_interval.specs.Tables.{meet_of}
-use Rattle.pv_expr.specs.declared.constraint.Relation.{Relation}
-use Rattle.pv_expr.specs.Terms.{Term, constant, place, one, two, Unary, Binary}
+use Rattle.pv_expr.specs.Terms.{Term, constant, place, one, two, Binary}
 use Rattle.pv_expr.specs.Systems.{IsOver}
 use Rattle.pv_hc4.specs.declared.node.Node.{Node}
 use Rattle.pv_hc4.specs.declared.revised.Revised.{Revised}
-use Rattle.pv_hc4.specs.declared.revised.Revised.TheVariants.{Empty}
-use Rattle.pv_hc4.specs.Chain.{chain, at}
+use Rattle.pv_hc4.specs.Chain.{chain}
 use Rattle.pv_hc4.specs.Forward.{forward_of, unary_of, binary_of}
 use Rattle.pv_hc4.specs.Revise.{back_1, back_2, Target, joined, targets_of, applied, places_from, Sides, related_of, both_targets, revised, narrowed_of}
 use Rattle.pv_hc4.specs.Nodes.{term_at, terms}

@@ -1,25 +1,23 @@
 -- Where the sure test says so, the constraint holds at each point of the box.
-use Rattle.std.proofs.Common.{◌≡◌, ◌≢◌, ℕ, zero, suc, ◌<◌, ◌≤◌, List, [], ◌∷◌, length, refl, ap, sym, ◌∙◌, subst, arith, rules}
-use Rattle.std.specs.Prelude.{IsTrue, Option, Some, None, Bool, true, false, not, ◌&&◌, ℤ, pos, negsuc, ◌*ℤ◌, ◌≤ℤ◌, ◌<ℤ◌, slice_get}
+use Rattle.std.proofs.Common.{◌≡◌, ℕ, zero, suc, ◌<◌, List, [], ◌∷◌, length, refl, ap, sym, ◌∙◌, subst, arith}
+use Rattle.std.specs.Prelude.{IsTrue, Option, Some, None, Bool, true, false, not, ◌&&◌, ℤ, pos, negsuc, ◌*ℤ◌, ◌≤ℤ◌, slice_get}
 use Rattle.std.proofs.lemmas.Int.{ints}
-use Rattle.pv_num.specs.Extended.{Extended, NegInf, Fin, PosInf}
-use Rattle.pv_num.specs.Order.{le, lt}
+use Rattle.pv_num.specs.Order.{le}
 use Rattle.pv_interval.specs.Bounds.{Bounds}
 use Rattle.pv_interval.specs.Fractions.{Fraction, over, over_parts, plus, minus, times, least as lesser_of, greatest as larger_of}
-use Rattle.pv_interval.specs.Points.{IsBelow, IsAbove, Lies, LiesIn, LiesInSome, Point}
+use Rattle.pv_interval.specs.Points.{IsBelow, IsAbove, Lies, LiesIn, Point}
 use Rattle.pv_interval.specs.Tables.{nought, has_nought}
 use Rattle.pv_interval.proofs.Values.{across, below_le}
 use Rattle.pv_interval.proofs.Multiples.{zero_below, zero_above}
-use Rattle.pv_interval.proofs.Ends.{le_refl}
 use Rattle.pv_box.specs.Boxes.{LieIn, PointIn}
 use Rattle.pv_expr.specs.Systems.{IsOver}
 use Rattle.pv_expr.specs.declared.constraint.Relation.{Relation}
 use Rattle.pv_expr.specs.declared.constraint.Relation.TheVariants.{Eq, Le, Ge, Lt, Gt}
-use Rattle.pv_expr.specs.Terms.{Unary, Binary, sum, difference, product, quotient, least, greatest, Term, constant, place, one, two, unary_value, binary_value, with_one, with_two, coordinate, value_at, Stands, HoldsBetween}
+use Rattle.pv_expr.specs.Terms.{Unary, Binary, sum, difference, product, quotient, least, greatest, Term, constant, place, one, two, unary_value, binary_value, with_one, with_two, coordinate, value_at, Stands}
 use Rattle.pv_hc4.specs.Chain.{chain}
 use Rattle.pv_hc4.specs.Forward.{forward_of}
 use Rattle.pv_hc4.specs.Revise.{Sides}
-use Rattle.pv_hc4.specs.Totality.{divides_well, total_of, forward_sides, same_number, ends_decide, decided, sure_of}
+use Rattle.pv_hc4.specs.Totality.{divides_well, total_of, same_number, ends_decide, decided, sure_of}
 use Rattle.pv_hc4.specs.Members.{HoldsAt}
 use Rattle.pv_hc4.proofs.Lying.{InSome, forward_lies}
 use Rattle.pv_hc4.proofs.Comparing.{through_end, through_room, same_end}

@@ -1,9 +1,8 @@
 -- Divisors, node by node.
-use Rattle.std.proofs.Common.{◌≡◌, ◌⊎◌, inl, inr, ℕ, ◌+◌, ◌<◌, ◌≤◌, List, length, refl, ap, sym, ◌∙◌, subst, arith, get_or, below_more}
-use Rattle.std.specs.Prelude.{Option, Some, None, Bool, true, false, not, ◌&&◌}
+use Rattle.std.proofs.Common.{◌≡◌, inl, inr, ℕ, ◌+◌, ◌<◌, List, length, refl, ap, sym, ◌∙◌, arith, get_or, below_more}
+use Rattle.std.specs.Prelude.{Some, None, Bool, true, false, ◌&&◌}
 use Rattle.pv_interval.specs.Bounds.{Bounds}
-use Rattle.pv_interval.specs.Tables.{has_nought}
-use Rattle.pv_expr.specs.Terms.{Term, constant, place, one, two, Binary, quotient}
+use Rattle.pv_expr.specs.Terms.{Term, constant, place, one, two}
 use Rattle.pv_hc4.specs.declared.node.BinaryOp.{BinaryOp}
 use Rattle.pv_hc4.specs.declared.node.BinaryOp.TheVariants.{Add, Sub, Mul, Div, Min, Max}
 use Rattle.pv_hc4.specs.declared.node.Node.{Node}

@@ -1,18 +1,18 @@
 -- A constraint that is sure on a box narrows nothing.
-use Rattle.std.proofs.Common.{◌≡◌, ◌≢◌, ℕ, zero, suc, ◌+◌, ◌%◌, ◌<◌, ◌≤◌, List, [], ◌∷◌, ◌++◌, length, refl, ap, sym, ◌∙◌, subst, arith, rules, eqb, eqb-true, get_or}
+use Rattle.std.proofs.Common.{◌≡◌, ℕ, suc, ◌+◌, ◌%◌, List, [], ◌∷◌, ◌++◌, refl, ap, sym, ◌∙◌, subst, arith, eqb, eqb-true, get_or}
 use Rattle.std.specs.Prelude.{IsTrue, Option, Some, None, Bool, true, false, ◌&&◌, cond, nat_eq, All, ℤ, pos, ◌*ℤ◌, ◌≤ℤ◌, ◌-ℤ◌, ◌+ℤ◌, if◌then◌else◌}
 use Rattle.std.proofs.lemmas.Int.{ints}
 use Rattle.pv_num.specs.Extended.{Extended, NegInf, Fin, PosInf}
 use Rattle.pv_num.specs.Grid.{unit}
 use Rattle.pv_num.specs.Order.{le, lt, lesser, greater}
-use Rattle.pv_interval.specs.Bounds.{Bounds, IsInterval, between, everything}
+use Rattle.pv_interval.specs.Bounds.{Bounds, IsInterval, between}
 use Rattle.pv_interval.specs.Fractions.{Fraction}
-use Rattle.pv_interval.specs.Points.{IsBelow, IsAbove, Lies, LiesIn, LiesInSome}
+use Rattle.pv_interval.specs.Points.{IsBelow, IsAbove, LiesIn}
 use Rattle.pv_interval.specs.Tables.{nought, is_nought, holds, meet_of, hull_of, negated, difference_of, sum_of, product_of}
 use Rattle.pv_interval.proofs.Cases.{meet_some}
 use Rattle.pv_interval.proofs.Choices.{lesser_first, greater_first, greater_second, lesser_either, greater_either}
 use Rattle.pv_interval.proofs.Ends.{le_refl, le_trans, le_antisym, le_of_false, lt_not}
-use Rattle.pv_interval.proofs.Intervals.{Member, member, in_units}
+use Rattle.pv_interval.proofs.Intervals.{member, in_units}
 use Rattle.pv_interval.proofs.Multiples.{unit_some}
 use Rattle.pv_interval.proofs.Orders.{cond_keeps}
 use Rattle.pv_interval.proofs.Products.{times_pos, cancel_pos}
@@ -22,11 +22,11 @@ use Rattle.pv_project.specs.Projections.{chain as chain_there, narrowed, factor_
 use Rattle.pv_expr.specs.Systems.{IsOver}
 use Rattle.pv_expr.specs.declared.constraint.Relation.{Relation}
 use Rattle.pv_expr.specs.declared.constraint.Relation.TheVariants.{Eq, Le, Ge, Lt, Gt}
-use Rattle.pv_expr.specs.Terms.{Unary, negation, absolute, power, Binary, sum, difference, product, quotient, least, greatest, Term, constant, place, one, two, unary_value}
+use Rattle.pv_expr.specs.Terms.{Unary, negation, absolute, power, Binary, sum, difference, product, quotient, least, greatest, Term, constant, place, one, two}
 use Rattle.pv_hc4.specs.Chain.{chain, at}
 use Rattle.pv_hc4.specs.Forward.{forward_of, unary_of, binary_of}
 use Rattle.pv_hc4.specs.Revise.{back_1, back_2, Target, joined, targets_of, place_of, places_from, Sides, ordered_of, swapped, related_of, both_targets, revised}
-use Rattle.pv_hc4.specs.Totality.{divides_well, total_of, same_number, ends_decide, decided, forward_sides, sure_of}
+use Rattle.pv_hc4.specs.Totality.{divides_well, total_of, same_number, ends_decide, decided, sure_of}
 use Rattle.pv_hc4.proofs.Comparing.{same_end}
 use Rattle.pv_hc4.proofs.Keeping.{unary_back, binary_back}
 use Rattle.pv_hc4.proofs.Lying.{InSome, unary_lies, binary_lies}

@@ -1,14 +1,13 @@
 -- What a revision leaves lies in the box, and is a box.
-use Rattle.std.proofs.Common.{◌≡◌, ◌≢◌, ℕ, zero, suc, ◌+◌, ◌%◌, ◌<◌, ◌≤◌, List, [], ◌∷◌, ◌++◌, length, refl, ap, sym, ◌∙◌, subst, arith, rules, eqb}
-use Rattle.std.specs.Prelude.{IsTrue, Option, Some, None, Bool, true, false, ◌&&◌, cond, nat_eq, All, pos, if◌then◌else◌, slice_index_or}
+use Rattle.std.proofs.Common.{◌≡◌, ◌≢◌, ℕ, zero, suc, ◌+◌, ◌%◌, ◌<◌, ◌≤◌, List, [], ◌∷◌, ◌++◌, length, refl, ap, sym, subst, arith, eqb}
+use Rattle.std.specs.Prelude.{IsTrue, Option, Some, None, Bool, true, false, ◌&&◌, nat_eq, All, pos, if◌then◌else◌}
 use Rattle.pv_num.specs.Extended.{Extended, NegInf, Fin, PosInf}
 use Rattle.pv_num.specs.Grid.{unit}
 use Rattle.pv_num.specs.Order.{le, lt, lesser, greater}
 use Rattle.pv_num.specs.Arithmetic.{neg_of, root_of}
 use Rattle.pv_num.specs.declared.num.End.TheVariants.{Down, Up}
 use Rattle.pv_interval.specs.Bounds.{Bounds, IsInterval, between, everything}
-use Rattle.pv_interval.specs.Tables as table
-use Rattle.pv_interval.specs.Tables.{nought, has_nought, is_nought, holds, meet_of, hull_of, negated, quotient_of, sum_of, difference_of, product_of}
+use Rattle.pv_interval.specs.Tables.{nought, has_nought, is_nought, holds, meet_of, negated, quotient_of, sum_of, difference_of, product_of}
 use Rattle.pv_interval.proofs.Choices.{lesser_left, greater_left, lesser_either, greater_either}
 use Rattle.pv_interval.proofs.Ends.{le_refl, le_trans, le_of_false, lt_from}
 use Rattle.pv_interval.proofs.Intervals.{sum_interval, difference_interval, product_interval, least_interval, greatest_interval, hull_interval, negated_interval, absolute_interval, power_interval, quotient_interval}
@@ -21,7 +20,7 @@ use Rattle.pv_expr.specs.declared.constraint.Relation.{Relation}
 use Rattle.pv_expr.specs.declared.constraint.Relation.TheVariants.{Eq, Le, Ge, Lt, Gt}
 use Rattle.pv_expr.specs.Terms.{Unary, negation, absolute, power, Binary, sum, difference, product, quotient, least, greatest, Term, constant, place, one, two}
 use Rattle.pv_hc4.specs.Chain.{chain, at}
-use Rattle.pv_hc4.specs.Forward.{forward_of, constant_of, unary_of, binary_of}
+use Rattle.pv_hc4.specs.Forward.{forward_of, unary_of, binary_of}
 use Rattle.pv_hc4.specs.Revise.{back_1, back_2, Target, joined, targets_of, place_of, places_from, Sides, ordered_of, swapped, related_of, both_targets, revised}
 use Rattle.pv_hc4.specs.Members.{AreWithin}
 use Rattle.pv_hc4.proofs.Constants.{constant_interval}

@@ -1,5 +1,5 @@
 -- How a graph grows by the nodes of one more term.
-use Rattle.std.specs.Prelude.{ℕ, ◌≡◌, ◌⊎◌, ◌+◌, ◌<◌, ◌≤◌, List, [], ◌∷◌, ◌++◌, length}
+use Rattle.std.specs.Prelude.{ℕ, ◌≡◌, ◌⊎◌, ◌<◌, ◌≤◌, List, ◌++◌, length}
 use Rattle.pv_expr.specs.Terms.{Term, constant, place, one, two}
 use Rattle.pv_hc4.specs.declared.node.Node.{Node}
 use Rattle.pv_hc4.specs.Nodes.{terms, term_at, node_at}

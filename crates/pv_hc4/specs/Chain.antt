@@ -1,5 +1,5 @@
 -- Steps that may come out empty, one after another.
-use Rattle.std.specs.Prelude.{◌≡◌, ℕ, Bool, true, false, List, ◌++◌, Option, Some, None, slice_index_or}
+use Rattle.std.specs.Prelude.{◌≡◌, ℕ, Bool, true, false, List, Option, Some, None, slice_index_or}
 use Rattle.pv_interval.specs.Bounds.{Bounds, everything}
 
 -- the second step on what the first one gives; empty where one of them is

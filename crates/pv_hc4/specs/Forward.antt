@@ -1,5 +1,5 @@
 -- The interval of an expression on a box, by the upward pass of HC4-revise.
-use Rattle.std.specs.Prelude.{ℕ, ℤ, Bool, true, false, not, ◌&&◌, List, Option, Some, None}
+use Rattle.std.specs.Prelude.{ℕ, ℤ, List, Option, Some}
 use Rattle.pv_num.specs.Arithmetic.{ratio_of}
 use Rattle.pv_num.specs.declared.num.End.TheVariants.{Down, Up}
 use Rattle.pv_interval.specs.Bounds.{Bounds, between}

@@ -1,6 +1,5 @@
 -- The terms that a list of numbered nodes stands for.
-use Rattle.std.specs.Prelude.{ℕ, zero, suc, ◌≡◌, ◌<◌, ◌≤◌, List, [], ◌∷◌, ◌++◌, length, slice_index_or, Option, Some}
-use Rattle.pv_interval.specs.Bounds.{Bounds}
+use Rattle.std.specs.Prelude.{ℕ, ◌<◌, ◌≤◌, List, [], ◌∷◌, ◌++◌, length, slice_index_or}
 use Rattle.pv_expr.specs.Terms.{Unary, negation, absolute, power, Binary, sum, difference, product, quotient, least, greatest, Term, constant, place, one, two}
 use Rattle.pv_hc4.specs.declared.node.UnaryOp.{UnaryOp}
 use Rattle.pv_hc4.specs.declared.node.UnaryOp.TheVariants.{Neg, Abs, Pow}

@@ -1,5 +1,5 @@
 -- HC4-revise: down from the sides by the backward projections, with the forward intervals of the entry box.
-use Rattle.std.specs.Prelude.{ℕ, zero, suc, ◌+◌, Bool, List, [], ◌∷◌, ◌++◌, Option, Some, None, if◌then◌else◌, nat_eq, slice_set}
+use Rattle.std.specs.Prelude.{ℕ, ◌+◌, List, [], ◌∷◌, ◌++◌, Option, Some, None, if◌then◌else◌, nat_eq, slice_set}
 use Rattle.pv_num.specs.Order.{le, lt, lesser, greater}
 use Rattle.pv_interval.specs.Bounds.{Bounds}
 use Rattle.pv_interval.specs.Tables.{meet_of}

@@ -1,6 +1,3 @@
-use Rattle.std.proofs.Common.{rules, ◌≡◌, ap, sym, ◌∙◌, Some, Bool, true, false, ℤ, to_z, of_z}
-use Rattle.std.specs.Prelude.{None}
-use Rattle.pv_interval.specs.Bounds.{interval_from}
 use Rattle.pv_hc4.proofs.Constants.{constant_some, some_not_none}
 use Rattle.pv_hc4.proofs.builder.constant.Goals as goal
 

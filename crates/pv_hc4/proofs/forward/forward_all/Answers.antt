@@ -1,4 +1,4 @@
-use Rattle.std.proofs.Common.{◌≡◌, ℕ, ◌<◌, length, Some, ◌∙◌, sym, refl, arith}
+use Rattle.std.proofs.Common.{◌<◌, length, ◌∙◌, sym, refl, arith}
 use Rattle.std.proofs.lemmas.List.{length-set}
 use Rattle.pv_hc4.proofs.Passing.{value_then, done_more, ready_more}
 use Rattle.pv_hc4.proofs.forward.forward_all.Goals as goal

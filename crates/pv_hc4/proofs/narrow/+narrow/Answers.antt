@@ -1,4 +1,4 @@
-use Rattle.std.proofs.Common.{◌≡◌, ℕ, ◌<◌, length, Some, ◌∙◌, sym, ap, refl, subst, arith}
+use Rattle.std.proofs.Common.{◌∙◌, sym, ap, subst}
 use Rattle.pv_hc4.specs.Chain.{Gives, chain}
 use Rattle.pv_hc4.specs.Revise.{went}
 use Rattle.pv_hc4.specs.Nodes.{terms, term_at}

@@ -1,4 +1,4 @@
-use Rattle.std.proofs.Common.{◌≡◌, sym, ap, ◌∙◌, Some}
+use Rattle.std.proofs.Common.{ap, ◌∙◌}
 use Rattle.pv_num.specs.Order.{lesser, greater}
 use Rattle.pv_hc4.proofs.Relating.{ordered_is}
 use Rattle.pv_hc4.proofs.relate.ordered.Goals as goal

@@ -1,4 +1,4 @@
-use Rattle.std.proofs.Common.{rules, arith, ◌≡◌, ℕ, length, take, ap, sym, ◌∙◌, refl}
+use Rattle.std.proofs.Common.{rules, ◌≡◌, take, ap, ◌∙◌}
 use Rattle.pv_hc4.specs.Nodes.{terms, term_at}
 use Rattle.pv_hc4.proofs.Answering.{is_kept, is_changed, is_empty_first, is_empty_second}
 use Rattle.pv_hc4.proofs.revise.narrow_sides.Goals as goal

@@ -1,4 +1,4 @@
-use Rattle.std.proofs.Common.{length, ◌≡◌, ◌∙◌, sym, subst, true}
+use Rattle.std.proofs.Common.{length, ◌∙◌, sym, subst}
 use Rattle.pv_hc4.specs.Pass.{IsTotality}
 use Rattle.pv_hc4.proofs.Whole.{nothing_narrowed}
 use Rattle.pv_hc4.proofs.revise.narrows_nothing.Goals as goal

@@ -1,5 +1,5 @@
-use Rattle.std.proofs.Common.{◌≡◌, ℕ, length, ap, sym, ◌∙◌, refl, subst}
-use Rattle.pv_hc4.specs.Graphs.{IsAnswer, sides_of}
+use Rattle.std.proofs.Common.{length, sym, refl, subst}
+use Rattle.pv_hc4.specs.Graphs.{IsAnswer}
 use Rattle.pv_hc4.specs.declared.revised.Revised.TheVariants.{Empty}
 use Rattle.pv_hc4.proofs.Revising.{pass_none, answer_some}
 use Rattle.pv_hc4.proofs.revise.revise_values.Goals as goal

@@ -1,8 +1,6 @@
-use Rattle.std.proofs.Common.{rules, arith, ◌≡◌, ℕ, ◌<◌, ◌≤◌, length, IfOk, OnOk, Some, ap, sym, refl, subst, ◌∙◌}
-use Rattle.std.proofs.lemmas.Result.{IfOk-weaker}
-use Rattle.pv_expr.specs.Terms.{term_of, one, two, constant, place}
-use Rattle.pv_hc4.specs.Nodes.{AreOrdered, ReadsBelow, FitsNode, IsPower, node_at, unary_named, binary_named}
-use Rattle.pv_hc4.specs.Building.{IsPart, Grows, Holds}
+use Rattle.std.proofs.Common.{rules, ◌≡◌, ap, sym, subst, ◌∙◌}
+use Rattle.pv_expr.specs.Terms.{term_of, constant}
+use Rattle.pv_hc4.specs.Building.{IsPart}
 use Rattle.pv_hc4.proofs.Building.{leaf_grown, one_grown, two_grown}
 use Rattle.pv_hc4.proofs.builder.Builder.+adding.Goals as goal
 

@@ -1,4 +1,4 @@
-use Rattle.std.proofs.Common.{rules, refl}
+use Rattle.std.proofs.Common.{rules}
 use Rattle.pv_hc4.proofs.Numbering.{numbered_more}
 use Rattle.pv_hc4.proofs.builder.Builder.number.Goals as goal
 

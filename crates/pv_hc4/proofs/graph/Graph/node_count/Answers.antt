@@ -1,4 +1,4 @@
-use Rattle.std.proofs.Common.{length, sym, subst, rules, ◌≡◌}
+use Rattle.std.proofs.Common.{length, subst, rules, ◌≡◌}
 use Rattle.pv_hc4.specs.Graphs.{IsGraph, sides_of}
 use Rattle.pv_hc4.specs.Numbers.{CountsParts}
 use Rattle.pv_hc4.proofs.Numbering.{counts}

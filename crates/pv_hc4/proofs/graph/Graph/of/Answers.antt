@@ -1,4 +1,3 @@
-use Rattle.std.proofs.Common.{rules, ap, sym, refl}
 use Rattle.pv_expr.specs.Terms.{term_of}
 use Rattle.pv_hc4.proofs.Building.{made, same_sides}
 use Rattle.pv_hc4.proofs.Numbering.{numbered_apart}
