@@ -1,3 +1,4 @@
+pub mod Building
 pub mod Decimals
 pub mod Exists
 pub mod Gaps

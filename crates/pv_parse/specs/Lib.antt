@@ -1,3 +1,4 @@
+pub mod Expansion
 pub mod Faults
 pub mod Grammar
 pub mod Limits

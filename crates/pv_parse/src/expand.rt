@@ -1,5 +1,9 @@
 // The expansion of calls: top-down, over what is used alone.
 
+ghost use Rattle.std.specs.Prelude.{◌≡◌, ◌∷◌, [], length, map, reverse, take, drop, IfOk, IsTrue};
+ghost use Rattle.pv_expr.specs.Terms.{term_of, one, two};
+ghost use Rattle.pv_parse.specs.Expansion.{argument, meaning_of, meanings, run, step, stack_of, code_of, unary_of, binary_of, top, below};
+
 use crate::code::{Binary, Op, Unary};
 use crate::measure::{Measure, measures};
 use pv_expr::Expr;
@@ -10,7 +14,10 @@ use std::alloc::Global;
 #[derive(Drop)]
 pub(crate) struct Function {
     pub measure: Measure,
-    code: Vec<Op>,
+    /// Which of its parameters its body uses.
+    pub uses: Vec<bool>,
+    /// The part of its body that is used, over the parameters that are used.
+    pub code: Vec<Op>,
 }
 
 impl Function {
@@ -23,97 +30,141 @@ impl Function {
         let Some(measure) = measures(alloc, functions, body)?.pop() else {
             return Err(Memory);
         };
-        let mut code = used_code(alloc, functions, body, 1)?;
-        for op in &mut code {
-            if let Op::Parameter(i) = *op {
-                *op = Op::Parameter(rank(&measure, i));
-            }
-        }
-        Ok(Function { measure, code })
+        let uses = uses_of(alloc, &measure)?;
+        let code = used_code(alloc, functions, uses.as_slice(), body, 1)?;
+        Ok(Function {
+            measure,
+            uses,
+            code,
+        })
     }
 
-    fn uses(&self, parameter: u8) -> bool {
-        match self.measure.reach.get(parameter as usize) {
-            Some(reach) => *reach > 0,
-            None => false,
+    // Whether it is its one used parameter alone.
+    fn is_parameter(&self) -> bool
+        ensures { IsTrue result → self.now.code.items ≡ Op.Parameter 0 ∷ [] }
+    {
+        match self.code.as_slice() {
+            [Op::Parameter(0)] => true,
+            _ => false,
         }
-    }
-
-    // How many parameters its body uses.
-    fn used_count(&self) -> usize {
-        rank(&self.measure, 12) as usize
     }
 }
 
-// How many of the parameters before this one are used.
-fn rank(measure: &Measure, parameter: u8) -> u8 {
-    let mut n: u8 = 0;
-    for (i, reach) in measure.reach.iter().enumerate() {
-        if i < parameter as usize && *reach > 0 {
-            n = n.saturating_add(1);
-        }
+// Which parameters occur.
+fn uses_of(alloc: Global, measure: &Measure) -> Result<Vec<bool>, Memory> {
+    let mut uses = Vec::new(alloc);
+    for reach in measure.reach {
+        uses.push(reach > 0)?;
     }
-    n
+    Ok(uses)
 }
 
-/// The part of a code that is used where its last so many values are: no step of an argument that a callee leaves out,
-/// and no call of a function that is a parameter alone.
+// How many of the first so many parameters are used.
+fn rank(uses: &[bool], n: u8) -> u8 {
+    let mut count: u8 = 0;
+    for i in 0..n {
+        if is_used(uses, i) {
+            count = count.saturating_add(1);
+        }
+    }
+    count
+}
+
+fn is_used(uses: &[bool], i: u8) -> bool {
+    match uses.get(i as usize) {
+        Some(used) => *used,
+        None => false,
+    }
+}
+
+/// The part of a code that is used where its last so many values are, with the parameters that are used numbered anew:
+/// no step of an argument that a callee leaves out, and no call of a function that is a parameter alone.
 pub(crate) fn used_code(
     alloc: Global,
     functions: &[Function],
+    uses: &[bool],
     code: &[Op],
-    values: usize,
+    values: u8,
 ) -> Result<Vec<Op>, Memory> {
     let mut wanted: Vec<bool> = Vec::new(alloc);
     for _ in 0..values {
         wanted.push(true)?;
     }
     let mut kept = Vec::new(alloc);
-    for op in code.iter().rev() {
-        let used = wanted.pop().unwrap_or(false);
-        if used && is_kept(functions, *op) {
-            kept.push(*op)?;
-        }
-        want_arguments(functions, *op, used, &mut wanted)?;
+    let mut i = code.len();
+    while i > 0 {
+        i -= 1;
+        keep(functions, uses, code[i], &mut wanted, &mut kept)?;
+    }
+    if wanted.len() > 0 {
+        return Err(Memory);
     }
     kept.as_mut_slice().reverse();
     Ok(kept)
 }
 
-// Whether a step stays: a call of a function that is a parameter alone is its argument.
-fn is_kept(functions: &[Function], op: Op) -> bool {
-    match op {
-        Op::Call { function, .. } => match functions.get(function as usize) {
-            Some(callee) => !callee.measure.is_parameter(),
-            None => true,
-        },
-        _ => true,
-    }
-}
-
-// Which of a step's arguments are used, the last on top.
-fn want_arguments(
+// Goes back over one step: keeps it where its value is wanted, and wants its arguments.
+fn keep(
     functions: &[Function],
+    uses: &[bool],
     op: Op,
-    used: bool,
     wanted: &mut Vec<bool>,
+    kept: &mut Vec<Op>,
 ) -> Result<(), Memory> {
+    let used = wanted.pop().ok_or(Memory)?;
     match op {
-        Op::One(_) => wanted.push(used)?,
+        Op::Constant(_) | Op::Variable(_) => {
+            if used {
+                kept.push(op)?;
+            }
+        }
+        Op::Parameter(i) => {
+            if used {
+                if !is_used(uses, i) {
+                    return Err(Memory);
+                }
+                kept.push(Op::Parameter(rank(uses, i)))?;
+            }
+        }
+        Op::One(_) => {
+            if used {
+                kept.push(op)?;
+            }
+            wanted.push(used)?;
+        }
         Op::Two(_) => {
+            if used {
+                kept.push(op)?;
+            }
             wanted.push(used)?;
             wanted.push(used)?;
         }
         Op::Call { function, arity } => {
-            for i in 0..arity {
-                let taken = match functions.get(function as usize) {
-                    Some(callee) => callee.uses(i),
-                    None => false,
-                };
-                wanted.push(used && taken)?;
+            let Some(callee) = functions.get(function as usize) else {
+                return Err(Memory);
+            };
+            if used {
+                let count = rank(callee.uses.as_slice(), arity);
+                if count != 1 || !callee.is_parameter() {
+                    kept.push(Op::Call {
+                        function,
+                        arity: count,
+                    })?;
+                }
+                want(callee.uses.as_slice(), arity, wanted)?;
+            } else {
+                want(&[], arity, wanted)?;
             }
         }
-        _ => {}
+        Op::Define | Op::Relate(_) => return Err(Memory),
+    }
+    Ok(())
+}
+
+// Which of a call's arguments are wanted, the last on top.
+fn want(uses: &[bool], arity: u8, wanted: &mut Vec<bool>) -> Result<(), Memory> {
+    for i in 0..arity {
+        wanted.push(is_used(uses, i))?;
     }
     Ok(())
 }
@@ -125,27 +176,54 @@ pub(crate) fn expand(
     functions: &[Function],
     code: &[Op],
     arguments: &[Expr],
-) -> Result<Vec<Expr>, Memory> {
+) -> Result<Vec<Expr>, Memory>
+    ensures { IfOk result (λ es. stack_of es.items ≡ run (meanings (map code_of functions.now)) (map term_of arguments.now) code.now []) }
+{
     let mut stack: Vec<Expr> = Vec::new(alloc);
     for op in code {
-        let made = match *op {
-            Op::Constant(value) => Expr::Const {
-                p: value.p,
-                q: value.q,
-            },
-            Op::Variable(i) => Expr::Var(i),
-            Op::Parameter(i) => argument(alloc, arguments, i)?,
-            Op::One(unary) => one(alloc, unary, taken(&mut stack)?)?,
-            Op::Two(binary) => {
-                let right = taken(&mut stack)?;
-                two(alloc, binary, taken(&mut stack)?, right)?
-            }
-            Op::Call { function, .. } => called(alloc, functions, function, &mut stack)?,
-            Op::Define | Op::Relate(_) => return Err(Memory),
-        };
+        let made = made_by(alloc, functions, *op, arguments, &mut stack)?;
         stack.push(made)?;
     }
     Ok(stack)
+}
+
+/// The expression of a code that calls no functions.
+pub(crate) fn expression(alloc: Global, code: &[Op]) -> Result<Expr, Memory>
+    ensures { IfOk result (λ e. term_of e ≡ top (run [] [] code.now [])) }
+{
+    let mut made = expand(alloc, &[], code, &[])?;
+    let value = taken(&mut made)?;
+    Ok(value)
+}
+
+#[cycle(expansion)]
+fn made_by(
+    alloc: Global,
+    functions: &[Function],
+    op: Op,
+    arguments: &[Expr],
+    stack: &mut Vec<Expr>,
+) -> Result<Expr, Memory>
+    ensures { IfOk result (λ e. term_of e ∷ stack_of stack.new.items ≡ step (meanings (map code_of functions.now)) (map term_of arguments.now) op (stack_of stack.old.items)) }
+{
+    match op {
+        Op::Constant(value) => Ok(Expr::Const {
+            p: value.p,
+            q: value.q,
+        }),
+        Op::Variable(i) => Ok(Expr::Var(i)),
+        Op::Parameter(i) => argument(alloc, arguments, i),
+        Op::One(unary) => one(alloc, unary, taken(stack)?),
+        Op::Two(binary) => {
+            let right = taken(stack)?;
+            two(alloc, binary, taken(stack)?, right)
+        }
+        Op::Call { function, arity } => {
+            let arguments = last(stack, arity)?;
+            called(alloc, functions, function, arguments.as_slice())
+        }
+        Op::Define | Op::Relate(_) => Err(Memory),
+    }
 }
 
 #[cycle(expansion)]
@@ -153,35 +231,58 @@ fn called(
     alloc: Global,
     functions: &[Function],
     function: u8,
-    stack: &mut Vec<Expr>,
-) -> Result<Expr, Memory> {
+    arguments: &[Expr],
+) -> Result<Expr, Memory>
+    ensures { IfOk result (λ e. term_of e ≡ meaning_of (meanings (map code_of functions.now)) function (map term_of arguments.now)) }
+{
     let i = function as usize;
     if i >= functions.len() {
         return Err(Memory);
     }
-    let callee = &functions[i];
-    let first = stack.len().saturating_sub(callee.used_count());
-    let arguments = stack.split_off(first)?;
-    taken(&mut expand(
+    let mut made = expand(
         alloc,
         &functions[..i],
-        callee.code.as_slice(),
-        arguments.as_slice(),
-    )?)
+        functions[i].code.as_slice(),
+        arguments,
+    )?;
+    let value = taken(&mut made)?;
+    Ok(value)
 }
 
-fn taken(stack: &mut Vec<Expr>) -> Result<Expr, Memory> {
-    stack.pop().ok_or(Memory)
+// The last so many, in the order in which they were put there.
+fn last(stack: &mut Vec<Expr>, n: u8) -> Result<Vec<Expr>, Memory>
+    ensures values { IfOk result (λ es. map term_of es.items ≡ reverse (take n (stack_of stack.old.items))) }
+    ensures stack { IfOk result (λ es. stack_of stack.new.items ≡ drop n (stack_of stack.old.items)) }
+{
+    let n = n as usize;
+    if n > stack.len() {
+        return Err(Memory);
+    }
+    let values = stack.split_off(stack.len() - n)?;
+    Ok(values)
 }
 
-fn argument(alloc: Global, arguments: &[Expr], i: u8) -> Result<Expr, Memory> {
+fn taken(stack: &mut Vec<Expr>) -> Result<Expr, Memory>
+    ensures { IfOk result (λ e. stack_of stack.old.items ≡ term_of e ∷ stack_of stack.new.items) }
+{
+    match stack.pop() {
+        Some(e) => Ok(e),
+        None => Err(Memory),
+    }
+}
+
+fn argument(alloc: Global, arguments: &[Expr], i: u8) -> Result<Expr, Memory>
+    ensures { IfOk result (λ e. term_of e ≡ argument (map term_of arguments.now) i) }
+{
     match arguments.get(i as usize) {
         Some(e) => Ok(e.clone_of(alloc)?),
         None => Err(Memory),
     }
 }
 
-fn one(alloc: Global, unary: Unary, a: Expr) -> Result<Expr, Memory> {
+fn one(alloc: Global, unary: Unary, a: Expr) -> Result<Expr, Memory>
+    ensures { IfOk result (λ e. term_of e ≡ one (unary_of unary) (term_of a)) }
+{
     let a = Box::new(alloc, a)?;
     Ok(match unary {
         Unary::Neg => Expr::Neg(a),
@@ -190,7 +291,9 @@ fn one(alloc: Global, unary: Unary, a: Expr) -> Result<Expr, Memory> {
     })
 }
 
-fn two(alloc: Global, binary: Binary, a: Expr, b: Expr) -> Result<Expr, Memory> {
+fn two(alloc: Global, binary: Binary, a: Expr, b: Expr) -> Result<Expr, Memory>
+    ensures { IfOk result (λ e. term_of e ≡ two (binary_of binary) (term_of a) (term_of b)) }
+{
     let a = Box::new(alloc, a)?;
     let b = Box::new(alloc, b)?;
     Ok(match binary {

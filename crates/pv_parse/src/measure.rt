@@ -33,11 +33,6 @@ const LEAF: Measure = Measure {
 };
 
 impl Measure {
-    /// Whether it is one parameter alone.
-    pub(crate) fn is_parameter(&self) -> bool {
-        self.nodes == 0
-    }
-
     fn of_parameter(i: u8) -> Measure {
         let mut made = NOTHING;
         if i < 12 {

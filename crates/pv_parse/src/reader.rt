@@ -1,19 +1,21 @@
 // Texts to systems and expressions.
 
-ghost use Rattle.std.specs.Prelude.{◌≡◌, false, ◌≤◌, ◌+◌, ◌<◌, length, IsOk, OnOk, IfOk, IfErr, IsErrAnd};
+ghost use Rattle.std.specs.Prelude.{◌≡◌, List, [], false, ◌≤◌, ◌+◌, ◌<◌, length, IsOk, OnOk, IfOk, IfErr, IsErrAnd};
 ghost use Rattle.pv_expr.specs.Terms.{term_of};
 ghost use Rattle.pv_expr.specs.Systems.{IsOver};
 ghost use Rattle.pv_parse.specs.Faults.{IsAt, IsCausedBy, IsLong, IsPlaced, IsFirstOf, IsRefusal, SaysTooLong, refusal};
 ghost use Rattle.pv_parse.specs.Limits.{nothing};
 ghost use Rattle.pv_parse.specs.Grammar.{IsStart, system_items, expression_items};
 ghost use Rattle.pv_parse.specs.Grammar.{pile};
+ghost use Rattle.pv_parse.specs.declared.code.Op.{Op};
+ghost use Rattle.pv_parse.specs.Expansion.{run, top};
 ghost use Rattle.pv_parse.specs.Sentences.{IsSentence, IsSystemText, IsExpressionText};
 
 use crate::cause::{Cause, ParseRefused};
 use crate::checked::{is_over, system_of};
 use crate::code::Op;
 use crate::counts::{Counts, Phase};
-use crate::expand::{Function, expand, used_code};
+use crate::expand::{Function, expand, expression, used_code};
 use crate::machine::Machine;
 use crate::measure::measures;
 use crate::place::line_and_column;
@@ -60,6 +62,7 @@ pub fn parse(alloc: Global, text: &[u8]) -> Result<System, ParseRefused>
 pub fn parse_expr(alloc: Global, system: &System, text: &[u8]) -> Result<Expr, ParseRefused>
     ensures grammatical { IfOk result (λ e. IsExpressionText text.now) }
     ensures over { IfOk result (λ e. IsOver (length system.now.names) (term_of e)) }
+    ensures means { IfOk result (λ e. (code : List Op) × IsSentence text.now (nothing Phase.Sides) expression_items [] code × (term_of e ≡ top (run [] [] code []))) }
     ensures placed { IfErr result (λ e. IsPlaced text.now e) }
     ensures long { 65536 < length text.now → IsErrAnd result SaysTooLong }
     ensures fault { IfErr result (λ e. IsRefusal text.now (nothing Phase.Sides) expression_items e) }
@@ -68,9 +71,7 @@ pub fn parse_expr(alloc: Global, system: &System, text: &[u8]) -> Result<Expr, P
     let mut scope = Scope::of_system(alloc, system)?;
     let mut machine = Machine::for_expression(alloc)?;
     read_tokens(text, Counts::none(Phase::Sides), &mut scope, &mut machine)?;
-    let Some(e) = expand(alloc, &[], machine.into_code().as_slice(), &[])?.pop() else {
-        return Err(ParseRefused::Memory);
-    };
+    let e = expression(alloc, machine.into_code().as_slice())?;
     if is_over(system.variable_count(), &e) {
         Ok(e)
     } else {
@@ -253,7 +254,7 @@ fn constraint(
     code: &[Op],
     relation: Relation,
 ) -> Result<Constraint, Memory> {
-    let used = used_code(alloc, functions, code, 2)?;
+    let used = used_code(alloc, functions, &[], code, 2)?;
     let mut sides = expand(alloc, functions, used.as_slice(), &[])?;
     match (sides.pop(), sides.pop()) {
         (Some(right), Some(left)) => Ok(Constraint {
