@@ -4,6 +4,7 @@ pub mod Exists
 pub mod Gaps
 pub mod Numerals
 pub mod Powers
+pub mod Pruning
 pub mod Slices
 pub mod TokenNumbers
 pub mod Unique

@@ -1,5 +1,5 @@
 -- What a code means: the expressions that it writes, with the body of each function in place of its calls.
-use Rattle.std.specs.Prelude.{◌≡◌, ℕ, zero, suc, ◌++◌, List, [], ◌∷◌, Bool, true, false, ℤ, pos, length, map, reverse, take, drop, get_or}
+use Rattle.std.specs.Prelude.{◌≡◌, ◌<◌, ℕ, zero, suc, ◌++◌, List, [], ◌∷◌, Bool, true, false, ℤ, pos, length, map, reverse, take, drop, get_or}
 use Rattle.pv_expr.specs.Terms.{Term, constant, place, one, two, Unary, negation, absolute, power, Binary, sum, difference, product, quotient, least, greatest, term_of}
 use Rattle.pv_expr.specs.declared.expr.Expr.{Expr}
 use Rattle.pv_expr.specs.declared.constraint.Relation.{Relation}
@@ -82,3 +82,77 @@ stack_of es = reverse (map term_of es)
 
 abbrev pub code_of : Function → List Op
 code_of f = f.code.items
+
+-- ---- The part of a code that is used
+
+abbrev pub is_used : List Bool → ℕ → Bool
+is_used uses i = get_or uses i false
+
+-- the values of which a mark says that they are used
+abbrev pub filtered : List Bool → List Term → List Term
+filtered [] ts = []
+filtered (u ∷ us) [] = []
+filtered (true ∷ us) (t ∷ ts) = t ∷ filtered us ts
+filtered (false ∷ us) (t ∷ ts) = filtered us ts
+
+-- how many of the first so many are used
+abbrev pub rank : List Bool → ℕ → ℕ
+rank us zero = 0
+rank [] (suc n) = 0
+rank (true ∷ us) (suc n) = suc (rank us n)
+rank (false ∷ us) (suc n) = rank us n
+
+-- the marks of the first so many
+abbrev pub wants : List Bool → ℕ → List Bool
+wants us zero = []
+wants [] (suc n) = false ∷ wants [] n
+wants (u ∷ us) (suc n) = u ∷ wants us n
+
+-- how many values a step takes
+abbrev pub arity_of : Op → ℕ
+arity_of (One u) = 1
+arity_of (Two b) = 2
+arity_of (Call k n) = n
+arity_of o = 0
+
+-- a step that leaves a value
+abbrev pub IsValue : Op → Type 0
+IsValue Define = ⊥
+IsValue (Relate r) = ⊥
+IsValue o = Unit {0}
+
+abbrev pub callee : List Function → ℕ → List Bool
+callee [] k = []
+callee (f ∷ fs) zero = f.uses.items
+callee (f ∷ fs) (suc k) = callee fs k
+
+-- which of the values that it takes a step uses
+abbrev pub uses_of : List Function → Op → List Bool
+uses_of fs (One u) = true ∷ []
+uses_of fs (Two b) = true ∷ true ∷ []
+uses_of fs (Call k n) = callee fs k
+uses_of fs o = []
+
+-- the functions' own codes, over the arguments that they use, have these meanings
+abbrev pub Stand : List Function → List Meaning → Type 0
+Stand fs ms = (k : ℕ) → k < length fs → (args : List Term) →
+    meaning_of ms k args ≡ meaning_of (meanings (map code_of fs)) k (filtered (callee fs k) args)
+
+-- a used step does with the values that it uses what the step does with all
+abbrev pub KeepsUsed : List Function → List Bool → Op → List Op → List Op → Type 0
+KeepsUsed fs uses o before after = (ms : List Meaning) (args a rest : List Term) → Stand fs ms → length a ≡ arity_of o →
+    run (meanings (map code_of fs)) (filtered uses args) (reverse after) (filtered (reverse (wants (uses_of fs o) (arity_of o))) a ++ rest)
+    ≡ run (meanings (map code_of fs)) (filtered uses args) (reverse before) (top (step ms args o a) ∷ rest)
+
+-- with one step more in front, the wanted values of a stack still lead to the same
+abbrev pub KeepsStep : List Function → List Bool → Op → List Bool → List Op → List Bool → List Op → Type 0
+KeepsStep fs uses o wanted before wanted' after = (ms : List Meaning) (args st : List Term) → Stand fs ms → length st ≡ length wanted' →
+    (length (step ms args o st) ≡ length wanted)
+    × (run (meanings (map code_of fs)) (filtered uses args) (reverse after) (filtered (reverse wanted') st)
+    ≡ run (meanings (map code_of fs)) (filtered uses args) (reverse before) (filtered (reverse wanted) (step ms args o st)))
+
+-- the used part of a code leaves what the code leaves, which is so many values
+abbrev pub KeepsCode : List Function → List Bool → List Op → ℕ → List Op → Type 0
+KeepsCode fs uses code n kept = (ms : List Meaning) (args : List Term) → Stand fs ms →
+    (length (run ms args code []) ≡ n)
+    × (run (meanings (map code_of fs)) (filtered uses args) kept [] ≡ run ms args code [])

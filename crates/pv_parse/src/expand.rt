@@ -1,8 +1,8 @@
 // The expansion of calls: top-down, over what is used alone.
 
-ghost use Rattle.std.specs.Prelude.{◌≡◌, ◌∷◌, [], length, map, reverse, take, drop, IfOk, IsTrue};
+ghost use Rattle.std.specs.Prelude.{◌≡◌, ◌∷◌, ◌++◌, ◌+◌, ◌<◌, ◌≤◌, [], length, map, reverse, take, drop, IfOk, OnOk, IsOk, IsTrue, if◌then◌else◌};
 ghost use Rattle.pv_expr.specs.Terms.{term_of, one, two};
-ghost use Rattle.pv_parse.specs.Expansion.{argument, meaning_of, meanings, run, step, stack_of, code_of, unary_of, binary_of, top, below};
+ghost use Rattle.pv_parse.specs.Expansion.{argument, meaning_of, meanings, run, step, is_used, rank, wants, arity_of, uses_of, IsValue, KeepsUsed, KeepsStep, KeepsCode, stack_of, code_of, unary_of, binary_of, top, below};
 
 use crate::code::{Binary, Op, Unary};
 use crate::measure::{Measure, measures};
@@ -22,11 +22,9 @@ pub(crate) struct Function {
 
 impl Function {
     /// The function of a body, over the functions before it.
-    pub(crate) fn of(
-        alloc: Global,
-        functions: &[Function],
-        body: &[Op],
-    ) -> Result<Function, Memory> {
+    pub(crate) fn of(alloc: Global, functions: &[Function], body: &[Op]) -> Result<Function, Memory>
+        ensures { IfOk result (λ f. KeepsCode functions.now f.uses.items body.now 1 f.code.items) }
+    {
         let Some(measure) = measures(alloc, functions, body)?.pop() else {
             return Err(Memory);
         };
@@ -60,17 +58,26 @@ fn uses_of(alloc: Global, measure: &Measure) -> Result<Vec<bool>, Memory> {
 }
 
 // How many of the first so many parameters are used.
-fn rank(uses: &[bool], n: u8) -> u8 {
+fn rank(uses: &[bool], n: u8) -> u8
+    ensures { result ≡ rank uses.now n }
+{
     let mut count: u8 = 0;
     for i in 0..n {
-        if is_used(uses, i) {
-            count = count.saturating_add(1);
-        }
+        count = more(count, is_used(uses, i));
     }
     count
 }
 
-fn is_used(uses: &[bool], i: u8) -> bool {
+fn more(count: u8, used: bool) -> u8
+    requires { count < 255 }
+    ensures { result ≡ (if used then count + 1 else count) }
+{
+    if used { count + 1 } else { count }
+}
+
+fn is_used(uses: &[bool], i: u8) -> bool
+    ensures { result ≡ is_used uses.now i }
+{
     match uses.get(i as usize) {
         Some(used) => *used,
         None => false,
@@ -85,11 +92,12 @@ pub(crate) fn used_code(
     uses: &[bool],
     code: &[Op],
     values: u8,
-) -> Result<Vec<Op>, Memory> {
+) -> Result<Vec<Op>, Memory>
+    requires { values ≤ 2 }
+    ensures { IfOk result (λ kept. KeepsCode functions.now uses.now code.now values kept.items) }
+{
     let mut wanted: Vec<bool> = Vec::new(alloc);
-    for _ in 0..values {
-        wanted.push(true)?;
-    }
+    want(&[true, true], values, &mut wanted)?;
     let mut kept = Vec::new(alloc);
     let mut i = code.len();
     while i > 0 {
@@ -99,8 +107,14 @@ pub(crate) fn used_code(
     if wanted.len() > 0 {
         return Err(Memory);
     }
-    kept.as_mut_slice().reverse();
-    Ok(kept)
+    Ok(turned(kept))
+}
+
+fn turned(mut code: Vec<Op>) -> Vec<Op>
+    ensures { result.items ≡ reverse code.items }
+{
+    code.as_mut_slice().reverse();
+    code
 }
 
 // Goes back over one step: keeps it where its value is wanted, and wants its arguments.
@@ -110,59 +124,98 @@ fn keep(
     op: Op,
     wanted: &mut Vec<bool>,
     kept: &mut Vec<Op>,
-) -> Result<(), Memory> {
-    let used = wanted.pop().ok_or(Memory)?;
-    match op {
-        Op::Constant(_) | Op::Variable(_) => {
-            if used {
-                kept.push(op)?;
-            }
-        }
-        Op::Parameter(i) => {
-            if used {
-                if !is_used(uses, i) {
-                    return Err(Memory);
-                }
-                kept.push(Op::Parameter(rank(uses, i)))?;
-            }
-        }
-        Op::One(_) => {
-            if used {
-                kept.push(op)?;
-            }
-            wanted.push(used)?;
-        }
-        Op::Two(_) => {
-            if used {
-                kept.push(op)?;
-            }
-            wanted.push(used)?;
-            wanted.push(used)?;
-        }
-        Op::Call { function, arity } => {
-            let Some(callee) = functions.get(function as usize) else {
-                return Err(Memory);
-            };
-            if used {
-                let count = rank(callee.uses.as_slice(), arity);
-                if count != 1 || !callee.is_parameter() {
-                    kept.push(Op::Call {
-                        function,
-                        arity: count,
-                    })?;
-                }
-                want(callee.uses.as_slice(), arity, wanted)?;
-            } else {
-                want(&[], arity, wanted)?;
-            }
-        }
-        Op::Define | Op::Relate(_) => return Err(Memory),
+) -> Result<(), Memory>
+    ensures { OnOk result (KeepsStep functions.now uses.now op wanted.old.items kept.old.items wanted.new.items kept.new.items) }
+{
+    let Some(used) = wanted.pop() else {
+        return Err(Memory);
+    };
+    let arity = arity_of(op)?;
+    if used {
+        keep_used(functions, uses, op, kept)?;
+        want_used(functions, op, arity, wanted)?;
+    } else {
+        want(&[], arity, wanted)?;
     }
     Ok(())
 }
 
-// Which of a call's arguments are wanted, the last on top.
-fn want(uses: &[bool], arity: u8, wanted: &mut Vec<bool>) -> Result<(), Memory> {
+// How many values a step takes.
+fn arity_of(op: Op) -> Result<u8, Memory>
+    ensures value { IfOk result (λ n. n ≡ arity_of op) }
+    ensures kind { IsOk result → IsValue op }
+{
+    match op {
+        Op::Constant(_) | Op::Variable(_) | Op::Parameter(_) => Ok(0),
+        Op::One(_) => Ok(1),
+        Op::Two(_) => Ok(2),
+        Op::Call { arity, .. } => Ok(arity),
+        Op::Define | Op::Relate(_) => Err(Memory),
+    }
+}
+
+// Keeps a step that is used: a call of a function that is a parameter alone is its argument.
+fn keep_used(
+    functions: &[Function],
+    uses: &[bool],
+    op: Op,
+    kept: &mut Vec<Op>,
+) -> Result<(), Memory>
+    ensures { OnOk result (KeepsUsed functions.now uses.now op kept.old.items kept.new.items) }
+{
+    match op {
+        Op::Parameter(i) => {
+            if !is_used(uses, i) {
+                return Err(Memory);
+            }
+            kept.push(Op::Parameter(rank(uses, i)))?;
+        }
+        Op::Call { function, arity } => {
+            let i = function as usize;
+            if i >= functions.len() {
+                return Err(Memory);
+            }
+            let count = rank(functions[i].uses.as_slice(), arity);
+            if count != 1 || !functions[i].is_parameter() {
+                kept.push(Op::Call {
+                    function,
+                    arity: count,
+                })?;
+            }
+        }
+        Op::Define | Op::Relate(_) => return Err(Memory),
+        _ => kept.push(op)?,
+    }
+    Ok(())
+}
+
+// Wants those of a step's values that it uses.
+fn want_used(
+    functions: &[Function],
+    op: Op,
+    arity: u8,
+    wanted: &mut Vec<bool>,
+) -> Result<(), Memory>
+    ensures { OnOk result (wanted.new.items ≡ wanted.old.items ++ wants (uses_of functions.now op) arity) }
+{
+    match op {
+        Op::One(_) => want(&[true], arity, wanted),
+        Op::Two(_) => want(&[true, true], arity, wanted),
+        Op::Call { function, .. } => {
+            let i = function as usize;
+            if i >= functions.len() {
+                return Err(Memory);
+            }
+            want(functions[i].uses.as_slice(), arity, wanted)
+        }
+        _ => want(&[], arity, wanted),
+    }
+}
+
+// Wants so many values by their marks, the last on top.
+fn want(uses: &[bool], arity: u8, wanted: &mut Vec<bool>) -> Result<(), Memory>
+    ensures { OnOk result (wanted.new.items ≡ wanted.old.items ++ wants uses.now arity) }
+{
     for i in 0..arity {
         wanted.push(is_used(uses, i))?;
     }
