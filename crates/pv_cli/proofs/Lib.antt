@@ -1,4 +1,11 @@
 pub mod Written
 pub mod Texts
-pub mod Sizes
+pub mod NodeLines
 pub mod Shapes
+pub mod Sizes
+pub mod Budgets
+pub mod Rows
+pub mod Asked
+pub mod Widths
+pub mod Counts
+pub mod Causes

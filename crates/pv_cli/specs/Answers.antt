@@ -1,6 +1,4 @@
 -- What a command leaves behind it, by the status with which it ends.
-use Rattle.std.specs.Prelude.{◌≡◌, ℕ, List}
-use Rattle.pv_io.specs.Outside.{Content, MayBeAbsent}
 use Rattle.pv_cli.specs.declared.status.Status.{Status}
 use Rattle.pv_cli.specs.declared.status.Status.TheVariants.{Done, OpenLeft, Usage, SystemRefused, PavingRefused, ReadFault, WriteFault, WantOfMemory, TreeLimit, Disagree, KeeperFault, NoFile}
 use Rattle.pv_cli.specs.declared.refusal.Refusal.{Refusal}
@@ -51,26 +49,6 @@ IsOfSystem Disagree = ⊥
 IsOfSystem KeeperFault = ⊥
 IsOfSystem NoFile = Unit {0}
 
--- a refusal that comes of the words
-abbrev pub IsWordsRefusal : Refusal → Type 0
-IsWordsRefusal refusal.Usage = Unit {0}
-IsWordsRefusal (refusal.System line column byte cause) = ⊥
-IsWordsRefusal (refusal.Contract byte) = ⊥
-IsWordsRefusal refusal.ReadFault = ⊥
-IsWordsRefusal refusal.WriteFault = ⊥
-IsWordsRefusal refusal.Memory = Unit {0}
-IsWordsRefusal refusal.NoFile = ⊥
-
--- a refusal that comes of the work itself
-abbrev pub IsWorkRefusal : Refusal → Type 0
-IsWorkRefusal refusal.Usage = Unit {0}
-IsWorkRefusal (refusal.System line column byte cause) = Unit {0}
-IsWorkRefusal (refusal.Contract byte) = Unit {0}
-IsWorkRefusal refusal.ReadFault = ⊥
-IsWorkRefusal refusal.WriteFault = ⊥
-IsWorkRefusal refusal.Memory = Unit {0}
-IsWorkRefusal refusal.NoFile = ⊥
-
 -- a refusal that comes of printing
 abbrev pub IsPrintRefusal : Refusal → Type 0
 IsPrintRefusal refusal.Usage = ⊥
@@ -80,13 +58,3 @@ IsPrintRefusal refusal.ReadFault = ⊥
 IsPrintRefusal refusal.WriteFault = Unit {0}
 IsPrintRefusal refusal.Memory = Unit {0}
 IsPrintRefusal refusal.NoFile = ⊥
-
--- where a file is missing, the name that is told is one that the folder doesn't have
-abbrev pub HasCause : Refusal → Content → Type 0
-HasCause refusal.Usage content = Unit {0}
-HasCause (refusal.System line column byte cause) content = Unit {0}
-HasCause (refusal.Contract byte) content = Unit {0}
-HasCause refusal.ReadFault content = Unit {0}
-HasCause refusal.WriteFault content = Unit {0}
-HasCause refusal.Memory content = Unit {0}
-HasCause refusal.NoFile content = MayBeAbsent content

@@ -4,4 +4,14 @@ pub mod Fetched
 pub mod Told
 pub mod Answers
 pub mod Lines
+pub mod Nodes
+pub mod Runs
+pub mod Reports
+pub mod Grammar
+pub mod Asking
+pub mod Choices
+pub mod Chosen
+pub mod Parsed
+pub mod Worked
+pub mod Outcomes
 pub mod Faults

@@ -1,14 +1,18 @@
 -- The printed text of a paving: a summary, and a line for each node in preorder.
-use Rattle.std.specs.Prelude.{ℕ, ◌+◌, List, [], ◌∷◌, ◌++◌, codes, decimal}
+use Rattle.std.specs.Prelude.{ℕ, ◌+◌, List, [], ◌∷◌, ◌++◌, codes, decimal, Option, Some, None}
 use Rattle.pv_num.specs.Parts.{number_text}
 use Rattle.pv_interval.specs.Bounds.{Bounds}
 use Rattle.pv_tree.specs.Trees.{Tree, leaf, removed, inner, small, cut, counts_of, settled_of}
 use Rattle.pv_tree.specs.declared.outcome.Counts.{Counts}
 
--- both ends of each place, each behind a space
+-- both ends of a place, each behind a space
+abbrev pub place_text : Bounds → List ℕ
+place_text x = 32 ∷ (number_text x.lo ++ (32 ∷ number_text x.hi))
+
+-- both ends of each place
 abbrev pub ends_text : List Bounds → List ℕ
 ends_text [] = []
-ends_text (x ∷ xs) = 32 ∷ (number_text x.lo ++ (32 ∷ (number_text x.hi ++ ends_text xs)))
+ends_text (x ∷ xs) = place_text x ++ ends_text xs
 
 -- the line of a tree's top node, without its line feed
 abbrev pub node_line : Tree → List ℕ

@@ -1,6 +1,7 @@
 //! The command line of the paver: words in, a status out.
 #![tactic(auto)]
 
+mod command_line;
 mod decimal;
 mod fetched;
 mod gate;
@@ -10,7 +11,7 @@ mod options;
 mod paving;
 mod printing;
 mod refusal;
-mod settles;
+mod report;
 mod status;
 mod telling;
 mod values;

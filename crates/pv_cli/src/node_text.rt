@@ -1,15 +1,17 @@
-ghost use Rattle.std.specs.Prelude.{◌≡◌, ◌<◌, ◌≤◌, ◌++◌, ℕ, Some, IsSome, IfSome, OnOk, List, length, drop};
-ghost use Rattle.pv_interval.specs.Bounds.{Bounds};
-ghost use Rattle.pv_tree.specs.Trees.{Tree, subtree, to_at};
-ghost use Rattle.pv_cli.specs.Lines.{ends_text, node_line};
+ghost use Rattle.std.specs.Prelude.{◌≡◌, ◌+◌, ◌<◌, ◌≤◌, ◌++◌, ℕ, Some, IsSome, IfSome, OnOk, List, length, drop};
+ghost use Rattle.pv_tree.specs.Trees.{Tree, subtree, to_at, shape_of};
+ghost use Rattle.pv_cli.specs.Lines.{place_text, ends_text};
+ghost use Rattle.pv_cli.specs.Nodes.{to_text, shape_line};
 
 use crate::decimal::push_decimal;
 use pv_box::IBox;
+use pv_interval::Interval;
 use pv_num::Memory;
 use pv_tree::{Path, Paving, Shape};
 
 /// Appends the line of a node without its line feed: a letter for its kind, the place and the number of
 /// its cut, and both ends of each place that settling left of its box.
+
 pub(crate) fn write_node(
     p: &Paving,
     path: Path,
@@ -18,6 +20,7 @@ pub(crate) fn write_node(
 ) -> Result<(), Memory>
     requires dims { length scratch.old ≡ length p.now.root }
     ensures dims { length scratch.new ≡ length scratch.old }
+    ensures line { OnOk result (out.new.items ≡ out.old.items ++ shape_line (shape_of (subtree p.now.tree path)) (to_at p.now.tree path)) }
 {
     match p.shape_at(path) {
         Shape::Absent | Shape::OpenLeaf => push(out, b"O"),
@@ -52,23 +55,31 @@ fn write_to(p: &Paving, path: Path, scratch: &mut IBox, out: &mut Vec<u8>) -> Re
     requires dims { length scratch.old ≡ length p.now.root }
     requires there { IsSome (to_at p.now.tree path) }
     ensures dims { length scratch.new ≡ length scratch.old }
+    ensures ends { OnOk result (out.new.items ≡ out.old.items ++ to_text (to_at p.now.tree path)) }
 {
     let _paves = p.dims();
     p.to_at(path, scratch);
     write_ends(scratch, 0, out)
 }
 
-// Appends both ends of each place from the i-th on, each behind a space.
+// Appends both ends of each place from the i-th on.
 fn write_ends(bx: &IBox, i: u8, out: &mut Vec<u8>) -> Result<(), Memory>
     requires { i ≤ length bx.now }
+    ensures { OnOk result (out.new.items ≡ out.old.items ++ ends_text (drop i bx.now)) }
 {
     if i == bx.dims() {
         return Ok(());
     }
-    let part = bx.get(i);
+    write_place(bx.get(i), out)?;
+    write_ends(bx, i + 1, out)
+}
+
+// Appends both ends of a place, each behind a space.
+fn write_place(part: Interval, out: &mut Vec<u8>) -> Result<(), Memory>
+    ensures { OnOk result (out.new.items ≡ out.old.items ++ place_text part) }
+{
     push(out, b" ")?;
     part.lo().write_text(out)?;
     push(out, b" ")?;
-    part.hi().write_text(out)?;
-    write_ends(bx, i + 1, out)
+    part.hi().write_text(out)
 }

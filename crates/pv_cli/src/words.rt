@@ -1,10 +1,12 @@
-ghost use Rattle.std.specs.Prelude.{IfErr};
-ghost use Rattle.pv_cli.specs.Answers.{IsWordsRefusal};
+ghost use Rattle.std.specs.Prelude.{◌≡◌, ◌≢◌, ◌⊎◌, map, option_map, Some, None, MatchResult, string_bytes};
+ghost use Rattle.pv_cli.specs.Asking.{asked, asked_in, seen_of, task_of, asked_by};
+ghost use Rattle.clap.specs.Words.{found_of, rows_of, subcommand_rows_of};
 
 use crate::Refusal;
+use crate::command_line::paver;
+use clap::ArgMatches;
 use clap::error::ErrorKind;
-use clap::{Arg, ArgAction, ArgMatches, Command};
-use std::alloc::{AllocError, Global};
+use std::alloc::Global;
 
 /// What the words ask for.
 #[derive(Clone, Copy, Debug, PartialEq, Eq)]
@@ -30,70 +32,55 @@ pub(crate) struct Words<'a> {
 
 /// Reads the words of a command, of which the first is the program's name.
 pub(crate) fn read<'a>(alloc: Global, words: &'a [String]) -> Result<Words<'a>, Refusal>
-    ensures { IfErr result IsWordsRefusal }
+    ensures { MatchResult result (λ w. asked (map string_bytes words.entry.now) ≡ Some (seen_of w))
+        (λ e. (e ≡ Refusal.Memory) ⊎ ((e ≡ Refusal.Usage) × (asked (map string_bytes words.entry.now) ≡ None))) }
 {
     let matches = match paver(alloc)?.try_get_matches_from(words) {
         Ok(matches) => matches,
-        Err(error) if error.kind() == ErrorKind::OutOfMemory => return Err(Refusal::Memory),
-        Err(_) => return Err(Refusal::Usage),
+        Err(error) => return Err(refusal_by(error.kind())),
     };
-    match matches.subcommand() {
-        Some(("check", found)) => words_of(Task::Check, found),
-        Some(("run", found)) => words_of(Task::Run, found),
-        _ => Err(Refusal::Usage),
-    }
+    words_in(&matches).ok_or(Refusal::Usage)
 }
 
-fn words_of<'a>(task: Task, found: &ArgMatches<'a>) -> Result<Words<'a>, Refusal>
-    ensures { IfErr result IsWordsRefusal }
+fn refusal_by(kind: ErrorKind) -> Refusal
+    ensures { (result ≡ Refusal.Memory) ⊎ ((result ≡ Refusal.Usage) × (kind ≢ ErrorKind.OutOfMemory)) }
 {
-    match found.get_str("SYSTEM") {
-        None => Err(Refusal::Usage),
-        Some(system) => Ok(Words {
-            task,
-            system,
-            eps: found.get_str("eps"),
-            depth: found.get_str("depth"),
-            bisect: found.get_str("bisect"),
-            contract: found.get_str("contract"),
-            workers: found.get_str("workers"),
-            boxes: found.get_str("boxes"),
-        }),
+    match kind {
+        ErrorKind::OutOfMemory => Refusal::Memory,
+        _ => Refusal::Usage,
     }
 }
 
-// The commands, without the flags and the command that clap adds by itself.
-fn paver<'a>(alloc: Global) -> Result<Command<'a>, AllocError> {
-    Command::new(alloc, "paver")
-        .disable_help_flag(true)
-        .disable_help_subcommand(true)
-        .disable_version_flag(true)
-        .subcommand_required(true)
-        .subcommand(plain(alloc, "check")?)?
-        .subcommand(with_options(plain(alloc, "run")?, alloc)?)
+fn words_in<'a>(matches: &ArgMatches<'a>) -> Option<Words<'a>>
+    ensures { option_map seen_of result ≡ asked_in (subcommand_rows_of matches.now) }
+{
+    let (name, found) = matches.subcommand()?;
+    words_of(task_of(name)?, found)
 }
 
-// A command with the name of a system.
-fn plain<'a>(alloc: Global, name: &'a str) -> Result<Command<'a>, AllocError> {
-    let system = Arg::new(alloc, "SYSTEM")
-        .required(true)
-        .action(ArgAction::Set);
-    Command::new(alloc, name)
-        .disable_help_flag(true)
-        .disable_version_flag(true)
-        .arg(system)
+fn task_of(name: &str) -> Option<Task>
+    ensures { result ≡ task_of name.now }
+{
+    match name {
+        "check" => Some(Task::Check),
+        "run" => Some(Task::Run),
+        _ => None,
+    }
 }
 
-fn with_options<'a>(command: Command<'a>, alloc: Global) -> Result<Command<'a>, AllocError> {
-    command
-        .arg(option(alloc, "eps"))?
-        .arg(option(alloc, "depth"))?
-        .arg(option(alloc, "bisect"))?
-        .arg(option(alloc, "contract"))?
-        .arg(option(alloc, "workers"))?
-        .arg(option(alloc, "boxes"))
-}
-
-fn option<'a>(alloc: Global, name: &'a str) -> Arg<'a> {
-    Arg::new(alloc, name).long(name).action(ArgAction::Set)
+#[tactic(auto, using(crate::proofs::Rows::first_is))]
+fn words_of<'a>(task: Task, found: &ArgMatches<'a>) -> Option<Words<'a>>
+    ensures { option_map seen_of result ≡ asked_by task (rows_of (found_of found.now)) }
+{
+    let system = found.get_str("SYSTEM")?;
+    Some(Words {
+        task,
+        system,
+        eps: found.get_str("eps"),
+        depth: found.get_str("depth"),
+        bisect: found.get_str("bisect"),
+        contract: found.get_str("contract"),
+        workers: found.get_str("workers"),
+        boxes: found.get_str("boxes"),
+    })
 }

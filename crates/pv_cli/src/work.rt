@@ -1,29 +1,17 @@
-ghost use Rattle.std.specs.Prelude.{◌≡◌, IfErr, length};
-ghost use Rattle.pv_cli.specs.Answers.{IsWorkRefusal};
+ghost use Rattle.std.specs.Prelude.{◌≡◌, IfOk, IfErr};
+ghost use Rattle.pv_cli.specs.Chosen.{choice_of};
+ghost use Rattle.pv_cli.specs.Worked.{IsWorked, IsCheckOn, IsRunOn, RefusesText, IsRunRefusal};
 
 use crate::options::Options;
-use crate::paving::pave;
-use crate::printing::printed;
-use crate::settles::Settles;
+use crate::report::{Report, paved};
 use crate::words::{Task, Words};
 use crate::{Gate, Refusal};
-use pv_box::IBox;
 use pv_ctc::{Program, ProgramRefused};
 use pv_expr::System;
 use pv_num::Memory;
 use pv_parse::{ParseRefused, parse};
 use pv_settle::{Settings, SystemSettler};
-use pv_tree::Paving;
 use std::alloc::Global;
-
-/// What the work of a command came to.
-#[derive(Drop)]
-pub(crate) struct Report {
-    /// Whether no leaf is left open.
-    pub whole: bool,
-    /// What is printed.
-    pub text: Vec<u8>,
-}
 
 impl From<Memory> for Refusal {
     ghost use Rattle.pv_cli.specs.declared.refusal.Refusal.TheVariants.{Memory};
@@ -79,22 +67,21 @@ pub(crate) fn work<G: Gate>(
     text: &[u8],
     gate: &G,
 ) -> Result<Report, Refusal>
-    ensures { IfErr result IsWorkRefusal }
+    ensures worked { IfOk result (λ r. IsWorked words.now.task (choice_of options) text.now r.whole r.text.items) }
+    ensures refused { IfErr result (λ e. RefusesText words.now.task text.now e) }
 {
     let system = parse(alloc, text)?;
     match words.task {
-        Task::Check => check(alloc, &system),
+        Task::Check => Ok(check(alloc, &system)?),
         Task::Run => run(alloc, words, options, system, gate),
     }
 }
 
-fn check(alloc: Global, system: &System) -> Result<Report, Refusal>
-    ensures { IfErr result IsWorkRefusal }
+fn check(alloc: Global, system: &System) -> Result<Report, Memory>
+    ensures { IfOk result (λ r. IsCheckOn system.now r.whole r.text.items) }
 {
-    Ok(Report {
-        whole: true,
-        text: system.canonical_text(alloc)?,
-    })
+    let text = system.canonical_text(alloc)?;
+    Ok(Report { whole: true, text })
 }
 
 fn run<G: Gate>(
@@ -104,7 +91,8 @@ fn run<G: Gate>(
     system: System,
     gate: &G,
 ) -> Result<Report, Refusal>
-    ensures { IfErr result IsWorkRefusal }
+    ensures run { IfOk result (λ r. IsRunOn (choice_of options) system r.whole r.text.items) }
+    ensures refused { IfErr result IsRunRefusal }
 {
     let text = words.contract.unwrap_or("prop(8)");
     let program = Program::read(alloc, text.as_bytes(), system.constraint_count())?;
@@ -115,25 +103,5 @@ fn run<G: Gate>(
     };
     let settler = SystemSettler::new(alloc, system, program, settings)?;
     let bx = settler.search_box(alloc)?;
-    paved(alloc, &settler, bx, options.boxes, gate)
-}
-
-// The paving of a box, as far as the budget goes.
-fn paved<S: Settles, G: Gate>(
-    alloc: Global,
-    settler: &S,
-    bx: IBox,
-    budget: u64,
-    gate: &G,
-) -> Result<Report, Refusal>
-    requires { length bx ≡ S.dims settler.now }
-    ensures { IfErr result IsWorkRefusal }
-{
-    let mut scratch = bx.clone_of(alloc)?;
-    let mut paving = Paving::open(alloc, bx)?;
-    pave(alloc, settler, &mut paving, &mut scratch, budget, gate)?;
-    Ok(Report {
-        whole: paving.first_open().is_none(),
-        text: printed(alloc, &paving, &mut scratch)?,
-    })
+    Ok(paved(alloc, &settler, bx, options.boxes, gate)?)
 }

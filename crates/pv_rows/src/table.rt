@@ -54,7 +54,7 @@ pub(crate) const FORMS: [Row; 6] = [
     },
 ];
 
-pub(crate) const WORK: [Row; 19] = [
+pub(crate) const WORK: [Row; 21] = [
     Row {
         words: "run s",
         system: "Variables x in [0,1]; Constraints x*x = 2; end\n",
@@ -159,6 +159,20 @@ pub(crate) const WORK: [Row; 19] = [
         status: 3,
         out: "",
         err: "system: line 1 column 1 byte 0: EndOfText\n",
+    },
+    Row {
+        words: "check s",
+        system: "Variables x in [0,4]; Constraints x <= 1e36; end\n",
+        status: 0,
+        out: "vars 1\nx 0:0 1:2\nctrs 1\n<= v0 1000000000000000000000000000000000000/1\n",
+        err: "",
+    },
+    Row {
+        words: "check s",
+        system: "Variables x in [0,4]; Constraints x <= 1e37; end\n",
+        status: 3,
+        out: "",
+        err: "system: line 1 column 40 byte 39: NumberTooWide\n",
     },
     Row {
         words: "run s --contract hc4(1)",

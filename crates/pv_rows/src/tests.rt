@@ -115,6 +115,19 @@ fn faults_of_the_outside(rt: HostRuntime) -> Result<(), Fail> {
     faulty(&rt, alloc, "Variables", no_line, 3, "")
 }
 
+#[test]
+fn a_text_that_is_too_long(rt: HostRuntime) -> Result<(), Fail> {
+    let mut spaces = String::new(rt.alloc());
+    for _ in 0..65537 {
+        spaces.push(' ')?;
+    }
+    let answer = call(rt.alloc(), "run s", &spaces, NONE)?;
+    assert_eq!(rt; answer.status.code(), 3);
+    let line = b"system: line 1 column 65537 byte 65536: TextTooLong\n";
+    assert_eq!(rt; answer.err.bytes(), line.as_slice());
+    Ok(())
+}
+
 const TWO_DISCS: &str =
     "/* two discs and a line */\nConstants\n  r = 2.1;\nVariables\n  x in [-4, 4], y in [-4, 4];\nConstraints\n  sqr(x - 0.5) + y^2 <= r^2;  // first disc\n  sqr(x + 0.5) + y^2 <= 4;\n  y >= 0.1 * x;\nend\n";
 

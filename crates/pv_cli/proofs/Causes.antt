@@ -1,0 +1,32 @@
+-- Why a command is refused, by the call that refuses it.
+use Rattle.std.proofs.Common.{◌≡◌, ◌⊎◌, inl, inr, ℕ, List, Some, None, Option, refl, sym, ◌∙◌, subst}
+use Rattle.pv_io.specs.Outside.{Content}
+use Rattle.pv_cli.specs.Asking.{Asked, asked}
+use Rattle.pv_cli.specs.Choices.{Choice, Chooses}
+use Rattle.pv_cli.specs.Outcomes.{RefusesAsked, Means, AreRefused, HasCause, IsAnswered, IsDone}
+use Rattle.pv_cli.specs.declared.status.Status.{Status}
+use Rattle.pv_cli.specs.declared.refusal.Refusal.{Refusal}
+use Rattle.pv_cli.specs.declared.refusal.Refusal.TheVariants.{Usage, Memory}
+
+none_some : (a : Asked) → None ≡ Some a → ⊥
+none_some a e = cc
+
+same_asked : (a b : Asked) → Some a ≡ Some b → a ≡ b
+same_asked a b e = cc
+
+pub cause_of_words : (words : List (List ℕ)) (content : List ℕ → Content) (name : List ℕ) (r : Refusal) → (r ≡ Memory) ⊎ ((r ≡ Usage) × (asked words ≡ None)) → HasCause words content name r
+cause_of_words words content name r (inl memory) = inr (inl memory)
+cause_of_words words content name r (inr usage) = inl (usage.0, λ a c m. none_some a (sym usage.1 ∙ m.asks))
+
+pub cause_of_values : (words : List (List ℕ)) (content : List ℕ → Content) (name : List ℕ) (a : Asked) → asked words ≡ Some a → ((c : Choice) → Chooses a c → ⊥) → HasCause words content name Usage
+cause_of_values words content name a asks none =
+    inl (refl, λ b c m. none c (subst (λ (x : Asked). Chooses x c) (same_asked b a (sym m.asks ∙ asks)) m.chooses))
+
+pub cause_of_work : (words : List (List ℕ)) (content : List ℕ → Content) (a : Asked) (c : Choice) (name : List ℕ) (r : Refusal) → asked words ≡ Some a → Chooses a c → name ≡ a.system
+    → RefusesAsked a content r → HasCause words content name r
+cause_of_work words content a c name r asks chooses named refused =
+    inr (inr (record { ask = a; choice = c; means = record { asks = asks; chooses = chooses }; name_is = named; refused = refused }))
+
+pub done_of : (words : List (List ℕ)) (content : List ℕ → Content) (a : Asked) (c : Choice) (status : Status) (before after : Option (List ℕ)) → asked words ≡ Some a → Chooses a c
+    → IsAnswered a c content status before after → IsDone words content status before after
+done_of words content a c status before after asks chooses answered = record { ask = a; choice = c; means = record { asks = asks; chooses = chooses }; answered = answered }

@@ -1,0 +1,13 @@
+use Rattle.std.proofs.Common.{◌≡◌, ◌∙◌, ap, codes}
+use Rattle.std.proofs.lemmas.Result.{IfOk-weaker}
+use Rattle.clap.specs.Words.{App, app_of}
+use Rattle.pv_cli.specs.Grammar.{with_option}
+use Rattle.pv_cli.proofs.command_line.with_options.Goals as goal
+
+pub returns-clause-app : goal.returns-clause-app
+returns-clause-app c =
+    IfOk-weaker c.with_option-6.result _ _
+    (λ r e. e ∙ ap (with_option (codes "boxes")) (c.in_ok-command-5.ensures.app ∙ ap (with_option (codes "workers")) (c.in_ok-command-4.ensures.app
+    ∙ ap (with_option (codes "contract")) (c.in_ok-command-3.ensures.app ∙ ap (with_option (codes "bisect")) (c.in_ok-command-2.ensures.app
+    ∙ ap (with_option (codes "depth")) c.in_ok-command.ensures.app)))))
+    c.with_option-6.ensures.app

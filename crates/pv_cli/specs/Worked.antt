@@ -1,0 +1,70 @@
+-- What a command makes of the text of a system.
+use Rattle.std.specs.Prelude.{◌≡◌, ℕ, Bool, true, List, length, map}
+use Rattle.pv_expr.specs.Systems.{Parts}
+use Rattle.pv_expr.specs.Searches.{search_bounds}
+use Rattle.pv_expr.specs.Canonical.{canonical_text}
+use Rattle.pv_hc4.specs.Graphs.{sides_named}
+use Rattle.pv_ctc.specs.Contracting.{sides_in}
+use Rattle.pv_ctc.specs.Plans.{plan_of, IsFor}
+use Rattle.pv_settle.specs.Rules.{Rule}
+use Rattle.pv_settle.specs.Settling.{settle_by, is_member}
+use Rattle.pv_parse.specs.declared.cause.ParseRefused.TheVariants.{Fault}
+use Rattle.pv_cli.specs.Choices.{Choice}
+use Rattle.pv_cli.specs.Parsed.{IsSystemOf, IsFaultOf}
+use Rattle.pv_cli.specs.Reports.{IsPaved}
+use Rattle.pv_cli.specs.declared.refusal.Refusal.{Refusal}
+use Rattle.pv_cli.specs.declared.refusal.Refusal.TheVariants as refusal
+use Rattle.pv_cli.specs.declared.words.Task.{Task}
+use Rattle.pv_cli.specs.declared.words.Task.TheVariants.{Check, Run}
+
+-- `check` prints the canonical text
+pub record IsCheckOn (s : Parts) (whole : Bool) (text : List ℕ) : Type 0 where
+  pub printed : text ≡ canonical_text s
+  pub whole_is : whole ≡ true
+
+-- `run` prints a paving of the search box, settled by the four tests with the system's constraints, a program
+-- for so many constraints, and the values of the options. It is sound for the points that the program speaks of.
+pub record IsRunOn (c : Choice) (s : Parts) (whole : Bool) (text : List ℕ) : Type 0 where
+  pub rule : Rule
+  pub system : rule.system ≡ s
+  pub sides : sides_in rule.graphs ≡ map sides_named s.constraints
+  pub program : IsFor (length s.constraints) (plan_of rule.program)
+  pub eps : rule.eps ≡ c.eps
+  pub depth : rule.depth ≡ c.depth
+  pub bisector : rule.bisector ≡ c.bisector
+  pub paved : IsPaved (settle_by rule) rule.depth (is_member rule) (map search_bounds s.domains) c.boxes whole text
+
+abbrev pub IsWorkOn : Task → Choice → Parts → Bool → List ℕ → Type 0
+IsWorkOn Check c s whole printed = IsCheckOn s whole printed
+IsWorkOn Run c s whole printed = IsRunOn c s whole printed
+
+-- the text is that of a system, and this is what the task makes of it
+pub record IsWorked (task : Task) (c : Choice) (text : List ℕ) (whole : Bool) (printed : List ℕ) : Type 0 where
+  pub system : Parts
+  pub read : IsSystemOf text system
+  pub work : IsWorkOn task c system whole printed
+
+-- the text is that of some system
+pub record IsGood (text : List ℕ) : Type 0 where
+  pub system : Parts
+  pub read : IsSystemOf text system
+
+-- why the work on a text is refused
+abbrev pub RefusesText : Task → List ℕ → Refusal → Type 0
+RefusesText task text refusal.Usage = ⊥
+RefusesText task text (refusal.System line column byte cause) = IsFaultOf text (Fault byte line column cause)
+RefusesText task text (refusal.Contract byte) = (task ≡ Run) × IsGood text
+RefusesText task text refusal.ReadFault = ⊥
+RefusesText task text refusal.WriteFault = ⊥
+RefusesText task text refusal.Memory = Unit {0}
+RefusesText task text refusal.NoFile = ⊥
+
+-- a refusal that comes once the system is read
+abbrev pub IsRunRefusal : Refusal → Type 0
+IsRunRefusal refusal.Usage = ⊥
+IsRunRefusal (refusal.System line column byte cause) = ⊥
+IsRunRefusal (refusal.Contract byte) = Unit {0}
+IsRunRefusal refusal.ReadFault = ⊥
+IsRunRefusal refusal.WriteFault = ⊥
+IsRunRefusal refusal.Memory = Unit {0}
+IsRunRefusal refusal.NoFile = ⊥
