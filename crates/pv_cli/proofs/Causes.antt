@@ -30,3 +30,11 @@ cause_of_work words content a c name r asks chooses named refused =
 pub done_of : (words : List (List ℕ)) (content : List ℕ → Content) (a : Asked) (c : Choice) (status : Status) (before after : Option (List ℕ)) → asked words ≡ Some a → Chooses a c
     → IsAnswered a c content status before after → IsDone words content status before after
 done_of words content a c status before after asks chooses answered = record { ask = a; choice = c; means = record { asks = asks; chooses = chooses }; answered = answered }
+
+pub refused_words : (words : List (List ℕ)) (content : List ℕ → Content) (name : List ℕ) (r : Refusal) → HasCause words content name r → AreRefused words → (r ≡ Usage) ⊎ (r ≡ Memory)
+refused_words words content name r (inl usage) none = inl usage.0
+refused_words words content name r (inr (inl memory)) none = inr memory
+refused_words words content name r (inr (inr work)) none = absurd (none work.ask work.choice work.means)
+
+pub no_done : (words : List (List ℕ)) (content : List ℕ → Content) (status : Status) (before after : Option (List ℕ)) → IsDone words content status before after → AreRefused words → ⊥
+no_done words content status before after done none = none done.ask done.choice done.means

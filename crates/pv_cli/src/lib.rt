@@ -5,6 +5,7 @@ mod command_line;
 mod decimal;
 mod fetched;
 mod gate;
+pub mod laws;
 mod main_call;
 mod node_text;
 mod options;
