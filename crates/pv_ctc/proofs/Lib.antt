@@ -12,3 +12,4 @@ pub mod Keeping
 pub mod Props
 pub mod Locality
 pub mod Spelling
+pub mod Pieces

@@ -7,3 +7,4 @@ pub mod Sureness
 pub mod Texts
 pub mod Uses
 pub mod Members
+pub mod Words

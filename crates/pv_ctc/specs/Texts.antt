@@ -20,3 +20,12 @@ abbrev mutual
   pub parts_text : ℕ → Plans → List ℕ
   parts_text i no_plan = []
   parts_text i (plan_and p ps) = comma_text i ++ program_text p ++ parts_text (i + 1) ps
+
+-- the text of a program without its last parenthesis
+abbrev pub open_text : Plan → List ℕ
+open_text (hc4 i) = codes "hc4(" ++ decimal i
+open_text (compose ps) = codes "compose(" ++ parts_text 0 ps
+open_text (union ps) = codes "union(" ++ parts_text 0 ps
+open_text (qinter q ps) = codes "qinter(" ++ decimal q ++ codes "," ++ parts_text 0 ps
+open_text (fix n p) = codes "fix(" ++ decimal n ++ codes "," ++ program_text p
+open_text (prop n) = codes "prop(" ++ decimal n

@@ -1,6 +1,8 @@
 // From a text to a program.
 
-ghost use Rattle.std.specs.Prelude.{◌≡◌, ◌+◌, ◌<◌, ◌≤◌, length, IfOk};
+ghost use Rattle.std.specs.Prelude.{◌≡◌, ◌+◌, ◌++◌, ◌<◌, ◌≤◌, length, drop, codes, decimal, IfOk, OnOk, IsTrue, IsFalse};
+ghost use Rattle.pv_ctc.specs.Texts.{program_text, parts_text, open_text};
+ghost use Rattle.pv_ctc.specs.Words.{StandsBefore, word_text};
 ghost use Rattle.pv_ctc.specs.Plans.{plan_of, plans_of, IsFor, AreFor};
 
 use crate::program::{NODE_LIMIT, Program, TEXT_LIMIT, TURN_LIMIT};
@@ -32,6 +34,7 @@ impl Program {
     /// Reads the program of a text, for a system of `count` constraints.
     pub fn read(alloc: Global, text: &[u8], count: u32) -> Result<Program, ProgramRefused>
         ensures fits { IfOk result (λ p. IsFor count (plan_of p)) }
+        ensures spelled { IfOk result (λ p. text.now ≡ program_text (plan_of p)) }
     {
         if text.len() > TEXT_LIMIT {
             return Err(ProgramRefused::Bad { byte: 4096 });
@@ -72,6 +75,8 @@ impl<'a> Reader<'a> {
     fn want(&mut self, token: Token) -> Result<(), ProgramRefused>
         ensures named { self.new.named ≡ self.old.named }
         ensures count { self.new.count ≡ self.old.count }
+        ensures text { self.new.text.now ≡ self.old.text.now }
+        ensures stood { OnOk result (StandsBefore token (drop self.old.at self.old.text.now) (drop self.new.at self.new.text.now)) }
     {
         let (found, end) = token_at(self.text, self.at);
         if found != token {
@@ -86,6 +91,8 @@ impl<'a> Reader<'a> {
         ensures named { self.new.named ≡ self.old.named }
         ensures count { self.new.count ≡ self.old.count }
         ensures range { IfOk result (λ n. (low ≤ n) × (n ≤ high)) }
+        ensures text { self.new.text.now ≡ self.old.text.now }
+        ensures stood { IfOk result (λ n. drop self.old.at self.old.text.now ≡ decimal n ++ drop self.new.at self.new.text.now) }
     {
         let (found, end) = token_at(self.text, self.at);
         match found {
@@ -101,6 +108,8 @@ impl<'a> Reader<'a> {
     fn word(&mut self) -> Result<Word, ProgramRefused>
         ensures named { IfOk result (λ _. self.new.named ≡ self.old.named + 1) }
         ensures count { self.new.count ≡ self.old.count }
+        ensures text { self.new.text.now ≡ self.old.text.now }
+        ensures stood { IfOk result (λ w. drop self.old.at self.old.text.now ≡ word_text w ++ drop self.new.at self.new.text.now) }
     {
         let (found, end) = token_at(self.text, self.at);
         match found {
@@ -117,6 +126,9 @@ impl<'a> Reader<'a> {
     fn comma(&mut self) -> bool
         ensures named { self.new.named ≡ self.old.named }
         ensures count { self.new.count ≡ self.old.count }
+        ensures text { self.new.text.now ≡ self.old.text.now }
+        ensures stood { IsTrue result → drop self.old.at self.old.text.now ≡ codes "," ++ drop self.new.at self.new.text.now }
+        ensures stayed { IsFalse result → self.new.at ≡ self.old.at }
     {
         let (found, end) = token_at(self.text, self.at);
         if found == Token::Comma {
@@ -131,6 +143,8 @@ impl<'a> Reader<'a> {
         ensures named { IfOk result (λ _. self.old.named < self.new.named) }
         ensures count { self.new.count ≡ self.old.count }
         ensures fits { IfOk result (λ p. IsFor self.old.count (plan_of p)) }
+        ensures text { self.new.text.now ≡ self.old.text.now }
+        ensures stood { IfOk result (λ p. drop self.old.at self.old.text.now ≡ program_text (plan_of p) ++ drop self.new.at self.new.text.now) }
     {
         let word = self.word()?;
         self.want(Token::Open)?;
@@ -145,6 +159,8 @@ impl<'a> Reader<'a> {
         ensures named { IfOk result (λ _. self.old.named ≤ self.new.named) }
         ensures count { self.new.count ≡ self.old.count }
         ensures fits { IfOk result (λ p. IsFor self.old.count (plan_of p)) }
+        ensures text { self.new.text.now ≡ self.old.text.now }
+        ensures stood { IfOk result (λ p. word_text word ++ codes "(" ++ drop self.old.at self.old.text.now ≡ open_text (plan_of p) ++ drop self.new.at self.new.text.now) }
     {
         match word {
             Word::Hc4 => Ok(Program::Hc4(self.constraint()?)),
@@ -174,6 +190,8 @@ impl<'a> Reader<'a> {
         ensures named { self.new.named ≡ self.old.named }
         ensures count { self.new.count ≡ self.old.count }
         ensures range { IfOk result (λ i. i < self.old.count) }
+        ensures text { self.new.text.now ≡ self.old.text.now }
+        ensures stood { IfOk result (λ n. drop self.old.at self.old.text.now ≡ decimal n ++ drop self.new.at self.new.text.now) }
     {
         if self.count == 0 {
             return Err(Self::refusal(self.at));
@@ -188,6 +206,8 @@ impl<'a> Reader<'a> {
         ensures count { self.new.count ≡ self.old.count }
         ensures some { IfOk result (λ ps. 1 ≤ length ps.items) }
         ensures fits { IfOk result (λ ps. AreFor self.old.count (plans_of ps.items)) }
+        ensures text { self.new.text.now ≡ self.old.text.now }
+        ensures stood { IfOk result (λ ps. drop self.old.at self.old.text.now ≡ parts_text 0 (plans_of ps.items) ++ drop self.new.at self.new.text.now) }
     {
         let mut parts = Vec::new(alloc);
         parts.push(self.program(alloc)?)?;

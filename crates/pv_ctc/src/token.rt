@@ -1,6 +1,9 @@
 // The tokens of a program's text.
 
-ghost use Rattle.std.specs.Prelude.{◌≡◌, ◌+◌, ◌<◌, ◌≤◌, length};
+ghost use Rattle.std.specs.Prelude.{◌≡◌, ◌+◌, ◌<◌, ◌≤◌, length, drop};
+ghost use Rattle.pv_ctc.specs.Words.{StandsBefore, Spells};
+
+use itoa::Buffer;
 
 /// The first word of a program.
 #[derive(Clone, Copy, PartialEq, Eq)]
@@ -32,6 +35,7 @@ pub fn token_at(text: &[u8], at: usize) -> (Token, usize)
     requires { at ≤ length text.now }
     ensures within { result.1 ≤ length text.now }
     ensures onward { at ≤ result.1 }
+    ensures stands { StandsBefore result.0 (drop at text.now) (drop result.1 text.now) }
 {
     if at == text.len() {
         return (Token::End, at);
@@ -80,7 +84,9 @@ fn digits_end(text: &[u8], from: usize) -> usize
     text.len()
 }
 
-fn word_of(name: &[u8]) -> Token {
+fn word_of(name: &[u8]) -> Token
+    ensures { Spells result name.now }
+{
     match name {
         b"hc4" => Token::Word(Word::Hc4),
         b"compose" => Token::Word(Word::Compose),
@@ -92,18 +98,34 @@ fn word_of(name: &[u8]) -> Token {
     }
 }
 
-fn number_of(digits: &[u8]) -> Token {
-    if digits.len() > 1 && digits[0] == b'0' {
-        return Token::TooBig;
+// The number that digits spell. One with a leading zero is not spelled as it would be written.
+fn number_of(digits: &[u8]) -> Token
+    ensures { Spells result digits.now }
+{
+    match value_of(digits) {
+        Some(value) => checked(value, digits),
+        None => Token::TooBig,
     }
+}
+
+fn checked(value: u32, digits: &[u8]) -> Token
+    ensures { Spells result digits.now }
+{
+    let mut buffer = Buffer::new();
+    if buffer.format(value).as_bytes() == digits {
+        Token::Number(value)
+    } else {
+        Token::TooBig
+    }
+}
+
+// The value of some digits; None where it has more than 32 bits.
+fn value_of(digits: &[u8]) -> Option<u32> {
     let mut value: u32 = 0;
     for digit in digits {
-        match next_value(value, *digit) {
-            Some(next) => value = next,
-            None => return Token::TooBig,
-        }
+        value = next_value(value, *digit)?;
     }
-    Token::Number(value)
+    Some(value)
 }
 
 // A number with one more digit at its end; None where it has more than 32 bits.

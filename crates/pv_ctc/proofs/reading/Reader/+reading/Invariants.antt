@@ -1,5 +1,6 @@
 -- A program names one more node than its arguments, so the room for further nodes falls on each way round.
-use Rattle.std.proofs.Common.{◌+◌, ◌≤◌, ◌-◌, ◌*◌, ◌≡◌, length}
+use Rattle.std.proofs.Common.{◌+◌, ◌≤◌, ◌-◌, ◌*◌, ◌++◌, ◌≡◌, length, drop}
+use Rattle.pv_ctc.specs.Texts.{parts_text}
 use Rattle.pv_ctc.specs.Plans.{plans_of, AreFor}
 use Rattle.pv_ctc.proofs.reading.Reader.+reading.Given as goal
 
@@ -16,6 +17,8 @@ abbrev pub invariant-parts-loop-alloc : goal.invariant-parts-loop-alloc
 invariant-parts-loop-alloc l = record {
   named : l.fn.self.named ≤ l.self.named;
   count : l.self.count ≡ l.fn.self.count;
+  text : l.self.text.now ≡ l.fn.self.text.now;
+  stood : drop l.fn.self.at l.fn.self.text.now ≡ parts_text 0 (plans_of l.parts.items) ++ drop l.self.at l.self.text.now;
   some : 1 ≤ length l.parts.items;
   fits : AreFor l.fn.self.count (plans_of l.parts.items);
 }
