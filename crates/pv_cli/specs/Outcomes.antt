@@ -20,7 +20,7 @@ pub record IsAnswered (a : Asked) (c : Choice) (content : List ℕ → Content) 
   pub fetched : IsFetched (content a.system) text
   pub whole : Bool
   pub printed : List ℕ
-  pub worked : IsWorked a.task c text whole printed
+  pub worked : IsWorked a c text whole printed
   pub status_is : status ≡ status_by whole
   pub out : after ≡ appended before printed
 

@@ -1,14 +1,16 @@
 -- What a command makes of the text of a system.
-use Rattle.std.specs.Prelude.{◌≡◌, ℕ, Bool, true, List, length, map}
+use Rattle.std.specs.Prelude.{◌≡◌, ℕ, Bool, true, List, codes, length, map, unwrap_or}
 use Rattle.pv_expr.specs.Systems.{Parts}
 use Rattle.pv_expr.specs.Searches.{search_bounds}
 use Rattle.pv_expr.specs.Canonical.{canonical_text}
 use Rattle.pv_hc4.specs.Graphs.{sides_named}
 use Rattle.pv_ctc.specs.Contracting.{sides_in}
 use Rattle.pv_ctc.specs.Plans.{plan_of, IsFor}
+use Rattle.pv_ctc.specs.Texts.{program_text}
 use Rattle.pv_settle.specs.Rules.{Rule}
 use Rattle.pv_settle.specs.Settling.{settle_by, is_member}
 use Rattle.pv_parse.specs.declared.cause.ParseRefused.TheVariants.{Fault}
+use Rattle.pv_cli.specs.Asking.{Asked}
 use Rattle.pv_cli.specs.Choices.{Choice}
 use Rattle.pv_cli.specs.Parsed.{IsSystemOf, IsFaultOf}
 use Rattle.pv_cli.specs.Reports.{IsPaved}
@@ -22,27 +24,28 @@ pub record IsCheckOn (s : Parts) (whole : Bool) (text : List ℕ) : Type 0 where
   pub printed : text ≡ canonical_text s
   pub whole_is : whole ≡ true
 
--- `run` prints a paving of the search box, settled by the four tests with the system's constraints, a program
--- for so many constraints, and the values of the options. It is sound for the points that the program speaks of.
-pub record IsRunOn (c : Choice) (s : Parts) (whole : Bool) (text : List ℕ) : Type 0 where
+-- `run` prints a paving of the search box, settled by the four tests with the system's constraints, the program
+-- that is asked for, and the values of the options. It is sound for the points that the program speaks of.
+pub record IsRunOn (a : Asked) (c : Choice) (s : Parts) (whole : Bool) (text : List ℕ) : Type 0 where
   pub rule : Rule
   pub system : rule.system ≡ s
   pub sides : sides_in rule.graphs ≡ map sides_named s.constraints
   pub program : IsFor (length s.constraints) (plan_of rule.program)
+  pub spelled : unwrap_or a.contract (codes "prop(8)") ≡ program_text (plan_of rule.program)
   pub eps : rule.eps ≡ c.eps
   pub depth : rule.depth ≡ c.depth
   pub bisector : rule.bisector ≡ c.bisector
   pub paved : IsPaved (settle_by rule) rule.depth (is_member rule) (map search_bounds s.domains) c.boxes whole text
 
-abbrev pub IsWorkOn : Task → Choice → Parts → Bool → List ℕ → Type 0
-IsWorkOn Check c s whole printed = IsCheckOn s whole printed
-IsWorkOn Run c s whole printed = IsRunOn c s whole printed
+abbrev pub IsWorkOn : Task → Asked → Choice → Parts → Bool → List ℕ → Type 0
+IsWorkOn Check a c s whole printed = IsCheckOn s whole printed
+IsWorkOn Run a c s whole printed = IsRunOn a c s whole printed
 
--- the text is that of a system, and this is what the task makes of it
-pub record IsWorked (task : Task) (c : Choice) (text : List ℕ) (whole : Bool) (printed : List ℕ) : Type 0 where
+-- the text is that of a system, and this is what the command makes of it
+pub record IsWorked (a : Asked) (c : Choice) (text : List ℕ) (whole : Bool) (printed : List ℕ) : Type 0 where
   pub system : Parts
   pub read : IsSystemOf text system
-  pub work : IsWorkOn task c system whole printed
+  pub work : IsWorkOn a.task a c system whole printed
 
 -- the text is that of some system
 pub record IsGood (text : List ℕ) : Type 0 where

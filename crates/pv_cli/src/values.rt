@@ -29,8 +29,8 @@ pub(crate) fn options_of(words: &Words<'_>) -> Option<Options>
     })
 }
 
-// The text of a value, or what stands for one that is not given.
-fn text_or<'a>(value: Option<&'a str>, default: &'a str) -> &'a str
+/// The text of a value, or what stands for one that is not given.
+pub(crate) fn text_or<'a>(value: Option<&'a str>, default: &'a str) -> &'a str
     ensures { result.now ≡ unwrap_or (option_map (λ s. s.now) value.entry) default.entry.now }
 {
     match value {

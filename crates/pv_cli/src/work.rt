@@ -1,9 +1,11 @@
 ghost use Rattle.std.specs.Prelude.{◌≡◌, IfOk, IfErr};
+ghost use Rattle.pv_cli.specs.Asking.{seen_of};
 ghost use Rattle.pv_cli.specs.Chosen.{choice_of};
 ghost use Rattle.pv_cli.specs.Worked.{IsWorked, IsCheckOn, IsRunOn, RefusesText, IsRunRefusal};
 
 use crate::options::Options;
 use crate::report::{Report, paved};
+use crate::values::text_or;
 use crate::words::{Task, Words};
 use crate::{Gate, Refusal};
 use pv_ctc::{Program, ProgramRefused};
@@ -67,7 +69,7 @@ pub(crate) fn work<G: Gate>(
     text: &[u8],
     gate: &G,
 ) -> Result<Report, Refusal>
-    ensures worked { IfOk result (λ r. IsWorked words.now.task (choice_of options) text.now r.whole r.text.items) }
+    ensures worked { IfOk result (λ r. IsWorked (seen_of words.now) (choice_of options) text.now r.whole r.text.items) }
     ensures refused { IfErr result (λ e. RefusesText words.now.task text.now e) }
 {
     let system = parse(alloc, text)?;
@@ -91,10 +93,10 @@ fn run<G: Gate>(
     system: System,
     gate: &G,
 ) -> Result<Report, Refusal>
-    ensures run { IfOk result (λ r. IsRunOn (choice_of options) system r.whole r.text.items) }
+    ensures run { IfOk result (λ r. IsRunOn (seen_of words.now) (choice_of options) system r.whole r.text.items) }
     ensures refused { IfErr result IsRunRefusal }
 {
-    let text = words.contract.unwrap_or("prop(8)");
+    let text = text_or(words.contract, "prop(8)");
     let program = Program::read(alloc, text.as_bytes(), system.constraint_count())?;
     let settings = Settings {
         eps: options.eps,
