@@ -117,7 +117,10 @@ fn reaches(z: Num, n: u8, side: End, index: u128) -> bool
 fn guess(z: Num, n: u8) -> u128
     requires { (1 ≤ n) × (n ≤ 32) }
 {
-    if z.class != Class::NonNegative || z.mantissa == 0 {
+    if z.mantissa == 0 {
+        return 0;
+    }
+    if z.class != Class::NonNegative {
         return TOP_INDEX / 2;
     }
     if n == 2 {
