@@ -1,4 +1,5 @@
 pub mod Building
+pub mod Constraints
 pub mod Decimals
 pub mod Exists
 pub mod Gaps

@@ -156,3 +156,28 @@ abbrev pub KeepsCode : List Function → List Bool → List Op → ℕ → List 
 KeepsCode fs uses code n kept = (ms : List Meaning) (args : List Term) → Stand fs ms →
     (length (run ms args code []) ≡ n)
     × (run (meanings (map code_of fs)) (filtered uses args) kept [] ≡ run ms args code [])
+
+-- ---- The constraints of a code
+
+pub record Sides : Type 0 where
+  pub left : Term
+  pub relation : Relation
+  pub right : Term
+
+abbrev pub sides_of : Constraint → Sides
+sides_of c = record { left = term_of c.left; relation = c.relation; right = term_of c.right }
+
+-- the constraint of a part that writes its two sides
+abbrev pub part_sides : List Meaning → List Op → Relation → Sides
+part_sides ms part r = record { left = top (below (run ms [] part [])); relation = r; right = top (run ms [] part []) }
+
+-- the constraints that a code writes, behind functions with these meanings and a part that is not ended yet
+abbrev pub constraints_behind : List Meaning → List Op → List Op → List Sides
+constraints_behind ms part [] = []
+constraints_behind ms part (Define ∷ code) = constraints_behind (ms ++ body_meaning ms part ∷ []) [] code
+constraints_behind ms part (Relate r ∷ code) = part_sides ms part r ∷ constraints_behind ms [] code
+constraints_behind ms part (o ∷ code) = constraints_behind ms (part ++ o ∷ []) code
+
+-- the constraints of a system's code: each function's body stands in place of its calls
+abbrev pub constraints_of : List Op → List Sides
+constraints_of code = constraints_behind [] [] code

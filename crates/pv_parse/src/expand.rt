@@ -1,12 +1,12 @@
 // The expansion of calls: top-down, over what is used alone.
 
-ghost use Rattle.std.specs.Prelude.{◌≡◌, ◌∷◌, ◌++◌, ◌+◌, ◌<◌, ◌≤◌, [], length, map, reverse, take, drop, IfOk, OnOk, IsOk, IsTrue, if◌then◌else◌};
+ghost use Rattle.std.specs.Prelude.{◌≡◌, ◌∷◌, ◌++◌, ◌+◌, ◌<◌, ◌≤◌, [], List, length, map, reverse, take, drop, IfOk, OnOk, IsOk, IsTrue, if◌then◌else◌};
 ghost use Rattle.pv_expr.specs.Terms.{term_of, one, two};
-ghost use Rattle.pv_parse.specs.Expansion.{argument, meaning_of, meanings, run, step, is_used, rank, wants, arity_of, uses_of, IsValue, KeepsUsed, KeepsStep, KeepsCode, stack_of, code_of, unary_of, binary_of, top, below};
+ghost use Rattle.pv_parse.specs.Expansion.{argument, meaning_of, meanings, run, step, is_used, rank, wants, arity_of, uses_of, IsValue, KeepsUsed, KeepsStep, KeepsCode, Meaning, Stand, sides_of, part_sides, stack_of, code_of, unary_of, binary_of, top, below};
 
 use crate::code::{Binary, Op, Unary};
 use crate::measure::{Measure, measures};
-use pv_expr::Expr;
+use pv_expr::{Constraint, Expr, Relation};
 use pv_num::Memory;
 use std::alloc::Global;
 
@@ -247,6 +247,26 @@ pub(crate) fn expression(alloc: Global, code: &[Op]) -> Result<Expr, Memory>
     let mut made = expand(alloc, &[], code, &[])?;
     let value = taken(&mut made)?;
     Ok(value)
+}
+
+/// The constraint of a code that leaves its two sides.
+pub(crate) fn constraint(
+    alloc: Global,
+    functions: &[Function],
+    code: &[Op],
+    relation: Relation,
+) -> Result<Constraint, Memory>
+    ensures { IfOk result (λ c. (ms : List Meaning) → Stand functions.now ms → sides_of c ≡ part_sides ms code.now relation) }
+{
+    let used = used_code(alloc, functions, &[], code, 2)?;
+    let mut sides = expand(alloc, functions, used.as_slice(), &[])?;
+    let right = taken(&mut sides)?;
+    let left = taken(&mut sides)?;
+    Ok(Constraint {
+        left,
+        relation,
+        right,
+    })
 }
 
 #[cycle(expansion)]

@@ -1,6 +1,6 @@
 // Texts to systems and expressions.
 
-ghost use Rattle.std.specs.Prelude.{◌≡◌, List, [], false, ◌≤◌, ◌+◌, ◌<◌, length, IsOk, OnOk, IfOk, IfErr, IsErrAnd};
+ghost use Rattle.std.specs.Prelude.{◌≡◌, List, [], map, false, ◌≤◌, ◌+◌, ◌<◌, length, IsOk, OnOk, IfOk, IfErr, IsErrAnd};
 ghost use Rattle.pv_expr.specs.Terms.{term_of};
 ghost use Rattle.pv_expr.specs.Systems.{IsOver};
 ghost use Rattle.pv_parse.specs.Faults.{IsAt, IsCausedBy, IsLong, IsPlaced, IsFirstOf, IsRefusal, SaysTooLong, refusal};
@@ -8,14 +8,14 @@ ghost use Rattle.pv_parse.specs.Limits.{nothing};
 ghost use Rattle.pv_parse.specs.Grammar.{IsStart, system_items, expression_items};
 ghost use Rattle.pv_parse.specs.Grammar.{pile};
 ghost use Rattle.pv_parse.specs.declared.code.Op.{Op};
-ghost use Rattle.pv_parse.specs.Expansion.{run, top};
+ghost use Rattle.pv_parse.specs.Expansion.{run, top, sides_of, constraints_of};
 ghost use Rattle.pv_parse.specs.Sentences.{IsSentence, IsSystemText, IsExpressionText};
 
 use crate::cause::{Cause, ParseRefused};
 use crate::checked::{is_over, system_of};
 use crate::code::Op;
 use crate::counts::{Counts, Phase};
-use crate::expand::{Function, expand, expression, used_code};
+use crate::expand::{Function, constraint, expression};
 use crate::machine::Machine;
 use crate::measure::measures;
 use crate::place::line_and_column;
@@ -23,7 +23,7 @@ use crate::scanner::next_token;
 use crate::scope::Scope;
 use crate::symbol::{Fixed, Symbol};
 use crate::token::{Kind, Token};
-use pv_expr::{Constraint, Expr, Relation, System};
+use pv_expr::{Constraint, Expr, System};
 use pv_num::Memory;
 use std::alloc::Global;
 
@@ -194,25 +194,27 @@ fn expanded(
 ) -> Result<Vec<Constraint>, ParseRefused>
     ensures placed { IfErr result (λ e. IsPlaced text.now e) }
     ensures cause { IfErr result (IsCausedBy Cause.TooLarge) }
+    ensures means { IfOk result (λ cs. map sides_of cs.items ≡ constraints_of code.now) }
 {
     let mut functions = Vec::new(alloc);
     let mut constraints = Vec::new(alloc);
     let mut nodes = 0;
     let mut from = 0;
-    for (i, op) in code.iter().enumerate() {
-        match *op {
+    for i in 0..code.len() {
+        match code[i] {
             Op::Define => {
                 let made = Function::of(alloc, functions.as_slice(), &code[from..i])?;
                 functions.push(made)?;
                 from = i + 1;
             }
             Op::Relate(relation) => {
-                let side_code = &code[from..i];
-                nodes = room_for(alloc, functions.as_slice(), side_code, nodes)?;
+                let part = &code[from..i];
+                nodes = room_for(alloc, functions.as_slice(), part, nodes)?;
                 if nodes > MAX_NODES {
                     return Err(too_large(text, starts, constraints.len()));
                 }
-                constraints.push(constraint(alloc, functions.as_slice(), side_code, relation)?)?;
+                let made = constraint(alloc, functions.as_slice(), part, relation)?;
+                constraints.push(made)?;
                 from = i + 1;
             }
             _ => {}
@@ -246,22 +248,4 @@ fn room_for(
         }
     }
     Ok(nodes)
-}
-
-fn constraint(
-    alloc: Global,
-    functions: &[Function],
-    code: &[Op],
-    relation: Relation,
-) -> Result<Constraint, Memory> {
-    let used = used_code(alloc, functions, &[], code, 2)?;
-    let mut sides = expand(alloc, functions, used.as_slice(), &[])?;
-    match (sides.pop(), sides.pop()) {
-        (Some(right), Some(left)) => Ok(Constraint {
-            left,
-            relation,
-            right,
-        }),
-        _ => Err(Memory),
-    }
 }
