@@ -1,5 +1,5 @@
 -- The builder's stack, and the meanings of functions one by one.
-use Rattle.std.proofs.Common.{◌≡◌, ℕ, zero, suc, List, [], ◌∷◌, ◌++◌, ◌+◌, ◌-◌, ◌<◌, ◌≤◌, reverse, map, take, drop, get_or, refl, ap, sym, subst, ◌∙◌, length, arith}
+use Rattle.std.proofs.Common.{◌≡◌, ℕ, zero, suc, List, [], ◌∷◌, ◌++◌, ◌+◌, ◌-◌, ◌<◌, ◌≤◌, reverse, map, take, drop, get_or, refl, ap, sym, ◌∙◌, length, arith}
 use Rattle.std.proofs.lemmas.List.{reverse-append, reverse-reverse, map-append, get_or_append_left, length-append, drop_all, take-append-drop, length-take-le}
 use Rattle.std.proofs.Math.Seq.{get_or-append_seam}
 use Rattle.pv_expr.specs.Terms.{Term, term_of}

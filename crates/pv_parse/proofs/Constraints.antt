@@ -1,5 +1,5 @@
 -- The constraints of a code, step by step.
-use Rattle.std.proofs.Common.{◌≡◌, ℕ, zero, suc, Bool, List, [], ◌∷◌, ◌++◌, ◌+◌, ◌-◌, ◌<◌, ◌≤◌, map, take, drop, get_or, slice_range, ◌⊎◌, inl, inr, refl, ap, sym, subst, ◌∙◌, length, arith}
+use Rattle.std.proofs.Common.{◌≡◌, ℕ, zero, suc, List, [], ◌∷◌, ◌++◌, ◌+◌, ◌-◌, ◌<◌, ◌≤◌, map, take, drop, get_or, slice_range, ◌⊎◌, inl, inr, refl, ap, sym, subst, ◌∙◌, length, arith}
 use Rattle.std.proofs.lemmas.List.{length-append, map-append, append_assoc, append-nil, get_or_append_left, drop_all}
 use Rattle.std.proofs.Math.Seq.{get_or-append_seam}
 use Rattle.pv_expr.specs.Terms.{Term, term_of}
@@ -9,8 +9,8 @@ use Rattle.pv_expr.specs.declared.constraint.Constraint.{Constraint}
 use Rattle.pv_parse.specs.declared.code.Op.{Op}
 use Rattle.pv_parse.specs.declared.code.Op.TheVariants.{Constant, Variable, Parameter, One, Two, Call, Define, Relate}
 use Rattle.pv_parse.specs.declared.expand.Function.{Function}
-use Rattle.pv_parse.specs.Expansion.{Meaning, meaning_of, meanings, meanings_behind, body_meaning, nothing, top, below, run, stack_of, code_of, filtered, callee, IsValue, Stand, KeepsCode, Sides, sides_of, part_sides, constraints_behind, constraints_of}
-use Rattle.pv_parse.proofs.Building.{behind-keeps, length-map}
+use Rattle.pv_parse.specs.Expansion.{Meaning, meaning_of, meanings, meanings_behind, body_meaning, nothing, top, below, run, code_of, filtered, callee, IsValue, Stand, KeepsCode, Sides, sides_of, part_sides, constraints_behind, constraints_of}
+use Rattle.pv_parse.proofs.Building.{length-map}
 
 behind-append : (cs : List (List Op)) (ms : List Meaning) (c : List Op) →
     meanings_behind ms (cs ++ c ∷ []) ≡ meanings_behind ms cs ++ body_meaning (meanings_behind ms cs) c ∷ []

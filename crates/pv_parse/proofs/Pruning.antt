@@ -5,7 +5,7 @@ use Rattle.pv_expr.specs.Terms.{Term}
 use Rattle.pv_parse.specs.declared.code.Op.{Op}
 use Rattle.pv_parse.specs.declared.code.Op.TheVariants.{Constant, Variable, Parameter, One, Two, Call, Define, Relate}
 use Rattle.pv_parse.specs.declared.expand.Function.{Function}
-use Rattle.pv_parse.specs.Expansion.{Meaning, meaning_of, meanings, body_meaning, argument, top, run, step, code_of, is_used, filtered, rank, wants, arity_of, callee, uses_of, IsValue, Stand, KeepsUsed, KeepsStep, KeepsCode}
+use Rattle.pv_parse.specs.Expansion.{Meaning, meaning_of, meanings, argument, top, run, step, code_of, is_used, filtered, rank, wants, arity_of, callee, uses_of, IsValue, Stand, KeepsUsed, KeepsStep, KeepsCode}
 use Rattle.pv_parse.proofs.Building.{take-exact, drop-exact, length-reverse, meaning-at, run-step}
 
 suc-if : (b : Bool) (n : ℕ) → suc (if b then n + 1 else n) ≡ (if b then suc n + 1 else suc n)

@@ -1,5 +1,5 @@
 -- What a code means: the expressions that it writes, with the body of each function in place of its calls.
-use Rattle.std.specs.Prelude.{◌≡◌, ◌<◌, ℕ, zero, suc, ◌++◌, List, [], ◌∷◌, Bool, true, false, ℤ, pos, length, map, reverse, take, drop, get_or}
+use Rattle.std.specs.Prelude.{◌≡◌, ◌<◌, ℕ, zero, suc, ◌++◌, List, [], ◌∷◌, Bool, true, false, pos, length, map, reverse, take, drop, get_or}
 use Rattle.pv_expr.specs.Terms.{Term, constant, place, one, two, Unary, negation, absolute, power, Binary, sum, difference, product, quotient, least, greatest, term_of}
 use Rattle.pv_expr.specs.declared.expr.Expr.{Expr}
 use Rattle.pv_expr.specs.declared.constraint.Relation.{Relation}

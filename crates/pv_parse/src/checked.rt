@@ -1,37 +1,42 @@
 // The facts that a system must meet, found by a walk over its parts.
 
 ghost use Rattle.std.specs.Bool.{OnTrue};
-ghost use Rattle.std.specs.Prelude.{◌≡◌, ◌+◌, ◌<◌, ◌≤◌, ◌≢◌, length, string_bytes, All, AllPairs, sum_by, IfSome};
+ghost use Rattle.std.specs.Prelude.{◌≡◌, ◌+◌, ◌<◌, ◌≤◌, ◌≢◌, length, string_bytes, All, AllPairs, sum_by, map, IfOk, IfSome};
 ghost use Rattle.pv_parse.specs.Names.{DiffersBefore};
 ghost use Rattle.pv_expr.specs.Terms.{term_of, node_count, depth_of};
 ghost use Rattle.pv_expr.specs.Systems.{IsOver, IsDomain, IsBound, InOrder, IsConstraint, side_nodes};
 
 use crate::fraction::Fraction;
 use pv_expr::{Bound, Constraint, Domain, Expr, System};
+use pv_num::Memory;
 
 /// The system of these parts, where they meet its limits.
 pub(crate) fn system_of(
     names: Vec<String>,
     domains: Vec<Domain>,
     constraints: Vec<Constraint>,
-) -> Option<System> {
+) -> Result<System, Memory>
+    ensures names { IfOk result (λ s. s.names ≡ map string_bytes names.items) }
+    ensures domains { IfOk result (λ s. s.domains ≡ domains.items) }
+    ensures constraints { IfOk result (λ s. s.constraints ≡ constraints.items) }
+{
     let n = names.len();
     if n < 1 || n > 12 || domains.len() != n {
-        return None;
+        return Err(Memory);
     }
     if constraints.len() < 1 || constraints.len() > 64 {
-        return None;
+        return Err(Memory);
     }
     if !are_distinct(names.as_slice()) {
-        return None;
+        return Err(Memory);
     }
     if !are_domains(domains.as_slice()) {
-        return None;
+        return Err(Memory);
     }
     if !are_constraints(n as u8, constraints.as_slice()) {
-        return None;
+        return Err(Memory);
     }
-    Some(System::new(names, domains, constraints))
+    Ok(System::new(names, domains, constraints))
 }
 
 fn are_distinct(names: &[String]) -> bool

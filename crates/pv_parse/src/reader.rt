@@ -39,6 +39,7 @@ const MAX_DEPTH: u64 = 2000;
 /// The fault is at the first token such that no text of a system begins with the tokens up to and with it.
 pub fn parse(alloc: Global, text: &[u8]) -> Result<System, ParseRefused>
     ensures grammatical { IfOk result (λ s. IsSystemText text.now) }
+    ensures means { IfOk result (λ s. (code : List Op) × IsSentence text.now (nothing Phase.Between) system_items [] code × (map sides_of s.constraints ≡ constraints_of code)) }
     ensures placed { IfErr result (λ e. IsPlaced text.now e) }
     ensures long { 65536 < length text.now → IsErrAnd result SaysTooLong }
     ensures fault { IfErr result (λ e. IsRefusal text.now (nothing Phase.Between) system_items e) }
@@ -55,7 +56,8 @@ pub fn parse(alloc: Global, text: &[u8]) -> Result<System, ParseRefused>
         Ok(constraints) => constraints,
         Err(refused) => return Err(refused),
     };
-    system_of(scope.variables, scope.domains, constraints).ok_or(ParseRefused::Memory)
+    let system = system_of(scope.variables, scope.domains, constraints)?;
+    Ok(system)
 }
 
 /// The expression of a text, over the variables of a system.

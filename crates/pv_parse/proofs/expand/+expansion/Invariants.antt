@@ -1,4 +1,4 @@
-use Rattle.std.proofs.Common.{◌≡◌, [], ◌+◌, length, map, take, drop}
+use Rattle.std.proofs.Common.{◌≡◌, [], ◌+◌, length, map, drop}
 use Rattle.pv_expr.specs.Terms.{term_of}
 use Rattle.pv_parse.specs.Expansion.{meanings, run, stack_of, code_of}
 use Rattle.pv_parse.proofs.expand.+expansion.Given as goal

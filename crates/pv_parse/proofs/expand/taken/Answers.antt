@@ -1,4 +1,4 @@
-use Rattle.std.proofs.Common.{◌≡◌, ap, ◌∙◌}
+use Rattle.std.proofs.Common.{ap, ◌∙◌}
 use Rattle.pv_parse.specs.Expansion.{stack_of}
 use Rattle.pv_parse.proofs.Building.{stack-push}
 use Rattle.pv_parse.proofs.expand.taken.Goals as goal

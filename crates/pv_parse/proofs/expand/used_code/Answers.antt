@@ -1,4 +1,4 @@
-use Rattle.std.proofs.Common.{rules, ◌≡◌, ◌+◌, ◌-◌, ◌<◌, ◌≤◌, length, get_or}
+use Rattle.std.proofs.Common.{rules, ◌≡◌, ◌+◌, ◌-◌, ◌<◌, length}
 use Rattle.pv_parse.proofs.Pruning.{keeps-nothing, keeps-more}
 use Rattle.pv_parse.proofs.expand.used_code.Goals as goal
 
