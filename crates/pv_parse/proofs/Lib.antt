@@ -21,3 +21,4 @@ pub mod Exponents
 pub mod Reached
 pub mod Refusals
 pub mod OneReading
+pub mod Same

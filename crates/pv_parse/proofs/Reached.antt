@@ -16,6 +16,7 @@ use Rattle.pv_parse.specs.Faults.{Begins, IsCause, NoneBegins, IsFirst, refusal,
 use Rattle.pv_parse.specs.Faults.IsCause.{not_allowed, beyond}
 use Rattle.pv_parse.specs.Grammar.{Derives, Follows, IsStart, MayEnd, Produced, Settles, emptied, ended, is_exponent, met, produced, step_of}
 use Rattle.pv_parse.specs.Limits.{Counted, counted}
+use Rattle.pv_parse.specs.Meanings.{AreSame, Names, learnt}
 use Rattle.pv_parse.specs.Sentences.{IsSentence, SpellsTo, StandsFor, bytes_of}
 use Rattle.pv_parse.specs.Tokens.{IsNext}
 use Rattle.pv_parse.proofs.Derivations.{Leads, leads_back, leads_end}
@@ -23,19 +24,25 @@ use Rattle.pv_parse.proofs.Exponents.{AtExponent, expression_plain, system_plain
 use Rattle.pv_parse.proofs.Forward.{Closing, GoesOn, closing, refused_forth, settled_forth, settled_orderly, taken_forth, taken_orderly}
 use Rattle.pv_parse.proofs.Orderly.{Orderly, expression_orderly, system_orderly}
 
-pub record Reached (t : List ℕ) (start counts : Counts) (first : List Item) (initial : List Op) (items : List Item) (code : List Op) (from : ℕ) : Type 0 where
+pub record Reached (t : List ℕ) (known names : Names) (start counts : Counts) (first : List Item) (initial : List Op) (items : List Item) (code : List Op) (from : ℕ) : Type 0 where
   pub before : List Symbol
-  pub spelled : SpellsTo t start 0 before from
+  pub spelled : SpellsTo t known start 0 before from names
   pub within : Counted start before counts
   pub orderly : Orderly items
   pub exponent : AtExponent (behind_caret before) items
   pub forth : (ss : List Symbol) → GoesOn first (before ++ ss) → GoesOn items ss
   pub back : (ss : List Symbol) (after : List Op) → Leads items ss code after → Leads first (before ++ ss) initial after
 
-pub at_start : (t : List ℕ) (start : Counts) (items : List Item) (code : List Op) → Orderly items → AtExponent false items → Reached t start start items code items code 0
-at_start t start items code o e = record {
+-- the same, where the names that are kept are those that the tokens declare
+pub record ReachedAs (kept : Names) (t : List ℕ) (known : Names) (start counts : Counts) (first : List Item) (initial : List Op) (items : List Item) (code : List Op) (from : ℕ) : Type 0 where
+  pub names : Names
+  pub same : AreSame kept names
+  pub reached : Reached t known names start counts first initial items code from
+
+pub at_start : (t : List ℕ) (known : Names) (start : Counts) (items : List Item) (code : List Op) → Orderly items → AtExponent false items → Reached t known known start start items code items code 0
+at_start t known start items code o e = record {
   before = [];
-  spelled = refl;
+  spelled = (refl, refl);
   within = refl;
   orderly = o;
   exponent = e;
@@ -43,11 +50,11 @@ at_start t start items code o e = record {
   back = λ ss after l. l;
 }
 
-pub starts : (t : List ℕ) (start : Counts) (items : List Item) (code : List Op) → IsStart items → Reached t start start items code items code 0
-starts t start items code is =
+pub starts : (t : List ℕ) (known : Names) (start : Counts) (items : List Item) (code : List Op) → IsStart items → Reached t known known start start items code items code 0
+starts t known start items code is =
     ⊎_elim
-    (λ e. at_start t start items code (subst Orderly (sym e) system_orderly) (subst (AtExponent false) (sym e) system_plain))
-    (λ e. at_start t start items code (subst Orderly (sym e) expression_orderly) (subst (AtExponent false) (sym e) expression_plain))
+    (λ e. at_start t known start items code (subst Orderly (sym e) system_orderly) (subst (AtExponent false) (sym e) system_plain))
+    (λ e. at_start t known start items code (subst Orderly (sym e) expression_orderly) (subst (AtExponent false) (sym e) expression_plain))
     is
 
 -- ---- Lists of tokens, with one more behind them
@@ -62,55 +69,55 @@ counted_one : (c : Counts) (ss : List Symbol) (d e : Counts) (s : Symbol) → Co
 counted_one c [] d e s same one = (e, subst (λ (x : Counts). counted x s ≡ Ok e) (sym same) one, refl)
 counted_one c (r ∷ ss) d e s (m, first, rest) one = (m, first, counted_one m ss d e s rest one)
 
-spells_one : (t : List ℕ) (c : Counts) (from : ℕ) (ss : List Symbol) (to : ℕ) (x : Token) (s : Symbol) (d e : Counts) → SpellsTo t c from ss to → Counted c ss d → IsNext t to x →
-    ¬ (x.kind ≡ End) → StandsFor d.phase (bytes_of t x) x.kind s → counted d s ≡ Ok e → SpellsTo t c from (ss ++ s ∷ []) x.end
-spells_one t c from [] to x s d e same is next inside stands one = (
+spells_one : (t : List ℕ) (n : Names) (c : Counts) (from : ℕ) (ss : List Symbol) (to : ℕ) (m : Names) (x : Token) (s : Symbol) (d e : Counts) → SpellsTo t n c from ss to m → Counted c ss d → IsNext t to x →
+    ¬ (x.kind ≡ End) → StandsFor d.phase m (bytes_of t x) x.kind s → counted d s ≡ Ok e → SpellsTo t n c from (ss ++ s ∷ []) x.end (learnt d s (bytes_of t x) m)
+spells_one t n c from [] to m x s d e same is next inside stands one = (
   x,
   e,
-  subst (λ (n : ℕ). IsNext t n x) (sym same) next,
+  subst (λ (k : ℕ). IsNext t k x) (sym same.0) next,
   inside,
-  subst (λ (k : Counts). StandsFor k.phase (bytes_of t x) x.kind s) (sym is) stands,
+  subst (λ (k : Counts). StandsFor k.phase n (bytes_of t x) x.kind s) (sym is) (subst (λ (k : Names). StandsFor d.phase k (bytes_of t x) x.kind s) (sym same.1) stands),
   subst (λ (k : Counts). counted k s ≡ Ok e) (sym is) one,
-  refl,
+  (refl, ap (λ (k : Counts). learnt k s (bytes_of t x) n) is ∙ ap (λ (k : Names). learnt d s (bytes_of t x) k) same.1),
 )
-spells_one t c from (r ∷ ss) to x s d e (y, m, next', inside', stands', one', rest) (m', first, more) next inside stands one =
-    (y, m, next', inside', stands', one', spells_one t m y.end ss to x s d e rest (subst (λ (k : Counts). Counted k ss d) (ok_same (counted c r) first one') more) next inside stands one)
+spells_one t n c from (r ∷ ss) to m x s d e (y, k, next', inside', stands', one', rest) (k', first, more) next inside stands one =
+    (y, k, next', inside', stands', one', spells_one t (learnt c r (bytes_of t y) n) k y.end ss to m x s d e rest (subst (λ (z : Counts). Counted z ss d) (ok_same (counted c r) first one') more) next inside stands one)
 
 -- a token that an item takes is not the end of the text
-end_symbol : (p : Phase) (t : List ℕ) (x : Token) (kind : Kind) (s : Symbol) → StandsFor p (bytes_of t x) kind s → kind ≡ End → s ≡ FixedToken EndOfText
-end_symbol p t x kind s stands e = subst (λ (k : Kind). StandsFor p (bytes_of t x) k s) e stands
+end_symbol : (p : Phase) (n : Names) (t : List ℕ) (x : Token) (kind : Kind) (s : Symbol) → StandsFor p n (bytes_of t x) kind s → kind ≡ End → s ≡ FixedToken EndOfText
+end_symbol p n t x kind s stands e = subst (λ (k : Kind). StandsFor p n (bytes_of t x) k s) e stands
 
 follows_some : (o : Option Produced) (rest : List Item) (code : List Op) (items' : List Item) (code' : List Op) → Follows o rest code items' code' → o ≢ None
 follows_some None rest code items' code' f e = f
 follows_some (Some p) rest code items' code' f e = cc
 
-not_end : (p : Phase) (t : List ℕ) (x : Token) (i : Item) (s : Symbol) (rest : List Item) (code : List Op) (items' : List Item) (code' : List Op) →
-    StandsFor p (bytes_of t x) x.kind s → IsUsual i → Follows (produced i s) rest code items' code' → ¬ (x.kind ≡ End)
-not_end p t x i s rest code items' code' stands u f ends =
+not_end : (p : Phase) (n : Names) (t : List ℕ) (x : Token) (i : Item) (s : Symbol) (rest : List Item) (code : List Op) (items' : List Item) (code' : List Op) →
+    StandsFor p n (bytes_of t x) x.kind s → IsUsual i → Follows (produced i s) rest code items' code' → ¬ (x.kind ≡ End)
+not_end p n t x i s rest code items' code' stands u f ends =
     follows_some (produced i s) rest code items' code' f
-    (ap (λ (z : Symbol). produced i z) (end_symbol p t x x.kind s stands ends) ∙ no_end i u)
+    (ap (λ (z : Symbol). produced i z) (end_symbol p n t x x.kind s stands ends) ∙ no_end i u)
 
-pub taken_not_end : (t : List ℕ) (start counts : Counts) (first : List Item) (initial : List Op) (items : List Item) (code : List Op) (from : ℕ) →
-    Reached t start counts first initial items code from →
+pub taken_not_end : (t : List ℕ) (known names : Names) (start counts : Counts) (first : List Item) (initial : List Op) (items : List Item) (code : List Op) (from : ℕ) →
+    Reached t known names start counts first initial items code from →
     (x : Token) (s : Symbol) (i : Item) (rest : List Item) (code' : List Op) (items'' : List Item) (code'' : List Op) →
-    StandsFor counts.phase (bytes_of t x) x.kind s → Settles s items code (Some i) rest code' → Follows (produced i s) rest code' items'' code'' → ¬ (x.kind ≡ End)
-taken_not_end t start counts first initial items code from r x s i rest code' items'' code'' stands settles follows =
+    StandsFor counts.phase names (bytes_of t x) x.kind s → Settles s items code (Some i) rest code' → Follows (produced i s) rest code' items'' code'' → ¬ (x.kind ≡ End)
+taken_not_end t known names start counts first initial items code from r x s i rest code' items'' code'' stands settles follows =
     let m : Met (behind_caret r.before) (Some i) rest = settled_met (behind_caret r.before) s items code (Some i) rest code' settles r.exponent in
-    not_end counts.phase t x i s rest code' items'' code'' stands m.1 follows
+    not_end counts.phase names t x i s rest code' items'' code'' stands m.1 follows
 
 -- ---- A token is taken
 
-pub taken_on : (t : List ℕ) (start counts next : Counts) (first : List Item) (initial : List Op) (items : List Item) (code : List Op) (from : ℕ) →
-    Reached t start counts first initial items code from →
+pub taken_on : (t : List ℕ) (known names : Names) (start counts next : Counts) (first : List Item) (initial : List Op) (items : List Item) (code : List Op) (from : ℕ) →
+    Reached t known names start counts first initial items code from →
     (x : Token) (s : Symbol) (i : Item) (rest : List Item) (code' : List Op) (items'' : List Item) (code'' : List Op) →
-    IsNext t from x → StandsFor counts.phase (bytes_of t x) x.kind s → Settles s items code (Some i) rest code' → Follows (produced i s) rest code' items'' code'' →
-    counted counts s ≡ Ok next → Reached t start next first initial items'' code'' x.end
-taken_on t start counts next first initial items code from r x s i rest code' items'' code'' is_next stands settles follows one =
+    IsNext t from x → StandsFor counts.phase names (bytes_of t x) x.kind s → Settles s items code (Some i) rest code' → Follows (produced i s) rest code' items'' code'' →
+    counted counts s ≡ Ok next → Reached t known (learnt counts s (bytes_of t x) names) start next first initial items'' code'' x.end
+taken_on t known names start counts next first initial items code from r x s i rest code' items'' code'' is_next stands settles follows one =
     let m : Met (behind_caret r.before) (Some i) rest = settled_met (behind_caret r.before) s items code (Some i) rest code' settles r.exponent in
     let o : Orderly (i ∷ rest) = settled_orderly s items code (Some i) rest code' settles r.orderly in
     record {
       before = r.before ++ s ∷ [];
-      spelled = spells_one t start 0 r.before from x s counts next r.spelled r.within is_next (not_end counts.phase t x i s rest code' items'' code'' stands m.1 follows) stands one;
+      spelled = spells_one t known start 0 r.before from names x s counts next r.spelled r.within is_next (not_end counts.phase names t x i s rest code' items'' code'' stands m.1 follows) stands one;
       within = counted_one start r.before counts next s r.within one;
       orderly = taken_orderly i s rest code' items'' code'' (produced i s) refl follows o;
       exponent = subst (λ (b : Bool). AtExponent b items'') (sym (behind_last r.before s)) (taken_plain i s rest code' items'' code'' (produced i s) refl follows m.1 m.2);
@@ -124,17 +131,17 @@ taken_on t start counts next first initial items code from r x s i rest code' it
 
 -- ---- The end of the text
 
-pub whole : (t : List ℕ) (start counts : Counts) (first : List Item) (initial : List Op) (items : List Item) (code : List Op) (from : ℕ) →
-    Reached t start counts first initial items code from →
+pub whole : (t : List ℕ) (known names : Names) (start counts : Counts) (first : List Item) (initial : List Op) (items : List Item) (code : List Op) (from : ℕ) →
+    Reached t known names start counts first initial items code from →
     (x : Token) (s : Symbol) (rest : List Item) (code' : List Op) →
-    IsNext t from x → x.kind ≡ End → Settles s items code None rest code' → IsSentence t start first initial code'
-whole t start counts first initial items code from r x s rest code' is_next ends settles =
+    IsNext t from x → x.kind ≡ End → Settles s items code None rest code' → IsSentence t known start first initial code'
+whole t known names start counts first initial items code from r x s rest code' is_next ends settles =
     let l : Leads first (r.before ++ []) initial code' = r.back [] code' (leads_end s items rest code code' settles) in
     record {
       symbols = r.before;
       steps = l.steps;
       counts = counts;
-      spelled = (from, x, r.spelled, is_next, ends);
+      spelled = (from, names, x, r.spelled, is_next, ends);
       within = r.within;
       derived = subst (λ (z : List Symbol). Derives first z l.steps) (append-nil r.before) l.derived;
       code_is = l.code_is;
@@ -142,19 +149,19 @@ whole t start counts first initial items code from r x s rest code' is_next ends
 
 -- ---- A token is refused
 
-begins_here : (t : List ℕ) (start counts : Counts) (first : List Item) (initial : List Op) (items : List Item) (code : List Op) (from : ℕ) →
-    (r : Reached t start counts first initial items code from) → Begins first r.before
-begins_here t start counts first initial items code from r =
+begins_here : (t : List ℕ) (known names : Names) (start counts : Counts) (first : List Item) (initial : List Op) (items : List Item) (code : List Op) (from : ℕ) →
+    (r : Reached t known names start counts first initial items code from) → Begins first r.before
+begins_here t known names start counts first initial items code from r =
     let c : Closing items = closing items in
     let l : Leads first (r.before ++ c.symbols) initial (code ++ c.steps) = r.back c.symbols (code ++ c.steps) (record { steps = c.steps; derived = c.derived; code_is = refl }) in
     record { rest = c.symbols; steps = l.steps; derived = l.derived }
 
 -- a token that the grammar takes
-begins_with : (t : List ℕ) (start counts : Counts) (first : List Item) (initial : List Op) (items : List Item) (code : List Op) (from : ℕ) →
-    (r : Reached t start counts first initial items code from) →
+begins_with : (t : List ℕ) (known names : Names) (start counts : Counts) (first : List Item) (initial : List Op) (items : List Item) (code : List Op) (from : ℕ) →
+    (r : Reached t known names start counts first initial items code from) →
     (s : Symbol) (i : Item) (rest : List Item) (code' : List Op) (items'' : List Item) (code'' : List Op) →
     Settles s items code (Some i) rest code' → Follows (produced i s) rest code' items'' code'' → Begins first (r.before ++ s ∷ [])
-begins_with t start counts first initial items code from r s i rest code' items'' code'' settles follows =
+begins_with t known names start counts first initial items code from r s i rest code' items'' code'' settles follows =
     let c : Closing items'' = closing items'' in
     let here : Leads items'' c.symbols code'' (code'' ++ c.steps) = record { steps = c.steps; derived = c.derived; code_is = refl } in
     let l : Leads first (r.before ++ s ∷ c.symbols) initial (code'' ++ c.steps) =
@@ -166,9 +173,9 @@ begins_with t start counts first initial items code from r s i rest code' items'
     }
 
 -- what is left of a text that begins with one token more
-left_over : (t : List ℕ) (start counts : Counts) (first : List Item) (initial : List Op) (items : List Item) (code : List Op) (from : ℕ) →
-    (r : Reached t start counts first initial items code from) (s : Symbol) → (b : Begins first (r.before ++ s ∷ [])) → GoesOn items (s ∷ b.rest)
-left_over t start counts first initial items code from r s b =
+left_over : (t : List ℕ) (known names : Names) (start counts : Counts) (first : List Item) (initial : List Op) (items : List Item) (code : List Op) (from : ℕ) →
+    (r : Reached t known names start counts first initial items code from) (s : Symbol) → (b : Begins first (r.before ++ s ∷ [])) → GoesOn items (s ∷ b.rest)
+left_over t known names start counts first initial items code from r s b =
     r.forth (s ∷ b.rest) (subst (GoesOn first) (append_assoc r.before (s ∷ []) b.rest) (record { steps = b.steps; derived = b.derived }))
 
 abbrev MeetsOf : Option Item → Symbol → Type 0
@@ -192,58 +199,59 @@ none_begins c items before d s cause within (not_allowed never is) b e counts = 
 none_begins c items before d s cause within (beyond begins err) b e counts =
     counted_split c before d s b.rest e cause within err (subst (λ (z : List Symbol). Counted c z e) (append_assoc before (s ∷ []) b.rest) counts)
 
-first_fault : (t : List ℕ) (start counts : Counts) (first : List Item) (initial : List Op) (items : List Item) (code : List Op) (from : ℕ) →
-    (r : Reached t start counts first initial items code from) →
-    (x : Token) (s : Symbol) (cause : Cause) → IsNext t from x → StandsFor counts.phase (bytes_of t x) x.kind s → IsCause first r.before counts s cause →
-    IsFirst t start first x.start cause
-first_fault t start counts first initial items code from r x s cause is_next stands because = record {
+first_fault : (t : List ℕ) (known names : Names) (start counts : Counts) (first : List Item) (initial : List Op) (items : List Item) (code : List Op) (from : ℕ) →
+    (r : Reached t known names start counts first initial items code from) →
+    (x : Token) (s : Symbol) (cause : Cause) → IsNext t from x → StandsFor counts.phase names (bytes_of t x) x.kind s → IsCause first r.before counts s cause →
+    IsFirst t known start first x.start cause
+first_fault t known names start counts first initial items code from r x s cause is_next stands because = record {
   before = r.before;
   from = from;
   token = x;
   symbol = s;
   counts = counts;
+  names = names;
   spelled = r.spelled;
   next = is_next;
   place = refl;
   stands = stands;
   within = r.within;
-  begins = begins_here t start counts first initial items code from r;
+  begins = begins_here t known names start counts first initial items code from r;
   none = none_begins start first r.before counts s cause r.within because;
   because = because;
 }
 
 -- the item that is met does not begin with it
-pub refused : (t : List ℕ) (start counts : Counts) (first : List Item) (initial : List Op) (items : List Item) (code : List Op) (from : ℕ) →
-    Reached t start counts first initial items code from →
+pub refused : (t : List ℕ) (known names : Names) (start counts : Counts) (first : List Item) (initial : List Op) (items : List Item) (code : List Op) (from : ℕ) →
+    Reached t known names start counts first initial items code from →
     (x : Token) (s : Symbol) (i : Item) (rest : List Item) (code' : List Op) (b : Bool) →
-    IsNext t from x → StandsFor counts.phase (bytes_of t x) x.kind s → Settles s items code (Some i) rest code' → produced i s ≡ None → is_exponent i ≡ b →
-    IsFirst t start first x.start (refusal b s)
-refused t start counts first initial items code from r x s i rest code' b is_next stands settles never wanted =
+    IsNext t from x → StandsFor counts.phase names (bytes_of t x) x.kind s → Settles s items code (Some i) rest code' → produced i s ≡ None → is_exponent i ≡ b →
+    IsFirst t known start first x.start (refusal b s)
+refused t known names start counts first initial items code from r x s i rest code' b is_next stands settles never wanted =
     let m : Met (behind_caret r.before) (Some i) rest = settled_met (behind_caret r.before) s items code (Some i) rest code' settles r.exponent in
-    first_fault t start counts first initial items code from r x s (refusal b s) is_next stands
+    first_fault t known names start counts first initial items code from r x s (refusal b s) is_next stands
     (not_allowed
     (λ begins. refused_forth i s rest begins.rest (settles_meets s items code (Some i) rest code' settles) never
-    (settled_forth s items code (Some i) rest code' settles begins.rest (left_over t start counts first initial items code from r s begins)))
+    (settled_forth s items code (Some i) rest code' settles begins.rest (left_over t known names start counts first initial items code from r s begins)))
     (ap (λ (z : Bool). refusal z s) (sym wanted ∙ m.0)))
 
 -- nothing more may come
-pub too_much : (t : List ℕ) (start counts : Counts) (first : List Item) (initial : List Op) (items : List Item) (code : List Op) (from : ℕ) →
-    Reached t start counts first initial items code from →
+pub too_much : (t : List ℕ) (known names : Names) (start counts : Counts) (first : List Item) (initial : List Op) (items : List Item) (code : List Op) (from : ℕ) →
+    Reached t known names start counts first initial items code from →
     (x : Token) (s : Symbol) (rest : List Item) (code' : List Op) →
-    IsNext t from x → StandsFor counts.phase (bytes_of t x) x.kind s → Settles s items code None rest code' → IsFirst t start first x.start (refusal false s)
-too_much t start counts first initial items code from r x s rest code' is_next stands settles =
+    IsNext t from x → StandsFor counts.phase names (bytes_of t x) x.kind s → Settles s items code None rest code' → IsFirst t known start first x.start (refusal false s)
+too_much t known names start counts first initial items code from r x s rest code' is_next stands settles =
     let m : Met (behind_caret r.before) None rest = settled_met (behind_caret r.before) s items code None rest code' settles r.exponent in
-    first_fault t start counts first initial items code from r x s (refusal false s) is_next stands
+    first_fault t known names start counts first initial items code from r x s (refusal false s) is_next stands
     (not_allowed
-    (λ begins. settled_forth s items code None rest code' settles begins.rest (left_over t start counts first initial items code from r s begins))
+    (λ begins. settled_forth s items code None rest code' settles begins.rest (left_over t known names start counts first initial items code from r s begins))
     (ap (λ (z : Bool). refusal z s) (sym m)))
 
 -- the limits or the declarations forbid it
-pub forbidden : (t : List ℕ) (start counts : Counts) (first : List Item) (initial : List Op) (items : List Item) (code : List Op) (from : ℕ) →
-    Reached t start counts first initial items code from →
+pub forbidden : (t : List ℕ) (known names : Names) (start counts : Counts) (first : List Item) (initial : List Op) (items : List Item) (code : List Op) (from : ℕ) →
+    Reached t known names start counts first initial items code from →
     (x : Token) (s : Symbol) (i : Item) (rest : List Item) (code' : List Op) (items'' : List Item) (code'' : List Op) (cause : Cause) →
-    IsNext t from x → StandsFor counts.phase (bytes_of t x) x.kind s → Settles s items code (Some i) rest code' → Follows (produced i s) rest code' items'' code'' →
-    counted counts s ≡ Err cause → IsFirst t start first x.start cause
-forbidden t start counts first initial items code from r x s i rest code' items'' code'' cause is_next stands settles follows one =
-    first_fault t start counts first initial items code from r x s cause is_next stands
-    (beyond (begins_with t start counts first initial items code from r s i rest code' items'' code'' settles follows) one)
+    IsNext t from x → StandsFor counts.phase names (bytes_of t x) x.kind s → Settles s items code (Some i) rest code' → Follows (produced i s) rest code' items'' code'' →
+    counted counts s ≡ Err cause → IsFirst t known start first x.start cause
+forbidden t known names start counts first initial items code from r x s i rest code' items'' code'' cause is_next stands settles follows one =
+    first_fault t known names start counts first initial items code from r x s cause is_next stands
+    (beyond (begins_with t known names start counts first initial items code from r s i rest code' items'' code'' settles follows) one)

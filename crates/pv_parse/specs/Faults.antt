@@ -6,14 +6,16 @@ use Rattle.pv_parse.specs.declared.cause.ParseRefused.{ParseRefused}
 use Rattle.pv_parse.specs.declared.cause.ParseRefused.TheVariants.{Memory, Fault}
 use Rattle.pv_parse.specs.declared.code.Op.{Op}
 use Rattle.pv_parse.specs.declared.counts.Counts.{Counts}
+use Rattle.pv_parse.specs.declared.counts.Phase.TheVariants.{Sides}
 use Rattle.pv_parse.specs.declared.machine.Item.{Item}
 use Rattle.pv_parse.specs.declared.symbol.Fixed.TheVariants.{Caret, EndOfText}
 use Rattle.pv_parse.specs.declared.symbol.Symbol.{Symbol}
 use Rattle.pv_parse.specs.declared.symbol.Symbol.TheVariants.{Never, Fixed as FixedToken}
 use Rattle.pv_parse.specs.declared.token.Token.{Token}
-use Rattle.pv_parse.specs.Grammar.{Derives}
-use Rattle.pv_parse.specs.Limits.{counted, Counted}
+use Rattle.pv_parse.specs.Grammar.{Derives, expression_items}
+use Rattle.pv_parse.specs.Limits.{counted, Counted, nothing}
 use Rattle.pv_parse.specs.Places.{line_of, column_of}
+use Rattle.pv_parse.specs.Meanings.{KnowsVariables, Names}
 use Rattle.pv_parse.specs.Sentences.{IsSentence, SpellsTo, StandsFor, bytes_of}
 use Rattle.pv_parse.specs.Tokens.{IsNext}
 
@@ -79,32 +81,37 @@ pub data IsCause (items : List Item) (before : List Symbol) (counts : Counts) (s
 
 -- the token at the byte is the first such that no sentence begins with the tokens up to and with it:
 -- those before it begin a text of the grammar and are within the limits
-pub record IsFirst (t : List ℕ) (start : Counts) (items : List Item) (byte : ℕ) (cause : Cause) : Type 0 where
+pub record IsFirst (t : List ℕ) (known : Names) (start : Counts) (items : List Item) (byte : ℕ) (cause : Cause) : Type 0 where
   pub before : List Symbol
   pub from : ℕ
   pub token : Token
   pub symbol : Symbol
   pub counts : Counts
-  pub spelled : SpellsTo t start 0 before from
+  pub names : Names
+  pub spelled : SpellsTo t known start 0 before from names
   pub next : IsNext t from token
   pub place : byte ≡ token.start
-  pub stands : StandsFor counts.phase (bytes_of t token) token.kind symbol
+  pub stands : StandsFor counts.phase names (bytes_of t token) token.kind symbol
   pub within : Counted start before counts
   pub begins : Begins items before
   pub none : NoneBegins start items (before ++ symbol ∷ [])
   pub because : IsCause items before counts symbol cause
 
-abbrev pub IsFirstOf : List ℕ → Counts → List Item → ParseRefused → Type 0
-IsFirstOf t start items Memory = Unit {0}
-IsFirstOf t start items (Fault byte line column cause) = IsFirst t start items byte cause
+abbrev pub IsFirstOf : List ℕ → Names → Counts → List Item → ParseRefused → Type 0
+IsFirstOf t known start items Memory = Unit {0}
+IsFirstOf t known start items (Fault byte line column cause) = IsFirst t known start items byte cause
 
 -- the fault of a text: the first one; or bad bounds or too many nodes, in a text that is a sentence; or the text is too long
-pub data IsFaultOf (t : List ℕ) (start : Counts) (items : List Item) (byte : ℕ) (cause : Cause) : Type 0 where
-  first : IsFirst t start items byte cause → IsFaultOf t start items byte cause
-  bounds : cause ≡ BadBounds → (code : List Op) → IsSentence t start items [] code → IsFaultOf t start items byte cause
-  large : cause ≡ TooLarge → (code : List Op) → IsSentence t start items [] code → IsFaultOf t start items byte cause
-  long : cause ≡ TextTooLong → 65536 < length t → IsFaultOf t start items byte cause
+pub data IsFaultOf (t : List ℕ) (known : Names) (start : Counts) (items : List Item) (byte : ℕ) (cause : Cause) : Type 0 where
+  first : IsFirst t known start items byte cause → IsFaultOf t known start items byte cause
+  bounds : cause ≡ BadBounds → (code : List Op) → IsSentence t known start items [] code → IsFaultOf t known start items byte cause
+  large : cause ≡ TooLarge → (code : List Op) → IsSentence t known start items [] code → IsFaultOf t known start items byte cause
+  long : cause ≡ TextTooLong → 65536 < length t → IsFaultOf t known start items byte cause
 
-abbrev pub IsRefusal : List ℕ → Counts → List Item → ParseRefused → Type 0
-IsRefusal t start items Memory = Unit {0}
-IsRefusal t start items (Fault byte line column cause) = IsFaultOf t start items byte cause
+abbrev pub IsRefusal : List ℕ → Names → Counts → List Item → ParseRefused → Type 0
+IsRefusal t known start items Memory = Unit {0}
+IsRefusal t known start items (Fault byte line column cause) = IsFaultOf t known start items byte cause
+
+-- the same of one expression, where the variables are known
+abbrev pub IsExpressionRefusal : List (List ℕ) → List ℕ → ParseRefused → Type 0
+IsExpressionRefusal variables t e = (n : Names) × KnowsVariables variables n × IsRefusal t n (nothing Sides) expression_items e

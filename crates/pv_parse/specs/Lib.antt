@@ -2,9 +2,11 @@ pub mod Expansion
 pub mod Faults
 pub mod Grammar
 pub mod Limits
+pub mod Meanings
 pub mod Sentences
 pub mod Names
 pub mod Numbers
 pub mod Places
 pub mod Tokens
+pub mod Views
 pub mod Words

@@ -6,11 +6,11 @@ ghost use Rattle.pv_parse.specs.Limits.{begun, counted, declared, in_phase, move
 use crate::cause::Cause;
 use crate::symbol::{Fixed, Symbol};
 
-const MAX_FUNCTIONS: u32 = 64;
+const MAX_FUNCTIONS: u8 = 64;
 
-const MAX_PARAMETERS: u32 = 12;
+const MAX_PARAMETERS: u8 = 12;
 
-const MAX_VARIABLES: u32 = 12;
+const MAX_VARIABLES: u8 = 12;
 
 const MAX_CONSTRAINTS: u32 = 64;
 
@@ -44,10 +44,10 @@ pub(crate) struct Counts {
     /// Operations of this constraint or body.
     pub operations: u32,
     /// Parameters of this function.
-    pub parameters: u32,
+    pub parameters: u8,
     /// Functions that have begun.
-    pub functions: u32,
-    pub variables: u32,
+    pub functions: u8,
+    pub variables: u8,
     /// Constraints that have begun.
     pub constraints: u32,
 }

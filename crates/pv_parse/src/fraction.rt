@@ -1,9 +1,12 @@
 // Fractions in lowest terms, within the limits on constants.
 
 ghost use Rattle.std.specs.Bool.{OnTrue};
-ghost use Rattle.std.specs.Prelude.{◌≡◌, ◌<◌, ◌≤◌, ◌^◌, ◌+◌, ◌*◌, ◌*ℤ◌, ◌≤ℤ◌, ◌↔◌, pos, unsigned_abs, IsTrue};
+ghost use Rattle.std.specs.Prelude.{◌≡◌, ◌<◌, ◌≤◌, ◌^◌, ◌+◌, ◌*◌, ◌*ℤ◌, ◌≤ℤ◌, ◌↔◌, pos, unsigned_abs, IsTrue, IfOk};
 ghost use Rattle.std.specs.Int.{IsGcd};
 ghost use Rattle.pv_expr.specs.Systems.{IsFraction};
+ghost use Rattle.pv_parse.specs.Meanings.{signed};
+
+use pv_num::Memory;
 
 // The denominators of all fractions that a text can write divide this.
 const COMMON: u128 = 1_000_000_000_000_000_000_000_000_000_000_000_000;
@@ -33,11 +36,16 @@ impl Fraction {
         true
     }
 
-    /// The same with the other sign.
-    pub(crate) fn opposite(self) -> Fraction {
-        Fraction {
-            p: self.p.saturating_neg(),
-            q: self.q,
+    /// The same, with the other sign where a `-` stands before it.
+    pub(crate) fn signed(self, negative: bool) -> Result<Fraction, Memory>
+        ensures { IfOk result (λ made. made ≡ signed negative self) }
+    {
+        if !negative {
+            return Ok(self);
+        }
+        match self.p.checked_neg() {
+            Some(p) => Ok(Fraction { p, q: self.q }),
+            None => Err(Memory),
         }
     }
 

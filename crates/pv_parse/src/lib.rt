@@ -13,6 +13,7 @@ mod keyword;
 pub mod laws;
 mod machine;
 mod measure;
+mod names;
 mod number;
 mod numeral;
 mod place;

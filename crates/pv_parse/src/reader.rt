@@ -3,12 +3,14 @@
 ghost use Rattle.std.specs.Prelude.{◌≡◌, List, [], map, false, ◌≤◌, ◌+◌, ◌<◌, length, IsOk, OnOk, IfOk, IfErr, IsErrAnd};
 ghost use Rattle.pv_expr.specs.Terms.{term_of};
 ghost use Rattle.pv_expr.specs.Systems.{IsOver};
-ghost use Rattle.pv_parse.specs.Faults.{IsAt, IsCausedBy, IsLong, IsPlaced, IsFirstOf, IsRefusal, SaysTooLong, refusal};
+ghost use Rattle.pv_parse.specs.Faults.{IsAt, IsCausedBy, IsLong, IsExpressionRefusal, IsPlaced, IsFirstOf, IsRefusal, SaysTooLong, refusal};
 ghost use Rattle.pv_parse.specs.Limits.{nothing};
 ghost use Rattle.pv_parse.specs.Grammar.{IsStart, system_items, expression_items};
 ghost use Rattle.pv_parse.specs.Grammar.{pile};
 ghost use Rattle.pv_parse.specs.declared.code.Op.{Op};
 ghost use Rattle.pv_parse.specs.Expansion.{run, top, sides_of, constraints_of};
+ghost use Rattle.pv_parse.specs.Meanings.{KnowsVariables, no_names};
+ghost use Rattle.pv_parse.specs.Views.{view};
 ghost use Rattle.pv_parse.specs.Sentences.{IsSentence, IsSystemText, IsExpressionText};
 
 use crate::cause::{Cause, ParseRefused};
@@ -18,6 +20,7 @@ use crate::counts::{Counts, Phase};
 use crate::expand::{Function, constraint, expression};
 use crate::machine::Machine;
 use crate::measure::measures;
+use crate::names::Names;
 use crate::place::line_and_column;
 use crate::scanner::next_token;
 use crate::scope::Scope;
@@ -39,15 +42,16 @@ const MAX_DEPTH: u64 = 2000;
 /// The fault is at the first token such that no text of a system begins with the tokens up to and with it.
 pub fn parse(alloc: Global, text: &[u8]) -> Result<System, ParseRefused>
     ensures grammatical { IfOk result (λ s. IsSystemText text.now) }
-    ensures means { IfOk result (λ s. (code : List Op) × IsSentence text.now (nothing Phase.Between) system_items [] code × (map sides_of s.constraints ≡ constraints_of code)) }
+    ensures means { IfOk result (λ s. (code : List Op) × IsSentence text.now no_names (nothing Phase.Between) system_items [] code × (map sides_of s.constraints ≡ constraints_of code)) }
     ensures placed { IfErr result (λ e. IsPlaced text.now e) }
     ensures long { 65536 < length text.now → IsErrAnd result SaysTooLong }
-    ensures fault { IfErr result (λ e. IsRefusal text.now (nothing Phase.Between) system_items e) }
+    ensures fault { IfErr result (λ e. IsRefusal text.now no_names (nothing Phase.Between) system_items e) }
 {
     refuse_long(text)?;
+    let mut names = Names::new(alloc);
     let mut scope = Scope::new(alloc);
     let mut machine = Machine::for_system(alloc)?;
-    read_tokens(text, Counts::none(Phase::Between), &mut scope, &mut machine)?;
+    read_tokens(text, Counts::none(Phase::Between), &mut names, &mut scope, &mut machine)?;
     if let Some(bracket) = scope.bad_bounds {
         return Err(fault_within(text, bracket, Cause::BadBounds));
     }
@@ -61,18 +65,22 @@ pub fn parse(alloc: Global, text: &[u8]) -> Result<System, ParseRefused>
 }
 
 /// The expression of a text, over the variables of a system.
+#[tactic(auto, using(crate::proofs::Refusals::long_expression, crate::proofs::Refusals::no_room))]
 pub fn parse_expr(alloc: Global, system: &System, text: &[u8]) -> Result<Expr, ParseRefused>
-    ensures grammatical { IfOk result (λ e. IsExpressionText text.now) }
+    ensures grammatical { IfOk result (λ e. IsExpressionText system.now.names text.now) }
     ensures over { IfOk result (λ e. IsOver (length system.now.names) (term_of e)) }
-    ensures means { IfOk result (λ e. (code : List Op) × IsSentence text.now (nothing Phase.Sides) expression_items [] code × (term_of e ≡ top (run [] [] code []))) }
+    ensures means { IfOk result (λ e. (n : Names) × KnowsVariables system.now.names n × (code : List Op) × IsSentence text.now n (nothing Phase.Sides) expression_items [] code × (term_of e ≡ top (run [] [] code []))) }
     ensures placed { IfErr result (λ e. IsPlaced text.now e) }
     ensures long { 65536 < length text.now → IsErrAnd result SaysTooLong }
-    ensures fault { IfErr result (λ e. IsRefusal text.now (nothing Phase.Sides) expression_items e) }
+    ensures fault { IfErr result (IsExpressionRefusal system.now.names text.now) }
 {
-    refuse_long(text)?;
-    let mut scope = Scope::of_system(alloc, system)?;
+    if let Err(refused) = refuse_long(text) {
+        return Err(refused);
+    }
+    let mut names = Names::of_system(alloc, system)?;
+    let mut scope = Scope::new(alloc);
     let mut machine = Machine::for_expression(alloc)?;
-    read_tokens(text, Counts::none(Phase::Sides), &mut scope, &mut machine)?;
+    read_tokens(text, Counts::none(Phase::Sides), &mut names, &mut scope, &mut machine)?;
     let e = expression(alloc, machine.into_code().as_slice())?;
     if is_over(system.variable_count(), &e) {
         Ok(e)
@@ -125,20 +133,21 @@ fn fault(text: &[u8], byte: usize, cause: Cause) -> ParseRefused
 fn read_tokens(
     text: &[u8],
     start: Counts,
+    names: &mut Names,
     scope: &mut Scope,
     machine: &mut Machine,
 ) -> Result<(), ParseRefused>
     requires short { length text.now ≤ 65536 }
     requires start { IsStart (pile machine.now.stack.items) }
     ensures placed { IfErr result (λ e. IsPlaced text.now e) }
-    ensures sentence { OnOk result (IsSentence text.now start (pile machine.old.stack.items) machine.old.code.items machine.new.code.items) }
-    ensures fault { IfErr result (λ e. IsFirstOf text.now start (pile machine.old.stack.items) e) }
+    ensures sentence { OnOk result (IsSentence text.now (view names.old) start (pile machine.old.stack.items) machine.old.code.items machine.new.code.items) }
+    ensures fault { IfErr result (λ e. IsFirstOf text.now (view names.old) start (pile machine.old.stack.items) e) }
 {
     let mut from = 0;
     let mut counts = start;
     loop {
         let token = next_token(text, from);
-        let symbol = scope.symbol_of(text, token, counts.phase);
+        let symbol = names.symbol_of(text, token, counts.phase);
         let Some(item) = machine.settle(symbol)? else {
             return ended(text, token, symbol);
         };
@@ -147,6 +156,7 @@ fn read_tokens(
         }
         match counts.counted(symbol) {
             Ok(next) => {
+                names.take_in(symbol, counts, text, token)?;
                 scope.take_in(symbol, counts.phase, text, token)?;
                 counts = next;
             }

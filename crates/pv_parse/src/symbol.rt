@@ -4,6 +4,7 @@ ghost use Rattle.std.specs.Prelude.{◌≡◌, ◌≢◌, None, is_some};
 ghost use Rattle.std.specs.Bool.{OnTrue, OnFalse};
 ghost use Rattle.pv_parse.specs.Grammar.{factor};
 ghost use Rattle.pv_parse.specs.Limits.{operates};
+ghost use Rattle.pv_parse.specs.Meanings.{is_minus};
 
 use crate::cause::Cause;
 use crate::code::Op;
@@ -87,6 +88,16 @@ impl Symbol {
             Symbol::Fixed(Fixed::Plus | Fixed::Minus | Fixed::Star) => true,
             Symbol::Fixed(Fixed::Slash | Fixed::Caret) => true,
             Symbol::Function { .. } => true,
+            _ => false,
+        }
+    }
+
+    /// Whether it is `-`.
+    pub(crate) fn is_minus(self) -> bool
+        ensures { result ≡ is_minus self }
+    {
+        match self {
+            Symbol::Fixed(Fixed::Minus) => true,
             _ => false,
         }
     }

@@ -4,6 +4,10 @@ use Rattle.pv_parse.specs.declared.cause.ParseRefused.{ParseRefused}
 use Rattle.pv_parse.specs.declared.machine.Item.{Item}
 use Rattle.pv_parse.specs.Faults.{IsAt, IsFirst, IsFirstOf, refusal}
 use Rattle.pv_parse.specs.Grammar.{pile, Settles}
+use Rattle.pv_parse.specs.Meanings.{learnt}
+use Rattle.pv_parse.specs.Sentences.{bytes_of}
+use Rattle.pv_parse.specs.Views.{view}
+use Rattle.pv_parse.proofs.Same.{learnt_same, same_refl, same_trans, stands_same}
 use Rattle.pv_parse.proofs.Reached.{forbidden, refused, starts, taken_not_end, taken_on, too_much, whole}
 use Rattle.pv_parse.proofs.Refusals.{first_at, if_err, on_ok, taken_false, taken_true}
 use Rattle.pv_parse.proofs.reader.read_tokens.Goals as goal
@@ -11,14 +15,18 @@ use Rattle.pv_parse.proofs.reader.read_tokens.Goals as goal
 pub loop-item-init : goal.loop-item-init
 loop-item-init c = record {
   within = omega arith;
-  reached = starts c.args.text.now c.args.start (pile c.args.machine.now.stack.items) c.args.machine.now.code.items c.requires.start;
+  reached = record {
+    names = view c.args.names.now;
+    same = same_refl (view c.args.names.now);
+    reached = starts c.args.text.now (view c.args.names.now) c.args.start (pile c.args.machine.now.stack.items) c.args.machine.now.code.items c.requires.start;
+  };
 }
 
 pub returns-in_default-clause-sentence : goal.returns-in_default-clause-sentence
 returns-in_default-clause-sentence c =
     let settles = subst (λ (o : Option Item). Settles c.symbol_of-symbol.result (pile c.loop-item.machine.stack.items) c.loop-item.machine.code.items o (pile c.settle.new.self.stack.items) c.settle.new.self.code.items) c.in_default.is c.in_ok-item.ensures in
-    on_ok c.ended.result (λ ok. whole c.args.text.now c.args.start c.loop-item.counts (pile c.args.machine.now.stack.items) c.args.machine.now.code.items
-    (pile c.loop-item.machine.stack.items) c.loop-item.machine.code.items c.loop-item.from c.loop-item.invariant.reached
+    on_ok c.ended.result (λ ok. whole c.args.text.now (view c.args.names.now) c.loop-item.invariant.reached.names c.args.start c.loop-item.counts (pile c.args.machine.now.stack.items) c.args.machine.now.code.items
+    (pile c.loop-item.machine.stack.items) c.loop-item.machine.code.items c.loop-item.from c.loop-item.invariant.reached.reached
     c.next_token-token.result c.symbol_of-symbol.result (pile c.settle.new.self.stack.items) c.settle.new.self.code.items
     c.next_token-token.ensures.next (c.ended.ensures.ends ok) settles)
 
@@ -26,46 +34,46 @@ pub returns-in_default-clause-fault : goal.returns-in_default-clause-fault
 returns-in_default-clause-fault c =
     let settles = subst (λ (o : Option Item). Settles c.symbol_of-symbol.result (pile c.loop-item.machine.stack.items) c.loop-item.machine.code.items o (pile c.settle.new.self.stack.items) c.settle.new.self.code.items) c.in_default.is c.in_ok-item.ensures in
     if_err (λ (e : ParseRefused). IsAt c.next_token-token.result.start (refusal false c.symbol_of-symbol.result) e)
-    (λ (e : ParseRefused). IsFirstOf c.args.text.now c.args.start (pile c.args.machine.now.stack.items) e)
+    (λ (e : ParseRefused). IsFirstOf c.args.text.now (view c.args.names.now) c.args.start (pile c.args.machine.now.stack.items) e)
     c.ended.result
-    (λ e at. first_at c.args.text.now c.args.start (pile c.args.machine.now.stack.items) c.next_token-token.result.start (refusal false c.symbol_of-symbol.result) e at
-    (too_much c.args.text.now c.args.start c.loop-item.counts (pile c.args.machine.now.stack.items) c.args.machine.now.code.items
-    (pile c.loop-item.machine.stack.items) c.loop-item.machine.code.items c.loop-item.from c.loop-item.invariant.reached
+    (λ e at. first_at c.args.text.now (view c.args.names.now) c.args.start (pile c.args.machine.now.stack.items) c.next_token-token.result.start (refusal false c.symbol_of-symbol.result) e at
+    (too_much c.args.text.now (view c.args.names.now) c.loop-item.invariant.reached.names c.args.start c.loop-item.counts (pile c.args.machine.now.stack.items) c.args.machine.now.code.items
+    (pile c.loop-item.machine.stack.items) c.loop-item.machine.code.items c.loop-item.from c.loop-item.invariant.reached.reached
     c.next_token-token.result c.symbol_of-symbol.result (pile c.settle.new.self.stack.items) c.settle.new.self.code.items
-    c.next_token-token.ensures.next c.symbol_of-symbol.ensures settles))
+    c.next_token-token.ensures.next (stands_same c.loop-item.counts.phase (view c.loop-item.names) c.loop-item.invariant.reached.names c.loop-item.invariant.reached.same (bytes_of c.args.text.now c.next_token-token.result) c.next_token-token.result.kind c.symbol_of-symbol.result c.symbol_of-symbol.ensures) settles))
     c.ended.ensures.at
 
 pub returns-then-not-branch-clause-fault : goal.returns-then-not-branch-clause-fault
 returns-then-not-branch-clause-fault c =
     let settles = subst (λ (o : Option Item). Settles c.symbol_of-symbol.result (pile c.loop-item.machine.stack.items) c.loop-item.machine.code.items o (pile c.settle.new.self.stack.items) c.settle.new.self.code.items) c.in-Some.is c.in_ok-item.ensures in
     let never = taken_false _ _ _ _ _ _ c.in_ok-take.ensures c.if-not-branch.true in
-    first_at c.args.text.now c.args.start (pile c.args.machine.now.stack.items) c.next_token-token.result.start c.refusal.result c.fault.result c.fault.ensures.at
-    (subst (λ (k : Cause). IsFirst c.args.text.now c.args.start (pile c.args.machine.now.stack.items) c.next_token-token.result.start k) (sym c.refusal.ensures)
-    (refused c.args.text.now c.args.start c.loop-item.counts (pile c.args.machine.now.stack.items) c.args.machine.now.code.items
-    (pile c.loop-item.machine.stack.items) c.loop-item.machine.code.items c.loop-item.from c.loop-item.invariant.reached
+    first_at c.args.text.now (view c.args.names.now) c.args.start (pile c.args.machine.now.stack.items) c.next_token-token.result.start c.refusal.result c.fault.result c.fault.ensures.at
+    (subst (λ (k : Cause). IsFirst c.args.text.now (view c.args.names.now) c.args.start (pile c.args.machine.now.stack.items) c.next_token-token.result.start k) (sym c.refusal.ensures)
+    (refused c.args.text.now (view c.args.names.now) c.loop-item.invariant.reached.names c.args.start c.loop-item.counts (pile c.args.machine.now.stack.items) c.args.machine.now.code.items
+    (pile c.loop-item.machine.stack.items) c.loop-item.machine.code.items c.loop-item.from c.loop-item.invariant.reached.reached
     c.next_token-token.result c.symbol_of-symbol.result c.in-Some.item (pile c.settle.new.self.stack.items) c.settle.new.self.code.items c.is_exponent.result
-    c.next_token-token.ensures.next c.symbol_of-symbol.ensures settles never (sym c.is_exponent.ensures)))
+    c.next_token-token.ensures.next (stands_same c.loop-item.counts.phase (view c.loop-item.names) c.loop-item.invariant.reached.names c.loop-item.invariant.reached.same (bytes_of c.args.text.now c.next_token-token.result) c.next_token-token.result.kind c.symbol_of-symbol.result c.symbol_of-symbol.ensures) settles never (sym c.is_exponent.ensures)))
 
 pub returns-in-Err-clause-fault : goal.returns-in-Err-clause-fault
 returns-in-Err-clause-fault c =
     let settles = subst (λ (o : Option Item). Settles c.symbol_of-symbol.result (pile c.loop-item.machine.stack.items) c.loop-item.machine.code.items o (pile c.settle.new.self.stack.items) c.settle.new.self.code.items) c.in-Some.is c.in_ok-item.ensures in
     let follows = taken_true _ _ _ _ _ _ c.in_ok-take.ensures c.if-not-branch.false in
-    first_at c.args.text.now c.args.start (pile c.args.machine.now.stack.items) c.next_token-token.result.start c.in-Err.cause c.fault-in-Err.result c.fault-in-Err.ensures.at
-    (forbidden c.args.text.now c.args.start c.loop-item.counts (pile c.args.machine.now.stack.items) c.args.machine.now.code.items
-    (pile c.loop-item.machine.stack.items) c.loop-item.machine.code.items c.loop-item.from c.loop-item.invariant.reached
+    first_at c.args.text.now (view c.args.names.now) c.args.start (pile c.args.machine.now.stack.items) c.next_token-token.result.start c.in-Err.cause c.fault-in-Err.result c.fault-in-Err.ensures.at
+    (forbidden c.args.text.now (view c.args.names.now) c.loop-item.invariant.reached.names c.args.start c.loop-item.counts (pile c.args.machine.now.stack.items) c.args.machine.now.code.items
+    (pile c.loop-item.machine.stack.items) c.loop-item.machine.code.items c.loop-item.from c.loop-item.invariant.reached.reached
     c.next_token-token.result c.symbol_of-symbol.result c.in-Some.item (pile c.settle.new.self.stack.items) c.settle.new.self.code.items
     (pile c.take.new.self.stack.items) c.take.new.self.code.items c.in-Err.cause
-    c.next_token-token.ensures.next c.symbol_of-symbol.ensures settles follows (sym c.counted.ensures ∙ c.in-Err.is))
+    c.next_token-token.ensures.next (stands_same c.loop-item.counts.phase (view c.loop-item.names) c.loop-item.invariant.reached.names c.loop-item.invariant.reached.same (bytes_of c.args.text.now c.next_token-token.result) c.next_token-token.result.kind c.symbol_of-symbol.result c.symbol_of-symbol.ensures) settles follows (sym c.counted.ensures ∙ c.in-Err.is))
 
 pub loop-item-smaller : goal.loop-item-smaller
 loop-item-smaller c =
     let settles = subst (λ (o : Option Item). Settles c.symbol_of-symbol.result (pile c.loop-item.machine.stack.items) c.loop-item.machine.code.items o (pile c.settle.new.self.stack.items) c.settle.new.self.code.items) c.in-Some.is c.in_ok-item.ensures in
     let follows = taken_true _ _ _ _ _ _ c.in_ok-take.ensures c.if-not-branch.false in
     let on = c.next_token-token.ensures.progress
-    (taken_not_end c.args.text.now c.args.start c.loop-item.counts (pile c.args.machine.now.stack.items) c.args.machine.now.code.items
-    (pile c.loop-item.machine.stack.items) c.loop-item.machine.code.items c.loop-item.from c.loop-item.invariant.reached
+    (taken_not_end c.args.text.now (view c.args.names.now) c.loop-item.invariant.reached.names c.args.start c.loop-item.counts (pile c.args.machine.now.stack.items) c.args.machine.now.code.items
+    (pile c.loop-item.machine.stack.items) c.loop-item.machine.code.items c.loop-item.from c.loop-item.invariant.reached.reached
     c.next_token-token.result c.symbol_of-symbol.result c.in-Some.item (pile c.settle.new.self.stack.items) c.settle.new.self.code.items
-    (pile c.take.new.self.stack.items) c.take.new.self.code.items c.symbol_of-symbol.ensures settles follows) in
+    (pile c.take.new.self.stack.items) c.take.new.self.code.items (stands_same c.loop-item.counts.phase (view c.loop-item.names) c.loop-item.invariant.reached.names c.loop-item.invariant.reached.same (bytes_of c.args.text.now c.next_token-token.result) c.next_token-token.result.kind c.symbol_of-symbol.result c.symbol_of-symbol.ensures) settles follows) in
     omega (arith, on, c.next_token-token.ensures.onward, c.next_token-token.ensures.within)
 
 pub loop-item-preserved : goal.loop-item-preserved
@@ -74,9 +82,14 @@ loop-item-preserved c =
     let follows = taken_true _ _ _ _ _ _ c.in_ok-take.ensures c.if-not-branch.false in
     record {
       within = c.next_token-token.ensures.within;
-      reached = taken_on c.args.text.now c.args.start c.loop-item.counts c.in-Ok.next (pile c.args.machine.now.stack.items) c.args.machine.now.code.items
-          (pile c.loop-item.machine.stack.items) c.loop-item.machine.code.items c.loop-item.from c.loop-item.invariant.reached
+      reached = record {
+        names = learnt c.loop-item.counts c.symbol_of-symbol.result (bytes_of c.args.text.now c.next_token-token.result) c.loop-item.invariant.reached.names;
+        same = same_trans _ _ _ c.in_ok-take_in-in-Ok.ensures
+            (learnt_same c.loop-item.counts c.symbol_of-symbol.result (bytes_of c.args.text.now c.next_token-token.result) (view c.loop-item.names) c.loop-item.invariant.reached.names c.loop-item.invariant.reached.same);
+        reached = taken_on c.args.text.now (view c.args.names.now) c.loop-item.invariant.reached.names c.args.start c.loop-item.counts c.in-Ok.next (pile c.args.machine.now.stack.items) c.args.machine.now.code.items
+          (pile c.loop-item.machine.stack.items) c.loop-item.machine.code.items c.loop-item.from c.loop-item.invariant.reached.reached
           c.next_token-token.result c.symbol_of-symbol.result c.in-Some.item (pile c.settle.new.self.stack.items) c.settle.new.self.code.items
           (pile c.take.new.self.stack.items) c.take.new.self.code.items
-          c.next_token-token.ensures.next c.symbol_of-symbol.ensures settles follows (sym c.counted.ensures ∙ c.in-Ok.is);
+          c.next_token-token.ensures.next (stands_same c.loop-item.counts.phase (view c.loop-item.names) c.loop-item.invariant.reached.names c.loop-item.invariant.reached.same (bytes_of c.args.text.now c.next_token-token.result) c.next_token-token.result.kind c.symbol_of-symbol.result c.symbol_of-symbol.ensures) settles follows (sym c.counted.ensures ∙ c.in-Ok.is);
+      };
     }
