@@ -69,7 +69,7 @@ pub fn parse(alloc: Global, text: &[u8]) -> Result<System, ParseRefused>
 pub fn parse_expr(alloc: Global, system: &System, text: &[u8]) -> Result<Expr, ParseRefused>
     ensures grammatical { IfOk result (λ e. IsExpressionText system.now.names text.now) }
     ensures over { IfOk result (λ e. IsOver (length system.now.names) (term_of e)) }
-    ensures means { IfOk result (λ e. (n : Names) × KnowsVariables system.now.names n × (code : List Op) × IsSentence text.now n (nothing Phase.Sides) expression_items [] code × (term_of e ≡ top (run [] [] code []))) }
+    ensures means { IfOk result (λ e. (n : Rattle.pv_parse.specs.Meanings.Names) × KnowsVariables system.now.names n × (code : List Op) × IsSentence text.now n (nothing Phase.Sides) expression_items [] code × (term_of e ≡ top (run [] [] code []))) }
     ensures placed { IfErr result (λ e. IsPlaced text.now e) }
     ensures long { 65536 < length text.now → IsErrAnd result SaysTooLong }
     ensures fault { IfErr result (IsExpressionRefusal system.now.names text.now) }
