@@ -9,7 +9,6 @@ use Rattle.pv_parse.specs.declared.counts.Phase.TheVariants.{Between, Constants,
 use Rattle.pv_parse.specs.declared.fraction.Fraction.{Fraction}
 use Rattle.pv_parse.specs.declared.names.Meaning.{Meaning}
 use Rattle.pv_parse.specs.declared.names.Meaning.TheVariants.{Constant as ConstantMeaning, Variable as VariableMeaning, Function as FunctionMeaning}
-use Rattle.pv_parse.specs.declared.symbol.Fixed.{Fixed}
 use Rattle.pv_parse.specs.declared.symbol.Fixed.TheVariants.{Minus, End}
 use Rattle.pv_parse.specs.declared.symbol.Symbol.{Symbol}
 use Rattle.pv_parse.specs.declared.symbol.Symbol.TheVariants.{Fixed as FixedToken, Number, Declared, Constant, Variable, Parameter, Function, Unknown}

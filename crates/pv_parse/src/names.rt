@@ -169,7 +169,8 @@ impl Names {
     fn is_taken(&self, name: &[u8]) -> bool
         ensures { result ≡ is_taken (view self.now) name.now }
     {
-        self.is_function(name) || self.pending.as_slice() == name
+        self.is_function(name)
+            || self.pending.as_slice() == name
             || self.parameters.contains_key(name)
     }
 

@@ -51,7 +51,13 @@ pub fn parse(alloc: Global, text: &[u8]) -> Result<System, ParseRefused>
     let mut names = Names::new(alloc);
     let mut scope = Scope::new(alloc);
     let mut machine = Machine::for_system(alloc)?;
-    read_tokens(text, Counts::none(Phase::Between), &mut names, &mut scope, &mut machine)?;
+    read_tokens(
+        text,
+        Counts::none(Phase::Between),
+        &mut names,
+        &mut scope,
+        &mut machine,
+    )?;
     if let Some(bracket) = scope.bad_bounds {
         return Err(fault_within(text, bracket, Cause::BadBounds));
     }
@@ -80,7 +86,13 @@ pub fn parse_expr(alloc: Global, system: &System, text: &[u8]) -> Result<Expr, P
     let mut names = Names::of_system(alloc, system)?;
     let mut scope = Scope::new(alloc);
     let mut machine = Machine::for_expression(alloc)?;
-    read_tokens(text, Counts::none(Phase::Sides), &mut names, &mut scope, &mut machine)?;
+    read_tokens(
+        text,
+        Counts::none(Phase::Sides),
+        &mut names,
+        &mut scope,
+        &mut machine,
+    )?;
     let e = expression(alloc, machine.into_code().as_slice())?;
     if is_over(system.variable_count(), &e) {
         Ok(e)

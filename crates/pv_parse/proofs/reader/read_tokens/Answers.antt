@@ -87,9 +87,9 @@ loop-item-preserved c =
         same = same_trans _ _ _ c.in_ok-take_in-in-Ok.ensures
             (learnt_same c.loop-item.counts c.symbol_of-symbol.result (bytes_of c.args.text.now c.next_token-token.result) (view c.loop-item.names) c.loop-item.invariant.reached.names c.loop-item.invariant.reached.same);
         reached = taken_on c.args.text.now (view c.args.names.now) c.loop-item.invariant.reached.names c.args.start c.loop-item.counts c.in-Ok.next (pile c.args.machine.now.stack.items) c.args.machine.now.code.items
-          (pile c.loop-item.machine.stack.items) c.loop-item.machine.code.items c.loop-item.from c.loop-item.invariant.reached.reached
-          c.next_token-token.result c.symbol_of-symbol.result c.in-Some.item (pile c.settle.new.self.stack.items) c.settle.new.self.code.items
-          (pile c.take.new.self.stack.items) c.take.new.self.code.items
-          c.next_token-token.ensures.next (stands_same c.loop-item.counts.phase (view c.loop-item.names) c.loop-item.invariant.reached.names c.loop-item.invariant.reached.same (bytes_of c.args.text.now c.next_token-token.result) c.next_token-token.result.kind c.symbol_of-symbol.result c.symbol_of-symbol.ensures) settles follows (sym c.counted.ensures ∙ c.in-Ok.is);
+            (pile c.loop-item.machine.stack.items) c.loop-item.machine.code.items c.loop-item.from c.loop-item.invariant.reached.reached
+            c.next_token-token.result c.symbol_of-symbol.result c.in-Some.item (pile c.settle.new.self.stack.items) c.settle.new.self.code.items
+            (pile c.take.new.self.stack.items) c.take.new.self.code.items
+            c.next_token-token.ensures.next (stands_same c.loop-item.counts.phase (view c.loop-item.names) c.loop-item.invariant.reached.names c.loop-item.invariant.reached.same (bytes_of c.args.text.now c.next_token-token.result) c.next_token-token.result.kind c.symbol_of-symbol.result c.symbol_of-symbol.ensures) settles follows (sym c.counted.ensures ∙ c.in-Ok.is);
       };
     }
