@@ -4,7 +4,8 @@
     make && python3 bench/run.py            everything
     python3 bench/run.py numbers            nanoseconds for add, mul and div in a dependent chain
     python3 bench/run.py calls              nanoseconds for the other calls of pv_num
-    python3 bench/run.py paving             settled nodes a second, and the share of time that printing takes
+    python3 bench/run.py paving             settled nodes a second
+    python3 bench/run.py printing           the share of instructions that printing takes, where there is valgrind
     python3 bench/run.py growth             how the time grows as --eps is halved
     python3 bench/run.py trees              milliseconds for settling, counting, copying, joining and auditing a large tree
 
@@ -70,12 +71,18 @@ def calls(_):
         print(f"{operation:7} {(spent - fed) / STEPS * 1e10:8.1f} ns")
 
 
+def system_of(folder, name):
+    if name:
+        return EXAMPLES / f"{name}.mbx"
+    system = Path(folder) / "order.mbx"
+    system.write_text(ORDER)
+    return system
+
+
 def paving(folder):
     lean = yardstick(folder, "paver")
     for title, name, words in PAVINGS:
-        system = EXAMPLES / f"{name}.mbx" if name else Path(folder) / "order.mbx"
-        if not name:
-            system.write_text(ORDER)
+        system = system_of(folder, name)
         spent, printed = seconds([TOP / "paver", "run", system, *words])
         settled = int(printed.split()[1])
         line = f"{title:28} {settled:7} nodes {settled / spent / 1000:8.0f} thousand a second"
@@ -83,6 +90,21 @@ def paving(folder):
             other, same = seconds([lean, system, *words])
             line += f", {spent / other:5.2f} times lean Rust{'' if same == printed else ', OTHER OUTPUT'}"
         print(line)
+
+
+def printing(folder):
+    if not shutil.which("valgrind"):
+        return
+    counts = Path(folder) / "counts"
+    for title, name, words in PAVINGS:
+        system = system_of(folder, name)
+        run = [TOP / "paver", "run", system, *words[:-1], "5000"]
+        subprocess.run(["valgrind", "--tool=callgrind", f"--callgrind-out-file={counts}", *map(str, run)],
+                       stdout=subprocess.DEVNULL, stderr=subprocess.DEVNULL, check=False)
+        lines = subprocess.run(["callgrind_annotate", "--inclusive=yes", str(counts)], stdout=subprocess.PIPE,
+                               text=True, check=True).stdout.splitlines()
+        share = next((line.split("(")[1].split(")")[0] for line in lines if "printing::write_lines [" in line), "0%")
+        print(f"{title:28} 5,000 nodes, printing {share.strip()} of the instructions")
 
 
 def growth(_):
@@ -102,7 +124,7 @@ def trees(_):
 
 
 def main():
-    parts = {"numbers": numbers, "calls": calls, "paving": paving, "growth": growth, "trees": trees}
+    parts = {"numbers": numbers, "calls": calls, "paving": paving, "printing": printing, "growth": growth, "trees": trees}
     with tempfile.TemporaryDirectory() as folder:
         for part in sys.argv[1:] or parts:
             parts[part](folder)
