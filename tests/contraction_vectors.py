@@ -7,6 +7,7 @@ an infinite end.
 """
 import os
 
+import case_table
 from reference import minibex
 from reference.paver import Settler
 from revision_vectors import ends
@@ -61,15 +62,16 @@ def row(x, y, constraints, program):
     return f'    ("{system}", "{program}", {answer}, {sure}),'
 
 
+HEADING = (
+    "//! Cases of contractions. Written by tests/contraction_vectors.py: change them there.\n"
+    "use crate::programs::Case;\n"
+    "use crate::programs::Left::{Nothing, Places};\n"
+)
+
+
 def main():
     path = os.path.join(os.path.dirname(__file__), "../crates/pv_programs/src/table.rt")
-    with open(path, "w") as out:
-        out.write("//! Cases of contractions. Written by tests/contraction_vectors.py: change them there.\n")
-        out.write("use crate::programs::Case;\n")
-        out.write("use crate::programs::Left::{Nothing, Places};\n")
-        for name, rows in GROUPS.items():
-            out.write(f"\npub(crate) static {name}: [Case; {len(rows)}] = [\n")
-            out.write("\n".join(row(*r) for r in rows) + "\n];\n")
+    case_table.write(path, HEADING, GROUPS, row)
 
 
 if __name__ == "__main__":

@@ -7,6 +7,7 @@ an infinite end.
 """
 import os
 
+import case_table
 from reference import minibex
 from reference.numbers import DOWN, NEG_INF, POS_INF, SCALE, UP
 from reference.paver import Constraint, Empty, bound
@@ -139,15 +140,16 @@ def row(x, y, text):
     return f'    ("{system}", {answer}, {sure}),'
 
 
+HEADING = (
+    "//! Cases of revisions. Written by tests/revision_vectors.py: change them there.\n"
+    "use crate::revisions::Case;\n"
+    "use crate::revisions::Left::{Changed, Empty, Kept};\n"
+)
+
+
 def main():
     path = os.path.join(os.path.dirname(__file__), "../crates/pv_revisions/src/table.rt")
-    with open(path, "w") as out:
-        out.write("//! Cases of revisions. Written by tests/revision_vectors.py: change them there.\n")
-        out.write("use crate::revisions::Case;\n")
-        out.write("use crate::revisions::Left::{Changed, Empty, Kept};\n")
-        for name, rows in GROUPS.items():
-            out.write(f"\npub(crate) static {name}: [Case; {len(rows)}] = [\n")
-            out.write("\n".join(row(*r) for r in rows) + "\n];\n")
+    case_table.write(path, HEADING, GROUPS, row)
 
 
 if __name__ == "__main__":
