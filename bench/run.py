@@ -58,7 +58,7 @@ def numbers(folder):
     for name, program in programs.items():
         if program and program.exists():
             empty, _ = seconds([program, "none", STEPS])
-            for operation in ("add", "mul", "div"):
+            for operation in ("add", "sub", "mul", "div") if name != "lean Rust" else ("add", "mul", "div"):
                 spent, _ = seconds([program, operation, STEPS])
                 print(f"{name:10} {operation}: {(spent - empty) / STEPS * 1e9:6.1f} ns")
 
@@ -66,7 +66,7 @@ def numbers(folder):
 def calls(_):
     program = TOP / "crates/pv_bench/out/pv_bench"
     fed, _ = seconds([program, "fed", STEPS // 10])
-    for operation in ("sub", "neg", "cmp", "pow3", "root2", "root3", "root31", "middle", "ratio", "parts", "text"):
+    for operation in ("neg", "cmp", "pow3", "root2", "root3", "root31", "middle", "ratio", "parts", "text"):
         spent, _ = seconds([program, operation, STEPS // 10])
         print(f"{operation:7} {(spent - fed) / STEPS * 1e10:8.1f} ns")
 

@@ -1,4 +1,4 @@
-//! The code of `pv_num`'s add, mul and div carried over to Rust line by line, in the chains of `numbers.rs`: what the
+//! The code of `pv_num`'s add, sub, mul and div carried over to Rust line by line, in the chains of `numbers.rs`: what the
 //! two compilers make of the same code.
 //!
 //!     rustc --edition 2021 -O bench/lean/same.rs -o /tmp/same && /tmp/same mul 10000000
@@ -42,6 +42,10 @@ const FINE_BITS: u16 = 1024;
 const MANTISSA_BITS: u16 = 62;
 const TOP_EXPONENT: u16 = 962;
 const FAR: u16 = 64;
+const GUARD_BITS: u16 = 2;
+const FULL: u128 = 0x400_0000_0000_0000_0000_0000_0000_0000;
+const LEAST_SCALE: u16 = 451;
+const GREATEST_SCALE: u16 = 1412;
 const ZERO: Num = Num { class: Class::NonNegative, exponent: 0, mantissa: 0 };
 const ONE: Num = Num { class: Class::NonNegative, exponent: 451, mantissa: 1 << 61 };
 const NEG_INF: Num = Num { class: Class::MinusOo, exponent: 0, mantissa: 0 };
@@ -54,16 +58,19 @@ fn round(parts: u128, at: u16, toward: Toward) -> Option<Magnitude> {
     }
     let exponent = (bit_length(parts) + at).saturating_sub(FINE_BITS + MANTISSA_BITS);
     if exponent > TOP_EXPONENT {
-        return match toward {
-            Toward::Zero => Some(Magnitude { mantissa: (1 << 62) - 1, exponent: 962 }),
-            Toward::Away => None,
-        };
+        return beyond(toward);
     }
     let (mantissa, exact) = aligned(parts, at, FINE_BITS + exponent);
-    if exact || toward == Toward::Zero {
-        return Some(Magnitude { mantissa, exponent });
+    next(mantissa, exponent, exact, toward)
+}
+
+#[cold]
+#[inline(never)]
+fn beyond(toward: Toward) -> Option<Magnitude> {
+    match toward {
+        Toward::Zero => Some(Magnitude { mantissa: (1 << 62) - 1, exponent: 962 }),
+        Toward::Away => None,
     }
-    raised(mantissa, exponent)
 }
 
 #[inline]
@@ -89,6 +96,12 @@ fn raised(mantissa: u64, exponent: u16) -> Option<Magnitude> {
     if mantissa < 0x3fff_ffff_ffff_ffff {
         return Some(Magnitude { mantissa: mantissa + 1, exponent });
     }
+    carried(mantissa, exponent)
+}
+
+#[cold]
+#[inline(never)]
+fn carried(_mantissa: u64, exponent: u16) -> Option<Magnitude> {
     if exponent == TOP_EXPONENT {
         return None;
     }
@@ -104,14 +117,25 @@ fn toward(side: End, negative: bool) -> Toward {
 }
 
 #[inline]
+fn infinite(negative: bool) -> Num {
+    if negative { NEG_INF } else { POS_INF }
+}
+
+#[inline]
 fn signed(negative: bool, size: Option<Magnitude>) -> Num {
     match size {
-        None => if negative { NEG_INF } else { POS_INF },
-        Some(m) if negative && m.mantissa > 0 => Num { class: Class::Negative, exponent: m.exponent, mantissa: m.mantissa },
-        Some(m) => Num { class: Class::NonNegative, exponent: m.exponent, mantissa: m.mantissa },
+        None => infinite(negative),
+        Some(m) => {
+            if negative && m.mantissa > 0 {
+                Num { class: Class::Negative, exponent: m.exponent, mantissa: m.mantissa }
+            } else {
+                Num { class: Class::NonNegative, exponent: m.exponent, mantissa: m.mantissa }
+            }
+        }
     }
 }
 
+#[inline]
 fn is_smaller(x: Magnitude, y: Magnitude) -> bool {
     if x.exponent < y.exponent {
         true
@@ -124,32 +148,43 @@ fn is_smaller(x: Magnitude, y: Magnitude) -> bool {
 
 #[inline]
 fn next(mantissa: u64, exponent: u16, exact: bool, toward: Toward) -> Option<Magnitude> {
-    if exact || toward == Toward::Zero {
-        return Some(Magnitude { mantissa, exponent });
+    match toward {
+        Toward::Zero => Some(Magnitude { mantissa, exponent }),
+        Toward::Away => {
+            if exact {
+                Some(Magnitude { mantissa, exponent })
+            } else {
+                raised(mantissa, exponent)
+            }
+        }
     }
-    raised(mantissa, exponent)
 }
 
-#[inline]
+#[inline(always)]
+fn alike_sum(a: Num, b: Num, side: End) -> Num {
+    let negative = a.is_negative();
+    let (x, y) = (a.size(), b.size());
+    let size = size_sum(x, y, toward(side, negative));
+    signed(negative, size)
+}
+
+#[inline(always)]
 fn size_sum(x: Magnitude, y: Magnitude, toward: Toward) -> Option<Magnitude> {
     if x.exponent < y.exponent { ordered_sum(y, x, toward) } else { ordered_sum(x, y, toward) }
 }
 
-#[inline]
+#[inline(always)]
 fn ordered_sum(x: Magnitude, y: Magnitude, toward: Toward) -> Option<Magnitude> {
     let part = shifted(y.mantissa, x.exponent - y.exponent);
     let sum = x.mantissa + part.0;
-    if sum < 1 << 62 {
+    if sum < 0x4000_0000_0000_0000 {
         return next(sum, x.exponent, part.1, toward);
     }
     if x.exponent == TOP_EXPONENT {
-        return match toward {
-            Toward::Zero => Some(Magnitude { mantissa: (1 << 62) - 1, exponent: 962 }),
-            Toward::Away => None,
-        };
+        return beyond(toward);
     }
-    let half = sum / 2;
-    next(half, x.exponent + 1, part.1 && half * 2 == sum, toward)
+    let half = halved(sum, part.1);
+    next(half.0, x.exponent + 1, half.1, toward)
 }
 
 #[inline]
@@ -162,53 +197,251 @@ fn shifted(mantissa: u64, distance: u16) -> (u64, bool) {
 }
 
 #[inline]
+fn halved(sum: u64, exact: bool) -> (u64, bool) {
+    let half = sum / 2;
+    (half, exact && half * 2 == sum)
+}
+
+#[inline(always)]
+fn unlike_sum(a: Num, b: Num, side: End) -> Num {
+    let (x, y) = (a.size(), b.size());
+    let smaller = is_smaller(x, y);
+    let negative = a.is_negative() ^ smaller;
+    let size = distance(x, y, smaller, toward(side, negative));
+    signed(negative, Some(size))
+}
+
+#[inline(never)]
+fn distance(x: Magnitude, y: Magnitude, smaller: bool, toward: Toward) -> Magnitude {
+    if smaller { size_difference(y, x, toward) } else { size_difference(x, y, toward) }
+}
+
+#[inline]
+fn size_difference(x: Magnitude, y: Magnitude, toward: Toward) -> Magnitude {
+    if x.exponent < GUARD_BITS {
+        return difference(x, y, FINE_BITS, toward).unwrap();
+    }
+    let exponent = x.exponent - GUARD_BITS;
+    let part = raised_part(y, exponent);
+    fitted(x.mantissa * 4 - part.0, exponent, part.1, toward).unwrap()
+}
+
+#[inline]
+fn raised_part(size: Magnitude, exponent: u16) -> (u64, bool) {
+    if exponent <= size.exponent {
+        return (size.mantissa << (size.exponent - exponent), true);
+    }
+    let kept = shifted(size.mantissa, exponent - size.exponent);
+    if kept.1 { (kept.0, true) } else { (kept.0 + 1, false) }
+}
+
+#[inline]
+fn fitted(word: u64, exponent: u16, exact: bool, toward: Toward) -> Option<Magnitude> {
+    if word < 0x4000_0000_0000_0000 {
+        return Some(justified(word, exponent));
+    }
+    let above = exponent + 1;
+    let half = halved(word, exact);
+    if half.0 < 0x4000_0000_0000_0000 {
+        return next(half.0, above, half.1, toward);
+    }
+    let quarter = halved(half.0, half.1);
+    next(quarter.0, above + 1, quarter.1, toward)
+}
+
+#[inline]
+fn justified(word: u64, exponent: u16) -> Magnitude {
+    if word == 0 {
+        return Magnitude { mantissa: 0, exponent: 0 };
+    }
+    let free = 62 - bit_length(word as u128);
+    if free < exponent {
+        return Magnitude { mantissa: word << free, exponent: exponent - free };
+    }
+    Magnitude { mantissa: word << exponent, exponent: 0 }
+}
+
+#[inline]
+fn trace(y: Magnitude) -> u128 {
+    if y.mantissa == 0 { 0 } else { 1 }
+}
+
+#[inline]
 fn difference(x: Magnitude, y: Magnitude, at: u16, toward: Toward) -> Option<Magnitude> {
     let distance = x.exponent - y.exponent;
     if distance <= FAR {
-        round(((x.mantissa as u128) << distance) - y.mantissa as u128, y.exponent + at, toward)
+        let parts = ((x.mantissa as u128) << distance) - y.mantissa as u128;
+        round(parts, y.exponent + at, toward)
     } else {
-        round(((x.mantissa as u128) << FAR) - (y.mantissa != 0) as u128, x.exponent - FAR + at, toward)
+        let parts = ((x.mantissa as u128) << FAR) - trace(y);
+        round(parts, x.exponent - FAR + at, toward)
     }
 }
 
+#[inline(always)]
+fn infinite_sum(a: Num, b: Num, side: End) -> Num {
+    match a.class {
+        Class::MinusOo => match b.class {
+            Class::PlusOo => end(side),
+            _ => NEG_INF,
+        },
+        Class::PlusOo => match b.class {
+            Class::MinusOo => end(side),
+            _ => POS_INF,
+        },
+        _ => b,
+    }
+}
+
+#[inline]
+fn end(side: End) -> Num {
+    match side {
+        End::Down => NEG_INF,
+        End::Up => POS_INF,
+    }
+}
+
+#[inline(always)]
+fn infinite_product(a: Num, b: Num) -> Num {
+    if a.is_zero() {
+        return ZERO;
+    }
+    if b.is_zero() {
+        return ZERO;
+    }
+    infinite(a.is_negative() ^ b.is_negative())
+}
+
+#[inline(always)]
+fn product(x: Magnitude, y: Magnitude, toward: Toward) -> Option<Magnitude> {
+    let parts = x.mantissa as u128 * y.mantissa as u128;
+    let scale = x.exponent + y.exponent;
+    if parts < FULL || scale < LEAST_SCALE || scale > GREATEST_SCALE {
+        return rare_product(parts, scale, toward);
+    }
+    full_product(parts, scale, toward)
+}
+
+#[cold]
+#[inline(never)]
+fn rare_product(parts: u128, scale: u16, toward: Toward) -> Option<Magnitude> {
+    round(parts, scale + 512, toward)
+}
+
+#[inline(always)]
+fn full_product(parts: u128, scale: u16, toward: Toward) -> Option<Magnitude> {
+    let kept = cut(parts);
+    let exponent = scale - LEAST_SCALE;
+    if kept.0 < 0x4000_0000_0000_0000 {
+        return next(kept.0, exponent, kept.1, toward);
+    }
+    let half = halved(kept.0, kept.1);
+    next(half.0, exponent + 1, half.1, toward)
+}
+
+#[inline]
+fn cut(parts: u128) -> (u64, bool) {
+    let kept = parts >> 61;
+    (kept as u64, kept << 61 == parts)
+}
+
+fn quotient(x: Magnitude, y: Magnitude, toward: Toward) -> Option<Magnitude> {
+    if x.mantissa == 0 {
+        return round(0, 0, toward);
+    }
+    let (n, shift) = left_aligned(x.mantissa as u128, 126);
+    let d = y.mantissa as u128;
+    let q = n / d;
+    let parts = 2 * q + inexact(n - q * d);
+    round(parts, x.exponent + 1535 - y.exponent - shift, toward)
+}
+
+#[inline]
+fn inexact(rest: u128) -> u128 {
+    if rest == 0 { 0 } else { 1 }
+}
+
+#[inline]
+fn left_aligned(n: u128, bits: u16) -> (u128, u16) {
+    let shift = bits - bit_length(n);
+    (n << shift, shift)
+}
+
 impl Num {
+    #[inline]
+    fn neg(self) -> Num {
+        match self.class {
+            Class::MinusOo => POS_INF,
+            Class::Negative => Num { class: Class::NonNegative, exponent: self.exponent, mantissa: self.mantissa },
+            Class::NonNegative if self.mantissa == 0 => self,
+            Class::NonNegative => Num { class: Class::Negative, exponent: self.exponent, mantissa: self.mantissa },
+            Class::PlusOo => NEG_INF,
+        }
+    }
+
+    #[inline]
     fn is_negative(self) -> bool {
-        matches!(self.class, Class::MinusOo | Class::Negative)
+        match self.class {
+            Class::MinusOo => true,
+            Class::Negative => true,
+            Class::NonNegative => false,
+            Class::PlusOo => false,
+        }
     }
 
+    #[inline]
     fn is_infinite(self) -> bool {
-        matches!(self.class, Class::MinusOo | Class::PlusOo)
+        match self.class {
+            Class::MinusOo => true,
+            Class::Negative => false,
+            Class::NonNegative => false,
+            Class::PlusOo => true,
+        }
     }
 
+    #[inline]
+    fn is_zero(self) -> bool {
+        match self.class {
+            Class::NonNegative => self.mantissa == 0,
+            _ => false,
+        }
+    }
+
+    #[inline]
     fn size(self) -> Magnitude {
         Magnitude { mantissa: self.mantissa, exponent: self.exponent }
     }
 
-    #[inline]
+    #[inline(always)]
     fn add(self, other: Num, side: End) -> Num {
-        if self.is_infinite() || other.is_infinite() {
-            return if self.is_infinite() { self } else { other };
+        if self.is_infinite() {
+            return infinite_sum(self, other, side);
         }
-        let (x, y, at) = (self.size(), other.size(), FINE_BITS);
-        let less = self.is_negative();
-        if less == other.is_negative() {
-            return signed(less, size_sum(x, y, toward(side, less)));
+        if other.is_infinite() {
+            return infinite_sum(self, other, side);
         }
-        if is_smaller(x, y) {
-            signed(!less, difference(y, x, at, toward(side, !less)))
-        } else {
-            signed(less, difference(x, y, at, toward(side, less)))
+        if self.is_negative() == other.is_negative() {
+            return alike_sum(self, other, side);
         }
+        unlike_sum(self, other, side)
     }
 
-    #[inline]
+    #[inline(always)]
+    fn sub(self, other: Num, side: End) -> Num {
+        self.add(other.neg(), side)
+    }
+
+    #[inline(always)]
     fn mul(self, other: Num, side: End) -> Num {
-        if self.is_infinite() || other.is_infinite() {
-            return self;
+        if self.is_infinite() {
+            return infinite_product(self, other);
+        }
+        if other.is_infinite() {
+            return infinite_product(self, other);
         }
         let negative = self.is_negative() ^ other.is_negative();
-        let parts = self.mantissa as u128 * other.mantissa as u128;
-        signed(negative, round(parts, self.exponent + other.exponent + 512, toward(side, negative)))
+        let size = product(self.size(), other.size(), toward(side, negative));
+        signed(negative, size)
     }
 
     fn div(self, other: Num, side: End) -> Num {
@@ -217,18 +450,52 @@ impl Num {
         }
         let negative = self.is_negative() ^ other.is_negative();
         if self.is_infinite() {
-            return if negative { NEG_INF } else { POS_INF };
+            return infinite(negative);
         }
-        let toward = toward(side, negative);
-        if self.mantissa == 0 {
-            return signed(negative, round(0, 0, toward));
-        }
-        let shift = 126 - bit_length(self.mantissa as u128);
-        let (n, d) = ((self.mantissa as u128) << shift, other.mantissa as u128);
-        let q = n / d;
-        let parts = 2 * q + (n - q * d != 0) as u128;
-        signed(negative, round(parts, self.exponent + 1535 - other.exponent - shift, toward))
+        let size = quotient(self.size(), other.size(), toward(side, negative));
+        signed(negative, size)
     }
+}
+
+#[inline]
+fn side_of(step: u64) -> End {
+    if step % 2 == 1 { End::Up } else { End::Down }
+}
+
+#[inline(never)]
+fn sums(by: Num, steps: u64) -> Num {
+    let mut x = ONE;
+    for step in 0..steps {
+        x = x.add(by, side_of(step));
+    }
+    x
+}
+
+#[inline(never)]
+fn differences(by: Num, steps: u64) -> Num {
+    let mut x = ONE;
+    for step in 0..steps {
+        x = by.sub(x, side_of(step));
+    }
+    x
+}
+
+#[inline(never)]
+fn products(by: Num, steps: u64) -> Num {
+    let mut x = ONE;
+    for step in 0..steps {
+        x = x.mul(by, side_of(step));
+    }
+    x
+}
+
+#[inline(never)]
+fn quotients(by: Num, steps: u64) -> Num {
+    let mut x = ONE;
+    for step in 0..steps {
+        x = x.div(by, side_of(step));
+    }
+    x
 }
 
 fn main() {
@@ -237,17 +504,12 @@ fn main() {
     // behind a black box: a program whose operand is known when it is compiled leaves half of add out
     let half = black_box(Num { class: Class::NonNegative, exponent: 451, mantissa: 3 << 60 });
     let below_one = black_box(Num { class: Class::NonNegative, exponent: 450, mantissa: 2305843009213693951 << 1 });
-    let mut x = ONE;
-    let mut i = 0;
-    while i < steps {
-        let side = if i % 2 == 1 { End::Up } else { End::Down };
-        x = match words[1].as_str() {
-            "add" => x.add(half, side),
-            "mul" => x.mul(below_one, side),
-            "div" => x.div(below_one, side),
-            _ => x,
-        };
-        i += 1;
-    }
+    let x = match words[1].as_str() {
+        "add" => sums(half, steps),
+        "sub" => differences(half, steps),
+        "mul" => products(below_one, steps),
+        "div" => quotients(below_one, steps),
+        _ => ONE,
+    };
     println!("{}:{}", x.mantissa, x.exponent as i32 - 512);
 }

@@ -53,19 +53,77 @@ impl Operation {
 /// The number behind so many steps from 1 on, rounded down and up in turn.
 pub fn last_of(alloc: Global, operation: Operation, steps: u64) -> Num {
     let by = operand(operation);
-    let mut text = Vec::new(alloc);
+    match operation {
+        Operation::Nothing => Num::ONE,
+        Operation::Add => sums(by, steps),
+        Operation::Subtract => differences(by, steps),
+        Operation::Multiply => products(by, steps),
+        Operation::Divide => quotients(by, steps),
+        Operation::Text => texts(alloc, by, steps),
+        other => others(other, by, steps),
+    }
+}
+
+// The side to which a step rounds.
+#[inline]
+fn side_of(step: u64) -> End {
+    if step % 2 == 1 { End::Up } else { End::Down }
+}
+
+// Each chain that is measured beside other programs has a loop of its own, as it has there.
+#[inline(never)]
+fn sums(by: Num, steps: u64) -> Num {
     let mut x = Num::ONE;
     for step in 0..steps {
-        let side = if step % 2 == 1 { End::Up } else { End::Down };
-        x = match operation {
-            Operation::Nothing => x,
-            Operation::Add => x.add(by, side),
-            Operation::Subtract => x.sub(by, side),
-            Operation::Multiply => x.mul(by, side),
-            Operation::Divide => quotient(x, by, side),
-            Operation::Text => through_text(&mut text, fed(x, by)),
-            other => made(other, fed(x, by), side),
-        };
+        x = x.add(by, side_of(step));
+    }
+    x
+}
+
+// The number and its operand have one sign, so that something cancels at each step.
+#[inline(never)]
+fn differences(by: Num, steps: u64) -> Num {
+    let mut x = Num::ONE;
+    for step in 0..steps {
+        x = by.sub(x, side_of(step));
+    }
+    x
+}
+
+#[inline(never)]
+fn products(by: Num, steps: u64) -> Num {
+    let mut x = Num::ONE;
+    for step in 0..steps {
+        x = x.mul(by, side_of(step));
+    }
+    x
+}
+
+#[inline(never)]
+fn quotients(by: Num, steps: u64) -> Num {
+    let mut x = Num::ONE;
+    if by == Num::ZERO {
+        return x;
+    }
+    for step in 0..steps {
+        x = x.div(by, side_of(step));
+    }
+    x
+}
+
+fn texts(alloc: Global, by: Num, steps: u64) -> Num {
+    let mut text = Vec::new(alloc);
+    let mut x = Num::ONE;
+    for _ in 0..steps {
+        x = through_text(&mut text, fed(x, by));
+    }
+    x
+}
+
+fn others(operation: Operation, by: Num, steps: u64) -> Num {
+    let mut x = Num::ONE;
+    for step in 0..steps {
+        x = made(operation, fed(x, by), side_of(step));
     }
     x
 }
@@ -100,10 +158,6 @@ fn made(operation: Operation, x: Num, side: End) -> Num {
         Operation::Parts => through_parts(x),
         _ => x,
     }
-}
-
-fn quotient(x: Num, by: Num, side: End) -> Num {
-    if by == Num::ZERO { x } else { x.div(by, side) }
 }
 
 fn root(x: Num, n: u8, side: End) -> Num

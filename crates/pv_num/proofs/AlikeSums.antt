@@ -34,7 +34,7 @@ sum_high m n p d e f q h =
     assoc : (m p : ℕ) → m + p + 1 ≡ m + (p + 1)
     assoc m p = omega arith
 
-same_below : (a b f : ℕ) → a * 2 ^ f ≡ b * 2 ^ f → a ≡ b
+pub same_below : (a b f : ℕ) → a * 2 ^ f ≡ b * 2 ^ f → a ≡ b
 same_below a b f e =
     let l : a ≤ b = le_of_mul-le-mul_right (omega (arith, e)) (pow_pos f) in
     let g : b ≤ a = le_of_mul-le-mul_right (omega (arith, e)) (pow_pos f) in

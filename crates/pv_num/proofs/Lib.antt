@@ -7,6 +7,7 @@ pub mod Monotone
 pub mod Operations
 pub mod Orders
 pub mod Powers
+pub mod Products
 pub mod Quotients
 pub mod Ratios
 pub mod Rounding
@@ -17,3 +18,5 @@ pub mod Signs
 pub mod Sizes
 pub mod Sums
 pub mod Texts
+pub mod UnlikeSums
+pub mod Zeros

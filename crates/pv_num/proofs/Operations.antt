@@ -1,4 +1,4 @@
-use Rattle.std.proofs.Common.{◌≡◌, ◌≢◌, ℕ, zero, suc, ◌+◌, ◌-◌, ◌*◌, ◌^◌, ◌<◌, ◌≤◌, inl, inr, Bool, true, false, not, Option, arith, refl, ap, sym, subst, ◌∙◌, ℤ, pos, negsuc, neg_ℤ, ◌*ℤ◌, ◌+ℤ◌, unsigned_abs}
+use Rattle.std.proofs.Common.{◌≡◌, ◌≢◌, ◌↔◌, IsTrue, ℕ, zero, suc, ◌+◌, ◌-◌, ◌*◌, ◌^◌, ◌<◌, ◌≤◌, inl, inr, Bool, true, false, not, Option, arith, refl, ap, sym, subst, ◌∙◌, ℤ, pos, negsuc, neg_ℤ, ◌*ℤ◌, ◌+ℤ◌, unsigned_abs}
 use mathlib.Core.Bool.{beq}
 use Rattle.std.proofs.lemmas.Bool.{true≢false, cases_lt, le-ltb}
 use Rattle.std.proofs.lemmas.Int.{ints}
@@ -151,3 +151,46 @@ alike_whole side a b t x y p r f g same ep ex ey et h =
     ap (λ z. signed_of z r) ep
     ∙ signed_to side (is_negative_of a) (magnitude_of a + magnitude_of b) 1 r _ (sum_alike a b f g (same_signs _ _ same)) one
     (restated side p (is_negative_of a) t (x + y) (magnitude_of a + magnitude_of b) 1 r ep et (ap (λ z. z + y) ex ∙ ap (λ z. magnitude_of a + z) ey) h)
+
+-- ---- Sums of numbers of opposite signs, over 1
+
+different_signs : (p q : Bool) → (p ≡ q → ⊥) → not (beq p q) ≡ true
+different_signs true true d = absurd (d refl)
+different_signs true false d = refl
+different_signs false true d = refl
+different_signs false false d = absurd (d refl)
+
+pub smaller_whole : (side : End) (a b : Extended) (t : Toward) (x y : ℕ) (p : Bool) (r : Option Magnitude) → is_infinite_of a ≡ false → is_infinite_of b ≡ false → (is_negative_of a ≡ is_negative_of b → ⊥) → p ≡ is_negative_of a → x ≡ magnitude_of a → y ≡ magnitude_of b → x < y → t ≡ toward_of side (not p) → IsSized t (y - x) 1 r → signed_of (not p) r ≡ rounded side (whole_of a +ℤ whole_of b) 1
+smaller_whole side a b t x y p r f g d ep ex ey l et h =
+    let one : 0 < 1 = omega arith in
+    let l' : magnitude_of a < magnitude_of b = omega (arith, l, ex, ey) in
+    ap (λ z. signed_of (not z) r) ep
+    ∙ signed_to side (not (is_negative_of a)) (magnitude_of b - magnitude_of a) 1 r _ (sum_smaller a b f g (different_signs _ _ d) l') one
+    (restated side (not p) (not (is_negative_of a)) t (y - x) (magnitude_of b - magnitude_of a) 1 r (ap not ep) et (ap (λ z. z - x) ey ∙ ap (λ z. magnitude_of b - z) ex) h)
+
+pub larger_whole : (side : End) (a b : Extended) (t : Toward) (x y : ℕ) (p : Bool) (r : Option Magnitude) → is_infinite_of a ≡ false → is_infinite_of b ≡ false → (is_negative_of a ≡ is_negative_of b → ⊥) → p ≡ is_negative_of a → x ≡ magnitude_of a → y ≡ magnitude_of b → y ≤ x → t ≡ toward_of side p → IsSized t (x - y) 1 r → signed_of p r ≡ rounded side (whole_of a +ℤ whole_of b) 1
+larger_whole side a b t x y p r f g d ep ex ey l et h =
+    let one : 0 < 1 = omega arith in
+    let l' : magnitude_of b ≤ magnitude_of a = omega (arith, l, ex, ey) in
+    ap (λ z. signed_of z r) ep
+    ∙ signed_to side (is_negative_of a) (magnitude_of a - magnitude_of b) 1 r _ (sum_larger a b f g (different_signs _ _ d) l') one
+    (restated side p (is_negative_of a) t (x - y) (magnitude_of a - magnitude_of b) 1 r ep et (ap (λ z. z - y) ex ∙ ap (λ z. magnitude_of a - z) ey) h)
+
+-- The same where the order of the sizes is a value.
+pub unlike_whole : (side : End) (a b : Extended) (t : Toward) (x y : ℕ) (p s : Bool) (r : Option Magnitude) → is_infinite_of a ≡ false → is_infinite_of b ≡ false → (is_negative_of a ≡ is_negative_of b → ⊥) → p ≡ is_negative_of a → x ≡ magnitude_of a → y ≡ magnitude_of b → (IsTrue s ↔ (x < y)) → t ≡ toward_of side (not (beq p s)) → IsSized t ((x - y) + (y - x)) 1 r → signed_of (not (beq p s)) r ≡ rounded side (whole_of a +ℤ whole_of b) 1
+unlike_whole side a b t x y p true r f g d ep ex ey o et h =
+    let l : x < y = o.0 refl in
+    let v : (x - y) + (y - x) ≡ y - x = omega (arith, l) in
+    ap (λ z. signed_of z r) (other p) ∙ smaller_whole side a b t x y p r f g d ep ex ey l (et ∙ ap (λ z. toward_of side z) (other p)) (subst (λ z. IsSized t z 1 r) v h)
+  where
+    other : (p : Bool) → not (beq p true) ≡ not p
+    other true = refl
+    other false = refl
+unlike_whole side a b t x y p false r f g d ep ex ey o et h =
+    let l : y ≤ x = not_smaller x y o.1 in
+    let v : (x - y) + (y - x) ≡ x - y = omega (arith, l) in
+    ap (λ z. signed_of z r) (own p) ∙ larger_whole side a b t x y p r f g d ep ex ey l (et ∙ ap (λ z. toward_of side z) (own p)) (subst (λ z. IsSized t z 1 r) v h)
+  where
+    own : (p : Bool) → not (beq p false) ≡ p
+    own true = refl
+    own false = refl

@@ -31,7 +31,7 @@ near_sum m e n f d at h k q =
     ∙ sym (shifted_twice (m * 2 ^ d + n) f at)
     ∙ ap (λ x. x * 2 ^ at) (add-mul (m * 2 ^ d) n (2 ^ f) ∙ ap (λ x. x + n * 2 ^ f) (shifted_to m d f e q))
 
-sub-mul : (a b c : ℕ) → (a - b) * c ≡ a * c - b * c
+pub sub-mul : (a b c : ℕ) → (a - b) * c ≡ a * c - b * c
 sub-mul a b c = mul_comm (a - b) c ∙ mul-sub c a b ∙ ap (λ x. x - c * b) (mul_comm c a) ∙ ap (λ x. a * c - x) (mul_comm c b)
 
 pub near_difference : (m e n f d at : ℕ) → m < 2 ^ 62 → d ≤ 64 → d + f ≡ e → ((m * 2 ^ d) % 2 ^ 128 - n) * 2 ^ (f + at) ≡ (m * 2 ^ e - n * 2 ^ f) * 2 ^ at

@@ -8,7 +8,7 @@ use crate::num::{End, Num, signed, toward};
 use crate::round::{beyond, next};
 
 // The sum of finite numbers of one sign.
-#[inline]
+#[inline(always)]
 pub(crate) fn alike_sum(a: Num, b: Num, side: End) -> Num
     requires a_finite { is_infinite_of a ≡ false }
     requires b_finite { is_infinite_of b ≡ false }
@@ -21,7 +21,7 @@ pub(crate) fn alike_sum(a: Num, b: Num, side: End) -> Num
     signed(negative, size)
 }
 
-#[inline]
+#[inline(always)]
 fn size_sum(x: Magnitude, y: Magnitude, toward: Toward) -> Option<Magnitude>
     ensures { IsSized toward (size_of x + size_of y) 1 result }
 {
@@ -32,7 +32,7 @@ fn size_sum(x: Magnitude, y: Magnitude, toward: Toward) -> Option<Magnitude>
     }
 }
 
-#[inline]
+#[inline(always)]
 fn ordered_sum(x: Magnitude, y: Magnitude, toward: Toward) -> Option<Magnitude>
     requires ordered { y.exponent ≤ x.exponent }
     ensures { IsSized toward (size_of x + size_of y) 1 result }
@@ -51,7 +51,7 @@ fn ordered_sum(x: Magnitude, y: Magnitude, toward: Toward) -> Option<Magnitude>
 
 // The whole part of `mantissa / 2^distance`, and whether nothing is left.
 #[inline]
-fn shifted(mantissa: u64, distance: u16) -> (u64, bool)
+pub(crate) fn shifted(mantissa: u64, distance: u16) -> (u64, bool)
     requires { mantissa < 2 ^ 62 }
     ensures fits { result.0 < 2 ^ 62 }
     ensures below { result.0 * 2 ^ distance ≤ mantissa }
@@ -67,7 +67,7 @@ fn shifted(mantissa: u64, distance: u16) -> (u64, bool)
 
 // Half of a sum, and whether nothing is left of it nor was before.
 #[inline]
-fn halved(sum: u64, exact: bool) -> (u64, bool)
+pub(crate) fn halved(sum: u64, exact: bool) -> (u64, bool)
     ensures below { result.0 * 2 ≤ sum }
     ensures above { sum < (result.0 + 1) * 2 }
     ensures exact { IsTrue result.1 ↔ (IsTrue exact × (result.0 * 2 ≡ sum)) }

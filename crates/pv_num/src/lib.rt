@@ -12,10 +12,12 @@ mod product;
 mod quotient;
 mod root;
 mod round;
+mod square;
 mod sum;
 #[cfg(test)]
 mod tests;
 mod text;
+mod unlike;
 
 pub use convert::Parts;
 pub use memory::Memory;

@@ -151,7 +151,10 @@ impl Num {
     pub(crate) fn is_zero(self) -> bool
         ensures { IsTrue result ↔ (self ≡ Fin (pos 0)) }
     {
-        self == Num::ZERO
+        match self.class {
+            Class::NonNegative => self.mantissa == 0,
+            _ => false,
+        }
     }
 
     #[inline]

@@ -13,6 +13,7 @@ impl PartialEq for Num {
 
     ghost laws = { equality };
 
+    #[inline]
     fn eq(&self, other: &Num) -> bool
         ensures same { IsTrue result ↔ (self.now ≡ other.now) }
         ensures value { result ≡ eq_by_cmp order_of self.now other.now }
@@ -30,6 +31,7 @@ impl PartialOrd for Num {
 
     ghost laws = { po order_of-total (λ _ _. refl) };
 
+    #[inline]
     fn partial_cmp(&self, other: &Num) -> Option<Ordering> {
         Some(self.cmp(other))
     }
@@ -44,6 +46,7 @@ impl Ord for Num {
 
     ghost matches_eq = { λ _ _. refl };
 
+    #[inline]
     fn cmp(&self, other: &Num) -> Ordering {
         match self.class {
             Class::MinusOo => match other.class {

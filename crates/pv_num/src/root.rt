@@ -7,6 +7,7 @@ ghost use Rattle.pv_num.specs.Roots.{size_at, is_reached};
 ghost use Rattle.pv_num.specs.declared.num.End.TheVariants.{Down, Up};
 
 use crate::num::{Class, End, Num};
+use crate::square::whole_root;
 
 // The sizes have indexes without gaps: 0 has the index 0, and the largest size this one.
 const TOP_INDEX: u128 = 962 * 0x2000_0000_0000_0000 + 0x3fff_ffff_ffff_ffff;
@@ -137,7 +138,7 @@ fn square_root(z: Num) -> u128 {
     let shift = shift - odd;
     let wide = (z.mantissa as u128) << shift.min(63);
     let exponent = (z.exponent + 512 + 128 - shift) / 2;
-    let root = wide.isqrt();
+    let root = whole_root(wide) as u128;
     (exponent.saturating_sub(64) as u128) * 0x2000_0000_0000_0000 + root + 1
 }
 

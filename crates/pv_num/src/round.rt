@@ -60,7 +60,8 @@ fn aligned(parts: u128, at: u16, cut: u16) -> (u64, bool)
 }
 
 // The rounding of a size above the largest.
-#[inline]
+#[cold]
+#[inline(never)]
 pub(crate) fn beyond(toward: Toward) -> Option<Magnitude>
     ensures largest { toward ≡ Toward.Zero → IsSizeOf result top_size }
     ensures none { toward ≡ Toward.Away → result ≡ None }
@@ -81,12 +82,15 @@ pub(crate) fn next(mantissa: u64, exponent: u16, exact: bool, toward: Toward) ->
     ensures kept_zero { toward ≡ Toward.Zero → IsSizeOf result (mantissa * 2 ^ exponent) }
     ensures raised { exact ≡ false → toward ≡ Toward.Away → IsSizeAbove result mantissa exponent }
 {
-    if exact {
-        return Some(Magnitude { mantissa, exponent });
-    }
     match toward {
         Toward::Zero => Some(Magnitude { mantissa, exponent }),
-        Toward::Away => raised(mantissa, exponent),
+        Toward::Away => {
+            if exact {
+                Some(Magnitude { mantissa, exponent })
+            } else {
+                raised(mantissa, exponent)
+            }
+        }
     }
 }
 
@@ -104,6 +108,17 @@ fn raised(mantissa: u64, exponent: u16) -> Option<Magnitude>
             exponent,
         });
     }
+    carried(mantissa, exponent)
+}
+
+// The next size where the mantissa has no bit left that is 0.
+#[cold]
+#[inline(never)]
+fn carried(mantissa: u64, exponent: u16) -> Option<Magnitude>
+    requires mantissa_full { mantissa + 1 ≡ 2 ^ 62 }
+    requires exponent_fits { exponent ≤ 962 }
+    ensures { IsSizeAbove result mantissa exponent }
+{
     if exponent == TOP_EXPONENT {
         return None;
     }

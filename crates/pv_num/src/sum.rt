@@ -10,13 +10,14 @@ use crate::alike::alike_sum;
 use crate::magnitude::{FINE_BITS, Magnitude, Toward};
 use crate::num::{Class, End, Num, signed, toward};
 use crate::round::round;
+use crate::unlike::unlike_sum;
 
 // Beyond this distance of exponents the smaller size only decides whether a sum is exact.
 const FAR: u16 = 64;
 
 impl Num {
     /// The sum, rounded to a side. Opposite infinite ends give the infinite end of that side.
-    #[inline]
+    #[inline(always)]
     pub fn add(self, other: Num, side: End) -> Num
         ensures { result ≡ add_of side self other }
     {
@@ -29,11 +30,11 @@ impl Num {
         if self.is_negative() == other.is_negative() {
             return alike_sum(self, other, side);
         }
-        finite_sum(self, other, FINE_BITS, side)
+        unlike_sum(self, other, side)
     }
 
     /// The difference, rounded to a side.
-    #[inline]
+    #[inline(always)]
     pub fn sub(self, other: Num, side: End) -> Num
         ensures { result ≡ sub_of side self other }
     {
@@ -68,6 +69,7 @@ fn strictly_between(lo: Num, cut: Num, hi: Num) -> Option<Num>
     }
 }
 
+#[inline(always)]
 fn infinite_sum(a: Num, b: Num, side: End) -> Num
     requires { (is_infinite_of a ≡ true) ⊎ (is_infinite_of b ≡ true) }
     ensures { result ≡ add_of side a b }
@@ -172,7 +174,7 @@ fn ordered_total(x: Magnitude, y: Magnitude, at: u16, toward: Toward) -> Option<
 }
 
 #[inline]
-fn difference(x: Magnitude, y: Magnitude, at: u16, toward: Toward) -> Option<Magnitude>
+pub(crate) fn difference(x: Magnitude, y: Magnitude, at: u16, toward: Toward) -> Option<Magnitude>
     requires at_high { 1023 ≤ at }
     requires at_fits { at ≤ 1024 }
     requires ordered { size_of y ≤ size_of x }
