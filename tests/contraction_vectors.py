@@ -1,6 +1,7 @@
 #!/usr/bin/env python3
 """Cases of contractor programs, on boxes of two variables, worked out by the plain paver of tests/reference, which
-computes on whole numbers, knows no marks and shares nothing with the program.
+computes on whole numbers, knows no marks and shares nothing with the program. It finds which constraints are clean
+anew from the whole history of revisions.
 
 Writes crates/pv_programs/src/table.rt. A number is written as a mantissa and an exponent; the exponent 999 stands for
 an infinite end.
@@ -50,6 +51,17 @@ GROUPS = {
         (*THREE, "prop(1)"), (*RINGS, "fix(4,union(hc4(0),hc4(1)))"), (*RINGS, "fix(4,compose(hc4(0),hc4(1)))"),
         ("[0,4]", "[0,4]", "x <= 1; y <= 4", "prop(8)"), ("[0.1,3]", "[0.1,3]", "x * y = 1; x + y <= 2.5; x >= y", "prop(20)"),
     ],
+    # in which constraints are clean for a while, in a composition twice over, and up to an empty one
+    "CLEAN": [
+        ("[0,4]", "[0,4]", "x <= 1; y <= 4", "fix(3,prop(8))"), ("[0,4]", "[0,4]", "y <= 4; x <= 1", "prop(8)"),
+        ("[0,4]", "[0,4]", "x <= 1; y <= 2", "prop(8)"), ("[0,4]", "[0,4]", "x <= y; y <= 1; x <= 3", "prop(8)"),
+        ("[0,16]", "[0,16]", "y <= x / 2; x <= y; x <= 20; y <= 20", "prop(4)"),
+        ("[0,16]", "[0,16]", "y <= x / 2; x <= y; x <= 20; y <= 20", "compose(prop(2),prop(2))"),
+        ("[0,4]", "[0,4]", "x <= 1; y <= 4; x >= 2; y >= 0", "prop(8)"), (*THREE, "union(prop(2),hc4(0),hc4(2))"),
+        (*THREE, "qinter(2,compose(hc4(0),hc4(2),hc4(1)),prop(3),hc4(1))"), (*LINES, "union(prop(3),fix(5,hc4(0)))"),
+        ("[0.1,3]", "[0.1,3]", "x * y = 1; y <= 2.5; x >= 0.2; x + y <= 3", "prop(12)"),
+        (*SPLIT, "fix(3,compose(hc4(2),union(hc4(0),hc4(1)),prop(2)))"),
+    ],
 }
 
 
@@ -59,7 +71,8 @@ def row(x, y, constraints, program):
     left = settler.contract(settler.program, settler.root)
     answer = "Nothing" if left is None else f"Places({ends(left[0])}, {ends(left[1])})"
     sure = "true" if settler.sure(settler.program, settler.root) else "false"
-    return f'    ("{system}", "{program}", {answer}, {sure}),'
+    count = settler.revisions(settler.program, settler.root)
+    return f'    ("{system}", "{program}", {answer}, {sure}, {count}),'
 
 
 HEADING = (

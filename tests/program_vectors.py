@@ -99,6 +99,8 @@ GOOD = [
     (1, "qinter(3,hc4(0),qinter(1,prop(2)),fix(1,hc4(0)),union(hc4(0)))"),
     (1, "fix(1," * 255 + "hc4(0)" + ")" * 255),
     (1, "qinter(255," + ",".join(["hc4(0)"] * 255) + ")"),
+    (4294967295, "hc4(4294967294)"), (0, "prop(64)"), (0, "fix(1,prop(1))"),
+    (4294967295, "qinter(255," + ",".join(["hc4(4294967294)"] * 255) + ")"),
 ]
 BAD = [
     (1, ""), (1, "hc4"), (1, "hc4("), (1, "hc4(0"), (1, "hc4(0)x"), (1, "hc4(0))"), (1, "hc4(0),"),
@@ -117,10 +119,23 @@ BAD = [
     (1, "qinter(256," + ",".join(["hc4(0)"] * 256) + ")"),
     (1, "hc4(0)" + " " * 4090), (1, "x" * 4097), (1, "9" * 4096), (1, "h" * 4096),
 ]
+# A table of its own, since the proof of a test computes with its whole table.
+MORE_BAD = [
+    (0, "hc4(0)"), (0, "hc4("), (0, "hc4()"), (4294967295, "hc4(4294967295)"), (4294967295, "hc4(4294967296)"),
+    (11, "hc4(11)"), (11, "hc4(010)"), (1, "prop(1)prop(1)"), (1, "prop(1"), (1, "prop(1,1)"), (1, "prop(00)"),
+    (1, "fix(2,hc4(0))hc4(0)"), (1, "fix(2,)"), (1, "fix(02,hc4(0))"), (1, "fix(64hc4(0))"), (1, "fix(64,hc4(0),)"),
+    (1, "qinter()"), (1, "qinter(hc4(0))"), (1, "qinter(01,hc4(0))"), (1, "qinter(256,hc4(0))"),
+    (1, "qinter(2,hc4(0),"), (1, "qinter(2,hc4(0)hc4(0))"), (1, "qinter(1,hc4(0),fix(1,hc4(1)))"),
+    (1, "compose(hc4(0),compose())"), (1, "compose(,hc4(0))"), (1, "union(union(union(hc4(0)))"),
+    (1, "union(hc4(0)))"), (1, "union (hc4(0))"), (1, "union(hc4(0)\n)"), (1, "unions(hc4(0))"),
+    (1, "union2(hc4(0))"), (1, "2union(hc4(0))"), (1, "union(hc4(0),0)"), (1, "union(hc4(0),hc4)"),
+    (1, "fix(1," * 255 + "hc4(0)" + ")" * 254), (1, "fix(1," * 255 + "hc4(1)" + ")" * 255),
+    (1, "qinter(255," + ",".join(["hc4(0)"] * 254) + ")"), (1, "hc4(0)" + " " * 4091),
+]
 
 
 def literal(text):
-    return '"' + text.replace("\u007f", "\\x7f") + '"'
+    return '"' + text.replace("\u007f", "\\x7f").replace("\n", "\\n") + '"'
 
 
 def main():
@@ -129,11 +144,12 @@ def main():
     for count, text in GOOD:
         assert refused_at(text, count) is None, text
         out.append(f"    ({count}, {literal(text)}),")
-    out += ["];", "", "pub const REFUSED: &[(u32, &str, u32)] = &["]
-    for count, text in BAD:
-        byte = refused_at(text, count)
-        assert byte is not None, text
-        out.append(f"    ({count}, {literal(text)}, {byte}),")
+    for name, texts in (("REFUSED", BAD), ("MORE_REFUSED", MORE_BAD)):
+        out += ["];", "", f"pub const {name}: &[(u32, &str, u32)] = &["]
+        for count, text in texts:
+            byte = refused_at(text, count)
+            assert byte is not None, text
+            out.append(f"    ({count}, {literal(text)}, {byte}),")
     out += ["];", ""]
     sys.stdout.write("\n".join(out))
 

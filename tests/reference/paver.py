@@ -84,6 +84,11 @@ class Constraint:
             result[i] = kept(iv.meet(result[i], z))
         return result
 
+    def variables(self):
+        def found(e):
+            return {e[1]} if e[0] == "var" else set().union(*(found(part) for part in e[1:] if isinstance(part, tuple)))
+        return found(self.left) | found(self.right)
+
     def sure(self, box):
         try:
             (left, total_left), (right, total_right) = self.forward(self.left, box), self.forward(self.right, box)
@@ -169,6 +174,50 @@ class Settler:
             if box is None or box == before:
                 break
         return box
+
+    def revisions(self, program, box):
+        """How many revisions the contraction of the box needs."""
+        kind = program[0]
+        if kind == "hc4":
+            return 1
+        if kind in ("union", "qinter"):
+            return sum(self.revisions(p, box) for p in program[-1])
+        if kind == "prop":
+            return self.revisions_of_unclean(program[1], box)
+        count = 0
+        for _ in range(program[1] if kind == "fix" else 1):
+            before = box
+            for part in program[-1]:
+                count += self.revisions(part, box)
+                box = self.contract(part, box)
+                if box is None:
+                    return count
+            if box == before:
+                break
+        return count
+
+    def revisions_of_unclean(self, most, box):
+        """The pairs of a turn and a constraint that is not clean when its place comes, up to and with the first empty one."""
+        history = []
+        for _ in range(most):
+            before = box
+            for i in range(len(self.constraints)):
+                if self.is_clean(i, history):
+                    continue
+                left = self.contract(("hc4", i), box)
+                history.append((i, box, left))
+                if left is None:
+                    return len(history)
+                box = left
+            if box == before:
+                break
+        return len(history)
+
+    def is_clean(self, i, history):
+        """Whether constraint i once kept the box, and no place of one of its variables changed from then on."""
+        places = self.constraints[i].variables()
+        return any(number == i and old == new and all(b[k] == c[k] for _, b, c in history[at:] for k in places)
+                   for at, (number, old, new) in enumerate(history))
 
     def sure(self, program, box):
         kind = program[0]

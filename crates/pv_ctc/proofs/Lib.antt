@@ -13,3 +13,17 @@ pub mod Props
 pub mod Locality
 pub mod Spelling
 pub mod Pieces
+pub mod Lexing
+pub mod Dues
+pub mod Spelled
+pub mod Derived
+pub mod Running
+pub mod Closings
+pub mod Narrowing
+pub mod Sameness
+pub mod Cleaning
+pub mod Tallies
+pub mod Passing
+pub mod Summing
+pub mod OneSpelling
+pub mod Skipping

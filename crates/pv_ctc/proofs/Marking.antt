@@ -12,7 +12,7 @@ use Rattle.pv_hc4.specs.Revise.{Sides, revised}
 use Rattle.pv_ctc.specs.Contracting.{side_at}
 use Rattle.pv_ctc.specs.Marks.{AreClean}
 
-unmarked : (n k : ℕ) → get_or (replicate n false) k false ≡ false
+pub unmarked : (n k : ℕ) → get_or (replicate n false) k false ≡ false
 unmarked zero k = refl
 unmarked (suc n) zero = refl
 unmarked (suc n) (suc k) = unmarked n k
@@ -46,12 +46,12 @@ uses_length [] (s ∷ ss) h = absurd h
 uses_length (v ∷ us) [] h = absurd h
 uses_length (v ∷ us) (s ∷ ss) h = ap suc (uses_length us ss h.1)
 
-beyond : (b : List Bounds) (i : ℕ) → length b ≤ i → at b i ≡ everything
+pub beyond : (b : List Bounds) (i : ℕ) → length b ≤ i → at b i ≡ everything
 beyond [] i h = refl
 beyond (x ∷ b) zero h = absurd (omega arith)
 beyond (x ∷ b) (suc i) h = beyond b i (omega arith)
 
-at_take : (b : List Bounds) (n i : ℕ) → i < n → at (take n b) i ≡ at b i
+pub at_take : (b : List Bounds) (n i : ℕ) → i < n → at (take n b) i ≡ at b i
 at_take b zero i h = absurd (omega arith)
 at_take [] (suc n) i h = refl
 at_take (x ∷ b) (suc n) zero h = refl
@@ -65,7 +65,7 @@ same_place s u entry b d w l m t a i k (inr h) = beyond b i (omega arith) ∙ sy
 pub mark_stays : (s : Sides) (u : List Bool) (entry b d : List Bounds) → AreUses u s → length d ≤ 12 → length b ≡ length d → take (length d) entry ≡ b → AreAlikeFor u entry d → revised s b ≡ Some b → revised s d ≡ Some d
 mark_stays s u entry b d w l m t a e = stays s b d m (λ i k. same_place s u entry b d w l m t a i k (cases_lt i (length d))) e
 
-unset : (ms : List Bool) (i : ℕ) → get_or (set ms i false) i false ≡ false
+pub unset : (ms : List Bool) (i : ℕ) → get_or (set ms i false) i false ≡ false
 unset [] i = refl
 unset (m ∷ ms) zero = refl
 unset (m ∷ ms) (suc i) = unset ms i

@@ -14,7 +14,7 @@ use Rattle.pv_ctc.specs.declared.token.Word.TheVariants as word
 use Rattle.pv_ctc.proofs.Rows.{row_plans}
 use Rattle.pv_ctc.specs.Words.{StandsBefore, Spells, word_text}
 
-drop_again : (a n : ℕ) (xs : List ℕ) → drop n (drop a xs) ≡ drop (a + n) xs
+pub drop_again : (a n : ℕ) (xs : List ℕ) → drop n (drop a xs) ≡ drop (a + n) xs
 drop_again zero n xs = let e : n ≡ 0 + n = omega arith in ap (λ m. drop m xs) e
 drop_again (suc a) n [] = drop-nil n ∙ sym (drop-nil (suc a + n))
 drop_again (suc a) n (x ∷ xs) = let e : suc (a + n) ≡ suc a + n = omega arith in drop_again a n xs ∙ ap (λ m. drop m (x ∷ xs)) e
@@ -28,9 +28,9 @@ pub stands : (t : Token) (piece before after : List ℕ) → before ≡ piece ++
 stands (token.Word w) piece before after e s = e ∙ ap (λ x. x ++ after) s
 stands (token.Number n) piece before after e s = e ∙ ap (λ x. x ++ after) s
 stands token.TooBig piece before after e s = tt
-stands token.Open piece before after e s = absurd s
-stands token.Close piece before after e s = absurd s
-stands token.Comma piece before after e s = absurd s
+stands token.Open piece before after e s = e ∙ ap (λ x. x ++ after) s
+stands token.Close piece before after e s = e ∙ ap (λ x. x ++ after) s
+stands token.Comma piece before after e s = e ∙ ap (λ x. x ++ after) s
 stands token.Bad piece before after e s = tt
 stands token.End piece before after e s = absurd s
 

@@ -1,10 +1,10 @@
 -- The programs of a list, as they stand in a program and as a list.
-use Rattle.std.proofs.Common.{◌≡◌, ℕ, zero, suc, ◌<◌, ◌≤◌, get_or, List, [], ◌∷◌, ◌++◌, length, refl, ap, sym, ◌∙◌, arith, subst}
+use Rattle.std.proofs.Common.{◌≡◌, ℕ, zero, suc, ◌+◌, ◌<◌, ◌≤◌, get_or, List, [], ◌∷◌, ◌++◌, length, refl, ap, sym, ◌∙◌, arith, subst}
 use Rattle.pv_ctc.specs.declared.program.Program.{Program, Row_of-Program, end_of-Program, more_of-Program, items-the_row-Program, items_hidden-the_row-Program-0}
 use Rattle.std.proofs.Common.{Vec, Global}
 use Rattle.pv_ctc.specs.declared.program.Program.{Compose, Union, QInter}
 use Rattle.pv_ctc.specs.declared.program.Program.TheBlock.{hidden-the_row-Program-0}
-use Rattle.pv_ctc.specs.Plans.{plan_and, plan_of, plans_in, plans_of, plan_count, AreFor, IsFor}
+use Rattle.pv_ctc.specs.Plans.{plan_and, plan_of, plans_in, plans_of, plan_count, AreFor, IsFor, node_count, nodes_in}
 
 pub row_plans : {m : _} → (k : Row_of-Program m) → plans_in k ≡ plans_of (items-the_row-Program m k)
 row_plans end_of-Program = refl
@@ -46,3 +46,10 @@ pub qinter_parts : (count q : ℕ) (p : Program) (v : Vec Program Global) (xs : 
 qinter_parts count q p v xs e f h =
     let g = subst (λ q. IsFor count (plan_of q)) e h in
     (g.0, subst (λ x. AreFor count (plans_of x)) (sym f) (row_back count _ (hidden-the_row-Program-0 v) v.items (items_hidden-the_row-Program-0 v) g.2))
+
+pub nodes_more : (ps : List Program) (p : Program) → nodes_in (plans_of (ps ++ p ∷ [])) ≡ nodes_in (plans_of ps) + node_count (plan_of p)
+nodes_more [] p = omega arith
+nodes_more (q ∷ ps) p = let e = nodes_more ps p in omega arith
+
+pub row_nodes : {m : _} (k : Row_of-Program m) (ps : List Program) → items-the_row-Program m k ≡ ps → (before after : ℕ) → after ≡ before + nodes_in (plans_of ps) → after + 1 ≡ before + (nodes_in (plans_in k) + 1)
+row_nodes k ps e before after h = let same : nodes_in (plans_in k) ≡ nodes_in (plans_of ps) = ap nodes_in (row_plans k ∙ ap plans_of e) in omega arith

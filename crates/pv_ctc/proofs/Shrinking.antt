@@ -32,7 +32,7 @@ q_came : {A B : Type 0} (o : Option A) (f : A → Option B) (y : B) → q.chain 
 q_came None f y e = absurd (cc)
 q_came (Some x) f y e = record { from = x; first = refl; then_is = e }
 
-some_is : {A : Type 0} (x y : A) → Some x ≡ Some y → x ≡ y
+pub some_is : {A : Type 0} (x y : A) → Some x ≡ Some y → x ≡ y
 some_is x y e = cc
 
 pub within_refl : (b : List Bounds) → AreWithin b b
@@ -54,10 +54,10 @@ within_length (x ∷ c) [] h = absurd h
 within_length (x ∷ c) (y ∷ b) h = ap suc (within_length c b h.2)
 
 -- an interval lies in another
-abbrev LiesWithin : Bounds → Bounds → Type 0
+abbrev pub LiesWithin : Bounds → Bounds → Type 0
 LiesWithin x y = IsTrue (le y.lo x.lo) × IsTrue (le x.hi y.hi)
 
-within_at : (c b : List Bounds) (k : ℕ) → AreWithin c b → k < length b → LiesWithin (get_or c k everything) (get_or b k everything)
+pub within_at : (c b : List Bounds) (k : ℕ) → AreWithin c b → k < length b → LiesWithin (get_or c k everything) (get_or b k everything)
 within_at [] [] k h l = absurd (omega arith)
 within_at [] (y ∷ b) k h l = absurd h
 within_at (x ∷ c) [] k h l = absurd h
@@ -108,7 +108,7 @@ pub results_parts : (fs : List Effect) → AllShrink fs → (b : List Bounds) �
 results_parts [] h b i = tt
 results_parts (f ∷ fs) h b i = with_part (f b) (results fs b) b (λ c e. h.0 b c i e) (results_parts fs h.1 b i)
 
-hull_within : (c d b : List Bounds) → AreWithin c b → AreWithin d b → AreWithin (hull_boxes c d) b
+pub hull_within : (c d b : List Bounds) → AreWithin c b → AreWithin d b → AreWithin (hull_boxes c d) b
 unfolding hull_of
 hull_within [] d b h k = h
 hull_within (x ∷ c) [] b h k = h
@@ -138,7 +138,7 @@ hull_all_part [] b c h e = absurd (cc)
 hull_all_part (d ∷ cs) b c h e = subst (λ x. IsPart x b) (some_is (hull_with d cs) c e) (hull_with_part d cs b h.0 h.1)
 
 -- each interval of a list lies in y
-abbrev AllWithin : List Bounds → Bounds → Type 0
+abbrev pub AllWithin : List Bounds → Bounds → Type 0
 AllWithin [] y = Unit {0}
 AllWithin (x ∷ xs) y = LiesWithin x y × AllWithin xs y
 
@@ -169,7 +169,7 @@ record Formed (l h : Extended) (z : Bounds) : Type 0 where
   pub interval : IsInterval z
 
 -- an interval in y
-record IsPlace (z y : Bounds) : Type 0 where
+pub record IsPlace (z y : Bounds) : Type 0 where
   pub within : LiesWithin z y
   pub interval : IsInterval z
 
@@ -209,13 +209,13 @@ place_within n xs y z h e =
     record { within = subst (λ x. LiesWithin x y) f.is g; interval = f.interval }
 
 -- places that lie in those of a list, and are intervals
-abbrev ArePlaces : List Bounds → List Bounds → Type 0
+abbrev pub ArePlaces : List Bounds → List Bounds → Type 0
 ArePlaces [] [] = Unit {0}
 ArePlaces [] (y ∷ ys) = ⊥
 ArePlaces (x ∷ xs) [] = ⊥
 ArePlaces (x ∷ xs) (y ∷ ys) = IsPlace x y × ArePlaces xs ys
 
-places_within : (n k : ℕ) (cs : List (List Bounds)) (b c : List Bounds) → ((j : ℕ) → j < length b → AllWithin (q.column (k + j) cs) (get_or b j everything)) → q.places_from n k (length b) cs ≡ Some c → ArePlaces c b
+pub places_within : (n k : ℕ) (cs : List (List Bounds)) (b c : List Bounds) → ((j : ℕ) → j < length b → AllWithin (q.column (k + j) cs) (get_or b j everything)) → q.places_from n k (length b) cs ≡ Some c → ArePlaces c b
 places_within n k cs [] c h e = subst (λ x. ArePlaces x []) (some_is [] c e) tt
 places_within n k cs (y ∷ b) c h e =
     let v = q_came (q.place_hull_of n (q.column k cs)) (λ x. q.chain (q.places_from n (k + 1) (length b) cs) (λ xs. Some (x ∷ xs))) c e in
@@ -225,7 +225,7 @@ places_within n k cs (y ∷ b) c h e =
     let there = places_within n (k + 1) cs b w.from (λ j l. let m : k + suc j ≡ (k + 1) + j = omega arith in subst (λ i. AllWithin (q.column i cs) (get_or b j everything)) m (h (suc j) (omega arith))) w.first in
     subst (λ x. ArePlaces x (y ∷ b)) (some_is (v.from ∷ w.from) c w.then_is) (here, there)
 
-places_lie : (c b : List Bounds) → ArePlaces c b → AreWithin c b
+pub places_lie : (c b : List Bounds) → ArePlaces c b → AreWithin c b
 places_lie [] [] h = tt
 places_lie [] (y ∷ b) h = absurd h
 places_lie (x ∷ c) [] h = absurd h

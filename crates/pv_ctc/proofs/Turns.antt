@@ -1,5 +1,5 @@
 -- Contractors in order and in turns.
-use Rattle.std.proofs.Common.{◌≡◌, ◌⊎◌, inl, inr, ℕ, zero, suc, ◌+◌, ◌-◌, ◌<◌, ◌≤◌, List, [], ◌∷◌, ◌++◌, length, refl, ap, sym, ◌∙◌, subst, arith, get_or, drop, add-one, append_assoc}
+use Rattle.std.proofs.Common.{◌≡◌, ◌≢◌, ◌⊎◌, inl, inr, ℕ, zero, suc, ◌+◌, ◌-◌, ◌<◌, ◌≤◌, List, [], ◌∷◌, ◌++◌, length, refl, ap, sym, ◌∙◌, subst, arith, get_or, drop, add-one, append_assoc}
 use Rattle.std.proofs.Math.Seq.{drop-cons}
 use Rattle.std.proofs.lemmas.List.{get_or-map}
 use Rattle.std.specs.Prelude.{Option, Some, None, map}
@@ -29,7 +29,11 @@ step_empty (Some b) old new h = absurd h
 
 pub step_changed : (o : Option (List Bounds)) (old new : List Bounds) → IsStep o Changed old new → o ≡ Some new
 step_changed None old new h = absurd h
-step_changed (Some b) old new h = ap Some (sym h)
+step_changed (Some b) old new h = ap Some (sym h.0)
+
+pub step_other : (o : Option (List Bounds)) (old new : List Bounds) → IsStep o Changed old new → new ≢ old
+step_other None old new h = absurd h
+step_other (Some b) old new h = λ e. h.1 (sym h.0 ∙ e)
 
 pub step_kept : (o : Option (List Bounds)) (old new : List Bounds) → IsStep o Kept old new → (o ≡ Some old) × (new ≡ old)
 step_kept None old new h = absurd h
@@ -40,7 +44,7 @@ step_of_empty o old new e = subst (λ p. IsStep p Empty old new) (sym e) tt
 
 step_of_some : (r : Revised) (old new : List Bounds) → IsSoFar r old new → IsStep (Some new) r old new
 step_of_some Kept old new h = (h, h)
-step_of_some Changed old new h = refl
+step_of_some Changed old new h = (refl, h)
 step_of_some Empty old new h = absurd h
 
 pub step_of_so_far : (o : Option (List Bounds)) (r : Revised) (old new : List Bounds) → IsSoFar r old new → o ≡ Some new → IsStep o r old new
@@ -102,3 +106,14 @@ found_none found more rest later all o e n h g =
 pub found_some : (found more rest later all : List (List Bounds)) (o : Option (List Bounds)) (c : List Bounds) → more ≡ found ++ c ∷ [] → o ≡ Some c → rest ≡ with_result o later → found ++ rest ≡ all → more ++ later ≡ all
 found_some found more rest later all o c e n h g =
     ap (λ f. f ++ later) e ∙ append_assoc found (c ∷ []) later ∙ ap (λ r. found ++ r) (sym (h ∙ ap (λ p. with_result p later) n)) ∙ g
+
+-- a turn that left nothing ends the turns
+pub turns_none : (n m k : ℕ) (f : Effect) (start b new : List Bounds) (r : Revised) → m ≡ suc k → r ≡ Empty → IsStep (f b) r b new → turns_of m f b ≡ turns_of n f start → IsStep (turns_of n f start) Empty start new
+turns_none n m k f start b new r h e s g =
+    step_of_empty (turns_of n f start) start new
+    (sym g ∙ one_turn m k f b h ∙ chain_none (f b) (turns_of k f) (step_empty (f b) b new (subst (λ x. IsStep (f b) x b new) e s)))
+
+-- what is left by the parts from number k on
+pub parts_after : (ss : List Sides) (ps : List Program) (k : ℕ) (p : Program) (b new start : List Bounds) → k < length ps → p ≡ get_or ps k p → contract_of ss (plan_of p) b ≡ Some new → in_order (effects ss (plans_of (drop k ps))) b ≡ in_order (effects ss (plans_of ps)) start → in_order (effects ss (plans_of (drop (k + 1) ps))) new ≡ in_order (effects ss (plans_of ps)) start
+parts_after ss ps k p b new start h e f g =
+    sym (ap (λ fs. in_order fs b) (parts_step ss ps k p h e) ∙ chain_some (contract_of ss (plan_of p) b) new (in_order (effects ss (plans_of (drop (k + 1) ps)))) f) ∙ g

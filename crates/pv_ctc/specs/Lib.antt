@@ -1,10 +1,16 @@
+pub mod Beginnings
 pub mod Contracting
+pub mod Counters
 pub mod GraphLists
 pub mod Marks
+pub mod Members
 pub mod Plans
+pub mod Refusals
+pub mod Revisions
 pub mod Steps
 pub mod Sureness
+pub mod Symbols
+pub mod Taking
 pub mod Texts
 pub mod Uses
-pub mod Members
 pub mod Words

@@ -51,3 +51,17 @@ abbrev mutual
   pub AreFor : ℕ → Plans → Type 0
   AreFor count no_plan = Unit {0}
   AreFor count (plan_and p ps) = IsFor count p × AreFor count ps
+
+-- how many programs a program is of, itself and the parts of its parts
+abbrev mutual
+  pub node_count : Plan → ℕ
+  node_count (hc4 i) = 1
+  node_count (compose ps) = nodes_in ps + 1
+  node_count (union ps) = nodes_in ps + 1
+  node_count (qinter q ps) = nodes_in ps + 1
+  node_count (fix n p) = node_count p + 1
+  node_count (prop n) = 1
+
+  pub nodes_in : Plans → ℕ
+  nodes_in no_plan = 0
+  nodes_in (plan_and p ps) = node_count p + nodes_in ps

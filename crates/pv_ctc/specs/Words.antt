@@ -24,13 +24,13 @@ StandsBefore token.Comma before after = before ≡ codes "," ++ after
 StandsBefore token.Bad before after = Unit {0}
 StandsBefore token.End before after = before ≡ []
 
--- the word or number that some bytes spell
+-- the token that some bytes spell
 abbrev pub Spells : Token → List ℕ → Type 0
 Spells (token.Word w) text = text ≡ word_text w
 Spells (token.Number n) text = text ≡ decimal n
 Spells token.TooBig text = Unit {0}
-Spells token.Open text = ⊥
-Spells token.Close text = ⊥
-Spells token.Comma text = ⊥
+Spells token.Open text = text ≡ codes "("
+Spells token.Close text = text ≡ codes ")"
+Spells token.Comma text = text ≡ codes ","
 Spells token.Bad text = Unit {0}
 Spells token.End text = ⊥

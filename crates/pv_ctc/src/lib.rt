@@ -5,6 +5,7 @@
 #![tactic(auto)]
 
 mod contract;
+mod counter;
 mod graphs;
 mod hulls;
 pub mod laws;
@@ -16,6 +17,7 @@ mod token;
 mod uses;
 mod writing;
 
+pub use counter::Counter;
 pub use graphs::Graphs;
 pub use program::Program;
 pub use reading::ProgramRefused;

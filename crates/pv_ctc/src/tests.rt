@@ -3,7 +3,9 @@
 mod programs;
 
 use crate::{Program, ProgramRefused};
-use programs::{ACCEPTED, REFUSED};
+use programs::{ACCEPTED, MORE_REFUSED, REFUSED};
+use std::alloc::Global;
+use std::process::Abort;
 use std::test::Fail;
 
 #[test]
@@ -18,13 +20,22 @@ fn reads_and_writes(rt: HostRuntime) -> Result<(), Fail> {
     Ok(())
 }
 
-#[test]
-fn refuses_at_the_byte(rt: HostRuntime) -> Result<(), Fail> {
-    for (count, text, byte) in REFUSED {
-        let refused = Program::read(rt.alloc(), text.as_bytes(), *count)
+fn all_refused(rt: &impl Abort, alloc: Global, cases: &[(u32, &str, u32)]) -> Result<(), Fail> {
+    for (count, text, byte) in cases {
+        let refused = Program::read(alloc, text.as_bytes(), *count)
             .err()
             .ok_or("read")?;
         assert_eq!(rt; refused, ProgramRefused::Bad { byte: *byte }, "{text}");
     }
     Ok(())
+}
+
+#[test]
+fn refuses_at_the_byte(rt: HostRuntime) -> Result<(), Fail> {
+    all_refused(&rt, rt.alloc(), REFUSED)
+}
+
+#[test]
+fn refuses_more_at_the_byte(rt: HostRuntime) -> Result<(), Fail> {
+    all_refused(&rt, rt.alloc(), MORE_REFUSED)
 }

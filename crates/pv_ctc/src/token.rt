@@ -1,9 +1,11 @@
 // The tokens of a program's text.
 
-ghost use Rattle.std.specs.Prelude.{◌≡◌, ◌+◌, ◌<◌, ◌≤◌, length, drop};
+ghost use Rattle.std.specs.Prelude.{◌≡◌, ◌+◌, ◌*◌, ◌<◌, ◌≤◌, ◌^◌, [], ◌∷◌, length, take, drop, get_or, IfSome, IfNone, slice_index};
+ghost use Rattle.std.specs.List.{prefix_len};
+ghost use Rattle.std.specs.Str.{bytes_eq};
+ghost use Rattle.std.specs.Str.Parse.{AllDigits, digits_value};
+ghost use Rattle.pv_ctc.specs.Symbols.{tokens_at, behind, name_token, digits_token, mark_token, leads_with_zero, is_letter, is_named, is_digit};
 ghost use Rattle.pv_ctc.specs.Words.{StandsBefore, Spells};
-
-use itoa::Buffer;
 
 /// The first word of a program.
 #[derive(Clone, Copy, PartialEq, Eq)]
@@ -36,91 +38,139 @@ pub fn token_at(text: &[u8], at: usize) -> (Token, usize)
     ensures within { result.1 ≤ length text.now }
     ensures onward { at ≤ result.1 }
     ensures stands { StandsBefore result.0 (drop at text.now) (drop result.1 text.now) }
+    ensures first { tokens_at text.now at ≡ record { place = at; token = result.0 } ∷ behind result.0 (tokens_at text.now result.1) }
 {
     if at == text.len() {
         return (Token::End, at);
     }
-    match text[at] {
-        b'(' => (Token::Open, at + 1),
-        b')' => (Token::Close, at + 1),
-        b',' => (Token::Comma, at + 1),
-        b'a'..=b'z' => {
-            let end = name_end(text, at + 1);
-            (word_of(&text[at..end]), end)
-        }
-        b'0'..=b'9' => {
-            let end = digits_end(text, at + 1);
-            (number_of(&text[at..end]), end)
-        }
-        _ => (Token::Bad, at + 1),
+    if is_letter(text[at]) {
+        let end = name_end(text, at + 1);
+        return (word_of(&text[at..end]), end);
     }
+    if is_digit(text[at]) {
+        let end = digits_end(text, at + 1);
+        return (number_of(&text[at..end]), end);
+    }
+    (mark_of(text[at]), at + 1)
+}
+
+fn mark_of(byte: u8) -> Token
+    ensures spells { Spells result (byte ∷ []) }
+    ensures mark { result ≡ mark_token byte }
+{
+    if byte == b'(' {
+        Token::Open
+    } else if byte == b')' {
+        Token::Close
+    } else if byte == b',' {
+        Token::Comma
+    } else {
+        Token::Bad
+    }
+}
+
+fn is_letter(byte: u8) -> bool
+    ensures { result ≡ is_letter byte }
+{
+    byte.is_ascii_lowercase()
 }
 
 // Where the letters and digits from a place on end.
 fn name_end(text: &[u8], from: usize) -> usize
     requires { from ≤ length text.now }
     ensures within { result ≤ length text.now }
-    ensures onward { from ≤ result }
+    ensures run { result ≡ from + prefix_len is_named (drop from text.now) }
 {
     for at in from..text.len() {
-        if !text[at].is_ascii_lowercase() && !text[at].is_ascii_digit() {
+        if !is_named(text[at]) {
             return at;
         }
     }
     text.len()
+}
+
+fn is_named(byte: u8) -> bool
+    ensures { result ≡ is_named byte }
+{
+    is_letter(byte) || is_digit(byte)
 }
 
 // Where the digits from a place on end.
 fn digits_end(text: &[u8], from: usize) -> usize
     requires { from ≤ length text.now }
     ensures within { result ≤ length text.now }
-    ensures onward { from ≤ result }
+    ensures run { result ≡ from + prefix_len is_digit (drop from text.now) }
 {
     for at in from..text.len() {
-        if !text[at].is_ascii_digit() {
+        if !is_digit(text[at]) {
             return at;
         }
     }
     text.len()
 }
 
-fn word_of(name: &[u8]) -> Token
-    ensures { Spells result name.now }
+fn is_digit(byte: u8) -> bool
+    ensures { result ≡ is_digit byte }
 {
-    match name {
-        b"hc4" => Token::Word(Word::Hc4),
-        b"compose" => Token::Word(Word::Compose),
-        b"union" => Token::Word(Word::Union),
-        b"qinter" => Token::Word(Word::QInter),
-        b"fix" => Token::Word(Word::Fix),
-        b"prop" => Token::Word(Word::Prop),
-        _ => Token::Bad,
+    byte.is_ascii_digit()
+}
+
+fn word_of(name: &[u8]) -> Token
+    ensures spells { Spells result name.now }
+    ensures named { result ≡ name_token name.now }
+{
+    if is_text(name, "hc4") {
+        Token::Word(Word::Hc4)
+    } else if is_text(name, "compose") {
+        Token::Word(Word::Compose)
+    } else if is_text(name, "union") {
+        Token::Word(Word::Union)
+    } else if is_text(name, "qinter") {
+        Token::Word(Word::QInter)
+    } else if is_text(name, "fix") {
+        Token::Word(Word::Fix)
+    } else if is_text(name, "prop") {
+        Token::Word(Word::Prop)
+    } else {
+        Token::Bad
     }
 }
 
-// The number that digits spell. One with a leading zero is not spelled as it would be written.
-fn number_of(digits: &[u8]) -> Token
-    ensures { Spells result digits.now }
+fn is_text(name: &[u8], text: &str) -> bool
+    ensures { result ≡ bytes_eq name.now text.now }
 {
+    name == text.as_bytes()
+}
+
+// The number that digits spell, as it would be written.
+fn number_of(digits: &[u8]) -> Token
+    requires some { 0 < length digits.now }
+    requires digits { AllDigits 10 digits.now }
+    ensures spells { Spells result digits.now }
+    ensures number { result ≡ digits_token digits.now }
+{
+    if leads_with_zero(digits) {
+        return Token::TooBig;
+    }
     match value_of(digits) {
-        Some(value) => checked(value, digits),
+        Some(value) => Token::Number(value),
         None => Token::TooBig,
     }
 }
 
-fn checked(value: u32, digits: &[u8]) -> Token
-    ensures { Spells result digits.now }
+// Whether further digits stand behind a 0.
+fn leads_with_zero(digits: &[u8]) -> bool
+    ensures { result ≡ leads_with_zero digits.now }
 {
-    let mut buffer = Buffer::new();
-    if buffer.format(value).as_bytes() == digits {
-        Token::Number(value)
-    } else {
-        Token::TooBig
-    }
+    digits.len() > 1 && digits[0] == b'0'
 }
 
 // The value of some digits; None where it has more than 32 bits.
-fn value_of(digits: &[u8]) -> Option<u32> {
+fn value_of(digits: &[u8]) -> Option<u32>
+    requires { AllDigits 10 digits.now }
+    ensures value { IfSome result (λ n. n ≡ digits_value 10 digits.now) }
+    ensures none { IfNone result (2 ^ 32 ≤ digits_value 10 digits.now) }
+{
     let mut value: u32 = 0;
     for digit in digits {
         value = next_value(value, *digit)?;
@@ -129,7 +179,11 @@ fn value_of(digits: &[u8]) -> Option<u32> {
 }
 
 // A number with one more digit at its end; None where it has more than 32 bits.
-fn next_value(value: u32, digit: u8) -> Option<u32> {
-    let low = u32::from(digit.checked_sub(b'0')?);
-    value.checked_mul(10)?.checked_add(low)
+fn next_value(value: u32, digit: u8) -> Option<u32>
+    requires low { 48 ≤ digit }
+    requires high { digit ≤ 57 }
+    ensures value { IfSome result (λ n. n + 48 ≡ value * 10 + digit) }
+    ensures none { IfNone result (2 ^ 32 + 48 ≤ value * 10 + digit) }
+{
+    value.checked_mul(10)?.checked_add(u32::from(digit - b'0'))
 }

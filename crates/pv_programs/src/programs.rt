@@ -1,15 +1,18 @@
-// What programs leave of boxes, and where they are sure, with values from exact fractions.
-ghost use Rattle.std.specs.Prelude.{◌≡◌, length, IfSome};
+// What programs leave of boxes, where they are sure, and how many revisions they need, with values from exact fractions.
+ghost use Rattle.std.specs.Prelude.{◌≡◌, ◌<◌, None, length, IfSome};
 
 use crate::table;
 use pv_box::IBox;
-use pv_ctc::{Graphs, Program};
+use pv_ctc::{Counter, Graphs, Program};
 use pv_expr::System;
+use pv_hc4::{Graph, Revised, Scratch, Steps};
 use pv_interval::Interval;
-use pv_num::Num;
+use pv_num::{Memory, Num};
 use pv_parse::parse;
 use std::alloc::Global;
+use std::marker::Brand;
 use std::process::Abort;
+use std::sync::ledger::{Blank, Ledger};
 
 // A mantissa and an exponent; the exponent 999 stands for an infinite end.
 pub(crate) type Spelled = (i64, i16);
@@ -22,8 +25,9 @@ pub(crate) enum Left {
     Places(Ends, Ends),
 }
 
-// A system of two variables, a program, what it leaves of the domains, and whether it is sure on them.
-pub(crate) type Case = (&'static str, &'static str, Left, bool);
+// A system of two variables, a program, what it leaves of the domains, whether it is sure on them, and how many
+// revisions the contraction needs.
+pub(crate) type Case = (&'static str, &'static str, Left, bool, u64);
 
 fn spelled((m, e): Spelled) -> Option<Num> {
     if e == 999 {
@@ -59,25 +63,73 @@ fn is_left(bx: &IBox, x: Ends, y: Ends) -> Option<bool> {
     Some(bx.get(0) == interval(x)? && bx.get(1) == interval(y)?)
 }
 
-// What a program leaves of the domains, and whether it is sure on them.
-fn worked(alloc: Global, system: &System, text: &str) -> Option<(Option<IBox>, bool)> {
+// Counts revisions in a number that a test can read.
+#[derive(Drop)]
+struct Tally {
+    count: u64,
+}
+
+impl Counter for Tally {
+    ghost told = { λ _. None };
+
+    fn revise(
+        &mut self,
+        graph: &Graph,
+        scratch: &mut Scratch,
+        bx: &mut IBox,
+    ) -> Result<Revised, Memory> {
+        self.count = self.count.wrapping_add(1);
+        graph.revise_in(scratch, bx)
+    }
+}
+
+// What a program leaves of the domains, by each call, how many revisions it made, and whether it is sure on them.
+#[derive(Drop)]
+struct Worked {
+    left: Option<IBox>,
+    counted: Option<IBox>,
+    tallied: Option<IBox>,
+    count: u64,
+    sure: bool,
+}
+
+fn work_out<L: Ledger>(alloc: Global, blank: Blank, system: &System, text: &[u8]) -> Option<Worked>
+    requires name { blank.name ≡ L.name }
+    requires parts { blank.parts ≡ L.parts }
+    requires some { 0 < blank.parts }
+{
     let graphs = Graphs::of(alloc, system).ok()?;
-    let program = Program::read(alloc, text.as_bytes(), graphs.count()).ok()?;
+    let program = Program::read(alloc, text, graphs.count()).ok()?;
     let bx = domains(alloc, system)?;
-    let left = program.contract(alloc, &graphs, &bx).ok()?;
-    let sure = program.sure(alloc, &graphs, &bx).ok()?;
-    Some((left, sure))
+    let mut steps = Steps::<L>::open(blank);
+    let mut tally = Tally { count: 0 };
+    Some(Worked {
+        left: program.contract(alloc, &graphs, &bx).ok()?,
+        counted: program
+            .contract_counted(alloc, &graphs, &bx, &mut steps)
+            .ok()?,
+        tallied: program.contract_by(alloc, &graphs, &bx, &mut tally).ok()?,
+        count: tally.count,
+        sure: program.sure(alloc, &graphs, &bx).ok()?,
+    })
+}
+
+fn is_expected(left: &Option<IBox>, expected: &Left) -> Option<bool> {
+    match (left, expected) {
+        (None, Left::Nothing) => Some(true),
+        (Some(bx), Left::Places(x, y)) => is_left(bx, *x, *y),
+        _ => Some(false),
+    }
 }
 
 // Whether the program answers what the case says.
 fn holds(alloc: Global, case: &Case) -> Option<bool> {
     let system = parse(alloc, case.0.as_bytes()).ok()?;
-    let (left, sure) = worked(alloc, &system, case.1)?;
-    let same = match case.2 {
-        Left::Nothing => left.is_none(),
-        Left::Places(x, y) => is_left(&left?, x, y)?,
-    };
-    Some(same && sure == case.3)
+    let found = work_out::<Brand>(alloc, Blank::new(1), &system, case.1.as_bytes())?;
+    let same = is_expected(&found.left, &case.2)?
+        && is_expected(&found.counted, &case.2)?
+        && is_expected(&found.tallied, &case.2)?;
+    Some(same && found.sure == case.3 && found.count == case.4)
 }
 
 fn all_hold(rt: &impl Abort, alloc: Global, cases: &[Case]) {
@@ -99,6 +151,11 @@ fn unions(rt: HostRuntime) {
 #[test]
 fn q_intersections(rt: HostRuntime) {
     all_hold(&rt, rt.alloc(), &table::Q_INTERSECTIONS);
+}
+
+#[test]
+fn clean_constraints(rt: HostRuntime) {
+    all_hold(&rt, rt.alloc(), &table::CLEAN);
 }
 
 #[test]
