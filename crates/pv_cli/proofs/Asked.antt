@@ -1,11 +1,11 @@
 -- What the words ask for, by what clap answers.
-use Rattle.std.proofs.Common.{◌≡◌, ◌⊎◌, inl, inr, ℕ, Bool, true, false, List, [], ◌∷◌, length, refl, sym, ◌∙◌, ap, subst, if◌then◌else◌}
-use Rattle.std.specs.Prelude.{Option, Some, None, Result, Ok, Err, MatchResult, option_map}
+use Rattle.std.proofs.Common.{◌≡◌, ◌⊎◌, inl, inr, Bool, true, false, List, [], ◌∷◌, length, refl, sym, ◌∙◌, ap, subst, if◌then◌else◌}
+use Rattle.std.specs.Prelude.{Option, Some, None, Result, MatchResult, option_map}
 use Rattle.std.specs.Option.{ok_or}
 use lib.Dec.{eqb-suc-zero}
 use Rattle.clap.proofs.OnLiterals.{clap_on_literals}
 use Rattle.clap.specs.Walk.{is_empty}
-use Rattle.clap.specs.Words.{App, Text, Kinds, HasKind, IsAmong, FailsBy, fault_of, is_simple, is_simple_and_free, subcommand_of, kind_of}
+use Rattle.clap.specs.Words.{App, Text, Kinds, HasKind, IsAmong, fault_of, is_simple, is_simple_and_free, subcommand_of, kind_of}
 use Rattle.clap.specs.declared.error.Error.{Error}
 use Rattle.clap.specs.declared.error.kind.ErrorKind.{ErrorKind}
 use Rattle.clap.specs.declared.error.kind.ErrorKind.TheVariants.{OutOfMemory}

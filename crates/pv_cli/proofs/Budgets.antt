@@ -1,11 +1,10 @@
 -- A budget is enough exactly where the full tree needs no more of it.
-use Rattle.std.proofs.Common.{◌≡◌, ◌⊎◌, inl, inr, ℕ, suc, ◌+◌, ◌-◌, ◌<◌, ◌≤◌, Bool, true, false, List, [], ◌∷◌, length, refl, sym, ◌∙◌, ap, subst, arith}
-use Rattle.std.specs.Prelude.{Option, Some, None, IsTrue, ◌↔◌}
-use Rattle.pv_num.specs.Extended.{Extended}
+use Rattle.std.proofs.Common.{◌≡◌, inl, inr, ℕ, suc, ◌+◌, ◌-◌, ◌<◌, ◌≤◌, Bool, false, List, [], ◌∷◌, length, refl, sym, ◌∙◌, ap, subst, arith}
+use Rattle.std.specs.Prelude.{Some, None, IsTrue, ◌↔◌}
 use Rattle.pv_interval.specs.Bounds.{Bounds}
 use Rattle.pv_interval.specs.Points.{Point}
 use Rattle.pv_box.specs.Boxes.{IsBox, lower_half, upper_half}
-use Rattle.pv_tree.specs.Trees.{Tree, leaf, removed, inner, small, cut, opens, first, subtree, graft, settled, box_of, counts_of, settled_of, Paves}
+use Rattle.pv_tree.specs.Trees.{Tree, leaf, removed, inner, small, cut, opens, first, subtree, graft, settled, box_of, Paves}
 use Rattle.pv_tree.specs.declared.outcome.Outcome.TheVariants.{Removed, Inner, Small, Cut}
 use Rattle.pv_tree.specs.Stages.{Rule, full_of, Grows, IsStage}
 use Rattle.pv_tree.specs.Laws.{IsLawful}

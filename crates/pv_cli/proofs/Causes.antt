@@ -1,9 +1,14 @@
 -- Why a command is refused, by the call that refuses it.
-use Rattle.std.proofs.Common.{◌≡◌, ◌⊎◌, inl, inr, ℕ, List, Some, None, Option, refl, sym, ◌∙◌, subst}
+use Rattle.std.proofs.Common.{◌≡◌, ◌⊎◌, ◌<◌, Result, Ok, Err, IfErr, IsErrAnd, inl, inr, ℕ, List, length, Some, None, Option, refl, sym, ◌∙◌, subst}
 use Rattle.pv_io.specs.Outside.{Content}
 use Rattle.pv_cli.specs.Asking.{Asked, asked}
 use Rattle.pv_cli.specs.Choices.{Choice, Chooses}
-use Rattle.pv_cli.specs.Outcomes.{RefusesAsked, Means, AreRefused, HasCause, IsAnswered, IsDone}
+use Rattle.pv_parse.specs.Faults.{IsPlaced, IsRefusal, SaysTooLong}
+use Rattle.pv_parse.specs.declared.cause.ParseRefused.{ParseRefused}
+use Rattle.pv_parse.specs.declared.cause.ParseRefused.TheVariants.{Memory as Unread, Fault}
+use Rattle.pv_cli.specs.Faults.{refusal_of}
+use Rattle.pv_cli.specs.Worked.{RefusesText}
+use Rattle.pv_cli.specs.Outcomes.{RefusesAsked, AreRefused, HasCause, IsAnswered, IsDone}
 use Rattle.pv_cli.specs.declared.status.Status.{Status}
 use Rattle.pv_cli.specs.declared.refusal.Refusal.{Refusal}
 use Rattle.pv_cli.specs.declared.refusal.Refusal.TheVariants.{Usage, Memory}
@@ -38,3 +43,14 @@ refused_words words content name r (inr (inr work)) none = absurd (none work.ask
 
 pub no_done : (words : List (List ℕ)) (content : List ℕ → Content) (status : Status) (before after : Option (List ℕ)) → IsDone words content status before after → AreRefused words → ⊥
 no_done words content status before after done none = none done.ask done.choice done.means
+
+-- ---- The text of a system is refused
+
+pub refuses_text : (a : Asked) (text : List ℕ) (e : ParseRefused) → IsPlaced text e → (65536 < length text → SaysTooLong e) → IsRefusal text e → RefusesText a text (refusal_of e)
+refuses_text a text Unread placed long because = tt
+refuses_text a text (Fault byte line column cause) placed long because = record { placed = placed; long = long; because = because }
+
+-- an error is passed on
+pub passed : {A : Type 0} (r : Result A Refusal) (e : Refusal) (P : Refusal → Type 0) → IsErrAnd r (λ x. x ≡ e) → P e → IfErr r P
+passed (Ok x) e P h p = absurd h
+passed (Err x) e P h p = subst P (sym h) p

@@ -1,7 +1,6 @@
 -- A number in digits, as `parse` reads it.
-use Rattle.std.proofs.Common.{◌≡◌, ◌⊎◌, inl, inr, ℕ, ◌<◌, ◌≤◌, ◌^◌, ◌==◌, ◌≢◌, Bool, true, false, cond, List, [], ◌∷◌, length, drop, refl, sym, ◌∙◌, ap, subst, arith, lit<}
+use Rattle.std.proofs.Common.{◌≡◌, inl, inr, ℕ, ◌<◌, ◌≤◌, ◌^◌, ◌==◌, Bool, true, false, cond, List, [], ◌∷◌, length, drop, sym, ◌∙◌, ap, subst, arith, lit<}
 use Rattle.std.specs.Prelude.{Result, Ok, Err, slice_index}
-use Rattle.std.specs.Result.{OkIff}
 use Rattle.std.specs.Char.{digit_value}
 use Rattle.std.specs.Str.Parse.{AllDigits, IsNumeral, ParsesUnsigned, digits_value, without_leading_plus}
 use Rattle.std.proofs.lemmas.Bool.Decides.{eqb_tells}

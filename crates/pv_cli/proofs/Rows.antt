@@ -1,6 +1,6 @@
 -- A value that `get_str` finds is the first one of the row of its argument.
 use Rattle.std.proofs.Common.{◌≡◌, ℕ, Bool, true, false, List, [], ◌∷◌, map, refl, if◌then◌else◌}
-use Rattle.std.specs.Prelude.{Option, Some, None, option_map, option_and_then, find, slice_get}
+use Rattle.std.specs.Prelude.{Option, Some, option_map, option_and_then, find, slice_get}
 use Rattle.std.specs.Str.{bytes_eq}
 use Rattle.std.specs.Borrow.{Bor}
 use Rattle.clap.specs.Facts.{Entry}

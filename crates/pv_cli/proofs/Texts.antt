@@ -1,5 +1,5 @@
 -- What a fetch leaves of the text of a system.
-use Rattle.std.proofs.Common.{◌≡◌, ℕ, List, length, take, refl, sym, ◌∙◌, arith}
+use Rattle.std.proofs.Common.{ℕ, List, sym, ◌∙◌, arith}
 use Rattle.std.proofs.lemmas.List.{take_all}
 use Rattle.pv_io.specs.Outside.{Content, untold, absent, holds, IsWhole, IsTooLong}
 use Rattle.pv_cli.specs.Fetched.{IsFetched}

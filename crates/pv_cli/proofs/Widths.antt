@@ -1,14 +1,13 @@
 -- A number that is read is not negative, and so is what it is rounded to, which is finite.
-use Rattle.std.proofs.Common.{◌≡◌, ◌≢◌, ℕ, ◌<◌, ◌≤◌, ◌^◌, ℤ, pos, sym, ap, subst, List}
-use Rattle.std.specs.Prelude.{IsTrue, unsigned_abs}
-use Rattle.pv_num.specs.Extended.{Extended, Fin, NegInf, PosInf}
+use Rattle.std.proofs.Common.{◌≡◌, ◌≢◌, ℕ, ℤ, pos, sym, subst, List}
+use Rattle.std.specs.Prelude.{IsTrue}
+use Rattle.pv_num.specs.Extended.{Extended, Fin, PosInf}
 use Rattle.pv_num.specs.Order.{le}
 use Rattle.pv_num.specs.Arithmetic.{ratio_of}
 use Rattle.pv_num.specs.declared.num.End.TheVariants.{Down}
 use Rattle.pv_num.proofs.Ratios.{ratio-from_zero, ratio-finite}
 use Rattle.pv_expr.specs.Systems.{IsFraction}
 use Rattle.pv_parse.specs.Numbers.{IsRead}
-use Rattle.pv_cli.specs.Choices.{IsWidth}
 
 pub width_from : (t : List ℕ) (v : ℤ × ℕ) (n : Extended) → IsRead t v → n ≡ ratio_of Down v.0 v.1 → IsTrue (le (Fin (pos 0)) n)
 width_from t v n read is =

@@ -1,8 +1,8 @@
 -- What a write leaves of a sink.
-use Rattle.std.proofs.Common.{◌≡◌, inl, inr, ℕ, List, [], ◌++◌, length, take, refl, sym, ◌∙◌, ap, arith}
+use Rattle.std.proofs.Common.{◌≡◌, ℕ, List, [], length, refl, sym, ◌∙◌, ap, arith}
 use Rattle.std.specs.Prelude.{Option, Some, None, Result, Ok, Err, OnOk, IsErrOf}
 use Rattle.std.proofs.lemmas.List.{take_all, append-nil}
-use Rattle.pv_io.specs.Outside.{Rose, appended, AppendsFront}
+use Rattle.pv_io.specs.Outside.{appended, AppendsFront}
 use Rattle.pv_io.specs.declared.sink.WriteRefused.{WriteRefused}
 use Rattle.pv_io.specs.declared.sink.WriteRefused.TheVariants.{Failed, Memory}
 

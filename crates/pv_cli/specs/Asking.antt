@@ -1,5 +1,5 @@
 -- What the words of a command ask for.
-use Rattle.std.specs.Prelude.{ℕ, Bool, List, Option, Some, None, codes, option_map, if◌then◌else◌}
+use Rattle.std.specs.Prelude.{List, Option, Some, None, codes, option_map, if◌then◌else◌}
 use Rattle.std.specs.Str.{bytes_eq}
 use Rattle.clap.specs.Walk.{is_empty}
 use Rattle.clap.specs.Words.{Row, Text, first_of, fault_of, subcommand_of}

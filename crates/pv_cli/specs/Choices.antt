@@ -1,5 +1,5 @@
 -- The values of the options.
-use Rattle.std.specs.Prelude.{◌≡◌, ℕ, ◌≤◌, ℤ, List, Option, Some, None, codes, length, IsTrue, unwrap_or}
+use Rattle.std.specs.Prelude.{◌≡◌, ℕ, ◌≤◌, ℤ, List, codes, length, unwrap_or}
 use Rattle.std.specs.Str.Parse.{digits_value, AllDigits}
 use Rattle.pv_num.specs.Extended.{Extended}
 use Rattle.pv_num.specs.Arithmetic.{ratio_of}

@@ -1,6 +1,6 @@
 -- The commands as clap sees them: one level, the name of a system, options that take a value, and none of
 -- the flags and commands that clap adds by itself.
-use Rattle.std.specs.Prelude.{true, List, [], ◌∷◌, codes, Some}
+use Rattle.std.specs.Prelude.{true, codes, Some}
 use Rattle.clap.specs.Words.{App, Rule, Text, new_app, new_rule, with_rule, with_subcommand}
 use Rattle.clap.specs.Simple.{on_top}
 use Rattle.clap.specs.declared.builder.action.ArgAction.TheVariants.{Set}

@@ -1,5 +1,5 @@
 -- The printed text of a paving: a summary, and a line for each node in preorder.
-use Rattle.std.specs.Prelude.{ℕ, ◌+◌, List, [], ◌∷◌, ◌++◌, codes, decimal, Option, Some, None}
+use Rattle.std.specs.Prelude.{ℕ, List, [], ◌∷◌, ◌++◌, codes, decimal}
 use Rattle.pv_num.specs.Parts.{number_text}
 use Rattle.pv_interval.specs.Bounds.{Bounds}
 use Rattle.pv_tree.specs.Trees.{Tree, leaf, removed, inner, small, cut, counts_of, settled_of}

@@ -1,5 +1,5 @@
 -- How a command ends, by its words and the folder's content.
-use Rattle.std.specs.Prelude.{◌≡◌, ◌⊎◌, ℕ, Bool, true, false, List, [], Option, Some, None}
+use Rattle.std.specs.Prelude.{◌≡◌, ◌⊎◌, ℕ, Bool, true, false, List, Option, Some}
 use Rattle.pv_io.specs.Outside.{Content, MayBeAbsent, appended}
 use Rattle.pv_cli.specs.Asking.{Asked, asked}
 use Rattle.pv_cli.specs.Choices.{Choice, Chooses}
@@ -28,7 +28,7 @@ pub record IsAnswered (a : Asked) (c : Choice) (content : List ℕ → Content) 
 pub record RefusesFetched (a : Asked) (content : List ℕ → Content) (r : Refusal) : Type 0 where
   pub text : List ℕ
   pub fetched : IsFetched (content a.system) text
-  pub refused : RefusesText a.task text r
+  pub refused : RefusesText a text r
 
 -- why a command whose words are read is refused
 abbrev pub RefusesAsked : Asked → (List ℕ → Content) → Refusal → Type 0

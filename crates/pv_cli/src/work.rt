@@ -1,7 +1,7 @@
 ghost use Rattle.std.specs.Prelude.{◌≡◌, IfOk, IfErr};
 ghost use Rattle.pv_cli.specs.Asking.{seen_of};
 ghost use Rattle.pv_cli.specs.Chosen.{choice_of};
-ghost use Rattle.pv_cli.specs.Worked.{IsWorked, IsCheckOn, IsRunOn, RefusesText, IsRunRefusal};
+ghost use Rattle.pv_cli.specs.Worked.{IsWorked, IsCheckOn, IsRunOn, RefusesText, RefusesRun};
 
 use crate::options::Options;
 use crate::report::{Report, paved};
@@ -70,7 +70,7 @@ pub(crate) fn work<G: Gate>(
     gate: &G,
 ) -> Result<Report, Refusal>
     ensures worked { IfOk result (λ r. IsWorked (seen_of words.now) (choice_of options) text.now r.whole r.text.items) }
-    ensures refused { IfErr result (λ e. RefusesText words.now.task text.now e) }
+    ensures refused { IfErr result (λ e. RefusesText (seen_of words.now) text.now e) }
 {
     let system = parse(alloc, text)?;
     match words.task {
@@ -94,7 +94,7 @@ fn run<G: Gate>(
     gate: &G,
 ) -> Result<Report, Refusal>
     ensures run { IfOk result (λ r. IsRunOn (seen_of words.now) (choice_of options) system r.whole r.text.items) }
-    ensures refused { IfErr result IsRunRefusal }
+    ensures refused { IfErr result (RefusesRun (seen_of words.now) system) }
 {
     let text = text_or(words.contract, "prop(8)");
     let program = Program::read(alloc, text.as_bytes(), system.constraint_count())?;

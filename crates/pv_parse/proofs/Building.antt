@@ -1,13 +1,14 @@
 -- The builder's stack, and the meanings of functions one by one.
-use Rattle.std.proofs.Common.{◌≡◌, ℕ, zero, suc, List, [], ◌∷◌, ◌++◌, ◌+◌, ◌-◌, ◌<◌, ◌≤◌, reverse, map, take, drop, get_or, refl, ap, sym, ◌∙◌, length, arith}
-use Rattle.std.proofs.lemmas.List.{reverse-append, reverse-reverse, map-append, get_or_append_left, length-append, drop_all, take-append-drop, length-take-le}
+use Rattle.std.proofs.Common.{◌≡◌, ℕ, zero, suc, List, [], ◌∷◌, ◌++◌, ◌+◌, ◌-◌, ◌<◌, ◌≤◌, reverse, map, take, drop, get_or, refl, ap, sym, ◌∙◌, length, arith, inl, inr, Option, Some, None}
+use Rattle.std.proofs.lemmas.Bool.{cases_lt}
+use Rattle.std.proofs.lemmas.List.{take_all, length-drop, get_or_past, reverse-append, reverse-reverse, map-append, get_or_append_left, length-append, drop_all, take-append-drop}
 use Rattle.std.proofs.Math.Seq.{get_or-append_seam}
 use Rattle.pv_expr.specs.Terms.{Term, term_of}
 use Rattle.pv_expr.specs.declared.expr.Expr.{Expr}
 use Rattle.pv_parse.specs.declared.code.Op.{Op}
 use Rattle.pv_parse.specs.declared.expand.Function.{Function}
 use Rattle.pv_parse.specs.Expansion as Expansion
-use Rattle.pv_parse.specs.Expansion.{Meaning, meaning_of, meanings, meanings_behind, body_meaning, top, stack_of, code_of, nothing, run, step}
+use Rattle.pv_parse.specs.Expansion.{Meaning, meaning_of, meanings, meanings_behind, body_meaning, top, stack_of, code_of, nothing, run, step, stacked, below}
 
 pub stack-push : (es : List Expr) (e : Expr) → stack_of (es ++ e ∷ []) ≡ term_of e ∷ stack_of es
 unfolding Expansion.stack_of
@@ -80,17 +81,50 @@ meaning-at fs i d h =
     ∙ ap (λ cs. body_meaning (meanings cs) (get_or (map code_of fs) i [])) (sym (map-take code_of i fs))
     ∙ ap (body_meaning (meanings (map code_of (take i fs)))) (map-get_or code_of fs i d [] h)
 
--- the last values of a stack are its top ones
-pub last-values : (old new es : List Expr) (n : ℕ) → old ≡ new ++ es → length es ≡ n → map term_of es ≡ reverse (take n (stack_of old))
-last-values old new es n e len =
-    sym (ap (λ z. reverse (take n (stack_of z))) e ∙ ap (λ z. reverse (take n z)) (stack-append new es)
-    ∙ ap reverse (take-exact n (reverse (map term_of es)) (stack_of new) (length-reverse (map term_of es) ∙ length-map term_of es ∙ len))
-    ∙ reverse-reverse (map term_of es))
+pub last-parts : {A : Type 0} → (old : List A) (n first : ℕ) → first ≡ length old - n → (take n (reverse old) ≡ reverse (drop first old)) × (drop n (reverse old) ≡ reverse (take first old))
+last-parts old n first e =
+    let whole : reverse old ≡ reverse (drop first old) ++ reverse (take first old) = ap reverse (sym (take-append-drop first old)) ∙ reverse-append (take first old) (drop first old) in
+    elim (cases_lt (length old) n) [
+      | inl less ↦
+          let none : first ≡ 0 = omega (arith, e, less) in
+          let all : length (reverse old) ≤ n = omega (arith, less, length-reverse old) in
+          let same : drop first old ≡ old = ap (λ k. drop k old) none in (
+            take_all n (reverse old) all ∙ ap reverse (sym same),
+            drop_all n (reverse old) all ∙ ap (λ k. reverse (take k old)) (sym none),
+          )
+      | inr most ↦
+          let many : length (reverse (drop first old)) ≡ n = length-reverse (drop first old) ∙ length-drop first old ∙ omega (arith, e, most) in (
+            ap (take n) whole ∙ take-exact n (reverse (drop first old)) (reverse (take first old)) many,
+            ap (drop n) whole ∙ drop-exact n (reverse (drop first old)) (reverse (take first old)) many,
+          )
+    ]
 
-pub last-rest : (old new es : List Expr) (n : ℕ) → old ≡ new ++ es → length es ≡ n → stack_of new ≡ drop n (stack_of old)
-last-rest old new es n e len =
-    sym (ap (λ z. drop n (stack_of z)) e ∙ ap (drop n) (stack-append new es)
-    ∙ drop-exact n (reverse (map term_of es)) (stack_of new) (length-reverse (map term_of es) ∙ length-map term_of es ∙ len))
+map-drop : {A B : Type 0} → (f : A → B) (i : ℕ) (xs : List A) → drop i (map f xs) ≡ map f (drop i xs)
+map-drop f zero xs = refl
+map-drop f (suc i) [] = refl
+map-drop f (suc i) (x ∷ xs) = map-drop f i xs
+
+-- the last values of a stack are its top ones
+pub last-values : (old es : List Expr) (n first : ℕ) → first ≡ length old - n → es ≡ drop first old → map term_of es ≡ reverse (take n (stack_of old))
+unfolding Expansion.stack_of
+last-values old es n first f e =
+    sym (ap reverse (last-parts (map term_of old) n first (f ∙ ap (λ k. k - n) (sym (length-map term_of old)))).0 ∙ reverse-reverse (drop first (map term_of old)) ∙ map-drop term_of first old ∙ ap (map term_of) (sym e))
+
+pub last-rest : (old new : List Expr) (n first : ℕ) → first ≡ length old - n → new ≡ take first old → stack_of new ≡ drop n (stack_of old)
+unfolding Expansion.stack_of
+last-rest old new n first f e =
+    sym ((last-parts (map term_of old) n first (f ∙ ap (λ k. k - n) (sym (length-map term_of old)))).1 ∙ ap reverse (sym (map-take term_of first old) ∙ ap (map term_of) (sym e)))
+
+pub stack-pop : (old new : List Expr) (e : Expr) → old ≡ new ++ e ∷ [] → (term_of e ≡ top (stack_of old)) × (stack_of new ≡ below (stack_of old))
+stack-pop old new e h =
+    let grown : stack_of old ≡ term_of e ∷ stack_of new = ap stack_of h ∙ stack-push new e in
+    (ap top (sym grown), ap below (sym grown))
+
+pub stack-none : (old new : List Expr) → length old ≡ 0 → length new ≡ 0 → (nothing ≡ top (stack_of old)) × (stack_of new ≡ below (stack_of old))
+unfolding Expansion.stack_of
+stack-none [] [] e f = (refl, refl)
+stack-none [] (x ∷ xs) e f = absurd (omega arith)
+stack-none (x ∷ xs) new e f = absurd (omega arith)
 
 -- one step more of a code that is run from a place on
 pub run-step : (ms : List Meaning) (args : List Term) (code : List Op) (i : ℕ) (d : Op) (st : List Term) → i < length code →
@@ -99,21 +133,42 @@ run-step ms args [] i d st h = absurd (omega arith)
 run-step ms args (o ∷ code) zero d st h = refl
 run-step ms args (o ∷ code) (suc i) d st h = run-step ms args code i d st (omega arith)
 
-pub called-is : (fs : List Function) (i : ℕ) (d : Function) (args : List Term) (e : Term) (code : List Op) (st rest : List Term) →
-    i < length fs → code ≡ code_of (get_or fs i d) → st ≡ run (meanings (map code_of (take i fs))) args code [] → st ≡ e ∷ rest →
-    e ≡ meaning_of (meanings (map code_of fs)) i args
-called-is fs i d args e code st rest h same ran has =
-    ap top (sym has ∙ ran ∙ ap (λ z. run (meanings (map code_of (take i fs))) args z []) same) ∙ sym (ap (λ (m : Meaning). m args) (meaning-at fs i d h))
+behind-length : (cs : List (List Op)) (ms : List Meaning) → length (meanings_behind ms cs) ≡ length ms + length cs
+behind-length [] ms = omega arith
+behind-length (c ∷ cs) ms =
+    let longer : length (ms ++ body_meaning ms c ∷ []) ≡ length ms + 1 = length-append ms (body_meaning ms c ∷ []) in
+    let rest = behind-length cs (ms ++ body_meaning ms c ∷ []) in
+    omega (arith, longer, rest)
 
-pub run-more : (ms : List Meaning) (args : List Term) (code : List Op) (i : ℕ) (d : Op) (old new : List Expr) (e : Expr) (pushed : List Expr) (r : List Term) →
-    i < length code → term_of e ∷ stack_of new ≡ step ms args (get_or code i d) (stack_of old) → pushed ≡ new ++ e ∷ [] →
+pub count-of : (fs : List Function) → length (meanings (map code_of fs)) ≡ length fs
+count-of fs = behind-length (map code_of fs) [] ∙ (let e = length-map code_of fs in omega arith)
+
+pub called-is : (fs : List Function) (i : ℕ) (d : Function) (args : List Term) (e : Term) (code : List Op) (st : List Term) →
+    i < length fs → code ≡ code_of (get_or fs i d) → st ≡ run (meanings (map code_of (take i fs))) args code [] → e ≡ top st →
+    e ≡ meaning_of (meanings (map code_of fs)) i args
+called-is fs i d args e code st h same ran has =
+    has ∙ ap top (ran ∙ ap (λ z. run (meanings (map code_of (take i fs))) args z []) same) ∙ sym (ap (λ (m : Meaning). m args) (meaning-at fs i d h))
+
+pub called-past : (fs : List Function) (i : ℕ) (args : List Term) → length fs ≤ i → nothing ≡ meaning_of (meanings (map code_of fs)) i args
+called-past fs i args h =
+    sym (ap (λ (m : Meaning). m args) (get_or_past (meanings (map code_of fs)) i (λ z. nothing) (let e = count-of fs in omega (arith, e, h))))
+
+pub run-more : (ms : List Meaning) (args : List Term) (code : List Op) (i : ℕ) (d : Op) (old new : List Expr) (o : Option Expr) (pushed : List Expr) (r : List Term) →
+    i < length code → stacked o (stack_of new) ≡ step ms args (get_or code i d) (stack_of old) → stack_of pushed ≡ stacked o (stack_of new) →
     run ms args (drop i code) (stack_of old) ≡ r → run ms args (drop (i + 1) code) (stack_of pushed) ≡ r
-run-more ms args code i d old new e pushed r h made grown before =
+run-more ms args code i d old new o pushed r h made grown before =
     let next : i + 1 ≡ suc i = omega arith in
     ap (λ k. run ms args (drop k code) (stack_of pushed)) next
-    ∙ ap (run ms args (drop (suc i) code)) (ap stack_of grown ∙ stack-push new e ∙ made)
+    ∙ ap (run ms args (drop (suc i) code)) (grown ∙ made)
     ∙ sym (run-step ms args code i d (stack_of old) h)
     ∙ before
+
+pub stacked-push : (stack new : List Expr) (o : Option Expr) (e : Expr) → o ≡ Some e → new ≡ stack ++ e ∷ [] → stack_of new ≡ stacked o (stack_of stack)
+stacked-push stack new o e is grown = ap stack_of grown ∙ stack-push stack e ∙ ap (λ (x : Option Expr). stacked x (stack_of stack)) (sym is)
+
+pub stacked-same : (stack new : List Expr) (o : Option Expr) → ((e : Expr) → o ≡ Some e → ⊥) → new ≡ stack → stack_of new ≡ stacked o (stack_of stack)
+stacked-same stack new None h e = ap stack_of e
+stacked-same stack new (Some x) h e = absurd (h x refl)
 
 pub run-begun : (ms : List Meaning) (args : List Term) (code : List Op) (es : List Expr) → es ≡ [] →
     run ms args (drop 0 code) (stack_of es) ≡ run ms args code []
@@ -123,14 +178,3 @@ run-begun ms args code es e = ap (run ms args code) (ap stack_of e ∙ stack-emp
 pub run-ended : (ms : List Meaning) (args : List Term) (code : List Op) (i : ℕ) (st r : List Term) → length code ≤ i →
     run ms args (drop i code) st ≡ r → st ≡ r
 run-ended ms args code i st r h e = sym (ap (λ z. run ms args z st) (drop_all i code h)) ∙ e
-
-pub parts-are : {A : Type 0} → (at : ℕ) (old new es : List A) → new ≡ take at old → es ≡ drop at old → old ≡ new ++ es
-parts-are at old new es e f = sym (ap (λ z. z ++ es) e ∙ ap (λ z. take at old ++ z) f ∙ take-append-drop at old)
-
-pub parts-count : {A : Type 0} → (len n : ℕ) (old es : List A) → len ≡ length old → n ≤ len → es ≡ drop (len - n) old → length es ≡ n
-parts-count len n old es l h f =
-    let whole : length (take (len - n) old ++ drop (len - n) old) ≡ length old = ap length (take-append-drop (len - n) old) in
-    let both : length (take (len - n) old ++ drop (len - n) old) ≡ length (take (len - n) old) + length (drop (len - n) old) = length-append (take (len - n) old) (drop (len - n) old) in
-    let front : length (take (len - n) old) ≡ len - n = length-take-le (len - n) old (omega arith) in
-    let same : length es ≡ length (drop (len - n) old) = ap length f in
-    omega arith

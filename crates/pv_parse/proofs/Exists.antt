@@ -27,7 +27,7 @@ either first second =
 at_most : (a b : ℕ) → (a ≤ b) ⊎ ¬ (a ≤ b)
 at_most a b = ⊎_elim (λ below. inr (λ h. omega arith)) (λ h. inl h) (order b a)
 
-digit_or : (b : ℕ) → IsDigit b ⊎ ¬ IsDigit b
+pub digit_or : (b : ℕ) → IsDigit b ⊎ ¬ IsDigit b
 digit_or b = both (at_most 48 b) (at_most b 57)
 
 letter_or : (b : ℕ) → IsLetter b ⊎ ¬ IsLetter b
@@ -208,7 +208,7 @@ pub record Separator (t : List ℕ) (i : ℕ) : Type 0 where
 feed_or_end : (t : List ℕ) (at : ℕ) → (at ≡ length t) ⊎ (¬ (¬ (get_or t at 0 ≡ 10))) → (at ≡ length t) ⊎ (get_or t at 0 ≡ 10)
 feed_or_end t at ends = ⊎_elim (λ h. inl h) (λ no_other. ⊎_elim (λ feed. inr feed) (λ other. absurd (no_other other)) (cases_eq (get_or t at 0) 10)) ends
 
-line_from : (t : List ℕ) (i : ℕ) → get_or t i 0 ≡ 47 → get_or t (i + 1) 0 ≡ 47 → Separator t i
+pub line_from : (t : List ℕ) (i : ℕ) → get_or t i 0 ≡ 47 → get_or t (i + 1) 0 ≡ 47 → Separator t i
 line_from t i first second =
     let some : i + 1 < length t = inside t (i + 1) (omega arith) in
     let stop = first_stop (λ k. ¬ (get_or t k 0 ≡ 10)) (λ k. ⊎_elim (λ h. inr (λ n. n h)) (λ n. inl n) (cases_eq (get_or t k 0) 10)) (length t - (i + 2)) (i + 2) (length t) (omega arith) in
@@ -226,7 +226,7 @@ line_from t i first second =
       within = stop.within;
     }
 
-block_from : (t : List ℕ) (i : ℕ) → get_or t i 0 ≡ 47 → get_or t (i + 1) 0 ≡ 42 → Separator t i
+pub block_from : (t : List ℕ) (i : ℕ) → get_or t i 0 ≡ 47 → get_or t (i + 1) 0 ≡ 42 → Separator t i
 block_from t i first second =
     let some : i + 1 < length t = inside t (i + 1) (omega arith) in
     let stop = first_stop (λ k. ¬ Closes t k) (λ k. ⊎_elim (λ h. inr (λ n. n h)) (λ n. inl n) (closes_or t k)) (length t - (i + 2)) (i + 2) (length t) (omega arith) in

@@ -99,6 +99,9 @@ none_some e f = cc
 pub same_some : {X : Type 0} {o : Option X} {x y : X} → o ≡ Some x → o ≡ Some y → x ≡ y
 same_some e f = cc
 
+some_is : {X : Type 0} {x y : X} → Some x ≡ Some y → x ≡ y
+some_is e = cc
+
 pub head_is : {X : Type 0} {x y : X} {xs ys : List X} → x ∷ xs ≡ y ∷ ys → x ≡ y
 head_is e = cc
 
@@ -195,3 +198,19 @@ refused_forth i s rest ss meets never g =
       | out_first steps may d ↦ meets may never
       | in_first p steps made d ↦ none_some never made
     ]
+
+-- ---- Where a text ends
+
+left_by : (items : List Item) (ss : List Symbol) (ops : List Op) → Derives items ss ops → (i : Item) (rest : List Item) → items ≡ i ∷ rest → ss ≡ [] → MayEnd i × GoesOn rest []
+left_by items ss ops (done) i rest e f = absurd (nil_cons e)
+left_by items ss ops (left_out j items' ss' ops' may d) i rest e f =
+    (subst MayEnd (head_is e) may, record { steps = ops'; derived = subst (λ (x : List Item). Derives x [] ops') (tail_is e) (subst (λ (y : List Symbol). Derives items' y ops') f d) })
+left_by items ss ops (begun j items' s' ss' p ops' made d) i rest e f = absurd (nil_cons (sym f))
+
+-- where nothing is left of the text, the item that is met may be left out
+pub settled_whole : (s : Symbol) (items : List Item) (code : List Op) (o : Option Item) (rest : List Item) (code' : List Op) → Settles s items code o rest code' →
+    GoesOn items [] → (i : Item) → o ≡ Some i → MayEnd i
+settled_whole s items code o rest code' (emptied ops) g i e = absurd (none_some refl e)
+settled_whole s items code o rest code' (met j items' ops meets) g i e = subst MayEnd (some_is e) (left_by (j ∷ items') [] g.steps g.derived j items' refl refl).0
+settled_whole s items code o rest code' (ended j items' ops o' rest' more may never k) g i e =
+    settled_whole s items' (ops ++ step_of j) o' rest' more k (left_by (j ∷ items') [] g.steps g.derived j items' refl refl).1 i e

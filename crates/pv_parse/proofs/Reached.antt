@@ -1,10 +1,11 @@
 -- What is known behind the tokens that were taken: the loop of the reader, in both directions.
-use Rattle.std.proofs.Common.{◌≡◌, ◌≢◌, ℕ, Bool, false, List, [], ◌∷◌, ◌++◌, refl, sym, ap, ◌∙◌, subst, append_assoc, Option, Some, None, Result, Ok, Err, ⊎_elim}
+use Rattle.std.proofs.Common.{◌≡◌, ◌≢◌, ℕ, Bool, false, List, [], ◌∷◌, ◌++◌, take, refl, sym, ap, ◌∙◌, subst, append_assoc, Option, Some, None, Result, Ok, Err, ⊎_elim}
 use Rattle.std.proofs.lemmas.List.{append-nil}
 use Rattle.pv_parse.specs.declared.cause.Cause.{Cause}
 use Rattle.pv_parse.specs.declared.code.Op.{Op}
 use Rattle.pv_parse.specs.declared.counts.Counts.{Counts}
 use Rattle.pv_parse.specs.declared.counts.Phase.{Phase}
+use Rattle.pv_parse.specs.declared.counts.Phase.TheVariants.{Between, Sides}
 use Rattle.pv_parse.specs.declared.machine.Item.{Item}
 use Rattle.pv_parse.specs.declared.symbol.Fixed.TheVariants.{EndOfText}
 use Rattle.pv_parse.specs.declared.symbol.Symbol.{Symbol}
@@ -12,50 +13,72 @@ use Rattle.pv_parse.specs.declared.symbol.Symbol.TheVariants.{Fixed as FixedToke
 use Rattle.pv_parse.specs.declared.token.Kind.{Kind}
 use Rattle.pv_parse.specs.declared.token.Kind.TheVariants.{End}
 use Rattle.pv_parse.specs.declared.token.Token.{Token}
-use Rattle.pv_parse.specs.Faults.{Begins, IsCause, NoneBegins, IsFirst, refusal, behind_caret}
+use Rattle.pv_parse.specs.Faults.{Begins, BeginsWithin, IsCause, IsFirst, refusal, behind_caret}
 use Rattle.pv_parse.specs.Faults.IsCause.{not_allowed, beyond}
-use Rattle.pv_parse.specs.Grammar.{Derives, Follows, IsStart, MayEnd, Produced, Settles, emptied, ended, is_exponent, met, produced, step_of}
-use Rattle.pv_parse.specs.Limits.{Counted, counted}
-use Rattle.pv_parse.specs.Meanings.{AreSame, Names, learnt}
+use Rattle.pv_parse.specs.Grammar.{Derives, Follows, MayEnd, Produced, Settles, emptied, ended, is_exponent, met, produced, step_of}
+use Rattle.pv_parse.specs.Limits.{Counted, IsStart, counted, nothing}
+use Rattle.pv_parse.specs.Meanings.{AreBounded, AreSame, Names, learnt}
 use Rattle.pv_parse.specs.Sentences.{IsSentence, SpellsTo, StandsFor, bytes_of}
 use Rattle.pv_parse.specs.Tokens.{IsNext}
+use Rattle.pv_parse.proofs.Closings.{ClosesFrom, closes}
+use Rattle.pv_parse.specs.Declarations.{mark_of}
+use Rattle.pv_parse.specs.Fractions.{HasFraction}
+use Rattle.pv_parse.specs.Scopes.{IsToldAs, Scoped, followed}
+use Rattle.pv_parse.proofs.Declarations.{Told, told_none, told_one}
 use Rattle.pv_parse.proofs.Derivations.{Leads, leads_back, leads_end}
 use Rattle.pv_parse.proofs.Exponents.{AtExponent, expression_plain, system_plain, IsUsual, Met, behind_last, no_end, settled_met, taken_plain}
-use Rattle.pv_parse.proofs.Forward.{Closing, GoesOn, closing, refused_forth, settled_forth, settled_orderly, taken_forth, taken_orderly}
+use Rattle.pv_parse.proofs.Fits.{expression_starts, settled_ready, system_starts, taken_ready}
+use Rattle.pv_parse.proofs.Forward.{Closing, GoesOn, closing, refused_forth, settled_forth, settled_orderly, settled_whole, taken_forth, taken_orderly}
 use Rattle.pv_parse.proofs.Orderly.{Orderly, expression_orderly, system_orderly}
+use Rattle.pv_parse.proofs.Pieces.{learnt_bounded}
+use Rattle.pv_parse.proofs.Ready.{Ready}
+use Rattle.pv_parse.proofs.Tails.{continued}
 
 pub record Reached (t : List ℕ) (known names : Names) (start counts : Counts) (first : List Item) (initial : List Op) (items : List Item) (code : List Op) (from : ℕ) : Type 0 where
   pub before : List Symbol
   pub spelled : SpellsTo t known start 0 before from names
   pub within : Counted start before counts
   pub orderly : Orderly items
+  pub ready : Ready counts items
+  pub bounded : AreBounded names
   pub exponent : AtExponent (behind_caret before) items
   pub forth : (ss : List Symbol) → GoesOn first (before ++ ss) → GoesOn items ss
   pub back : (ss : List Symbol) (after : List Op) → Leads items ss code after → Leads first (before ++ ss) initial after
 
--- the same, where the names that are kept are those that the tokens declare
-pub record ReachedAs (kept : Names) (t : List ℕ) (known : Names) (start counts : Counts) (first : List Item) (initial : List Op) (items : List Item) (code : List Op) (from : ℕ) : Type 0 where
+-- the same, where the names that are kept are those that the tokens declare, and the scope is what they lead to
+pub record ReachedAs (kept : Names) (t : List ℕ) (known : Names) (start counts : Counts) (first : List Item) (initial : List Op) (items : List Item) (code : List Op) (from : ℕ) (old new : Scoped) : Type 0 where
   pub names : Names
   pub same : AreSame kept names
   pub reached : Reached t known names start counts first initial items code from
+  pub told : Told t start reached.before from counts old new
 
-pub at_start : (t : List ℕ) (known : Names) (start : Counts) (items : List Item) (code : List Op) → Orderly items → AtExponent false items → Reached t known known start start items code items code 0
-at_start t known start items code o e = record {
+pub at_start : (t : List ℕ) (known : Names) (start : Counts) (items : List Item) (code : List Op) → Orderly items → Ready start items → AtExponent false items → AreBounded known →
+    Reached t known known start start items code items code 0
+at_start t known start items code o r e b = record {
   before = [];
   spelled = (refl, refl);
   within = refl;
   orderly = o;
+  ready = r;
+  bounded = b;
   exponent = e;
   forth = λ ss g. g;
   back = λ ss after l. l;
 }
 
-pub starts : (t : List ℕ) (known : Names) (start : Counts) (items : List Item) (code : List Op) → IsStart items → Reached t known known start start items code items code 0
-starts t known start items code is =
+begun_at : (start : Counts) (items : List Item) → IsStart start items → Orderly items × Ready start items × AtExponent false items
+begun_at start items is =
     ⊎_elim
-    (λ e. at_start t known start items code (subst Orderly (sym e) system_orderly) (subst (AtExponent false) (sym e) system_plain))
-    (λ e. at_start t known start items code (subst Orderly (sym e) expression_orderly) (subst (AtExponent false) (sym e) expression_plain))
+    (λ e. subst (λ (c : Counts). Orderly items × Ready c items × AtExponent false items) (sym e.0)
+    (subst (λ (z : List Item). Orderly z × Ready (nothing Between) z × AtExponent false z) (sym e.1) (system_orderly, system_starts, system_plain)))
+    (λ e. subst (λ (c : Counts). Orderly items × Ready c items × AtExponent false items) (sym e.0)
+    (subst (λ (z : List Item). Orderly z × Ready (nothing Sides) z × AtExponent false z) (sym e.1) (expression_orderly, expression_starts, expression_plain)))
     is
+
+pub starts : (t : List ℕ) (known : Names) (start : Counts) (items : List Item) (code : List Op) → IsStart start items → AreBounded known → Reached t known known start start items code items code 0
+starts t known start items code is few =
+    let b : Orderly items × Ready start items × AtExponent false items = begun_at start items is in
+    at_start t known start items code b.0 b.1 b.2 few
 
 -- ---- Lists of tokens, with one more behind them
 
@@ -68,6 +91,10 @@ ok_same r e f = cc
 counted_one : (c : Counts) (ss : List Symbol) (d e : Counts) (s : Symbol) → Counted c ss d → counted d s ≡ Ok e → Counted c (ss ++ s ∷ []) e
 counted_one c [] d e s same one = (e, subst (λ (x : Counts). counted x s ≡ Ok e) (sym same) one, refl)
 counted_one c (r ∷ ss) d e s (m, first, rest) one = (m, first, counted_one m ss d e s rest one)
+
+counted_all : (c : Counts) (ss : List Symbol) (d : Counts) (rest : List Symbol) (e : Counts) → Counted c ss d → Counted d rest e → Counted c (ss ++ rest) e
+counted_all c [] d rest e same more = subst (λ (x : Counts). Counted x rest e) (sym same) more
+counted_all c (r ∷ ss) d rest e (m, first, to) more = (m, first, counted_all m ss d rest e to more)
 
 spells_one : (t : List ℕ) (n : Names) (c : Counts) (from : ℕ) (ss : List Symbol) (to : ℕ) (m : Names) (x : Token) (s : Symbol) (d e : Counts) → SpellsTo t n c from ss to m → Counted c ss d → IsNext t to x →
     ¬ (x.kind ≡ End) → StandsFor d.phase m (bytes_of t x) x.kind s → counted d s ≡ Ok e → SpellsTo t n c from (ss ++ s ∷ []) x.end (learnt d s (bytes_of t x) m)
@@ -120,6 +147,8 @@ taken_on t known names start counts next first initial items code from r x s i r
       spelled = spells_one t known start 0 r.before from names x s counts next r.spelled r.within is_next (not_end counts.phase names t x i s rest code' items'' code'' stands m.1 follows) stands one;
       within = counted_one start r.before counts next s r.within one;
       orderly = taken_orderly i s rest code' items'' code'' (produced i s) refl follows o;
+      ready = taken_ready i s counts next rest code' items'' code'' (produced i s) refl follows one (settled_ready s counts items code (Some i) rest code' settles r.ready);
+      bounded = learnt_bounded counts s (bytes_of t x) names r.bounded;
       exponent = subst (λ (b : Bool). AtExponent b items'') (sym (behind_last r.before s)) (taken_plain i s rest code' items'' code'' (produced i s) refl follows m.1 m.2);
       forth = λ ss g.
           taken_forth i s rest code' items'' code'' (produced i s) refl follows o ss
@@ -147,14 +176,54 @@ whole t known names start counts first initial items code from r x s rest code' 
       code_is = l.code_is;
     }
 
+-- ---- What the tokens declare
+
+pub starts_told : (t : List ℕ) (known : Names) (start : Counts) (items : List Item) (code : List Op) (is : IsStart start items) (few : AreBounded known) (s : Scoped) →
+    Told t start (starts t known start items code is few).before 0 start s s
+unfolding starts at_start
+starts_told t known start items code is few s = told_none t start s
+
+pub taken_told : (t : List ℕ) (known names : Names) (start counts next : Counts) (first : List Item) (initial : List Op) (items : List Item) (code : List Op) (from : ℕ) →
+    (r : Reached t known names start counts first initial items code from) →
+    (x : Token) (s : Symbol) (i : Item) (rest : List Item) (code' : List Op) (items'' : List Item) (code'' : List Op) →
+    (is_next : IsNext t from x) (stands : StandsFor counts.phase names (bytes_of t x) x.kind s) (settles : Settles s items code (Some i) rest code')
+    (follows : Follows (produced i s) rest code' items'' code'') (one : counted counts s ≡ Ok next) (old new newer : Scoped) →
+    Told t start r.before from counts old new → HasFraction s → newer ≡ followed (mark_of t counts.phase s x) new →
+    Told t start (taken_on t known names start counts next first initial items code from r x s i rest code' items'' code'' is_next stands settles follows one).before x.end next old newer
+unfolding taken_on
+taken_told t known names start counts next first initial items code from r x s i rest code' items'' code'' is_next stands settles follows one old new newer h fraction is =
+    told_one t start r.before from counts next old new newer x s h is_next one fraction is
+
+pub whole_told : (t : List ℕ) (known names : Names) (start counts : Counts) (first : List Item) (initial : List Op) (items : List Item) (code : List Op) (from : ℕ) →
+    (r : Reached t known names start counts first initial items code from) →
+    (x : Token) (s : Symbol) (rest : List Item) (code' : List Op) →
+    IsNext t from x → x.kind ≡ End → Settles s items code None rest code' → (old new : Scoped) → Told t start r.before from counts old new →
+    IsToldAs t known start first initial code' old new
+unfolding whole
+whole_told t known names start counts first initial items code from r x s rest code' is_next ends settles old new h = record {
+  sentence = whole t known names start counts first initial items code from r x s rest code' is_next ends settles;
+  marks = h.marks;
+  marked = (from, counts, h.marked);
+  fractions = h.fractions;
+  scoped = h.scoped;
+}
+
 -- ---- A token is refused
 
+record BeginsHere (t : List ℕ) (known : Names) (start : Counts) (first : List Item) (before : List Symbol) (from : ℕ) : Type 0 where
+  begins : BeginsWithin start first before
+  closes : (tail : List ℕ) × (code : List Op) × IsSentence (take from t ++ tail) known start first [] code
+
 begins_here : (t : List ℕ) (known names : Names) (start counts : Counts) (first : List Item) (initial : List Op) (items : List Item) (code : List Op) (from : ℕ) →
-    (r : Reached t known names start counts first initial items code from) → Begins first r.before
+    (r : Reached t known names start counts first initial items code from) → BeginsHere t known start first r.before from
 begins_here t known names start counts first initial items code from r =
-    let c : Closing items = closing items in
+    let c : ClosesFrom names counts items = closes names r.bounded counts items r.ready in
     let l : Leads first (r.before ++ c.symbols) initial (code ++ c.steps) = r.back c.symbols (code ++ c.steps) (record { steps = c.steps; derived = c.derived; code_is = refl }) in
-    record { rest = c.symbols; steps = l.steps; derived = l.derived }
+    let limits : Counted start (r.before ++ c.symbols) c.counts = counted_all start r.before counts c.symbols c.counts r.within c.within in
+    record {
+      begins = record { rest = c.symbols; steps = l.steps; counts = c.counts; derived = l.derived; within = limits };
+      closes = continued t known names start counts c.counts first r.before c.symbols l.steps from c.pieces r.spelled r.within c.spelled l.derived limits;
+    }
 
 -- a token that the grammar takes
 begins_with : (t : List ℕ) (known names : Names) (start counts : Counts) (first : List Item) (initial : List Op) (items : List Item) (code : List Op) (from : ℕ) →
@@ -194,31 +263,41 @@ counted_split c (r ∷ ss) d s rest e cause (m, first, to) err (m', first', more
     counted_split m ss d s rest e cause to err (subst (λ (x : Counts). Counted x (ss ++ s ∷ rest) e) (ok_same (counted c r) first' first) more)
 
 none_begins : (c : Counts) (items : List Item) (before : List Symbol) (d : Counts) (s : Symbol) (cause : Cause) → Counted c before d → IsCause items before d s cause →
-    NoneBegins c items (before ++ s ∷ [])
-none_begins c items before d s cause within (not_allowed never is) b e counts = never b
-none_begins c items before d s cause within (beyond begins err) b e counts =
-    counted_split c before d s b.rest e cause within err (subst (λ (z : List Symbol). Counted c z e) (append_assoc before (s ∷ []) b.rest) counts)
+    ¬ BeginsWithin c items (before ++ s ∷ [])
+none_begins c items before d s cause within (not_allowed never is) b = never (record { rest = b.rest; steps = b.steps; derived = b.derived })
+none_begins c items before d s cause within (beyond begins err) b =
+    counted_split c before d s b.rest b.counts cause within err (subst (λ (z : List Symbol). Counted c z b.counts) (append_assoc before (s ∷ []) b.rest) b.within)
 
 first_fault : (t : List ℕ) (known names : Names) (start counts : Counts) (first : List Item) (initial : List Op) (items : List Item) (code : List Op) (from : ℕ) →
     (r : Reached t known names start counts first initial items code from) →
     (x : Token) (s : Symbol) (cause : Cause) → IsNext t from x → StandsFor counts.phase names (bytes_of t x) x.kind s → IsCause first r.before counts s cause →
-    IsFirst t known start first x.start cause
-first_fault t known names start counts first initial items code from r x s cause is_next stands because = record {
-  before = r.before;
-  from = from;
-  token = x;
-  symbol = s;
-  counts = counts;
-  names = names;
-  spelled = r.spelled;
-  next = is_next;
-  place = refl;
-  stands = stands;
-  within = r.within;
-  begins = begins_here t known names start counts first initial items code from r;
-  none = none_begins start first r.before counts s cause r.within because;
-  because = because;
-}
+    (x.kind ≡ End → (steps : List Op) → Derives first r.before steps → ⊥) → IsFirst t known start first x.start cause
+first_fault t known names start counts first initial items code from r x s cause is_next stands because no_whole =
+    let here : BeginsHere t known start first r.before from = begins_here t known names start counts first initial items code from r in
+    record {
+      before = r.before;
+      from = from;
+      token = x;
+      symbol = s;
+      counts = counts;
+      names = names;
+      spelled = r.spelled;
+      next = is_next;
+      place = refl;
+      stands = stands;
+      within = r.within;
+      begins = here.begins;
+      closes = here.closes;
+      none = none_begins start first r.before counts s cause r.within because;
+      unfinished = no_whole;
+      because = because;
+    }
+
+-- what is whole is nothing more on the pile
+whole_here : (t : List ℕ) (known names : Names) (start counts : Counts) (first : List Item) (initial : List Op) (items : List Item) (code : List Op) (from : ℕ) →
+    (r : Reached t known names start counts first initial items code from) → (steps : List Op) → Derives first r.before steps → GoesOn items []
+whole_here t known names start counts first initial items code from r steps d =
+    r.forth [] (subst (GoesOn first) (sym (append-nil r.before)) (record { steps = steps; derived = d }))
 
 -- the item that is met does not begin with it
 pub refused : (t : List ℕ) (known names : Names) (start counts : Counts) (first : List Item) (initial : List Op) (items : List Item) (code : List Op) (from : ℕ) →
@@ -233,18 +312,22 @@ refused t known names start counts first initial items code from r x s i rest co
     (λ begins. refused_forth i s rest begins.rest (settles_meets s items code (Some i) rest code' settles) never
     (settled_forth s items code (Some i) rest code' settles begins.rest (left_over t known names start counts first initial items code from r s begins)))
     (ap (λ (z : Bool). refusal z s) (sym wanted ∙ m.0)))
+    (λ ends steps d. settles_meets s items code (Some i) rest code' settles
+    (settled_whole s items code (Some i) rest code' settles (whole_here t known names start counts first initial items code from r steps d) i refl) never)
 
 -- nothing more may come
 pub too_much : (t : List ℕ) (known names : Names) (start counts : Counts) (first : List Item) (initial : List Op) (items : List Item) (code : List Op) (from : ℕ) →
     Reached t known names start counts first initial items code from →
     (x : Token) (s : Symbol) (rest : List Item) (code' : List Op) →
-    IsNext t from x → StandsFor counts.phase names (bytes_of t x) x.kind s → Settles s items code None rest code' → IsFirst t known start first x.start (refusal false s)
-too_much t known names start counts first initial items code from r x s rest code' is_next stands settles =
+    IsNext t from x → StandsFor counts.phase names (bytes_of t x) x.kind s → Settles s items code None rest code' → ¬ (x.kind ≡ End) →
+    IsFirst t known start first x.start (refusal false s)
+too_much t known names start counts first initial items code from r x s rest code' is_next stands settles inside =
     let m : Met (behind_caret r.before) None rest = settled_met (behind_caret r.before) s items code None rest code' settles r.exponent in
     first_fault t known names start counts first initial items code from r x s (refusal false s) is_next stands
     (not_allowed
     (λ begins. settled_forth s items code None rest code' settles begins.rest (left_over t known names start counts first initial items code from r s begins))
     (ap (λ (z : Bool). refusal z s) (sym m)))
+    (λ ends. absurd (inside ends))
 
 -- the limits or the declarations forbid it
 pub forbidden : (t : List ℕ) (known names : Names) (start counts : Counts) (first : List Item) (initial : List Op) (items : List Item) (code : List Op) (from : ℕ) →
@@ -255,3 +338,4 @@ pub forbidden : (t : List ℕ) (known names : Names) (start counts : Counts) (fi
 forbidden t known names start counts first initial items code from r x s i rest code' items'' code'' cause is_next stands settles follows one =
     first_fault t known names start counts first initial items code from r x s cause is_next stands
     (beyond (begins_with t known names start counts first initial items code from r s i rest code' items'' code'' settles follows) one)
+    (λ ends. absurd (taken_not_end t known names start counts first initial items code from r x s i rest code' items'' code'' stands settles follows ends))

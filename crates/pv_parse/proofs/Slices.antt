@@ -7,11 +7,11 @@ use Rattle.pv_parse.specs.Tokens.{IsDigit, IsExponent, IsNumber, Run}
 use Rattle.pv_parse.proofs.Decimals.{number_within}
 use Rattle.pv_parse.proofs.Numerals.{exponent_longer, exponent_on, fraction_on}
 
-length_slice : (t : List ℕ) (i j : ℕ) → j ≤ length t → length (slice_range t i j) ≡ j - i
+pub length_slice : (t : List ℕ) (i j : ℕ) → j ≤ length t → length (slice_range t i j) ≡ j - i
 length_slice t i j within = omega (arith, length-take (j - i) (drop i t), length-drop i t)
 
 -- the byte at place k of the text
-byte_in : (t : List ℕ) (i j k m : ℕ) → k ≡ i + m → k < j → get_or (slice_range t i j) m 0 ≡ get_or t k 0
+pub byte_in : (t : List ℕ) (i j k m : ℕ) → k ≡ i + m → k < j → get_or (slice_range t i j) m 0 ≡ get_or t k 0
 byte_in t i j k m is before =
     get_or-take (j - i) (drop i t) m 0 (omega arith) ∙ get_or-drop i t m 0 ∙ ap (λ n. get_or t n 0) (sym is)
 

@@ -1,5 +1,5 @@
 -- What a code means: the expressions that it writes, with the body of each function in place of its calls.
-use Rattle.std.specs.Prelude.{◌≡◌, ◌<◌, ℕ, zero, suc, ◌++◌, List, [], ◌∷◌, Bool, true, false, pos, length, map, reverse, take, drop, get_or}
+use Rattle.std.specs.Prelude.{◌+◌, ◌-◌, ◌≤◌, ◌≡◌, ℕ, zero, suc, ◌++◌, List, [], ◌∷◌, Bool, true, false, pos, length, map, reverse, take, drop, get_or, Option, Some, None}
 use Rattle.pv_expr.specs.Terms.{Term, constant, place, one, two, Unary, negation, absolute, power, Binary, sum, difference, product, quotient, least, greatest, term_of}
 use Rattle.pv_expr.specs.declared.expr.Expr.{Expr}
 use Rattle.pv_expr.specs.declared.constraint.Relation.{Relation}
@@ -76,6 +76,11 @@ meanings_behind ms (body ∷ bodies) = meanings_behind (ms ++ body_meaning ms bo
 abbrev pub meanings : List (List Op) → List Meaning
 meanings bodies = meanings_behind [] bodies
 
+-- a stack with one value more, if there is one
+abbrev pub stacked : Option Expr → List Term → List Term
+stacked None st = st
+stacked (Some e) st = term_of e ∷ st
+
 -- the terms of a stack of expressions, the top first
 unfoldable pub stack_of : List Expr → List Term
 stack_of es = reverse (map term_of es)
@@ -121,6 +126,12 @@ IsValue Define = ⊥
 IsValue (Relate r) = ⊥
 IsValue o = Unit {0}
 
+abbrev pub IsEnd : Op → Type 0
+IsEnd Define = Unit {0}
+IsEnd (Relate r) = Unit {0}
+IsEnd o = ⊥
+
+-- the marks of a function's parameters
 abbrev pub callee : List Function → ℕ → List Bool
 callee [] k = []
 callee (f ∷ fs) zero = f.uses.items
@@ -133,29 +144,71 @@ uses_of fs (Two b) = true ∷ true ∷ []
 uses_of fs (Call k n) = callee fs k
 uses_of fs o = []
 
+-- a function that is its one used parameter alone
+abbrev pub IsAlone : List Function → ℕ → Type 0
+IsAlone [] k = ⊥
+IsAlone (f ∷ fs) zero = f.code.items ≡ Parameter 0 ∷ []
+IsAlone (f ∷ fs) (suc k) = IsAlone fs k
+
 -- the functions' own codes, over the arguments that they use, have these meanings
 abbrev pub Stand : List Function → List Meaning → Type 0
-Stand fs ms = (k : ℕ) → k < length fs → (args : List Term) →
-    meaning_of ms k args ≡ meaning_of (meanings (map code_of fs)) k (filtered (callee fs k) args)
+Stand fs ms = (k : ℕ) (args : List Term) → meaning_of ms k args ≡ meaning_of (meanings (map code_of fs)) k (filtered (callee fs k) args)
 
 -- a used step does with the values that it uses what the step does with all
-abbrev pub KeepsUsed : List Function → List Bool → Op → List Op → List Op → Type 0
-KeepsUsed fs uses o before after = (ms : List Meaning) (args a rest : List Term) → Stand fs ms → length a ≡ arity_of o →
-    run (meanings (map code_of fs)) (filtered uses args) (reverse after) (filtered (reverse (wants (uses_of fs o) (arity_of o))) a ++ rest)
-    ≡ run (meanings (map code_of fs)) (filtered uses args) (reverse before) (top (step ms args o a) ∷ rest)
+abbrev pub KeepsUsed : List Function → Op → List Op → List Op → Type 0
+KeepsUsed fs o before after = (ms : List Meaning) (args a rest : List Term) → Stand fs ms → length a ≡ arity_of o →
+    run (meanings (map code_of fs)) args (reverse after) (filtered (reverse (wants (uses_of fs o) (arity_of o))) a ++ rest)
+    ≡ run (meanings (map code_of fs)) args (reverse before) (top (step ms args o a) ∷ rest)
 
--- with one step more in front, the wanted values of a stack still lead to the same
-abbrev pub KeepsStep : List Function → List Bool → Op → List Bool → List Op → List Bool → List Op → Type 0
-KeepsStep fs uses o wanted before wanted' after = (ms : List Meaning) (args st : List Term) → Stand fs ms → length st ≡ length wanted' →
-    (length (step ms args o st) ≡ length wanted)
-    × (run (meanings (map code_of fs)) (filtered uses args) (reverse after) (filtered (reverse wanted') st)
-    ≡ run (meanings (map code_of fs)) (filtered uses args) (reverse before) (filtered (reverse wanted) (step ms args o st)))
+-- with one step more in front, the wanted values on top of a stack still lead to the same
+abbrev pub KeepsStep : List Function → Op → List Bool → List Op → List Bool → List Op → Type 0
+KeepsStep fs o wanted before wanted' after = (ms : List Meaning) (args st : List Term) → Stand fs ms → length wanted' ≤ length st →
+    (length wanted ≤ length (step ms args o st))
+    × (run (meanings (map code_of fs)) args (reverse after) (filtered (reverse wanted') st)
+    ≡ run (meanings (map code_of fs)) args (reverse before) (filtered (reverse wanted) (step ms args o st)))
 
--- the used part of a code leaves what the code leaves, which is so many values
-abbrev pub KeepsCode : List Function → List Bool → List Op → ℕ → List Op → Type 0
-KeepsCode fs uses code n kept = (ms : List Meaning) (args : List Term) → Stand fs ms →
-    (length (run ms args code []) ≡ n)
-    × (run (meanings (map code_of fs)) (filtered uses args) kept [] ≡ run ms args code [])
+-- the used part of a code leaves the last so many values that the code leaves
+abbrev pub KeepsCode : List Function → List Op → ℕ → List Op → Type 0
+KeepsCode fs code n kept = (ms : List Meaning) (args : List Term) → Stand fs ms → run (meanings (map code_of fs)) args kept [] ≡ take n (run ms args code [])
+
+-- a parameter that occurs is marked
+abbrev pub IsMarked : List Bool → Op → Type 0
+IsMarked uses (Parameter i) = is_used uses i ≡ true
+IsMarked uses o = Unit {0}
+
+-- over the parameters that are used alone
+abbrev pub renumber : List Bool → Op → Op
+renumber uses (Parameter i) = Parameter (rank uses i)
+renumber uses o = o
+
+-- a function's code, over the arguments that it uses, leaves the value that its body leaves
+abbrev pub KeepsBody : List Function → List Op → Function → Type 0
+KeepsBody fs body f = (ms : List Meaning) (args : List Term) → Stand fs ms →
+    body_meaning (meanings (map code_of fs)) f.code.items (filtered f.uses.items args) ≡ body_meaning ms body args
+
+-- ---- Codes that take no value that is not there
+
+-- how many values there are behind a step at least
+abbrev pub height_behind : Op → ℕ → ℕ
+height_behind Define h = h
+height_behind (Relate r) h = h
+height_behind o h = h - arity_of o + 1
+
+-- each step finds the values that it takes, and so many are left
+abbrev pub HasValues : ℕ → List Op → ℕ → Type 0
+HasValues h [] n = n ≤ h
+HasValues h (o ∷ code) n = (arity_of o ≤ h) × HasValues (height_behind o h) code n
+
+-- the values that are wanted before a step are there where those behind it are
+abbrev pub WantsPresent : Op → List Bool → List Bool → Type 0
+WantsPresent o wanted wanted' = (h : ℕ) → arity_of o ≤ h → length wanted ≤ height_behind o h → length wanted' ≤ h
+
+-- each body leaves a value, and each constraint its two sides
+abbrev pub AreParts : ℕ → List Op → Type 0
+AreParts h [] = Unit {0}
+AreParts h (Define ∷ code) = (1 ≤ h) × AreParts 0 code
+AreParts h (Relate r ∷ code) = (2 ≤ h) × AreParts 0 code
+AreParts h (o ∷ code) = (arity_of o ≤ h) × AreParts (h - arity_of o + 1) code
 
 -- ---- The constraints of a code
 

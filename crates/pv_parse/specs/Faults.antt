@@ -1,22 +1,26 @@
 -- Where a refused text is at fault, and why.
-use Rattle.std.specs.Prelude.{◌≡◌, ℕ, ◌≤◌, ◌<◌, Bool, true, false, List, [], ◌∷◌, ◌++◌, length, Err, if◌then◌else◌}
+use Rattle.std.specs.Prelude.{◌≡◌, ℕ, ◌≤◌, ◌<◌, ◌⊎◌, Bool, true, false, List, [], ◌∷◌, ◌++◌, length, map, slice_get, take, Some, Err, if◌then◌else◌}
 use Rattle.pv_parse.specs.declared.cause.Cause.{Cause}
 use Rattle.pv_parse.specs.declared.cause.Cause.TheVariants.{TextTooLong, BadBounds, TooLarge, EndOfText as TextEnds, BadExponent, Unexpected}
 use Rattle.pv_parse.specs.declared.cause.ParseRefused.{ParseRefused}
 use Rattle.pv_parse.specs.declared.cause.ParseRefused.TheVariants.{Memory, Fault}
 use Rattle.pv_parse.specs.declared.code.Op.{Op}
 use Rattle.pv_parse.specs.declared.counts.Counts.{Counts}
-use Rattle.pv_parse.specs.declared.counts.Phase.TheVariants.{Sides}
+use Rattle.pv_parse.specs.declared.counts.Phase.TheVariants.{Between, Sides}
 use Rattle.pv_parse.specs.declared.machine.Item.{Item}
 use Rattle.pv_parse.specs.declared.symbol.Fixed.TheVariants.{Caret, EndOfText}
 use Rattle.pv_parse.specs.declared.symbol.Symbol.{Symbol}
 use Rattle.pv_parse.specs.declared.symbol.Symbol.TheVariants.{Never, Fixed as FixedToken}
+use Rattle.pv_parse.specs.declared.token.Kind.TheVariants.{End}
 use Rattle.pv_parse.specs.declared.token.Token.{Token}
-use Rattle.pv_parse.specs.Grammar.{Derives, expression_items}
+use Rattle.pv_parse.specs.Declarations.{AreGood, IsFirstBad, Reading, bracket_in, domain_in, starts_in, variables_in}
+use Rattle.pv_parse.specs.Expansion.{constraints_of}
+use Rattle.pv_parse.specs.Grammar.{Derives, expression_items, system_items}
 use Rattle.pv_parse.specs.Limits.{counted, Counted, nothing}
 use Rattle.pv_parse.specs.Places.{line_of, column_of}
-use Rattle.pv_parse.specs.Meanings.{KnowsVariables, Names}
+use Rattle.pv_parse.specs.Meanings.{KnowsVariables, Names, no_names}
 use Rattle.pv_parse.specs.Sentences.{IsSentence, SpellsTo, StandsFor, bytes_of}
+use Rattle.pv_parse.specs.Sizes.{IsFirstLarge}
 use Rattle.pv_parse.specs.Tokens.{IsNext}
 
 -- a fault's byte lies in the text or at its end, and its line and column are those of the byte
@@ -34,15 +38,21 @@ abbrev pub IsAt : ℕ → Cause → ParseRefused → Type 0
 IsAt byte cause Memory = ⊥
 IsAt byte cause (Fault byte' line column cause') = (byte' ≡ byte) × (cause' ≡ cause)
 
--- a fault has this cause
-abbrev pub IsCausedBy : Cause → ParseRefused → Type 0
-IsCausedBy cause Memory = Unit {0}
-IsCausedBy cause (Fault byte line column cause') = cause' ≡ cause
+-- a fault is at the start of a constraint, which is too large
+abbrev pub IsAtStart : List ℕ → ℕ → ParseRefused → Type 0
+IsAtStart starts i Memory = Unit {0}
+IsAtStart starts i (Fault byte line column cause) = (cause ≡ TooLarge) × (slice_get starts i ≡ Some byte)
+
+-- a fault names the first constraint of a code that is too large, by the byte where it is said to begin
+abbrev pub IsLargeAt : List ℕ → List Op → ParseRefused → Type 0
+IsLargeAt starts code Memory = Unit {0}
+IsLargeAt starts code (Fault byte line column cause) =
+    (cause ≡ TooLarge) × (i : ℕ) × IsFirstLarge (constraints_of code) i × (slice_get starts i ≡ Some byte)
 
 -- a fault comes from the length of the text
 abbrev pub IsLong : List ℕ → ParseRefused → Type 0
 IsLong t Memory = Unit {0}
-IsLong t (Fault byte line column cause) = (cause ≡ TextTooLong) × (65536 < length t)
+IsLong t (Fault byte line column cause) = (65536 < length t) × (byte ≡ 65536) × (cause ≡ TextTooLong)
 
 -- ---- The cause of a token that the grammar refuses
 
@@ -70,17 +80,22 @@ pub record Begins (items : List Item) (ss : List Symbol) : Type 0 where
   pub steps : List Op
   pub derived : Derives items (ss ++ rest) steps
 
--- no sentence within the limits begins with these tokens
-abbrev pub NoneBegins : Counts → List Item → List Symbol → Type 0
-NoneBegins start items ss = (b : Begins items ss) (d : Counts) → Counted start (ss ++ b.rest) d → ⊥
+-- a text of the items within the limits begins with these tokens
+pub record BeginsWithin (start : Counts) (items : List Item) (ss : List Symbol) : Type 0 where
+  pub rest : List Symbol
+  pub steps : List Op
+  pub counts : Counts
+  pub derived : Derives items (ss ++ rest) steps
+  pub within : Counted start (ss ++ rest) counts
 
--- a token behind these: the grammar refuses it, or the limits and declarations do where the grammar takes it
+-- a token behind these: the grammar refuses it, or the limits and declarations do where the grammar, with them left aside, takes it
 pub data IsCause (items : List Item) (before : List Symbol) (counts : Counts) (s : Symbol) (cause : Cause) : Type 0 where
   not_allowed : ¬ Begins items (before ++ s ∷ []) → cause ≡ refusal (behind_caret before) s → IsCause items before counts s cause
   beyond : Begins items (before ++ s ∷ []) → counted counts s ≡ Err cause → IsCause items before counts s cause
 
--- the token at the byte is the first such that no sentence begins with the tokens up to and with it:
--- those before it begin a text of the grammar and are within the limits
+-- the token at the byte is the first such that no sentence begins with the tokens up to and with it: the text up to the end of
+-- the token before it, with other bytes behind that, is a sentence (`closes`), and no tokens behind it make one (`none`); where it
+-- is the end of the text, the tokens before it are no sentence
 pub record IsFirst (t : List ℕ) (known : Names) (start : Counts) (items : List Item) (byte : ℕ) (cause : Cause) : Type 0 where
   pub before : List Symbol
   pub from : ℕ
@@ -93,25 +108,55 @@ pub record IsFirst (t : List ℕ) (known : Names) (start : Counts) (items : List
   pub place : byte ≡ token.start
   pub stands : StandsFor counts.phase names (bytes_of t token) token.kind symbol
   pub within : Counted start before counts
-  pub begins : Begins items before
-  pub none : NoneBegins start items (before ++ symbol ∷ [])
+  pub begins : BeginsWithin start items before
+  pub closes : (tail : List ℕ) × (code : List Op) × IsSentence (take from t ++ tail) known start items [] code
+  pub none : ¬ BeginsWithin start items (before ++ symbol ∷ [])
+  pub unfinished : token.kind ≡ End → (steps : List Op) → Derives items before steps → ⊥
   pub because : IsCause items before counts symbol cause
+
+-- the first fault of the text of a system
+abbrev pub IsSystemFault : List ℕ → ℕ → Cause → Type 0
+IsSystemFault t byte cause = IsFirst t no_names (nothing Between) system_items byte cause
+
+-- and of the text of an expression, where the variables are known
+abbrev pub IsExpressionFault : List (List ℕ) → List ℕ → ℕ → Cause → Type 0
+IsExpressionFault variables t byte cause = (n : Names) × KnowsVariables variables n × IsFirst t n (nothing Sides) expression_items byte cause
+
+-- something holds, or a place is a fault
+abbrev pub IsEither : Type 0 → (ℕ → Cause → Type 0) → Type 0
+IsEither holds IsFault = holds ⊎ ((byte : ℕ) × (cause : Cause) × IsFault byte cause)
+
+-- no place is a fault where something holds
+abbrev pub Excludes : Type 0 → (ℕ → Cause → Type 0) → Type 0
+Excludes holds IsFault = (byte : ℕ) (cause : Cause) → holds → IsFault byte cause → ⊥
+
+-- at most one place is a fault, for one cause
+abbrev pub IsAtMostOne : (ℕ → Cause → Type 0) → Type 0
+IsAtMostOne IsFault = (byte byte' : ℕ) (cause cause' : Cause) → IsFault byte cause → IsFault byte' cause' → (byte ≡ byte') × (cause ≡ cause')
 
 abbrev pub IsFirstOf : List ℕ → Names → Counts → List Item → ParseRefused → Type 0
 IsFirstOf t known start items Memory = Unit {0}
 IsFirstOf t known start items (Fault byte line column cause) = IsFirst t known start items byte cause
 
--- the fault of a text: the first one; or bad bounds or too many nodes, in a text that is a sentence; or the text is too long
-pub data IsFaultOf (t : List ℕ) (known : Names) (start : Counts) (items : List Item) (byte : ℕ) (cause : Cause) : Type 0 where
-  first : IsFirst t known start items byte cause → IsFaultOf t known start items byte cause
-  bounds : cause ≡ BadBounds → (code : List Op) → IsSentence t known start items [] code → IsFaultOf t known start items byte cause
-  large : cause ≡ TooLarge → (code : List Op) → IsSentence t known start items [] code → IsFaultOf t known start items byte cause
-  long : cause ≡ TextTooLong → 65536 < length t → IsFaultOf t known start items byte cause
+-- the fault of a system's text: it is too long, and the first byte too many is at fault; or the first fault of its tokens; or it
+-- is a sentence, and the first bad domain opens at the byte, or there is none and the first constraint that is too large begins there
+pub data IsFaultOf (t : List ℕ) (byte : ℕ) (cause : Cause) : Type 0 where
+  long : 65536 < length t → byte ≡ 65536 → cause ≡ TextTooLong → IsFaultOf t byte cause
+  first : length t ≤ 65536 → IsSystemFault t byte cause → IsFaultOf t byte cause
+  bounds : length t ≤ 65536 → (r : Reading t) → IsFirstBad (map domain_in (variables_in r.marks)) (map bracket_in (variables_in r.marks)) byte →
+      cause ≡ BadBounds → IsFaultOf t byte cause
+  large : length t ≤ 65536 → (r : Reading t) → AreGood (map domain_in (variables_in r.marks)) → (i : ℕ) → IsFirstLarge (constraints_of r.code) i →
+      slice_get (starts_in r.marks) i ≡ Some byte → cause ≡ TooLarge → IsFaultOf t byte cause
 
-abbrev pub IsRefusal : List ℕ → Names → Counts → List Item → ParseRefused → Type 0
-IsRefusal t known start items Memory = Unit {0}
-IsRefusal t known start items (Fault byte line column cause) = IsFaultOf t known start items byte cause
+abbrev pub IsRefusal : List ℕ → ParseRefused → Type 0
+IsRefusal t Memory = Unit {0}
+IsRefusal t (Fault byte line column cause) = IsFaultOf t byte cause
 
--- the same of one expression, where the variables are known
+-- the fault of an expression's text, where the variables are known: it is too long, or the first fault of its tokens
+pub data IsExpressionFaultOf (variables : List (List ℕ)) (t : List ℕ) (byte : ℕ) (cause : Cause) : Type 0 where
+  long : 65536 < length t → byte ≡ 65536 → cause ≡ TextTooLong → IsExpressionFaultOf variables t byte cause
+  first : length t ≤ 65536 → IsExpressionFault variables t byte cause → IsExpressionFaultOf variables t byte cause
+
 abbrev pub IsExpressionRefusal : List (List ℕ) → List ℕ → ParseRefused → Type 0
-IsExpressionRefusal variables t e = (n : Names) × KnowsVariables variables n × IsRefusal t n (nothing Sides) expression_items e
+IsExpressionRefusal variables t Memory = Unit {0}
+IsExpressionRefusal variables t (Fault byte line column cause) = IsExpressionFaultOf variables t byte cause

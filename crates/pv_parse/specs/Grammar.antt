@@ -1,7 +1,7 @@
 -- The grammar. A text is a list of items. Each item has at most one way to begin with a given token: `produced` says
 -- what must come behind that token, and which steps of the expression's code are written. An item may be left out
 -- where `MayEnd` says so. So `MoreTerms` stands for { ("+" | "-") term }, and `MaybeDomain` for an optional domain.
-use Rattle.std.specs.Prelude.{◌≡◌, ◌≢◌, ◌⊎◌, Bool, true, false, ℕ, zero, suc, ◌-◌, List, [], ◌∷◌, ◌++◌, Option, Some, None, reverse}
+use Rattle.std.specs.Prelude.{◌≡◌, ◌≢◌, Bool, true, false, ℕ, zero, suc, ◌-◌, List, [], ◌∷◌, ◌++◌, Option, Some, None, reverse}
 use Rattle.pv_expr.specs.declared.constraint.Relation.TheVariants.{Eq}
 use Rattle.pv_parse.specs.declared.code.Op.{Op}
 use Rattle.pv_parse.specs.declared.code.Op.TheVariants.{Constant, Variable, Parameter, One, Two, Define, Relate}
@@ -231,9 +231,6 @@ system_items =
 
 abbrev pub expression_items : List Item
 expression_items = expression_behind []
-
-abbrev pub IsStart : List Item → Type 0
-IsStart items = (items ≡ system_items) ⊎ (items ≡ expression_items)
 
 -- tokens that are a text of the items have one code
 abbrev pub IsReadOnce : List Item → Type 0

@@ -1,12 +1,15 @@
+pub mod Declarations
+pub mod Scopes
 pub mod Expansion
 pub mod Faults
 pub mod Grammar
 pub mod Limits
 pub mod Meanings
 pub mod Sentences
-pub mod Names
+pub mod Sizes
 pub mod Numbers
 pub mod Places
 pub mod Tokens
 pub mod Views
 pub mod Words
+pub mod Fractions

@@ -1,6 +1,6 @@
 -- The limits of a text, counted token by token: how the counts go on behind a token, or the cause that forbids it.
 -- The grammar is left aside here: a token that it refuses may be counted in any way.
-use Rattle.std.specs.Prelude.{◌≡◌, ℕ, ◌+◌, ◌-◌, nat_lt, Bool, true, false, List, [], ◌∷◌, Result, Ok, Err, is_some, if◌then◌else◌}
+use Rattle.std.specs.Prelude.{◌≡◌, ℕ, ◌+◌, ◌-◌, nat_lt, Bool, true, false, List, [], ◌∷◌, ◌⊎◌, Result, Ok, Err, is_some, if◌then◌else◌}
 use Rattle.pv_parse.specs.declared.cause.Cause.{Cause}
 use Rattle.pv_parse.specs.declared.cause.Cause.TheVariants.{UnknownName, DuplicateName, TooManyVariables, TooManyConstraints, TooManyFunctions, TooDeep, Unexpected}
 use Rattle.pv_parse.specs.declared.counts.Phase.{Phase}
@@ -10,7 +10,8 @@ use Rattle.pv_parse.specs.declared.symbol.Fixed.{Fixed}
 use Rattle.pv_parse.specs.declared.symbol.Fixed.TheVariants.{Plus, Minus, Star, Slash, Caret, Open, Close, OpenBracket, CloseBracket, Comma, Semicolon, Constants as ConstantsWord, Variables as VariablesWord, Constraints, Function as FunctionWord, Return, End}
 use Rattle.pv_parse.specs.declared.symbol.Symbol.{Symbol}
 use Rattle.pv_parse.specs.declared.symbol.Symbol.TheVariants.{Fixed as FixedToken, Declared, Function as Call, Unknown}
-use Rattle.pv_parse.specs.Grammar.{factor}
+use Rattle.pv_parse.specs.declared.machine.Item.{Item}
+use Rattle.pv_parse.specs.Grammar.{expression_items, factor, system_items}
 
 abbrev pub Counting : Type 0
 Counting = Result Counts Cause
@@ -144,3 +145,7 @@ counted c s = next (begun c s) (λ d. next (operated d s) (λ e. next (nested e 
 abbrev pub Counted : Counts → List Symbol → Counts → Type 0
 Counted c [] d = c ≡ d
 Counted c (s ∷ ss) d = (e : Counts) × (counted c s ≡ Ok e) × Counted e ss d
+
+-- the text of a system begins between its blocks, and that of an expression within it
+abbrev pub IsStart : Counts → List Item → Type 0
+IsStart c items = ((c ≡ nothing Between) × (items ≡ system_items)) ⊎ ((c ≡ nothing Sides) × (items ≡ expression_items))

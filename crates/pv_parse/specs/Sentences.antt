@@ -97,6 +97,10 @@ SpellsTo t n c from (s ∷ ss) to m =
 abbrev pub Spells : List ℕ → Names → Counts → List Symbol → Type 0
 Spells t n c ss = (to : ℕ) × (m : Names) × (x : Token) × SpellsTo t n c 0 ss to m × IsNext t to x × (x.kind ≡ EndKind)
 
+-- a text is one list of tokens for the grammar
+abbrev pub IsSpelledOnce : List ℕ → Names → Counts → Type 0
+IsSpelledOnce t n c = (ss ss' : List Symbol) → Spells t n c ss → Spells t n c ss' → ss ≡ ss'
+
 -- the text is a sentence of the items within the limits, where these names are declared before it, and its steps lead from one
 -- code to the other
 pub record IsSentence (t : List ℕ) (known : Names) (start : Counts) (items : List Item) (before after : List Op) : Type 0 where
@@ -107,6 +111,10 @@ pub record IsSentence (t : List ℕ) (known : Names) (start : Counts) (items : L
   pub within : Counted start symbols counts
   pub derived : Derives items symbols steps
   pub code_is : after ≡ before ++ steps
+
+-- a sentence has one code
+abbrev pub HasOneCode : List ℕ → Names → Counts → List Item → Type 0
+HasOneCode t n c items = (code code' : List Op) → IsSentence t n c items [] code → IsSentence t n c items [] code' → code ≡ code'
 
 -- the text is a sentence of the grammar within the limits, where each name stands for what it was declared as
 abbrev pub IsSystemText : List ℕ → Type 0

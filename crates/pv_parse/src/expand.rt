@@ -1,11 +1,13 @@
 // The expansion of calls: top-down, over what is used alone.
 
-ghost use Rattle.std.specs.Prelude.{◌≡◌, ◌∷◌, ◌++◌, ◌+◌, ◌<◌, ◌≤◌, [], List, length, map, reverse, take, drop, IfOk, OnOk, IsOk, IsTrue, if◌then◌else◌};
+ghost use Rattle.std.specs.Bool.{MatchBool};
+ghost use Rattle.std.specs.Prelude.{◌≡◌, ℕ, All, true, ◌∷◌, ◌++◌, ◌+◌, ◌<◌, ◌≤◌, [], List, length, map, reverse, take, drop, IfOk, OnOk, IsOk, IsTrue, if◌then◌else◌};
 ghost use Rattle.pv_expr.specs.Terms.{term_of, one, two};
-ghost use Rattle.pv_parse.specs.Expansion.{argument, meaning_of, meanings, run, step, is_used, rank, wants, arity_of, uses_of, IsValue, KeepsUsed, KeepsStep, KeepsCode, Meaning, Stand, sides_of, part_sides, stack_of, code_of, unary_of, binary_of, top, below};
+ghost use Rattle.pv_parse.specs.Expansion.{argument, body_meaning, meaning_of, meanings, run, step, is_used, rank, wants, arity_of, uses_of, callee, nothing, renumber, stacked, HasValues, WantsPresent, IsAlone, IsEnd, IsMarked, IsValue, KeepsBody, KeepsUsed, KeepsStep, KeepsCode, Meaning, Stand, sides_of, part_sides, stack_of, code_of, unary_of, binary_of, top, below};
+ghost use Rattle.pv_parse.specs.Sizes.{AreMeasured, IsMeasured, IsShortCall};
 
 use crate::code::{Binary, Op, Unary};
-use crate::measure::{Measure, measures};
+use crate::measure::{Measure, measures, topmost};
 use pv_expr::{Constraint, Expr, Relation};
 use pv_num::Memory;
 use std::alloc::Global;
@@ -23,13 +25,16 @@ pub(crate) struct Function {
 impl Function {
     /// The function of a body, over the functions before it.
     pub(crate) fn of(alloc: Global, functions: &[Function], body: &[Op]) -> Result<Function, Memory>
-        ensures { IfOk result (λ f. KeepsCode functions.now f.uses.items body.now 1 f.code.items) }
+        requires short { All IsShortCall body.now }
+        requires present { HasValues 0 body.now 1 }
+        ensures keeps { IfOk result (λ f. KeepsBody functions.now body.now f) }
+        ensures measured { IfOk result (λ f. (ms : List Meaning) → AreMeasured functions.now ms → IsMeasured f.measure (body_meaning ms body.now)) }
     {
-        let Some(measure) = measures(alloc, functions, body)?.pop() else {
-            return Err(Memory);
-        };
-        let uses = uses_of(alloc, &measure)?;
-        let code = used_code(alloc, functions, uses.as_slice(), body, 1)?;
+        let mut left = measures(alloc, functions, body)?;
+        let measure = topmost(&mut left);
+        let kept = used_code(alloc, functions, body, 1)?;
+        let uses = marks(alloc, kept.as_slice())?;
+        let code = renumbered(alloc, uses.as_slice(), kept.as_slice())?;
         Ok(Function {
             measure,
             uses,
@@ -49,12 +54,56 @@ impl Function {
 }
 
 // Which parameters occur.
-fn uses_of(alloc: Global, measure: &Measure) -> Result<Vec<bool>, Memory> {
-    let mut uses = Vec::new(alloc);
-    for reach in measure.reach {
-        uses.push(reach > 0)?;
+fn marks(alloc: Global, code: &[Op]) -> Result<Vec<bool>, Memory>
+    ensures { IfOk result (λ uses. All (IsMarked uses.items) code.now) }
+{
+    let mut uses = vec![in alloc; false; 256]?;
+    for op in code {
+        if let Op::Parameter(i) = *op {
+            uses[i as usize] = true;
+        }
     }
     Ok(uses)
+}
+
+// The code over the parameters that are used alone, numbered anew.
+fn renumbered(alloc: Global, uses: &[bool], code: &[Op]) -> Result<Vec<Op>, Memory>
+    ensures { IfOk result (λ made. made.items ≡ map (renumber uses.now) code.now) }
+{
+    let mut made = Vec::new(alloc);
+    for op in code {
+        made.push(renumber(uses, *op))?;
+    }
+    Ok(made)
+}
+
+fn renumber(uses: &[bool], op: Op) -> Op
+    ensures { result ≡ renumber uses.now op }
+{
+    match op {
+        Op::Parameter(i) => Op::Parameter(rank(uses, i)),
+        _ => op,
+    }
+}
+
+// The marks of a function's parameters.
+fn uses_at(functions: &[Function], function: u8) -> &[bool]
+    ensures { result.now ≡ callee functions.now function }
+{
+    match functions.get(function as usize) {
+        Some(callee) => callee.uses.as_slice(),
+        None => &[],
+    }
+}
+
+// Whether a function is its one used parameter alone.
+fn is_alone(functions: &[Function], function: u8) -> bool
+    ensures { IsTrue result → IsAlone functions.now function }
+{
+    match functions.get(function as usize) {
+        Some(callee) => callee.is_parameter(),
+        None => false,
+    }
 }
 
 // How many of the first so many parameters are used.
@@ -84,17 +133,17 @@ fn is_used(uses: &[bool], i: u8) -> bool
     }
 }
 
-/// The part of a code that is used where its last so many values are, with the parameters that are used numbered anew:
-/// no step of an argument that a callee leaves out, and no call of a function that is a parameter alone.
+/// The part of a code that is used where its last so many values are: no step of an argument that a callee leaves out, and no
+/// call of a function that is a parameter alone.
 pub(crate) fn used_code(
     alloc: Global,
     functions: &[Function],
-    uses: &[bool],
     code: &[Op],
     values: u8,
 ) -> Result<Vec<Op>, Memory>
-    requires { values ≤ 2 }
-    ensures { IfOk result (λ kept. KeepsCode functions.now uses.now code.now values kept.items) }
+    requires few { values ≤ 2 }
+    requires present { HasValues 0 code.now values }
+    ensures { IfOk result (λ kept. KeepsCode functions.now code.now values kept.items) }
 {
     let mut wanted: Vec<bool> = Vec::new(alloc);
     want(&[true, true], values, &mut wanted)?;
@@ -102,10 +151,7 @@ pub(crate) fn used_code(
     let mut i = code.len();
     while i > 0 {
         i -= 1;
-        keep(functions, uses, code[i], &mut wanted, &mut kept)?;
-    }
-    if wanted.len() > 0 {
-        return Err(Memory);
+        keep(functions, code[i], &mut wanted, &mut kept)?;
     }
     Ok(turned(kept))
 }
@@ -120,95 +166,78 @@ fn turned(mut code: Vec<Op>) -> Vec<Op>
 // Goes back over one step: keeps it where its value is wanted, and wants its arguments.
 fn keep(
     functions: &[Function],
-    uses: &[bool],
     op: Op,
     wanted: &mut Vec<bool>,
     kept: &mut Vec<Op>,
 ) -> Result<(), Memory>
-    ensures { OnOk result (KeepsStep functions.now uses.now op wanted.old.items kept.old.items wanted.new.items kept.new.items) }
+    ensures keeps { OnOk result (KeepsStep functions.now op wanted.old.items kept.old.items wanted.new.items kept.new.items) }
+    ensures present { OnOk result (WantsPresent op wanted.old.items wanted.new.items) }
 {
+    if !is_value(op) {
+        return Ok(());
+    }
     let Some(used) = wanted.pop() else {
-        return Err(Memory);
+        return Ok(());
     };
-    let arity = arity_of(op)?;
     if used {
-        keep_used(functions, uses, op, kept)?;
-        want_used(functions, op, arity, wanted)?;
+        keep_used(functions, op, kept)?;
+        want_used(functions, op, wanted)?;
     } else {
-        want(&[], arity, wanted)?;
+        want(&[], arity_of(op), wanted)?;
     }
     Ok(())
 }
 
-// How many values a step takes.
-fn arity_of(op: Op) -> Result<u8, Memory>
-    ensures value { IfOk result (λ n. n ≡ arity_of op) }
-    ensures kind { IsOk result → IsValue op }
+fn is_value(op: Op) -> bool
+    ensures { MatchBool result (IsValue op) (IsEnd op) }
 {
     match op {
-        Op::Constant(_) | Op::Variable(_) | Op::Parameter(_) => Ok(0),
-        Op::One(_) => Ok(1),
-        Op::Two(_) => Ok(2),
-        Op::Call { arity, .. } => Ok(arity),
-        Op::Define | Op::Relate(_) => Err(Memory),
+        Op::Define | Op::Relate(_) => false,
+        _ => true,
+    }
+}
+
+// How many values a step takes.
+fn arity_of(op: Op) -> u8
+    ensures { result ≡ arity_of op }
+{
+    match op {
+        Op::One(_) => 1,
+        Op::Two(_) => 2,
+        Op::Call { arity, .. } => arity,
+        _ => 0,
     }
 }
 
 // Keeps a step that is used: a call of a function that is a parameter alone is its argument.
-fn keep_used(
-    functions: &[Function],
-    uses: &[bool],
-    op: Op,
-    kept: &mut Vec<Op>,
-) -> Result<(), Memory>
-    ensures { OnOk result (KeepsUsed functions.now uses.now op kept.old.items kept.new.items) }
+fn keep_used(functions: &[Function], op: Op, kept: &mut Vec<Op>) -> Result<(), Memory>
+    requires { IsValue op }
+    ensures { OnOk result (KeepsUsed functions.now op kept.old.items kept.new.items) }
 {
     match op {
-        Op::Parameter(i) => {
-            if !is_used(uses, i) {
-                return Err(Memory);
-            }
-            kept.push(Op::Parameter(rank(uses, i)))?;
-        }
         Op::Call { function, arity } => {
-            let i = function as usize;
-            if i >= functions.len() {
-                return Err(Memory);
-            }
-            let count = rank(functions[i].uses.as_slice(), arity);
-            if count != 1 || !functions[i].is_parameter() {
+            let count = rank(uses_at(functions, function), arity);
+            if count != 1 || !is_alone(functions, function) {
                 kept.push(Op::Call {
                     function,
                     arity: count,
                 })?;
             }
         }
-        Op::Define | Op::Relate(_) => return Err(Memory),
         _ => kept.push(op)?,
     }
     Ok(())
 }
 
 // Wants those of a step's values that it uses.
-fn want_used(
-    functions: &[Function],
-    op: Op,
-    arity: u8,
-    wanted: &mut Vec<bool>,
-) -> Result<(), Memory>
-    ensures { OnOk result (wanted.new.items ≡ wanted.old.items ++ wants (uses_of functions.now op) arity) }
+fn want_used(functions: &[Function], op: Op, wanted: &mut Vec<bool>) -> Result<(), Memory>
+    ensures { OnOk result (wanted.new.items ≡ wanted.old.items ++ wants (uses_of functions.now op) (arity_of op)) }
 {
     match op {
-        Op::One(_) => want(&[true], arity, wanted),
-        Op::Two(_) => want(&[true, true], arity, wanted),
-        Op::Call { function, .. } => {
-            let i = function as usize;
-            if i >= functions.len() {
-                return Err(Memory);
-            }
-            want(functions[i].uses.as_slice(), arity, wanted)
-        }
-        _ => want(&[], arity, wanted),
+        Op::One(_) => want(&[true], 1, wanted),
+        Op::Two(_) => want(&[true, true], 2, wanted),
+        Op::Call { function, arity } => want(uses_at(functions, function), arity, wanted),
+        _ => Ok(()),
     }
 }
 
@@ -235,7 +264,9 @@ pub(crate) fn expand(
     let mut stack: Vec<Expr> = Vec::new(alloc);
     for op in code {
         let made = made_by(alloc, functions, *op, arguments, &mut stack)?;
-        stack.push(made)?;
+        if let Some(value) = made {
+            stack.push(value)?;
+        }
     }
     Ok(stack)
 }
@@ -245,8 +276,7 @@ pub(crate) fn expression(alloc: Global, code: &[Op]) -> Result<Expr, Memory>
     ensures { IfOk result (λ e. term_of e ≡ top (run [] [] code.now [])) }
 {
     let mut made = expand(alloc, &[], code, &[])?;
-    let value = taken(&mut made)?;
-    Ok(value)
+    Ok(taken(&mut made))
 }
 
 /// The constraint of a code that leaves its two sides.
@@ -256,12 +286,13 @@ pub(crate) fn constraint(
     code: &[Op],
     relation: Relation,
 ) -> Result<Constraint, Memory>
+    requires { HasValues 0 code.now 2 }
     ensures { IfOk result (λ c. (ms : List Meaning) → Stand functions.now ms → sides_of c ≡ part_sides ms code.now relation) }
 {
-    let used = used_code(alloc, functions, &[], code, 2)?;
+    let used = used_code(alloc, functions, code, 2)?;
     let mut sides = expand(alloc, functions, used.as_slice(), &[])?;
-    let right = taken(&mut sides)?;
-    let left = taken(&mut sides)?;
+    let right = taken(&mut sides);
+    let left = taken(&mut sides);
     Ok(Constraint {
         left,
         relation,
@@ -269,6 +300,7 @@ pub(crate) fn constraint(
     })
 }
 
+// The value of a step, if it leaves one.
 #[cycle(expansion)]
 fn made_by(
     alloc: Global,
@@ -276,27 +308,27 @@ fn made_by(
     op: Op,
     arguments: &[Expr],
     stack: &mut Vec<Expr>,
-) -> Result<Expr, Memory>
-    ensures { IfOk result (λ e. term_of e ∷ stack_of stack.new.items ≡ step (meanings (map code_of functions.now)) (map term_of arguments.now) op (stack_of stack.old.items)) }
+) -> Result<Option<Expr>, Memory>
+    ensures { IfOk result (λ made. stacked made (stack_of stack.new.items) ≡ step (meanings (map code_of functions.now)) (map term_of arguments.now) op (stack_of stack.old.items)) }
 {
-    match op {
-        Op::Constant(value) => Ok(Expr::Const {
+    Ok(Some(match op {
+        Op::Constant(value) => Expr::Const {
             p: value.p,
             q: value.q,
-        }),
-        Op::Variable(i) => Ok(Expr::Var(i)),
-        Op::Parameter(i) => argument(alloc, arguments, i),
-        Op::One(unary) => one(alloc, unary, taken(stack)?),
+        },
+        Op::Variable(i) => Expr::Var(i),
+        Op::Parameter(i) => argument(alloc, arguments, i)?,
+        Op::One(unary) => one(alloc, unary, taken(stack))?,
         Op::Two(binary) => {
-            let right = taken(stack)?;
-            two(alloc, binary, taken(stack)?, right)
+            let right = taken(stack);
+            two(alloc, binary, taken(stack), right)?
         }
         Op::Call { function, arity } => {
             let arguments = last(stack, arity)?;
-            called(alloc, functions, function, arguments.as_slice())
+            called(alloc, functions, function, arguments.as_slice())?
         }
-        Op::Define | Op::Relate(_) => Err(Memory),
-    }
+        Op::Define | Op::Relate(_) => return Ok(None),
+    }))
 }
 
 #[cycle(expansion)]
@@ -310,7 +342,7 @@ fn called(
 {
     let i = function as usize;
     if i >= functions.len() {
-        return Err(Memory);
+        return Ok(nothing());
     }
     let mut made = expand(
         alloc,
@@ -318,8 +350,7 @@ fn called(
         functions[i].code.as_slice(),
         arguments,
     )?;
-    let value = taken(&mut made)?;
-    Ok(value)
+    Ok(taken(&mut made))
 }
 
 // The last so many, in the order in which they were put there.
@@ -327,21 +358,26 @@ fn last(stack: &mut Vec<Expr>, n: u8) -> Result<Vec<Expr>, Memory>
     ensures values { IfOk result (λ es. map term_of es.items ≡ reverse (take n (stack_of stack.old.items))) }
     ensures stack { IfOk result (λ es. stack_of stack.new.items ≡ drop n (stack_of stack.old.items)) }
 {
-    let n = n as usize;
-    if n > stack.len() {
-        return Err(Memory);
-    }
-    let values = stack.split_off(stack.len() - n)?;
+    let first = stack.len().saturating_sub(n as usize);
+    let values = stack.split_off(first)?;
     Ok(values)
 }
 
-fn taken(stack: &mut Vec<Expr>) -> Result<Expr, Memory>
-    ensures { IfOk result (λ e. stack_of stack.old.items ≡ term_of e ∷ stack_of stack.new.items) }
+fn taken(stack: &mut Vec<Expr>) -> Expr
+    ensures value { term_of result ≡ top (stack_of stack.old.items) }
+    ensures stack { stack_of stack.new.items ≡ below (stack_of stack.old.items) }
 {
     match stack.pop() {
-        Some(e) => Ok(e),
-        None => Err(Memory),
+        Some(e) => e,
+        None => nothing(),
     }
+}
+
+// What stands where nothing was written, which no text that is read reaches.
+fn nothing() -> Expr
+    ensures { term_of result ≡ nothing }
+{
+    Expr::Const { p: 0, q: 1 }
 }
 
 fn argument(alloc: Global, arguments: &[Expr], i: u8) -> Result<Expr, Memory>
@@ -349,7 +385,7 @@ fn argument(alloc: Global, arguments: &[Expr], i: u8) -> Result<Expr, Memory>
 {
     match arguments.get(i as usize) {
         Some(e) => Ok(e.clone_of(alloc)?),
-        None => Err(Memory),
+        None => Ok(nothing()),
     }
 }
 

@@ -1,8 +1,53 @@
-//! That the grammar reads a text in one way, as a contract.
+//! That the grammar reads a text in one way, and that a text means one system or has one fault, as contracts.
+ghost use Rattle.std.specs.Prelude.{◌≡◌, ℕ, List};
+ghost use Rattle.pv_parse.specs.Declarations.{IsExpressionSentence, IsSystemSentence, MeansOne, MeansOneTerm};
+ghost use Rattle.pv_parse.specs.Faults.{Excludes, IsAtMostOne, IsEither, IsExpressionFault, IsExpressionFaultOf, IsFaultOf, IsSystemFault};
 ghost use Rattle.pv_parse.specs.Grammar.{IsReadOnce, system_items, expression_items};
+ghost use Rattle.pv_parse.specs.Limits.{nothing};
+ghost use Rattle.pv_parse.specs.Meanings.{KnowsVariables, Names, no_names};
+ghost use Rattle.pv_parse.specs.Sentences.{HasOneCode, IsExpressionText, IsSpelledOnce, IsSystemText};
+
+use crate::counts::Phase;
 
 /// The tokens of a text lead to one code. It holds by its contract alone; the call does nothing.
 pub fn one_reading()
     ensures systems { IsReadOnce system_items }
     ensures expressions { IsReadOnce expression_items }
+{}
+
+/// A text of a system is at most one list of tokens. It is a sentence, and has one code then, or it has a first fault, at one
+/// place and with one cause; and never both. It holds by its contract alone; the call does nothing.
+pub fn one_system()
+    ensures spelled { (t : List ℕ) → IsSpelledOnce t no_names (nothing Phase.Between) }
+    ensures code { (t : List ℕ) → HasOneCode t no_names (nothing Phase.Between) system_items }
+    ensures either { (t : List ℕ) → IsEither (IsSystemText t) (IsSystemFault t) }
+    ensures apart { (t : List ℕ) → Excludes (IsSystemText t) (IsSystemFault t) }
+    ensures fault { (t : List ℕ) → IsAtMostOne (IsSystemFault t) }
+{}
+
+/// The same of the text of an expression over some variables, which are one way of knowing names.
+pub fn one_expression()
+    ensures names { (variables : List (List ℕ)) (n m : Names) → KnowsVariables variables n → KnowsVariables variables m → n ≡ m }
+    ensures spelled { (t : List ℕ) (n : Names) → IsSpelledOnce t n (nothing Phase.Sides) }
+    ensures code { (t : List ℕ) (n : Names) → HasOneCode t n (nothing Phase.Sides) expression_items }
+    ensures either { (variables : List (List ℕ)) (t : List ℕ) → IsEither (IsExpressionText variables t) (IsExpressionFault variables t) }
+    ensures apart { (variables : List (List ℕ)) (t : List ℕ) → Excludes (IsExpressionText variables t) (IsExpressionFault variables t) }
+    ensures fault { (variables : List (List ℕ)) (t : List ℕ) → IsAtMostOne (IsExpressionFault variables t) }
+{}
+
+/// A text is a system's, and means one then, or it has a fault, at one place and with one cause; and never both: so what `parse`
+/// says of a system or a fault leaves no text out, and no choice. It holds by its contract alone; the call does nothing.
+pub fn one_outcome()
+    ensures either { (t : List ℕ) → IsEither (IsSystemSentence t) (IsFaultOf t) }
+    ensures apart { (t : List ℕ) → Excludes (IsSystemSentence t) (IsFaultOf t) }
+    ensures fault { (t : List ℕ) → IsAtMostOne (IsFaultOf t) }
+    ensures system { (t : List ℕ) → MeansOne t }
+{}
+
+/// The same of the text of an expression over some variables, and of what `parse_expr` says.
+pub fn one_expression_outcome()
+    ensures either { (variables : List (List ℕ)) (t : List ℕ) → IsEither (IsExpressionSentence variables t) (IsExpressionFaultOf variables t) }
+    ensures apart { (variables : List (List ℕ)) (t : List ℕ) → Excludes (IsExpressionSentence variables t) (IsExpressionFaultOf variables t) }
+    ensures fault { (variables : List (List ℕ)) (t : List ℕ) → IsAtMostOne (IsExpressionFaultOf variables t) }
+    ensures term { (variables : List (List ℕ)) (t : List ℕ) → MeansOneTerm variables t }
 {}

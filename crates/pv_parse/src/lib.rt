@@ -4,11 +4,11 @@
 
 mod bytes;
 mod cause;
-mod checked;
 mod code;
 mod counts;
 mod expand;
 mod fraction;
+mod given;
 mod keyword;
 pub mod laws;
 mod machine;

@@ -1,6 +1,8 @@
 // What names stand for, token by token.
 
 ghost use Rattle.std.specs.Prelude.{◌≡◌, ◌≢◌, ◌≤◌, [], length, IfOk, OnOk};
+ghost use Rattle.pv_expr.specs.Systems.{IsFraction};
+ghost use Rattle.pv_parse.specs.Fractions.{HasFraction, KnowsFractions};
 ghost use Rattle.pv_parse.specs.Meanings.{AreSame, KnowsVariables, in_body, in_bounds, is_function, is_taken, learnt, meaning, no_names, told, use_of, with_known, with_name, with_parameter, with_value, with_function};
 ghost use Rattle.pv_parse.specs.Sentences.{IsNumberSymbol, StandsFor, bytes_of, name_symbol, word_symbol};
 ghost use Rattle.pv_parse.specs.Views.{found, view};
@@ -88,7 +90,9 @@ impl Names {
     pub(crate) fn symbol_of(&self, text: &[u8], token: Token, phase: Phase) -> Symbol
         requires ordered { token.start ≤ token.end }
         requires within { token.end ≤ length text.now }
-        ensures { StandsFor phase (view self.now) (bytes_of text.now token) token.kind result }
+        requires fractions { KnowsFractions (view self.now) }
+        ensures stands { StandsFor phase (view self.now) (bytes_of text.now token) token.kind result }
+        ensures fraction { HasFraction result }
     {
         let bytes = &text[token.start..token.end];
         match token.kind {
@@ -193,6 +197,7 @@ impl Names {
     ) -> Result<(), Memory>
         requires ordered { token.start ≤ token.end }
         requires within { token.end ≤ length text.now }
+        requires fraction { HasFraction symbol }
         ensures { OnOk result (AreSame (view self.new) (learnt counts symbol (bytes_of text.now token) (view self.old))) }
     {
         self.tell(symbol, counts, &text[token.start..token.end])?;
@@ -201,6 +206,7 @@ impl Names {
     }
 
     fn tell(&mut self, symbol: Symbol, counts: Counts, name: &[u8]) -> Result<(), Memory>
+        requires { HasFraction symbol }
         ensures { OnOk result (AreSame (view self.new) (told counts symbol name.now (view self.old))) }
     {
         match symbol {
@@ -227,11 +233,12 @@ impl Names {
     }
 
     fn take_value(&mut self, value: Fraction, phase: Phase) -> Result<(), Memory>
+        requires { IsFraction value.p value.q }
         ensures { OnOk result (AreSame (view self.new) (with_value phase value (view self.old))) }
     {
         match phase {
             Phase::Constants => {
-                let signed = value.signed(self.negative)?;
+                let signed = value.signed(self.negative);
                 let name = Vec::from_slice(self.alloc, self.pending.as_slice())?;
                 self.know(name, Meaning::Constant(signed))
             }
@@ -262,7 +269,8 @@ impl Names {
 }
 
 fn symbol_of_number(bytes: &[u8]) -> Symbol
-    ensures { IsNumberSymbol bytes.now result }
+    ensures number { IsNumberSymbol bytes.now result }
+    ensures fraction { HasFraction result }
 {
     match read_number(bytes) {
         Some((p, q)) => Symbol::Number {
@@ -277,7 +285,8 @@ fn symbol_of_number(bytes: &[u8]) -> Symbol
 fn symbol_of_mark(kind: Kind) -> Symbol
     requires no_name { kind ≢ Kind.Name }
     requires no_number { kind ≢ Kind.Number }
-    ensures { StandsFor Phase.Between no_names [] kind result }
+    ensures stands { StandsFor Phase.Between no_names [] kind result }
+    ensures fraction { HasFraction result }
 {
     match kind {
         Kind::LessEqual => Symbol::Relation(Relation::Le),

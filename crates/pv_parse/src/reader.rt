@@ -1,25 +1,28 @@
 // Texts to systems and expressions.
 
-ghost use Rattle.std.specs.Prelude.{◌≡◌, List, [], map, false, ◌≤◌, ◌+◌, ◌<◌, length, IsOk, OnOk, IfOk, IfErr, IsErrAnd};
+ghost use Rattle.std.specs.Prelude.{All, ◌≡◌, ◌≢◌, ℕ, map, false, slice_index, ◌≤◌, ◌+◌, ◌<◌, length, IsOk, OnOk, IfOk, IfErr, IsErrAnd};
 ghost use Rattle.pv_expr.specs.Terms.{term_of};
 ghost use Rattle.pv_expr.specs.Systems.{IsOver};
-ghost use Rattle.pv_parse.specs.Faults.{IsAt, IsCausedBy, IsLong, IsExpressionRefusal, IsPlaced, IsFirstOf, IsRefusal, SaysTooLong, refusal};
-ghost use Rattle.pv_parse.specs.Limits.{nothing};
-ghost use Rattle.pv_parse.specs.Grammar.{IsStart, system_items, expression_items};
+ghost use Rattle.pv_parse.specs.Faults.{IsAt, IsAtStart, IsLargeAt, IsLong, IsExpressionRefusal, IsPlaced, IsFirstOf, IsRefusal, SaysTooLong, refusal};
+ghost use Rattle.pv_parse.specs.Limits.{IsStart};
 ghost use Rattle.pv_parse.specs.Grammar.{pile};
 ghost use Rattle.pv_parse.specs.declared.code.Op.{Op};
-ghost use Rattle.pv_parse.specs.Expansion.{run, top, sides_of, constraints_of};
-ghost use Rattle.pv_parse.specs.Meanings.{KnowsVariables, no_names};
+ghost use Rattle.pv_parse.specs.Expansion.{AreParts, sides_of, constraints_of};
+ghost use Rattle.pv_parse.specs.Sizes.{AreWithin, IsShortCall};
+ghost use Rattle.pv_parse.specs.Meanings.{AreBounded};
+ghost use Rattle.pv_parse.specs.Declarations.{IsExpressionMeaning, IsMeaning};
+ghost use Rattle.pv_parse.specs.Fractions.{KnowsFractions};
+ghost use Rattle.pv_parse.specs.Scopes.{IsToldAs, scoped};
 ghost use Rattle.pv_parse.specs.Views.{view};
-ghost use Rattle.pv_parse.specs.Sentences.{IsSentence, IsSystemText, IsExpressionText};
+ghost use Rattle.pv_parse.specs.Sentences.{IsSentence};
 
 use crate::cause::{Cause, ParseRefused};
-use crate::checked::{is_over, system_of};
 use crate::code::Op;
 use crate::counts::{Counts, Phase};
 use crate::expand::{Function, constraint, expression};
+use crate::given::{domains_of, first_bad};
 use crate::machine::Machine;
-use crate::measure::measures;
+use crate::measure::nodes_with;
 use crate::names::Names;
 use crate::place::line_and_column;
 use crate::scanner::next_token;
@@ -27,25 +30,22 @@ use crate::scope::Scope;
 use crate::symbol::{Fixed, Symbol};
 use crate::token::{Kind, Token};
 use pv_expr::{Constraint, Expr, System};
-use pv_num::Memory;
 use std::alloc::Global;
 
 /// The longest text that is read, in bytes.
 const MAX_TEXT: usize = 65536;
 
-const MAX_NODES: u64 = 65536;
-
-const MAX_DEPTH: u64 = 2000;
-
-/// The system of a text.
+/// The system that a text means.
 ///
-/// The fault is at the first token such that no text of a system begins with the tokens up to and with it.
+/// A text that means none has one fault (`laws::one_outcome`): where it is longer than 65,536 bytes, at the first byte too many;
+/// else at the first token such that no text of a system begins with the tokens up to and with it; else at the bracket of the
+/// first bad domain; else at the start of the first constraint with which the system is too large.
+#[tactic(auto, using(crate::proofs::Refusals::long_system, crate::proofs::Meant::first_fault))]
 pub fn parse(alloc: Global, text: &[u8]) -> Result<System, ParseRefused>
-    ensures grammatical { IfOk result (λ s. IsSystemText text.now) }
-    ensures means { IfOk result (λ s. (code : List Op) × IsSentence text.now no_names (nothing Phase.Between) system_items [] code × (map sides_of s.constraints ≡ constraints_of code)) }
+    ensures means { IfOk result (λ s. IsMeaning text.now s) }
     ensures placed { IfErr result (λ e. IsPlaced text.now e) }
     ensures long { 65536 < length text.now → IsErrAnd result SaysTooLong }
-    ensures fault { IfErr result (λ e. IsRefusal text.now no_names (nothing Phase.Between) system_items e) }
+    ensures fault { IfErr result (IsRefusal text.now) }
 {
     refuse_long(text)?;
     let mut names = Names::new(alloc);
@@ -58,24 +58,26 @@ pub fn parse(alloc: Global, text: &[u8]) -> Result<System, ParseRefused>
         &mut scope,
         &mut machine,
     )?;
-    if let Some(bracket) = scope.bad_bounds {
-        return Err(fault_within(text, bracket, Cause::BadBounds));
+    if let Some(bracket) = first_bad(scope.given.as_slice()) {
+        return Err(fault(text, bracket, Cause::BadBounds));
     }
     let code = machine.into_code();
     let constraints = match expanded(alloc, text, code.as_slice(), scope.starts.as_slice()) {
         Ok(constraints) => constraints,
         Err(refused) => return Err(refused),
     };
-    let system = system_of(scope.variables, scope.domains, constraints)?;
-    Ok(system)
+    let domains = domains_of(alloc, scope.given.as_slice())?;
+    Ok(System::new(scope.variables, domains, constraints))
 }
 
-/// The expression of a text, over the variables of a system.
-#[tactic(auto, using(crate::proofs::Refusals::long_expression, crate::proofs::Refusals::no_room))]
+/// The expression that a text means, over the variables of a system.
+///
+/// A text that means none has one fault (`laws::one_expression_outcome`): where it is longer than 65,536 bytes, at the first byte
+/// too many; else at the first token such that no expression begins with the tokens up to and with it.
+#[tactic(auto, using(crate::proofs::Refusals::long_expression, crate::proofs::Refusals::first_expression))]
 pub fn parse_expr(alloc: Global, system: &System, text: &[u8]) -> Result<Expr, ParseRefused>
-    ensures grammatical { IfOk result (λ e. IsExpressionText system.now.names text.now) }
     ensures over { IfOk result (λ e. IsOver (length system.now.names) (term_of e)) }
-    ensures means { IfOk result (λ e. (n : Rattle.pv_parse.specs.Meanings.Names) × KnowsVariables system.now.names n × (code : List Op) × IsSentence text.now n (nothing Phase.Sides) expression_items [] code × (term_of e ≡ top (run [] [] code []))) }
+    ensures means { IfOk result (λ e. IsExpressionMeaning system.now.names text.now (term_of e)) }
     ensures placed { IfErr result (λ e. IsPlaced text.now e) }
     ensures long { 65536 < length text.now → IsErrAnd result SaysTooLong }
     ensures fault { IfErr result (IsExpressionRefusal system.now.names text.now) }
@@ -94,11 +96,7 @@ pub fn parse_expr(alloc: Global, system: &System, text: &[u8]) -> Result<Expr, P
         &mut machine,
     )?;
     let e = expression(alloc, machine.into_code().as_slice())?;
-    if is_over(system.variable_count(), &e) {
-        Ok(e)
-    } else {
-        Err(ParseRefused::Memory)
-    }
+    Ok(e)
 }
 
 fn refuse_long(text: &[u8]) -> Result<(), ParseRefused>
@@ -111,18 +109,6 @@ fn refuse_long(text: &[u8]) -> Result<(), ParseRefused>
         Err(fault(text, MAX_TEXT, Cause::TextTooLong))
     } else {
         Ok(())
-    }
-}
-
-// The fault at a place that was kept.
-fn fault_within(text: &[u8], byte: usize, cause: Cause) -> ParseRefused
-    ensures placed { IsPlaced text.now result }
-    ensures cause { IsCausedBy cause result }
-{
-    if byte <= text.len() && byte <= MAX_TEXT {
-        fault(text, byte, cause)
-    } else {
-        ParseRefused::Memory
     }
 }
 
@@ -150,9 +136,12 @@ fn read_tokens(
     machine: &mut Machine,
 ) -> Result<(), ParseRefused>
     requires short { length text.now ≤ 65536 }
-    requires start { IsStart (pile machine.now.stack.items) }
+    requires start { IsStart start (pile machine.now.stack.items) }
+    requires names { AreBounded (view names.now) }
+    requires fractions { KnowsFractions (view names.now) }
     ensures placed { IfErr result (λ e. IsPlaced text.now e) }
     ensures sentence { OnOk result (IsSentence text.now (view names.old) start (pile machine.old.stack.items) machine.old.code.items machine.new.code.items) }
+    ensures told { OnOk result (IsToldAs text.now (view names.old) start (pile machine.old.stack.items) machine.old.code.items machine.new.code.items (scoped scope.old) (scoped scope.new)) }
     ensures fault { IfErr result (λ e. IsFirstOf text.now (view names.old) start (pile machine.old.stack.items) e) }
 {
     let mut from = 0;
@@ -184,7 +173,7 @@ fn ended(text: &[u8], token: Token, symbol: Symbol) -> Result<(), ParseRefused>
     requires short { length text.now ≤ 65536 }
     ensures ends { IsOk result → token.kind ≡ Kind.End }
     ensures placed { IfErr result (λ e. IsPlaced text.now e) }
-    ensures at { IfErr result (λ e. IsAt token.start (refusal false symbol) e) }
+    ensures at { IfErr result (λ e. (token.kind ≢ Kind.End) × IsAt token.start (refusal false symbol) e) }
 {
     if token.kind == Kind::End {
         return Ok(());
@@ -209,15 +198,21 @@ fn refusal(behind_caret: bool, symbol: Symbol) -> Cause
     }
 }
 
-// The constraints of a code, with all calls expanded.
+// The constraints of a code, with all calls expanded, where they are within the limits.
 fn expanded(
     alloc: Global,
     text: &[u8],
     code: &[Op],
     starts: &[usize],
 ) -> Result<Vec<Constraint>, ParseRefused>
+    requires short { length text.now ≤ 65536 }
+    requires calls { All IsShortCall code.now }
+    requires parts { AreParts 0 code.now }
+    requires places { (k : ℕ) → k < length starts.now → slice_index starts.now k ≤ length text.now }
+    requires each { length starts.now ≡ length (constraints_of code.now) }
     ensures placed { IfErr result (λ e. IsPlaced text.now e) }
-    ensures cause { IfErr result (IsCausedBy Cause.TooLarge) }
+    ensures large { IfErr result (IsLargeAt starts.now code.now) }
+    ensures within { IsOk result → AreWithin (constraints_of code.now) }
     ensures means { IfOk result (λ cs. map sides_of cs.items ≡ constraints_of code.now) }
 {
     let mut functions = Vec::new(alloc);
@@ -233,10 +228,10 @@ fn expanded(
             }
             Op::Relate(relation) => {
                 let part = &code[from..i];
-                nodes = room_for(alloc, functions.as_slice(), part, nodes)?;
-                if nodes > MAX_NODES {
+                let Some(with_it) = nodes_with(alloc, functions.as_slice(), part, nodes)? else {
                     return Err(too_large(text, starts, constraints.len()));
-                }
+                };
+                nodes = with_it;
                 let made = constraint(alloc, functions.as_slice(), part, relation)?;
                 constraints.push(made)?;
                 from = i + 1;
@@ -247,29 +242,13 @@ fn expanded(
     Ok(constraints)
 }
 
+#[tactic(auto, using(crate::proofs::Limited::fault_at_start))]
 fn too_large(text: &[u8], starts: &[usize], i: usize) -> ParseRefused
+    requires short { length text.now ≤ 65536 }
+    requires places { (k : ℕ) → k < length starts.now → slice_index starts.now k ≤ length text.now }
+    requires within { i < length starts.now }
     ensures placed { IsPlaced text.now result }
-    ensures cause { IsCausedBy Cause.TooLarge result }
+    ensures at { IsAtStart starts.now i result }
 {
-    match starts.get(i) {
-        Some(start) => fault_within(text, *start, Cause::TooLarge),
-        None => ParseRefused::Memory,
-    }
-}
-
-// The nodes with these of a constraint's sides, or more than the limit where a side is too deep.
-fn room_for(
-    alloc: Global,
-    functions: &[Function],
-    code: &[Op],
-    before: u64,
-) -> Result<u64, Memory> {
-    let mut nodes = before;
-    for side in measures(alloc, functions, code)?.as_slice() {
-        nodes = nodes.saturating_add(side.nodes);
-        if side.depth > MAX_DEPTH {
-            nodes = u64::MAX;
-        }
-    }
-    Ok(nodes)
+    fault(text, starts[i], Cause::TooLarge)
 }

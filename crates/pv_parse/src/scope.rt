@@ -1,44 +1,75 @@
 // What the parts of a text declare beside names, token by token: variables with their domains, and where constraints begin.
 
-ghost use Rattle.std.specs.Prelude.{◌≤◌, length};
+ghost use Rattle.std.specs.Prelude.{◌≡◌, ◌≤◌, ◌++◌, ◌∷◌, [], map, string_bytes, true, length, OnOk};
+ghost use Rattle.std.specs.Str.{IsAscii};
+ghost use Rattle.pv_parse.specs.Declarations.{begun_at, begun_behind, declares, start_of, mark_of};
+ghost use Rattle.pv_parse.specs.Fractions.{HasFraction};
+ghost use Rattle.pv_parse.specs.Scopes.{followed, given_behind, nothing_given, nothing_scoped, scoped, with_last};
+ghost use Rattle.pv_parse.specs.Sentences.{bytes_of};
 
-use crate::checked::in_order;
 use crate::counts::Phase;
-use crate::fraction::Fraction;
+use crate::given::Given;
 use crate::symbol::{Fixed, Symbol};
 use crate::token::Token;
-use pv_expr::{Bound, Domain};
 use pv_num::Memory;
 use std::alloc::Global;
+
+/// Where the constraint at hand begins.
+#[derive(Clone, Copy)]
+pub(crate) enum Begun {
+    /// No constraint can stand here.
+    Outside,
+    /// With the next token.
+    Next,
+    At(usize),
+}
+
+impl Begun {
+    fn at(self, start: usize) -> Begun
+        ensures { result ≡ begun_at start self }
+    {
+        match self {
+            Begun::Next => Begun::At(start),
+            _ => self,
+        }
+    }
+
+    fn behind(self, symbol: Symbol) -> Begun
+        ensures { result ≡ begun_behind symbol self }
+    {
+        match symbol {
+            Symbol::Fixed(Fixed::Constraints) => Begun::Next,
+            Symbol::Fixed(Fixed::Semicolon) => match self {
+                Begun::At(_) => Begun::Next,
+                _ => self,
+            },
+            _ => self,
+        }
+    }
+}
 
 /// The declarations so far.
 #[derive(Drop)]
 pub(crate) struct Scope {
-    alloc: Global,
-    /// Whether a `-` stands before the bound to come.
-    negative: bool,
-    pub(crate) variables: Vec<String>,
-    pub(crate) domains: Vec<Domain>,
-    /// Where the bracket of the last domain stands.
-    bracket: usize,
-    has_lower: bool,
-    /// The bracket of the first domain whose bounds are bad.
-    pub(crate) bad_bounds: Option<usize>,
+    pub alloc: Global,
+    pub variables: Vec<String>,
+    /// What is written behind the name of each variable.
+    pub given: Vec<Given>,
+    pub begun: Begun,
     /// Where each constraint begins.
-    pub(crate) starts: Vec<usize>,
+    pub starts: Vec<usize>,
 }
 
 impl Scope {
     /// The scope at the start of a text.
-    pub(crate) fn new(alloc: Global) -> Scope {
+    pub(crate) fn new(alloc: Global) -> Scope
+        ensures { scoped result ≡ nothing_scoped }
+    {
         Scope {
             alloc,
-            negative: false,
             variables: Vec::new(alloc),
-            domains: Vec::new(alloc),
-            bracket: 0,
-            has_lower: false,
-            bad_bounds: None,
+            given: Vec::new(alloc),
+            begun: Begun::Outside,
             starts: Vec::new(alloc),
         }
     }
@@ -53,80 +84,83 @@ impl Scope {
     ) -> Result<(), Memory>
         requires ordered { token.start ≤ token.end }
         requires within { token.end ≤ length text.now }
+        requires fraction { HasFraction symbol }
+        requires ascii { declares phase symbol ≡ true → IsAscii (bytes_of text.now token) }
+        ensures { OnOk result (scoped self.new ≡ followed (mark_of text.now phase symbol token) (scoped self.old)) }
     {
-        if phase == Phase::NextConstraint && symbol.begins() {
-            self.starts.push(token.start)?;
+        self.take_constraint(symbol, token.start)?;
+        if declares(phase, symbol) {
+            self.declare(&text[token.start..token.end])
+        } else {
+            self.take_bound(phase, symbol, token.start);
+            Ok(())
         }
+    }
+
+    fn take_constraint(&mut self, symbol: Symbol, start: usize) -> Result<(), Memory>
+        ensures variables { self.new.variables ≡ self.old.variables }
+        ensures given { self.new.given ≡ self.old.given }
+        ensures begun { OnOk result (self.new.begun ≡ begun_behind symbol (begun_at start self.old.begun)) }
+        ensures starts { OnOk result (self.new.starts.items ≡ self.old.starts.items ++ start_of symbol (begun_at start self.old.begun)) }
+    {
+        let begun = self.begun.at(start);
+        self.begun = begun.behind(symbol);
+        self.add_start(symbol, begun)
+    }
+
+    fn add_start(&mut self, symbol: Symbol, begun: Begun) -> Result<(), Memory>
+        ensures variables { self.new.variables ≡ self.old.variables }
+        ensures given { self.new.given ≡ self.old.given }
+        ensures begun { self.new.begun ≡ self.old.begun }
+        ensures starts { OnOk result (self.new.starts.items ≡ self.old.starts.items ++ start_of symbol begun) }
+    {
         match symbol {
-            Symbol::Declared { .. } if phase == Phase::Variables => {
-                self.declare(&text[token.start..token.end])
-            }
-            Symbol::Number { value, .. } | Symbol::Constant(value) => self.take_value(value, phase),
-            Symbol::Fixed(fixed) => {
-                self.take_fixed(fixed, phase, token);
-                Ok(())
-            }
+            Symbol::Relation(_) => match begun {
+                Begun::At(place) => {
+                    self.starts.push(place)?;
+                    Ok(())
+                }
+                _ => Ok(()),
+            },
             _ => Ok(()),
         }
     }
 
-    fn declare(&mut self, name: &[u8]) -> Result<(), Memory> {
-        self.variables
-            .push(String::from_utf8_lossy(self.alloc, name)?)?;
-        self.domains.push(Domain {
-            lo: Bound::MinusOo,
-            hi: Bound::PlusOo,
-        })?;
+    fn declare(&mut self, name: &[u8]) -> Result<(), Memory>
+        requires { IsAscii name.now }
+        ensures variables { OnOk result (map string_bytes self.new.variables.items ≡ map string_bytes self.old.variables.items ++ name.now ∷ []) }
+        ensures given { OnOk result (self.new.given.items ≡ self.old.given.items ++ nothing_given ∷ []) }
+        ensures begun { self.new.begun ≡ self.old.begun }
+        ensures starts { self.new.starts ≡ self.old.starts }
+    {
+        let own = String::from_utf8_lossy(self.alloc, name)?;
+        self.variables.push(own)?;
+        self.given.push(Given::none())?;
         Ok(())
     }
 
-    fn take_value(&mut self, value: Fraction, phase: Phase) -> Result<(), Memory> {
-        if phase == Phase::Bounds {
-            let signed = value.signed(self.negative)?;
-            self.bound(Bound::Value {
-                p: signed.p,
-                q: signed.q,
-            });
-        }
-        Ok(())
-    }
-
-    fn bound(&mut self, bound: Bound) {
-        if let Some(domain) = self.domains.last_mut() {
-            if self.has_lower {
-                domain.hi = bound;
-            } else {
-                domain.lo = bound;
-            }
-        }
-        self.has_lower = true;
-        self.negative = false;
-    }
-
-    fn take_fixed(&mut self, fixed: Fixed, phase: Phase, token: Token) {
-        match fixed {
-            Fixed::Minus => self.negative = phase == Phase::Bounds,
-            Fixed::OpenBracket => self.begin_bounds(token),
-            Fixed::CloseBracket => self.end_bounds(),
-            Fixed::Oo => self.bound(if self.negative {
-                Bound::MinusOo
-            } else {
-                Bound::PlusOo
-            }),
-            _ => {}
+    fn take_bound(&mut self, phase: Phase, symbol: Symbol, start: usize)
+        requires { HasFraction symbol }
+        ensures variables { self.new.variables ≡ self.old.variables }
+        ensures given { self.new.given.items ≡ with_last (given_behind phase symbol start) self.old.given.items }
+        ensures begun { self.new.begun ≡ self.old.begun }
+        ensures starts { self.new.starts ≡ self.old.starts }
+    {
+        if let Some(last) = self.given.last_mut() {
+            *last = last.behind(phase, symbol, start);
         }
     }
+}
 
-    fn begin_bounds(&mut self, token: Token) {
-        self.bracket = token.start;
-        self.has_lower = false;
-    }
-
-    fn end_bounds(&mut self) {
-        if let Some(domain) = self.domains.last() {
-            if self.bad_bounds.is_none() && !in_order(*domain) {
-                self.bad_bounds = Some(self.bracket);
-            }
-        }
+// Whether the token is the name of a new variable.
+fn declares(phase: Phase, symbol: Symbol) -> bool
+    ensures { result ≡ declares phase symbol }
+{
+    match phase {
+        Phase::Variables => match symbol {
+            Symbol::Declared { .. } => true,
+            _ => false,
+        },
+        _ => false,
     }
 }

@@ -73,7 +73,7 @@ fn cut_texts_are_faults(rt: HostRuntime) {
 }
 
 #[test]
-fn limits(rt: HostRuntime) -> Result<(), Fail> {
+fn levels(rt: HostRuntime) -> Result<(), Fail> {
     let alloc = rt.alloc();
     let start: &[u8] = b"Variables x; Constraints ";
     let nested = around(alloc, start, b"(", 100, b"x")?;
@@ -89,6 +89,12 @@ fn limits(rt: HostRuntime) -> Result<(), Fail> {
         outcome(alloc, word.as_slice()),
         Some((125, Cause::Unexpected))
     );
+    Ok(())
+}
+
+#[test]
+fn operations(rt: HostRuntime) -> Result<(), Fail> {
+    let alloc = rt.alloc();
     let sum = around(
         alloc,
         b"Variables x; Constraints x",
@@ -108,6 +114,12 @@ fn limits(rt: HostRuntime) -> Result<(), Fail> {
         outcome(alloc, longer.as_slice()),
         Some((2026, Cause::TooDeep))
     );
+    Ok(())
+}
+
+#[test]
+fn the_longest_text(rt: HostRuntime) -> Result<(), Fail> {
+    let alloc = rt.alloc();
     let blanks = around(alloc, b"", b" ", 65537, b"")?;
     assert_eq!(rt;
         parse(alloc, blanks.as_slice()).err(),

@@ -1,4 +1,4 @@
-use Rattle.std.proofs.Common.{ℕ, ◌-◌}
+use Rattle.std.proofs.Common.{◌-◌}
 use Rattle.pv_cli.proofs.node_text.+write_ends.Given as goal
 
 abbrev pub decreases-write_ends : goal.decreases-write_ends

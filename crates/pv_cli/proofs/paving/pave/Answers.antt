@@ -1,6 +1,6 @@
-use Rattle.std.proofs.Common.{◌≡◌, [], ◌+◌, ◌≤◌, length, refl, rules, arith, sym, ◌∙◌, subst}
+use Rattle.std.proofs.Common.{◌≡◌, [], ◌+◌, ◌≤◌, refl, rules, sym, ◌∙◌, subst}
 use Rattle.std.specs.Prelude.{IsTrue, false}
-use Rattle.pv_tree.specs.Trees.{Tree, opens, Paves}
+use Rattle.pv_tree.specs.Trees.{opens, Paves}
 use Rattle.pv_tree.specs.Stages.{IsStage}
 use Rattle.pv_cli.specs.Runs.{settled_in}
 use Rattle.pv_cli.proofs.Budgets.{opening_is_stage, full_fits, full_exceeds, not_true}

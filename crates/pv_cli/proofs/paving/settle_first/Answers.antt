@@ -1,4 +1,4 @@
-use Rattle.std.proofs.Common.{◌≡◌, ◌∙◌, ap}
+use Rattle.std.proofs.Common.{◌∙◌, ap}
 use Rattle.pv_tree.proofs.TreeFacts.{settled_more}
 use Rattle.pv_cli.specs.Runs.{settled_in}
 use Rattle.pv_cli.proofs.paving.settle_first.Goals as goal

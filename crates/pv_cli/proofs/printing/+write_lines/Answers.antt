@@ -1,7 +1,6 @@
-use Rattle.std.proofs.Common.{◌≡◌, ◌<◌, ◌≤◌, ◌++◌, length, sym, ◌∙◌, subst, arith, rules}
+use Rattle.std.proofs.Common.{◌<◌, ◌≤◌, length, sym, ◌∙◌, subst, arith, rules}
 use Rattle.std.proofs.lemmas.Result.{on_ok_weaker}
-use Rattle.pv_tree.specs.Trees.{subtree, shape_of, height, IsPaving}
-use Rattle.pv_tree.specs.declared.outcome.Shape.TheVariants.{Cut}
+use Rattle.pv_tree.specs.Trees.{subtree, shape_of, height}
 use Rattle.pv_cli.proofs.NodeLines.{IsACut, short_path, no_cut, appended_cut, appended_line}
 use Rattle.pv_cli.specs.Nodes.{IsNoCut}
 use Rattle.pv_cli.proofs.printing.+write_lines.Goals as goal

@@ -1,4 +1,4 @@
-use Rattle.std.proofs.Common.{ℕ, ◌-◌, length}
+use Rattle.std.proofs.Common.{◌-◌, length}
 use Rattle.pv_cli.proofs.printing.+write_lines.Given as goal
 
 abbrev pub decreases-write_lines : goal.decreases-write_lines

@@ -1,6 +1,6 @@
-use Rattle.std.proofs.Common.{◌≡◌, ◌∙◌, sym, ap, subst}
+use Rattle.std.proofs.Common.{◌∙◌, sym, ap, subst}
 use Rattle.std.specs.Prelude.{IsTrue, ◌↔◌}
-use Rattle.pv_tree.specs.Trees.{Tree, leaf, IsPaving}
+use Rattle.pv_tree.specs.Trees.{leaf, IsPaving}
 use Rattle.pv_tree.specs.Stages.{IsStage, full_of}
 use Rattle.pv_tree.specs.Sets.{IsSound, Covers}
 use Rattle.pv_cli.specs.Runs.{FullFits}

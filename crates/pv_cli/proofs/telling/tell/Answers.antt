@@ -1,4 +1,4 @@
-use Rattle.std.proofs.Common.{inl, inr, refl, rules}
+use Rattle.std.proofs.Common.{inr, refl, rules}
 use Rattle.pv_cli.specs.declared.refusal.Refusal.TheVariants.{Memory}
 use Rattle.pv_cli.proofs.Written.{front_of_same}
 use Rattle.pv_cli.proofs.telling.tell.Goals as goal

@@ -1,5 +1,5 @@
-use Rattle.std.proofs.Common.{◌≡◌, ℕ, List, sym, ◌∙◌, subst}
-use Rattle.pv_cli.specs.Choices.{IsCount, IsWidth, bisector_text}
+use Rattle.std.proofs.Common.{ℕ, List, sym, ◌∙◌, subst}
+use Rattle.pv_cli.specs.Choices.{IsCount, IsWidth}
 use Rattle.pv_cli.proofs.values.options_of.Goals as goal
 
 pub returns-in_err-eps : goal.returns-in_err-eps

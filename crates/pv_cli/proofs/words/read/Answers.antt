@@ -1,4 +1,4 @@
-use Rattle.std.proofs.Common.{◌≡◌, sym, ◌∙◌, ap}
+use Rattle.std.proofs.Common.{sym, ◌∙◌, ap}
 use Rattle.pv_cli.specs.Asking.{asked_in}
 use Rattle.pv_cli.proofs.Asked.{error_refuses, answered, asked_of_taken, is_free_app, is_simple_app}
 use Rattle.pv_cli.proofs.words.read.Goals as goal

@@ -1,4 +1,4 @@
-use Rattle.std.proofs.Common.{◌≡◌, ℕ, List, length, map, sym, ◌∙◌, ap, subst}
+use Rattle.std.proofs.Common.{List, length, map, sym, ◌∙◌, ap, subst}
 use Rattle.pv_interval.specs.Bounds.{Bounds}
 use Rattle.pv_expr.specs.Searches.{search_bounds}
 use Rattle.pv_expr.specs.Systems.{Parts}

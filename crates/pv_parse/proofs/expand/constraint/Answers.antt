@@ -6,6 +6,6 @@ use Rattle.pv_parse.proofs.expand.constraint.Goals as goal
 
 pub returns : goal.returns
 returns c =
-    constraint-means c.args.functions.now c.args.code.now c.in_ok-used.used.items c.args.relation c.in_ok-left.left c.in_ok-right.right _ _ _ c.in_ok-used.ensures
+    constraint-means c.args.functions.now c.args.code.now c.in_ok-used.used.items c.args.relation c.taken-left.result c.taken-right.result _ _ c.in_ok-used.ensures
     (c.in_ok-sides.ensures ∙ ap (λ (z : List Op). run (meanings (map code_of c.args.functions.now)) [] z []) c.as_slice.ensures.value)
-    c.in_ok-right.ensures c.in_ok-left.ensures
+    c.taken-right.ensures.value c.taken-right.ensures.stack c.taken-left.ensures.value

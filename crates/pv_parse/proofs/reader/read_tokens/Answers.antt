@@ -1,24 +1,30 @@
-use Rattle.std.proofs.Common.{arith, subst, sym, ◌∙◌, Option, false}
+use Rattle.std.proofs.Common.{◌≢◌, arith, subst, sym, ◌∙◌, Option, false}
 use Rattle.pv_parse.specs.declared.cause.Cause.{Cause}
 use Rattle.pv_parse.specs.declared.cause.ParseRefused.{ParseRefused}
 use Rattle.pv_parse.specs.declared.machine.Item.{Item}
+use Rattle.pv_parse.specs.declared.token.Kind.TheVariants.{End}
 use Rattle.pv_parse.specs.Faults.{IsAt, IsFirst, IsFirstOf, refusal}
 use Rattle.pv_parse.specs.Grammar.{pile, Settles}
 use Rattle.pv_parse.specs.Meanings.{learnt}
 use Rattle.pv_parse.specs.Sentences.{bytes_of}
+use Rattle.pv_parse.specs.Scopes.{scoped}
 use Rattle.pv_parse.specs.Views.{view}
+use Rattle.pv_parse.proofs.Fractions.{learnt_fractions, same_fractions}
+use Rattle.pv_parse.proofs.NameBytes.{declared_ascii}
 use Rattle.pv_parse.proofs.Same.{learnt_same, same_refl, same_trans, stands_same}
-use Rattle.pv_parse.proofs.Reached.{forbidden, refused, starts, taken_not_end, taken_on, too_much, whole}
+use Rattle.pv_parse.proofs.Reached.{forbidden, refused, starts, starts_told, taken_not_end, taken_on, taken_told, too_much, whole, whole_told}
 use Rattle.pv_parse.proofs.Refusals.{first_at, if_err, on_ok, taken_false, taken_true}
 use Rattle.pv_parse.proofs.reader.read_tokens.Goals as goal
 
 pub loop-item-init : goal.loop-item-init
 loop-item-init c = record {
+  fractions = c.requires.fractions;
   within = omega arith;
   reached = record {
     names = view c.args.names.now;
     same = same_refl (view c.args.names.now);
-    reached = starts c.args.text.now (view c.args.names.now) c.args.start (pile c.args.machine.now.stack.items) c.args.machine.now.code.items c.requires.start;
+    reached = starts c.args.text.now (view c.args.names.now) c.args.start (pile c.args.machine.now.stack.items) c.args.machine.now.code.items c.requires.start c.requires.names;
+    told = starts_told c.args.text.now (view c.args.names.now) c.args.start (pile c.args.machine.now.stack.items) c.args.machine.now.code.items c.requires.start c.requires.names (scoped c.args.scope.now);
   };
 }
 
@@ -30,17 +36,30 @@ returns-in_default-clause-sentence c =
     c.next_token-token.result c.symbol_of-symbol.result (pile c.settle.new.self.stack.items) c.settle.new.self.code.items
     c.next_token-token.ensures.next (c.ended.ensures.ends ok) settles)
 
+pub returns-in_default-clause-told : goal.returns-in_default-clause-told
+returns-in_default-clause-told c =
+    let settles = subst (λ (o : Option Item). Settles c.symbol_of-symbol.result (pile c.loop-item.machine.stack.items) c.loop-item.machine.code.items o (pile c.settle.new.self.stack.items) c.settle.new.self.code.items) c.in_default.is c.in_ok-item.ensures in
+    on_ok c.ended.result (λ ok. whole_told c.args.text.now (view c.args.names.now) c.loop-item.invariant.reached.names c.args.start c.loop-item.counts (pile c.args.machine.now.stack.items) c.args.machine.now.code.items
+    (pile c.loop-item.machine.stack.items) c.loop-item.machine.code.items c.loop-item.from c.loop-item.invariant.reached.reached
+    c.next_token-token.result c.symbol_of-symbol.result (pile c.settle.new.self.stack.items) c.settle.new.self.code.items
+    c.next_token-token.ensures.next (c.ended.ensures.ends ok) settles (scoped c.args.scope.now) (scoped c.loop-item.scope) c.loop-item.invariant.reached.told)
+
+pub take_in-requires-in-Ok-clause-ascii : goal.take_in-requires-in-Ok-clause-ascii
+take_in-requires-in-Ok-clause-ascii c =
+    declared_ascii c.args.text.now c.loop-item.from c.next_token-token.result c.loop-item.counts.phase (view c.loop-item.names) c.symbol_of-symbol.result
+    c.next_token-token.ensures.next c.symbol_of-symbol.ensures.stands c.loop-item.counts.phase
+
 pub returns-in_default-clause-fault : goal.returns-in_default-clause-fault
 returns-in_default-clause-fault c =
     let settles = subst (λ (o : Option Item). Settles c.symbol_of-symbol.result (pile c.loop-item.machine.stack.items) c.loop-item.machine.code.items o (pile c.settle.new.self.stack.items) c.settle.new.self.code.items) c.in_default.is c.in_ok-item.ensures in
-    if_err (λ (e : ParseRefused). IsAt c.next_token-token.result.start (refusal false c.symbol_of-symbol.result) e)
+    if_err (λ (e : ParseRefused). (c.next_token-token.result.kind ≢ End) × IsAt c.next_token-token.result.start (refusal false c.symbol_of-symbol.result) e)
     (λ (e : ParseRefused). IsFirstOf c.args.text.now (view c.args.names.now) c.args.start (pile c.args.machine.now.stack.items) e)
     c.ended.result
-    (λ e at. first_at c.args.text.now (view c.args.names.now) c.args.start (pile c.args.machine.now.stack.items) c.next_token-token.result.start (refusal false c.symbol_of-symbol.result) e at
+    (λ e at. first_at c.args.text.now (view c.args.names.now) c.args.start (pile c.args.machine.now.stack.items) c.next_token-token.result.start (refusal false c.symbol_of-symbol.result) e at.1
     (too_much c.args.text.now (view c.args.names.now) c.loop-item.invariant.reached.names c.args.start c.loop-item.counts (pile c.args.machine.now.stack.items) c.args.machine.now.code.items
     (pile c.loop-item.machine.stack.items) c.loop-item.machine.code.items c.loop-item.from c.loop-item.invariant.reached.reached
     c.next_token-token.result c.symbol_of-symbol.result (pile c.settle.new.self.stack.items) c.settle.new.self.code.items
-    c.next_token-token.ensures.next (stands_same c.loop-item.counts.phase (view c.loop-item.names) c.loop-item.invariant.reached.names c.loop-item.invariant.reached.same (bytes_of c.args.text.now c.next_token-token.result) c.next_token-token.result.kind c.symbol_of-symbol.result c.symbol_of-symbol.ensures) settles))
+    c.next_token-token.ensures.next (stands_same c.loop-item.counts.phase (view c.loop-item.names) c.loop-item.invariant.reached.names c.loop-item.invariant.reached.same (bytes_of c.args.text.now c.next_token-token.result) c.next_token-token.result.kind c.symbol_of-symbol.result c.symbol_of-symbol.ensures.stands) settles at.0))
     c.ended.ensures.at
 
 pub returns-then-not-branch-clause-fault : goal.returns-then-not-branch-clause-fault
@@ -52,7 +71,7 @@ returns-then-not-branch-clause-fault c =
     (refused c.args.text.now (view c.args.names.now) c.loop-item.invariant.reached.names c.args.start c.loop-item.counts (pile c.args.machine.now.stack.items) c.args.machine.now.code.items
     (pile c.loop-item.machine.stack.items) c.loop-item.machine.code.items c.loop-item.from c.loop-item.invariant.reached.reached
     c.next_token-token.result c.symbol_of-symbol.result c.in-Some.item (pile c.settle.new.self.stack.items) c.settle.new.self.code.items c.is_exponent.result
-    c.next_token-token.ensures.next (stands_same c.loop-item.counts.phase (view c.loop-item.names) c.loop-item.invariant.reached.names c.loop-item.invariant.reached.same (bytes_of c.args.text.now c.next_token-token.result) c.next_token-token.result.kind c.symbol_of-symbol.result c.symbol_of-symbol.ensures) settles never (sym c.is_exponent.ensures)))
+    c.next_token-token.ensures.next (stands_same c.loop-item.counts.phase (view c.loop-item.names) c.loop-item.invariant.reached.names c.loop-item.invariant.reached.same (bytes_of c.args.text.now c.next_token-token.result) c.next_token-token.result.kind c.symbol_of-symbol.result c.symbol_of-symbol.ensures.stands) settles never (sym c.is_exponent.ensures)))
 
 pub returns-in-Err-clause-fault : goal.returns-in-Err-clause-fault
 returns-in-Err-clause-fault c =
@@ -63,7 +82,7 @@ returns-in-Err-clause-fault c =
     (pile c.loop-item.machine.stack.items) c.loop-item.machine.code.items c.loop-item.from c.loop-item.invariant.reached.reached
     c.next_token-token.result c.symbol_of-symbol.result c.in-Some.item (pile c.settle.new.self.stack.items) c.settle.new.self.code.items
     (pile c.take.new.self.stack.items) c.take.new.self.code.items c.in-Err.cause
-    c.next_token-token.ensures.next (stands_same c.loop-item.counts.phase (view c.loop-item.names) c.loop-item.invariant.reached.names c.loop-item.invariant.reached.same (bytes_of c.args.text.now c.next_token-token.result) c.next_token-token.result.kind c.symbol_of-symbol.result c.symbol_of-symbol.ensures) settles follows (sym c.counted.ensures ∙ c.in-Err.is))
+    c.next_token-token.ensures.next (stands_same c.loop-item.counts.phase (view c.loop-item.names) c.loop-item.invariant.reached.names c.loop-item.invariant.reached.same (bytes_of c.args.text.now c.next_token-token.result) c.next_token-token.result.kind c.symbol_of-symbol.result c.symbol_of-symbol.ensures.stands) settles follows (sym c.counted.ensures ∙ c.in-Err.is))
 
 pub loop-item-smaller : goal.loop-item-smaller
 loop-item-smaller c =
@@ -73,7 +92,7 @@ loop-item-smaller c =
     (taken_not_end c.args.text.now (view c.args.names.now) c.loop-item.invariant.reached.names c.args.start c.loop-item.counts (pile c.args.machine.now.stack.items) c.args.machine.now.code.items
     (pile c.loop-item.machine.stack.items) c.loop-item.machine.code.items c.loop-item.from c.loop-item.invariant.reached.reached
     c.next_token-token.result c.symbol_of-symbol.result c.in-Some.item (pile c.settle.new.self.stack.items) c.settle.new.self.code.items
-    (pile c.take.new.self.stack.items) c.take.new.self.code.items (stands_same c.loop-item.counts.phase (view c.loop-item.names) c.loop-item.invariant.reached.names c.loop-item.invariant.reached.same (bytes_of c.args.text.now c.next_token-token.result) c.next_token-token.result.kind c.symbol_of-symbol.result c.symbol_of-symbol.ensures) settles follows) in
+    (pile c.take.new.self.stack.items) c.take.new.self.code.items (stands_same c.loop-item.counts.phase (view c.loop-item.names) c.loop-item.invariant.reached.names c.loop-item.invariant.reached.same (bytes_of c.args.text.now c.next_token-token.result) c.next_token-token.result.kind c.symbol_of-symbol.result c.symbol_of-symbol.ensures.stands) settles follows) in
     omega (arith, on, c.next_token-token.ensures.onward, c.next_token-token.ensures.within)
 
 pub loop-item-preserved : goal.loop-item-preserved
@@ -81,6 +100,7 @@ loop-item-preserved c =
     let settles = subst (λ (o : Option Item). Settles c.symbol_of-symbol.result (pile c.loop-item.machine.stack.items) c.loop-item.machine.code.items o (pile c.settle.new.self.stack.items) c.settle.new.self.code.items) c.in-Some.is c.in_ok-item.ensures in
     let follows = taken_true _ _ _ _ _ _ c.in_ok-take.ensures c.if-not-branch.false in
     record {
+      fractions = same_fractions _ _ c.in_ok-take_in-in-Ok.ensures (learnt_fractions c.loop-item.counts c.symbol_of-symbol.result (bytes_of c.args.text.now c.next_token-token.result) (view c.loop-item.names) c.symbol_of-symbol.ensures.fraction c.loop-item.invariant.fractions);
       within = c.next_token-token.ensures.within;
       reached = record {
         names = learnt c.loop-item.counts c.symbol_of-symbol.result (bytes_of c.args.text.now c.next_token-token.result) c.loop-item.invariant.reached.names;
@@ -90,6 +110,12 @@ loop-item-preserved c =
             (pile c.loop-item.machine.stack.items) c.loop-item.machine.code.items c.loop-item.from c.loop-item.invariant.reached.reached
             c.next_token-token.result c.symbol_of-symbol.result c.in-Some.item (pile c.settle.new.self.stack.items) c.settle.new.self.code.items
             (pile c.take.new.self.stack.items) c.take.new.self.code.items
-            c.next_token-token.ensures.next (stands_same c.loop-item.counts.phase (view c.loop-item.names) c.loop-item.invariant.reached.names c.loop-item.invariant.reached.same (bytes_of c.args.text.now c.next_token-token.result) c.next_token-token.result.kind c.symbol_of-symbol.result c.symbol_of-symbol.ensures) settles follows (sym c.counted.ensures ∙ c.in-Ok.is);
+            c.next_token-token.ensures.next (stands_same c.loop-item.counts.phase (view c.loop-item.names) c.loop-item.invariant.reached.names c.loop-item.invariant.reached.same (bytes_of c.args.text.now c.next_token-token.result) c.next_token-token.result.kind c.symbol_of-symbol.result c.symbol_of-symbol.ensures.stands) settles follows (sym c.counted.ensures ∙ c.in-Ok.is);
+        told = taken_told c.args.text.now (view c.args.names.now) c.loop-item.invariant.reached.names c.args.start c.loop-item.counts c.in-Ok.next (pile c.args.machine.now.stack.items) c.args.machine.now.code.items
+            (pile c.loop-item.machine.stack.items) c.loop-item.machine.code.items c.loop-item.from c.loop-item.invariant.reached.reached
+            c.next_token-token.result c.symbol_of-symbol.result c.in-Some.item (pile c.settle.new.self.stack.items) c.settle.new.self.code.items
+            (pile c.take.new.self.stack.items) c.take.new.self.code.items
+            c.next_token-token.ensures.next (stands_same c.loop-item.counts.phase (view c.loop-item.names) c.loop-item.invariant.reached.names c.loop-item.invariant.reached.same (bytes_of c.args.text.now c.next_token-token.result) c.next_token-token.result.kind c.symbol_of-symbol.result c.symbol_of-symbol.ensures.stands) settles follows (sym c.counted.ensures ∙ c.in-Ok.is)
+            (scoped c.args.scope.now) (scoped c.loop-item.scope) (scoped c.take_in-in-Ok.new.self) c.loop-item.invariant.reached.told c.symbol_of-symbol.ensures.fraction c.in_ok-take_in-in-Ok-2.ensures;
       };
     }

@@ -1,13 +1,16 @@
 use Rattle.std.proofs.Common.{◌-◌, ◌≤◌, length}
 use Rattle.pv_parse.specs.Grammar.{pile}
+use Rattle.pv_parse.specs.Fractions.{KnowsFractions}
+use Rattle.pv_parse.specs.Scopes.{scoped}
 use Rattle.pv_parse.specs.Views.{view}
 use Rattle.pv_parse.proofs.Reached.{ReachedAs}
 use Rattle.pv_parse.proofs.reader.read_tokens.Given as goal
 
 abbrev pub invariant-loop-item : goal.invariant-loop-item
 invariant-loop-item l = record {
+  fractions : KnowsFractions (view l.names);
   within : l.from ≤ length l.text;
-  reached : ReachedAs (view l.names) l.text (view l.initial.names) l.fn.start l.counts (pile l.initial.machine.stack.items) l.initial.machine.code.items (pile l.machine.stack.items) l.machine.code.items l.from;
+  reached : ReachedAs (view l.names) l.text (view l.initial.names) l.fn.start l.counts (pile l.initial.machine.stack.items) l.initial.machine.code.items (pile l.machine.stack.items) l.machine.code.items l.from (scoped l.initial.scope) (scoped l.scope);
 }
 
 abbrev pub decreases-loop-item : goal.decreases-loop-item

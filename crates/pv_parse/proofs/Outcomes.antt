@@ -1,0 +1,289 @@
+-- Each text means one system or has one fault, and never both; and so with expressions.
+use Rattle.std.proofs.Common.{◌≡◌, ℕ, zero, suc, ◌+◌, ◌<◌, ◌≤◌, ◌⊎◌, inl, inr, ⊎_elim, List, [], ◌∷◌, length, map, take, get_or, slice_get, Some, refl, sym, ap, ◌∙◌, subst, arith, ℤ, pos, ◌*ℤ◌, ◌≤ℤ◌, All, sum_by}
+use Rattle.std.proofs.lemmas.Bool.{cases_lt, cases_order}
+use Rattle.std.proofs.lemmas.Int.{ints, by_lt_z}
+use Rattle.std.proofs.lemmas.List.{take_all}
+use Rattle.std.proofs.lemmas.List.Elements.{All-take}
+use Rattle.std.proofs.lemmas.List.Sums.{sum_by-take-le}
+use Rattle.std.proofs.lemmas.Option.{slice_get-get_or}
+use Rattle.pv_expr.specs.Systems.{InOrder}
+use Rattle.pv_expr.specs.Terms.{depth_of}
+use Rattle.pv_expr.specs.declared.domain.Bound.{Bound}
+use Rattle.pv_expr.specs.declared.domain.Bound.TheVariants.{MinusOo, Value, PlusOo}
+use Rattle.pv_expr.specs.declared.domain.Domain.{Domain}
+use Rattle.pv_parse.specs.declared.cause.Cause.{Cause}
+use Rattle.pv_parse.specs.declared.cause.Cause.TheVariants.{BadBounds, TextTooLong, TooLarge}
+use Rattle.pv_parse.specs.declared.code.Op.{Op}
+use Rattle.pv_parse.specs.declared.counts.Counts.{Counts}
+use Rattle.pv_parse.specs.declared.counts.Phase.TheVariants.{Between, Sides as SidesPhase}
+use Rattle.pv_parse.specs.declared.symbol.Symbol.{Symbol}
+use Rattle.pv_parse.specs.declared.token.Token.{Token}
+use Rattle.pv_parse.specs.Declarations.{AreGood, IsExpressionSentence, IsFirstBad, IsSystemSentence, Mark, MarksTo, MeansOne, MeansOneTerm, Reading, Variable, bracket_in, domain_in, mark_of, name_of, starts_in, variables_in}
+use Rattle.pv_parse.specs.Expansion.{Sides, constraints_of, run, top}
+use Rattle.pv_parse.specs.Faults.{IsEither, IsExpressionFaultOf, IsFaultOf, IsSystemFault}
+use Rattle.pv_parse.specs.Faults.IsExpressionFaultOf.{first as first_text, long as long_text}
+use Rattle.pv_parse.specs.Faults.IsFaultOf.{bounds, first, large, long}
+use Rattle.pv_parse.specs.Grammar.{expression_items, system_items}
+use Rattle.pv_parse.specs.Limits.{counted, nothing}
+use Rattle.pv_parse.specs.Meanings.{Names, learnt, no_names}
+use Rattle.pv_parse.specs.Sentences.{IsExpressionText, IsSentence, SpellsTo, bytes_of}
+use Rattle.pv_parse.specs.Sizes.{AreWithin, IsFirstLarge, IsShallow, nodes_of}
+use Rattle.pv_parse.proofs.Decided.{decides_expression, decides_system}
+use Rattle.pv_parse.proofs.OneSpelling.{expression_apart, expression_fault, no_fault, ok_same, one_code, one_fault, one_known, one_spelling}
+use Rattle.pv_parse.proofs.Orderly.{expression_orderly, system_orderly}
+use Rattle.pv_parse.proofs.Starts.{starts_count}
+use Rattle.pv_parse.proofs.Unique.{one_next}
+
+-- ---- A sentence has one reading
+
+one_marking : (t : List ℕ) (c : Counts) (from : ℕ) (ss : List Symbol) (ms ms' : List Mark) (to to' : ℕ) (e e' : Counts) → MarksTo t c from ss ms to e → MarksTo t c from ss ms' to' e' → ms ≡ ms'
+one_marking t c from [] ms ms' to to' e e' h k = h.0 ∙ sym k.0
+one_marking t c from (s ∷ ss) ms ms' to to' e e' (x, d, rest, next, one, are, more) (x', d', rest', next', one', are', more') =
+    let token : x' ≡ x = one_next t from x' x next' next in
+    let counts : d' ≡ d = ok_same (counted c s) one' one in
+    let more'' : MarksTo t d x.end ss rest' to' e' =
+    subst (λ (z : Counts). MarksTo t z x.end ss rest' to' e') counts (subst (λ (z : Token). MarksTo t d' z.end ss rest' to' e') token more') in
+    are
+    ∙ (ap (λ (z : List Mark). mark_of t c.phase s x ∷ z) (one_marking t d x.end ss rest rest' to to' e e' more more'')
+    ∙ (ap (λ (z : Token). mark_of t c.phase s z ∷ rest') (sym token) ∙ sym are'))
+
+one_symbols : (t : List ℕ) (r r' : Reading t) → r'.sentence.symbols ≡ r.sentence.symbols
+one_symbols t r r' = one_spelling t no_names (nothing Between) r'.sentence.symbols r.sentence.symbols r'.sentence.spelled r.sentence.spelled
+
+one_marks : (t : List ℕ) (r r' : Reading t) → r.marks ≡ r'.marks
+one_marks t r r' =
+    one_marking t (nothing Between) 0 r.sentence.symbols r.marks r'.marks r.marked.0 r'.marked.0 r.marked.1 r'.marked.1 r.marked.2
+    (subst (λ (z : List Symbol). MarksTo t (nothing Between) 0 z r'.marks r'.marked.0 r'.marked.1) (one_symbols t r r') r'.marked.2)
+
+code_of_one : (t : List ℕ) (r r' : Reading t) → r.code ≡ r'.code
+code_of_one t r r' = one_code t no_names (nothing Between) system_items system_orderly [] r.code r'.code r.sentence r'.sentence
+
+same_domains : (t : List ℕ) (r r' : Reading t) → map domain_in (variables_in r.marks) ≡ map domain_in (variables_in r'.marks)
+same_domains t r r' = ap (λ (z : List Mark). map domain_in (variables_in z)) (one_marks t r r')
+
+-- and each sentence has one
+marks_of : (t : List ℕ) (n : Names) (c : Counts) (from : ℕ) (ss : List Symbol) (to : ℕ) (m : Names) → SpellsTo t n c from ss to m → (marks : List Mark) × (e : Counts) × MarksTo t c from ss marks to e
+marks_of t n c from [] to m h = ([], c, (refl, h.0, refl))
+marks_of t n c from (s ∷ ss) to m (x, d, next, inside, stands, one, rest) =
+    let (marks, e, more) = marks_of t (learnt c s (bytes_of t x) n) d x.end ss to m rest in
+    (mark_of t c.phase s x ∷ marks, e, (x, d, marks, next, one, refl, more))
+
+reading_of : (t : List ℕ) (code : List Op) → IsSentence t no_names (nothing Between) system_items [] code → Reading t
+reading_of t code s =
+    let (to, m, x, spelled, next, ends) = s.spelled in
+    let (marks, e, marked) = marks_of t no_names (nothing Between) 0 s.symbols to m spelled in
+    record { code = code; sentence = s; marks = marks; marked = (to, e, marked) }
+
+-- ---- Bad domains
+
+good_not_bad : (ds : List Domain) (bs : List ℕ) (byte : ℕ) → AreGood ds → IsFirstBad ds bs byte → ⊥
+good_not_bad [] bs byte h bad = absurd bad
+good_not_bad (d ∷ ds) [] byte h bad = absurd bad
+good_not_bad (d ∷ ds) (b ∷ bs) byte h bad = ⊎_elim (λ (wrong, at). wrong h.0) (λ (good, later). good_not_bad ds bs byte h.1 later) bad
+
+one_bad : (ds : List Domain) (bs : List ℕ) (byte byte' : ℕ) → IsFirstBad ds bs byte → IsFirstBad ds bs byte' → byte ≡ byte'
+one_bad [] bs byte byte' h k = absurd h
+one_bad (d ∷ ds) [] byte byte' h k = absurd h
+one_bad (d ∷ ds) (b ∷ bs) byte byte' h k =
+    ⊎_elim
+    (λ (wrong, at). ⊎_elim (λ (wrong', at'). at ∙ sym at') (λ (good', later'). absurd (wrong good')) k)
+    (λ (good, later). ⊎_elim (λ (wrong', at'). absurd (wrong' good)) (λ (good', later'). one_bad ds bs byte byte' later later') k)
+    h
+
+at_most_or : (m n : ℤ) → (m ≤ℤ n) ⊎ ¬ (m ≤ℤ n)
+at_most_or m n = by_lt_z n m (λ more. inr (λ h. omega (arith, ints, more, h))) (λ h. inl h)
+
+in_order_or : (lo hi : Bound) → InOrder lo hi ⊎ ¬ InOrder lo hi
+in_order_or PlusOo hi = inr (λ h. h)
+in_order_or MinusOo MinusOo = inr (λ h. h)
+in_order_or MinusOo (Value r s) = inl tt
+in_order_or MinusOo PlusOo = inl tt
+in_order_or (Value p q) MinusOo = inr (λ h. h)
+in_order_or (Value p q) (Value r s) = at_most_or (p *ℤ pos s) (r *ℤ pos q)
+in_order_or (Value p q) PlusOo = inl tt
+
+domains_or : (vs : List Variable) → AreGood (map domain_in vs) ⊎ ((byte : ℕ) × IsFirstBad (map domain_in vs) (map bracket_in vs) byte)
+domains_or [] = inl tt
+domains_or (v ∷ vs) =
+    ⊎_elim
+    (λ good. ⊎_elim (λ all. inl (good, all)) (λ (byte, later). inr (byte, inr (good, later))) (domains_or vs))
+    (λ wrong. inr (v.bracket, inl (wrong, refl)))
+    (in_order_or v.domain.lo v.domain.hi)
+
+-- ---- Large constraints
+
+within_front : (n : ℕ) (cs : List Sides) → AreWithin cs → AreWithin (take n cs)
+within_front n cs h = record {
+  few_nodes = let less = sum_by-take-le nodes_of cs n in let few = h.few_nodes in omega (arith, less, few);
+  shallow = All-take IsShallow n cs h.shallow;
+}
+
+take_less : (n m : ℕ) (cs : List Sides) → n ≤ m → take n (take m cs) ≡ take n cs
+take_less zero m cs h = refl
+take_less (suc n) zero cs h = absurd (omega arith)
+take_less (suc n) (suc m) [] h = refl
+take_less (suc n) (suc m) (c ∷ cs) h = ap (λ (z : List Sides). c ∷ z) (take_less n m cs (omega arith))
+
+-- behind the first large constraint nothing is within the limits
+none_within : (cs : List Sides) (i n : ℕ) → IsFirstLarge cs i → i < n → AreWithin (take n cs) → ⊥
+none_within cs i n f on h = f.with_it (subst AreWithin (take_less (i + 1) n cs (omega arith)) (within_front (i + 1) (take n cs) h))
+
+within_not_large : (cs : List Sides) (i : ℕ) → AreWithin cs → IsFirstLarge cs i → ⊥
+within_not_large cs i h f = f.with_it (within_front (i + 1) cs h)
+
+one_large : (cs : List Sides) (i j : ℕ) → IsFirstLarge cs i → IsFirstLarge cs j → i ≡ j
+one_large cs i j f g =
+    ⊎_elim (λ same. same)
+    (λ apart. ⊎_elim (λ less. absurd (none_within cs i j f less g.before)) (λ more. absurd (none_within cs j i g more f.before)) apart)
+    (cases_order i j)
+
+shallow_or : (s : Sides) → IsShallow s ⊎ ¬ IsShallow s
+shallow_or s =
+    ⊎_elim
+    (λ deep. inr (λ h. let low = h.left in omega (arith, deep, low)))
+    (λ left. ⊎_elim (λ deep. inr (λ h. let low = h.right in omega (arith, deep, low))) (λ right. inl (record { left = left; right = right })) (cases_lt 2000 (depth_of s.right)))
+    (cases_lt 2000 (depth_of s.left))
+
+head_shallow : (s : Sides) (cs : List Sides) → IsShallow s → All IsShallow cs → All IsShallow (s ∷ cs)
+head_shallow s cs h more zero d in_list = h
+head_shallow s cs h more (suc k) d in_list = more k d (omega (arith, in_list))
+
+all_shallow_or : (cs : List Sides) → All IsShallow cs ⊎ ¬ All IsShallow cs
+all_shallow_or [] = inl (λ k d in_list. absurd (omega (arith, in_list)))
+all_shallow_or (s ∷ cs) =
+    ⊎_elim
+    (λ h. ⊎_elim (λ more. inl (head_shallow s cs h more)) (λ deep. inr (λ all. deep (λ k d in_list. all (suc k) d (omega (arith, in_list))))) (all_shallow_or cs))
+    (λ deep. inr (λ all. deep (all 0 s (omega arith))))
+    (shallow_or s)
+
+within_or : (cs : List Sides) → AreWithin cs ⊎ ¬ AreWithin cs
+within_or cs =
+    ⊎_elim
+    (λ many. inr (λ h. let few = h.few_nodes in omega (arith, many, few)))
+    (λ few. ⊎_elim (λ shallow. inl (record { few_nodes = few; shallow = shallow })) (λ deep. inr (λ h. deep h.shallow)) (all_shallow_or cs))
+    (cases_lt 65536 (sum_by nodes_of cs))
+
+none_is_within : AreWithin []
+none_is_within = record { few_nodes = omega arith; shallow = λ k d in_list. absurd (omega (arith, in_list)) }
+
+large_up_to : (cs : List Sides) (n : ℕ) → n ≤ length cs → AreWithin (take n cs) ⊎ ((i : ℕ) × IsFirstLarge cs i)
+large_up_to cs zero h = inl none_is_within
+large_up_to cs (suc n) h =
+    let next : n + 1 ≡ suc n = omega arith in
+    ⊎_elim
+    (λ before. ⊎_elim (λ within. inl within) (λ never. inr (n, record { present = h; before = before; with_it = subst (λ (k : ℕ). ¬ AreWithin (take k cs)) (sym next) never })) (within_or (take (suc n) cs)))
+    (λ f. inr f)
+    (large_up_to cs n (omega (arith, h)))
+
+large_or : (cs : List Sides) → AreWithin cs ⊎ ((i : ℕ) × IsFirstLarge cs i)
+large_or cs = ⊎_elim (λ within. inl (subst AreWithin (take_all (length cs) cs (omega arith)) within)) (λ f. inr f) (large_up_to cs (length cs) (omega arith))
+
+-- ---- Texts of systems
+
+sized : (t : List ℕ) → length t ≤ 65536 → (r : Reading t) → AreGood (map domain_in (variables_in r.marks)) → IsEither (IsSystemSentence t) (IsFaultOf t)
+sized t short r good =
+    ⊎_elim
+    (λ within. inl (record { reading = r; good = good; within = within; short = short }))
+    (λ (i, f).
+    let many = starts_count t no_names (nothing Between) r.code r.sentence r.marks r.marked in
+    let present = f.present in
+    inr (get_or (starts_in r.marks) i 0, TooLarge, large short r good i f (slice_get-get_or (starts_in r.marks) i 0 (omega (arith, many, present))) refl))
+    (large_or (constraints_of r.code))
+
+read_text : (t : List ℕ) → length t ≤ 65536 → Reading t → IsEither (IsSystemSentence t) (IsFaultOf t)
+read_text t short r =
+    ⊎_elim (λ good. sized t short r good) (λ (byte, bad). inr (byte, BadBounds, bounds short r bad refl)) (domains_or (variables_in r.marks))
+
+pub system_either : (t : List ℕ) → IsEither (IsSystemSentence t) (IsFaultOf t)
+system_either t =
+    ⊎_elim
+    (λ more. inr (65536, TextTooLong, long more refl refl))
+    (λ short. ⊎_elim (λ (code, s). read_text t short (reading_of t code s)) (λ (byte, cause, f). inr (byte, cause, first short f)) (decides_system t))
+    (cases_lt 65536 (length t))
+
+pub system_apart : (t : List ℕ) (byte : ℕ) (cause : Cause) → IsSystemSentence t → IsFaultOf t byte cause → ⊥
+system_apart t byte cause s (long more at is) = let short = s.short in omega (arith, more, short)
+system_apart t byte cause s (first short f) = no_fault t no_names (nothing Between) system_items [] s.reading.code byte cause s.reading.sentence f
+system_apart t byte cause s (bounds short r bad is) =
+    good_not_bad (map domain_in (variables_in r.marks)) (map bracket_in (variables_in r.marks)) byte (subst AreGood (same_domains t s.reading r) s.good) bad
+system_apart t byte cause s (large short r good i f at is) =
+    within_not_large (constraints_of r.code) i (subst (λ (z : List Op). AreWithin (constraints_of z)) (code_of_one t s.reading r) s.within) f
+
+-- a fault of a sentence is none of its tokens
+token_fault : (t : List ℕ) (r : Reading t) (byte : ℕ) (cause : Cause) → IsSystemFault t byte cause → ⊥
+token_fault t r byte cause f = no_fault t no_names (nothing Between) system_items [] r.code byte cause r.sentence f
+
+same_some : {a b : ℕ} (xs : List ℕ) (i : ℕ) → slice_get xs i ≡ Some a → slice_get xs i ≡ Some b → a ≡ b
+same_some xs i h k = cc
+
+pub system_fault : (t : List ℕ) (byte byte' : ℕ) (cause cause' : Cause) → IsFaultOf t byte cause → IsFaultOf t byte' cause' → (byte ≡ byte') × (cause ≡ cause')
+system_fault t byte byte' cause cause' (long more at is) (long more' at' is') = (at ∙ sym at', is ∙ sym is')
+system_fault t byte byte' cause cause' (long more at is) (first short g) = absurd (omega (arith, more, short))
+system_fault t byte byte' cause cause' (long more at is) (bounds short r bad is') = absurd (omega (arith, more, short))
+system_fault t byte byte' cause cause' (long more at is) (large short r good i g at' is') = absurd (omega (arith, more, short))
+system_fault t byte byte' cause cause' (first short f) (long more at is) = absurd (omega (arith, more, short))
+system_fault t byte byte' cause cause' (first short f) (first short' g) = one_fault t no_names (nothing Between) system_items byte byte' cause cause' f g
+system_fault t byte byte' cause cause' (first short f) (bounds short' r bad is) = absurd (token_fault t r byte cause f)
+system_fault t byte byte' cause cause' (first short f) (large short' r good i g at is) = absurd (token_fault t r byte cause f)
+system_fault t byte byte' cause cause' (bounds short r bad is) (long more at is') = absurd (omega (arith, more, short))
+system_fault t byte byte' cause cause' (bounds short r bad is) (first short' g) = absurd (token_fault t r byte' cause' g)
+system_fault t byte byte' cause cause' (bounds short r bad is) (bounds short' r' bad' is') = (
+  one_bad (map domain_in (variables_in r.marks)) (map bracket_in (variables_in r.marks)) byte byte' bad
+      (subst (λ (z : List Mark). IsFirstBad (map domain_in (variables_in z)) (map bracket_in (variables_in z)) byte') (one_marks t r' r) bad'),
+  is ∙ sym is',
+)
+system_fault t byte byte' cause cause' (bounds short r bad is) (large short' r' good i g at is') =
+    absurd (good_not_bad (map domain_in (variables_in r.marks)) (map bracket_in (variables_in r.marks)) byte (subst AreGood (same_domains t r' r) good) bad)
+system_fault t byte byte' cause cause' (large short r good i f at is) (long more at' is') = absurd (omega (arith, more, short))
+system_fault t byte byte' cause cause' (large short r good i f at is) (first short' g) = absurd (token_fault t r byte' cause' g)
+system_fault t byte byte' cause cause' (large short r good i f at is) (bounds short' r' bad is') =
+    absurd (good_not_bad (map domain_in (variables_in r'.marks)) (map bracket_in (variables_in r'.marks)) byte' (subst AreGood (same_domains t r r') good) bad)
+system_fault t byte byte' cause cause' (large short r good i f at is) (large short' r' good' j g at' is') =
+    let same : j ≡ i = one_large (constraints_of r.code) j i (subst (λ (z : List Op). IsFirstLarge (constraints_of z) j) (code_of_one t r' r) g) f in (
+      same_some (starts_in r.marks) i at
+          (subst (λ (k : ℕ). slice_get (starts_in r.marks) k ≡ Some byte') same (subst (λ (z : List Mark). slice_get (starts_in z) j ≡ Some byte') (one_marks t r' r) at')),
+      is ∙ sym is',
+    )
+
+pub one_system_meant : (t : List ℕ) → MeansOne t
+one_system_meant t s s' m m' =
+    let marks = one_marks t m.text.reading m'.text.reading in
+    record {
+      names = m.names ∙ (ap (λ (z : List Mark). map name_of (variables_in z)) marks ∙ sym m'.names);
+      domains = m.domains ∙ (ap (λ (z : List Mark). map domain_in (variables_in z)) marks ∙ sym m'.domains);
+      constraints = m.constraints ∙ (ap constraints_of (code_of_one t m.text.reading m'.text.reading) ∙ sym m'.constraints);
+    }
+
+-- ---- Texts of expressions
+
+text_of : (variables : List (List ℕ)) (t : List ℕ) → IsExpressionSentence variables t → IsExpressionText variables t
+text_of variables t s = (s.known, s.knows, s.code, s.sentence)
+
+pub text_either : (variables : List (List ℕ)) (t : List ℕ) → IsEither (IsExpressionSentence variables t) (IsExpressionFaultOf variables t)
+text_either variables t =
+    ⊎_elim
+    (λ more. inr (65536, TextTooLong, long_text more refl refl))
+    (λ short.
+    ⊎_elim
+    (λ (n, knows, code, s). inl (record { known = n; knows = knows; code = code; sentence = s; short = short }))
+    (λ (byte, cause, f). inr (byte, cause, first_text short f))
+    (decides_expression variables t))
+    (cases_lt 65536 (length t))
+
+pub text_apart : (variables : List (List ℕ)) (t : List ℕ) (byte : ℕ) (cause : Cause) → IsExpressionSentence variables t → IsExpressionFaultOf variables t byte cause → ⊥
+text_apart variables t byte cause s (long_text more at is) = let short = s.short in omega (arith, more, short)
+text_apart variables t byte cause s (first_text short f) = expression_apart variables t byte cause (text_of variables t s) f
+
+pub text_fault : (variables : List (List ℕ)) (t : List ℕ) (byte byte' : ℕ) (cause cause' : Cause) → IsExpressionFaultOf variables t byte cause → IsExpressionFaultOf variables t byte' cause' →
+    (byte ≡ byte') × (cause ≡ cause')
+text_fault variables t byte byte' cause cause' (long_text more at is) (long_text more' at' is') = (at ∙ sym at', is ∙ sym is')
+text_fault variables t byte byte' cause cause' (long_text more at is) (first_text short g) = absurd (omega (arith, more, short))
+text_fault variables t byte byte' cause cause' (first_text short f) (long_text more at is) = absurd (omega (arith, more, short))
+text_fault variables t byte byte' cause cause' (first_text short f) (first_text short' g) = expression_fault variables t byte byte' cause cause' f g
+
+pub one_term_meant : (variables : List (List ℕ)) (t : List ℕ) → MeansOneTerm variables t
+one_term_meant variables t x x' m m' =
+    let s' : IsSentence t m.text.known (nothing SidesPhase) expression_items [] m'.text.code =
+    subst (λ (z : Names). IsSentence t z (nothing SidesPhase) expression_items [] m'.text.code) (one_known variables m'.text.known m.text.known m'.text.knows m.text.knows) m'.text.sentence in
+    m.term
+    ∙ (ap (λ (z : List Op). top (run [] [] z [])) (one_code t m.text.known (nothing SidesPhase) expression_items expression_orderly [] m.text.code m'.text.code m.text.sentence s') ∙ sym m'.term)

@@ -1,0 +1,24 @@
+use Rattle.pv_parse.specs.declared.counts.Phase.TheVariants.{Between}
+use Rattle.pv_parse.specs.Grammar.{system_items}
+use Rattle.pv_parse.specs.Limits.{nothing}
+use Rattle.pv_parse.specs.Meanings.{no_names}
+use Rattle.std.proofs.Common.{[]}
+use Rattle.pv_parse.proofs.Decided.{decides_system}
+use Rattle.pv_parse.proofs.OneSpelling.{no_fault, one_code, one_fault, one_spelling}
+use Rattle.pv_parse.proofs.Orderly.{system_orderly}
+use Rattle.pv_parse.proofs.laws.one_system.Goals as goal
+
+pub returns-clause-spelled : goal.returns-clause-spelled
+returns-clause-spelled c = λ t ss ss' s s'. one_spelling t no_names (nothing Between) ss ss' s s'
+
+pub returns-clause-code : goal.returns-clause-code
+returns-clause-code c = λ t code code' s s'. one_code t no_names (nothing Between) system_items system_orderly [] code code' s s'
+
+pub returns-clause-either : goal.returns-clause-either
+returns-clause-either c = λ t. decides_system t
+
+pub returns-clause-apart : goal.returns-clause-apart
+returns-clause-apart c = λ t byte cause s f. no_fault t no_names (nothing Between) system_items [] s.0 byte cause s.1 f
+
+pub returns-clause-fault : goal.returns-clause-fault
+returns-clause-fault c = λ t byte byte' cause cause' f g. one_fault t no_names (nothing Between) system_items byte byte' cause cause' f g

@@ -1,0 +1,211 @@
+-- What a text declares beside the meaning of names: its variables with their domains, and where its constraints begin.
+use Rattle.std.specs.Prelude.{◌≡◌, ℕ, ◌++◌, ◌≤◌, Bool, true, false, List, [], ◌∷◌, length, Option, Some, None, Ok, map, if◌then◌else◌, option_to_list, ◌⊎◌}
+use Rattle.pv_expr.specs.Systems.{InOrder, Parts}
+use Rattle.pv_expr.specs.Terms.{Term}
+use Rattle.pv_expr.specs.declared.domain.Bound.{Bound}
+use Rattle.pv_expr.specs.declared.domain.Bound.TheVariants.{MinusOo, Value, PlusOo}
+use Rattle.pv_expr.specs.declared.domain.Domain.{Domain}
+use Rattle.pv_parse.specs.declared.code.Op.{Op}
+use Rattle.pv_parse.specs.declared.counts.Counts.{Counts}
+use Rattle.pv_parse.specs.declared.counts.Phase.{Phase}
+use Rattle.pv_parse.specs.declared.counts.Phase.TheVariants.{Between, Bounds, Sides, Variables}
+use Rattle.pv_parse.specs.declared.fraction.Fraction.{Fraction}
+use Rattle.pv_parse.specs.declared.scope.Begun.{Begun}
+use Rattle.pv_parse.specs.declared.scope.Begun.TheVariants.{Outside, Next, At}
+use Rattle.pv_parse.specs.declared.symbol.Fixed.TheVariants.{Constraints, Semicolon, OpenBracket, Oo}
+use Rattle.pv_parse.specs.declared.symbol.Symbol.{Symbol}
+use Rattle.pv_parse.specs.declared.symbol.Symbol.TheVariants.{Fixed as FixedToken, Relation as RelationToken, Number, Declared, Constant}
+use Rattle.pv_parse.specs.declared.token.Token.{Token}
+use Rattle.pv_parse.specs.Expansion.{constraints_of, run, sides_of, top}
+use Rattle.pv_parse.specs.Grammar.{expression_items, system_items}
+use Rattle.pv_parse.specs.Limits.{counted, nothing}
+use Rattle.pv_parse.specs.Meanings.{KnowsVariables, Names, is_minus, no_names, signed}
+use Rattle.pv_parse.specs.Sentences.{IsSentence, bytes_of}
+use Rattle.pv_parse.specs.Sizes.{AreWithin}
+use Rattle.pv_parse.specs.Tokens.{IsNext}
+
+-- ---- The tokens of a sentence, each in its place
+
+-- what a token is for the grammar, the part of the text in which it stands, where it begins, and its bytes
+pub record Mark : Type 0 where
+  pub symbol : Symbol
+  pub phase : Phase
+  pub start : ℕ
+  pub bytes : List ℕ
+
+abbrev pub mark_of : List ℕ → Phase → Symbol → Token → Mark
+mark_of t p s x = record { symbol = s; phase = p; start = x.start; bytes = bytes_of t x }
+
+-- the tokens from one place up to another that are these for the grammar, and the counts behind them
+abbrev pub MarksTo : List ℕ → Counts → ℕ → List Symbol → List Mark → ℕ → Counts → Type 0
+MarksTo t c from [] marks to e = (marks ≡ []) × (from ≡ to) × (c ≡ e)
+MarksTo t c from (s ∷ ss) marks to e =
+    (x : Token) × (d : Counts) × (rest : List Mark) × IsNext t from x × (counted c s ≡ Ok d) × (marks ≡ mark_of t c.phase s x ∷ rest)
+    × MarksTo t d x.end ss rest to e
+
+-- the tokens of a text that are these for the grammar
+abbrev pub Marks : List ℕ → Counts → List Symbol → List Mark → Type 0
+Marks t c ss marks = (to : ℕ) × (e : Counts) × MarksTo t c 0 ss marks to e
+
+-- ---- Variables
+
+-- a variable's declaration; the bracket is where the `[` of its domain stands
+pub record Variable : Type 0 where
+  pub name : List ℕ
+  pub domain : Domain
+  pub bracket : ℕ
+
+-- a name declares a variable in the block of variables
+abbrev pub declares : Phase → Symbol → Bool
+declares Variables (Declared taken) = true
+declares p s = false
+
+-- the tokens up to the name of the next variable
+abbrev pub own : List Mark → List Mark
+own [] = []
+own (m ∷ ms) = if declares m.phase m.symbol then [] else m ∷ own ms
+
+abbrev pub value_of : Fraction → Bound
+value_of v = Value v.p v.q
+
+abbrev pub infinite : Bool → Bound
+infinite true = MinusOo
+infinite false = PlusOo
+
+-- the bound that a token between brackets is, where `-` stands before it or doesn't: a number, a constant's value, or `oo`
+abbrev pub bound_at : Phase → Symbol → Bool → Option Bound
+bound_at Bounds (Number v exponent) negative = Some (value_of (signed negative v))
+bound_at Bounds (Constant v) negative = Some (value_of (signed negative v))
+bound_at Bounds (FixedToken Oo) negative = Some (infinite negative)
+bound_at p s negative = None
+
+-- the bounds among these tokens, in order
+abbrev pub bounds_of : Bool → List Mark → List Bound
+bounds_of negative [] = []
+bounds_of negative (m ∷ ms) = option_to_list (bound_at m.phase m.symbol negative) ++ bounds_of (is_minus m.symbol) ms
+
+-- an omitted domain is [-oo, oo], else the lower bound is written first
+abbrev pub domain_of : List Bound → Domain
+domain_of [] = record { lo = MinusOo; hi = PlusOo }
+domain_of (lo ∷ []) = record { lo = lo; hi = PlusOo }
+domain_of (lo ∷ (hi ∷ more)) = record { lo = lo; hi = hi }
+
+abbrev pub bracket_behind : Symbol → ℕ → ℕ → ℕ
+bracket_behind (FixedToken OpenBracket) start bracket = start
+bracket_behind s start bracket = bracket
+
+-- where the last `[` among these tokens stands
+abbrev pub bracket_of : ℕ → List Mark → ℕ
+bracket_of bracket [] = bracket
+bracket_of bracket (m ∷ ms) = bracket_of (bracket_behind m.symbol m.start bracket) ms
+
+-- a variable of a name, with what is written up to the next one
+abbrev pub variable : List ℕ → List Mark → Variable
+variable name ms = record { name = name; domain = domain_of (bounds_of false (own ms)); bracket = bracket_of 0 (own ms) }
+
+-- the variables that these tokens declare, in order
+abbrev pub variables_in : List Mark → List Variable
+variables_in [] = []
+variables_in (m ∷ ms) = if declares m.phase m.symbol then variable m.bytes ms ∷ variables_in ms else variables_in ms
+
+abbrev pub name_of : Variable → List ℕ
+name_of v = v.name
+
+abbrev pub domain_in : Variable → Domain
+domain_in v = v.domain
+
+abbrev pub bracket_in : Variable → ℕ
+bracket_in v = v.bracket
+
+-- ---- Bad domains
+
+abbrev pub IsGood : Domain → Type 0
+IsGood d = InOrder d.lo d.hi
+
+-- the bracket of the first bad domain stands at this byte
+abbrev pub IsFirstBad : List Domain → List ℕ → ℕ → Type 0
+IsFirstBad (d ∷ ds) (b ∷ bs) byte = ((¬ IsGood d) × (byte ≡ b)) ⊎ (IsGood d × IsFirstBad ds bs byte)
+IsFirstBad ds bs byte = ⊥
+
+abbrev pub AreGood : List Domain → Type 0
+AreGood [] = Unit {0}
+AreGood (d ∷ ds) = IsGood d × AreGood ds
+
+-- ---- Where constraints begin
+
+-- where the constraint begins in which a token stands
+abbrev pub begun_at : ℕ → Begun → Begun
+begun_at start Outside = Outside
+begun_at start Next = At start
+begun_at start (At place) = At place
+
+-- behind the word `constraints`, and behind each `;` from there on, the next token is the first one of a constraint
+abbrev pub begun_behind : Symbol → Begun → Begun
+begun_behind (FixedToken Constraints) b = Next
+begun_behind (FixedToken Semicolon) (At place) = Next
+begun_behind s b = b
+
+-- each constraint has one relation
+abbrev pub start_of : Symbol → Begun → List ℕ
+start_of (RelationToken r) (At place) = place ∷ []
+start_of s b = []
+
+abbrev pub starts_from : Begun → List Mark → List ℕ
+starts_from b [] = []
+starts_from b (m ∷ ms) = start_of m.symbol (begun_at m.start b) ++ starts_from (begun_behind m.symbol (begun_at m.start b)) ms
+
+-- the places of the first tokens of the constraints, in order
+abbrev pub starts_in : List Mark → List ℕ
+starts_in ms = starts_from Outside ms
+
+-- ---- The system that a text means
+
+-- the text is a sentence of the grammar for systems, within the limits that are counted token by token
+pub record Reading (t : List ℕ) : Type 0 where
+  pub code : List Op
+  pub sentence : IsSentence t no_names (nothing Between) system_items [] code
+  pub marks : List Mark
+  pub marked : Marks t (nothing Between) sentence.symbols marks
+
+-- the text is a system's: such a sentence, with good domains and constraints within the limits, and no longer than is read
+pub record IsSystemSentence (t : List ℕ) : Type 0 where
+  pub reading : Reading t
+  pub good : AreGood (map domain_in (variables_in reading.marks))
+  pub within : AreWithin (constraints_of reading.code)
+  pub short : length t ≤ 65536
+
+-- the text is a system's, and these are its names, domains and constraints
+pub record IsMeaning (t : List ℕ) (s : Parts) : Type 0 where
+  pub text : IsSystemSentence t
+  pub names : s.names ≡ map name_of (variables_in text.reading.marks)
+  pub domains : s.domains ≡ map domain_in (variables_in text.reading.marks)
+  pub constraints : map sides_of s.constraints ≡ constraints_of text.reading.code
+
+-- two systems have the same names, domains and constraints
+pub record AreAlike (s s' : Parts) : Type 0 where
+  pub names : s.names ≡ s'.names
+  pub domains : s.domains ≡ s'.domains
+  pub constraints : map sides_of s.constraints ≡ map sides_of s'.constraints
+
+-- a text means one system
+abbrev pub MeansOne : List ℕ → Type 0
+MeansOne t = (s s' : Parts) → IsMeaning t s → IsMeaning t s' → AreAlike s s'
+
+-- ---- The expression that a text means
+
+-- the text is an expression over these variables, and no longer than is read
+pub record IsExpressionSentence (variables : List (List ℕ)) (t : List ℕ) : Type 0 where
+  pub known : Names
+  pub knows : KnowsVariables variables known
+  pub code : List Op
+  pub sentence : IsSentence t known (nothing Sides) expression_items [] code
+  pub short : length t ≤ 65536
+
+-- and this is its term
+pub record IsExpressionMeaning (variables : List (List ℕ)) (t : List ℕ) (x : Term) : Type 0 where
+  pub text : IsExpressionSentence variables t
+  pub term : x ≡ top (run [] [] text.code [])
+
+-- a text means one term
+abbrev pub MeansOneTerm : List (List ℕ) → List ℕ → Type 0
+MeansOneTerm variables t = (x x' : Term) → IsExpressionMeaning variables t x → IsExpressionMeaning variables t x' → x ≡ x'

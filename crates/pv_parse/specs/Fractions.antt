@@ -1,0 +1,26 @@
+-- Numbers of a text are fractions in lowest terms, within the limits on constants.
+use Rattle.std.specs.Prelude.{◌≡◌, ℕ, List, [], ◌∷◌, Some}
+use Rattle.pv_expr.specs.Systems.{IsFraction}
+use Rattle.pv_parse.specs.declared.fraction.Fraction.{Fraction}
+use Rattle.pv_parse.specs.declared.names.Meaning.TheVariants.{Constant as ConstantMeaning}
+use Rattle.pv_parse.specs.declared.symbol.Symbol.{Symbol}
+use Rattle.pv_parse.specs.declared.symbol.Symbol.TheVariants.{Number, Constant}
+use Rattle.pv_parse.specs.Declarations.{Mark}
+use Rattle.pv_parse.specs.Meanings.{Names}
+
+abbrev pub IsLowest : Fraction → Type 0
+IsLowest v = IsFraction v.p v.q
+
+-- of a token
+abbrev pub HasFraction : Symbol → Type 0
+HasFraction (Number value exponent) = IsLowest value
+HasFraction (Constant value) = IsLowest value
+HasFraction s = Unit {0}
+
+abbrev pub HaveFractions : List Mark → Type 0
+HaveFractions [] = Unit {0}
+HaveFractions (m ∷ ms) = HasFraction m.symbol × HaveFractions ms
+
+-- of the constants
+abbrev pub KnowsFractions : Names → Type 0
+KnowsFractions n = (name : List ℕ) (value : Fraction) → n.known name ≡ Some (ConstantMeaning value) → IsLowest value

@@ -1,0 +1,94 @@
+-- How the declarations that the reader keeps go on behind a token.
+use Rattle.std.specs.Prelude.{◌≡◌, ℕ, ◌++◌, false, List, [], ◌∷◌, Option, Some, None, map, if◌then◌else◌, string_bytes}
+use Rattle.pv_expr.specs.declared.domain.Bound.{Bound}
+use Rattle.pv_expr.specs.declared.domain.Bound.TheVariants.{MinusOo, PlusOo}
+use Rattle.pv_expr.specs.declared.domain.Domain.{Domain}
+use Rattle.pv_parse.specs.declared.code.Op.{Op}
+use Rattle.pv_parse.specs.declared.counts.Counts.{Counts}
+use Rattle.pv_parse.specs.declared.counts.Phase.{Phase}
+use Rattle.pv_parse.specs.declared.machine.Item.{Item}
+use Rattle.pv_parse.specs.declared.given.Awaited.{Awaited}
+use Rattle.pv_parse.specs.declared.given.Awaited.TheVariants.{Lower, Upper, Neither}
+use Rattle.pv_parse.specs.declared.scope.Begun.{Begun}
+use Rattle.pv_parse.specs.declared.scope.Begun.TheVariants.{Outside}
+use Rattle.pv_parse.specs.declared.given.Given.{Given}
+use Rattle.pv_parse.specs.declared.scope.Scope.{Scope}
+use Rattle.pv_parse.specs.declared.symbol.Symbol.{Symbol}
+use Rattle.pv_parse.specs.Declarations.{Mark, Marks, begun_at, begun_behind, bound_at, bracket_behind, declares, start_of}
+use Rattle.pv_parse.specs.Fractions.{HaveFractions}
+use Rattle.pv_parse.specs.Meanings.{Names, is_minus}
+use Rattle.pv_parse.specs.Sentences.{IsSentence}
+
+-- ---- What is written behind a variable's name
+
+abbrev pub nothing_given : Given
+nothing_given = record { domain = record { lo = MinusOo; hi = PlusOo }; awaited = Lower; negative = false; bracket = 0 }
+
+-- the lower bound comes first, then the upper one
+abbrev pub with_bound : Awaited → Bound → Given → Given
+with_bound Lower b g = record { domain = record { lo = b; hi = g.domain.hi }; awaited = Upper; negative = g.negative; bracket = g.bracket }
+with_bound Upper b g = record { domain = record { lo = g.domain.lo; hi = b }; awaited = Neither; negative = g.negative; bracket = g.bracket }
+with_bound Neither b g = g
+
+abbrev pub bounded : Option Bound → Given → Given
+bounded None g = g
+bounded (Some b) g = with_bound g.awaited b g
+
+abbrev pub with_token : Symbol → ℕ → Given → Given
+with_token s start g = record { domain = g.domain; awaited = g.awaited; negative = is_minus s; bracket = bracket_behind s start g.bracket }
+
+abbrev pub given_behind : Phase → Symbol → ℕ → Given → Given
+given_behind p s start g = with_token s start (bounded (bound_at p s g.negative) g)
+
+abbrev pub domain_given : Given → Domain
+domain_given g = g.domain
+
+abbrev pub bracket_given : Given → ℕ
+bracket_given g = g.bracket
+
+-- ---- All declarations
+
+-- the last of a list is changed
+abbrev pub with_last : {X : Type 0} → (X → X) → List X → List X
+with_last f [] = []
+with_last f (x ∷ []) = f x ∷ []
+with_last f (x ∷ (y ∷ ys)) = x ∷ with_last f (y ∷ ys)
+
+pub record Scoped : Type 0 where
+  pub names : List (List ℕ)
+  pub given : List Given
+  pub begun : Begun
+  pub starts : List ℕ
+
+abbrev pub nothing_scoped : Scoped
+nothing_scoped = record { names = []; given = []; begun = Outside; starts = [] }
+
+abbrev pub scoped : Scope → Scoped
+scoped s = record { names = map string_bytes s.variables.items; given = s.given.items; begun = s.begun; starts = s.starts.items }
+
+abbrev pub names_behind : Mark → List (List ℕ) → List (List ℕ)
+names_behind m names = if declares m.phase m.symbol then names ++ m.bytes ∷ [] else names
+
+abbrev pub all_given_behind : Mark → List Given → List Given
+all_given_behind m given =
+    if declares m.phase m.symbol then given ++ nothing_given ∷ [] else with_last (given_behind m.phase m.symbol m.start) given
+
+abbrev pub followed : Mark → Scoped → Scoped
+followed m s = record {
+  names = names_behind m s.names;
+  given = all_given_behind m s.given;
+  begun = begun_behind m.symbol (begun_at m.start s.begun);
+  starts = s.starts ++ start_of m.symbol (begun_at m.start s.begun);
+}
+
+abbrev pub scoped_behind : List Mark → Scoped → Scoped
+scoped_behind [] s = s
+scoped_behind (m ∷ ms) s = scoped_behind ms (followed m s)
+
+-- the text is a sentence, and its tokens lead from one scope to the other
+pub record IsToldAs (t : List ℕ) (known : Names) (start : Counts) (items : List Item) (before after : List Op) (old new : Scoped) : Type 0 where
+  pub sentence : IsSentence t known start items before after
+  pub marks : List Mark
+  pub marked : Marks t start sentence.symbols marks
+  pub fractions : HaveFractions marks
+  pub scoped : new ≡ scoped_behind marks old

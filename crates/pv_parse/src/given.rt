@@ -1,0 +1,182 @@
+// What is written behind a variable's name: its domain.
+
+ghost use Rattle.std.specs.Bool.{OnTrue, OnFalse};
+ghost use Rattle.std.specs.Prelude.{◌≡◌, List, ◌≤◌, ◌-◌, drop, length, map, IfOk, IfSome, IsNone};
+ghost use Rattle.pv_expr.specs.Systems.{InOrder};
+ghost use Rattle.pv_parse.specs.Declarations.{AreGood, IsFirstBad, IsGood, bound_at, bracket_behind, infinite, value_of};
+ghost use Rattle.pv_parse.specs.Fractions.{HasFraction, IsLowest};
+ghost use Rattle.pv_parse.specs.Meanings.{signed};
+ghost use Rattle.pv_parse.specs.Scopes.{bounded, bracket_given, domain_given, given_behind, nothing_given, with_bound};
+
+use crate::counts::Phase;
+use crate::fraction::{Fraction, is_quotient_at_most};
+use crate::symbol::{Fixed, Symbol};
+use pv_expr::{Bound, Domain};
+use pv_num::Memory;
+use std::alloc::Global;
+
+/// Which bound of a variable's domain comes next.
+#[derive(Clone, Copy)]
+pub(crate) enum Awaited {
+    Lower,
+    Upper,
+    Neither,
+}
+
+/// What is written behind a variable's name so far.
+#[derive(Clone, Copy)]
+pub(crate) struct Given {
+    pub domain: Domain,
+    pub awaited: Awaited,
+    /// Whether the token before is `-`.
+    pub negative: bool,
+    /// Where the bracket opens, or 0 where there is none.
+    pub bracket: usize,
+}
+
+impl Given {
+    /// Nothing is written yet.
+    pub(crate) fn none() -> Given
+        ensures { result ≡ nothing_given }
+    {
+        Given {
+            domain: Domain {
+                lo: Bound::MinusOo,
+                hi: Bound::PlusOo,
+            },
+            awaited: Awaited::Lower,
+            negative: false,
+            bracket: 0,
+        }
+    }
+
+    /// With one token more.
+    pub(crate) fn behind(self, phase: Phase, symbol: Symbol, start: usize) -> Given
+        requires { HasFraction symbol }
+        ensures { result ≡ given_behind phase symbol start self }
+    {
+        let mut made = self.bounded(bound_at(phase, symbol, self.negative));
+        made.negative = symbol.is_minus();
+        made.bracket = bracket_behind(symbol, start, made.bracket);
+        made
+    }
+
+    fn bounded(self, bound: Option<Bound>) -> Given
+        ensures { result ≡ bounded bound self }
+    {
+        match bound {
+            Some(bound) => self.with_bound(bound),
+            None => self,
+        }
+    }
+
+    fn with_bound(self, bound: Bound) -> Given
+        ensures { result ≡ with_bound self.awaited bound self }
+    {
+        let mut made = self;
+        match self.awaited {
+            Awaited::Lower => {
+                made.domain.lo = bound;
+                made.awaited = Awaited::Upper;
+            }
+            Awaited::Upper => {
+                made.domain.hi = bound;
+                made.awaited = Awaited::Neither;
+            }
+            Awaited::Neither => {}
+        }
+        made
+    }
+}
+
+// The bound that a token between brackets is, where a `-` stands before it or doesn't.
+fn bound_at(phase: Phase, symbol: Symbol, negative: bool) -> Option<Bound>
+    requires { HasFraction symbol }
+    ensures { result ≡ bound_at phase symbol negative }
+{
+    match phase {
+        Phase::Bounds => match symbol {
+            Symbol::Number { value, .. } => Some(bound_of(value, negative)),
+            Symbol::Constant(value) => Some(bound_of(value, negative)),
+            Symbol::Fixed(Fixed::Oo) => Some(infinite(negative)),
+            _ => None,
+        },
+        _ => None,
+    }
+}
+
+fn bound_of(value: Fraction, negative: bool) -> Bound
+    requires { IsLowest value }
+    ensures { result ≡ value_of (signed negative value) }
+{
+    let signed = value.signed(negative);
+    Bound::Value {
+        p: signed.p,
+        q: signed.q,
+    }
+}
+
+fn infinite(negative: bool) -> Bound
+    ensures { result ≡ infinite negative }
+{
+    if negative {
+        Bound::MinusOo
+    } else {
+        Bound::PlusOo
+    }
+}
+
+fn bracket_behind(symbol: Symbol, start: usize, bracket: usize) -> usize
+    ensures { result ≡ bracket_behind symbol start bracket }
+{
+    match symbol {
+        Symbol::Fixed(Fixed::OpenBracket) => start,
+        _ => bracket,
+    }
+}
+
+/// The bracket of the first domain that is bad.
+pub(crate) fn first_bad(given: &[Given]) -> Option<usize>
+    ensures some { IfSome result (λ byte. IsFirstBad (map domain_given given.now) (map bracket_given given.now) byte) }
+    ensures none { IsNone result → AreGood (map domain_given given.now) }
+{
+    first_bad_from(given, 0)
+}
+
+fn first_bad_from(given: &[Given], i: usize) -> Option<usize>
+    requires { i ≤ length given.now }
+    ensures some { IfSome result (λ byte. IsFirstBad (map domain_given (drop i given.now)) (map bracket_given (drop i given.now)) byte) }
+    ensures none { IsNone result → AreGood (map domain_given (drop i given.now)) }
+{
+    if i == given.len() {
+        return None;
+    }
+    if in_order(given[i].domain) {
+        first_bad_from(given, i + 1)
+    } else {
+        Some(given[i].bracket)
+    }
+}
+
+// Whether the lower bound is not +oo, the upper one not -oo, and they are in order as exact numbers.
+fn in_order(domain: Domain) -> bool
+    ensures yes { OnTrue result (InOrder domain.lo domain.hi) }
+    ensures no { OnFalse result (¬ InOrder domain.lo domain.hi) }
+{
+    match (domain.lo, domain.hi) {
+        (Bound::PlusOo, _) | (_, Bound::MinusOo) => false,
+        (Bound::Value { p, q }, Bound::Value { p: r, q: s }) => is_quotient_at_most(p, q, r, s),
+        _ => true,
+    }
+}
+
+/// The domains alone.
+pub(crate) fn domains_of(alloc: Global, given: &[Given]) -> Result<Vec<Domain>, Memory>
+    ensures { IfOk result (λ made. made.items ≡ map domain_given given.now) }
+{
+    let mut domains = Vec::new(alloc);
+    for one in given {
+        domains.push(one.domain)?;
+    }
+    Ok(domains)
+}
