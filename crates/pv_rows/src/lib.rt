@@ -4,6 +4,8 @@
 #[cfg(test)]
 mod numbers;
 #[cfg(test)]
+mod settings;
+#[cfg(test)]
 mod table;
 #[cfg(test)]
 mod tests;

@@ -1,0 +1,45 @@
+// The settings' text and the identity of a settler, whose digest was worked out by another program.
+use pv_box::Bisector;
+use pv_ctc::Program;
+use pv_num::Num;
+use pv_parse::parse;
+use pv_settle::{Settings, SystemSettler};
+use std::alloc::Global;
+
+const SYSTEM: &str = "Variables x in [0,1]; Constraints 1/x >= 0; end\n";
+
+const TEXT: &str = "eps 1:-2\ndepth 60\nbisect largest\ncontract prop(8)\n";
+
+// SHA-256 of the system's canonical text and the settings' text.
+const IDENTITY: [u8; 32] = [
+    0xbe, 0x80, 0xeb, 0x05, 0xbc, 0xbc, 0x91, 0xb7, 0x0b, 0x7a, 0xd4, 0x22, 0xc0, 0x02, 0xb3, 0x78,
+    0xef, 0xf5, 0x86, 0x22, 0xab, 0x1c, 0x9a, 0x05, 0x3f, 0x3f, 0xcb, 0xdf, 0x68, 0x52, 0xf8, 0x1a,
+];
+
+fn settler(alloc: Global) -> Option<SystemSettler> {
+    let system = parse(alloc, SYSTEM.as_bytes()).ok()?;
+    let program = Program::read(alloc, b"prop(8)", system.constraint_count()).ok()?;
+    let eps = Num::fin(1, -2)?;
+    if Num::ZERO <= eps && eps < Num::POS_INF {
+        let settings = Settings {
+            eps,
+            depth: 60,
+            bisector: Bisector::Largest,
+        };
+        SystemSettler::new(alloc, system, program, settings).ok()
+    } else {
+        None
+    }
+}
+
+fn are_as_worked_out(alloc: Global) -> Option<bool> {
+    let settler = settler(alloc)?;
+    let text = settler.settings_text(alloc).ok()?;
+    let identity = settler.identity(alloc).ok()?;
+    Some(text.as_slice() == TEXT.as_bytes() && identity == IDENTITY)
+}
+
+#[test]
+fn settings_and_identity(rt: HostRuntime) {
+    assert_eq!(rt; are_as_worked_out(rt.alloc()), Some(true));
+}
