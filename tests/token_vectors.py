@@ -1,8 +1,8 @@
 #!/usr/bin/env python3
-"""Writes the tables of crates/pv_parse/src/tests/lexical.rt: tokens, values of numbers, lines and columns.
+"""Writes the tables of crates/pv_tokens/src/tests/lexical.rt: tokens, values of numbers, lines and columns.
 
 The tokens come from regular expressions, the values from fractions, and none from the program.
-Run it at the top of the repository: python3 tests/token_vectors.py > crates/pv_parse/src/tests/lexical.rt
+Run it at the top of the repository: python3 tests/token_vectors.py > crates/pv_tokens/src/tests/lexical.rt
 """
 import re
 from fractions import Fraction

@@ -4,8 +4,8 @@ use Rattle.pv_io.specs.Outside.{Content}
 use Rattle.pv_cli.specs.Asking.{Asked, asked}
 use Rattle.pv_cli.specs.Choices.{Choice, Chooses}
 use Rattle.pv_parse.specs.Faults.{IsPlaced, IsRefusal, SaysTooLong}
-use Rattle.pv_parse.specs.declared.cause.ParseRefused.{ParseRefused}
-use Rattle.pv_parse.specs.declared.cause.ParseRefused.TheVariants.{Memory as Unread, Fault}
+use Rattle.pv_parse.specs.declared.refused.ParseRefused.{ParseRefused}
+use Rattle.pv_parse.specs.declared.refused.ParseRefused.TheVariants.{Memory as Unread, Fault}
 use Rattle.pv_cli.specs.Faults.{refusal_of}
 use Rattle.pv_cli.specs.Worked.{RefusesText}
 use Rattle.pv_cli.specs.Outcomes.{RefusesAsked, AreRefused, HasCause, IsAnswered, IsDone}

@@ -7,7 +7,7 @@ use Rattle.pv_num.specs.Arithmetic.{ratio_of}
 use Rattle.pv_num.specs.declared.num.End.TheVariants.{Down}
 use Rattle.pv_num.proofs.Ratios.{ratio-from_zero, ratio-finite}
 use Rattle.pv_expr.specs.Systems.{IsFraction}
-use Rattle.pv_parse.specs.Numbers.{IsRead}
+use Rattle.pv_tokens.specs.Numbers.{IsRead}
 
 pub width_from : (t : List ℕ) (v : ℤ × ℕ) (n : Extended) → IsRead t v → n ≡ ratio_of Down v.0 v.1 → IsTrue (le (Fin (pos 0)) n)
 width_from t v n read is =

@@ -6,7 +6,7 @@ use Rattle.pv_num.specs.Arithmetic.{ratio_of}
 use Rattle.pv_num.specs.declared.num.End.TheVariants.{Down}
 use Rattle.pv_box.specs.declared.choice.Bisector.{Bisector}
 use Rattle.pv_box.specs.declared.choice.Bisector.TheVariants.{Largest, Round}
-use Rattle.pv_parse.specs.Numbers.{IsRead}
+use Rattle.pv_tokens.specs.Numbers.{IsRead}
 use Rattle.pv_cli.specs.Asking.{Asked}
 
 -- one to ten digits, and the number that they write

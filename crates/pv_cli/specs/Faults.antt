@@ -1,8 +1,8 @@
 -- The refusal for a fault of a text.
 use Rattle.pv_ctc.specs.declared.reading.ProgramRefused.{ProgramRefused}
 use Rattle.pv_ctc.specs.declared.reading.ProgramRefused.TheVariants as program
-use Rattle.pv_parse.specs.declared.cause.ParseRefused.{ParseRefused}
-use Rattle.pv_parse.specs.declared.cause.ParseRefused.TheVariants as parse
+use Rattle.pv_parse.specs.declared.refused.ParseRefused.{ParseRefused}
+use Rattle.pv_parse.specs.declared.refused.ParseRefused.TheVariants as parse
 use Rattle.pv_cli.specs.declared.refusal.Refusal.{Refusal}
 use Rattle.pv_cli.specs.declared.refusal.Refusal.TheVariants.{System, Contract, Memory}
 

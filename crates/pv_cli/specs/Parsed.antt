@@ -3,7 +3,7 @@ use Rattle.std.specs.Prelude.{ℕ, ◌<◌, List, length}
 use Rattle.pv_expr.specs.Systems.{Parts}
 use Rattle.pv_parse.specs.Declarations.{IsMeaning}
 use Rattle.pv_parse.specs.Faults.{IsPlaced, IsRefusal, SaysTooLong}
-use Rattle.pv_parse.specs.declared.cause.ParseRefused.{ParseRefused}
+use Rattle.pv_parse.specs.declared.refused.ParseRefused.{ParseRefused}
 
 -- the text is a system's, within all limits, and this is the system that it means
 abbrev pub IsSystemOf : List ℕ → Parts → Type 0

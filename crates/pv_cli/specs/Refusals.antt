@@ -2,8 +2,8 @@
 use Rattle.std.specs.Prelude.{ℕ, List, [], ◌∷◌, ◌++◌, codes, decimal}
 use Rattle.pv_cli.specs.declared.status.Status.{Status}
 use Rattle.pv_cli.specs.declared.status.Status.TheVariants as status
-use Rattle.pv_parse.specs.declared.cause.Cause.{Cause}
-use Rattle.pv_parse.specs.declared.cause.Cause.TheVariants.{BadByte, NumberTooWide, NotInProfile, UnknownName, DuplicateName, BadExponent, TooManyVariables, TooManyConstraints, TooDeep, Unexpected, EndOfText, BadBounds, TextTooLong, TooLarge, TooManyFunctions}
+use Rattle.pv_grammar.specs.declared.cause.Cause.{Cause}
+use Rattle.pv_grammar.specs.declared.cause.Cause.TheVariants.{BadByte, NumberTooWide, NotInProfile, UnknownName, DuplicateName, BadExponent, TooManyVariables, TooManyConstraints, TooDeep, Unexpected, EndOfText, BadBounds, TextTooLong, TooLarge, TooManyFunctions}
 use Rattle.pv_cli.specs.declared.refusal.Refusal.{Refusal}
 use Rattle.pv_cli.specs.declared.refusal.Refusal.TheVariants.{Usage, System, Contract, ReadFault, WriteFault, Memory, NoFile}
 

@@ -10,7 +10,7 @@ use Rattle.pv_ctc.specs.Refusals.{refused_at}
 use Rattle.pv_ctc.specs.Texts.{program_text}
 use Rattle.pv_settle.specs.Rules.{Rule}
 use Rattle.pv_settle.specs.Settling.{settle_by, is_member}
-use Rattle.pv_parse.specs.declared.cause.ParseRefused.TheVariants.{Fault}
+use Rattle.pv_parse.specs.declared.refused.ParseRefused.TheVariants.{Fault}
 use Rattle.pv_cli.specs.Asking.{Asked}
 use Rattle.pv_cli.specs.Choices.{Choice}
 use Rattle.pv_cli.specs.Parsed.{IsSystemOf, IsFaultOf}

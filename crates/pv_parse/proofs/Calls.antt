@@ -2,28 +2,29 @@
 use Rattle.std.proofs.Common.{◌≡◌, ℕ, ◌+◌, ◌-◌, ◌≤◌, nat_lt, Bool, true, false, List, [], ◌∷◌, Option, Some, None, Ok, Err, cond, if◌then◌else◌, is_some, refl, sym, subst, arith, rules, tests}
 use Rattle.std.specs.Prelude.{All}
 use Rattle.std.specs.Str.{bytes_eq}
-use Rattle.pv_parse.specs.declared.code.Op.{Op}
-use Rattle.pv_parse.specs.declared.counts.Counts.{Counts}
-use Rattle.pv_parse.specs.declared.counts.Phase.{Phase}
-use Rattle.pv_parse.specs.declared.counts.Phase.TheVariants.{Between, Constants, FunctionName, Parameters, Body, Variables, Bounds, NextConstraint, Sides}
-use Rattle.pv_parse.specs.declared.fraction.Fraction.{Fraction}
-use Rattle.pv_parse.specs.declared.keyword.Word.{Word}
-use Rattle.pv_parse.specs.declared.keyword.Word.TheVariants.{Constants as ConstantsWord', Variables as VariablesWord', Constraints as ConstraintsWord', Function as FunctionBlock, Return as ReturnWord, End as EndWord, In as InWord, Oo as OoWord, Abs as AbsWord, Sqr as SqrWord, Min as MinWord, Max as MaxWord, Outside}
+use Rattle.pv_code.specs.declared.code.Op.{Op}
+use Rattle.pv_code.specs.declared.fraction.Fraction.{Fraction}
+use Rattle.pv_code.specs.Sizes.{IsShortCall}
+use Rattle.pv_code.proofs.Properties.{each-all}
+use Rattle.pv_grammar.specs.declared.counts.Counts.{Counts}
+use Rattle.pv_grammar.specs.declared.counts.Phase.{Phase}
+use Rattle.pv_grammar.specs.declared.counts.Phase.TheVariants.{Between, Constants, FunctionName, Parameters, Body, Variables, Bounds, NextConstraint, Sides}
+use Rattle.pv_grammar.specs.declared.symbol.Fixed.{Fixed}
+use Rattle.pv_grammar.specs.declared.symbol.Fixed.TheVariants.{Open, Close, Comma, Semicolon, Function as FunctionWord, End}
+use Rattle.pv_grammar.specs.declared.symbol.Symbol.{Symbol}
+use Rattle.pv_grammar.specs.declared.symbol.Symbol.TheVariants.{Fixed as FixedToken, Number, Declared, Unknown, Function as Call}
+use Rattle.pv_grammar.specs.Grammar.{factor, system_items}
+use Rattle.pv_grammar.specs.Limits.{Counting, begins, begun, behind_comma, behind_end, behind_semicolon, counted, declared, in_expression, levels, moved, nested, next, nothing, operated, operates, turned}
+use Rattle.pv_grammar.proofs.Steps.{AllWrite, MayRaise, Own, Writes, derived-steps}
+use Rattle.pv_tokens.specs.declared.keyword.Word.{Word}
+use Rattle.pv_tokens.specs.declared.keyword.Word.TheVariants.{Constants as ConstantsWord', Variables as VariablesWord', Constraints as ConstraintsWord', Function as FunctionBlock, Return as ReturnWord, End as EndWord, In as InWord, Oo as OoWord, Abs as AbsWord, Sqr as SqrWord, Min as MinWord, Max as MaxWord, Outside}
+use Rattle.pv_tokens.specs.declared.token.Kind.{Kind}
+use Rattle.pv_tokens.specs.declared.token.Kind.TheVariants.{Name, Number as NumberKind}
+use Rattle.pv_tokens.specs.Words.{word_in}
 use Rattle.pv_parse.specs.declared.names.Meaning.{Meaning}
 use Rattle.pv_parse.specs.declared.names.Meaning.TheVariants.{Constant as ConstantMeaning, Variable as VariableMeaning, Function as FunctionMeaning}
-use Rattle.pv_parse.specs.declared.symbol.Fixed.{Fixed}
-use Rattle.pv_parse.specs.declared.symbol.Fixed.TheVariants.{Open, Close, Comma, Semicolon, Function as FunctionWord, End}
-use Rattle.pv_parse.specs.declared.symbol.Symbol.{Symbol}
-use Rattle.pv_parse.specs.declared.symbol.Symbol.TheVariants.{Fixed as FixedToken, Number, Declared, Unknown, Function as Call}
-use Rattle.pv_parse.specs.declared.token.Kind.{Kind}
-use Rattle.pv_parse.specs.declared.token.Kind.TheVariants.{Name, Number as NumberKind}
-use Rattle.pv_parse.specs.Grammar.{factor, system_items}
-use Rattle.pv_parse.specs.Limits.{Counting, begins, begun, behind_comma, behind_end, behind_semicolon, counted, declared, in_expression, levels, moved, nested, next, nothing, operated, operates, turned}
 use Rattle.pv_parse.specs.Meanings.{Names, in_body, in_bounds, learnt, meaning, no_names, told, use_of, with_function, with_name, with_value}
 use Rattle.pv_parse.specs.Sentences.{IsNumberSymbol, IsSentence, SpellsTo, StandsFor, bytes_of, name_symbol, word_symbol}
-use Rattle.pv_parse.specs.Sizes.{IsShortCall}
-use Rattle.pv_parse.specs.Words.{word_in}
-use Rattle.pv_parse.proofs.Steps.{AllWrite, MayRaise, Own, Writes, derived-steps, each-all}
 
 -- ---- Counts
 

@@ -1,26 +1,26 @@
 -- What is to come has a text that stays within the limits, where the counts fit it.
 use Rattle.std.proofs.Common.{◌≡◌, ℕ, zero, suc, ◌+◌, ◌-◌, nat_lt, Bool, true, false, List, [], ◌∷◌, ◌++◌, refl, sym, ap, ◌∙◌, subst, Some, is_some, if◌then◌else◌, Ok, Err, pos}
 use Rattle.pv_expr.specs.declared.constraint.Relation.TheVariants.{Eq, Le}
-use Rattle.pv_parse.specs.declared.cause.Cause.{Cause}
-use Rattle.pv_parse.specs.declared.cause.Cause.TheVariants.{TooDeep, TooManyConstraints, TooManyVariables, Unexpected}
-use Rattle.pv_parse.specs.declared.code.Op.{Op}
-use Rattle.pv_parse.specs.declared.code.Op.TheVariants.{Relate}
-use Rattle.pv_parse.specs.declared.counts.Counts.{Counts}
-use Rattle.pv_parse.specs.declared.counts.Phase.{Phase}
-use Rattle.pv_parse.specs.declared.counts.Phase.TheVariants.{Constants, FunctionName, Parameters, Body, Variables, Bounds, NextConstraint, Sides}
-use Rattle.pv_parse.specs.declared.symbol.Fixed.{Fixed}
-use Rattle.pv_parse.specs.declared.symbol.Fixed.TheVariants.{Open, Close, OpenBracket, CloseBracket, Comma, Variables as VariablesWord, Constraints as ConstraintsWord, Return, End, Oo}
-use Rattle.pv_parse.specs.declared.symbol.Symbol.{Symbol}
-use Rattle.pv_parse.specs.declared.symbol.Symbol.TheVariants.{Fixed as FixedToken, Relation as RelationToken, Number, Declared}
-use Rattle.pv_parse.specs.declared.machine.Item.{Item}
-use Rattle.pv_parse.specs.declared.machine.Item.TheVariants.{Exactly, WantConstant, WantEquals, MaybeSign, WantValue, WantFunctionName, WantParameter, MoreConstraints, MaybeConstraint, MoreParameters, WantVariable, MaybeDomain, WantBound, WantRelation, WantFactor, MoreFactors, MoreTerms, MaybePower, WantExponent, MoreArguments, Then}
-use Rattle.pv_parse.specs.Grammar.{Derives, MayEnd, Produced, begun as begun_text, done, factor, left_out, produced, step_of}
-use Rattle.pv_parse.specs.Limits.{Counted, Counting, begins, behind_comma, behind_end, counted, declared, in_expression, in_level, in_phase, levels, moved, nested, next, operated, operates, turned, where_below, with_operations, with_parameters, with_variables}
+use Rattle.pv_code.specs.declared.code.Op.{Op}
+use Rattle.pv_code.specs.declared.code.Op.TheVariants.{Relate}
+use Rattle.pv_grammar.specs.declared.cause.Cause.{Cause}
+use Rattle.pv_grammar.specs.declared.cause.Cause.TheVariants.{TooDeep, TooManyConstraints, TooManyVariables, Unexpected}
+use Rattle.pv_grammar.specs.declared.counts.Counts.{Counts}
+use Rattle.pv_grammar.specs.declared.counts.Phase.{Phase}
+use Rattle.pv_grammar.specs.declared.counts.Phase.TheVariants.{Constants, FunctionName, Parameters, Body, Variables, Bounds, NextConstraint, Sides}
+use Rattle.pv_grammar.specs.declared.symbol.Fixed.{Fixed}
+use Rattle.pv_grammar.specs.declared.symbol.Fixed.TheVariants.{Open, Close, OpenBracket, CloseBracket, Comma, Variables as VariablesWord, Constraints as ConstraintsWord, Return, End, Oo}
+use Rattle.pv_grammar.specs.declared.symbol.Symbol.{Symbol}
+use Rattle.pv_grammar.specs.declared.symbol.Symbol.TheVariants.{Fixed as FixedToken, Relation as RelationToken, Number, Declared}
+use Rattle.pv_grammar.specs.declared.machine.Item.{Item}
+use Rattle.pv_grammar.specs.declared.machine.Item.TheVariants.{Exactly, WantConstant, WantEquals, MaybeSign, WantValue, WantFunctionName, WantParameter, MoreConstraints, MaybeConstraint, MoreParameters, WantVariable, MaybeDomain, WantBound, WantRelation, WantFactor, MoreFactors, MoreTerms, MaybePower, WantExponent, MoreArguments, Then}
+use Rattle.pv_grammar.specs.Grammar.{Derives, MayEnd, Produced, begun as begun_text, done, factor, left_out, produced, step_of}
+use Rattle.pv_grammar.specs.Limits.{Counted, Counting, begins, behind_comma, behind_end, counted, declared, in_expression, in_level, in_phase, levels, moved, nested, next, operated, operates, turned, where_below, with_operations, with_parameters, with_variables}
+use Rattle.pv_grammar.proofs.Ready.{FactorRoom, FixedRoom, InExpression, IsStill, Leaves, OpenRoom, Ready, Room, fixed_behind, opened, opened_in, room_in, seen}
+use Rattle.pv_grammar.proofs.Fits.{seen_end}
 use Rattle.pv_parse.specs.Meanings.{AreBounded, Names, learnt}
 use Rattle.pv_parse.specs.Sentences.{StandsFor}
 use Rattle.pv_parse.proofs.Pieces.{CanDeclare, IsPiece, Mean, Piece, Plain, at_most_token, close_bracket_token, close_token, comma_token, constraints_token, end_token, equal_token, fresh, fresh_piece, fresh_stands, infinity_token, learnt_bounded, named, open_bracket_token, open_token, return_token, variables_token, zero_token}
-use Rattle.pv_parse.proofs.Ready.{FactorRoom, FixedRoom, InExpression, IsStill, Leaves, OpenRoom, Ready, Room, fixed_behind, opened, opened_in, room_in, seen}
-use Rattle.pv_parse.proofs.Fits.{seen_end}
 
 -- a text of the items, which leads from some counts to others, and can be spelled where some names are declared
 pub record ClosesFrom (n : Names) (c : Counts) (items : List Item) : Type 0 where

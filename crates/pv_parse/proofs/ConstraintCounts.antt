@@ -2,22 +2,22 @@
 use Rattle.std.proofs.Common.{◌≡◌, ℕ, zero, suc, ◌+◌, ◌≤◌, ◌∙◌, Bool, true, false, List, [], ◌∷◌, ◌++◌, ◌⊎◌, inl, inr, ⊎_elim, length, refl, sym, ap, subst, arith, rules, tests, Option, Some, None, Ok, Err, if◌then◌else◌, nat_lt, is_some}
 use Rattle.std.proofs.lemmas.Bool.{false≢true}
 use Rattle.std.proofs.lemmas.List.{append_assoc}
-use Rattle.pv_parse.specs.declared.cause.Cause.{Cause}
-use Rattle.pv_parse.specs.declared.cause.Cause.TheVariants.{TooDeep}
-use Rattle.pv_parse.specs.declared.code.Op.{Op}
-use Rattle.pv_parse.specs.declared.code.Op.TheVariants.{Relate}
-use Rattle.pv_parse.specs.declared.counts.Counts.{Counts}
-use Rattle.pv_parse.specs.declared.counts.Phase.{Phase}
-use Rattle.pv_parse.specs.declared.counts.Phase.TheVariants.{Body, FunctionName, NextConstraint, Parameters, Sides, Variables}
-use Rattle.pv_parse.specs.declared.machine.Item.{Item}
-use Rattle.pv_parse.specs.declared.machine.Item.TheVariants.{Exactly, WantRelation, MoreConstraints, MaybeConstraint, WantFactor, MoreFactors, MoreTerms, MaybePower, WantExponent, MoreArguments, Then}
-use Rattle.pv_parse.specs.declared.symbol.Fixed.{Fixed}
-use Rattle.pv_parse.specs.declared.symbol.Fixed.TheVariants.{Plus, Minus, Star, Slash, Caret, Open, Close, Comma, Semicolon, Constraints, Function as FunctionWord, End}
-use Rattle.pv_parse.specs.declared.symbol.Symbol.{Symbol}
-use Rattle.pv_parse.specs.declared.symbol.Symbol.TheVariants.{Fixed as FixedToken, Relation as RelationToken, Number, Declared, Constant as ConstantName, Variable as VariableName, Parameter as ParameterName, Function as Call, Unknown}
-use Rattle.pv_parse.specs.Expansion.{constraints_of}
-use Rattle.pv_parse.specs.Grammar.{Derives, MayEnd, Produced, begun, done, exactly, factor, left_out, produced, step_of, system_items, with_more}
-use Rattle.pv_parse.specs.Limits.{Counted, Counting, behind_comma, behind_end, behind_semicolon, begins, begun as begun_by, counted, declared, in_expression, levels, moved, nested, next, operated, operates, turned, with_operations}
+use Rattle.pv_code.specs.declared.code.Op.{Op}
+use Rattle.pv_code.specs.declared.code.Op.TheVariants.{Relate}
+use Rattle.pv_code.specs.Expansion.{constraints_of}
+use Rattle.pv_grammar.specs.declared.cause.Cause.{Cause}
+use Rattle.pv_grammar.specs.declared.cause.Cause.TheVariants.{TooDeep}
+use Rattle.pv_grammar.specs.declared.counts.Counts.{Counts}
+use Rattle.pv_grammar.specs.declared.counts.Phase.{Phase}
+use Rattle.pv_grammar.specs.declared.counts.Phase.TheVariants.{Body, FunctionName, NextConstraint, Parameters, Sides, Variables}
+use Rattle.pv_grammar.specs.declared.machine.Item.{Item}
+use Rattle.pv_grammar.specs.declared.machine.Item.TheVariants.{Exactly, WantRelation, MoreConstraints, MaybeConstraint, WantFactor, MoreFactors, MoreTerms, MaybePower, WantExponent, MoreArguments, Then}
+use Rattle.pv_grammar.specs.declared.symbol.Fixed.{Fixed}
+use Rattle.pv_grammar.specs.declared.symbol.Fixed.TheVariants.{Plus, Minus, Star, Slash, Caret, Open, Close, Comma, Semicolon, Constraints, Function as FunctionWord, End}
+use Rattle.pv_grammar.specs.declared.symbol.Symbol.{Symbol}
+use Rattle.pv_grammar.specs.declared.symbol.Symbol.TheVariants.{Fixed as FixedToken, Relation as RelationToken, Number, Declared, Constant as ConstantName, Variable as VariableName, Parameter as ParameterName, Function as Call, Unknown}
+use Rattle.pv_grammar.specs.Grammar.{Derives, MayEnd, Produced, begun, done, exactly, factor, left_out, produced, step_of, system_items, with_more}
+use Rattle.pv_grammar.specs.Limits.{Counted, Counting, behind_comma, behind_end, behind_semicolon, begins, begun as begun_by, counted, declared, in_expression, levels, moved, nested, next, operated, operates, turned, with_operations}
 use Rattle.pv_parse.specs.Meanings.{Names}
 use Rattle.pv_parse.specs.Sentences.{IsSentence}
 use Rattle.pv_parse.proofs.Starts.{AreCalls, AreEarly, EarlyAfter, IsCall, IsEarly, WordAfter, calls, constraints_count, early_left, early_of, early_others, relates, relates_append, word_of, word_step}

@@ -2,23 +2,23 @@
 use Rattle.std.proofs.Common.{◌≡◌, ℕ, zero, suc, ◌+◌, ◌-◌, ◌<◌, ◌≤◌, ◌⊎◌, inl, inr, List, [], ◌∷◌, ◌++◌, length, get_or, refl, sym, ap, ◌∙◌, subst, arith, ⊎_elim}
 use Rattle.std.proofs.str.Laws.{order}
 use Rattle.std.proofs.lemmas.List.{ext_get_or, get_or_past}
-use Rattle.pv_parse.specs.declared.numeral.Parts.{Parts}
-use Rattle.pv_parse.specs.declared.token.Kind.{Kind}
-use Rattle.pv_parse.specs.declared.token.Kind.TheVariants.{End}
-use Rattle.pv_parse.specs.declared.token.Token.{Token}
-use Rattle.pv_parse.specs.declared.counts.Counts.{Counts}
-use Rattle.pv_parse.specs.declared.symbol.Symbol.{Symbol}
-use Rattle.pv_parse.specs.Limits.{Counted, counted}
+use Rattle.pv_grammar.specs.declared.counts.Counts.{Counts}
+use Rattle.pv_grammar.specs.declared.symbol.Symbol.{Symbol}
+use Rattle.pv_grammar.specs.Limits.{Counted, counted}
+use Rattle.pv_tokens.specs.declared.numeral.Parts.{Parts}
+use Rattle.pv_tokens.specs.declared.token.Kind.{Kind}
+use Rattle.pv_tokens.specs.declared.token.Kind.TheVariants.{End}
+use Rattle.pv_tokens.specs.declared.token.Token.{Token}
+use Rattle.pv_tokens.specs.Tokens.{Closes, IsBlank, IsDigit, IsExponent, IsLetter, IsLongest, IsNamed, IsNext, IsNumber, IsSign, IsWord, Run, Separated, Separates, mark}
+use Rattle.pv_tokens.specs.Tokens.Separates.{blank, line, closed, unclosed}
+use Rattle.pv_tokens.specs.Tokens.IsWord.{name, number, less_equal, greater_equal, single, finish}
+use Rattle.pv_tokens.proofs.Decimals.{number_within}
+use Rattle.pv_tokens.proofs.Exists.{Separator, block_from, line_from}
+use Rattle.pv_tokens.proofs.Numerals.{exponent_on, exponent_longer, fraction_on, inside}
+use Rattle.pv_tokens.proofs.Slices.{byte_in, length_slice}
 use Rattle.pv_parse.specs.Meanings.{Names, learnt}
 use Rattle.pv_parse.specs.Sentences.{SpellsTo, StandsFor, bytes_of}
-use Rattle.pv_parse.specs.Tokens.{Closes, IsBlank, IsDigit, IsExponent, IsLetter, IsLongest, IsNamed, IsNext, IsNumber, IsSign, IsWord, Run, Separated, Separates, mark}
-use Rattle.pv_parse.specs.Tokens.Separates.{blank, line, closed, unclosed}
-use Rattle.pv_parse.specs.Tokens.IsWord.{name, number, less_equal, greater_equal, single, finish}
-use Rattle.pv_parse.proofs.Decimals.{number_within}
-use Rattle.pv_parse.proofs.Exists.{Separator, block_from, line_from}
-use Rattle.pv_parse.proofs.Numerals.{exponent_on, exponent_longer, fraction_on, inside}
 use Rattle.pv_parse.proofs.OneSpelling.{ok_same}
-use Rattle.pv_parse.proofs.Slices.{byte_in, length_slice}
 
 -- two texts share their first bytes
 pub record Shares (t u : List ℕ) (f : ℕ) : Type 0 where

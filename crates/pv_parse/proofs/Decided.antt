@@ -3,35 +3,36 @@ use Rattle.std.proofs.Common.{◌≡◌, ℕ, zero, suc, ◌+◌, ◌-◌, ◌*�
 use Rattle.std.proofs.str.Laws.{order}
 use Rattle.std.specs.Str.Parse.{digits_value}
 use Rattle.pv_expr.specs.declared.constraint.Relation.TheVariants.{Eq, Le, Ge, Lt, Gt}
-use Rattle.pv_parse.specs.declared.cause.Cause.{Cause}
-use Rattle.pv_parse.specs.declared.cause.Cause.TheVariants.{BadByte, NumberTooWide}
-use Rattle.pv_parse.specs.declared.code.Op.{Op}
-use Rattle.pv_parse.specs.declared.counts.Counts.{Counts}
-use Rattle.pv_parse.specs.declared.counts.Phase.{Phase}
-use Rattle.pv_parse.specs.declared.counts.Phase.TheVariants.{Between, Sides}
-use Rattle.pv_parse.specs.declared.machine.Item.{Item}
-use Rattle.pv_parse.specs.declared.machine.Item.TheVariants.{MaybeConstants, MoreConstants, MaybeConstant, MaybeSign, MaybeFunctions, MaybeSemicolon, MoreVariables, MaybeVariable, MaybeDomain, MoreConstraints, MaybeConstraint, MoreFactors, MoreTerms, MaybePower, Then}
-use Rattle.pv_parse.specs.declared.number.Decimal.{Decimal}
-use Rattle.pv_parse.specs.declared.symbol.Fixed.TheVariants.{Plus, Minus, Star, Slash, Caret, Open, Close, OpenBracket, CloseBracket, Comma, Semicolon, EndOfText}
-use Rattle.pv_parse.specs.declared.symbol.Symbol.{Symbol}
-use Rattle.pv_parse.specs.declared.symbol.Symbol.TheVariants.{Never, Fixed as FixedToken, Relation as RelationToken, Number}
-use Rattle.pv_parse.specs.declared.token.Kind.{Kind}
-use Rattle.pv_parse.specs.declared.token.Kind.TheVariants.{Name, Number as NumberKind, LessEqual, GreaterEqual, Less, Greater, Equal, Plus as PlusKind, Minus as MinusKind, Star as StarKind, Slash as SlashKind, Caret as CaretKind, Open as OpenKind, Close as CloseKind, OpenBracket as OpenBracketKind, CloseBracket as CloseBracketKind, Comma as CommaKind, Semicolon as SemicolonKind, Bad, End}
-use Rattle.pv_parse.specs.declared.token.Token.{Token}
-use Rattle.pv_parse.specs.Faults.{IsEither, IsExpressionFault, IsFirst, IsSystemFault, refusal}
-use Rattle.pv_parse.specs.Grammar.{Follows, MayEnd, Produced, Settles, emptied, ended, expression_items, is_exponent, met, produced, step_of, system_items}
-use Rattle.pv_parse.specs.Limits.{IsStart, counted, nothing}
+use Rattle.pv_code.specs.declared.code.Op.{Op}
+use Rattle.pv_grammar.specs.declared.cause.Cause.{Cause}
+use Rattle.pv_grammar.specs.declared.cause.Cause.TheVariants.{BadByte, NumberTooWide}
+use Rattle.pv_grammar.specs.declared.counts.Counts.{Counts}
+use Rattle.pv_grammar.specs.declared.counts.Phase.{Phase}
+use Rattle.pv_grammar.specs.declared.counts.Phase.TheVariants.{Between, Sides}
+use Rattle.pv_grammar.specs.declared.machine.Item.{Item}
+use Rattle.pv_grammar.specs.declared.machine.Item.TheVariants.{MaybeConstants, MoreConstants, MaybeConstant, MaybeSign, MaybeFunctions, MaybeSemicolon, MoreVariables, MaybeVariable, MaybeDomain, MoreConstraints, MaybeConstraint, MoreFactors, MoreTerms, MaybePower, Then}
+use Rattle.pv_grammar.specs.declared.symbol.Fixed.TheVariants.{Plus, Minus, Star, Slash, Caret, Open, Close, OpenBracket, CloseBracket, Comma, Semicolon, EndOfText}
+use Rattle.pv_grammar.specs.declared.symbol.Symbol.{Symbol}
+use Rattle.pv_grammar.specs.declared.symbol.Symbol.TheVariants.{Never, Fixed as FixedToken, Relation as RelationToken, Number}
+use Rattle.pv_grammar.specs.Causes.{refusal}
+use Rattle.pv_grammar.specs.Grammar.{Follows, MayEnd, Produced, Settles, emptied, ended, expression_items, is_exponent, met, produced, step_of, system_items}
+use Rattle.pv_grammar.specs.Limits.{IsStart, counted, nothing}
+use Rattle.pv_tokens.specs.declared.number.Decimal.{Decimal}
+use Rattle.pv_tokens.specs.declared.token.Kind.{Kind}
+use Rattle.pv_tokens.specs.declared.token.Kind.TheVariants.{Name, Number as NumberKind, LessEqual, GreaterEqual, Less, Greater, Equal, Plus as PlusKind, Minus as MinusKind, Star as StarKind, Slash as SlashKind, Caret as CaretKind, Open as OpenKind, Close as CloseKind, OpenBracket as OpenBracketKind, CloseBracket as CloseBracketKind, Comma as CommaKind, Semicolon as SemicolonKind, Bad, End}
+use Rattle.pv_tokens.specs.declared.token.Token.{Token}
+use Rattle.pv_tokens.specs.Numbers.{IsNumeral, TooWide, figures}
+use Rattle.pv_tokens.specs.Tokens.{IsDigit, IsNext}
+use Rattle.pv_tokens.specs.Words.{word_in}
+use Rattle.pv_tokens.proofs.Exists.{Next, next_from, digit_or}
+use Rattle.pv_tokens.proofs.OneRatio.{common_within}
+use Rattle.pv_tokens.proofs.Powers.{divided, least_power}
+use Rattle.pv_tokens.proofs.TokenNumbers.{same_numeral, token_numeral}
+use Rattle.pv_parse.specs.Faults.{IsEither, IsExpressionFault, IsFirst, IsSystemFault}
 use Rattle.pv_parse.specs.Meanings.{AreBounded, KnowsVariables, Names, learnt, no_names, variables_from}
-use Rattle.pv_parse.specs.Numbers.{IsNumeral, TooWide, figures}
 use Rattle.pv_parse.specs.Sentences.{IsExpressionText, IsNumberSymbol, IsSentence, IsSystemText, MayRaise, StandsFor, bytes_of, name_symbol}
-use Rattle.pv_parse.specs.Tokens.{IsDigit, IsNext}
-use Rattle.pv_parse.specs.Words.{word_in}
-use Rattle.pv_parse.proofs.Exists.{Next, next_from, digit_or}
-use Rattle.pv_parse.proofs.OneRatio.{common_within}
 use Rattle.pv_parse.proofs.Pieces.{known_bounded, none_bounded}
-use Rattle.pv_parse.proofs.Powers.{divided, least_power}
 use Rattle.pv_parse.proofs.Reached.{Reached, forbidden, refused, starts, taken_not_end, taken_on, too_much, whole}
-use Rattle.pv_parse.proofs.TokenNumbers.{same_numeral, token_numeral}
 
 -- ---- What a token stands for
 

@@ -4,28 +4,28 @@ use Rattle.std.specs.Str.{bytes_eq}
 use Rattle.std.proofs.lemmas.Bool.{false≢true, true≢false}
 use Rattle.std.proofs.lemmas.List.Kept.{AllPairs-cons}
 use Rattle.std.proofs.lemmas.Slice.Eq.{bytes_eq-Decides}
-use Rattle.pv_parse.specs.declared.cause.Cause.{Cause}
-use Rattle.pv_parse.specs.declared.counts.Counts.{Counts}
-use Rattle.pv_parse.specs.declared.counts.Phase.{Phase}
-use Rattle.pv_parse.specs.declared.counts.Phase.TheVariants.{Constants, Body, Variables}
-use Rattle.pv_parse.specs.declared.fraction.Fraction.{Fraction}
-use Rattle.pv_parse.specs.declared.keyword.Word.{Word}
-use Rattle.pv_parse.specs.declared.keyword.Word.TheVariants.{End as EndWord}
+use Rattle.pv_code.specs.declared.fraction.Fraction.{Fraction}
+use Rattle.pv_grammar.specs.declared.cause.Cause.{Cause}
+use Rattle.pv_grammar.specs.declared.counts.Counts.{Counts}
+use Rattle.pv_grammar.specs.declared.counts.Phase.{Phase}
+use Rattle.pv_grammar.specs.declared.counts.Phase.TheVariants.{Constants, Body, Variables}
+use Rattle.pv_grammar.specs.declared.symbol.Fixed.TheVariants.{End}
+use Rattle.pv_grammar.specs.declared.symbol.Symbol.{Symbol}
+use Rattle.pv_grammar.specs.declared.symbol.Symbol.TheVariants.{Fixed as FixedToken, Number, Declared}
+use Rattle.pv_grammar.specs.Limits.{counted}
+use Rattle.pv_tokens.specs.declared.keyword.Word.{Word}
+use Rattle.pv_tokens.specs.declared.keyword.Word.TheVariants.{End as EndWord}
+use Rattle.pv_tokens.specs.declared.token.Kind.{Kind}
+use Rattle.pv_tokens.specs.declared.token.Kind.TheVariants.{Name}
+use Rattle.pv_tokens.specs.declared.token.Token.{Token}
+use Rattle.pv_tokens.specs.Words.{word_in}
+use Rattle.pv_tokens.proofs.Unique.{one_next}
 use Rattle.pv_parse.specs.declared.names.Meaning.{Meaning}
 use Rattle.pv_parse.specs.declared.names.Meaning.TheVariants.{Variable as VariableMeaning}
-use Rattle.pv_parse.specs.declared.symbol.Fixed.TheVariants.{End}
-use Rattle.pv_parse.specs.declared.symbol.Symbol.{Symbol}
-use Rattle.pv_parse.specs.declared.symbol.Symbol.TheVariants.{Fixed as FixedToken, Number, Declared}
-use Rattle.pv_parse.specs.declared.token.Kind.{Kind}
-use Rattle.pv_parse.specs.declared.token.Kind.TheVariants.{Name}
-use Rattle.pv_parse.specs.declared.token.Token.{Token}
 use Rattle.pv_parse.specs.Declarations.{Mark, MarksTo, Variable, declares, mark_of, name_of, variable, variables_in}
-use Rattle.pv_parse.specs.Limits.{counted}
 use Rattle.pv_parse.specs.Meanings.{Names, learnt, told, with_function, with_name, with_value}
 use Rattle.pv_parse.specs.Sentences.{SpellsTo, StandsFor, bytes_of, name_symbol, word_symbol}
-use Rattle.pv_parse.specs.Words.{word_in}
 use Rattle.pv_parse.proofs.NameBytes.{declared_name, declares_is, is_declared}
-use Rattle.pv_parse.proofs.Unique.{one_next}
 
 -- ---- What is known stays known
 
@@ -67,7 +67,7 @@ free_name n bytes (Some w) s e is = absurd (false≢true (sym (word_no_name w) �
 free_name n bytes None s e is = ap taken_of e
 
 -- a taken name is refused
-untaken_by : (b taken : Bool) (c d : Counts) → (if b then (if taken then Err Rattle.pv_parse.specs.declared.cause.Cause.TheVariants.DuplicateName else Ok c) else Err Rattle.pv_parse.specs.declared.cause.Cause.TheVariants.TooManyVariables) ≡ Ok d → taken ≡ false
+untaken_by : (b taken : Bool) (c d : Counts) → (if b then (if taken then Err Rattle.pv_grammar.specs.declared.cause.Cause.TheVariants.DuplicateName else Ok c) else Err Rattle.pv_grammar.specs.declared.cause.Cause.TheVariants.TooManyVariables) ≡ Ok d → taken ≡ false
 untaken_by true true c d e = cc
 untaken_by true false c d e = refl
 untaken_by false taken c d e = cc

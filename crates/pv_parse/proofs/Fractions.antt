@@ -3,23 +3,25 @@ use Rattle.std.proofs.Common.{◌≡◌, ℕ, ◌+◌, ◌<◌, ◌∙◌, zero,
 use Rattle.std.specs.Int.{IsGcd}
 use Rattle.std.specs.Str.{bytes_eq}
 use Rattle.std.proofs.lemmas.Int.{ints}
-use Rattle.pv_expr.specs.Systems.{IsBound, IsDomain}
 use Rattle.pv_expr.specs.declared.domain.Bound.{Bound}
 use Rattle.pv_expr.specs.declared.domain.Domain.{Domain}
-use Rattle.pv_parse.specs.declared.counts.Counts.{Counts}
-use Rattle.pv_parse.specs.declared.counts.Phase.{Phase}
-use Rattle.pv_parse.specs.declared.counts.Phase.TheVariants.{Between, Constants, FunctionName, Parameters, Body, Variables, Bounds, NextConstraint, Sides}
-use Rattle.pv_parse.specs.declared.fraction.Fraction.{Fraction}
-use Rattle.pv_parse.specs.declared.keyword.Word.{Word}
-use Rattle.pv_parse.specs.declared.keyword.Word.TheVariants.{End as EndWord}
+use Rattle.pv_expr.specs.Systems.{IsBound, IsDomain}
+use Rattle.pv_code.specs.declared.fraction.Fraction.{Fraction}
+use Rattle.pv_code.specs.Fractions.{IsLowest, signed}
+use Rattle.pv_grammar.specs.declared.counts.Counts.{Counts}
+use Rattle.pv_grammar.specs.declared.counts.Phase.{Phase}
+use Rattle.pv_grammar.specs.declared.counts.Phase.TheVariants.{Between, Constants, FunctionName, Parameters, Body, Variables, Bounds, NextConstraint, Sides}
+use Rattle.pv_grammar.specs.declared.symbol.Fixed.TheVariants.{End, Oo}
+use Rattle.pv_grammar.specs.declared.symbol.Symbol.{Symbol}
+use Rattle.pv_grammar.specs.declared.symbol.Symbol.TheVariants.{Fixed as FixedToken, Number, Declared, Constant}
+use Rattle.pv_grammar.specs.Grammar.{is_minus}
+use Rattle.pv_tokens.specs.declared.keyword.Word.{Word}
+use Rattle.pv_tokens.specs.declared.keyword.Word.TheVariants.{End as EndWord}
 use Rattle.pv_parse.specs.declared.names.Meaning.{Meaning}
 use Rattle.pv_parse.specs.declared.names.Meaning.TheVariants.{Constant as ConstantMeaning, Variable as VariableMeaning, Function as FunctionMeaning}
-use Rattle.pv_parse.specs.declared.symbol.Fixed.TheVariants.{End, Oo}
-use Rattle.pv_parse.specs.declared.symbol.Symbol.{Symbol}
-use Rattle.pv_parse.specs.declared.symbol.Symbol.TheVariants.{Fixed as FixedToken, Number, Declared, Constant}
 use Rattle.pv_parse.specs.Declarations.{AreGood, Mark, Variable, bound_at, bounds_of, declares, domain_in, domain_of, infinite, own, variable, variables_in}
-use Rattle.pv_parse.specs.Fractions.{HasFraction, HaveFractions, IsLowest, KnowsFractions}
-use Rattle.pv_parse.specs.Meanings.{AreSame, KnowsVariables, Names, in_body, in_bounds, is_minus, learnt, meaning, no_names, numbered, signed, use_of, variables_from, with_function, with_name, with_value}
+use Rattle.pv_parse.specs.Fractions.{HasFraction, HaveFractions, KnowsFractions}
+use Rattle.pv_parse.specs.Meanings.{AreSame, KnowsVariables, Names, in_body, in_bounds, learnt, meaning, no_names, numbered, use_of, variables_from, with_function, with_name, with_value}
 use Rattle.pv_parse.specs.Sentences.{name_symbol, word_symbol}
 
 -- ---- What a name stands for

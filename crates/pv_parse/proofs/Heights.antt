@@ -2,30 +2,30 @@
 use Rattle.std.proofs.Common.{◌≡◌, ℕ, zero, suc, ◌+◌, ◌-◌, ◌<◌, ◌≤◌, List, [], ◌∷◌, ◌++◌, Option, Some, None, Bool, true, false, subst, sym, ap, refl, ◌∙◌, append_assoc, length, get_or, take, drop, slice_range, Ok, Err, arith}
 use Rattle.pv_expr.specs.declared.constraint.Relation.{Relation}
 use Rattle.pv_expr.specs.declared.constraint.Relation.TheVariants.{Eq}
-use Rattle.pv_parse.specs.declared.code.Op.{Op}
-use Rattle.pv_parse.specs.declared.code.Op.TheVariants.{Constant, Variable, Parameter, One, Two, Call, Define, Relate}
-use Rattle.pv_parse.specs.declared.counts.Counts.{Counts}
-use Rattle.pv_parse.specs.declared.counts.Phase.{Phase}
-use Rattle.pv_parse.specs.declared.counts.Phase.TheVariants.{Between, Body, Bounds, NextConstraint, Sides}
-use Rattle.pv_parse.specs.declared.keyword.Word.{Word}
-use Rattle.pv_parse.specs.declared.keyword.Word.TheVariants.{Constants as ConstantsWord, Variables as VariablesWord, Constraints as ConstraintsWord, Function as FunctionBlock, Return as ReturnWord, End as EndWord, In as InWord, Oo as OoWord, Abs as AbsWord, Sqr as SqrWord, Min as MinWord, Max as MaxWord, Outside}
+use Rattle.pv_code.specs.declared.code.Op.{Op}
+use Rattle.pv_code.specs.declared.code.Op.TheVariants.{Constant, Variable, Parameter, One, Two, Call, Define, Relate}
+use Rattle.pv_code.specs.Expansion.{AreParts, HasValues, IsValue, arity_of, height_behind}
+use Rattle.pv_code.proofs.Constraints.{drop-at, part-more}
+use Rattle.pv_grammar.specs.declared.counts.Counts.{Counts}
+use Rattle.pv_grammar.specs.declared.counts.Phase.{Phase}
+use Rattle.pv_grammar.specs.declared.counts.Phase.TheVariants.{Between, Body, Bounds, NextConstraint, Sides}
+use Rattle.pv_grammar.specs.declared.symbol.Fixed.{Fixed}
+use Rattle.pv_grammar.specs.declared.symbol.Fixed.TheVariants.{Plus, Minus, Star, Slash, Caret, Open, Close, OpenBracket, CloseBracket, Comma, Semicolon, Constants, Variables, Constraints, Function as FunctionWord, Return, End, In, Oo, EndOfText}
+use Rattle.pv_grammar.specs.declared.symbol.Symbol.{Symbol}
+use Rattle.pv_grammar.specs.declared.symbol.Symbol.TheVariants.{Fixed as FixedToken, Relation as RelationToken, Number, Declared, Constant as ConstantName, Variable as VariableName, Parameter as ParameterName, Function as FunctionName, Unknown}
+use Rattle.pv_grammar.specs.declared.machine.Item.{Item}
+use Rattle.pv_grammar.specs.declared.machine.Item.TheVariants.{Exactly, MaybeConstants, WantConstant, MoreConstants, MaybeConstant, WantEquals, MaybeSign, WantValue, MaybeFunctions, WantFunctionName, WantParameter, MoreParameters, MaybeSemicolon, WantVariable, MoreVariables, MaybeVariable, MaybeDomain, WantBound, WantRelation, MoreConstraints, MaybeConstraint, WantFactor, MoreFactors, MoreTerms, MaybePower, WantExponent, MoreArguments, Then}
+use Rattle.pv_grammar.specs.Grammar.{Derives, MayEnd, Produced, arguments, begun, done, exactly, exponent, factor, factors, fixed, left_out, power, produced, relation, step_of, system_items, terms, with_more}
+use Rattle.pv_grammar.specs.Limits.{Counting, begun as counts_begun, counted, nested, next, nothing, operated}
+use Rattle.pv_tokens.specs.declared.keyword.Word.{Word}
+use Rattle.pv_tokens.specs.declared.keyword.Word.TheVariants.{Constants as ConstantsWord, Variables as VariablesWord, Constraints as ConstraintsWord, Function as FunctionBlock, Return as ReturnWord, End as EndWord, In as InWord, Oo as OoWord, Abs as AbsWord, Sqr as SqrWord, Min as MinWord, Max as MaxWord, Outside}
+use Rattle.pv_tokens.specs.declared.token.Kind.{Kind}
+use Rattle.pv_tokens.specs.declared.token.Kind.TheVariants.{Name, Number as NumberKind}
+use Rattle.pv_tokens.specs.Words.{word_in}
 use Rattle.pv_parse.specs.declared.names.Meaning.{Meaning}
 use Rattle.pv_parse.specs.declared.names.Meaning.TheVariants.{Constant as ConstantMeaning, Variable as VariableMeaning, Function as FunctionMeaning}
-use Rattle.pv_parse.specs.declared.symbol.Fixed.{Fixed}
-use Rattle.pv_parse.specs.declared.symbol.Fixed.TheVariants.{Plus, Minus, Star, Slash, Caret, Open, Close, OpenBracket, CloseBracket, Comma, Semicolon, Constants, Variables, Constraints, Function as FunctionWord, Return, End, In, Oo, EndOfText}
-use Rattle.pv_parse.specs.declared.symbol.Symbol.{Symbol}
-use Rattle.pv_parse.specs.declared.symbol.Symbol.TheVariants.{Fixed as FixedToken, Relation as RelationToken, Number, Declared, Constant as ConstantName, Variable as VariableName, Parameter as ParameterName, Function as FunctionName, Unknown}
-use Rattle.pv_parse.specs.declared.machine.Item.{Item}
-use Rattle.pv_parse.specs.declared.machine.Item.TheVariants.{Exactly, MaybeConstants, WantConstant, MoreConstants, MaybeConstant, WantEquals, MaybeSign, WantValue, MaybeFunctions, WantFunctionName, WantParameter, MoreParameters, MaybeSemicolon, WantVariable, MoreVariables, MaybeVariable, MaybeDomain, WantBound, WantRelation, MoreConstraints, MaybeConstraint, WantFactor, MoreFactors, MoreTerms, MaybePower, WantExponent, MoreArguments, Then}
-use Rattle.pv_parse.specs.declared.token.Kind.{Kind}
-use Rattle.pv_parse.specs.declared.token.Kind.TheVariants.{Name, Number as NumberKind}
-use Rattle.pv_parse.specs.Expansion.{AreParts, HasValues, IsValue, arity_of, height_behind}
-use Rattle.pv_parse.specs.Grammar.{Derives, MayEnd, Produced, arguments, begun, done, exactly, exponent, factor, factors, fixed, left_out, power, produced, relation, step_of, system_items, terms, with_more}
-use Rattle.pv_parse.specs.Limits.{Counting, begun as counts_begun, counted, nested, next, nothing, operated}
 use Rattle.pv_parse.specs.Meanings.{Names, in_body, in_bounds, learnt, meaning, no_names, use_of}
 use Rattle.pv_parse.specs.Sentences.{IsNumberSymbol, IsSentence, SpellsTo, StandsFor, bytes_of, name_symbol, word_symbol}
-use Rattle.pv_parse.specs.Words.{word_in}
-use Rattle.pv_parse.proofs.Constraints.{drop-at, part-more}
 
 -- ---- What the items do with the values on the stack: at least so many are there
 

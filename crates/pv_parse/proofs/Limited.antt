@@ -8,17 +8,17 @@ use Rattle.std.proofs.lemmas.List.Elements.{All-push}
 use Rattle.std.proofs.lemmas.List.Sums.{sum_by-append}
 use Rattle.pv_expr.specs.declared.constraint.Constraint.{Constraint}
 use Rattle.pv_expr.specs.declared.constraint.Relation.{Relation}
-use Rattle.pv_parse.specs.declared.cause.Cause.TheVariants.{TooLarge}
-use Rattle.pv_parse.specs.declared.cause.ParseRefused.{ParseRefused}
-use Rattle.pv_parse.specs.declared.cause.ParseRefused.TheVariants.{Memory, Fault}
-use Rattle.pv_parse.specs.declared.code.Op.{Op}
-use Rattle.pv_parse.specs.declared.code.Op.TheVariants.{Relate}
-use Rattle.pv_parse.specs.declared.expand.Function.{Function}
-use Rattle.pv_parse.specs.Expansion.{Meaning, Sides, Stand, constraints_behind, constraints_of, part_sides, sides_of}
+use Rattle.pv_code.specs.declared.code.Op.{Op}
+use Rattle.pv_code.specs.declared.code.Op.TheVariants.{Relate}
+use Rattle.pv_code.specs.declared.expand.Function.{Function}
+use Rattle.pv_code.specs.Expansion.{Meaning, Sides, Stand, constraints_behind, constraints_of, part_sides, sides_of}
+use Rattle.pv_code.specs.Sizes.{AreMeasured, AreWithin, IsFirstLarge, IsRoom, IsShallow, nodes_of}
+use Rattle.pv_code.proofs.Building.{length-map, take-exact}
+use Rattle.pv_code.proofs.Constraints.{Made, drop-at}
+use Rattle.pv_grammar.specs.declared.cause.Cause.TheVariants.{TooLarge}
+use Rattle.pv_parse.specs.declared.refused.ParseRefused.{ParseRefused}
+use Rattle.pv_parse.specs.declared.refused.ParseRefused.TheVariants.{Memory, Fault}
 use Rattle.pv_parse.specs.Faults.{IsAt, IsAtStart, IsLargeAt}
-use Rattle.pv_parse.specs.Sizes.{AreMeasured, AreWithin, IsFirstLarge, IsRoom, IsShallow, nodes_of}
-use Rattle.pv_parse.proofs.Building.{length-map, take-exact}
-use Rattle.pv_parse.proofs.Constraints.{Made, drop-at}
 
 -- ---- Sums and limits of lists
 

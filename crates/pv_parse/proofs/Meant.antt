@@ -1,31 +1,31 @@
 -- What the reader found is what the text means.
 use Rattle.std.proofs.Common.{AllPairs, ◌≢◌, ◌≡◌, ℕ, ◌≤◌, List, [], ◌∷◌, length, map, refl, sym, ap, ◌∙◌, subst, arith, ⊎_elim, Bool, true, false, if◌then◌else◌, zero, suc, ◌<◌, ◌++◌, get_or, slice_get, Some}
-use Rattle.pv_expr.specs.Systems.{IsDomain, Parts}
 use Rattle.pv_expr.specs.declared.domain.Domain.{Domain}
-use Rattle.pv_parse.specs.declared.cause.Cause.TheVariants.{BadBounds}
-use Rattle.pv_parse.specs.declared.cause.ParseRefused.{ParseRefused}
-use Rattle.pv_parse.specs.declared.cause.ParseRefused.TheVariants.{Memory, Fault}
-use Rattle.pv_parse.specs.declared.code.Op.{Op}
-use Rattle.pv_parse.specs.declared.counts.Counts.{Counts}
-use Rattle.pv_parse.specs.declared.counts.Phase.TheVariants.{Between}
-use Rattle.pv_parse.specs.declared.machine.Item.{Item}
+use Rattle.pv_expr.specs.Systems.{IsDomain, Parts}
+use Rattle.pv_code.specs.declared.code.Op.{Op}
+use Rattle.pv_code.specs.Expansion.{constraints_of, sides_of}
+use Rattle.pv_code.specs.Sizes.{AreWithin}
+use Rattle.pv_code.proofs.Building.{length-map}
+use Rattle.pv_grammar.specs.declared.cause.Cause.TheVariants.{BadBounds}
+use Rattle.pv_grammar.specs.declared.counts.Counts.{Counts}
+use Rattle.pv_grammar.specs.declared.counts.Phase.TheVariants.{Between}
+use Rattle.pv_grammar.specs.declared.machine.Item.{Item}
+use Rattle.pv_grammar.specs.declared.symbol.Fixed.TheVariants.{Constraints, OpenBracket, Semicolon}
+use Rattle.pv_grammar.specs.declared.symbol.Symbol.{Symbol}
+use Rattle.pv_grammar.specs.declared.symbol.Symbol.TheVariants.{Fixed as FixedToken, Relation as RelationToken}
+use Rattle.pv_grammar.specs.Grammar.{system_items}
+use Rattle.pv_grammar.specs.Limits.{nothing}
+use Rattle.pv_parse.specs.declared.refused.ParseRefused.{ParseRefused}
+use Rattle.pv_parse.specs.declared.refused.ParseRefused.TheVariants.{Memory, Fault}
 use Rattle.pv_parse.specs.declared.scope.Begun.{Begun}
 use Rattle.pv_parse.specs.declared.scope.Begun.TheVariants.{Outside, Next, At}
-use Rattle.pv_parse.specs.declared.symbol.Fixed.TheVariants.{Constraints, OpenBracket, Semicolon}
-use Rattle.pv_parse.specs.declared.symbol.Symbol.{Symbol}
-use Rattle.pv_parse.specs.declared.symbol.Symbol.TheVariants.{Fixed as FixedToken, Relation as RelationToken}
 use Rattle.pv_parse.specs.Declarations.{AreGood, IsFirstBad, IsMeaning, Mark, MarksTo, Reading, Variable, begun_at, begun_behind, bracket_behind, bracket_in, bracket_of, declares, domain_in, name_of, own, start_of, starts_from, starts_in, variable, variables_in}
-use Rattle.pv_parse.specs.Expansion.{constraints_of, sides_of}
 use Rattle.pv_parse.specs.Faults.{IsAt, IsFirstOf, IsLargeAt, IsRefusal}
 use Rattle.pv_parse.specs.Faults.IsFaultOf.{bounds, first, large}
-use Rattle.pv_parse.specs.Grammar.{system_items}
-use Rattle.pv_parse.specs.Limits.{nothing}
 use Rattle.pv_parse.specs.Meanings.{Names, no_names}
-use Rattle.pv_parse.specs.Sizes.{AreWithin}
 use Rattle.pv_parse.specs.Scopes.{IsToldAs, Scoped, bracket_given, domain_given, nothing_scoped}
 use Rattle.pv_parse.proofs.Starts.{starts_count}
 use Rattle.pv_parse.proofs.Distinct.{names_distinct}
-use Rattle.pv_parse.proofs.Building.{length-map}
 use Rattle.pv_parse.proofs.VariableCounts.{few_variables, some_variable}
 use Rattle.pv_parse.proofs.Fractions.{HaveBounds, domains_at, have_bounds}
 use Rattle.pv_parse.proofs.NameBytes.{begins_within}

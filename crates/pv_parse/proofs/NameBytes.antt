@@ -5,20 +5,20 @@ use Rattle.std.specs.Str.{IsAscii}
 use Rattle.std.proofs.str.Laws.{order}
 use Rattle.std.proofs.lemmas.Bool.{false≢true}
 use Rattle.std.proofs.lemmas.Str.Ascii.{IsAscii-from_reads}
-use Rattle.pv_parse.specs.declared.counts.Phase.{Phase}
-use Rattle.pv_parse.specs.declared.counts.Phase.TheVariants.{Variables}
-use Rattle.pv_parse.specs.declared.symbol.Symbol.{Symbol}
-use Rattle.pv_parse.specs.declared.symbol.Symbol.TheVariants.{Declared}
-use Rattle.pv_parse.specs.declared.token.Kind.{Kind}
-use Rattle.pv_parse.specs.declared.token.Kind.TheVariants.{Name, Number}
-use Rattle.pv_parse.specs.declared.token.Token.{Token}
+use Rattle.pv_grammar.specs.declared.counts.Phase.{Phase}
+use Rattle.pv_grammar.specs.declared.counts.Phase.TheVariants.{Variables}
+use Rattle.pv_grammar.specs.declared.symbol.Symbol.{Symbol}
+use Rattle.pv_grammar.specs.declared.symbol.Symbol.TheVariants.{Declared}
+use Rattle.pv_tokens.specs.declared.token.Kind.{Kind}
+use Rattle.pv_tokens.specs.declared.token.Kind.TheVariants.{Name, Number}
+use Rattle.pv_tokens.specs.declared.token.Token.{Token}
+use Rattle.pv_tokens.specs.Tokens.{IsLetter, IsName, IsNamed, IsNext, IsWord, mark}
+use Rattle.pv_tokens.specs.Tokens.IsWord.{name, number, less_equal, greater_equal, single, finish}
+use Rattle.pv_tokens.proofs.Numerals.{inside}
+use Rattle.pv_tokens.proofs.Slices.{byte_in, length_slice}
 use Rattle.pv_parse.specs.Declarations.{declares}
 use Rattle.pv_parse.specs.Meanings.{Names}
 use Rattle.pv_parse.specs.Sentences.{IsNumberSymbol, StandsFor, bytes_of}
-use Rattle.pv_parse.specs.Tokens.{IsLetter, IsName, IsNamed, IsNext, IsWord, mark}
-use Rattle.pv_parse.specs.Tokens.IsWord.{name, number, less_equal, greater_equal, single, finish}
-use Rattle.pv_parse.proofs.Numerals.{inside}
-use Rattle.pv_parse.proofs.Slices.{byte_in, length_slice}
 
 abbrev is_name : Kind → Bool
 is_name Name = true

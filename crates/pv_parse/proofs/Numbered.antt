@@ -4,36 +4,37 @@ use Rattle.std.proofs.lemmas.Bool.{false≢true, true≢false}
 use Rattle.std.specs.Str.{bytes_eq}
 use Rattle.pv_expr.specs.Systems.{IsOver}
 use Rattle.pv_expr.specs.Terms.{Term}
-use Rattle.pv_parse.specs.declared.code.Op.{Op}
-use Rattle.pv_parse.specs.declared.counts.Counts.{Counts}
-use Rattle.pv_parse.specs.declared.counts.Phase.{Phase}
-use Rattle.pv_parse.specs.declared.counts.Phase.TheVariants.{Between, Constants, Body, Variables, Bounds, NextConstraint, Sides}
-use Rattle.pv_parse.specs.declared.fraction.Fraction.{Fraction}
-use Rattle.pv_parse.specs.declared.keyword.Word.{Word}
-use Rattle.pv_parse.specs.declared.keyword.Word.TheVariants.{Sqr as SqrWord}
-use Rattle.pv_parse.specs.declared.machine.Item.{Item}
-use Rattle.pv_parse.specs.declared.machine.Item.TheVariants.{Exactly, WantRelation, MoreConstraints, MaybeConstraint, WantFactor, MoreFactors, MoreTerms, MaybePower, WantExponent, MoreArguments, Then}
+use Rattle.pv_code.specs.declared.code.Op.{Op}
+use Rattle.pv_code.specs.declared.fraction.Fraction.{Fraction}
+use Rattle.pv_code.specs.Expansion.{run, top}
+use Rattle.pv_code.proofs.Over.{IsStep, term_over}
+use Rattle.pv_code.proofs.Properties.{Each}
+use Rattle.pv_grammar.specs.declared.counts.Counts.{Counts}
+use Rattle.pv_grammar.specs.declared.counts.Phase.{Phase}
+use Rattle.pv_grammar.specs.declared.counts.Phase.TheVariants.{Between, Constants, Body, Variables, Bounds, NextConstraint, Sides}
+use Rattle.pv_grammar.specs.declared.machine.Item.{Item}
+use Rattle.pv_grammar.specs.declared.machine.Item.TheVariants.{Exactly, WantRelation, MoreConstraints, MaybeConstraint, WantFactor, MoreFactors, MoreTerms, MaybePower, WantExponent, MoreArguments, Then}
+use Rattle.pv_grammar.specs.declared.symbol.Fixed.TheVariants.{Open, End}
+use Rattle.pv_grammar.specs.declared.symbol.Symbol.{Symbol}
+use Rattle.pv_grammar.specs.declared.symbol.Symbol.TheVariants.{Fixed as FixedToken, Number, Declared, Never}
+use Rattle.pv_grammar.specs.Grammar.{Derives, Produced, begun, done, expression_items, left_out, produced, system_items}
+use Rattle.pv_grammar.specs.Limits.{counted, nothing}
+use Rattle.pv_grammar.proofs.Steps.{AllWrite, MayRaise, Own, Writes, derived-steps}
+use Rattle.pv_tokens.specs.declared.keyword.Word.{Word}
+use Rattle.pv_tokens.specs.declared.keyword.Word.TheVariants.{Sqr as SqrWord}
+use Rattle.pv_tokens.specs.declared.token.Kind.{Kind}
+use Rattle.pv_tokens.specs.declared.token.Kind.TheVariants.{Name, Number as NumberKind}
+use Rattle.pv_tokens.specs.Words.{word_in}
 use Rattle.pv_parse.specs.declared.names.Meaning.{Meaning}
 use Rattle.pv_parse.specs.declared.names.Meaning.TheVariants.{Constant as ConstantMeaning, Variable as VariableMeaning, Function as FunctionMeaning}
-use Rattle.pv_parse.specs.declared.symbol.Fixed.TheVariants.{Open, End}
-use Rattle.pv_parse.specs.declared.symbol.Symbol.{Symbol}
-use Rattle.pv_parse.specs.declared.symbol.Symbol.TheVariants.{Fixed as FixedToken, Number, Declared, Never}
-use Rattle.pv_parse.specs.declared.token.Kind.{Kind}
-use Rattle.pv_parse.specs.declared.token.Kind.TheVariants.{Name, Number as NumberKind}
 use Rattle.pv_parse.specs.Declarations.{Mark, MarksTo, declares, mark_of}
-use Rattle.pv_parse.specs.Expansion.{run, top}
 use Rattle.pv_parse.specs.Fractions.{HasFraction, HaveFractions}
-use Rattle.pv_parse.specs.Grammar.{Derives, Produced, begun, done, expression_items, left_out, produced, system_items}
-use Rattle.pv_parse.specs.Limits.{counted, nothing}
 use Rattle.pv_parse.specs.Meanings.{KnowsVariables, Names, in_body, in_bounds, learnt, meaning, no_names, numbered, told, use_of, with_function, with_name, with_value}
 use Rattle.pv_parse.specs.Scopes.{IsToldAs, Scoped, nothing_scoped}
 use Rattle.pv_parse.specs.Sentences.{IsNumberSymbol, MayRaise as MayBeRaised, SpellsTo, StandsFor, bytes_of, name_symbol, word_symbol}
-use Rattle.pv_parse.specs.Words.{word_in}
 use Rattle.pv_parse.proofs.Meant.{names_length}
 use Rattle.pv_parse.proofs.NameBytes.{is_declared}
-use Rattle.pv_parse.proofs.Over.{IsStep, term_over}
 use Rattle.pv_parse.proofs.Starts.{AreCalls, AreLate, IsLate, calls, late_append, late_of, late_step}
-use Rattle.pv_parse.proofs.Steps.{AllWrite, Each, MayRaise, Own, Writes, derived-steps}
 use Rattle.pv_parse.proofs.VariableCounts.{one_count, room_here, variables_count}
 
 -- ---- Names

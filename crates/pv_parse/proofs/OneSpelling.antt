@@ -1,34 +1,35 @@
 -- A text is one list of tokens for the grammar. So a sentence has no first fault, and each other text has at most one.
 use Rattle.std.proofs.Common.{◌≡◌, ℕ, ◌≤◌, ◌^◌, ◌-◌, ◌*◌, List, [], ◌∷◌, ◌++◌, refl, sym, ap, ◌∙◌, subst, append_assoc, Option, Some, None, Result, Ok, Err, arith}
 use Rattle.std.proofs.lemmas.List.{append-nil}
-use Rattle.pv_parse.specs.declared.cause.Cause.{Cause}
-use Rattle.pv_parse.specs.declared.cause.Cause.TheVariants.{NumberTooWide}
-use Rattle.pv_parse.specs.declared.code.Op.{Op}
-use Rattle.pv_parse.specs.declared.counts.Counts.{Counts}
-use Rattle.pv_parse.specs.declared.counts.Phase.{Phase}
-use Rattle.pv_parse.specs.declared.counts.Phase.TheVariants.{Sides}
-use Rattle.pv_parse.specs.declared.fraction.Fraction.{Fraction}
-use Rattle.pv_parse.specs.declared.machine.Item.{Item}
-use Rattle.pv_parse.specs.declared.number.Decimal.{Decimal}
-use Rattle.pv_parse.specs.declared.symbol.Symbol.{Symbol}
-use Rattle.pv_parse.specs.declared.symbol.Symbol.TheVariants.{Never, Number}
-use Rattle.pv_parse.specs.declared.token.Kind.{Kind}
-use Rattle.pv_parse.specs.declared.token.Kind.TheVariants.{Number as NumberKind, End}
-use Rattle.pv_parse.specs.declared.token.Token.{Token}
-use Rattle.pv_parse.specs.Faults.{BeginsWithin, IsCause, IsExpressionFault, IsFirst}
-use Rattle.pv_parse.specs.Faults.IsCause.{not_allowed, beyond}
-use Rattle.pv_parse.specs.Grammar.{Derives, expression_items}
-use Rattle.pv_parse.specs.Limits.{Counted, counted, nothing}
+use Rattle.pv_code.specs.declared.code.Op.{Op}
+use Rattle.pv_code.specs.declared.fraction.Fraction.{Fraction}
+use Rattle.pv_grammar.specs.declared.cause.Cause.{Cause}
+use Rattle.pv_grammar.specs.declared.cause.Cause.TheVariants.{NumberTooWide}
+use Rattle.pv_grammar.specs.declared.counts.Counts.{Counts}
+use Rattle.pv_grammar.specs.declared.counts.Phase.{Phase}
+use Rattle.pv_grammar.specs.declared.counts.Phase.TheVariants.{Sides}
+use Rattle.pv_grammar.specs.declared.machine.Item.{Item}
+use Rattle.pv_grammar.specs.declared.symbol.Symbol.{Symbol}
+use Rattle.pv_grammar.specs.declared.symbol.Symbol.TheVariants.{Never, Number}
+use Rattle.pv_grammar.specs.Causes.{BeginsWithin, IsCause}
+use Rattle.pv_grammar.specs.Causes.IsCause.{not_allowed, beyond}
+use Rattle.pv_grammar.specs.Grammar.{Derives, expression_items}
+use Rattle.pv_grammar.specs.Limits.{Counted, counted, nothing}
+use Rattle.pv_grammar.proofs.OneReading.{one_way}
+use Rattle.pv_grammar.proofs.Orderly.{Orderly}
+use Rattle.pv_tokens.specs.declared.number.Decimal.{Decimal}
+use Rattle.pv_tokens.specs.declared.token.Kind.{Kind}
+use Rattle.pv_tokens.specs.declared.token.Kind.TheVariants.{Number as NumberKind, End}
+use Rattle.pv_tokens.specs.declared.token.Token.{Token}
+use Rattle.pv_tokens.specs.Numbers.{IsNumeral, IsRead, IsValue, TooWide}
+use Rattle.pv_tokens.specs.Tokens.{IsNext}
+use Rattle.pv_tokens.proofs.OneRatio.{one_lowest}
+use Rattle.pv_tokens.proofs.Powers.{least_power}
+use Rattle.pv_tokens.proofs.TokenNumbers.{same_numeral}
+use Rattle.pv_tokens.proofs.Unique.{one_next}
+use Rattle.pv_parse.specs.Faults.{IsExpressionFault, IsFirst}
 use Rattle.pv_parse.specs.Meanings.{AreSame, KnowsVariables, Names, learnt, variables_from}
-use Rattle.pv_parse.specs.Numbers.{IsNumeral, IsRead, IsValue, TooWide}
 use Rattle.pv_parse.specs.Sentences.{IsExpressionText, IsNumberSymbol, IsSentence, MayRaise, Spells, SpellsTo, StandsFor, bytes_of}
-use Rattle.pv_parse.specs.Tokens.{IsNext}
-use Rattle.pv_parse.proofs.OneRatio.{one_lowest}
-use Rattle.pv_parse.proofs.OneReading.{one_way}
-use Rattle.pv_parse.proofs.Orderly.{Orderly}
-use Rattle.pv_parse.proofs.Powers.{least_power}
-use Rattle.pv_parse.proofs.TokenNumbers.{same_numeral}
-use Rattle.pv_parse.proofs.Unique.{one_next}
 
 -- ---- Numbers
 

@@ -6,33 +6,33 @@ use Rattle.std.proofs.lemmas.List.{take_all}
 use Rattle.std.proofs.lemmas.List.Elements.{All-take}
 use Rattle.std.proofs.lemmas.List.Sums.{sum_by-take-le}
 use Rattle.std.proofs.lemmas.Option.{slice_get-get_or}
-use Rattle.pv_expr.specs.Systems.{InOrder}
-use Rattle.pv_expr.specs.Terms.{depth_of}
 use Rattle.pv_expr.specs.declared.domain.Bound.{Bound}
 use Rattle.pv_expr.specs.declared.domain.Bound.TheVariants.{MinusOo, Value, PlusOo}
 use Rattle.pv_expr.specs.declared.domain.Domain.{Domain}
-use Rattle.pv_parse.specs.declared.cause.Cause.{Cause}
-use Rattle.pv_parse.specs.declared.cause.Cause.TheVariants.{BadBounds, TextTooLong, TooLarge}
-use Rattle.pv_parse.specs.declared.code.Op.{Op}
-use Rattle.pv_parse.specs.declared.counts.Counts.{Counts}
-use Rattle.pv_parse.specs.declared.counts.Phase.TheVariants.{Between, Sides as SidesPhase}
-use Rattle.pv_parse.specs.declared.symbol.Symbol.{Symbol}
-use Rattle.pv_parse.specs.declared.token.Token.{Token}
+use Rattle.pv_expr.specs.Systems.{InOrder}
+use Rattle.pv_expr.specs.Terms.{depth_of}
+use Rattle.pv_code.specs.declared.code.Op.{Op}
+use Rattle.pv_code.specs.Expansion.{Sides, constraints_of, run, top}
+use Rattle.pv_code.specs.Sizes.{AreWithin, IsFirstLarge, IsShallow, nodes_of}
+use Rattle.pv_grammar.specs.declared.cause.Cause.{Cause}
+use Rattle.pv_grammar.specs.declared.cause.Cause.TheVariants.{BadBounds, TextTooLong, TooLarge}
+use Rattle.pv_grammar.specs.declared.counts.Counts.{Counts}
+use Rattle.pv_grammar.specs.declared.counts.Phase.TheVariants.{Between, Sides as SidesPhase}
+use Rattle.pv_grammar.specs.declared.symbol.Symbol.{Symbol}
+use Rattle.pv_grammar.specs.Grammar.{expression_items, system_items}
+use Rattle.pv_grammar.specs.Limits.{counted, nothing}
+use Rattle.pv_grammar.proofs.Orderly.{expression_orderly, system_orderly}
+use Rattle.pv_tokens.specs.declared.token.Token.{Token}
+use Rattle.pv_tokens.proofs.Unique.{one_next}
 use Rattle.pv_parse.specs.Declarations.{AreGood, IsExpressionSentence, IsFirstBad, IsSystemSentence, Mark, MarksTo, MeansOne, MeansOneTerm, Reading, Variable, bracket_in, domain_in, mark_of, name_of, starts_in, variables_in}
-use Rattle.pv_parse.specs.Expansion.{Sides, constraints_of, run, top}
 use Rattle.pv_parse.specs.Faults.{IsEither, IsExpressionFaultOf, IsFaultOf, IsSystemFault}
 use Rattle.pv_parse.specs.Faults.IsExpressionFaultOf.{first as first_text, long as long_text}
 use Rattle.pv_parse.specs.Faults.IsFaultOf.{bounds, first, large, long}
-use Rattle.pv_parse.specs.Grammar.{expression_items, system_items}
-use Rattle.pv_parse.specs.Limits.{counted, nothing}
 use Rattle.pv_parse.specs.Meanings.{Names, learnt, no_names}
 use Rattle.pv_parse.specs.Sentences.{IsExpressionText, IsSentence, SpellsTo, bytes_of}
-use Rattle.pv_parse.specs.Sizes.{AreWithin, IsFirstLarge, IsShallow, nodes_of}
 use Rattle.pv_parse.proofs.Decided.{decides_expression, decides_system}
 use Rattle.pv_parse.proofs.OneSpelling.{expression_apart, expression_fault, no_fault, ok_same, one_code, one_fault, one_known, one_spelling}
-use Rattle.pv_parse.proofs.Orderly.{expression_orderly, system_orderly}
 use Rattle.pv_parse.proofs.Starts.{starts_count}
-use Rattle.pv_parse.proofs.Unique.{one_next}
 
 -- ---- A sentence has one reading
 

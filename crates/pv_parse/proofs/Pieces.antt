@@ -6,27 +6,28 @@ use Rattle.std.proofs.lemmas.Bool.Decides.{nat_tests}
 use Rattle.std.proofs.lemmas.Nat.Gcd.{IsGcd-from_zero, IsGcd-swap}
 use Rattle.std.proofs.lemmas.Slice.Eq.{bytes_eq-Decides}
 use Rattle.pv_expr.specs.declared.constraint.Relation.TheVariants.{Eq, Le}
-use Rattle.pv_parse.specs.declared.counts.Counts.{Counts}
-use Rattle.pv_parse.specs.declared.counts.Phase.{Phase}
-use Rattle.pv_parse.specs.declared.counts.Phase.TheVariants.{Constants, FunctionName, Parameters, Body, Variables}
-use Rattle.pv_parse.specs.declared.fraction.Fraction.{Fraction}
+use Rattle.pv_code.specs.declared.fraction.Fraction.{Fraction}
+use Rattle.pv_grammar.specs.declared.counts.Counts.{Counts}
+use Rattle.pv_grammar.specs.declared.counts.Phase.{Phase}
+use Rattle.pv_grammar.specs.declared.counts.Phase.TheVariants.{Constants, FunctionName, Parameters, Body, Variables}
+use Rattle.pv_grammar.specs.declared.symbol.Fixed.{Fixed}
+use Rattle.pv_grammar.specs.declared.symbol.Fixed.TheVariants.{Open as OpenMark, Close as CloseMark, OpenBracket as OpenBracketMark, CloseBracket as CloseBracketMark, Comma as CommaMark, Variables as VariablesWord, Constraints as ConstraintsWord, Return as ReturnWord, End as EndWord, Oo}
+use Rattle.pv_grammar.specs.declared.symbol.Symbol.{Symbol}
+use Rattle.pv_grammar.specs.declared.symbol.Symbol.TheVariants.{Fixed as FixedToken, Relation as RelationToken, Number, Declared}
+use Rattle.pv_grammar.specs.Limits.{counted}
+use Rattle.pv_grammar.specs.Grammar.{is_minus}
+use Rattle.pv_tokens.specs.declared.number.Decimal.{Decimal}
+use Rattle.pv_tokens.specs.declared.numeral.Parts.{Parts}
+use Rattle.pv_tokens.specs.declared.token.Kind.{Kind}
+use Rattle.pv_tokens.specs.declared.token.Kind.TheVariants.{Name, Number as NumberKind, LessEqual, Equal, Open, Close, OpenBracket, CloseBracket, Comma, End}
+use Rattle.pv_tokens.specs.Numbers.{IsRead, TooWide}
+use Rattle.pv_tokens.specs.Tokens.{IsDigit, IsLetter, IsNumber, IsWord, Separates, mark}
+use Rattle.pv_tokens.specs.Tokens.Separates.{blank, line, closed, unclosed}
+use Rattle.pv_tokens.specs.Tokens.IsWord.{name, number, less_equal, single}
 use Rattle.pv_parse.specs.declared.names.Meaning.{Meaning}
 use Rattle.pv_parse.specs.declared.names.Meaning.TheVariants.{Variable as VariableMeaning}
-use Rattle.pv_parse.specs.declared.number.Decimal.{Decimal}
-use Rattle.pv_parse.specs.declared.numeral.Parts.{Parts}
-use Rattle.pv_parse.specs.declared.symbol.Fixed.{Fixed}
-use Rattle.pv_parse.specs.declared.symbol.Fixed.TheVariants.{Open as OpenMark, Close as CloseMark, OpenBracket as OpenBracketMark, CloseBracket as CloseBracketMark, Comma as CommaMark, Variables as VariablesWord, Constraints as ConstraintsWord, Return as ReturnWord, End as EndWord, Oo}
-use Rattle.pv_parse.specs.declared.symbol.Symbol.{Symbol}
-use Rattle.pv_parse.specs.declared.symbol.Symbol.TheVariants.{Fixed as FixedToken, Relation as RelationToken, Number, Declared}
-use Rattle.pv_parse.specs.declared.token.Kind.{Kind}
-use Rattle.pv_parse.specs.declared.token.Kind.TheVariants.{Name, Number as NumberKind, LessEqual, Equal, Open, Close, OpenBracket, CloseBracket, Comma, End}
-use Rattle.pv_parse.specs.Limits.{counted}
-use Rattle.pv_parse.specs.Meanings.{AreBounded, AreWithin, KnowsVariables, Names, no_names, numbered, behind_sign, is_function, is_minus, is_taken, learnt, meaning, told, with_function, with_known, with_name, with_parameter, with_pending, with_value, without_parameters}
-use Rattle.pv_parse.specs.Numbers.{IsRead, TooWide}
+use Rattle.pv_parse.specs.Meanings.{AreBounded, AreWithin, KnowsVariables, Names, no_names, numbered, behind_sign, is_function, is_taken, learnt, meaning, told, with_function, with_known, with_name, with_parameter, with_pending, with_value, without_parameters}
 use Rattle.pv_parse.specs.Sentences.{StandsFor}
-use Rattle.pv_parse.specs.Tokens.{IsDigit, IsLetter, IsNumber, IsWord, Separates, mark}
-use Rattle.pv_parse.specs.Tokens.Separates.{blank, line, closed, unclosed}
-use Rattle.pv_parse.specs.Tokens.IsWord.{name, number, less_equal, single}
 
 -- ---- Names stay bounded
 

@@ -1,37 +1,38 @@
 -- What is known behind the tokens that were taken: the loop of the reader, in both directions.
 use Rattle.std.proofs.Common.{◌≡◌, ◌≢◌, ℕ, Bool, false, List, [], ◌∷◌, ◌++◌, take, refl, sym, ap, ◌∙◌, subst, append_assoc, Option, Some, None, Result, Ok, Err, ⊎_elim}
 use Rattle.std.proofs.lemmas.List.{append-nil}
-use Rattle.pv_parse.specs.declared.cause.Cause.{Cause}
-use Rattle.pv_parse.specs.declared.code.Op.{Op}
-use Rattle.pv_parse.specs.declared.counts.Counts.{Counts}
-use Rattle.pv_parse.specs.declared.counts.Phase.{Phase}
-use Rattle.pv_parse.specs.declared.counts.Phase.TheVariants.{Between, Sides}
-use Rattle.pv_parse.specs.declared.machine.Item.{Item}
-use Rattle.pv_parse.specs.declared.symbol.Fixed.TheVariants.{EndOfText}
-use Rattle.pv_parse.specs.declared.symbol.Symbol.{Symbol}
-use Rattle.pv_parse.specs.declared.symbol.Symbol.TheVariants.{Fixed as FixedToken}
-use Rattle.pv_parse.specs.declared.token.Kind.{Kind}
-use Rattle.pv_parse.specs.declared.token.Kind.TheVariants.{End}
-use Rattle.pv_parse.specs.declared.token.Token.{Token}
-use Rattle.pv_parse.specs.Faults.{Begins, BeginsWithin, IsCause, IsFirst, refusal, behind_caret}
-use Rattle.pv_parse.specs.Faults.IsCause.{not_allowed, beyond}
-use Rattle.pv_parse.specs.Grammar.{Derives, Follows, MayEnd, Produced, Settles, emptied, ended, is_exponent, met, produced, step_of}
-use Rattle.pv_parse.specs.Limits.{Counted, IsStart, counted, nothing}
+use Rattle.pv_code.specs.declared.code.Op.{Op}
+use Rattle.pv_grammar.specs.declared.cause.Cause.{Cause}
+use Rattle.pv_grammar.specs.declared.counts.Counts.{Counts}
+use Rattle.pv_grammar.specs.declared.counts.Phase.{Phase}
+use Rattle.pv_grammar.specs.declared.counts.Phase.TheVariants.{Between, Sides}
+use Rattle.pv_grammar.specs.declared.machine.Item.{Item}
+use Rattle.pv_grammar.specs.declared.symbol.Fixed.TheVariants.{EndOfText}
+use Rattle.pv_grammar.specs.declared.symbol.Symbol.{Symbol}
+use Rattle.pv_grammar.specs.declared.symbol.Symbol.TheVariants.{Fixed as FixedToken}
+use Rattle.pv_grammar.specs.Causes.{Begins, BeginsWithin, IsCause, refusal, behind_caret}
+use Rattle.pv_grammar.specs.Causes.IsCause.{not_allowed, beyond}
+use Rattle.pv_grammar.specs.Grammar.{Derives, Follows, MayEnd, Produced, Settles, emptied, ended, is_exponent, met, produced, step_of}
+use Rattle.pv_grammar.specs.Limits.{Counted, IsStart, counted, nothing}
+use Rattle.pv_grammar.proofs.Derivations.{Leads, leads_back, leads_end}
+use Rattle.pv_grammar.proofs.Exponents.{AtExponent, expression_plain, system_plain, IsUsual, Met, behind_last, no_end, settled_met, taken_plain}
+use Rattle.pv_grammar.proofs.Fits.{expression_starts, settled_ready, system_starts, taken_ready}
+use Rattle.pv_grammar.proofs.Forward.{Closing, GoesOn, closing, refused_forth, settled_forth, settled_orderly, settled_whole, taken_forth, taken_orderly}
+use Rattle.pv_grammar.proofs.Orderly.{Orderly, expression_orderly, system_orderly}
+use Rattle.pv_grammar.proofs.Ready.{Ready}
+use Rattle.pv_tokens.specs.declared.token.Kind.{Kind}
+use Rattle.pv_tokens.specs.declared.token.Kind.TheVariants.{End}
+use Rattle.pv_tokens.specs.declared.token.Token.{Token}
+use Rattle.pv_tokens.specs.Tokens.{IsNext}
+use Rattle.pv_parse.specs.Faults.{IsFirst}
 use Rattle.pv_parse.specs.Meanings.{AreBounded, AreSame, Names, learnt}
 use Rattle.pv_parse.specs.Sentences.{IsSentence, SpellsTo, StandsFor, bytes_of}
-use Rattle.pv_parse.specs.Tokens.{IsNext}
-use Rattle.pv_parse.proofs.Closings.{ClosesFrom, closes}
 use Rattle.pv_parse.specs.Declarations.{mark_of}
 use Rattle.pv_parse.specs.Fractions.{HasFraction}
 use Rattle.pv_parse.specs.Scopes.{IsToldAs, Scoped, followed}
+use Rattle.pv_parse.proofs.Closings.{ClosesFrom, closes}
 use Rattle.pv_parse.proofs.Declarations.{Told, told_none, told_one}
-use Rattle.pv_parse.proofs.Derivations.{Leads, leads_back, leads_end}
-use Rattle.pv_parse.proofs.Exponents.{AtExponent, expression_plain, system_plain, IsUsual, Met, behind_last, no_end, settled_met, taken_plain}
-use Rattle.pv_parse.proofs.Fits.{expression_starts, settled_ready, system_starts, taken_ready}
-use Rattle.pv_parse.proofs.Forward.{Closing, GoesOn, closing, refused_forth, settled_forth, settled_orderly, settled_whole, taken_forth, taken_orderly}
-use Rattle.pv_parse.proofs.Orderly.{Orderly, expression_orderly, system_orderly}
 use Rattle.pv_parse.proofs.Pieces.{learnt_bounded}
-use Rattle.pv_parse.proofs.Ready.{Ready}
 use Rattle.pv_parse.proofs.Tails.{continued}
 
 pub record Reached (t : List ℕ) (known names : Names) (start counts : Counts) (first : List Item) (initial : List Op) (items : List Item) (code : List Op) (from : ℕ) : Type 0 where

@@ -1,20 +1,20 @@
 -- What a refused text's answer says.
 use Rattle.std.proofs.Common.{◌≡◌, ℕ, ◌≤◌, List, [], length, sym, subst, Result, Ok, Err, IfErr, IsOk, OnOk, Bool, true, false, Option, None, rules}
 use Rattle.pv_expr.specs.Terms.{Term}
-use Rattle.pv_parse.specs.declared.cause.Cause.{Cause}
-use Rattle.pv_parse.specs.declared.cause.ParseRefused.{ParseRefused}
-use Rattle.pv_parse.specs.declared.cause.ParseRefused.TheVariants.{Memory, Fault}
-use Rattle.pv_parse.specs.declared.code.Op.{Op}
-use Rattle.pv_parse.specs.declared.counts.Counts.{Counts}
-use Rattle.pv_parse.specs.declared.counts.Phase.TheVariants.{Sides}
-use Rattle.pv_parse.specs.declared.machine.Item.{Item}
+use Rattle.pv_code.specs.declared.code.Op.{Op}
+use Rattle.pv_code.specs.Expansion.{run, top}
+use Rattle.pv_grammar.specs.declared.cause.Cause.{Cause}
+use Rattle.pv_grammar.specs.declared.counts.Counts.{Counts}
+use Rattle.pv_grammar.specs.declared.counts.Phase.TheVariants.{Sides}
+use Rattle.pv_grammar.specs.declared.machine.Item.{Item}
+use Rattle.pv_grammar.specs.Grammar.{Follows, Produced, Takes, expression_items}
+use Rattle.pv_grammar.specs.Limits.{nothing}
+use Rattle.pv_parse.specs.declared.refused.ParseRefused.{ParseRefused}
+use Rattle.pv_parse.specs.declared.refused.ParseRefused.TheVariants.{Memory, Fault}
 use Rattle.pv_parse.specs.Declarations.{IsExpressionMeaning}
-use Rattle.pv_parse.specs.Expansion.{run, top}
 use Rattle.pv_parse.specs.Faults.{IsAt, IsExpressionRefusal, IsFirst, IsFirstOf, IsLong, IsRefusal}
 use Rattle.pv_parse.specs.Faults.IsExpressionFaultOf.{first as first_text, long as long_text}
 use Rattle.pv_parse.specs.Faults.IsFaultOf.{long}
-use Rattle.pv_parse.specs.Grammar.{Follows, Produced, Takes, expression_items}
-use Rattle.pv_parse.specs.Limits.{nothing}
 use Rattle.pv_parse.specs.Meanings.{KnowsVariables, Names}
 use Rattle.pv_parse.specs.Sentences.{IsSentence}
 

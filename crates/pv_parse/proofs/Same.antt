@@ -11,23 +11,25 @@ use Rattle.std.proofs.lemmas.List.{drop_all, drop_more}
 use Rattle.std.proofs.lemmas.Option.{get_or_from_slice_get, slice_get_within}
 use Rattle.std.proofs.lemmas.Map.Text.{is_eq-slice_cmp}
 use Rattle.std.proofs.lemmas.Slice.Eq.{bytes_eq-Decides}
-use Rattle.pv_parse.specs.declared.counts.Counts.{Counts}
-use Rattle.pv_parse.specs.declared.counts.Phase.{Phase}
-use Rattle.pv_parse.specs.declared.counts.Phase.TheVariants.{Between, Constants, FunctionName, Parameters, Body, Variables, Bounds, NextConstraint, Sides}
-use Rattle.pv_parse.specs.declared.fraction.Fraction.{Fraction}
-use Rattle.pv_parse.specs.declared.keyword.Word.{Word}
+use Rattle.pv_code.specs.declared.fraction.Fraction.{Fraction}
+use Rattle.pv_code.specs.Fractions.{signed}
+use Rattle.pv_grammar.specs.declared.counts.Counts.{Counts}
+use Rattle.pv_grammar.specs.declared.counts.Phase.{Phase}
+use Rattle.pv_grammar.specs.declared.counts.Phase.TheVariants.{Between, Constants, FunctionName, Parameters, Body, Variables, Bounds, NextConstraint, Sides}
+use Rattle.pv_grammar.specs.declared.symbol.Fixed.{Fixed}
+use Rattle.pv_grammar.specs.declared.symbol.Fixed.TheVariants.{End}
+use Rattle.pv_grammar.specs.declared.symbol.Symbol.{Symbol}
+use Rattle.pv_grammar.specs.declared.symbol.Symbol.TheVariants.{Fixed as FixedToken, Number, Declared}
+use Rattle.pv_grammar.specs.Grammar.{is_minus}
+use Rattle.pv_tokens.specs.declared.keyword.Word.{Word}
+use Rattle.pv_tokens.specs.declared.token.Kind.{Kind}
+use Rattle.pv_tokens.specs.declared.token.Kind.TheVariants.{Name}
+use Rattle.pv_tokens.specs.Words.{word_in}
 use Rattle.pv_parse.specs.declared.names.Meaning.{Meaning}
 use Rattle.pv_parse.specs.declared.names.Meaning.TheVariants.{Constant as ConstantMeaning, Variable as VariableMeaning, Function as FunctionMeaning}
-use Rattle.pv_parse.specs.declared.symbol.Fixed.{Fixed}
-use Rattle.pv_parse.specs.declared.symbol.Fixed.TheVariants.{End}
-use Rattle.pv_parse.specs.declared.symbol.Symbol.{Symbol}
-use Rattle.pv_parse.specs.declared.symbol.Symbol.TheVariants.{Fixed as FixedToken, Number, Declared}
-use Rattle.pv_parse.specs.declared.token.Kind.{Kind}
-use Rattle.pv_parse.specs.declared.token.Kind.TheVariants.{Name}
-use Rattle.pv_parse.specs.Meanings.{AreSame, Names, behind_sign, in_body, in_bounds, is_function, is_minus, is_taken, learnt, meaning, no_names, signed, told, use_of, variables_from, with_function, with_known, with_name, with_parameter, with_pending, with_value, without_parameters}
+use Rattle.pv_parse.specs.Meanings.{AreSame, Names, behind_sign, in_body, in_bounds, is_function, is_taken, learnt, meaning, no_names, told, use_of, variables_from, with_function, with_known, with_name, with_parameter, with_pending, with_value, without_parameters}
 use Rattle.pv_parse.specs.Sentences.{StandsFor, name_symbol}
 use Rattle.pv_parse.specs.Views.{found}
-use Rattle.pv_parse.specs.Words.{word_in}
 
 pub same_refl : (n : Names) → AreSame n n
 same_refl n = record { known = λ name. refl; parameter = λ name. refl; pending = refl; negative = refl }

@@ -3,31 +3,31 @@ use Rattle.std.proofs.Common.{◌≡◌, ℕ, zero, suc, ◌+◌, ◌∙◌, Boo
 use Rattle.std.proofs.lemmas.Bool.{true≢false}
 use Rattle.std.proofs.lemmas.List.{length-append}
 use Rattle.pv_expr.specs.declared.constraint.Relation.TheVariants.{Eq}
-use Rattle.pv_parse.specs.declared.code.Op.{Op}
-use Rattle.pv_parse.specs.declared.code.Op.TheVariants.{Define, Relate}
-use Rattle.pv_parse.specs.declared.counts.Counts.{Counts}
-use Rattle.pv_parse.specs.declared.machine.Item.{Item}
-use Rattle.pv_parse.specs.declared.machine.Item.TheVariants.{Exactly, MaybeConstants, WantConstant, MoreConstants, MaybeConstant, WantEquals, MaybeSign, WantValue, MaybeFunctions, WantFunctionName, WantParameter, MoreParameters, MaybeSemicolon, WantVariable, MoreVariables, MaybeVariable, MaybeDomain, WantBound, WantRelation, MoreConstraints, MaybeConstraint, WantFactor, MoreFactors, MoreTerms, MaybePower, WantExponent, MoreArguments, Then}
+use Rattle.pv_code.specs.declared.code.Op.{Op}
+use Rattle.pv_code.specs.declared.code.Op.TheVariants.{Define, Relate}
+use Rattle.pv_code.specs.Expansion.{Meaning as Meaning_of, body_meaning, constraints_behind, constraints_of}
+use Rattle.pv_grammar.specs.declared.counts.Counts.{Counts}
+use Rattle.pv_grammar.specs.declared.machine.Item.{Item}
+use Rattle.pv_grammar.specs.declared.machine.Item.TheVariants.{Exactly, MaybeConstants, WantConstant, MoreConstants, MaybeConstant, WantEquals, MaybeSign, WantValue, MaybeFunctions, WantFunctionName, WantParameter, MoreParameters, MaybeSemicolon, WantVariable, MoreVariables, MaybeVariable, MaybeDomain, WantBound, WantRelation, MoreConstraints, MaybeConstraint, WantFactor, MoreFactors, MoreTerms, MaybePower, WantExponent, MoreArguments, Then}
+use Rattle.pv_grammar.specs.declared.symbol.Fixed.{Fixed}
+use Rattle.pv_grammar.specs.declared.symbol.Fixed.TheVariants.{Plus, Minus, Star, Slash, Caret, Open, Close, OpenBracket, CloseBracket, Comma, Semicolon, Constants, Variables, Constraints, Function as FunctionWord, Return, End, In, Oo, EndOfText}
+use Rattle.pv_grammar.specs.declared.symbol.Symbol.{Symbol}
+use Rattle.pv_grammar.specs.declared.symbol.Symbol.TheVariants.{Fixed as FixedToken, Relation as RelationToken, Number, Declared, Constant as ConstantName, Variable as VariableName, Parameter as ParameterName, Function as FunctionName, Unknown}
+use Rattle.pv_grammar.specs.declared.counts.Phase.{Phase}
+use Rattle.pv_grammar.specs.declared.counts.Phase.TheVariants.{Between, Constants as ConstantsPhase, FunctionName as FunctionPhase, Parameters, Body, Variables as VariablesPhase, Bounds, NextConstraint, Sides}
+use Rattle.pv_grammar.specs.Grammar.{Derives, done, left_out, begun, MayEnd, Produced, produced, step_of, factor, exactly, fixed, separated, declared, with_more, system_items}
+use Rattle.pv_tokens.specs.declared.keyword.Word.{Word}
+use Rattle.pv_tokens.specs.declared.keyword.Word.TheVariants.{Constants as ConstantsWord}
+use Rattle.pv_tokens.specs.declared.token.Kind.{Kind}
+use Rattle.pv_tokens.specs.declared.token.Kind.TheVariants.{Name as NameKind, Number as NumberKind}
+use Rattle.pv_tokens.specs.Words.{word_in}
 use Rattle.pv_parse.specs.declared.scope.Begun.{Begun}
 use Rattle.pv_parse.specs.declared.scope.Begun.TheVariants.{Outside, Next, At}
-use Rattle.pv_parse.specs.declared.symbol.Fixed.{Fixed}
-use Rattle.pv_parse.specs.declared.symbol.Fixed.TheVariants.{Plus, Minus, Star, Slash, Caret, Open, Close, OpenBracket, CloseBracket, Comma, Semicolon, Constants, Variables, Constraints, Function as FunctionWord, Return, End, In, Oo, EndOfText}
-use Rattle.pv_parse.specs.declared.symbol.Symbol.{Symbol}
-use Rattle.pv_parse.specs.declared.symbol.Symbol.TheVariants.{Fixed as FixedToken, Relation as RelationToken, Number, Declared, Constant as ConstantName, Variable as VariableName, Parameter as ParameterName, Function as FunctionName, Unknown}
-use Rattle.pv_parse.specs.Declarations.{Mark, Marks, MarksTo, begun_at, begun_behind, start_of, starts_from, starts_in}
-use Rattle.pv_parse.specs.declared.counts.Phase.{Phase}
-use Rattle.pv_parse.specs.declared.counts.Phase.TheVariants.{Between, Constants as ConstantsPhase, FunctionName as FunctionPhase, Parameters, Body, Variables as VariablesPhase, Bounds, NextConstraint, Sides}
-use Rattle.pv_parse.specs.declared.keyword.Word.{Word}
-use Rattle.pv_parse.specs.declared.keyword.Word.TheVariants.{Constants as ConstantsWord}
 use Rattle.pv_parse.specs.declared.names.Meaning.{Meaning}
 use Rattle.pv_parse.specs.declared.names.Meaning.TheVariants.{Constant as ConstantMeaning, Variable as VariableMeaning, Function as FunctionMeaning}
-use Rattle.pv_parse.specs.declared.token.Kind.{Kind}
-use Rattle.pv_parse.specs.declared.token.Kind.TheVariants.{Name as NameKind, Number as NumberKind}
-use Rattle.pv_parse.specs.Expansion.{Meaning as Meaning_of, body_meaning, constraints_behind, constraints_of}
+use Rattle.pv_parse.specs.Declarations.{Mark, Marks, MarksTo, begun_at, begun_behind, start_of, starts_from, starts_in}
 use Rattle.pv_parse.specs.Meanings.{Names, in_body, in_bounds, learnt, meaning, use_of}
 use Rattle.pv_parse.specs.Sentences.{IsNumberSymbol, IsSentence, SpellsTo, StandsFor, bytes_of, name_symbol, word_symbol}
-use Rattle.pv_parse.specs.Words.{word_in}
-use Rattle.pv_parse.specs.Grammar.{Derives, done, left_out, begun, MayEnd, Produced, produced, step_of, factor, exactly, fixed, separated, declared, with_more, system_items}
 
 -- ---- Counts
 

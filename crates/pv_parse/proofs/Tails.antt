@@ -1,21 +1,21 @@
 -- The text of a closing: each of its tokens behind a blank.
 use Rattle.std.proofs.Common.{◌≡◌, ℕ, suc, ◌+◌, ◌-◌, ◌≤◌, inl, inr, List, [], ◌∷◌, ◌++◌, length, get_or, take, length-append, append_assoc, refl, sym, ap, ◌∙◌, subst, arith, Ok}
 use Rattle.std.proofs.lemmas.List.{append-nil, ext_get_or, get_or_append_left, get_or-append-add, get_or-take, length-take-le}
-use Rattle.pv_parse.specs.declared.code.Op.{Op}
-use Rattle.pv_parse.specs.declared.counts.Counts.{Counts}
-use Rattle.pv_parse.specs.declared.machine.Item.{Item}
-use Rattle.pv_parse.specs.declared.symbol.Symbol.{Symbol}
-use Rattle.pv_parse.specs.declared.token.Kind.TheVariants.{End}
-use Rattle.pv_parse.specs.declared.token.Token.{Token}
-use Rattle.pv_parse.specs.Grammar.{Derives}
-use Rattle.pv_parse.specs.Limits.{Counted, counted}
+use Rattle.pv_code.specs.declared.code.Op.{Op}
+use Rattle.pv_grammar.specs.declared.counts.Counts.{Counts}
+use Rattle.pv_grammar.specs.declared.machine.Item.{Item}
+use Rattle.pv_grammar.specs.declared.symbol.Symbol.{Symbol}
+use Rattle.pv_grammar.specs.Grammar.{Derives}
+use Rattle.pv_grammar.specs.Limits.{Counted, counted}
+use Rattle.pv_tokens.specs.declared.token.Kind.TheVariants.{End}
+use Rattle.pv_tokens.specs.declared.token.Token.{Token}
+use Rattle.pv_tokens.specs.Tokens.{IsNext}
+use Rattle.pv_tokens.specs.Tokens.Separates.{blank}
+use Rattle.pv_tokens.proofs.Slices.{byte_in, length_slice}
 use Rattle.pv_parse.specs.Meanings.{Names, learnt}
 use Rattle.pv_parse.specs.Sentences.{IsSentence, SpellsTo, StandsFor, bytes_of}
-use Rattle.pv_parse.specs.Tokens.{IsNext}
-use Rattle.pv_parse.specs.Tokens.Separates.{blank}
 use Rattle.pv_parse.proofs.Continued.{IsGap, Shares, next_end, spells_all, spells_shared, spells_within, stops_at}
 use Rattle.pv_parse.proofs.Pieces.{IsPiece, Mean, Piece, Placed}
-use Rattle.pv_parse.proofs.Slices.{byte_in, length_slice}
 
 abbrev text_of : List Piece → List ℕ
 text_of [] = []

@@ -1,28 +1,29 @@
 -- What a text declares beside the meaning of names: its variables with their domains, and where its constraints begin.
 use Rattle.std.specs.Prelude.{◌≡◌, ℕ, ◌++◌, ◌≤◌, Bool, true, false, List, [], ◌∷◌, length, Option, Some, None, Ok, map, if◌then◌else◌, option_to_list, ◌⊎◌}
-use Rattle.pv_expr.specs.Systems.{InOrder, Parts}
-use Rattle.pv_expr.specs.Terms.{Term}
 use Rattle.pv_expr.specs.declared.domain.Bound.{Bound}
 use Rattle.pv_expr.specs.declared.domain.Bound.TheVariants.{MinusOo, Value, PlusOo}
 use Rattle.pv_expr.specs.declared.domain.Domain.{Domain}
-use Rattle.pv_parse.specs.declared.code.Op.{Op}
-use Rattle.pv_parse.specs.declared.counts.Counts.{Counts}
-use Rattle.pv_parse.specs.declared.counts.Phase.{Phase}
-use Rattle.pv_parse.specs.declared.counts.Phase.TheVariants.{Between, Bounds, Sides, Variables}
-use Rattle.pv_parse.specs.declared.fraction.Fraction.{Fraction}
+use Rattle.pv_expr.specs.Systems.{InOrder, Parts}
+use Rattle.pv_expr.specs.Terms.{Term}
+use Rattle.pv_code.specs.declared.code.Op.{Op}
+use Rattle.pv_code.specs.declared.fraction.Fraction.{Fraction}
+use Rattle.pv_code.specs.Expansion.{constraints_of, run, sides_of, top}
+use Rattle.pv_code.specs.Fractions.{signed}
+use Rattle.pv_code.specs.Sizes.{AreWithin}
+use Rattle.pv_grammar.specs.declared.counts.Counts.{Counts}
+use Rattle.pv_grammar.specs.declared.counts.Phase.{Phase}
+use Rattle.pv_grammar.specs.declared.counts.Phase.TheVariants.{Between, Bounds, Sides, Variables}
+use Rattle.pv_grammar.specs.declared.symbol.Fixed.TheVariants.{Constraints, Semicolon, OpenBracket, Oo}
+use Rattle.pv_grammar.specs.declared.symbol.Symbol.{Symbol}
+use Rattle.pv_grammar.specs.declared.symbol.Symbol.TheVariants.{Fixed as FixedToken, Relation as RelationToken, Number, Declared, Constant}
+use Rattle.pv_grammar.specs.Grammar.{expression_items, system_items, is_minus}
+use Rattle.pv_grammar.specs.Limits.{counted, nothing}
+use Rattle.pv_tokens.specs.declared.token.Token.{Token}
+use Rattle.pv_tokens.specs.Tokens.{IsNext}
 use Rattle.pv_parse.specs.declared.scope.Begun.{Begun}
 use Rattle.pv_parse.specs.declared.scope.Begun.TheVariants.{Outside, Next, At}
-use Rattle.pv_parse.specs.declared.symbol.Fixed.TheVariants.{Constraints, Semicolon, OpenBracket, Oo}
-use Rattle.pv_parse.specs.declared.symbol.Symbol.{Symbol}
-use Rattle.pv_parse.specs.declared.symbol.Symbol.TheVariants.{Fixed as FixedToken, Relation as RelationToken, Number, Declared, Constant}
-use Rattle.pv_parse.specs.declared.token.Token.{Token}
-use Rattle.pv_parse.specs.Expansion.{constraints_of, run, sides_of, top}
-use Rattle.pv_parse.specs.Grammar.{expression_items, system_items}
-use Rattle.pv_parse.specs.Limits.{counted, nothing}
-use Rattle.pv_parse.specs.Meanings.{KnowsVariables, Names, is_minus, no_names, signed}
+use Rattle.pv_parse.specs.Meanings.{KnowsVariables, Names, no_names}
 use Rattle.pv_parse.specs.Sentences.{IsSentence, bytes_of}
-use Rattle.pv_parse.specs.Sizes.{AreWithin}
-use Rattle.pv_parse.specs.Tokens.{IsNext}
 
 -- ---- The tokens of a sentence, each in its place
 

@@ -1,27 +1,26 @@
 -- Where a refused text is at fault, and why.
-use Rattle.std.specs.Prelude.{◌≡◌, ℕ, ◌≤◌, ◌<◌, ◌⊎◌, Bool, true, false, List, [], ◌∷◌, ◌++◌, length, map, slice_get, take, Some, Err, if◌then◌else◌}
-use Rattle.pv_parse.specs.declared.cause.Cause.{Cause}
-use Rattle.pv_parse.specs.declared.cause.Cause.TheVariants.{TextTooLong, BadBounds, TooLarge, EndOfText as TextEnds, BadExponent, Unexpected}
-use Rattle.pv_parse.specs.declared.cause.ParseRefused.{ParseRefused}
-use Rattle.pv_parse.specs.declared.cause.ParseRefused.TheVariants.{Memory, Fault}
-use Rattle.pv_parse.specs.declared.code.Op.{Op}
-use Rattle.pv_parse.specs.declared.counts.Counts.{Counts}
-use Rattle.pv_parse.specs.declared.counts.Phase.TheVariants.{Between, Sides}
-use Rattle.pv_parse.specs.declared.machine.Item.{Item}
-use Rattle.pv_parse.specs.declared.symbol.Fixed.TheVariants.{Caret, EndOfText}
-use Rattle.pv_parse.specs.declared.symbol.Symbol.{Symbol}
-use Rattle.pv_parse.specs.declared.symbol.Symbol.TheVariants.{Never, Fixed as FixedToken}
-use Rattle.pv_parse.specs.declared.token.Kind.TheVariants.{End}
-use Rattle.pv_parse.specs.declared.token.Token.{Token}
+use Rattle.std.specs.Prelude.{◌≡◌, ℕ, ◌≤◌, ◌<◌, ◌⊎◌, List, [], ◌∷◌, ◌++◌, length, map, slice_get, take, Some}
+use Rattle.pv_code.specs.declared.code.Op.{Op}
+use Rattle.pv_code.specs.Expansion.{constraints_of}
+use Rattle.pv_code.specs.Sizes.{IsFirstLarge}
+use Rattle.pv_grammar.specs.declared.cause.Cause.{Cause}
+use Rattle.pv_grammar.specs.declared.cause.Cause.TheVariants.{TextTooLong, BadBounds, TooLarge}
+use Rattle.pv_grammar.specs.declared.counts.Counts.{Counts}
+use Rattle.pv_grammar.specs.declared.counts.Phase.TheVariants.{Between, Sides}
+use Rattle.pv_grammar.specs.declared.machine.Item.{Item}
+use Rattle.pv_grammar.specs.declared.symbol.Symbol.{Symbol}
+use Rattle.pv_grammar.specs.Grammar.{Derives, expression_items, system_items}
+use Rattle.pv_grammar.specs.Causes.{BeginsWithin, IsCause}
+use Rattle.pv_grammar.specs.Limits.{Counted, nothing}
+use Rattle.pv_tokens.specs.declared.token.Kind.TheVariants.{End}
+use Rattle.pv_tokens.specs.declared.token.Token.{Token}
+use Rattle.pv_tokens.specs.Places.{line_of, column_of}
+use Rattle.pv_tokens.specs.Tokens.{IsNext}
+use Rattle.pv_parse.specs.declared.refused.ParseRefused.{ParseRefused}
+use Rattle.pv_parse.specs.declared.refused.ParseRefused.TheVariants.{Memory, Fault}
 use Rattle.pv_parse.specs.Declarations.{AreGood, IsFirstBad, Reading, bracket_in, domain_in, starts_in, variables_in}
-use Rattle.pv_parse.specs.Expansion.{constraints_of}
-use Rattle.pv_parse.specs.Grammar.{Derives, expression_items, system_items}
-use Rattle.pv_parse.specs.Limits.{counted, Counted, nothing}
-use Rattle.pv_parse.specs.Places.{line_of, column_of}
 use Rattle.pv_parse.specs.Meanings.{KnowsVariables, Names, no_names}
 use Rattle.pv_parse.specs.Sentences.{IsSentence, SpellsTo, StandsFor, bytes_of}
-use Rattle.pv_parse.specs.Sizes.{IsFirstLarge}
-use Rattle.pv_parse.specs.Tokens.{IsNext}
 
 -- a fault's byte lies in the text or at its end, and its line and column are those of the byte
 abbrev pub IsPlaced : List ℕ → ParseRefused → Type 0
@@ -54,44 +53,7 @@ abbrev pub IsLong : List ℕ → ParseRefused → Type 0
 IsLong t Memory = Unit {0}
 IsLong t (Fault byte line column cause) = (65536 < length t) × (byte ≡ 65536) × (cause ≡ TextTooLong)
 
--- ---- The cause of a token that the grammar refuses
-
-abbrev pub is_caret : Symbol → Bool
-is_caret (FixedToken Caret) = true
-is_caret s = false
-
--- the last of these tokens is `^`
-abbrev pub behind_caret : List Symbol → Bool
-behind_caret [] = false
-behind_caret (s ∷ []) = is_caret s
-behind_caret (s ∷ (t ∷ ss)) = behind_caret (t ∷ ss)
-
--- a bad byte, a number that is too wide and a word outside the profile have their own cause; then comes the end of the text
-abbrev pub refusal : Bool → Symbol → Cause
-refusal behind (Never cause) = cause
-refusal behind (FixedToken EndOfText) = TextEnds
-refusal behind s = if behind then BadExponent else Unexpected
-
 -- ---- The first fault
-
--- a text of the items begins with these tokens
-pub record Begins (items : List Item) (ss : List Symbol) : Type 0 where
-  pub rest : List Symbol
-  pub steps : List Op
-  pub derived : Derives items (ss ++ rest) steps
-
--- a text of the items within the limits begins with these tokens
-pub record BeginsWithin (start : Counts) (items : List Item) (ss : List Symbol) : Type 0 where
-  pub rest : List Symbol
-  pub steps : List Op
-  pub counts : Counts
-  pub derived : Derives items (ss ++ rest) steps
-  pub within : Counted start (ss ++ rest) counts
-
--- a token behind these: the grammar refuses it, or the limits and declarations do where the grammar, with them left aside, takes it
-pub data IsCause (items : List Item) (before : List Symbol) (counts : Counts) (s : Symbol) (cause : Cause) : Type 0 where
-  not_allowed : ¬ Begins items (before ++ s ∷ []) → cause ≡ refusal (behind_caret before) s → IsCause items before counts s cause
-  beyond : Begins items (before ++ s ∷ []) → counted counts s ≡ Err cause → IsCause items before counts s cause
 
 -- the token at the byte is the first such that no sentence begins with the tokens up to and with it: the text up to the end of
 -- the token before it, with other bytes behind that, is a sentence (`closes`), and no tokens behind it make one (`none`); where it

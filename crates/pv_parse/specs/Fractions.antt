@@ -1,15 +1,12 @@
 -- Numbers of a text are fractions in lowest terms, within the limits on constants.
 use Rattle.std.specs.Prelude.{◌≡◌, ℕ, List, [], ◌∷◌, Some}
-use Rattle.pv_expr.specs.Systems.{IsFraction}
-use Rattle.pv_parse.specs.declared.fraction.Fraction.{Fraction}
+use Rattle.pv_code.specs.declared.fraction.Fraction.{Fraction}
+use Rattle.pv_code.specs.Fractions.{IsLowest}
+use Rattle.pv_grammar.specs.declared.symbol.Symbol.{Symbol}
+use Rattle.pv_grammar.specs.declared.symbol.Symbol.TheVariants.{Number, Constant}
 use Rattle.pv_parse.specs.declared.names.Meaning.TheVariants.{Constant as ConstantMeaning}
-use Rattle.pv_parse.specs.declared.symbol.Symbol.{Symbol}
-use Rattle.pv_parse.specs.declared.symbol.Symbol.TheVariants.{Number, Constant}
 use Rattle.pv_parse.specs.Declarations.{Mark}
 use Rattle.pv_parse.specs.Meanings.{Names}
-
-abbrev pub IsLowest : Fraction → Type 0
-IsLowest v = IsFraction v.p v.q
 
 -- of a token
 abbrev pub HasFraction : Symbol → Type 0

@@ -1,17 +1,19 @@
 -- What names stand for: what each was declared as so far, and what it then is in each part of the text.
-use Rattle.std.specs.Prelude.{◌≡◌, ◌<◌, ◌≤◌, length, ℕ, ◌+◌, ◌-◌, neg_ℤ, Bool, true, false, List, [], ◌∷◌, Option, Some, None, is_some, if◌then◌else◌}
+use Rattle.std.specs.Prelude.{◌≡◌, ◌<◌, ◌≤◌, length, ℕ, ◌+◌, ◌-◌, Bool, true, false, List, [], ◌∷◌, Option, Some, None, is_some, if◌then◌else◌}
 use Rattle.std.specs.Str.{bytes_eq}
 use Rattle.std.specs.Map.{update}
-use Rattle.pv_parse.specs.declared.code.Op.TheVariants.{Call}
-use Rattle.pv_parse.specs.declared.counts.Counts.{Counts}
-use Rattle.pv_parse.specs.declared.counts.Phase.{Phase}
-use Rattle.pv_parse.specs.declared.counts.Phase.TheVariants.{Between, Constants, FunctionName, Parameters, Body, Variables, Bounds, NextConstraint, Sides}
-use Rattle.pv_parse.specs.declared.fraction.Fraction.{Fraction}
+use Rattle.pv_code.specs.declared.code.Op.TheVariants.{Call}
+use Rattle.pv_code.specs.declared.fraction.Fraction.{Fraction}
+use Rattle.pv_code.specs.Fractions.{signed}
+use Rattle.pv_grammar.specs.declared.counts.Counts.{Counts}
+use Rattle.pv_grammar.specs.declared.counts.Phase.{Phase}
+use Rattle.pv_grammar.specs.declared.counts.Phase.TheVariants.{Between, Constants, FunctionName, Parameters, Body, Variables, Bounds, NextConstraint, Sides}
+use Rattle.pv_grammar.specs.declared.symbol.Fixed.TheVariants.{End}
+use Rattle.pv_grammar.specs.declared.symbol.Symbol.{Symbol}
+use Rattle.pv_grammar.specs.declared.symbol.Symbol.TheVariants.{Fixed as FixedToken, Number, Declared, Constant, Variable, Parameter, Function, Unknown}
+use Rattle.pv_grammar.specs.Grammar.{is_minus}
 use Rattle.pv_parse.specs.declared.names.Meaning.{Meaning}
 use Rattle.pv_parse.specs.declared.names.Meaning.TheVariants.{Constant as ConstantMeaning, Variable as VariableMeaning, Function as FunctionMeaning}
-use Rattle.pv_parse.specs.declared.symbol.Fixed.TheVariants.{Minus, End}
-use Rattle.pv_parse.specs.declared.symbol.Symbol.{Symbol}
-use Rattle.pv_parse.specs.declared.symbol.Symbol.TheVariants.{Fixed as FixedToken, Number, Declared, Constant, Variable, Parameter, Function, Unknown}
 
 pub record Names : Type 0 where
   -- what a name was declared as, a function from the end of its text on
@@ -91,10 +93,6 @@ with_name Parameters c name n = with_parameter name c.parameters n
 with_name Variables c name n = with_known name (VariableMeaning c.variables) n
 with_name p c name n = n
 
-abbrev pub signed : Bool → Fraction → Fraction
-signed true v = record { p = neg_ℤ v.p; q = v.q }
-signed false v = v
-
 -- a constant has its value
 abbrev pub with_value : Phase → Fraction → Names → Names
 with_value Constants v n = with_known n.pending (ConstantMeaning (signed n.negative v)) n
@@ -110,10 +108,6 @@ told c (Declared taken) name n = with_name c.phase c name n
 told c (Number value exponent) name n = with_value c.phase value n
 told c (FixedToken End) name n = with_function c.phase c n
 told c s name n = n
-
-abbrev pub is_minus : Symbol → Bool
-is_minus (FixedToken Minus) = true
-is_minus s = false
 
 -- the names behind a token with these bytes
 abbrev pub learnt : Counts → Symbol → List ℕ → Names → Names

@@ -3,20 +3,21 @@ use Rattle.std.specs.Prelude.{◌≡◌, ℕ, ◌++◌, false, List, [], ◌∷�
 use Rattle.pv_expr.specs.declared.domain.Bound.{Bound}
 use Rattle.pv_expr.specs.declared.domain.Bound.TheVariants.{MinusOo, PlusOo}
 use Rattle.pv_expr.specs.declared.domain.Domain.{Domain}
-use Rattle.pv_parse.specs.declared.code.Op.{Op}
-use Rattle.pv_parse.specs.declared.counts.Counts.{Counts}
-use Rattle.pv_parse.specs.declared.counts.Phase.{Phase}
-use Rattle.pv_parse.specs.declared.machine.Item.{Item}
+use Rattle.pv_code.specs.declared.code.Op.{Op}
+use Rattle.pv_grammar.specs.declared.counts.Counts.{Counts}
+use Rattle.pv_grammar.specs.declared.counts.Phase.{Phase}
+use Rattle.pv_grammar.specs.declared.machine.Item.{Item}
+use Rattle.pv_grammar.specs.declared.symbol.Symbol.{Symbol}
+use Rattle.pv_grammar.specs.Grammar.{is_minus}
 use Rattle.pv_parse.specs.declared.given.Awaited.{Awaited}
 use Rattle.pv_parse.specs.declared.given.Awaited.TheVariants.{Lower, Upper, Neither}
 use Rattle.pv_parse.specs.declared.scope.Begun.{Begun}
 use Rattle.pv_parse.specs.declared.scope.Begun.TheVariants.{Outside}
 use Rattle.pv_parse.specs.declared.given.Given.{Given}
 use Rattle.pv_parse.specs.declared.scope.Scope.{Scope}
-use Rattle.pv_parse.specs.declared.symbol.Symbol.{Symbol}
 use Rattle.pv_parse.specs.Declarations.{Mark, Marks, begun_at, begun_behind, bound_at, bracket_behind, declares, start_of}
 use Rattle.pv_parse.specs.Fractions.{HaveFractions}
-use Rattle.pv_parse.specs.Meanings.{Names, is_minus}
+use Rattle.pv_parse.specs.Meanings.{Names}
 use Rattle.pv_parse.specs.Sentences.{IsSentence}
 
 -- ---- What is written behind a variable's name

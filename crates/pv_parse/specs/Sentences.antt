@@ -1,30 +1,30 @@
 -- Which texts are sentences of the grammar.
 use Rattle.std.specs.Prelude.{◌≡◌, ℕ, ◌++◌, List, [], ◌∷◌, Option, Some, None, Ok, slice_range}
-use Rattle.pv_parse.specs.declared.token.Kind.{Kind}
-use Rattle.pv_parse.specs.declared.token.Kind.TheVariants.{Name, Number as NumberKind, LessEqual, GreaterEqual, Less, Greater, Equal, Plus as PlusKind, Minus as MinusKind, Star as StarKind, Slash as SlashKind, Caret as CaretKind, Open as OpenKind, Close as CloseKind, OpenBracket as OpenBracketKind, CloseBracket as CloseBracketKind, Comma as CommaKind, Semicolon as SemicolonKind, Bad, End as EndKind}
-use Rattle.pv_parse.specs.declared.token.Token.{Token}
-use Rattle.pv_parse.specs.declared.cause.Cause.TheVariants.{BadByte, NumberTooWide, NotInProfile}
-use Rattle.pv_parse.specs.declared.code.Op.{Op}
-use Rattle.pv_parse.specs.declared.symbol.Fixed.TheVariants.{Plus, Minus, Star, Slash, Caret, Open, Close, OpenBracket, CloseBracket, Comma, Semicolon, Constants, Variables, Constraints, Function as FunctionWord, Return, End, In, Oo, EndOfText}
-use Rattle.pv_parse.specs.declared.symbol.Symbol.{Symbol}
-use Rattle.pv_parse.specs.declared.symbol.Symbol.TheVariants.{Never, Fixed as FixedToken, Relation as RelationToken, Number, Function as FunctionName}
 use Rattle.pv_expr.specs.declared.constraint.Relation.TheVariants.{Eq, Le, Ge, Lt, Gt}
-use Rattle.pv_parse.specs.declared.machine.Item.{Item}
-use Rattle.pv_parse.specs.Tokens.{IsNext}
-use Rattle.pv_parse.specs.Numbers.{IsExponentText, IsNumeral, IsRead, TooWide}
-use Rattle.pv_parse.specs.declared.number.Decimal.{Decimal}
-use Rattle.pv_parse.specs.Grammar.{Derives, system_items, expression_items}
-use Rattle.pv_parse.specs.Limits.{nothing, counted, Counted}
+use Rattle.pv_code.specs.declared.code.Op.{Op}
+use Rattle.pv_code.specs.declared.code.Op.TheVariants.{One, Two}
+use Rattle.pv_code.specs.declared.code.Unary.TheVariants.{Abs, Pow}
+use Rattle.pv_code.specs.declared.code.Binary.TheVariants.{Min, Max}
+use Rattle.pv_grammar.specs.declared.cause.Cause.TheVariants.{BadByte, NumberTooWide, NotInProfile}
+use Rattle.pv_grammar.specs.declared.symbol.Fixed.TheVariants.{Plus, Minus, Star, Slash, Caret, Open, Close, OpenBracket, CloseBracket, Comma, Semicolon, Constants, Variables, Constraints, Function as FunctionWord, Return, End, In, Oo, EndOfText}
+use Rattle.pv_grammar.specs.declared.symbol.Symbol.{Symbol}
+use Rattle.pv_grammar.specs.declared.symbol.Symbol.TheVariants.{Never, Fixed as FixedToken, Relation as RelationToken, Number, Function as FunctionName}
+use Rattle.pv_grammar.specs.declared.machine.Item.{Item}
+use Rattle.pv_grammar.specs.declared.counts.Counts.{Counts}
+use Rattle.pv_grammar.specs.declared.counts.Phase.{Phase}
+use Rattle.pv_grammar.specs.declared.counts.Phase.TheVariants.{Between, Sides}
+use Rattle.pv_grammar.specs.Grammar.{Derives, system_items, expression_items}
+use Rattle.pv_grammar.specs.Limits.{nothing, counted, Counted}
+use Rattle.pv_tokens.specs.declared.token.Kind.{Kind}
+use Rattle.pv_tokens.specs.declared.token.Kind.TheVariants.{Name, Number as NumberKind, LessEqual, GreaterEqual, Less, Greater, Equal, Plus as PlusKind, Minus as MinusKind, Star as StarKind, Slash as SlashKind, Caret as CaretKind, Open as OpenKind, Close as CloseKind, OpenBracket as OpenBracketKind, CloseBracket as CloseBracketKind, Comma as CommaKind, Semicolon as SemicolonKind, Bad, End as EndKind}
+use Rattle.pv_tokens.specs.declared.token.Token.{Token}
+use Rattle.pv_tokens.specs.declared.number.Decimal.{Decimal}
+use Rattle.pv_tokens.specs.declared.keyword.Word.{Word}
+use Rattle.pv_tokens.specs.declared.keyword.Word.TheVariants.{Constants as ConstantsWord, Variables as VariablesWord, Constraints as ConstraintsWord, Function as FunctionBlock, Return as ReturnWord, End as EndWord, In as InWord, Oo as OoWord, Abs as AbsWord, Sqr as SqrWord, Min as MinWord, Max as MaxWord, Outside}
+use Rattle.pv_tokens.specs.Tokens.{IsNext}
+use Rattle.pv_tokens.specs.Numbers.{IsExponentText, IsNumeral, IsRead, TooWide}
+use Rattle.pv_tokens.specs.Words.{word_in}
 use Rattle.pv_parse.specs.Meanings.{KnowsVariables, Names, learnt, meaning, no_names}
-use Rattle.pv_parse.specs.Words.{word_in}
-use Rattle.pv_parse.specs.declared.counts.Counts.{Counts}
-use Rattle.pv_parse.specs.declared.counts.Phase.{Phase}
-use Rattle.pv_parse.specs.declared.counts.Phase.TheVariants.{Between, Sides}
-use Rattle.pv_parse.specs.declared.keyword.Word.{Word}
-use Rattle.pv_parse.specs.declared.keyword.Word.TheVariants.{Constants as ConstantsWord, Variables as VariablesWord, Constraints as ConstraintsWord, Function as FunctionBlock, Return as ReturnWord, End as EndWord, In as InWord, Oo as OoWord, Abs as AbsWord, Sqr as SqrWord, Min as MinWord, Max as MaxWord, Outside}
-use Rattle.pv_parse.specs.declared.code.Op.TheVariants.{One, Two}
-use Rattle.pv_parse.specs.declared.code.Unary.TheVariants.{Abs, Pow}
-use Rattle.pv_parse.specs.declared.code.Binary.TheVariants.{Min, Max}
 
 -- what a word is for the grammar
 abbrev pub word_symbol : Word → Symbol

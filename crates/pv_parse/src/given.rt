@@ -3,15 +3,14 @@
 ghost use Rattle.std.specs.Bool.{OnTrue, OnFalse};
 ghost use Rattle.std.specs.Prelude.{◌≡◌, List, ◌≤◌, ◌-◌, drop, length, map, IfOk, IfSome, IsNone};
 ghost use Rattle.pv_expr.specs.Systems.{InOrder};
+ghost use Rattle.pv_code.specs.Fractions.{IsLowest, signed};
 ghost use Rattle.pv_parse.specs.Declarations.{AreGood, IsFirstBad, IsGood, bound_at, bracket_behind, infinite, value_of};
-ghost use Rattle.pv_parse.specs.Fractions.{HasFraction, IsLowest};
-ghost use Rattle.pv_parse.specs.Meanings.{signed};
+ghost use Rattle.pv_parse.specs.Fractions.{HasFraction};
 ghost use Rattle.pv_parse.specs.Scopes.{bounded, bracket_given, domain_given, given_behind, nothing_given, with_bound};
 
-use crate::counts::Phase;
-use crate::fraction::{Fraction, is_quotient_at_most};
-use crate::symbol::{Fixed, Symbol};
+use pv_code::{Fraction, is_quotient_at_most};
 use pv_expr::{Bound, Domain};
+use pv_grammar::{Fixed, Phase, Symbol};
 use pv_num::Memory;
 use std::alloc::Global;
 

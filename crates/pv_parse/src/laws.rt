@@ -1,19 +1,13 @@
-//! That the grammar reads a text in one way, and that a text means one system or has one fault, as contracts.
+//! That a text means one system or has one fault, as contracts.
 ghost use Rattle.std.specs.Prelude.{◌≡◌, ℕ, List};
+ghost use Rattle.pv_grammar.specs.Grammar.{system_items, expression_items};
+ghost use Rattle.pv_grammar.specs.Limits.{nothing};
 ghost use Rattle.pv_parse.specs.Declarations.{IsExpressionSentence, IsSystemSentence, MeansOne, MeansOneTerm};
 ghost use Rattle.pv_parse.specs.Faults.{Excludes, IsAtMostOne, IsEither, IsExpressionFault, IsExpressionFaultOf, IsFaultOf, IsSystemFault};
-ghost use Rattle.pv_parse.specs.Grammar.{IsReadOnce, system_items, expression_items};
-ghost use Rattle.pv_parse.specs.Limits.{nothing};
 ghost use Rattle.pv_parse.specs.Meanings.{KnowsVariables, Names, no_names};
 ghost use Rattle.pv_parse.specs.Sentences.{HasOneCode, IsExpressionText, IsSpelledOnce, IsSystemText};
 
-use crate::counts::Phase;
-
-/// The tokens of a text lead to one code. It holds by its contract alone; the call does nothing.
-pub fn one_reading()
-    ensures systems { IsReadOnce system_items }
-    ensures expressions { IsReadOnce expression_items }
-{}
+use pv_grammar::Phase;
 
 /// A text of a system is at most one list of tokens. It is a sentence, and has one code then, or it has a first fault, at one
 /// place and with one cause; and never both. It holds by its contract alone; the call does nothing.

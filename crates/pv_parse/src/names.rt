@@ -2,23 +2,18 @@
 
 ghost use Rattle.std.specs.Prelude.{◌≡◌, ◌≢◌, ◌≤◌, [], length, IfOk, OnOk};
 ghost use Rattle.pv_expr.specs.Systems.{IsFraction};
+ghost use Rattle.pv_grammar.specs.declared.counts.Phase.{Phase};
+ghost use Rattle.pv_tokens.specs.Words.{word_in};
 ghost use Rattle.pv_parse.specs.Fractions.{HasFraction, KnowsFractions};
 ghost use Rattle.pv_parse.specs.Meanings.{AreSame, KnowsVariables, in_body, in_bounds, is_function, is_taken, learnt, meaning, no_names, told, use_of, with_known, with_name, with_parameter, with_value, with_function};
 ghost use Rattle.pv_parse.specs.Sentences.{IsNumberSymbol, StandsFor, bytes_of, name_symbol, word_symbol};
 ghost use Rattle.pv_parse.specs.Views.{found, view};
-ghost use Rattle.pv_parse.specs.Words.{word_in};
-ghost use Rattle.pv_parse.specs.declared.counts.Phase.{Phase};
 
-use crate::cause::Cause;
-use crate::code::{Binary, Op, Unary};
-use crate::counts::{Counts, Phase};
-use crate::fraction::Fraction;
-use crate::keyword::{Word, word_of};
-use crate::number::{exponent_of, read_number};
-use crate::symbol::{Fixed, Symbol};
-use crate::token::{Kind, Token};
+use pv_code::{Binary, Fraction, Op, Unary};
 use pv_expr::{Relation, System};
+use pv_grammar::{Cause, Counts, Fixed, Phase, Symbol};
 use pv_num::Memory;
+use pv_tokens::{Kind, Token, Word, exponent_of, read_number, word_of};
 use std::alloc::Global;
 use std::collections::BTreeMap;
 

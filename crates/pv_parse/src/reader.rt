@@ -3,12 +3,13 @@
 ghost use Rattle.std.specs.Prelude.{All, ◌≡◌, ◌≢◌, ℕ, map, false, slice_index, ◌≤◌, ◌+◌, ◌<◌, length, IsOk, OnOk, IfOk, IfErr, IsErrAnd};
 ghost use Rattle.pv_expr.specs.Terms.{term_of};
 ghost use Rattle.pv_expr.specs.Systems.{IsOver};
-ghost use Rattle.pv_parse.specs.Faults.{IsAt, IsAtStart, IsLargeAt, IsLong, IsExpressionRefusal, IsPlaced, IsFirstOf, IsRefusal, SaysTooLong, refusal};
-ghost use Rattle.pv_parse.specs.Limits.{IsStart};
-ghost use Rattle.pv_parse.specs.Grammar.{pile};
-ghost use Rattle.pv_parse.specs.declared.code.Op.{Op};
-ghost use Rattle.pv_parse.specs.Expansion.{AreParts, sides_of, constraints_of};
-ghost use Rattle.pv_parse.specs.Sizes.{AreWithin, IsShortCall};
+ghost use Rattle.pv_code.specs.declared.code.Op.{Op};
+ghost use Rattle.pv_code.specs.Expansion.{AreParts, sides_of, constraints_of};
+ghost use Rattle.pv_code.specs.Sizes.{AreWithin, IsShortCall};
+ghost use Rattle.pv_grammar.specs.Causes.{refusal};
+ghost use Rattle.pv_grammar.specs.Limits.{IsStart};
+ghost use Rattle.pv_grammar.specs.Grammar.{pile};
+ghost use Rattle.pv_parse.specs.Faults.{IsAt, IsAtStart, IsLargeAt, IsLong, IsExpressionRefusal, IsPlaced, IsFirstOf, IsRefusal, SaysTooLong};
 ghost use Rattle.pv_parse.specs.Meanings.{AreBounded};
 ghost use Rattle.pv_parse.specs.Declarations.{IsExpressionMeaning, IsMeaning};
 ghost use Rattle.pv_parse.specs.Fractions.{KnowsFractions};
@@ -16,20 +17,14 @@ ghost use Rattle.pv_parse.specs.Scopes.{IsToldAs, scoped};
 ghost use Rattle.pv_parse.specs.Views.{view};
 ghost use Rattle.pv_parse.specs.Sentences.{IsSentence};
 
-use crate::cause::{Cause, ParseRefused};
-use crate::code::Op;
-use crate::counts::{Counts, Phase};
-use crate::expand::{Function, constraint, expression};
 use crate::given::{domains_of, first_bad};
-use crate::machine::Machine;
-use crate::measure::nodes_with;
 use crate::names::Names;
-use crate::place::line_and_column;
-use crate::scanner::next_token;
+use crate::refused::ParseRefused;
 use crate::scope::Scope;
-use crate::symbol::{Fixed, Symbol};
-use crate::token::{Kind, Token};
+use pv_code::{Function, Op, constraint, expression, nodes_with};
 use pv_expr::{Constraint, Expr, System};
+use pv_grammar::{Cause, Counts, Fixed, Machine, Phase, Symbol};
+use pv_tokens::{Kind, Token, line_and_column, next_token};
 use std::alloc::Global;
 
 /// The longest text that is read, in bytes.

@@ -7,11 +7,10 @@ ghost use Rattle.pv_parse.specs.Fractions.{HasFraction};
 ghost use Rattle.pv_parse.specs.Scopes.{followed, given_behind, nothing_given, nothing_scoped, scoped, with_last};
 ghost use Rattle.pv_parse.specs.Sentences.{bytes_of};
 
-use crate::counts::Phase;
 use crate::given::Given;
-use crate::symbol::{Fixed, Symbol};
-use crate::token::Token;
+use pv_grammar::{Fixed, Phase, Symbol};
 use pv_num::Memory;
+use pv_tokens::Token;
 use std::alloc::Global;
 
 /// Where the constraint at hand begins.

@@ -1,14 +1,13 @@
 // What no clause says yet: a table of texts, and texts at the limits. The table of faults is run on the real program,
 // by tests/reader_table.py: with it among these tests the prover does not finish.
 
-mod lexical;
 mod systems;
-mod tokens;
 
-use crate::cause::{Cause, ParseRefused};
-use crate::number::read_number;
+use crate::read_number;
 use crate::reader::{parse, parse_expr};
+use crate::refused::ParseRefused;
 use pv_expr::Expr;
+use pv_grammar::Cause;
 use std::alloc::{AllocError, Global};
 use std::test::Fail;
 use systems::SYSTEMS;

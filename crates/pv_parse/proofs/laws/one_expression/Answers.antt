@@ -1,10 +1,10 @@
-use Rattle.pv_parse.specs.declared.counts.Phase.TheVariants.{Sides}
-use Rattle.pv_parse.specs.Grammar.{expression_items}
-use Rattle.pv_parse.specs.Limits.{nothing}
 use Rattle.std.proofs.Common.{[]}
+use Rattle.pv_grammar.specs.declared.counts.Phase.TheVariants.{Sides}
+use Rattle.pv_grammar.specs.Grammar.{expression_items}
+use Rattle.pv_grammar.specs.Limits.{nothing}
+use Rattle.pv_grammar.proofs.Orderly.{expression_orderly}
 use Rattle.pv_parse.proofs.Decided.{decides_expression}
 use Rattle.pv_parse.proofs.OneSpelling.{expression_apart, expression_fault, one_code, one_known, one_spelling}
-use Rattle.pv_parse.proofs.Orderly.{expression_orderly}
 use Rattle.pv_parse.proofs.laws.one_expression.Goals as goal
 
 pub returns-clause-names : goal.returns-clause-names

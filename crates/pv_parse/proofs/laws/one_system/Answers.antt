@@ -1,11 +1,11 @@
-use Rattle.pv_parse.specs.declared.counts.Phase.TheVariants.{Between}
-use Rattle.pv_parse.specs.Grammar.{system_items}
-use Rattle.pv_parse.specs.Limits.{nothing}
-use Rattle.pv_parse.specs.Meanings.{no_names}
 use Rattle.std.proofs.Common.{[]}
+use Rattle.pv_grammar.specs.declared.counts.Phase.TheVariants.{Between}
+use Rattle.pv_grammar.specs.Grammar.{system_items}
+use Rattle.pv_grammar.specs.Limits.{nothing}
+use Rattle.pv_grammar.proofs.Orderly.{system_orderly}
+use Rattle.pv_parse.specs.Meanings.{no_names}
 use Rattle.pv_parse.proofs.Decided.{decides_system}
 use Rattle.pv_parse.proofs.OneSpelling.{no_fault, one_code, one_fault, one_spelling}
-use Rattle.pv_parse.proofs.Orderly.{system_orderly}
 use Rattle.pv_parse.proofs.laws.one_system.Goals as goal
 
 pub returns-clause-spelled : goal.returns-clause-spelled

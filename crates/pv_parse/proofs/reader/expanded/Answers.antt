@@ -1,9 +1,9 @@
 use Rattle.std.proofs.Common.{arith, vec_len, rules, ◌≡◌, ℕ, ◌+◌, ◌<◌, length, List, Option, None, slice_range, subst, sym, ap}
-use Rattle.pv_parse.specs.Expansion.{KeepsBody, Meaning, Stand, body_meaning, constraints_of, sides_of, part_sides}
 use Rattle.pv_expr.specs.declared.constraint.Relation.{Relation}
-use Rattle.pv_parse.specs.Sizes.{AreMeasured, IsFirstLarge, IsMeasured, IsRoom}
-use Rattle.pv_parse.specs.declared.expand.Function.{Function}
-use Rattle.pv_parse.proofs.Constraints.{more-constraints, made-value, made-function, made-constraint, made-same, value-of}
+use Rattle.pv_code.specs.declared.expand.Function.{Function}
+use Rattle.pv_code.specs.Expansion.{KeepsBody, Meaning, Stand, body_meaning, constraints_of, sides_of, part_sides}
+use Rattle.pv_code.specs.Sizes.{AreMeasured, IsFirstLarge, IsMeasured, IsRoom}
+use Rattle.pv_code.proofs.Constraints.{more-constraints, made-value, made-function, made-constraint, made-same, value-of}
 use Rattle.pv_parse.proofs.Heights.{next_body, next_sides, next_value, standing_same}
 use Rattle.pv_parse.proofs.Limited.{large-at, made-large, made-means, room-at, roomed-more, roomed-same}
 use Rattle.pv_parse.proofs.reader.expanded.Goals.{in-Define+in_ok-made-in-Define+in_ok-push-in-Define, in-Relate+in_ok-with_it-in-Relate+in-Some+in_ok-made-in-Relate+in_ok-push-in-Relate, in_default}

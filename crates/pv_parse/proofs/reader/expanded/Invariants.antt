@@ -1,4 +1,4 @@
-use Rattle.pv_parse.proofs.Constraints.{Made}
+use Rattle.pv_code.proofs.Constraints.{Made}
 use Rattle.pv_parse.proofs.Heights.{Standing}
 use Rattle.pv_parse.proofs.Limited.{IsRoomed}
 use Rattle.pv_parse.proofs.reader.expanded.Given as goal

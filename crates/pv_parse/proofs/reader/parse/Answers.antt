@@ -1,30 +1,30 @@
-use Rattle.pv_expr.specs.Systems.{IsConstraint, IsDomain}
+use Rattle.std.proofs.Common.{arith, List, ℕ, [], ap, map, subst, sym, ◌∙◌, rules, ◌<◌, ◌≤◌, length, get_or, string_bytes}
+use Rattle.std.specs.Prelude.{All}
 use Rattle.pv_expr.specs.declared.constraint.Constraint.{Constraint}
 use Rattle.pv_expr.specs.declared.domain.Domain.{Domain}
-use Rattle.pv_parse.proofs.Building.{length-map}
+use Rattle.pv_expr.specs.Systems.{IsConstraint, IsDomain}
+use Rattle.pv_code.specs.declared.code.Op.{Op}
+use Rattle.pv_code.specs.Expansion.{AreParts, constraints_of, sides_of}
+use Rattle.pv_code.specs.Sizes.{AreWithin, IsShortCall}
+use Rattle.pv_code.proofs.Building.{length-map}
+use Rattle.pv_code.proofs.Over.{constraints_good, few_nodes, sides_over}
+use Rattle.pv_grammar.specs.declared.counts.Phase.TheVariants.{Between}
+use Rattle.pv_grammar.specs.Grammar.{pile, system_items}
+use Rattle.pv_grammar.specs.Limits.{nothing}
+use Rattle.pv_parse.specs.declared.given.Given.{Given}
+use Rattle.pv_parse.specs.Declarations.{AreGood, IsFirstBad}
+use Rattle.pv_parse.specs.Faults.{IsLargeAt}
+use Rattle.pv_parse.specs.Fractions.{KnowsFractions}
+use Rattle.pv_parse.specs.Meanings.{no_names}
+use Rattle.pv_parse.specs.Scopes.{bracket_given, domain_given, nothing_scoped, scoped}
+use Rattle.pv_parse.specs.Views.{view}
 use Rattle.pv_parse.proofs.Calls.{short-calls}
 use Rattle.pv_parse.proofs.ConstraintCounts.{few_constraints, some_constraints}
 use Rattle.pv_parse.proofs.Fractions.{no_fractions}
 use Rattle.pv_parse.proofs.Heights.{sentence_parts}
 use Rattle.pv_parse.proofs.Meant.{as_many_domains, as_many_starts, bad_bounds, bracket_in_text, domains_good, meant, names_differ, names_few, names_some, starts_in_text, told_at, too_large}
 use Rattle.pv_parse.proofs.Numbered.{system_steps}
-use Rattle.pv_parse.proofs.Over.{constraints_good, few_nodes, sides_over}
 use Rattle.pv_parse.proofs.Pieces.{none_bounded}
-use Rattle.pv_parse.specs.Declarations.{AreGood, IsFirstBad}
-use Rattle.pv_parse.specs.Expansion.{AreParts, constraints_of, sides_of}
-use Rattle.pv_parse.specs.Faults.{IsLargeAt}
-use Rattle.pv_parse.specs.Fractions.{KnowsFractions}
-use Rattle.pv_parse.specs.Grammar.{pile, system_items}
-use Rattle.pv_parse.specs.Limits.{nothing}
-use Rattle.pv_parse.specs.Meanings.{no_names}
-use Rattle.pv_parse.specs.Scopes.{bracket_given, domain_given, nothing_scoped, scoped}
-use Rattle.pv_parse.specs.Sizes.{AreWithin, IsShortCall}
-use Rattle.pv_parse.specs.Views.{view}
-use Rattle.pv_parse.specs.declared.code.Op.{Op}
-use Rattle.pv_parse.specs.declared.counts.Phase.TheVariants.{Between}
-use Rattle.pv_parse.specs.declared.given.Given.{Given}
-use Rattle.std.proofs.Common.{arith, List, ℕ, [], ap, map, subst, sym, ◌∙◌, rules, ◌<◌, ◌≤◌, length, get_or, string_bytes}
-use Rattle.std.specs.Prelude.{All}
 use Rattle.pv_parse.proofs.reader.parse.Goals as goal
 
 pub read_tokens-requires-clause-names : goal.read_tokens-requires-clause-names

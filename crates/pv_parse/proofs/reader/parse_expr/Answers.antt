@@ -1,10 +1,10 @@
 use Rattle.std.proofs.Common.{List, [], ap, ◌∙◌, refl, rules}
 use Rattle.pv_expr.specs.Terms.{term_of}
-use Rattle.pv_parse.specs.declared.code.Op.{Op}
-use Rattle.pv_parse.specs.declared.counts.Phase.TheVariants.{Sides}
-use Rattle.pv_parse.specs.Expansion.{run, top}
-use Rattle.pv_parse.specs.Grammar.{expression_items, pile}
-use Rattle.pv_parse.specs.Limits.{nothing}
+use Rattle.pv_code.specs.declared.code.Op.{Op}
+use Rattle.pv_code.specs.Expansion.{run, top}
+use Rattle.pv_grammar.specs.declared.counts.Phase.TheVariants.{Sides}
+use Rattle.pv_grammar.specs.Grammar.{expression_items, pile}
+use Rattle.pv_grammar.specs.Limits.{nothing}
 use Rattle.pv_parse.specs.Scopes.{nothing_scoped, scoped}
 use Rattle.pv_parse.specs.Views.{view}
 use Rattle.pv_parse.proofs.Fractions.{variables_fractions}

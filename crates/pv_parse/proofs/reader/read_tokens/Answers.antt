@@ -1,10 +1,11 @@
 use Rattle.std.proofs.Common.{◌≢◌, arith, subst, sym, ◌∙◌, Option, false}
-use Rattle.pv_parse.specs.declared.cause.Cause.{Cause}
-use Rattle.pv_parse.specs.declared.cause.ParseRefused.{ParseRefused}
-use Rattle.pv_parse.specs.declared.machine.Item.{Item}
-use Rattle.pv_parse.specs.declared.token.Kind.TheVariants.{End}
-use Rattle.pv_parse.specs.Faults.{IsAt, IsFirst, IsFirstOf, refusal}
-use Rattle.pv_parse.specs.Grammar.{pile, Settles}
+use Rattle.pv_grammar.specs.declared.cause.Cause.{Cause}
+use Rattle.pv_grammar.specs.declared.machine.Item.{Item}
+use Rattle.pv_grammar.specs.Causes.{refusal}
+use Rattle.pv_grammar.specs.Grammar.{pile, Settles}
+use Rattle.pv_tokens.specs.declared.token.Kind.TheVariants.{End}
+use Rattle.pv_parse.specs.declared.refused.ParseRefused.{ParseRefused}
+use Rattle.pv_parse.specs.Faults.{IsAt, IsFirst, IsFirstOf}
 use Rattle.pv_parse.specs.Meanings.{learnt}
 use Rattle.pv_parse.specs.Sentences.{bytes_of}
 use Rattle.pv_parse.specs.Scopes.{scoped}

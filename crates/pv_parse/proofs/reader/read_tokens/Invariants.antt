@@ -1,5 +1,5 @@
 use Rattle.std.proofs.Common.{◌-◌, ◌≤◌, length}
-use Rattle.pv_parse.specs.Grammar.{pile}
+use Rattle.pv_grammar.specs.Grammar.{pile}
 use Rattle.pv_parse.specs.Fractions.{KnowsFractions}
 use Rattle.pv_parse.specs.Scopes.{scoped}
 use Rattle.pv_parse.specs.Views.{view}

@@ -1,0 +1,7 @@
+pub mod Building
+pub mod Constraints
+pub mod Over
+pub mod Properties
+pub mod Pruning
+pub mod Sizing
+pub mod Wide

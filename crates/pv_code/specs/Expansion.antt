@@ -1,0 +1,236 @@
+-- What a code means: the expressions that it writes, with the body of each function in place of its calls.
+use Rattle.std.specs.Prelude.{◌+◌, ◌-◌, ◌≤◌, ◌≡◌, ℕ, zero, suc, ◌++◌, List, [], ◌∷◌, Bool, true, false, pos, length, map, reverse, take, drop, get_or, Option, Some, None}
+use Rattle.pv_expr.specs.declared.expr.Expr.{Expr}
+use Rattle.pv_expr.specs.declared.constraint.Relation.{Relation}
+use Rattle.pv_expr.specs.declared.constraint.Constraint.{Constraint}
+use Rattle.pv_expr.specs.Terms.{Term, constant, place, one, two, Unary, negation, absolute, power, Binary, sum, difference, product, quotient, least, greatest, term_of}
+use Rattle.pv_code.specs.declared.code.Op.{Op}
+use Rattle.pv_code.specs.declared.code.Op.TheVariants.{Constant, Variable, Parameter, One, Two, Call, Define, Relate}
+use Rattle.pv_code.specs.declared.code.Unary as CodeUnary
+use Rattle.pv_code.specs.declared.code.Unary.TheVariants.{Neg, Abs, Pow}
+use Rattle.pv_code.specs.declared.code.Binary as CodeBinary
+use Rattle.pv_code.specs.declared.code.Binary.TheVariants.{Add, Sub, Mul, Div, Min, Max}
+use Rattle.pv_code.specs.declared.expand.Function.{Function}
+
+-- what a call of a function with these arguments stands for
+abbrev pub Meaning : Type 0
+Meaning = List Term → Term
+
+-- stands where nothing was written, which no grammatical text reaches
+abbrev pub nothing : Term
+nothing = constant (pos 0) 1
+
+abbrev pub argument : List Term → ℕ → Term
+argument args i = get_or args i nothing
+
+abbrev pub meaning_of : List Meaning → ℕ → Meaning
+meaning_of ms k = get_or ms k (λ args. nothing)
+
+abbrev pub top : List Term → Term
+top [] = nothing
+top (t ∷ ts) = t
+
+abbrev pub below : List Term → List Term
+below [] = []
+below (t ∷ ts) = ts
+
+abbrev pub unary_of : CodeUnary.Unary → Unary
+unary_of Neg = negation
+unary_of Abs = absolute
+unary_of (Pow n) = power n
+
+abbrev pub binary_of : CodeBinary.Binary → Binary
+binary_of Add = sum
+binary_of Sub = difference
+binary_of Mul = product
+binary_of Div = quotient
+binary_of Min = least
+binary_of Max = greatest
+
+-- a step on the stack of terms, the top first: a call stands for what its function means with the values on top as
+-- arguments, the last of them on top
+abbrev pub step : List Meaning → List Term → Op → List Term → List Term
+step ms args (Constant f) st = constant f.p f.q ∷ st
+step ms args (Variable i) st = place i ∷ st
+step ms args (Parameter i) st = argument args i ∷ st
+step ms args (One u) st = one (unary_of u) (top st) ∷ below st
+step ms args (Two b) st = two (binary_of b) (top (below st)) (top st) ∷ below (below st)
+step ms args (Call k n) st = meaning_of ms k (reverse (take n st)) ∷ drop n st
+step ms args Define st = st
+step ms args (Relate r) st = st
+
+-- the stack behind a code, over functions with these meanings, where the parameters stand for these arguments
+abbrev pub run : List Meaning → List Term → List Op → List Term → List Term
+run ms args [] st = st
+run ms args (o ∷ code) st = run ms args code (step ms args o st)
+
+-- the meaning of a function of this body, over those before it
+abbrev pub body_meaning : List Meaning → List Op → Meaning
+body_meaning ms body = λ args. top (run ms args body [])
+
+-- the meanings of functions with these bodies, each over those before it
+abbrev pub meanings_behind : List Meaning → List (List Op) → List Meaning
+meanings_behind ms [] = ms
+meanings_behind ms (body ∷ bodies) = meanings_behind (ms ++ body_meaning ms body ∷ []) bodies
+
+abbrev pub meanings : List (List Op) → List Meaning
+meanings bodies = meanings_behind [] bodies
+
+-- a stack with one value more, if there is one
+abbrev pub stacked : Option Expr → List Term → List Term
+stacked None st = st
+stacked (Some e) st = term_of e ∷ st
+
+-- the terms of a stack of expressions, the top first
+unfoldable pub stack_of : List Expr → List Term
+stack_of es = reverse (map term_of es)
+
+abbrev pub code_of : Function → List Op
+code_of f = f.code.items
+
+-- ---- The part of a code that is used
+
+abbrev pub is_used : List Bool → ℕ → Bool
+is_used uses i = get_or uses i false
+
+-- the values of which a mark says that they are used
+abbrev pub filtered : List Bool → List Term → List Term
+filtered [] ts = []
+filtered (u ∷ us) [] = []
+filtered (true ∷ us) (t ∷ ts) = t ∷ filtered us ts
+filtered (false ∷ us) (t ∷ ts) = filtered us ts
+
+-- how many of the first so many are used
+abbrev pub rank : List Bool → ℕ → ℕ
+rank us zero = 0
+rank [] (suc n) = 0
+rank (true ∷ us) (suc n) = suc (rank us n)
+rank (false ∷ us) (suc n) = rank us n
+
+-- the marks of the first so many
+abbrev pub wants : List Bool → ℕ → List Bool
+wants us zero = []
+wants [] (suc n) = false ∷ wants [] n
+wants (u ∷ us) (suc n) = u ∷ wants us n
+
+-- how many values a step takes
+abbrev pub arity_of : Op → ℕ
+arity_of (One u) = 1
+arity_of (Two b) = 2
+arity_of (Call k n) = n
+arity_of o = 0
+
+-- a step that leaves a value
+abbrev pub IsValue : Op → Type 0
+IsValue Define = ⊥
+IsValue (Relate r) = ⊥
+IsValue o = Unit {0}
+
+abbrev pub IsEnd : Op → Type 0
+IsEnd Define = Unit {0}
+IsEnd (Relate r) = Unit {0}
+IsEnd o = ⊥
+
+-- the marks of a function's parameters
+abbrev pub callee : List Function → ℕ → List Bool
+callee [] k = []
+callee (f ∷ fs) zero = f.uses.items
+callee (f ∷ fs) (suc k) = callee fs k
+
+-- which of the values that it takes a step uses
+abbrev pub uses_of : List Function → Op → List Bool
+uses_of fs (One u) = true ∷ []
+uses_of fs (Two b) = true ∷ true ∷ []
+uses_of fs (Call k n) = callee fs k
+uses_of fs o = []
+
+-- a function that is its one used parameter alone
+abbrev pub IsAlone : List Function → ℕ → Type 0
+IsAlone [] k = ⊥
+IsAlone (f ∷ fs) zero = f.code.items ≡ Parameter 0 ∷ []
+IsAlone (f ∷ fs) (suc k) = IsAlone fs k
+
+-- the functions' own codes, over the arguments that they use, have these meanings
+abbrev pub Stand : List Function → List Meaning → Type 0
+Stand fs ms = (k : ℕ) (args : List Term) → meaning_of ms k args ≡ meaning_of (meanings (map code_of fs)) k (filtered (callee fs k) args)
+
+-- a used step does with the values that it uses what the step does with all
+abbrev pub KeepsUsed : List Function → Op → List Op → List Op → Type 0
+KeepsUsed fs o before after = (ms : List Meaning) (args a rest : List Term) → Stand fs ms → length a ≡ arity_of o →
+    run (meanings (map code_of fs)) args (reverse after) (filtered (reverse (wants (uses_of fs o) (arity_of o))) a ++ rest)
+    ≡ run (meanings (map code_of fs)) args (reverse before) (top (step ms args o a) ∷ rest)
+
+-- with one step more in front, the wanted values on top of a stack still lead to the same
+abbrev pub KeepsStep : List Function → Op → List Bool → List Op → List Bool → List Op → Type 0
+KeepsStep fs o wanted before wanted' after = (ms : List Meaning) (args st : List Term) → Stand fs ms → length wanted' ≤ length st →
+    (length wanted ≤ length (step ms args o st))
+    × (run (meanings (map code_of fs)) args (reverse after) (filtered (reverse wanted') st)
+    ≡ run (meanings (map code_of fs)) args (reverse before) (filtered (reverse wanted) (step ms args o st)))
+
+-- the used part of a code leaves the last so many values that the code leaves
+abbrev pub KeepsCode : List Function → List Op → ℕ → List Op → Type 0
+KeepsCode fs code n kept = (ms : List Meaning) (args : List Term) → Stand fs ms → run (meanings (map code_of fs)) args kept [] ≡ take n (run ms args code [])
+
+-- a parameter that occurs is marked
+abbrev pub IsMarked : List Bool → Op → Type 0
+IsMarked uses (Parameter i) = is_used uses i ≡ true
+IsMarked uses o = Unit {0}
+
+-- over the parameters that are used alone
+abbrev pub renumber : List Bool → Op → Op
+renumber uses (Parameter i) = Parameter (rank uses i)
+renumber uses o = o
+
+-- a function's code, over the arguments that it uses, leaves the value that its body leaves
+abbrev pub KeepsBody : List Function → List Op → Function → Type 0
+KeepsBody fs body f = (ms : List Meaning) (args : List Term) → Stand fs ms →
+    body_meaning (meanings (map code_of fs)) f.code.items (filtered f.uses.items args) ≡ body_meaning ms body args
+
+-- ---- Codes that take no value that is not there
+
+-- how many values there are behind a step at least
+abbrev pub height_behind : Op → ℕ → ℕ
+height_behind Define h = h
+height_behind (Relate r) h = h
+height_behind o h = h - arity_of o + 1
+
+-- each step finds the values that it takes, and so many are left
+abbrev pub HasValues : ℕ → List Op → ℕ → Type 0
+HasValues h [] n = n ≤ h
+HasValues h (o ∷ code) n = (arity_of o ≤ h) × HasValues (height_behind o h) code n
+
+-- the values that are wanted before a step are there where those behind it are
+abbrev pub WantsPresent : Op → List Bool → List Bool → Type 0
+WantsPresent o wanted wanted' = (h : ℕ) → arity_of o ≤ h → length wanted ≤ height_behind o h → length wanted' ≤ h
+
+-- each body leaves a value, and each constraint its two sides
+abbrev pub AreParts : ℕ → List Op → Type 0
+AreParts h [] = Unit {0}
+AreParts h (Define ∷ code) = (1 ≤ h) × AreParts 0 code
+AreParts h (Relate r ∷ code) = (2 ≤ h) × AreParts 0 code
+AreParts h (o ∷ code) = (arity_of o ≤ h) × AreParts (h - arity_of o + 1) code
+
+-- ---- The constraints of a code
+
+pub record Sides : Type 0 where
+  pub left : Term
+  pub relation : Relation
+  pub right : Term
+
+abbrev pub sides_of : Constraint → Sides
+sides_of c = record { left = term_of c.left; relation = c.relation; right = term_of c.right }
+
+-- the constraint of a part that writes its two sides
+abbrev pub part_sides : List Meaning → List Op → Relation → Sides
+part_sides ms part r = record { left = top (below (run ms [] part [])); relation = r; right = top (run ms [] part []) }
+
+-- the constraints that a code writes, behind functions with these meanings and a part that is not ended yet
+abbrev pub constraints_behind : List Meaning → List Op → List Op → List Sides
+constraints_behind ms part [] = []
+constraints_behind ms part (Define ∷ code) = constraints_behind (ms ++ body_meaning ms part ∷ []) [] code
+constraints_behind ms part (Relate r ∷ code) = part_sides ms part r ∷ constraints_behind ms [] code
+constraints_behind ms part (o ∷ code) = constraints_behind ms (part ++ o ∷ []) code
+
+-- the constraints of a system's code: each function's body stands in place of its calls
+abbrev pub constraints_of : List Op → List Sides
+constraints_of code = constraints_behind [] [] code

@@ -1,0 +1,13 @@
+//! Expressions in postfix form, with calls of functions: how large they are once their calls are expanded, and their
+//! expansion to trees.
+#![tactic(auto)]
+
+mod code;
+mod expand;
+mod fraction;
+mod measure;
+
+pub use code::{Binary, Op, Unary};
+pub use expand::{Function, constraint, expression};
+pub use fraction::{Fraction, is_quotient_at_most};
+pub use measure::{Measure, nodes_with};

@@ -1,0 +1,9 @@
+pub mod Derivations
+pub mod Exponents
+pub mod Fits
+pub mod Forward
+pub mod OneReading
+pub mod Orderly
+pub mod Piles
+pub mod Ready
+pub mod Steps

@@ -1,0 +1,323 @@
+// The part of the text that a token stands in, and the counts that have limits.
+
+ghost use Rattle.std.specs.Prelude.{◌≡◌};
+ghost use Rattle.pv_grammar.specs.Limits.{begun, counted, declared, in_phase, moved, nested, operated, turned};
+
+use crate::cause::Cause;
+use crate::symbol::{Fixed, Symbol};
+
+const MAX_FUNCTIONS: u8 = 64;
+
+const MAX_PARAMETERS: u8 = 12;
+
+const MAX_VARIABLES: u8 = 12;
+
+const MAX_CONSTRAINTS: u32 = 64;
+
+const MAX_LEVEL: u32 = 100;
+
+const MAX_OPERATIONS: u32 = 1000;
+
+/// The part of the text that a token stands in.
+#[derive(Clone, Copy, Debug, PartialEq, Eq)]
+pub enum Phase {
+    /// Between blocks, where no name can stand.
+    Between,
+    Constants,
+    FunctionName,
+    Parameters,
+    Body,
+    Variables,
+    Bounds,
+    /// Where a constraint may begin.
+    NextConstraint,
+    /// Within a constraint, or within the text of one expression.
+    Sides,
+}
+
+/// The phase and the counts that have limits.
+#[derive(Clone, Copy)]
+pub struct Counts {
+    pub phase: Phase,
+    /// Open parentheses.
+    pub level: u32,
+    /// Operations of this constraint or body.
+    pub operations: u32,
+    /// Parameters of this function.
+    pub parameters: u8,
+    /// Functions that have begun.
+    pub functions: u8,
+    pub variables: u8,
+    /// Constraints that have begun.
+    pub constraints: u32,
+}
+
+impl Counts {
+    /// Nothing is counted yet.
+    pub fn none(phase: Phase) -> Counts
+        ensures { result ≡ Rattle.pv_grammar.specs.Limits.nothing phase }
+    {
+        Counts {
+            phase,
+            level: 0,
+            operations: 0,
+            parameters: 0,
+            functions: 0,
+            variables: 0,
+            constraints: 0,
+        }
+    }
+
+    fn in_phase(self, phase: Phase) -> Counts
+        ensures { result ≡ in_phase phase self }
+    {
+        let mut made = self;
+        made.phase = phase;
+        made
+    }
+
+    /// The counts behind a token that the grammar allows, or which limit or declaration forbids it.
+    pub fn counted(self, symbol: Symbol) -> Result<Counts, Cause>
+        ensures { result ≡ counted self symbol }
+    {
+        match self.begun(symbol) {
+            Ok(made) => match made.operated(symbol) {
+                Ok(made) => match made.nested(symbol) {
+                    Ok(made) => made.moved(symbol),
+                    Err(cause) => Err(cause),
+                },
+                Err(cause) => Err(cause),
+            },
+            Err(cause) => Err(cause),
+        }
+    }
+
+    // Where a constraint may begin, a token that begins one.
+    fn begun(self, symbol: Symbol) -> Result<Counts, Cause>
+        ensures { result ≡ begun self symbol }
+    {
+        if !symbol.begins() {
+            return Ok(self);
+        }
+        match self.phase {
+            Phase::NextConstraint => {
+                if self.constraints < MAX_CONSTRAINTS {
+                    let mut made = self;
+                    made.phase = Phase::Sides;
+                    made.constraints += 1;
+                    Ok(made)
+                } else {
+                    Err(Cause::TooManyConstraints)
+                }
+            }
+            _ => Ok(self),
+        }
+    }
+
+    fn is_in_expression(self) -> bool
+        ensures { result ≡ Rattle.pv_grammar.specs.Limits.in_expression self.phase }
+    {
+        match self.phase {
+            Phase::Body | Phase::Sides => true,
+            _ => false,
+        }
+    }
+
+    // An operation of an expression.
+    fn operated(self, symbol: Symbol) -> Result<Counts, Cause>
+        ensures { result ≡ operated self symbol }
+    {
+        if !self.is_in_expression() {
+            return Ok(self);
+        }
+        if !symbol.operates() {
+            return Ok(self);
+        }
+        if self.operations < MAX_OPERATIONS {
+            let mut made = self;
+            made.operations += 1;
+            Ok(made)
+        } else {
+            Err(Cause::TooDeep)
+        }
+    }
+
+    // A parenthesis of an expression.
+    fn nested(self, symbol: Symbol) -> Result<Counts, Cause>
+        ensures { result ≡ nested self symbol }
+    {
+        if !self.is_in_expression() {
+            return Ok(self);
+        }
+        match symbol {
+            Symbol::Fixed(Fixed::Open) => {
+                if self.level < MAX_LEVEL {
+                    let mut made = self;
+                    made.level += 1;
+                    Ok(made)
+                } else {
+                    Err(Cause::TooDeep)
+                }
+            }
+            Symbol::Fixed(Fixed::Close) => {
+                let mut made = self;
+                made.level = self.level.saturating_sub(1);
+                Ok(made)
+            }
+            // The `(` that must follow would open a level too many.
+            Symbol::Function { .. } => {
+                if self.level < MAX_LEVEL {
+                    Ok(self)
+                } else {
+                    Err(Cause::Unexpected)
+                }
+            }
+            _ => Ok(self),
+        }
+    }
+
+    // A declaration, or a token between the parts of the text.
+    fn moved(self, symbol: Symbol) -> Result<Counts, Cause>
+        ensures { result ≡ moved self symbol }
+    {
+        match symbol {
+            Symbol::Unknown => Err(Cause::UnknownName),
+            Symbol::Declared { taken } => self.declared(taken),
+            Symbol::Fixed(fixed) => self.turned(fixed),
+            _ => Ok(self),
+        }
+    }
+
+    fn declared(self, taken: bool) -> Result<Counts, Cause>
+        ensures { result ≡ declared self.phase self taken }
+    {
+        match self.phase {
+            Phase::Variables => self.declared_variable(taken),
+            Phase::FunctionName => {
+                if taken {
+                    Err(Cause::DuplicateName)
+                } else {
+                    Ok(self.in_phase(Phase::Parameters))
+                }
+            }
+            Phase::Parameters => self.declared_parameter(taken),
+            _ => {
+                if taken {
+                    Err(Cause::DuplicateName)
+                } else {
+                    Ok(self)
+                }
+            }
+        }
+    }
+
+    fn declared_variable(self, taken: bool) -> Result<Counts, Cause>
+        ensures { result ≡ declared Phase.Variables self taken }
+    {
+        if self.variables < MAX_VARIABLES {
+            if taken {
+                return Err(Cause::DuplicateName);
+            }
+            let mut made = self;
+            made.variables += 1;
+            Ok(made)
+        } else {
+            Err(Cause::TooManyVariables)
+        }
+    }
+
+    fn declared_parameter(self, taken: bool) -> Result<Counts, Cause>
+        ensures { result ≡ declared Phase.Parameters self taken }
+    {
+        if taken {
+            return Err(Cause::DuplicateName);
+        }
+        if self.parameters < MAX_PARAMETERS {
+            let mut made = self;
+            made.parameters += 1;
+            Ok(made)
+        } else {
+            Err(Cause::Unexpected)
+        }
+    }
+
+    fn turned(self, fixed: Fixed) -> Result<Counts, Cause>
+        ensures { result ≡ turned fixed self }
+    {
+        match fixed {
+            Fixed::Constants => Ok(self.in_phase(Phase::Constants)),
+            Fixed::Variables => Ok(self.in_phase(Phase::Variables)),
+            Fixed::Constraints => Ok(self.in_expression(Phase::NextConstraint)),
+            Fixed::Function => self.with_function(),
+            Fixed::Comma => self.with_comma(),
+            Fixed::Return => Ok(self.in_expression(Phase::Body)),
+            Fixed::End => Ok(self.ended()),
+            Fixed::Semicolon => Ok(self.with_semicolon()),
+            Fixed::OpenBracket => Ok(self.in_phase(Phase::Bounds)),
+            Fixed::CloseBracket => Ok(self.in_phase(Phase::Variables)),
+            _ => Ok(self),
+        }
+    }
+
+    // Before the expressions of a constraint or a body.
+    fn in_expression(self, phase: Phase) -> Counts
+        ensures { result ≡ Rattle.pv_grammar.specs.Limits.before_expression phase self }
+    {
+        let mut made = self;
+        made.phase = phase;
+        made.operations = 0;
+        made
+    }
+
+    fn with_function(self) -> Result<Counts, Cause>
+        ensures { result ≡ turned Fixed.Function self }
+    {
+        if self.functions < MAX_FUNCTIONS {
+            let mut made = self;
+            made.phase = Phase::FunctionName;
+            made.functions += 1;
+            Ok(made)
+        } else {
+            Err(Cause::TooManyFunctions)
+        }
+    }
+
+    fn with_comma(self) -> Result<Counts, Cause>
+        ensures { result ≡ turned Fixed.Comma self }
+    {
+        match self.phase {
+            Phase::Parameters => {
+                if self.parameters < MAX_PARAMETERS {
+                    Ok(self)
+                } else {
+                    Err(Cause::Unexpected)
+                }
+            }
+            _ => Ok(self),
+        }
+    }
+
+    fn with_semicolon(self) -> Counts
+        ensures { result ≡ Rattle.pv_grammar.specs.Limits.behind_semicolon self.phase self }
+    {
+        match self.phase {
+            Phase::Sides => self.in_expression(Phase::NextConstraint),
+            _ => self,
+        }
+    }
+
+    // Behind the end of a function, or of the text.
+    fn ended(self) -> Counts
+        ensures { result ≡ Rattle.pv_grammar.specs.Limits.behind_end self.phase self }
+    {
+        match self.phase {
+            Phase::Body => {
+                let mut made = self;
+                made.phase = Phase::Between;
+                made.parameters = 0;
+                made
+            }
+            _ => self.in_phase(Phase::Between),
+        }
+    }
+}

@@ -1,0 +1,14 @@
+//! The grammar of systems and of single expressions, over tokens whose names are resolved: a predictive machine that
+//! writes the code of what it reads, and the limits that are counted token by token.
+#![tactic(auto)]
+
+mod cause;
+mod counts;
+pub mod laws;
+mod machine;
+mod symbol;
+
+pub use cause::Cause;
+pub use counts::{Counts, Phase};
+pub use machine::{Item, Machine};
+pub use symbol::{Fixed, Symbol};

@@ -1,9 +1,0 @@
-use Rattle.std.proofs.Common.{◌≡◌, ℕ, ◌≤◌, ◌^◌, List, ◌++◌, take, min}
-use Rattle.std.specs.Str.Parse.{digits_value}
-use Rattle.pv_parse.proofs.number.with_digits.Given as goal
-
-abbrev pub invariant-loop-digit : goal.invariant-loop-digit
-invariant-loop-digit l = record {
-  most : l.all ≤ 10 ^ 37;
-  value : (before : List ℕ) → l.value ≡ min (10 ^ 37) (digits_value 10 before) → l.all ≡ min (10 ^ 37) (digits_value 10 (before ++ take l.digit-index l.digits));
-}

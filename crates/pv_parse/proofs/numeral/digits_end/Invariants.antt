@@ -1,6 +1,0 @@
-use Rattle.std.proofs.Common.{ℕ, ◌<◌, ◌≤◌, get_or}
-use Rattle.pv_parse.specs.Tokens.{IsDigit}
-use Rattle.pv_parse.proofs.numeral.digits_end.Given as goal
-
-abbrev pub invariant-loop-at : goal.invariant-loop-at
-invariant-loop-at l = (k : ℕ) → l.from ≤ k → k < l.at → IsDigit (get_or l.text k 0)

@@ -1,6 +1,0 @@
-use Rattle.std.proofs.Common.{ℕ, ◌<◌, ◌≤◌, get_or}
-use Rattle.pv_parse.specs.Tokens.{IsNamed}
-use Rattle.pv_parse.proofs.scanner.name_end.Given as goal
-
-abbrev pub invariant-loop-at : goal.invariant-loop-at
-invariant-loop-at l = (k : ℕ) → l.from ≤ k → k < l.at → IsNamed (get_or l.text k 0)

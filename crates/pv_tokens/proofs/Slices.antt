@@ -1,0 +1,83 @@
+-- The bytes of a number in a text are a number of their own.
+use Rattle.std.proofs.Common.{◌≡◌, ℕ, ◌+◌, ◌-◌, ◌<◌, ◌≤◌, inl, inr, List, length, get_or, drop, refl, sym, ◌∙◌, ap, subst, arith, ⊎_elim, length-take, length-drop, get_or-take, get_or-drop}
+use Rattle.std.specs.List.{slice_range}
+use Rattle.pv_tokens.specs.declared.numeral.Parts.{Parts}
+use Rattle.pv_tokens.specs.Numbers.{IsNumeral, decimal_in}
+use Rattle.pv_tokens.specs.Tokens.{IsDigit, IsExponent, IsNumber, Run}
+use Rattle.pv_tokens.proofs.Decimals.{number_within}
+use Rattle.pv_tokens.proofs.Numerals.{exponent_longer, exponent_on, fraction_on}
+
+pub length_slice : (t : List ℕ) (i j : ℕ) → j ≤ length t → length (slice_range t i j) ≡ j - i
+length_slice t i j within = omega (arith, length-take (j - i) (drop i t), length-drop i t)
+
+-- the byte at place k of the text
+pub byte_in : (t : List ℕ) (i j k m : ℕ) → k ≡ i + m → k < j → get_or (slice_range t i j) m 0 ≡ get_or t k 0
+byte_in t i j k m is before =
+    get_or-take (j - i) (drop i t) m 0 (omega arith) ∙ get_or-drop i t m 0 ∙ ap (λ n. get_or t n 0) (sym is)
+
+digits_in_slice : (t : List ℕ) (i j from to : ℕ) → j ≤ length t → i ≤ from → to ≤ j → Run IsDigit t from to → Run IsDigit (slice_range t i j) (from - i) (to - i)
+digits_in_slice t i j from to within after before run = record {
+  ordered = omega (arith, run.ordered);
+  within = omega (arith, length_slice t i j within);
+  each = λ k low high. subst IsDigit (sym (byte_in t i j (i + k) k refl (omega arith))) (run.each (i + k) (omega arith) (omega arith));
+}
+
+none_left : (i : ℕ) → i - i ≡ 0
+none_left i = omega arith
+
+power_after : (t : List ℕ) (p : Parts) → IsExponent t p → p.tail ≤ p.power
+power_after t p some = ⊎_elim (λ (_, _, place). omega arith) (λ (_, rest). ⊎_elim (λ (_, place). omega arith) (λ place. omega arith) rest) some.sign
+
+-- the same parts, counted from place i
+abbrev pub shifted : ℕ → Parts → Parts
+shifted i p = record { point = p.point - i; tail = p.tail - i; negative = p.negative; power = p.power - i; end = p.end - i }
+
+exponent_in_slice : (t : List ℕ) (i : ℕ) (p : Parts) → i ≤ p.tail → p.end ≤ length t → IsExponent t p → IsExponent (slice_range t i p.end) (shifted i p)
+exponent_in_slice t i p after within some =
+    let longer : p.tail < p.end = exponent_longer t p some in
+    let letter_is : get_or (slice_range t i p.end) (p.tail - i) 0 ≡ get_or t p.tail 0 = byte_in t i p.end p.tail (p.tail - i) (omega arith) longer in
+    let signs : p.tail + 1 < p.end → get_or (slice_range t i p.end) (p.tail - i + 1) 0 ≡ get_or t (p.tail + 1) 0 = λ room. byte_in t i p.end (p.tail + 1) (p.tail - i + 1) (omega arith) room in
+    record {
+      letter = ⊎_elim (λ h. inl (letter_is ∙ h)) (λ h. inr (letter_is ∙ h)) some.letter;
+      sign =
+          ⊎_elim
+          (λ (is, byte, place). inl (is, signs (omega (arith, some.some)) ∙ byte, omega arith))
+          (λ (is, rest). inr (is, ⊎_elim (λ (byte, place). inl (signs (omega (arith, some.some)) ∙ byte, omega arith)) (λ place. inr (omega arith)) rest))
+          some.sign;
+      digits = digits_in_slice t i p.end p.power p.end within (omega (arith, power_after t p some)) (omega arith) some.digits;
+      some = let power = power_after t p some in omega (arith, some.some);
+    }
+
+pub number_in_slice : (t : List ℕ) (i : ℕ) (p : Parts) → IsNumber t i p → IsNumber (slice_range t i p.end) 0 (shifted i p)
+number_in_slice t i p is =
+    let within : p.end ≤ length t = number_within t i p is in
+    let to_tail : p.point ≤ p.tail = fraction_on t p.point p.tail is.fraction in
+    let to_end : p.tail ≤ p.end = exponent_on t p is.exponent in
+    record {
+      some = omega (arith, is.some);
+      whole = subst (λ n. Run IsDigit (slice_range t i p.end) n (p.point - i)) (none_left i) (digits_in_slice t i p.end i p.point within (omega arith) (omega arith) is.whole);
+      fraction =
+          ⊎_elim
+          (λ same. inl (ap (λ n. n - i) same))
+          (λ (point, run).
+          let next : p.point + 1 - i ≡ p.point - i + 1 = omega (arith, is.some) in
+          inr (
+            byte_in t i p.end p.point (p.point - i) (omega (arith, is.some)) (omega (arith, run.ordered)) ∙ point,
+            subst (λ n. Run IsDigit (slice_range t i p.end) n (p.tail - i)) next (digits_in_slice t i p.end (p.point + 1) p.tail within (omega (arith, is.some)) (omega arith) run),
+          ))
+          is.fraction;
+      exponent =
+          ⊎_elim
+          (λ none. inl (record { negative = none.negative; power = ap (λ n. n - i) none.power; end = ap (λ n. n - i) none.end }))
+          (λ some. inr (exponent_in_slice t i p (omega (arith, is.some)) within some))
+          is.exponent;
+    }
+
+-- the bytes of a number are the text of a number
+pub numeral_in_slice : (t : List ℕ) (i : ℕ) (p : Parts) → IsNumber t i p → IsNumeral (slice_range t i p.end) (decimal_in (slice_range t i p.end) (shifted i p))
+numeral_in_slice t i p is = record {
+  parts = shifted i p;
+  number = number_in_slice t i p is;
+  whole = sym (length_slice t i p.end (number_within t i p is));
+  decimal = refl;
+}

@@ -1,0 +1,33 @@
+// Tokens, values of numbers and places, against tables that regular expressions and fractions made.
+
+mod lexical;
+
+use crate::number::read_number;
+use crate::place::line_and_column;
+use crate::scanner::next_token;
+use crate::token::Token;
+use lexical::{NUMBERS, PLACES, TOKENS};
+
+#[test]
+fn numbers(rt: HostRuntime) {
+    for (text, value) in NUMBERS {
+        assert_eq!(rt; read_number(text), *value);
+    }
+}
+
+#[test]
+fn tokens_and_places(rt: HostRuntime) {
+    for (text, from, kind, start, end) in TOKENS {
+        assert!(rt; *from <= text.len());
+        let wanted = Token {
+            kind: *kind,
+            start: *start,
+            end: *end,
+        };
+        assert_eq!(rt; next_token(text, *from), wanted);
+    }
+    for (text, byte, line, column) in PLACES {
+        assert!(rt; *byte <= text.len() && *byte < 1000);
+        assert_eq!(rt; line_and_column(text, *byte), (*line, *column));
+    }
+}
