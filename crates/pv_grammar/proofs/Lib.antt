@@ -3,7 +3,12 @@ pub mod Exponents
 pub mod Fits
 pub mod Forward
 pub mod OneReading
+pub mod OneTree
 pub mod Orderly
 pub mod Piles
 pub mod Ready
 pub mod Steps
+pub mod TreeBuilding
+pub mod TreeExamples
+pub mod TreeReadings
+pub mod TreeRuns

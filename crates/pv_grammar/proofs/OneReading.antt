@@ -8,11 +8,11 @@ use Rattle.pv_grammar.proofs.Forward.{head_is, nil_cons, none_some, same_some, s
 use Rattle.pv_grammar.proofs.Orderly.{Orderly, OrderlyAfter, kept, own}
 
 -- how a text of an item and more items comes about, with its steps
-data Way (i : Item) (rest : List Item) (ss : List Symbol) (ops : List Op) : Type 0 where
+pub data Way (i : Item) (rest : List Item) (ss : List Symbol) (ops : List Op) : Type 0 where
   out_way : (steps : List Op) → MayEnd i → Derives rest ss steps → ops ≡ step_of i ++ steps → Way i rest ss ops
   in_way : (s : Symbol) (more : List Symbol) (p : Produced) (steps : List Op) → ss ≡ s ∷ more → produced i s ≡ Some p → Derives (p.0 ++ rest) more steps → ops ≡ p.1 ++ steps → Way i rest ss ops
 
-way_by : (items : List Item) (ss : List Symbol) (ops : List Op) → Derives items ss ops → (i : Item) (rest : List Item) → items ≡ i ∷ rest → Way i rest ss ops
+pub way_by : (items : List Item) (ss : List Symbol) (ops : List Op) → Derives items ss ops → (i : Item) (rest : List Item) → items ≡ i ∷ rest → Way i rest ss ops
 way_by items ss ops (done) i rest e = absurd (nil_cons e)
 way_by items ss ops (left_out j items' ss' ops' may d) i rest e =
     out_way ops' (subst MayEnd (head_is e) may) (subst (λ (x : List Item). Derives x ss' ops') (tail_is e) d) (ap (λ (x : Item). step_of x ++ ops') (head_is e))

@@ -1,6 +1,11 @@
--- The grammar. A text is a list of items. Each item has at most one way to begin with a given token: `produced` says
--- what must come behind that token, and which steps of the expression's code are written. An item may be left out
+-- The grammar, as the machine follows it. A text is a list of items. Each item has at most one way to begin with a given token:
+-- `produced` says what must come behind that token, and which steps of the expression's code are written. An item may be left out
 -- where `MayEnd` says so. So `MoreTerms` stands for { ("+" | "-") term }, and `MaybeDomain` for an optional domain.
+--
+-- `Productions` has the same grammar as data types, a constructor for each production, and `Trees` what a tree means. A reader may
+-- begin there: `laws::trees` says that the items have the same texts, each of one tree, and that the code of a text means what its
+-- tree means. The items take a little more: a token with an undeclared name, or with a name that is taken, since it is the limits
+-- that forbid it and give the cause. No text that is within the limits has such a token.
 use Rattle.std.specs.Prelude.{◌≡◌, ◌≢◌, Bool, true, false, ℕ, zero, suc, ◌-◌, List, [], ◌∷◌, ◌++◌, Option, Some, None, reverse}
 use Rattle.pv_expr.specs.declared.constraint.Relation.TheVariants.{Eq}
 use Rattle.pv_code.specs.declared.code.Op.{Op}

@@ -1,3 +1,6 @@
 pub mod Causes
 pub mod Grammar
 pub mod Limits
+pub mod Productions
+pub mod TreeCodes
+pub mod Trees

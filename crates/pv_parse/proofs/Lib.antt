@@ -7,6 +7,7 @@ pub mod Declarations
 pub mod Distinct
 pub mod Fractions
 pub mod Heights
+pub mod KnownNames
 pub mod Limited
 pub mod Meant
 pub mod NameBytes
@@ -20,4 +21,6 @@ pub mod Same
 pub mod Scopes
 pub mod Starts
 pub mod Tails
+pub mod TreeDomains
+pub mod TreeTexts
 pub mod VariableCounts

@@ -4,4 +4,5 @@ pub mod Fractions
 pub mod Meanings
 pub mod Scopes
 pub mod Sentences
+pub mod TreeTexts
 pub mod Views

@@ -6,6 +6,7 @@ ghost use Rattle.pv_parse.specs.Declarations.{IsExpressionSentence, IsSystemSent
 ghost use Rattle.pv_parse.specs.Faults.{Excludes, IsAtMostOne, IsEither, IsExpressionFault, IsExpressionFaultOf, IsFaultOf, IsSystemFault};
 ghost use Rattle.pv_parse.specs.Meanings.{KnowsVariables, Names, no_names};
 ghost use Rattle.pv_parse.specs.Sentences.{HasOneCode, IsExpressionText, IsSpelledOnce, IsSystemText};
+ghost use Rattle.pv_parse.specs.TreeTexts.{ExpressionSentencesAgree, HasOneExpressionTree, HasOneTree, MeansByTree, MeansTermByTree, SentencesAgree};
 
 use pv_grammar::Phase;
 
@@ -44,4 +45,19 @@ pub fn one_expression_outcome()
     ensures apart { (variables : List (List ℕ)) (t : List ℕ) → Excludes (IsExpressionSentence variables t) (IsExpressionFaultOf variables t) }
     ensures fault { (variables : List (List ℕ)) (t : List ℕ) → IsAtMostOne (IsExpressionFaultOf variables t) }
     ensures term { (variables : List (List ℕ)) (t : List ℕ) → MeansOneTerm variables t }
+{}
+
+/// The sentences of the grammar for systems are the texts of trees, each of one tree; and what a text means by its tree, with the
+/// terms and constraints read off it, is what it means for `parse`. It holds by its contract alone; the call does nothing.
+pub fn tree_texts()
+    ensures sentences { (t : List ℕ) → SentencesAgree t }
+    ensures one { (t : List ℕ) → HasOneTree t }
+    ensures meaning { (t : List ℕ) → MeansByTree t }
+{}
+
+/// The same of the text of an expression over some variables, and of `parse_expr`.
+pub fn tree_expressions()
+    ensures sentences { (variables : List (List ℕ)) (t : List ℕ) → ExpressionSentencesAgree variables t }
+    ensures one { (t : List ℕ) (known : Names) → HasOneExpressionTree known t }
+    ensures term { (variables : List (List ℕ)) (t : List ℕ) → MeansTermByTree variables t }
 {}

@@ -16,6 +16,7 @@ ghost use Rattle.pv_parse.specs.Fractions.{KnowsFractions};
 ghost use Rattle.pv_parse.specs.Scopes.{IsToldAs, scoped};
 ghost use Rattle.pv_parse.specs.Views.{view};
 ghost use Rattle.pv_parse.specs.Sentences.{IsSentence};
+ghost use Rattle.pv_parse.specs.TreeTexts.{IsTreeMeaning, IsTreeTerm};
 
 use crate::given::{domains_of, first_bad};
 use crate::names::Names;
@@ -38,6 +39,7 @@ const MAX_TEXT: usize = 65536;
 #[tactic(auto, using(crate::proofs::Refusals::long_system, crate::proofs::Meant::first_fault))]
 pub fn parse(alloc: Global, text: &[u8]) -> Result<System, ParseRefused>
     ensures means { IfOk result (λ s. IsMeaning text.now s) }
+    ensures tree { IfOk result (λ s. IsTreeMeaning text.now s) }
     ensures placed { IfErr result (λ e. IsPlaced text.now e) }
     ensures long { 65536 < length text.now → IsErrAnd result SaysTooLong }
     ensures fault { IfErr result (IsRefusal text.now) }
@@ -73,6 +75,7 @@ pub fn parse(alloc: Global, text: &[u8]) -> Result<System, ParseRefused>
 pub fn parse_expr(alloc: Global, system: &System, text: &[u8]) -> Result<Expr, ParseRefused>
     ensures over { IfOk result (λ e. IsOver (length system.now.names) (term_of e)) }
     ensures means { IfOk result (λ e. IsExpressionMeaning system.now.names text.now (term_of e)) }
+    ensures tree { IfOk result (λ e. IsTreeTerm system.now.names text.now (term_of e)) }
     ensures placed { IfErr result (λ e. IsPlaced text.now e) }
     ensures long { 65536 < length text.now → IsErrAnd result SaysTooLong }
     ensures fault { IfErr result (IsExpressionRefusal system.now.names text.now) }

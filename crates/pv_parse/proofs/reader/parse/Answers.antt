@@ -25,6 +25,7 @@ use Rattle.pv_parse.proofs.Heights.{sentence_parts}
 use Rattle.pv_parse.proofs.Meant.{as_many_domains, as_many_starts, bad_bounds, bracket_in_text, domains_good, meant, names_differ, names_few, names_some, starts_in_text, told_at, too_large}
 use Rattle.pv_parse.proofs.Numbered.{system_steps}
 use Rattle.pv_parse.proofs.Pieces.{none_bounded}
+use Rattle.pv_parse.proofs.TreeTexts.{means_by_tree}
 use Rattle.pv_parse.proofs.reader.parse.Goals as goal
 
 pub read_tokens-requires-clause-names : goal.read_tokens-requires-clause-names
@@ -196,3 +197,6 @@ new-requires-clause-constraints_good c =
 pub new-requires-clause-few_nodes : goal.new-requires-clause-few_nodes
 new-requires-clause-few_nodes c =
     few_nodes c.in-Ok.constraints.items (constraints_of c.as_slice-2.result.now) c.in-Ok.ensures.means (c.in-Ok.ensures.within (search rules))
+
+pub returns-clause-tree : goal.returns-clause-tree
+returns-clause-tree c = means_by_tree c.args.text.now c.new.result (returns-clause-means c)
