@@ -66,7 +66,8 @@ def numbers(folder):
 def calls(_):
     program = TOP / "crates/pv_bench/out/pv_bench"
     fed, _ = seconds([program, "fed", STEPS // 10])
-    for operation in ("neg", "cmp", "pow3", "root2", "root3", "root31", "middle", "ratio", "parts", "text"):
+    for operation in ("neg", "abs", "cmp", "pow3", "root2", "root3", "root31", "middle", "floor", "ratio", "fin",
+                      "parts", "text"):
         spent, _ = seconds([program, operation, STEPS // 10])
         print(f"{operation:7} {(spent - fed) / STEPS * 1e10:8.1f} ns")
 

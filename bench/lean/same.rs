@@ -19,6 +19,18 @@ enum Class {
     PlusOo,
 }
 
+impl Class {
+    #[inline(always)]
+    fn opposite(self) -> Class {
+        match self {
+            Class::MinusOo => Class::PlusOo,
+            Class::Negative => Class::NonNegative,
+            Class::NonNegative => Class::Negative,
+            Class::PlusOo => Class::MinusOo,
+        }
+    }
+}
+
 #[derive(Clone, Copy, PartialEq, Eq)]
 struct Num {
     class: Class,
@@ -32,6 +44,24 @@ enum Toward {
     Away,
 }
 
+impl Toward {
+    #[inline(always)]
+    fn other(self) -> Toward {
+        match self {
+            Toward::Zero => Toward::Away,
+            Toward::Away => Toward::Zero,
+        }
+    }
+
+    #[inline(always)]
+    fn up(self) -> u64 {
+        match self {
+            Toward::Zero => 0,
+            Toward::Away => 1,
+        }
+    }
+}
+
 #[derive(Clone, Copy)]
 struct Magnitude {
     mantissa: u64,
@@ -41,9 +71,8 @@ struct Magnitude {
 const FINE_BITS: u16 = 1024;
 const MANTISSA_BITS: u16 = 62;
 const TOP_EXPONENT: u16 = 962;
-const FAR: u16 = 64;
-const GUARD_BITS: u16 = 2;
 const FULL: u128 = 0x400_0000_0000_0000_0000_0000_0000_0000;
+const LONG: u128 = 0x800_0000_0000_0000_0000_0000_0000_0000;
 const LEAST_SCALE: u16 = 451;
 const GREATEST_SCALE: u16 = 1412;
 const ZERO: Num = Num { class: Class::NonNegative, exponent: 0, mantissa: 0 };
@@ -135,6 +164,15 @@ fn signed(negative: bool, size: Option<Magnitude>) -> Num {
     }
 }
 
+#[inline(always)]
+fn nonzero(negative: bool, size: Magnitude) -> Num {
+    if negative {
+        Num { class: Class::Negative, exponent: size.exponent, mantissa: size.mantissa }
+    } else {
+        Num { class: Class::NonNegative, exponent: size.exponent, mantissa: size.mantissa }
+    }
+}
+
 #[inline]
 fn is_smaller(x: Magnitude, y: Magnitude) -> bool {
     if x.exponent < y.exponent {
@@ -162,44 +200,38 @@ fn next(mantissa: u64, exponent: u16, exact: bool, toward: Toward) -> Option<Mag
 
 #[inline(always)]
 fn alike_sum(a: Num, b: Num, side: End) -> Num {
-    let negative = a.is_negative();
     let (x, y) = (a.size(), b.size());
-    let size = size_sum(x, y, toward(side, negative));
-    signed(negative, size)
+    if x.exponent < y.exponent { ordered_sum(a, y, x, side) } else { ordered_sum(a, x, y, side) }
 }
 
 #[inline(always)]
-fn size_sum(x: Magnitude, y: Magnitude, toward: Toward) -> Option<Magnitude> {
-    if x.exponent < y.exponent { ordered_sum(y, x, toward) } else { ordered_sum(x, y, toward) }
+fn ordered_sum(like: Num, x: Magnitude, y: Magnitude, side: End) -> Num {
+    let negative = like.is_negative();
+    let toward = toward(side, negative);
+    let sum = x.mantissa + whole(y.mantissa, x.exponent - y.exponent, toward);
+    if sum >= 0x4000_0000_0000_0000 && x.exponent == TOP_EXPONENT {
+        return signed(negative, beyond(toward));
+    }
+    like.with_size(fitted(sum, x.exponent, toward))
 }
 
 #[inline(always)]
-fn ordered_sum(x: Magnitude, y: Magnitude, toward: Toward) -> Option<Magnitude> {
-    let part = shifted(y.mantissa, x.exponent - y.exponent);
-    let sum = x.mantissa + part.0;
-    if sum < 0x4000_0000_0000_0000 {
-        return next(sum, x.exponent, part.1, toward);
+fn fitted(word: u64, exponent: u16, toward: Toward) -> Magnitude {
+    if word < 0x4000_0000_0000_0000 {
+        return Magnitude { mantissa: word, exponent };
     }
-    if x.exponent == TOP_EXPONENT {
-        return beyond(toward);
-    }
-    let half = halved(sum, part.1);
-    next(half.0, x.exponent + 1, half.1, toward)
+    Magnitude { mantissa: whole(word, 1, toward), exponent: exponent + 1 }
 }
 
-#[inline]
-fn shifted(mantissa: u64, distance: u16) -> (u64, bool) {
-    if distance >= 64 {
-        return (0, mantissa == 0);
-    }
-    let kept = mantissa >> distance;
-    (kept, kept << distance == mantissa)
+#[inline(always)]
+fn whole(mantissa: u64, distance: u16, toward: Toward) -> u64 {
+    let up = toward.up() as i64;
+    (((mantissa as i64 - up) >> reach(distance)) + up) as u64
 }
 
-#[inline]
-fn halved(sum: u64, exact: bool) -> (u64, bool) {
-    let half = sum / 2;
-    (half, exact && half * 2 == sum)
+#[inline(always)]
+fn reach(distance: u16) -> u16 {
+    if distance < 63 { distance } else { 63 }
 }
 
 #[inline(always)]
@@ -218,35 +250,23 @@ fn distance(x: Magnitude, y: Magnitude, smaller: bool, toward: Toward) -> Magnit
 
 #[inline]
 fn size_difference(x: Magnitude, y: Magnitude, toward: Toward) -> Magnitude {
-    if x.exponent < GUARD_BITS {
-        return difference(x, y, FINE_BITS, toward).unwrap();
+    if x.exponent == 0 {
+        return justified(x.mantissa - y.mantissa, 0);
     }
-    let exponent = x.exponent - GUARD_BITS;
-    let part = raised_part(y, exponent);
-    fitted(x.mantissa * 4 - part.0, exponent, part.1, toward).unwrap()
+    let exponent = x.exponent - 1;
+    let word = x.mantissa * 2 - units(y, exponent, toward.other());
+    if word < 0x2000_0000_0000_0000 {
+        return justified(word, exponent);
+    }
+    fitted(word, exponent, toward)
 }
 
-#[inline]
-fn raised_part(size: Magnitude, exponent: u16) -> (u64, bool) {
-    if exponent <= size.exponent {
-        return (size.mantissa << (size.exponent - exponent), true);
+#[inline(always)]
+fn units(size: Magnitude, exponent: u16, toward: Toward) -> u64 {
+    if exponent < size.exponent {
+        return size.mantissa * 2;
     }
-    let kept = shifted(size.mantissa, exponent - size.exponent);
-    if kept.1 { (kept.0, true) } else { (kept.0 + 1, false) }
-}
-
-#[inline]
-fn fitted(word: u64, exponent: u16, exact: bool, toward: Toward) -> Option<Magnitude> {
-    if word < 0x4000_0000_0000_0000 {
-        return Some(justified(word, exponent));
-    }
-    let above = exponent + 1;
-    let half = halved(word, exact);
-    if half.0 < 0x4000_0000_0000_0000 {
-        return next(half.0, above, half.1, toward);
-    }
-    let quarter = halved(half.0, half.1);
-    next(quarter.0, above + 1, quarter.1, toward)
+    whole(size.mantissa, exponent - size.exponent, toward)
 }
 
 #[inline]
@@ -259,23 +279,6 @@ fn justified(word: u64, exponent: u16) -> Magnitude {
         return Magnitude { mantissa: word << free, exponent: exponent - free };
     }
     Magnitude { mantissa: word << exponent, exponent: 0 }
-}
-
-#[inline]
-fn trace(y: Magnitude) -> u128 {
-    if y.mantissa == 0 { 0 } else { 1 }
-}
-
-#[inline]
-fn difference(x: Magnitude, y: Magnitude, at: u16, toward: Toward) -> Option<Magnitude> {
-    let distance = x.exponent - y.exponent;
-    if distance <= FAR {
-        let parts = ((x.mantissa as u128) << distance) - y.mantissa as u128;
-        round(parts, y.exponent + at, toward)
-    } else {
-        let parts = ((x.mantissa as u128) << FAR) - trace(y);
-        round(parts, x.exponent - FAR + at, toward)
-    }
 }
 
 #[inline(always)]
@@ -313,13 +316,14 @@ fn infinite_product(a: Num, b: Num) -> Num {
 }
 
 #[inline(always)]
-fn product(x: Magnitude, y: Magnitude, toward: Toward) -> Option<Magnitude> {
+fn product(negative: bool, x: Magnitude, y: Magnitude, side: End) -> Num {
+    let toward = toward(side, negative);
     let parts = x.mantissa as u128 * y.mantissa as u128;
     let scale = x.exponent + y.exponent;
     if parts < FULL || scale < LEAST_SCALE || scale > GREATEST_SCALE {
-        return rare_product(parts, scale, toward);
+        return signed(negative, rare_product(parts, scale, toward));
     }
-    full_product(parts, scale, toward)
+    nonzero(negative, full_product(parts, scale, toward))
 }
 
 #[cold]
@@ -329,20 +333,19 @@ fn rare_product(parts: u128, scale: u16, toward: Toward) -> Option<Magnitude> {
 }
 
 #[inline(always)]
-fn full_product(parts: u128, scale: u16, toward: Toward) -> Option<Magnitude> {
-    let kept = cut(parts);
+fn full_product(parts: u128, scale: u16, toward: Toward) -> Magnitude {
+    let word = cut(parts, toward);
     let exponent = scale - LEAST_SCALE;
-    if kept.0 < 0x4000_0000_0000_0000 {
-        return next(kept.0, exponent, kept.1, toward);
+    if parts >= LONG {
+        return Magnitude { mantissa: whole(word, 1, toward), exponent: exponent + 1 };
     }
-    let half = halved(kept.0, kept.1);
-    next(half.0, exponent + 1, half.1, toward)
+    fitted(word, exponent, toward)
 }
 
-#[inline]
-fn cut(parts: u128) -> (u64, bool) {
-    let kept = parts >> 61;
-    (kept as u64, kept << 61 == parts)
+#[inline(always)]
+fn cut(parts: u128, toward: Toward) -> u64 {
+    let up = toward.up();
+    ((parts - up as u128) >> 61) as u64 + up
 }
 
 fn quotient(x: Magnitude, y: Magnitude, toward: Toward) -> Option<Magnitude> {
@@ -370,13 +373,10 @@ fn left_aligned(n: u128, bits: u16) -> (u128, u16) {
 impl Num {
     #[inline]
     fn neg(self) -> Num {
-        match self.class {
-            Class::MinusOo => POS_INF,
-            Class::Negative => Num { class: Class::NonNegative, exponent: self.exponent, mantissa: self.mantissa },
-            Class::NonNegative if self.mantissa == 0 => self,
-            Class::NonNegative => Num { class: Class::Negative, exponent: self.exponent, mantissa: self.mantissa },
-            Class::PlusOo => NEG_INF,
+        if self.is_zero() {
+            return self;
         }
+        Num { class: self.class.opposite(), exponent: self.exponent, mantissa: self.mantissa }
     }
 
     #[inline]
@@ -399,6 +399,16 @@ impl Num {
         }
     }
 
+    #[inline(always)]
+    fn is_alike(self, other: Num) -> bool {
+        self.class == other.class
+    }
+
+    #[inline(always)]
+    fn with_size(self, size: Magnitude) -> Num {
+        Num { class: self.class, exponent: size.exponent, mantissa: size.mantissa }
+    }
+
     #[inline]
     fn is_zero(self) -> bool {
         match self.class {
@@ -414,14 +424,14 @@ impl Num {
 
     #[inline(always)]
     fn add(self, other: Num, side: End) -> Num {
-        if self.is_infinite() {
-            return infinite_sum(self, other, side);
-        }
         if other.is_infinite() {
             return infinite_sum(self, other, side);
         }
-        if self.is_negative() == other.is_negative() {
+        if self.is_alike(other) {
             return alike_sum(self, other, side);
+        }
+        if self.is_infinite() {
+            return infinite_sum(self, other, side);
         }
         unlike_sum(self, other, side)
     }
@@ -439,9 +449,8 @@ impl Num {
         if other.is_infinite() {
             return infinite_product(self, other);
         }
-        let negative = self.is_negative() ^ other.is_negative();
-        let size = product(self.size(), other.size(), toward(side, negative));
-        signed(negative, size)
+        let negative = !self.is_alike(other);
+        product(negative, self.size(), other.size(), side)
     }
 
     fn div(self, other: Num, side: End) -> Num {

@@ -1,6 +1,6 @@
 // The chains.
 
-ghost use Rattle.std.specs.Prelude.{◌≤◌};
+ghost use Rattle.std.specs.Prelude.{◌≤◌, ◌≤ℤ◌, pos};
 
 use pv_num::{End, Num, Parts};
 use std::alloc::Global;
@@ -15,13 +15,16 @@ pub enum Operation {
     Multiply,
     Divide,
     Negate,
+    Absolute,
     Compare,
     Cube,
     SquareRoot,
     CubeRoot,
     HighRoot,
     Middle,
+    Floor,
     Ratio,
+    Finite,
     Parts,
     Text,
 }
@@ -36,13 +39,16 @@ impl Operation {
             "mul" => Some(Operation::Multiply),
             "div" => Some(Operation::Divide),
             "neg" => Some(Operation::Negate),
+            "abs" => Some(Operation::Absolute),
             "cmp" => Some(Operation::Compare),
             "pow3" => Some(Operation::Cube),
             "root2" => Some(Operation::SquareRoot),
             "root3" => Some(Operation::CubeRoot),
             "root31" => Some(Operation::HighRoot),
             "middle" => Some(Operation::Middle),
+            "floor" => Some(Operation::Floor),
             "ratio" => Some(Operation::Ratio),
+            "fin" => Some(Operation::Finite),
             "parts" => Some(Operation::Parts),
             "text" => Some(Operation::Text),
             _ => None,
@@ -56,9 +62,9 @@ pub fn last_of(alloc: Global, operation: Operation, steps: u64) -> Num {
     match operation {
         Operation::Nothing => Num::ONE,
         Operation::Add => sums(by, steps),
-        Operation::Subtract => differences(by, steps),
         Operation::Multiply => products(by, steps),
         Operation::Divide => quotients(by, steps),
+        Operation::Subtract => differences(by, steps),
         Operation::Text => texts(alloc, by, steps),
         other => others(other, by, steps),
     }
@@ -80,16 +86,6 @@ fn sums(by: Num, steps: u64) -> Num {
     x
 }
 
-// The number and its operand have one sign, so that something cancels at each step.
-#[inline(never)]
-fn differences(by: Num, steps: u64) -> Num {
-    let mut x = Num::ONE;
-    for step in 0..steps {
-        x = by.sub(x, side_of(step));
-    }
-    x
-}
-
 #[inline(never)]
 fn products(by: Num, steps: u64) -> Num {
     let mut x = Num::ONE;
@@ -107,6 +103,16 @@ fn quotients(by: Num, steps: u64) -> Num {
     }
     for step in 0..steps {
         x = x.div(by, side_of(step));
+    }
+    x
+}
+
+// The number and its operand have one sign, so that something cancels at each step.
+#[inline(never)]
+fn differences(by: Num, steps: u64) -> Num {
+    let mut x = Num::ONE;
+    for step in 0..steps {
+        x = by.sub(x, side_of(step));
     }
     x
 }
@@ -148,13 +154,16 @@ fn fed(x: Num, by: Num) -> Num {
 fn made(operation: Operation, x: Num, side: End) -> Num {
     match operation {
         Operation::Negate => x.neg(),
+        Operation::Absolute => x.abs(),
         Operation::Compare => { if x < Num::ONE { x } else { Num::ONE } }
         Operation::Cube => { if Num::ZERO <= x { x.pow(3, side) } else { x } }
         Operation::SquareRoot => root(x, 2, side),
         Operation::CubeRoot => root(x, 3, side),
         Operation::HighRoot => root(x, 31, side),
         Operation::Middle => middle(x),
-        Operation::Ratio => Num::from_ratio(355, 113, side),
+        Operation::Floor => floor(x),
+        Operation::Ratio => Num::from_ratio(picked(x) as i128, 113, side),
+        Operation::Finite => Num::fin(picked(x), -2).unwrap_or(x),
         Operation::Parts => through_parts(x),
         _ => x,
     }
@@ -176,6 +185,22 @@ fn middle(x: Num) -> Num {
     } else {
         x
     }
+}
+
+fn floor(x: Num) -> Num {
+    if Num::ZERO <= x && x <= Num::ONE && x.floor(1) == 0 {
+        x
+    } else {
+        Num::ONE
+    }
+}
+
+// A whole number that can't be known before x is: one comparison.
+fn picked(x: Num) -> i64
+    ensures low { pos 0 ≤ℤ result }
+    ensures high { result ≤ℤ pos 377 }
+{
+    if x < Num::ONE { 355 } else { 377 }
 }
 
 fn through_parts(x: Num) -> Num {

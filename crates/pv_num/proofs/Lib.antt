@@ -1,8 +1,11 @@
 pub mod Align
 pub mod AlikeSums
 pub mod Canonical
+pub mod Classes
+pub mod Differences
 pub mod Divisions
 pub mod Exact
+pub mod Fitted
 pub mod Monotone
 pub mod Operations
 pub mod Orders
@@ -19,4 +22,5 @@ pub mod Sizes
 pub mod Sums
 pub mod Texts
 pub mod UnlikeSums
+pub mod Wholes
 pub mod Zeros

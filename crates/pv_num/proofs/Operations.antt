@@ -103,7 +103,7 @@ sum_larger (Fin (pos m)) (Fin (negsuc n)) f g s l = omega (arith, ints)
 sum_larger (Fin (negsuc m)) (Fin (pos n)) f g s l = omega (arith, ints)
 sum_larger (Fin (negsuc m)) (Fin (negsuc n)) f g s l = absurd (true≢false (sym s))
 
-sum_alike : (a b : Extended) → is_infinite_of a ≡ false → is_infinite_of b ≡ false → not (beq (is_negative_of a) (is_negative_of b)) ≡ false → with_sign (is_negative_of a) (magnitude_of a + magnitude_of b) ≡ whole_of a +ℤ whole_of b
+pub sum_alike : (a b : Extended) → is_infinite_of a ≡ false → is_infinite_of b ≡ false → not (beq (is_negative_of a) (is_negative_of b)) ≡ false → with_sign (is_negative_of a) (magnitude_of a + magnitude_of b) ≡ whole_of a +ℤ whole_of b
 sum_alike NegInf b f g s = absurd (true≢false f)
 sum_alike PosInf b f g s = absurd (true≢false f)
 sum_alike (Fin a) NegInf f g s = absurd (true≢false g)
@@ -138,7 +138,7 @@ alike_finite side a b t x y at p q r f g ep eq ex ey d w et h =
 pub not_smaller : (x y : ℕ) → (x < y → false ≡ true) → y ≤ x
 not_smaller x y h = elim (cases_lt x y) [ inl l ↦ absurd (true≢false (sym (h l))) | inr l ↦ l ]
 
-same_signs : (p q : Bool) → p ≡ q → not (beq p q) ≡ false
+pub same_signs : (p q : Bool) → p ≡ q → not (beq p q) ≡ false
 same_signs true true e = refl
 same_signs true false e = absurd (true≢false e)
 same_signs false true e = absurd (true≢false (sym e))
@@ -194,3 +194,15 @@ unlike_whole side a b t x y p false r f g d ep ex ey o et h =
     own : (p : Bool) → not (beq p false) ≡ p
     own true = refl
     own false = refl
+
+-- The same, from the sum of the sizes.
+pub alike_from : (side : End) (a b r : Extended) (x y : ℕ) → is_infinite_of a ≡ false → is_infinite_of b ≡ false → is_negative_of a ≡ is_negative_of b → x ≡ magnitude_of a → y ≡ magnitude_of b → r ≡ rounded side (with_sign (is_negative_of a) (x + y)) 1 → r ≡ rounded side (whole_of a +ℤ whole_of b) 1
+alike_from side a b r x y f g same ex ey h =
+    let e : x + y ≡ magnitude_of a + magnitude_of b = ap (λ z. z + y) ex ∙ ap (λ z. magnitude_of a + z) ey in
+    h ∙ ap (λ z. rounded side (with_sign (is_negative_of a) z) 1) e ∙ ap (λ z. rounded side z 1) (sum_alike a b f g (same_signs _ _ same))
+
+-- A sum of sizes, rounded, as a number of a sign.
+pub sum_rounded : (side : End) (p s : Bool) (t : Toward) (v : ℕ) (r : Option Magnitude) → p ≡ s → t ≡ toward_of side p → IsSized t v 1 r → signed_of p r ≡ rounded side (with_sign s v) 1
+sum_rounded side p s t v r ep et h =
+    let one : 0 < 1 = omega arith in
+    ap (λ z. signed_of z r) ep ∙ signed_is side s v 1 r one (restated side p s t v v 1 r ep et refl h)

@@ -134,7 +134,7 @@ beyond_sized Away l at parts (Some m) h low z a = let e = a refl in cc
 not_kept : (m e v b : ℕ) → (m * 2 ^ e * b ≡ v → ⊥) → m * 2 ^ e * b ≤ v → m * 2 ^ e * b < v
 not_kept m e v b n h = omega (arith, n, h)
 
-last_sized : (m e v b f : ℕ) → m + 1 ≡ 2 ^ 62 → e ≡ 962 → (0 < e → 2 ^ 61 ≤ m) → IsGridSize f → m * 2 ^ e * b < v → f * b < v
+pub last_sized : (m e v b f : ℕ) → m + 1 ≡ 2 ^ 62 → e ≡ 962 → (0 < e → 2 ^ 61 ≤ m) → IsGridSize f → m * 2 ^ e * b < v → f * b < v
 last_sized m e v b f q x j g lo =
     let l : f < 2 ^ (62 + e) = below_all f e x g in
     let k : f < (m + 1) * 2 ^ e = subst (λ y. f < y * 2 ^ e) (sym q) (subst (λ y. f < y) (pow-add 2 62 e) l) in

@@ -51,6 +51,11 @@ abbrev pub IsSized : Toward → ℕ → ℕ → Option Magnitude → Type 0
 IsSized Zero a b r = IsFloor a b r
 IsSized Away a b r = IsCeiling a b r
 
+-- w is v / u as a whole number, rounded toward zero or away from it.
+abbrev pub IsWhole : Toward → ℕ → ℕ → ℕ → Type 0
+IsWhole Zero v u w = (w * u ≤ v) × (v < (w + 1) * u)
+IsWhole Away v u w = (v ≤ w * u) × (w * u < v + u)
+
 -- ---- Numbers as a sign and a size
 
 abbrev pub magnitude_of : Extended → ℕ

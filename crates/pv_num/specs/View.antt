@@ -18,6 +18,13 @@ number_of Negative n = Fin (neg_ℤ (pos n))
 number_of NonNegative n = Fin (pos n)
 number_of PlusOo n = PosInf
 
+-- The class of a number that is not zero with the other sign.
+abbrev pub opposite_of : Class → Class
+opposite_of MinusOo = PlusOo
+opposite_of Negative = NonNegative
+opposite_of NonNegative = Negative
+opposite_of PlusOo = MinusOo
+
 abbrev pub value_of : Inside → Extended
 value_of a = number_of a.class (a.mantissa * 2 ^ a.exponent)
 

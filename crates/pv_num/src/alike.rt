@@ -1,11 +1,12 @@
-//! Sums of numbers of one sign, in single words: nothing cancels, so the greater size fixes the exponent.
-ghost use Rattle.std.specs.Prelude.{◌≡◌, ◌↔◌, ◌+◌, ◌*◌, ◌^◌, ◌<◌, ◌≤◌, ◌+ℤ◌, IsTrue, false};
+//! Sums of numbers of one sign, in single words: nothing cancels, so the greater size fixes the exponent, and the class
+//! of the sum is that of both numbers.
+ghost use Rattle.std.specs.Prelude.{◌≡◌, ◌↔◌, ℕ, ◌+◌, ◌*◌, ◌^◌, ◌<◌, ◌≤◌, ◌+ℤ◌, IsTrue, Some, true, false};
 ghost use Rattle.pv_num.specs.Rounding.{rounded};
-ghost use Rattle.pv_num.specs.Sizes.{size_of, IsSized, whole_of, is_infinite_of, is_negative_of};
+ghost use Rattle.pv_num.specs.Sizes.{size_of, IsSized, IsWhole, whole_of, with_sign, is_infinite_of, is_negative_of};
 
 use crate::magnitude::{Magnitude, TOP_EXPONENT, Toward};
 use crate::num::{End, Num, signed, toward};
-use crate::round::{beyond, next};
+use crate::round::beyond;
 
 // The sum of finite numbers of one sign.
 #[inline(always)]
@@ -15,63 +16,69 @@ pub(crate) fn alike_sum(a: Num, b: Num, side: End) -> Num
     requires alike { is_negative_of a ≡ is_negative_of b }
     ensures { result ≡ rounded side (whole_of a +ℤ whole_of b) 1 }
 {
-    let negative = a.is_negative();
     let (x, y) = (a.size(), b.size());
-    let size = size_sum(x, y, toward(side, negative));
-    signed(negative, size)
-}
-
-#[inline(always)]
-fn size_sum(x: Magnitude, y: Magnitude, toward: Toward) -> Option<Magnitude>
-    ensures { IsSized toward (size_of x + size_of y) 1 result }
-{
     if x.exponent < y.exponent {
-        ordered_sum(y, x, toward)
+        ordered_sum(a, y, x, side)
     } else {
-        ordered_sum(x, y, toward)
+        ordered_sum(a, x, y, side)
     }
 }
 
+// The sum of two sizes, as a number of the sign that `like` has.
 #[inline(always)]
-fn ordered_sum(x: Magnitude, y: Magnitude, toward: Toward) -> Option<Magnitude>
+fn ordered_sum(like: Num, x: Magnitude, y: Magnitude, side: End) -> Num
+    requires finite { is_infinite_of like ≡ false }
+    requires not_zero { is_negative_of like ≡ true → 0 < size_of x }
     requires ordered { y.exponent ≤ x.exponent }
-    ensures { IsSized toward (size_of x + size_of y) 1 result }
+    ensures { result ≡ rounded side (with_sign (is_negative_of like) (size_of x + size_of y)) 1 }
 {
-    let part = shifted(y.mantissa, x.exponent - y.exponent);
-    let sum = x.mantissa + part.0;
-    if sum < 0x4000_0000_0000_0000 {
-        return next(sum, x.exponent, part.1, toward);
+    let negative = like.is_negative();
+    let toward = toward(side, negative);
+    let sum = x.mantissa + whole(y.mantissa, x.exponent - y.exponent, toward);
+    if sum >= 0x4000_0000_0000_0000 && x.exponent == TOP_EXPONENT {
+        return signed(negative, beyond(toward));
     }
-    if x.exponent == TOP_EXPONENT {
-        return beyond(toward);
-    }
-    let half = halved(sum, part.1);
-    next(half.0, x.exponent + 1, half.1, toward)
+    like.with_size(fitted(sum, x.exponent, toward))
 }
 
-// The whole part of `mantissa / 2^distance`, and whether nothing is left.
-#[inline]
-pub(crate) fn shifted(mantissa: u64, distance: u16) -> (u64, bool)
-    requires { mantissa < 2 ^ 62 }
-    ensures fits { result.0 < 2 ^ 62 }
-    ensures below { result.0 * 2 ^ distance ≤ mantissa }
-    ensures above { mantissa < (result.0 + 1) * 2 ^ distance }
-    ensures exact { IsTrue result.1 ↔ (result.0 * 2 ^ distance ≡ mantissa) }
+// The size of a value of 62 or 63 bits that was rounded to a whole number of units.
+#[inline(always)]
+pub(crate) fn fitted(word: u64, exponent: u16, toward: Toward) -> Magnitude
+    requires fits { word + 1 < 2 ^ 63 }
+    requires exponent_fits { exponent ≤ 962 }
+    requires room { 2 ^ 62 ≤ word → exponent < 962 }
+    requires justified { 0 < exponent → 2 ^ 61 ≤ word }
+    ensures not_zero { 0 < word → 0 < size_of result }
+    ensures sized { (v : ℕ) (b : ℕ) → 0 < b → (0 < exponent → 2 ^ 61 * (2 ^ exponent * b) ≤ v) → IsWhole toward v (2 ^ exponent * b) word → IsSized toward v b (Some result) }
 {
-    if distance >= 64 {
-        return (0, mantissa == 0);
+    if word < 0x4000_0000_0000_0000 {
+        return Magnitude {
+            mantissa: word,
+            exponent,
+        };
     }
-    let kept = mantissa >> distance;
-    (kept, kept << distance == mantissa)
+    Magnitude {
+        mantissa: whole(word, 1, toward),
+        exponent: exponent + 1,
+    }
 }
 
-// Half of a sum, and whether nothing is left of it nor was before.
-#[inline]
-pub(crate) fn halved(sum: u64, exact: bool) -> (u64, bool)
-    ensures below { result.0 * 2 ≤ sum }
-    ensures above { sum < (result.0 + 1) * 2 }
-    ensures exact { IsTrue result.1 ↔ (IsTrue exact × (result.0 * 2 ≡ sum)) }
+// `mantissa / 2^distance` as a whole number.
+#[inline(always)]
+pub(crate) fn whole(mantissa: u64, distance: u16, toward: Toward) -> u64
+    requires { mantissa < 2 ^ 63 }
+    ensures fits { result ≤ mantissa }
+    ensures whole { IsWhole toward mantissa (2 ^ distance) result }
 {
-    let half = sum / 2;
-    (half, exact && half * 2 == sum)
+    let up = toward.up() as i64;
+    (((mantissa as i64 - up) >> reach(distance)) + up) as u64
+}
+
+// A distance of 63 leaves nothing of a mantissa, as do all further ones.
+#[inline(always)]
+fn reach(distance: u16) -> u16
+    ensures near { distance < 63 → result ≡ distance }
+    ensures far { 63 ≤ distance → result ≡ 63 }
+{
+    if distance < 63 { distance } else { 63 }
 }

@@ -1,11 +1,37 @@
 //! Sizes of numbers.
-ghost use Rattle.std.specs.Prelude.{◌^◌, ◌<◌, ◌≤◌};
+ghost use Rattle.std.specs.Prelude.{◌≡◌, ◌^◌, ◌<◌, ◌≤◌};
 
 /// Which of the two sizes next to an exact one is taken.
 #[derive(Clone, Copy, Debug, PartialEq, Eq)]
 pub(crate) enum Toward {
     Zero,
     Away,
+}
+
+impl Toward {
+    // The way in which a part is rounded that is taken off.
+    #[inline(always)]
+    pub(crate) fn other(self) -> Toward
+        ensures zero { self ≡ Toward.Zero → result ≡ Toward.Away }
+        ensures away { self ≡ Toward.Away → result ≡ Toward.Zero }
+    {
+        match self {
+            Toward::Zero => Toward::Away,
+            Toward::Away => Toward::Zero,
+        }
+    }
+
+    // What is taken off before a shift to the right, and put on behind it.
+    #[inline(always)]
+    pub(crate) fn up(self) -> u64
+        ensures zero { self ≡ Toward.Zero → result ≡ 0 }
+        ensures away { self ≡ Toward.Away → result ≡ 1 }
+    {
+        match self {
+            Toward::Zero => 0,
+            Toward::Away => 1,
+        }
+    }
 }
 
 /// The size mantissa * 2^(exponent - 512), left-justified.

@@ -1,7 +1,8 @@
 //! The number type.
-ghost use Rattle.std.specs.Prelude.{◌≡◌, ◌↔◌, ◌^◌, ◌*◌, ◌-◌, ◌<◌, pos, IsTrue};
+ghost use Rattle.std.specs.Prelude.{◌≡◌, ◌↔◌, ◌≢◌, ◌^◌, ◌*◌, ◌-◌, ◌<◌, pos, IsTrue, Some, true, false};
 ghost use Rattle.pv_num.specs.Extended.{Fin};
 ghost use Rattle.pv_num.specs.Arithmetic.{neg_of, abs_of};
+ghost use Rattle.pv_num.specs.View.{opposite_of};
 ghost use Rattle.pv_num.specs.Sizes.{size_of, magnitude_of, is_negative_of, is_infinite_of, infinite_of, signed_of, toward_of};
 
 use crate::magnitude::{Magnitude, Toward};
@@ -22,6 +23,21 @@ pub(crate) enum Class {
     Negative,
     NonNegative,
     PlusOo,
+}
+
+impl Class {
+    // The class of a number that is not zero with the other sign.
+    #[inline(always)]
+    fn opposite(self) -> Class
+        ensures { result ≡ opposite_of self }
+    {
+        match self {
+            Class::MinusOo => Class::PlusOo,
+            Class::Negative => Class::NonNegative,
+            Class::NonNegative => Class::Negative,
+            Class::PlusOo => Class::MinusOo,
+        }
+    }
 }
 
 /// A number m * 2^e with whole m below 2^62 in size and e from -512 to 450, or one of the two infinite ends.
@@ -90,20 +106,13 @@ impl Num {
     pub fn neg(self) -> Num
         ensures { result ≡ neg_of self }
     {
-        match self.class {
-            Class::MinusOo => Num::POS_INF,
-            Class::Negative => Num {
-                class: Class::NonNegative,
-                exponent: self.exponent,
-                mantissa: self.mantissa,
-            },
-            Class::NonNegative if self.mantissa == 0 => self,
-            Class::NonNegative => Num {
-                class: Class::Negative,
-                exponent: self.exponent,
-                mantissa: self.mantissa,
-            },
-            Class::PlusOo => Num::NEG_INF,
+        if self.is_zero() {
+            return self;
+        }
+        Num {
+            class: self.class.opposite(),
+            exponent: self.exponent,
+            mantissa: self.mantissa,
         }
     }
 
@@ -147,6 +156,17 @@ impl Num {
         }
     }
 
+    // Whether this is a finite number of the sign that a finite one has.
+    #[inline(always)]
+    pub(crate) fn is_alike(self, other: Num) -> bool
+        requires other_finite { is_infinite_of other ≡ false }
+        ensures finite { IsTrue result → is_infinite_of self ≡ false }
+        ensures alike { IsTrue result → is_negative_of self ≡ is_negative_of other }
+        ensures unlike { result ≡ false → is_infinite_of self ≡ false → is_negative_of self ≢ is_negative_of other }
+    {
+        self.class == other.class
+    }
+
     #[inline]
     pub(crate) fn is_zero(self) -> bool
         ensures { IsTrue result ↔ (self ≡ Fin (pos 0)) }
@@ -164,6 +184,20 @@ impl Num {
         Magnitude {
             mantissa: self.mantissa,
             exponent: self.exponent,
+        }
+    }
+
+    // The number of this one's sign with another size.
+    #[inline(always)]
+    pub(crate) fn with_size(self, size: Magnitude) -> Num
+        requires finite { is_infinite_of self ≡ false }
+        requires not_zero { is_negative_of self ≡ true → 0 < size_of size }
+        ensures { result ≡ signed_of (is_negative_of self) (Some size) }
+    {
+        Num {
+            class: self.class,
+            exponent: size.exponent,
+            mantissa: size.mantissa,
         }
     }
 }
@@ -197,6 +231,27 @@ pub(crate) fn signed(negative: bool, size: Option<Magnitude>) -> Num
                     mantissa: m.mantissa,
                 }
             }
+        }
+    }
+}
+
+// The number of a sign and a size that is not 0.
+#[inline(always)]
+pub(crate) fn nonzero(negative: bool, size: Magnitude) -> Num
+    requires { 0 < size_of size }
+    ensures { result ≡ signed_of negative (Some size) }
+{
+    if negative {
+        Num {
+            class: Class::Negative,
+            exponent: size.exponent,
+            mantissa: size.mantissa,
+        }
+    } else {
+        Num {
+            class: Class::NonNegative,
+            exponent: size.exponent,
+            mantissa: size.mantissa,
         }
     }
 }

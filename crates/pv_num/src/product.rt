@@ -1,19 +1,23 @@
 //! Products and powers.
-ghost use Rattle.std.specs.Prelude.{◌≡◌, ◌↔◌, ◌+◌, ◌*◌, ◌^◌, ◌<◌, ◌≤◌, ◌⊎◌, pos, IsTrue, true};
+ghost use Rattle.std.specs.Prelude.{◌≡◌, ◌↔◌, ◌+◌, ◌*◌, ◌^◌, ◌<◌, ◌≤◌, ◌⊎◌, pos, IsTrue, Some, true};
 ghost use Rattle.pv_num.specs.Extended.{Fin};
 ghost use Rattle.pv_num.specs.Order.{le};
 ghost use Rattle.pv_num.specs.Grid.{unit};
-ghost use Rattle.pv_num.specs.Sizes.{size_of, is_infinite_of, IsSized};
+ghost use Rattle.pv_num.specs.Rounding.{rounded};
+ghost use Rattle.pv_num.specs.Sizes.{size_of, is_infinite_of, with_sign, IsSized, IsWhole};
 ghost use Rattle.pv_num.specs.Arithmetic.{mul_of, pow_of};
 ghost use Rattle.pv_num.specs.declared.num.End.{End as EndOf};
 
-use crate::alike::halved;
+use crate::alike::{fitted, whole};
 use crate::magnitude::{Magnitude, Toward};
-use crate::num::{End, Num, infinite, signed, toward};
-use crate::round::{next, round};
+use crate::num::{End, Num, infinite, nonzero, signed, toward};
+use crate::round::round;
 
 // From here on a product of mantissas has all bits that a rounded one needs.
 const FULL: u128 = 0x400_0000_0000_0000_0000_0000_0000_0000;
+
+// From here on it has a bit more.
+const LONG: u128 = 0x800_0000_0000_0000_0000_0000_0000_0000;
 
 // Sums of exponents between which a full product is neither near 0 nor above all sizes.
 const LEAST_SCALE: u16 = 451;
@@ -32,9 +36,8 @@ impl Num {
         if other.is_infinite() {
             return infinite_product(self, other);
         }
-        let negative = self.is_negative() ^ other.is_negative();
-        let size = product(self.size(), other.size(), toward(side, negative));
-        signed(negative, size)
+        let negative = !self.is_alike(other);
+        product(negative, self.size(), other.size(), side)
     }
 
     /// The n-th power of a number that is not negative: n - 1 products, each rounded to the side, from the left.
@@ -68,16 +71,18 @@ fn infinite_product(a: Num, b: Num) -> Num
     infinite(a.is_negative() ^ b.is_negative())
 }
 
+// The product of two sizes, as a number of a sign.
 #[inline(always)]
-fn product(x: Magnitude, y: Magnitude, toward: Toward) -> Option<Magnitude>
-    ensures { IsSized toward (size_of x * size_of y) unit result }
+fn product(negative: bool, x: Magnitude, y: Magnitude, side: End) -> Num
+    ensures { result ≡ rounded side (with_sign negative (size_of x * size_of y)) unit }
 {
+    let toward = toward(side, negative);
     let parts = x.mantissa as u128 * y.mantissa as u128;
     let scale = x.exponent + y.exponent;
     if parts < FULL || scale < LEAST_SCALE || scale > GREATEST_SCALE {
-        return rare_product(parts, scale, toward);
+        return signed(negative, rare_product(parts, scale, toward));
     }
-    full_product(parts, scale, toward)
+    nonzero(negative, full_product(parts, scale, toward))
 }
 
 // A product that is small, or near 0, or above all sizes.
@@ -92,30 +97,35 @@ fn rare_product(parts: u128, scale: u16, toward: Toward) -> Option<Magnitude>
 
 // A product of 123 or 124 bits.
 #[inline(always)]
-fn full_product(parts: u128, scale: u16, toward: Toward) -> Option<Magnitude>
+fn full_product(parts: u128, scale: u16, toward: Toward) -> Magnitude
     requires full { 2 ^ 122 ≤ parts }
-    requires fits { parts < 2 ^ 124 }
+    requires fits { parts + 2 ^ 62 ≤ 2 ^ 124 }
     requires scale_high { 451 ≤ scale }
     requires scale_fits { scale ≤ 1412 }
-    ensures { IsSized toward (parts * 2 ^ scale) unit result }
+    ensures not_zero { 0 < size_of result }
+    ensures sized { IsSized toward (parts * 2 ^ scale) unit (Some result) }
 {
-    let kept = cut(parts);
+    let word = cut(parts, toward);
     let exponent = scale - LEAST_SCALE;
-    if kept.0 < 0x4000_0000_0000_0000 {
-        return next(kept.0, exponent, kept.1, toward);
+    if parts >= LONG {
+        return Magnitude {
+            mantissa: whole(word, 1, toward),
+            exponent: exponent + 1,
+        };
     }
-    let half = halved(kept.0, kept.1);
-    next(half.0, exponent + 1, half.1, toward)
+    fitted(word, exponent, toward)
 }
 
-// The whole part of `parts / 2^61`, and whether nothing is left.
-#[inline]
-fn cut(parts: u128) -> (u64, bool)
-    requires { parts < 2 ^ 124 }
-    ensures below { result.0 * 2 ^ 61 ≤ parts }
-    ensures above { parts < (result.0 + 1) * 2 ^ 61 }
-    ensures exact { IsTrue result.1 ↔ (result.0 * 2 ^ 61 ≡ parts) }
+// `parts / 2^61` as a whole number.
+#[inline(always)]
+fn cut(parts: u128, toward: Toward) -> u64
+    requires full { 2 ^ 122 ≤ parts }
+    requires fits { parts + 2 ^ 62 ≤ 2 ^ 124 }
+    ensures full { 2 ^ 61 ≤ result }
+    ensures long { 2 ^ 123 ≤ parts → 2 ^ 62 ≤ result }
+    ensures fits { result + 1 < 2 ^ 63 }
+    ensures whole { IsWhole toward parts (2 ^ 61) result }
 {
-    let kept = parts >> 61;
-    (kept as u64, kept << 61 == parts)
+    let up = toward.up();
+    ((parts - up as u128) >> 61) as u64 + up
 }

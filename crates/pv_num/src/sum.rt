@@ -21,14 +21,14 @@ impl Num {
     pub fn add(self, other: Num, side: End) -> Num
         ensures { result ≡ add_of side self other }
     {
-        if self.is_infinite() {
-            return infinite_sum(self, other, side);
-        }
         if other.is_infinite() {
             return infinite_sum(self, other, side);
         }
-        if self.is_negative() == other.is_negative() {
+        if self.is_alike(other) {
             return alike_sum(self, other, side);
+        }
+        if self.is_infinite() {
+            return infinite_sum(self, other, side);
         }
         unlike_sum(self, other, side)
     }
@@ -174,7 +174,7 @@ fn ordered_total(x: Magnitude, y: Magnitude, at: u16, toward: Toward) -> Option<
 }
 
 #[inline]
-pub(crate) fn difference(x: Magnitude, y: Magnitude, at: u16, toward: Toward) -> Option<Magnitude>
+fn difference(x: Magnitude, y: Magnitude, at: u16, toward: Toward) -> Option<Magnitude>
     requires at_high { 1023 ≤ at }
     requires at_fits { at ≤ 1024 }
     requires ordered { size_of y ≤ size_of x }

@@ -1,16 +1,13 @@
-//! Sums of numbers of opposite signs, in single words: two bits below the greater mantissa are all that rounding needs.
-ghost use Rattle.std.specs.Prelude.{◌≡◌, ◌↔◌, ◌≢◌, ℕ, ◌+◌, ◌-◌, ◌*◌, ◌^◌, ◌<◌, ◌≤◌, ◌+ℤ◌, IsTrue, Some, false};
+//! Sums of numbers of opposite signs, in single words: one bit below the greater mantissa is all that rounding needs.
+ghost use Rattle.std.specs.Prelude.{◌≡◌, ◌↔◌, ◌≢◌, ◌+◌, ◌-◌, ◌*◌, ◌^◌, ◌<◌, ◌≤◌, ◌+ℤ◌, IsTrue, Some, false};
 ghost use Rattle.pv_num.specs.Rounding.{rounded};
-ghost use Rattle.pv_num.specs.Sizes.{size_of, IsSized, whole_of, is_infinite_of, is_negative_of};
+ghost use Rattle.pv_num.specs.Sizes.{size_of, IsSized, IsWhole, whole_of, is_infinite_of, is_negative_of};
 
-use crate::alike::{halved, shifted};
-use crate::magnitude::{FINE_BITS, Magnitude, Toward};
+use crate::alike::{fitted, whole};
+use crate::magnitude::{Magnitude, Toward};
 use crate::num::{End, Num, signed, toward};
-use crate::round::{bit_length, next};
-use crate::sum::{difference, is_smaller};
-
-// How many bits a word has above a mantissa.
-const GUARD_BITS: u16 = 2;
+use crate::round::bit_length;
+use crate::sum::is_smaller;
 
 // The sum of finite numbers of opposite signs.
 #[inline(always)]
@@ -45,51 +42,29 @@ fn size_difference(x: Magnitude, y: Magnitude, toward: Toward) -> Magnitude
     requires ordered { size_of y ≤ size_of x }
     ensures { IsSized toward (size_of x - size_of y) 1 (Some result) }
 {
-    if x.exponent < GUARD_BITS {
-        return difference(x, y, FINE_BITS, toward).unwrap();
+    if x.exponent == 0 {
+        return justified(x.mantissa - y.mantissa, 0);
     }
-    let exponent = x.exponent - GUARD_BITS;
-    let part = raised_part(y, exponent);
-    fitted(x.mantissa * 4 - part.0, exponent, part.1, toward).unwrap()
+    let exponent = x.exponent - 1;
+    let word = x.mantissa * 2 - units(y, exponent, toward.other());
+    if word < 0x2000_0000_0000_0000 {
+        return justified(word, exponent);
+    }
+    fitted(word, exponent, toward)
 }
 
-// The least whole part of `size / 2^exponent` that is not below it, and whether it is that.
-#[inline]
-fn raised_part(size: Magnitude, exponent: u16) -> (u64, bool)
-    requires near { size.exponent ≤ exponent + 2 }
-    ensures above { size_of size ≤ result.0 * 2 ^ exponent }
-    ensures below { result.0 * 2 ^ exponent < size_of size + 2 ^ exponent }
-    ensures exact { IsTrue result.1 ↔ (result.0 * 2 ^ exponent ≡ size_of size) }
-    ensures few { result.1 ≡ false → result.0 ≤ 2 ^ 62 }
+// A size as a whole number of 2^exponent.
+#[inline(always)]
+fn units(size: Magnitude, exponent: u16, toward: Toward) -> u64
+    requires near { size.exponent ≤ exponent + 1 }
+    ensures whole { IsWhole toward (size_of size) (2 ^ exponent) result }
+    ensures exact { exponent ≤ size.exponent → result * 2 ^ exponent ≡ size_of size }
+    ensures few { size.exponent < exponent → result ≤ 2 ^ 61 }
 {
-    if exponent <= size.exponent {
-        return (size.mantissa << (size.exponent - exponent), true);
+    if exponent < size.exponent {
+        return size.mantissa * 2;
     }
-    let kept = shifted(size.mantissa, exponent - size.exponent);
-    if kept.1 {
-        (kept.0, true)
-    } else {
-        (kept.0 + 1, false)
-    }
-}
-
-// The rounding of a value that is `word * 2^exponent`, or lies between that and the next.
-#[inline]
-fn fitted(word: u64, exponent: u16, exact: bool, toward: Toward) -> Option<Magnitude>
-    requires exponent_fits { exponent ≤ 960 }
-    requires full { exact ≡ false → 2 ^ 62 ≤ word }
-    ensures { (v : ℕ) → word * 2 ^ exponent ≤ v → v < (word + 1) * 2 ^ exponent → (IsTrue exact ↔ (word * 2 ^ exponent ≡ v)) → IsSized toward v 1 result }
-{
-    if word < 0x4000_0000_0000_0000 {
-        return Some(justified(word, exponent));
-    }
-    let above = exponent + 1;
-    let half = halved(word, exact);
-    if half.0 < 0x4000_0000_0000_0000 {
-        return next(half.0, above, half.1, toward);
-    }
-    let quarter = halved(half.0, half.1);
-    next(quarter.0, above + 1, quarter.1, toward)
+    whole(size.mantissa, exponent - size.exponent, toward)
 }
 
 // The size of a mantissa that may begin with zeros.

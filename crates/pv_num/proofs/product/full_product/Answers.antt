@@ -1,24 +1,18 @@
-use Rattle.std.proofs.Common.{◌≡◌, ◌+◌, ◌-◌, arith}
-use Rattle.pv_num.proofs.AlikeSums.{half_low, half_high, half_exact}
-use Rattle.pv_num.proofs.Products.{cut_sized}
+use Rattle.std.proofs.Common.{rules, ◌≡◌, ◌+◌, ◌-◌, arith, refl}
+use Rattle.pv_num.specs.Grid.{unit}
+use Rattle.pv_num.proofs.Fitted.{half_sized}
+use Rattle.pv_num.proofs.Products.{cut_in_units, full_in_units}
+use Rattle.pv_num.proofs.Scales.{unit_pos}
 use Rattle.pv_num.proofs.product.full_product.Goals as goal
 
-pub returns-then-kept-lt4611686018427387904 : goal.returns-then-kept-lt4611686018427387904
-returns-then-kept-lt4611686018427387904 c =
+pub returns-then-parts-ge-LONG-clause-sized : goal.returns-then-parts-ge-LONG-clause-sized
+returns-then-parts-ge-LONG-clause-sized c =
     let q : 61 + c.args.scale ≡ c.args.scale - 451 + 512 = omega (arith, c.requires.scale_high) in
-    cut_sized c.args.toward c.cut-kept.result.0 61 (c.args.scale - 451) c.args.scale c.args.parts c.cut-kept.result.1 c.next.result q
-    c.if-kept-lt4611686018427387904.true (omega (arith, c.requires.scale_fits)) (λ _. omega (arith, c.requires.full, c.cut-kept.ensures.above))
-    c.cut-kept.ensures.below c.cut-kept.ensures.above c.cut-kept.ensures.exact
-    c.next.ensures.kept_exact c.next.ensures.kept_zero c.next.ensures.raised
+    half_sized c.args.toward c.cut-word.result c.whole.result (c.args.scale - 451) _ unit _ refl unit_pos (c.cut-word.ensures.long c.if-parts-ge-LONG.true) (search rules) (search rules)
+    (cut_in_units c.args.toward c.args.parts (c.args.scale - 451) c.args.scale c.cut-word.result q c.cut-word.ensures.whole) c.whole.ensures.whole
 
-pub returns : goal.returns
-returns c =
-    let q : 62 + c.args.scale ≡ c.args.scale - 451 + 1 + 512 = omega (arith, c.requires.scale_high) in
-    cut_sized c.args.toward c.halved-half.result.0 62 (c.args.scale - 451 + 1) c.args.scale c.args.parts c.halved-half.result.1 c.next-2.result q
-    (omega (arith, c.halved-half.ensures.below, c.cut-kept.ensures.below, c.requires.fits)) (omega (arith, c.requires.scale_fits))
-    (λ _. omega (arith, c.halved-half.ensures.above, c.if-kept-lt4611686018427387904.false))
-    (half_low c.cut-kept.result.0 c.halved-half.result.0 61 c.args.parts c.halved-half.ensures.below c.cut-kept.ensures.below)
-    (half_high c.cut-kept.result.0 c.halved-half.result.0 61 c.args.parts c.halved-half.ensures.above c.cut-kept.ensures.above)
-    (half_exact c.cut-kept.result.0 c.halved-half.result.0 61 c.args.parts c.cut-kept.result.1 c.halved-half.result.1 c.halved-half.ensures.below c.cut-kept.ensures.below
-    c.cut-kept.ensures.exact c.halved-half.ensures.exact)
-    c.next-2.ensures.kept_exact c.next-2.ensures.kept_zero c.next-2.ensures.raised
+pub returns-clause-sized : goal.returns-clause-sized
+returns-clause-sized c =
+    let q : 61 + c.args.scale ≡ c.args.scale - 451 + 512 = omega (arith, c.requires.scale_high) in
+    c.fitted.ensures.sized _ unit unit_pos (λ _. full_in_units c.args.parts (c.args.scale - 451) c.args.scale q c.requires.full)
+    (cut_in_units c.args.toward c.args.parts (c.args.scale - 451) c.args.scale c.cut-word.result q c.cut-word.ensures.whole)
