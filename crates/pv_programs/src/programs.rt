@@ -1,23 +1,18 @@
 // What programs leave of boxes, where they are sure, and how many revisions they need, with values from exact fractions.
-ghost use Rattle.std.specs.Prelude.{◌≡◌, ◌<◌, None, length, IfSome};
+ghost use Rattle.std.specs.Prelude.{◌≡◌, ◌<◌, None};
 
 use crate::table;
 use pv_box::IBox;
+use pv_cases::{Ends, domains, is_left};
 use pv_ctc::{Counter, Graphs, Program};
 use pv_expr::System;
 use pv_hc4::{Graph, Revised, Scratch, Steps};
-use pv_interval::Interval;
-use pv_num::{Memory, Num};
+use pv_num::Memory;
 use pv_parse::parse;
 use std::alloc::Global;
 use std::marker::Brand;
 use std::process::Abort;
 use std::sync::ledger::{Blank, Ledger};
-
-// A mantissa and an exponent; the exponent 999 stands for an infinite end.
-pub(crate) type Spelled = (i64, i16);
-
-pub(crate) type Ends = (Spelled, Spelled);
 
 // What is left of a box.
 pub(crate) enum Left {
@@ -28,40 +23,6 @@ pub(crate) enum Left {
 // A system of two variables, a program, what it leaves of the domains, whether it is sure on them, and how many
 // revisions the contraction needs.
 pub(crate) type Case = (&'static str, &'static str, Left, bool, u64);
-
-fn spelled((m, e): Spelled) -> Option<Num> {
-    if e == 999 {
-        return Some(if m < 0 { Num::NEG_INF } else { Num::POS_INF });
-    }
-    Num::fin(m, e)
-}
-
-fn interval((lo, hi): Ends) -> Option<Interval> {
-    Interval::new(spelled(lo)?, spelled(hi)?)
-}
-
-// The box of a system's domains.
-fn domains(alloc: Global, system: &System) -> Option<IBox>
-    ensures { IfSome result (λ b. length b ≡ length system.now.names) }
-{
-    let dims = system.variable_count();
-    let mut parts = Vec::new(alloc);
-    for i in 0..dims {
-        parts.push(system.search_interval(i)).ok()?;
-    }
-    let count = parts.len();
-    if count == 0 || 12 < count || count != dims as usize {
-        return None;
-    }
-    Some(IBox::new(parts))
-}
-
-fn is_left(bx: &IBox, x: Ends, y: Ends) -> Option<bool> {
-    if bx.dims() != 2 {
-        return None;
-    }
-    Some(bx.get(0) == interval(x)? && bx.get(1) == interval(y)?)
-}
 
 // Counts revisions in a number that a test can read.
 #[derive(Drop)]

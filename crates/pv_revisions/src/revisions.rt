@@ -2,7 +2,7 @@
 ghost use Rattle.std.specs.Prelude.{◌≡◌, length, IfSome};
 
 use crate::table;
-use pv_box::IBox;
+use pv_cases::{Ends, domains, is_left};
 use pv_expr::System;
 use pv_hc4::{Graph, Revised};
 use pv_interval::Interval;
@@ -10,11 +10,6 @@ use pv_num::Num;
 use pv_parse::parse;
 use std::alloc::Global;
 use std::process::Abort;
-
-// A mantissa and an exponent; the exponent 999 stands for an infinite end.
-pub(crate) type Spelled = (i64, i16);
-
-pub(crate) type Ends = (Spelled, Spelled);
 
 // What is left of a box.
 pub(crate) enum Left {
@@ -26,33 +21,6 @@ pub(crate) enum Left {
 // A system of two variables, what a revision leaves of its domains, and whether its constraint is sure there.
 pub(crate) type Case = (&'static str, Left, bool);
 
-fn spelled((m, e): Spelled) -> Option<Num> {
-    if e == 999 {
-        return Some(if m < 0 { Num::NEG_INF } else { Num::POS_INF });
-    }
-    Num::fin(m, e)
-}
-
-fn interval((lo, hi): Ends) -> Option<Interval> {
-    Interval::new(spelled(lo)?, spelled(hi)?)
-}
-
-// The box of a system's domains.
-fn domains(alloc: Global, system: &System) -> Option<IBox>
-    ensures { IfSome result (λ b. length b ≡ length system.now.names) }
-{
-    let dims = system.variable_count();
-    let mut parts = Vec::new(alloc);
-    for i in 0..dims {
-        parts.push(system.search_interval(i)).ok()?;
-    }
-    let count = parts.len();
-    if count == 0 || 12 < count || count != dims as usize {
-        return None;
-    }
-    Some(IBox::new(parts))
-}
-
 fn first_graph(alloc: Global, system: &System) -> Option<Graph>
     ensures { IfSome result (λ g. g.dims ≡ length system.now.names) }
 {
@@ -60,13 +28,6 @@ fn first_graph(alloc: Global, system: &System) -> Option<Graph>
         return None;
     }
     Graph::of(alloc, system.constraint(0), system.variable_count()).ok()
-}
-
-fn is_left(bx: &IBox, x: Ends, y: Ends) -> Option<bool> {
-    if bx.dims() != 2 {
-        return None;
-    }
-    Some(bx.get(0) == interval(x)? && bx.get(1) == interval(y)?)
 }
 
 // Whether the program answers what the case says.
