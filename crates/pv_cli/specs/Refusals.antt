@@ -2,8 +2,7 @@
 use Rattle.std.specs.Prelude.{ℕ, List, [], ◌∷◌, ◌++◌, codes, decimal}
 use Rattle.pv_cli.specs.declared.status.Status.{Status}
 use Rattle.pv_cli.specs.declared.status.Status.TheVariants as status
-use Rattle.pv_grammar.specs.declared.cause.Cause.{Cause}
-use Rattle.pv_grammar.specs.declared.cause.Cause.TheVariants.{BadByte, NumberTooWide, NotInProfile, UnknownName, DuplicateName, BadExponent, TooManyVariables, TooManyConstraints, TooDeep, Unexpected, EndOfText, BadBounds, TextTooLong, TooLarge, TooManyFunctions}
+use Rattle.pv_grammar.specs.Messages.{cause_name}
 use Rattle.pv_cli.specs.declared.refusal.Refusal.{Refusal}
 use Rattle.pv_cli.specs.declared.refusal.Refusal.TheVariants.{Usage, System, Contract, ReadFault, WriteFault, Memory, NoFile}
 
@@ -15,23 +14,6 @@ status_of ReadFault = status.ReadFault
 status_of WriteFault = status.WriteFault
 status_of Memory = status.WantOfMemory
 status_of NoFile = status.NoFile
-
-abbrev pub cause_name : Cause → List ℕ
-cause_name BadByte = codes "BadByte"
-cause_name NumberTooWide = codes "NumberTooWide"
-cause_name NotInProfile = codes "NotInProfile"
-cause_name UnknownName = codes "UnknownName"
-cause_name DuplicateName = codes "DuplicateName"
-cause_name BadExponent = codes "BadExponent"
-cause_name TooManyVariables = codes "TooManyVariables"
-cause_name TooManyConstraints = codes "TooManyConstraints"
-cause_name TooDeep = codes "TooDeep"
-cause_name Unexpected = codes "Unexpected"
-cause_name EndOfText = codes "EndOfText"
-cause_name BadBounds = codes "BadBounds"
-cause_name TextTooLong = codes "TextTooLong"
-cause_name TooLarge = codes "TooLarge"
-cause_name TooManyFunctions = codes "TooManyFunctions"
 
 -- the words of the line, where `name` is the name that the command gives for its system
 abbrev pub words_of : Refusal → List ℕ → List ℕ

@@ -1,5 +1,5 @@
 ghost use Rattle.std.specs.Prelude.{◌≡◌, [], ◌++◌, IfOk, OnOk, decimal};
-ghost use Rattle.pv_cli.specs.Refusals.{status_of, cause_name, words_of, line_of};
+ghost use Rattle.pv_cli.specs.Refusals.{status_of, words_of, line_of};
 
 use crate::Status;
 use crate::decimal::push_decimal;
@@ -127,28 +127,6 @@ fn fault_words(
     words.extend_from_slice(b" byte ")?;
     push_decimal(&mut words, u64::from(byte))?;
     words.extend_from_slice(b": ")?;
-    words.extend_from_slice(name_of(cause).as_bytes())?;
+    words.extend_from_slice(cause.name().as_bytes())?;
     Ok(words)
-}
-
-fn name_of(cause: Cause) -> &'static str
-    ensures { result.now ≡ cause_name cause }
-{
-    match cause {
-        Cause::BadByte => "BadByte",
-        Cause::NumberTooWide => "NumberTooWide",
-        Cause::NotInProfile => "NotInProfile",
-        Cause::UnknownName => "UnknownName",
-        Cause::DuplicateName => "DuplicateName",
-        Cause::BadExponent => "BadExponent",
-        Cause::TooManyVariables => "TooManyVariables",
-        Cause::TooManyConstraints => "TooManyConstraints",
-        Cause::TooDeep => "TooDeep",
-        Cause::Unexpected => "Unexpected",
-        Cause::EndOfText => "EndOfText",
-        Cause::BadBounds => "BadBounds",
-        Cause::TextTooLong => "TextTooLong",
-        Cause::TooLarge => "TooLarge",
-        Cause::TooManyFunctions => "TooManyFunctions",
-    }
 }

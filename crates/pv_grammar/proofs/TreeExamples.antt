@@ -1,13 +1,13 @@
 -- That the trees say what they should, by a few examples: each tree with the tokens has the term.
-use Rattle.std.proofs.Common.{◌≡◌, List, [], ◌∷◌, pos, Some, None, refl, sym, ap, ◌∙◌}
-use Rattle.pv_expr.specs.Terms.{Term, constant, difference, negation, one, place, power, product, quotient, sum, two}
+use Rattle.std.proofs.Common.{◌≡◌, List, [], ◌∷◌, pos, Some, refl, sym, ap, ◌∙◌}
+use Rattle.pv_expr.specs.Terms.{difference, negation, one, place, power, product, quotient, sum, two}
 use Rattle.pv_code.specs.declared.fraction.Fraction.{Fraction}
 use Rattle.pv_code.specs.declared.code.Op.TheVariants.{Call}
 use Rattle.pv_code.specs.Expansion.{Meaning}
 use Rattle.pv_grammar.specs.declared.symbol.Fixed.TheVariants.{Minus, Plus, Star, Slash, Caret, Open, Close, Comma}
 use Rattle.pv_grammar.specs.declared.symbol.Symbol.{Symbol}
 use Rattle.pv_grammar.specs.declared.symbol.Symbol.TheVariants.{Fixed as FixedToken, Number, Variable as VariableName, Function as FunctionName}
-use Rattle.pv_grammar.specs.Productions.{Expression, Factor, Function, Term as TermTree, argument, call, expression_symbols, function_of, minus, negative, no_argument, no_factor, no_parameter, no_power, no_semicolon, no_term, number, over, parameter_and, parameter_at, plus, product_of, raised, sum_of, times, to_power, variable_at}
+use Rattle.pv_grammar.specs.Productions.{Expression, Factor, Function, Term as TermTree, argument, call, expression_symbols, function_of, minus, negative, no_argument, no_factor, no_parameter, no_power, no_semicolon, no_term, over, parameter_and, parameter_at, plus, product_of, raised, sum_of, times, to_power, variable_at}
 use Rattle.pv_grammar.specs.Trees.{expression_term, function_meaning}
 use Rattle.pv_grammar.proofs.OneTree.{one_expression_tree}
 
