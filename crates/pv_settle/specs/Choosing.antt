@@ -16,9 +16,6 @@ use Rattle.pv_settle.specs.Geometry.{between}
 some_is : {A : Type 0} (x y : A) → Some x ≡ Some y → x ≡ y
 some_is x y e = cc
 
-CutsInside : Option Extended → Bounds → Type 0
-CutsInside o x = IfSome o (λ a. IsInside a x)
-
 both : (p q : Bool) → (p && q) ≡ true → (p ≡ true) × (q ≡ true)
 both true q h = (refl, h)
 both false q h = absurd (cc)
