@@ -2,12 +2,13 @@
 //! the box of a system's domains.
 #![tactic(auto)]
 
-ghost use Rattle.std.specs.Prelude.{◌≡◌, IfSome, length};
+ghost use Rattle.std.specs.Prelude.{◌≡◌, IfOk, length, map};
+ghost use Rattle.pv_expr.specs.Searches.{search_bounds};
 
 use pv_box::IBox;
 use pv_expr::System;
 use pv_interval::Interval;
-use pv_num::Num;
+use pv_num::{Memory, Num};
 use std::alloc::Global;
 
 /// A mantissa and an exponent; the exponent 999 stands for an infinite end.
@@ -31,15 +32,16 @@ fn interval((lo, hi): Ends) -> Option<Interval> {
     Interval::new(number(lo)?, number(hi)?)
 }
 
-/// The box of a system's domains; None where memory is wanting.
-pub fn domains(alloc: Global, system: &System) -> Option<IBox>
-    ensures dims { IfSome result (λ b. length b ≡ length system.now.names) }
+/// The box of a system's domains, each rounded outward.
+pub fn domains(alloc: Global, system: &System) -> Result<IBox, Memory>
+    ensures dims { IfOk result (λ b. length b ≡ length system.now.names) }
+    ensures intervals { IfOk result (λ b. b ≡ map search_bounds system.now.domains) }
 {
     let mut parts = Vec::new(alloc);
     for i in 0..system.variable_count() {
-        parts.push(system.search_interval(i)).ok()?;
+        parts.push(system.search_interval(i))?;
     }
-    Some(IBox::new(parts))
+    Ok(IBox::new(parts))
 }
 
 /// Whether a box of two places has these ends; None where they are no intervals or the box has other places.

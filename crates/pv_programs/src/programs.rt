@@ -61,7 +61,7 @@ fn work_out<L: Ledger>(alloc: Global, blank: Blank, system: &System, text: &[u8]
 {
     let graphs = Graphs::of(alloc, system).ok()?;
     let program = Program::read(alloc, text, graphs.count()).ok()?;
-    let bx = domains(alloc, system)?;
+    let bx = domains(alloc, system).ok()?;
     let mut steps = Steps::<L>::open(blank);
     let mut tally = Tally { count: 0 };
     Some(Worked {

@@ -34,7 +34,7 @@ fn first_graph(alloc: Global, system: &System) -> Option<Graph>
 fn holds(alloc: Global, case: &Case) -> Option<bool> {
     let system = parse(alloc, case.0.as_bytes()).ok()?;
     let graph = first_graph(alloc, &system)?;
-    let mut bx = domains(alloc, &system)?;
+    let mut bx = domains(alloc, &system).ok()?;
     let sure = graph.sure(alloc, &bx).ok()?;
     let answer = graph.revise(alloc, &mut bx).ok()?;
     let left = match case.1 {
@@ -95,7 +95,7 @@ fn sure_or_not(rt: HostRuntime) {
 fn forward(alloc: Global, text: &str) -> Option<Option<(Interval, bool)>> {
     let system = parse(alloc, text.as_bytes()).ok()?;
     let graph = first_graph(alloc, &system)?;
-    let bx = domains(alloc, &system)?;
+    let bx = domains(alloc, &system).ok()?;
     match graph.forward(alloc, &bx).ok()? {
         Some(f) => Some(Some((f.left, f.total))),
         None => Some(None),
