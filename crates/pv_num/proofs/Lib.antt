@@ -19,6 +19,7 @@ pub mod Scales
 pub mod Searches
 pub mod Signs
 pub mod Sizes
+pub mod Squares
 pub mod Sums
 pub mod Texts
 pub mod UnlikeSums

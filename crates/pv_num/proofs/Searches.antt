@@ -35,7 +35,7 @@ size_at-grid i h = is_grid (mantissa_at i) (exponent_at i) (mantissa_at-fits i) 
 pub size_at-zero : size_at 0 ≡ 0
 size_at-zero = refl
 
-same_block : (i b r : ℕ) → i ≡ b * 2 ^ 61 + r → r < 2 ^ 61 → i / 2 ^ 61 ≡ b
+pub same_block : (i b r : ℕ) → i ≡ b * 2 ^ 61 + r → r < 2 ^ 61 → i / 2 ^ 61 ≡ b
 same_block i b r e h = omega (arith, block_parts i, e)
 
 pub size_at-suc : (i : ℕ) → size_at (suc i) ≡ (mantissa_at i + 1) * 2 ^ exponent_at i

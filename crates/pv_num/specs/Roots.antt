@@ -1,4 +1,4 @@
-use Rattle.std.specs.Prelude.{ℕ, ◌-◌, ◌*◌, ◌/◌, ◌^◌, pos, Bool, not}
+use Rattle.std.specs.Prelude.{◌≡◌, ℕ, ◌+◌, ◌-◌, ◌*◌, ◌/◌, ◌^◌, pos, Bool, true, false, not}
 use Rattle.pv_num.specs.Extended.{Extended, Fin}
 use Rattle.pv_num.specs.Order.{le}
 use Rattle.pv_num.specs.Arithmetic.{pow_of}
@@ -20,3 +20,13 @@ size_at i = mantissa_at i * 2 ^ exponent_at i
 abbrev pub is_reached : End → Extended → ℕ → ℕ → Bool
 is_reached Down z n f = not (le (pow_of Up (Fin (pos f)) n) z)
 is_reached Up z n f = le z (pow_of Down (Fin (pos f)) n)
+
+-- m times 2^k, times 2^512, is w times the square of 2^t
+abbrev pub IsSquareOf : ℕ → ℕ → ℕ → ℕ → Type 0
+IsSquareOf m k w t = m * 2 ^ (k + 512) ≡ w * (2 ^ t * 2 ^ t)
+
+-- the first index whose square is beyond a number, by the index of the whole part of its root
+abbrev pub first_index : End → Bool → ℕ → ℕ
+first_index Down exact i = i + 1
+first_index Up true i = i
+first_index Up false i = i + 1

@@ -1,4 +1,4 @@
-use Rattle.std.specs.Prelude.{suc, zero, ℕ, ◌+◌, ◌-◌, ◌*◌, ◌/◌, ◌%◌, ◌^◌, ◌==◌, ℤ, pos, negsuc, neg_ℤ, ◌*ℤ◌, ◌<ℤ◌, ◌≤ℤ◌, Bool, ◌&&◌, ◌||◌, cond, nat_lt, Option, Some, None}
+use Rattle.std.specs.Prelude.{◌≡◌, suc, zero, ℕ, ◌+◌, ◌-◌, ◌*◌, ◌/◌, ◌%◌, ◌^◌, ◌==◌, ℤ, pos, negsuc, neg_ℤ, ◌*ℤ◌, ◌<ℤ◌, ◌≤ℤ◌, Bool, ◌&&◌, ◌||◌, cond, nat_lt, Option, Some, None}
 use Rattle.pv_num.specs.Extended.{Extended, NegInf, Fin, PosInf}
 use Rattle.pv_num.specs.Grid.{IsGrid}
 use Rattle.pv_num.specs.declared.num.End.{End}
@@ -79,3 +79,8 @@ rounded Down (pos n) b = Fin (pos (size_below (n / b)))
 rounded Down (negsuc n) b = at_most_minus (size_above ((suc n + (b - 1)) / b))
 rounded Up (pos n) b = at_least_plus (size_above ((n + (b - 1)) / b))
 rounded Up (negsuc n) b = Fin (neg_ℤ (pos (size_below (suc n / b))))
+
+-- Of each ratio `rounded` is the rounded number, and the only one.
+pub record IsTheRounded (side : End) (a : ℤ) (b : ℕ) : Type 0 where
+  pub is : IsRounded side a b (rounded side a b)
+  pub one : (r : Extended) → IsRounded side a b r → r ≡ rounded side a b

@@ -7,7 +7,7 @@ ghost use Rattle.pv_num.specs.Roots.{size_at, is_reached};
 ghost use Rattle.pv_num.specs.declared.num.End.TheVariants.{Down, Up};
 
 use crate::num::{Class, End, Num};
-use crate::square::whole_root;
+use crate::square::first_of_squares;
 
 // The sizes have indexes without gaps: 0 has the index 0, and the largest size this one.
 const TOP_INDEX: u128 = 962 * 0x2000_0000_0000_0000 + 0x3fff_ffff_ffff_ffff;
@@ -56,6 +56,19 @@ fn root_up(z: Num, n: u8) -> Num
 
 // The first index whose size is reached, or the one behind the last.
 fn first_reached(z: Num, n: u8, side: End) -> u128
+    requires { (1 ≤ n) × (n ≤ 32) }
+    ensures fits { result ≤ 962 * 2 ^ 61 + 2 ^ 62 }
+    ensures below { 0 < result → is_reached side z n (size_at (result - 1)) ≡ false }
+    ensures here { result < 962 * 2 ^ 61 + 2 ^ 62 → is_reached side z n (size_at result) ≡ true }
+{
+    match first_of_squares(z, n, side) {
+        Some(first) => first,
+        None => searched(z, n, side),
+    }
+}
+
+// The first index whose size is reached, found by a search.
+fn searched(z: Num, n: u8, side: End) -> u128
     requires { (1 ≤ n) × (n ≤ 32) }
     ensures fits { result ≤ 962 * 2 ^ 61 + 2 ^ 62 }
     ensures below { 0 < result → is_reached side z n (size_at (result - 1)) ≡ false }
@@ -124,22 +137,7 @@ fn guess(z: Num, n: u8) -> u128
     if z.class != Class::NonNegative {
         return TOP_INDEX / 2;
     }
-    if n == 2 {
-        square_root(z)
-    } else {
-        near_root(z, n)
-    }
-}
-
-// The index of a square root, found by that of a whole number.
-fn square_root(z: Num) -> u128 {
-    let shift = z.mantissa.leading_zeros() as u16 + 62 - 2;
-    let odd = (z.exponent + shift) % 2;
-    let shift = shift - odd;
-    let wide = (z.mantissa as u128) << shift.min(63);
-    let exponent = (z.exponent + 512 + 128 - shift) / 2;
-    let root = whole_root(wide) as u128;
-    (exponent.saturating_sub(64) as u128) * 0x2000_0000_0000_0000 + root + 1
+    near_root(z, n)
 }
 
 // The index of a root, found by Newton's method from the logarithm on.

@@ -1,4 +1,87 @@
-//! Square roots of whole numbers by products alone. The search for a root begins at one, and no result rests on it.
+//! Square roots: the whole part of the square root of a whole number of 124 bits is found by products, and tried by one
+//! comparison.
+ghost use Rattle.std.specs.Prelude.{◌≡◌, ◌+◌, ◌-◌, ◌*◌, ◌^◌, ◌<◌, ◌≤◌, pos, IfSome, IsTrue, true, false};
+ghost use Rattle.pv_num.specs.Extended.{Fin};
+ghost use Rattle.pv_num.specs.Roots.{size_at, is_reached, first_index, IsSquareOf};
+ghost use Rattle.pv_num.specs.Sizes.{size_of};
+
+use crate::magnitude::Magnitude;
+use crate::num::{End, Num};
+
+// Of a square root, the first index whose square is beyond a number. None for numbers below 2^-450 and for other roots.
+pub(crate) fn first_of_squares(z: Num, n: u8, side: End) -> Option<u128>
+    ensures fits { IfSome result (λ i. i < 962 * 2 ^ 61 + 2 ^ 62) }
+    ensures below { IfSome result (λ i. 0 < i → is_reached side z n (size_at (i - 1)) ≡ false) }
+    ensures here { IfSome result (λ i. is_reached side z n (size_at i) ≡ true) }
+{
+    if n != 2 || z.is_negative() || z.is_infinite() {
+        return None;
+    }
+    first_of_size(z.size(), side)
+}
+
+// The same for a size.
+fn first_of_size(z: Magnitude, side: End) -> Option<u128>
+    ensures fits { IfSome result (λ i. i < 962 * 2 ^ 61 + 2 ^ 62) }
+    ensures below { IfSome result (λ i. 0 < i → is_reached side (Fin (pos (size_of z))) 2 (size_at (i - 1)) ≡ false) }
+    ensures here { IfSome result (λ i. is_reached side (Fin (pos (size_of z))) 2 (size_at i) ≡ true) }
+{
+    if z.exponent == 0 {
+        return None;
+    }
+    let square = as_square(z);
+    let root = whole_root(square.wide);
+    if root < LEAST_ROOT || LEAST_ROOT * 2 <= root {
+        return None;
+    }
+    let within = root as u128 * root as u128;
+    if square.wide < within || root as u128 * 2 < square.wide - within {
+        return None;
+    }
+    let index = square.half as u128 * LEAST_ROOT as u128 + root as u128;
+    Some(first_behind(index, side, within == square.wide))
+}
+
+// Whether the index of an exact root is itself the first.
+fn first_behind(index: u128, side: End, exact: bool) -> u128
+    requires { index < 2 ^ 127 }
+    ensures { result ≡ first_index side exact index }
+{
+    match side {
+        End::Down => index + 1,
+        End::Up => if exact { index } else { index + 1 },
+    }
+}
+
+// A size as a whole number of 123 or 124 bits times a square of a power of 2.
+#[derive(Clone, Copy)]
+struct Square {
+    wide: u128,
+    half: u16,
+}
+
+const LEAST_ROOT: u64 = 0x2000_0000_0000_0000;
+
+// A size times 2^512 is `wide` times the square of 2^half.
+fn as_square(z: Magnitude) -> Square
+    requires { 0 < z.exponent }
+    ensures square { IsSquareOf z.mantissa z.exponent result.wide result.half }
+    ensures few { result.half ≤ 706 }
+    ensures wide { result.wide < 2 ^ 124 }
+{
+    let mantissa = z.mantissa as u128;
+    if z.exponent % 2 == 1 {
+        Square {
+            wide: mantissa * 0x2000_0000_0000_0000,
+            half: (z.exponent + 451) / 2,
+        }
+    } else {
+        Square {
+            wide: mantissa * 0x4000_0000_0000_0000,
+            half: (z.exponent + 450) / 2,
+        }
+    }
+}
 
 // A line below 1 / sqrt(x), near it for x from 1/4 to 1: its value at 0 times 2^31, and its fall times 2^15.
 const START: u64 = 0xfc18_0000;

@@ -1,4 +1,4 @@
-//! Cases of exact arithmetic. Written by tests/number_vectors.py: change them there.
+//! Cases of exact arithmetic. Written by tests/generators/number_vectors.py: change them there.
 use crate::End::{self, Down, Up};
 use crate::tests::Operation::{self, Add, Div, Mul};
 use crate::tests::Spelled;

@@ -1,6 +1,6 @@
 use Rattle.std.proofs.Common.{◌≡◌, ◌+◌, ◌-◌, ◌*◌, ◌^◌, ◌<◌, ◌≤◌, true, false}
 use Rattle.pv_num.specs.Roots.{size_at, is_reached}
-use Rattle.pv_num.proofs.root.first_reached.Given as goal
+use Rattle.pv_num.proofs.root.searched.Given as goal
 
 abbrev pub invariant-loop-low : goal.invariant-loop-low
 invariant-loop-low l = record {
