@@ -1,7 +1,7 @@
 -- Ends that lie in enough intervals. Of what lies in at least q intervals, a number or an end, take the greatest of
 -- their lower ends, which lies in all of them, and the least of their upper ends.
 use Rattle.std.proofs.Common.{◌≡◌, ℕ, zero, suc, ◌≤◌, List, [], ◌∷◌, sym, ◌∙◌, ap, subst, arith, refl, ◌⊎◌, inl, inr, cond}
-use Rattle.std.specs.Prelude.{IsTrue, Bool, true, false, ◌&&◌, Option, Some, None}
+use Rattle.std.specs.Prelude.{option_and_then, IsTrue, Bool, true, false, ◌&&◌, Option, Some, None}
 use Rattle.std.proofs.lemmas.Bool.{le-leb}
 use Rattle.pv_num.specs.Extended.{Extended, NegInf, PosInf}
 use Rattle.pv_num.specs.Order.{le, lt, lesser, greater}
@@ -9,7 +9,7 @@ use Rattle.pv_interval.specs.Bounds.{Bounds, between, interval_from}
 use Rattle.pv_interval.specs.Tables.{holds}
 use Rattle.pv_interval.proofs.Ends.{le_refl, le_trans}
 use Rattle.pv_interval.proofs.Choices.{lesser_left, lesser_right, greater_left, greater_right, lesser_either, greater_either}
-use Rattle.pv_box.specs.QHull.{chain, count_holding, is_in_enough, lower_of, upper_of, least_end, greatest_end, place_hull_of}
+use Rattle.pv_box.specs.QHull.{count_holding, is_in_enough, lower_of, upper_of, least_end, greatest_end, place_hull_of}
 
 -- B is to be at most something, and A is to be at least that
 pub record IsSplit (B A : Extended → Type 0) : Type 0 where
@@ -201,7 +201,7 @@ ends_hold B A s l h low high = record {
 }
 
 both_ends : (B A : Extended → Type 0) (s : IsSplit B A) (l h : Option Extended) (e f : Extended) → IsUpTo e l → B e → IsFrom f h → A f
-    → IsRound B A (chain l (λ a. chain h (λ b. interval_from a b)))
+    → IsRound B A (option_and_then (λ a. option_and_then (λ b. interval_from a b) h) l)
 both_ends B A s None h e f p low q high = absurd p
 both_ends B A s (Some a) None e f p low q high = absurd q
 both_ends B A s (Some a) (Some b) e f p low q high = ends_hold B A s a b (s.down a e p low) (s.up f b q high)

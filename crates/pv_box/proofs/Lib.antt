@@ -9,3 +9,4 @@ pub mod Enough
 pub mod QHullKept
 pub mod QHullThere
 pub mod Kept
+pub mod Chosen

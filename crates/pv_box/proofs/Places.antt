@@ -1,10 +1,10 @@
 -- The q-hull of a box from those of its places.
 use Rattle.std.proofs.Common.{◌≡◌, ℕ, zero, suc, ◌+◌, ◌<◌, List, [], ◌∷◌, length, get_or, set, inl, inr, sym, ◌∙◌, ap, arith, refl}
-use Rattle.std.specs.Prelude.{Option, Some, None}
+use Rattle.std.specs.Prelude.{option_and_then, Option, Some, None}
 use Rattle.std.proofs.lemmas.List.{get_or-set_same, get_or-set_other}
 use Rattle.std.proofs.lemmas.Bool.{cases_eq}
 use Rattle.pv_interval.specs.Bounds.{Bounds}
-use Rattle.pv_box.specs.QHull.{chain, column, place_hull_of, places_from, q_hull_of}
+use Rattle.pv_box.specs.QHull.{column, place_hull_of, places_from, q_hull_of}
 
 pub place_done : (q : ℕ) (bs : List (List Bounds)) (s new : List Bounds) (i : ℕ) (h : Bounds) → new ≡ set s i h → i < length s
     → place_hull_of q (column i bs) ≡ Some h
@@ -18,9 +18,9 @@ place_done q bs s new i h e l is done k d n = elim (cases_eq k i) [
 ]
 
 two_steps : (o : Option Bounds) (r : Option (List Bounds)) (x : Bounds) (xs : List Bounds) → o ≡ Some x → r ≡ Some xs
-    → chain o (λ v. chain r (λ vs. Some (v ∷ vs))) ≡ Some (x ∷ xs)
+    → option_and_then (λ v. option_and_then (λ vs. Some (v ∷ vs)) r) o ≡ Some (x ∷ xs)
 two_steps o r x xs e f =
-    ap (λ w. chain w (λ v. chain r (λ vs. Some (v ∷ vs)))) e ∙ ap (λ w. chain w (λ vs. Some (x ∷ vs))) f
+    ap (λ w. option_and_then (λ v. option_and_then (λ vs. Some (v ∷ vs)) r) w) e ∙ ap (λ w. option_and_then (λ vs. Some (x ∷ vs)) w) f
 
 pub places_is : (q : ℕ) (bs : List (List Bounds)) (c : List Bounds) (k n : ℕ) → length c ≡ n
     → ((j : ℕ) (d : Bounds) → j < n → place_hull_of q (column (k + j) bs) ≡ Some (get_or c j d))
@@ -36,16 +36,16 @@ places_is q bs (x ∷ c) k (suc n) e h =
     let y : k + 1 + j ≡ k + suc j = omega arith in
     ap (λ w. place_hull_of q (column w bs)) y ∙ h (suc j) d (omega arith)))
 
-no_rest : (o : Option Bounds) (r : Option (List Bounds)) → r ≡ None → chain o (λ v. chain r (λ vs. Some (v ∷ vs))) ≡ None
+no_rest : (o : Option Bounds) (r : Option (List Bounds)) → r ≡ None → option_and_then (λ v. option_and_then (λ vs. Some (v ∷ vs)) r) o ≡ None
 no_rest None r e = refl
-no_rest (Some v) r e = ap (λ w. chain w (λ vs. Some (v ∷ vs))) e
+no_rest (Some v) r e = ap (λ w. option_and_then (λ vs. Some (v ∷ vs)) w) e
 
 pub places_none : (q : ℕ) (bs : List (List Bounds)) (k n j : ℕ) → j < n → place_hull_of q (column (k + j) bs) ≡ None
     → places_from q k n bs ≡ None
 places_none q bs k zero j l e = absurd (omega arith)
 places_none q bs k (suc n) zero l e =
     let z : k + 0 ≡ k = omega arith in
-    ap (λ w. chain w (λ v. chain (places_from q (k + 1) n bs) (λ vs. Some (v ∷ vs))))
+    ap (λ w. option_and_then (λ v. option_and_then (λ vs. Some (v ∷ vs)) (places_from q (k + 1) n bs)) w)
     (ap (λ w. place_hull_of q (column w bs)) (sym z) ∙ e)
 places_none q bs k (suc n) (suc j) l e =
     let y : k + 1 + j ≡ k + suc j = omega arith in

@@ -1,13 +1,13 @@
 -- A point of at least q boxes lies in their q-hull, place by place.
 use Rattle.std.proofs.Common.{◌≡◌, ℕ, zero, suc, ◌+◌, ◌<◌, ◌≤◌, List, [], ◌∷◌, length, get_or, sym, ◌∙◌, ap, subst, arith, refl, ◌⊎◌, inl, inr}
-use Rattle.std.specs.Prelude.{All, true, Option, Some, None, ℤ, pos}
+use Rattle.std.specs.Prelude.{option_and_then, All, true, Option, Some, None, ℤ, pos}
 use Rattle.pv_num.specs.Extended.{Extended, NegInf, Fin, PosInf}
 use Rattle.pv_num.specs.Order.{lt}
 use Rattle.pv_interval.specs.Bounds.{Bounds, everything}
 use Rattle.pv_interval.specs.Points.{IsBelow, IsAbove, Lies, LiesInSome, Point}
 use Rattle.pv_interval.proofs.Values.{below_le, above_le, across}
 use Rattle.pv_box.specs.Boxes.{LieIn}
-use Rattle.pv_box.specs.QHull.{chain, column, place_hull_of, places_from, q_hull_of}
+use Rattle.pv_box.specs.QHull.{column, place_hull_of, places_from, q_hull_of}
 use Rattle.pv_box.specs.Members.{InAtLeast, PointInSome, HullKeepsMembers}
 use Rattle.pv_box.proofs.Enough.{IsSplit, AtLeast, IsRound, place_round}
 
@@ -94,7 +94,7 @@ LieInSome ns d None = ⊥
 LieInSome ns d (Some b) = LieIn ns d b
 
 join_places : (n : ℤ) (ns : List ℤ) (d : ℕ) (o : Option Bounds) (r : Option (List Bounds)) → LiesInSome n d o → LieInSome ns d r
-    → LieInSome (n ∷ ns) d (chain o (λ x. chain r (λ xs. Some (x ∷ xs))))
+    → LieInSome (n ∷ ns) d (option_and_then (λ x. option_and_then (λ xs. Some (x ∷ xs)) r) o)
 join_places n ns d None r h k = absurd h
 join_places n ns d (Some x) None h k = absurd k
 join_places n ns d (Some x) (Some xs) h k = (h, k)

@@ -1,6 +1,6 @@
 -- The q-hull is there exactly where each place has an end that lies in at least q of the intervals.
 use Rattle.std.proofs.Common.{◌≡◌, ◌≢◌, ℕ, zero, suc, ◌+◌, ◌<◌, ◌≤◌, List, [], ◌∷◌, length, get_or, sym, ap, subst, arith, refl, inl, inr, cond, rules}
-use Rattle.std.specs.Prelude.{All, IsTrue, Bool, true, false, Option, Some, None, IfSome, IsSome}
+use Rattle.std.specs.Prelude.{option_and_then, All, IsTrue, Bool, true, false, Option, Some, None, IfSome, IsSome}
 use Rattle.std.proofs.lemmas.Bool.{leb-true, and_parts, cases_Bool}
 use Rattle.std.proofs.lemmas.Option.{IfSome_then}
 use Rattle.pv_num.specs.Extended.{Extended, NegInf, Fin, PosInf}
@@ -10,7 +10,7 @@ use Rattle.pv_interval.specs.Tables.{holds}
 use Rattle.pv_interval.proofs.Ends.{le_trans}
 use Rattle.pv_interval.proofs.Choices.{lesser_either}
 use Rattle.pv_box.specs.Boxes.{IsBox}
-use Rattle.pv_box.specs.QHull.{chain, column, count_holding, is_in_enough, lower_of, least_end, greatest_end, place_hull_of, places_from, q_hull_of}
+use Rattle.pv_box.specs.QHull.{column, count_holding, is_in_enough, lower_of, least_end, greatest_end, place_hull_of, places_from, q_hull_of}
 use Rattle.pv_box.specs.Members.{IsEnd, HasEnd, HullIsThere, HullIsMissing}
 use Rattle.pv_box.proofs.Enough.{IsSplit, AtLeast, place_round}
 use Rattle.pv_box.proofs.Places.{hull_missing}
@@ -92,7 +92,7 @@ place_there q xs some i h =
     let r = place_round (IsFrom h.at) (IsTo h.at) (split_by h.at) q xs some (counted q h.at xs i h.enough) in
     is_there (place_hull_of q xs) r.part r.is
 
-both_there : (o : Option Bounds) (r : Option (List Bounds)) → IsSome o → IsSome r → IsSome (chain o (λ x. chain r (λ xs. Some (x ∷ xs))))
+both_there : (o : Option Bounds) (r : Option (List Bounds)) → IsSome o → IsSome r → IsSome (option_and_then (λ x. option_and_then (λ xs. Some (x ∷ xs)) r) o)
 both_there None r h k = absurd (cc)
 both_there (Some x) None h k = absurd (cc)
 both_there (Some x) (Some xs) h k = refl
@@ -132,14 +132,14 @@ least_is_end q all (x ∷ xs) =
     (λ t. (inl refl, leb-true _ _ t))
     (IfSome_then (least_end q all xs) (least_is_end q all xs) (λ l h. (inr (inr h.0), h.1)))
 
-no_first : (o : Option Extended) (f : Extended → Option Bounds) → IfSome o (λ l. ⊥) → chain o f ≡ None
+no_first : (o : Option Extended) (f : Extended → Option Bounds) → IfSome o (λ l. ⊥) → option_and_then f o ≡ None
 no_first None f h = refl
 no_first (Some l) f h = absurd h
 
 place_missing : (q : ℕ) (xs : List Bounds) → (HasEnd q xs → ⊥) → place_hull_of q xs ≡ None
 unfolding place_hull_of
 place_missing q xs none =
-    no_first (least_end q xs xs) (λ l. chain (greatest_end q xs xs) (λ h. interval_from l h))
+    no_first (least_end q xs xs) (λ l. option_and_then (λ h. interval_from l h) (greatest_end q xs xs))
     (IfSome_then (least_end q xs xs) (least_is_end q xs xs) (λ l h. none (record { at = l; is = h.0; enough = h.1 })))
 
 pub hull-missing : HullIsMissing

@@ -1,10 +1,10 @@
 -- Boxes: a list of intervals, place by place.
-use Rattle.std.specs.Prelude.{◌≡◌, ℕ, zero, suc, ◌<◌, ◌≤◌, ℤ, Some, None, IsTrue, List, [], ◌∷◌, length, slice_index_or, All}
+use Rattle.std.specs.Prelude.{◌≡◌, ℕ, zero, suc, ◌<◌, ◌≤◌, ℤ, Some, None, IsSome, IsTrue, List, [], ◌∷◌, length, slice_index_or, All}
 use Rattle.pv_num.specs.Extended.{Extended}
 use Rattle.pv_num.specs.Order.{le, lt}
 use Rattle.pv_interval.specs.Bounds.{Bounds, IsInterval}
 use Rattle.pv_interval.specs.Points.{Lies, Point}
-use Rattle.pv_interval.specs.Tables.{hull_of, meet_of, width_of}
+use Rattle.pv_interval.specs.Tables.{hull_of, meet_of}
 
 -- 1 to 12 places, each an interval
 pub record IsBox (b : List Bounds) : Type 0 where
@@ -39,10 +39,18 @@ pub record IsInside (a : Extended) (x : Bounds) : Type 0 where
   pub above : IsTrue (lt x.lo a)
   pub below : IsTrue (lt a x.hi)
 
+-- a finite number strictly between the ends of place v
+abbrev pub IsInsidePlace : Extended → ℕ → List Bounds → Type 0
+IsInsidePlace a v b = IsInside a (slice_index_or b v (record { lo = a; hi = a }))
+
 -- c is what lies in a and in b, place by place
 pub record IsMeet (a b c : List Bounds) : Type 0 where
   pub dims : length c ≡ length a
   pub place : (k : ℕ) (d : Bounds) → k < length a → meet_of (slice_index_or a k d) (slice_index_or b k d) ≡ Some (slice_index_or c k d)
+
+-- in each place something lies in both
+abbrev pub MeetEachOther : List Bounds → List Bounds → Type 0
+MeetEachOther a b = (k : ℕ) (d : Bounds) → k < length a → IsSome (meet_of (slice_index_or a k d) (slice_index_or b k d))
 
 -- in some place nothing lies in both
 pub record IsApart (a b : List Bounds) : Type 0 where
@@ -50,9 +58,12 @@ pub record IsApart (a b : List Bounds) : Type 0 where
   pub within : at < length a
   pub empty : (d : Bounds) → meet_of (slice_index_or a at d) (slice_index_or b at d) ≡ None
 
--- the width of each place is at most eps
-abbrev pub IsSmall : Extended → List Bounds → Type 0
-IsSmall eps b = All (λ x. IsTrue (le (width_of x) eps)) b
+-- a box lies in another, place by place
+abbrev pub IsWithin : List Bounds → List Bounds → Type 0
+IsWithin [] [] = Unit {0}
+IsWithin [] (y ∷ ys) = ⊥
+IsWithin (x ∷ xs) [] = ⊥
+IsWithin (x ∷ xs) (y ∷ ys) = IsTrue (le y.lo x.lo) × IsTrue (le x.hi y.hi) × IsWithin xs ys
 
 -- the hull of two boxes, place by place
 abbrev pub hull_boxes : List Bounds → List Bounds → List Bounds

@@ -1,15 +1,10 @@
 -- The q-hull of boxes: in each place, from the least lower end to the greatest upper end that lie in at least q of the
 -- intervals.
-use Rattle.std.specs.Prelude.{ℕ, zero, suc, ◌+◌, Bool, true, false, nat_le, Option, Some, None, List, [], ◌∷◌, length, slice_index_or, if◌then◌else◌}
+use Rattle.std.specs.Prelude.{ℕ, zero, suc, ◌+◌, Bool, true, false, nat_le, Option, Some, None, option_and_then, List, [], ◌∷◌, length, slice_index_or, if◌then◌else◌}
 use Rattle.pv_num.specs.Extended.{Extended}
 use Rattle.pv_num.specs.Order.{lesser, greater}
 use Rattle.pv_interval.specs.Bounds.{Bounds, everything, interval_from}
 use Rattle.pv_interval.specs.Tables.{holds}
-
--- the second step on what the first one gives; None where one of them is
-abbrev pub chain : {A B : Type 0} → Option A → (A → Option B) → Option B
-chain None f = None
-chain (Some x) f = f x
 
 -- the interval that each box has in place k
 abbrev pub column : ℕ → List (List Bounds) → List Bounds
@@ -47,13 +42,13 @@ greatest_end q all (x ∷ xs) = upper_of (is_in_enough q all x.hi) x.hi (greates
 
 -- the q-hull of intervals; None where no end lies in at least q of them
 unfoldable pub place_hull_of : ℕ → List Bounds → Option Bounds
-place_hull_of q xs = chain (least_end q xs xs) (λ l. chain (greatest_end q xs xs) (λ h. interval_from l h))
+place_hull_of q xs = option_and_then (λ l. option_and_then (λ h. interval_from l h) (greatest_end q xs xs)) (least_end q xs xs)
 
 -- the q-hulls of n places from place k on
 abbrev pub places_from : ℕ → ℕ → ℕ → List (List Bounds) → Option (List Bounds)
 places_from q k zero boxes = Some []
 places_from q k (suc n) boxes =
-    chain (place_hull_of q (column k boxes)) (λ x. chain (places_from q (k + 1) n boxes) (λ xs. Some (x ∷ xs)))
+    option_and_then (λ x. option_and_then (λ xs. Some (x ∷ xs)) (places_from q (k + 1) n boxes)) (place_hull_of q (column k boxes))
 
 -- None where a place has no such end
 unfoldable pub q_hull_of : ℕ → List (List Bounds) → Option (List Bounds)

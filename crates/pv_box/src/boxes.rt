@@ -1,12 +1,12 @@
+//! The type of boxes, their places, halves, meets and hulls.
 ghost use Rattle.std.specs.Prelude.{◌≡◌, ◌↔◌, ◌<◌, ◌≤◌, ℕ, All, IsTrue, Some, None, length, vec_len, slice_index_or, slice_set, IfOk, IsFalse, IsSome};
-ghost use Rattle.pv_num.specs.Order.{le, lt};
 ghost use Rattle.pv_interval.specs.Bounds.{Bounds, IsInterval};
-ghost use Rattle.pv_interval.specs.Tables.{width_of, meet_of};
-ghost use Rattle.pv_box.specs.Boxes.{IsBox, IsInside, IsSmall, lower_half, upper_half, hull_boxes, IsMeet, IsApart};
+ghost use Rattle.pv_interval.specs.Tables.{meet_of};
+ghost use Rattle.pv_box.specs.Boxes.{IsBox, IsInsidePlace, MeetEachOther, lower_half, upper_half, hull_boxes, IsMeet, IsApart};
 
 use pv_interval::Interval;
-use pv_num::Num;
-use std::alloc::{AllocError, Global};
+use pv_num::{Memory, Num};
+use std::alloc::Global;
 use std::marker::Model;
 
 /// A box of 1 to 12 intervals. Contracts see the list of its places.
@@ -76,7 +76,7 @@ impl IBox {
     }
 
     /// An equal box.
-    pub fn clone_of(&self, alloc: Global) -> Result<IBox, AllocError>
+    pub fn clone_of(&self, alloc: Global) -> Result<IBox, Memory>
         ensures { IfOk result (λ b. b ≡ self.now) }
     {
         Ok(IBox {
@@ -84,11 +84,27 @@ impl IBox {
         })
     }
 
+    /// Whether the two boxes are equal.
+    pub fn is_same(&self, other: &IBox) -> bool
+        ensures { IsTrue result ↔ (self.now ≡ other.now) }
+    {
+        if self.dims() != other.dims() {
+            return false;
+        }
+        for i in 0..self.dims() {
+            if self.get(i) != other.get(i) {
+                return false;
+            }
+        }
+        true
+    }
+
     /// The half below a cut and the half above it.
-    pub fn cut(&self, alloc: Global, var: u8, at: Num) -> Result<(IBox, IBox), AllocError>
+    pub fn cut(&self, alloc: Global, var: u8, at: Num) -> Result<(IBox, IBox), Memory>
         requires var { var < length self.now }
-        requires at { IsInside at (slice_index_or self.now var (record { lo = at; hi = at })) }
-        ensures { IfOk result (λ halves. (halves.0 ≡ lower_half self.now var at) × (halves.1 ≡ upper_half self.now var at)) }
+        requires at { IsInsidePlace at var self.now }
+        ensures low { IfOk result (λ halves. halves.0 ≡ lower_half self.now var at) }
+        ensures high { IfOk result (λ halves. halves.1 ≡ upper_half self.now var at) }
     {
         let mut low = self.clone_of(alloc)?;
         let mut high = self.clone_of(alloc)?;
@@ -109,7 +125,8 @@ impl IBox {
         }
     }
 
-    /// Becomes what lies in both, place by place. Where that is empty the answer is false, and nothing changes.
+    /// Becomes what lies in both, place by place. Where that is empty the answer is false, and
+    /// nothing changes.
     pub fn meet(&mut self, other: &IBox) -> bool
         requires { length self.old ≡ length other.now }
         ensures met { IsTrue result → IsMeet self.old other.now self.new }
@@ -129,7 +146,7 @@ impl IBox {
 
     fn meets(&self, other: &IBox) -> bool
         requires { length self.now ≡ length other.now }
-        ensures met { IsTrue result → (k : ℕ) (d : Bounds) → k < length self.now → IsSome (meet_of (slice_index_or self.now k d) (slice_index_or other.now k d)) }
+        ensures met { IsTrue result → MeetEachOther self.now other.now }
         ensures empty { IsFalse result → IsApart self.now other.now }
     {
         for i in 0..self.dims() {

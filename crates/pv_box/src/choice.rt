@@ -1,9 +1,10 @@
-ghost use Rattle.std.specs.Prelude.{◌⊎◌, ◌%◌, ◌≡◌, ◌≢◌, ◌<◌, ◌≤◌, IsTrue, IfSome, Some, length, drop, slice_index_or};
+//! Where a box is cut, and when it is small.
+ghost use Rattle.std.specs.Prelude.{◌⊎◌, ◌%◌, ◌≡◌, ◌≢◌, ◌<◌, ◌≤◌, IsTrue, IfSome, IfNone, Some, None, ℕ, length, drop, slice_index_or};
 ghost use Rattle.pv_num.specs.Extended.{NegInf, PosInf};
 ghost use Rattle.pv_num.specs.Order.{le, lt};
 ghost use Rattle.pv_interval.specs.Bounds.{Bounds, IsInterval};
-ghost use Rattle.pv_box.specs.Boxes.{IsInside};
-ghost use Rattle.pv_box.specs.Choice.{choose_of, wider as wider_of, cut_of as cut_at, cut_between, strictly_between, widest_from as widest_of, first_from as first_of, is_small_of, choice_of, round_from};
+ghost use Rattle.pv_box.specs.Boxes.{IsInside, IsInsidePlace};
+ghost use Rattle.pv_box.specs.Choice.{choose_of, wider as wider_of, cut_of as cut_in, cut_at, IsChosen, cut_between, strictly_between, widest_from as widest_of, first_from as first_of, is_small_of, choice_of, round_from};
 
 use crate::IBox;
 use pv_interval::Interval;
@@ -28,12 +29,25 @@ struct Candidate {
 }
 
 impl IBox {
-    /// The place at which the box is cut and where; None where no place can be cut.
-    #[tactic(auto, unfolding(crate::specs::Choice::choose_of))]
+    /// The place at which the box is cut and where; None where no place can be cut. `Largest` takes
+    /// the widest place that can be cut, and the first among equals; `Round` the first one that can
+    /// be cut from place `path_len` on, going round.
     pub fn choose(&self, by: Bisector, path_len: u32) -> Option<(u8, Num)>
+        ensures cut { IfSome result (λ c. cut_at self.now c.0 ≡ Some c.1) }
+        ensures chosen { IfSome result (λ c. IsChosen by path_len self.now c.0) }
+        ensures none { IfNone result ((k : ℕ) → cut_at self.now k ≡ None) }
         ensures choice { result ≡ choose_of by path_len self.now }
         ensures place { IfSome result (λ c. c.0 < length self.now) }
-        ensures inside { IfSome result (λ c. IsInside c.1 (slice_index_or self.now c.0 (record { lo = c.1; hi = c.1 }))) }
+        ensures inside { IfSome result (λ c. IsInsidePlace c.1 c.0 self.now) }
+    {
+        self.chosen(by, path_len)
+    }
+
+    #[tactic(auto, unfolding(crate::specs::Choice::choose_of))]
+    fn chosen(&self, by: Bisector, path_len: u32) -> Option<(u8, Num)>
+        ensures choice { result ≡ choose_of by path_len self.now }
+        ensures place { IfSome result (λ c. c.0 < length self.now) }
+        ensures inside { IfSome result (λ c. IsInsidePlace c.1 c.0 self.now) }
     {
         match by {
             Bisector::Largest => self.widest(),
@@ -45,7 +59,7 @@ impl IBox {
     fn widest(&self) -> Option<(u8, Num)>
         ensures widest { result ≡ choice_of (widest_of 0 self.now) }
         ensures place { IfSome result (λ c. c.0 < length self.now) }
-        ensures inside { IfSome result (λ c. IsInside c.1 (slice_index_or self.now c.0 (record { lo = c.1; hi = c.1 }))) }
+        ensures inside { IfSome result (λ c. IsInsidePlace c.1 c.0 self.now) }
     {
         match self.widest_from(0) {
             Some(Candidate { var, at, width: _ }) => Some((var, at)),
@@ -57,7 +71,7 @@ impl IBox {
     fn in_turn(&self, path_len: u32) -> Option<(u8, Num)>
         ensures turn { result ≡ round_from (path_len % length self.now) self.now }
         ensures place { IfSome result (λ c. c.0 < length self.now) }
-        ensures inside { IfSome result (λ c. IsInside c.1 (slice_index_or self.now c.0 (record { lo = c.1; hi = c.1 }))) }
+        ensures inside { IfSome result (λ c. IsInsidePlace c.1 c.0 self.now) }
     {
         let turn = (path_len % u32::from(self.dims())) as u8;
         match self.first_from(turn) {
@@ -89,7 +103,7 @@ impl IBox {
         requires { i ≤ length self.now }
         ensures first { result ≡ first_of i (drop i self.now) }
         ensures place { IfSome result (λ c. c.0 < length self.now) }
-        ensures inside { IfSome result (λ c. IsInside c.1 (slice_index_or self.now c.0 (record { lo = c.1; hi = c.1 }))) }
+        ensures inside { IfSome result (λ c. IsInsidePlace c.1 c.0 self.now) }
     {
         if i >= self.dims() {
             return None;
@@ -100,12 +114,12 @@ impl IBox {
         }
     }
 
-    // Of the places from number `i` on one of greatest width that can be cut, the first among equals.
+    // Of the places from number `i` on that can be cut the widest, and the first among equals.
     fn widest_from(&self, i: u8) -> Option<Candidate>
         requires { i ≤ length self.now }
         ensures widest { result ≡ widest_of i (drop i self.now) }
         ensures place { IfSome result (λ c. c.var < length self.now) }
-        ensures inside { IfSome result (λ c. IsInside c.at (slice_index_or self.now c.var (record { lo = c.at; hi = c.at }))) }
+        ensures inside { IfSome result (λ c. IsInsidePlace c.at c.var self.now) }
     {
         if i >= self.dims() {
             return None;
@@ -138,7 +152,7 @@ fn wider(var: u8, at: Num, width: Num, later: Option<Candidate>) -> Candidate
 
 // Where an interval is cut; None where it can't be.
 fn cut_of(part: Interval) -> Option<Num>
-    ensures cut { result ≡ cut_at part }
+    ensures cut { result ≡ cut_in part }
     ensures inside { IfSome result (λ at. IsInside at part) }
 {
     let (lo, hi) = (part.lo(), part.hi());
@@ -151,7 +165,8 @@ fn cut_of(part: Interval) -> Option<Num>
     Num::middle(lo, hi)
 }
 
-// The cut of what reaches from -oo up to `hi`. A number doubles exactly, or leaves the range and then has no cut.
+// The cut of what reaches from -oo up to `hi`. A number doubles exactly, or leaves the range and
+// then has no cut.
 fn below(hi: Num) -> Option<Num>
     ensures cut { result ≡ cut_between NegInf hi }
     ensures inside { IfSome result (λ at. IsInside at (record { lo = NegInf; hi = hi })) }

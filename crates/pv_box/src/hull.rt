@@ -1,18 +1,19 @@
-//! The q-hull of boxes (Chabert and Jaulin, 2009): what may lie in at least q of them, place by place.
+//! The q-hull of boxes (Chabert and Jaulin, 2009): what may lie in at least q of them, place by
+//! place.
 ghost use Rattle.std.specs.Prelude.{[], slice_index_or, ◌≡◌, ◌<◌, ◌≤◌, All, length, drop, IfOk, Some, ◌+◌};
 ghost use Rattle.pv_interval.specs.Bounds.{Bounds, everything};
 ghost use Rattle.pv_box.specs.QHull.{q_hull_of, place_hull_of, column, least_end, greatest_end, count_holding as count_of, is_in_enough, lower_of, upper_of};
 
 use crate::IBox;
 use pv_interval::Interval;
-use pv_num::Num;
-use std::alloc::{AllocError, Global};
+use pv_num::{Memory, Num};
+use std::alloc::Global;
 
 impl IBox {
-    /// In each place what reaches from the least lower end to the greatest upper end that lie in at least `q` of the
-    /// intervals; None where a place has no such end.
+    /// In each place what reaches from the least lower end to the greatest upper end that lie in at
+    /// least `q` of the intervals; None where a place has no such end.
     #[tactic(auto, unfolding(crate::specs::QHull::q_hull_of))]
-    pub fn q_hull(alloc: Global, q: u32, boxes: &[IBox]) -> Result<Option<IBox>, AllocError>
+    pub fn q_hull(alloc: Global, q: u32, boxes: &[IBox]) -> Result<Option<IBox>, Memory>
         requires some { 0 < length boxes.now }
         requires equal { All (λ b. length b ≡ length (slice_index_or boxes.now 0 [])) boxes.now }
         requires q { 1 ≤ q }

@@ -108,7 +108,8 @@ fn cuts(rt: HostRuntime) -> Result<(), Fail> {
     Ok(())
 }
 
-// 2l + 1 is no format number and goes to the next one above; past the greatest number there is no cut.
+// 2l + 1 is no format number and goes to the next one above; past the greatest number there is no
+// cut.
 #[test]
 fn doubled_ends(rt: HostRuntime) -> Result<(), Fail> {
     let alloc = rt.alloc();

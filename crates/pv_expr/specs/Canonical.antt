@@ -1,5 +1,5 @@
 -- The canonical text of a system.
-use Rattle.std.specs.Prelude.{ℕ, List, [], ◌∷◌, ◌++◌, length, map, codes, decimal, ◌≡◌, Some, slice_get}
+use Rattle.std.specs.Prelude.{ℕ, ℤ, List, [], ◌∷◌, ◌++◌, length, map, codes, decimal, ◌≡◌, Some, slice_get}
 use Rattle.std.specs.Fmt.{signed_decimal}
 use Rattle.pv_interval.specs.Bounds.{Bounds}
 use Rattle.pv_num.specs.Parts.{number_text}
@@ -42,8 +42,11 @@ unary_text negation text = codes "(neg " ++ text ++ codes ")"
 unary_text absolute text = codes "(abs " ++ text ++ codes ")"
 unary_text (power n) text = codes "(^ " ++ text ++ codes " " ++ decimal n ++ codes ")"
 
+abbrev pub fraction_text : ℤ → ℕ → List ℕ
+fraction_text p q = signed_decimal p ++ codes "/" ++ decimal q
+
 abbrev pub term_text : Term → List ℕ
-term_text (constant p q) = signed_decimal p ++ codes "/" ++ decimal q
+term_text (constant p q) = fraction_text p q
 term_text (place i) = codes "v" ++ decimal i
 term_text (one u t) = unary_text u (term_text t)
 term_text (two b t u) = binary_head b ++ term_text t ++ codes " " ++ term_text u ++ codes ")"
@@ -75,7 +78,17 @@ abbrev pub constraints_text : List Constraint → List ℕ
 constraints_text [] = []
 constraints_text (c ∷ cs) = constraint_text c ++ constraints_text cs
 
+-- how many lines of a kind come
+abbrev pub count_text : List ℕ → ℕ → List ℕ
+count_text word n = word ++ decimal n ++ codes "\n"
+
+abbrev pub system_variables : Parts → List ℕ
+system_variables s = variables_text s.names (map search_bounds s.domains)
+
+abbrev pub system_constraints : Parts → List ℕ
+system_constraints s = constraints_text s.constraints
+
 abbrev pub canonical_text : Parts → List ℕ
 canonical_text s =
-    codes "vars " ++ decimal (length s.names) ++ codes "\n" ++ variables_text s.names (map search_bounds s.domains)
-    ++ codes "ctrs " ++ decimal (length s.constraints) ++ codes "\n" ++ constraints_text s.constraints
+    count_text (codes "vars ") (length s.names) ++ system_variables s
+    ++ count_text (codes "ctrs ") (length s.constraints) ++ system_constraints s

@@ -1,5 +1,5 @@
 -- What a system is: its parts, and the limits within which they lie.
-use Rattle.std.specs.Prelude.{◌≡◌, ◌≢◌, ℕ, ◌+◌, ◌^◌, ◌<◌, ◌≤◌, List, ℤ, pos, ◌*ℤ◌, ◌≤ℤ◌, unsigned_abs, length, All, AllPairs, sum_by}
+use Rattle.std.specs.Prelude.{◌≡◌, ◌≢◌, ℕ, ◌+◌, ◌^◌, ◌<◌, ◌≤◌, List, ℤ, pos, ◌*ℤ◌, ◌≤ℤ◌, unsigned_abs, length, All, AllPairs, sum_by, slice_get, Some}
 use Rattle.std.specs.Int.{IsGcd}
 use Rattle.pv_expr.specs.Terms.{Term, constant, place, one, two, Unary, negation, absolute, power, term_of, node_count, depth_of}
 use Rattle.pv_expr.specs.declared.domain.Bound.{Bound}
@@ -12,6 +12,10 @@ pub record Parts : Type 0 where
   pub names : List (List ℕ)
   pub domains : List Domain
   pub constraints : List Constraint
+
+-- none of the names is this one
+abbrev pub HasNoName : List ℕ → List (List ℕ) → Type 0
+HasNoName name names = (k : ℕ) → k < length names → slice_get names k ≢ Some name
 
 -- p/q is in lowest terms, and within the limits on constants
 pub record IsFraction (p : ℤ) (q : ℕ) : Type 0 where

@@ -1,20 +1,22 @@
-// The canonical text of a system, by which systems are told apart.
+//! The canonical text of a system, by which systems are told apart.
 
 ghost use Rattle.std.specs.Prelude.{◌≡◌, ◌<◌, ◌++◌, length, map, decimal, codes, OnOk, IfOk, Some, slice_get};
 ghost use Rattle.std.specs.Fmt.{signed_decimal};
 ghost use Rattle.pv_expr.specs.Terms.{term_of, constant};
 ghost use Rattle.pv_expr.specs.Searches.{search_bounds};
-ghost use Rattle.pv_expr.specs.Canonical.{relation_text, term_text, constraint_text, variable_text, variables_text, constraints_text, canonical_text, term_head, WritesVariable};
+ghost use Rattle.pv_expr.specs.Canonical.{relation_text, term_text, constraint_text, count_text, fraction_text, system_variables, system_constraints, canonical_text, term_head, WritesVariable};
 
 use crate::constraint::{Constraint, Relation};
 use crate::expr::Expr;
 use crate::system::System;
+use crate::text::{put, put_number};
 use itoa::Buffer;
 use pv_num::Memory;
 use std::alloc::Global;
 
 impl System {
-    /// The canonical text: the variables with the ends of their search intervals, and the constraints, a line each.
+    /// The canonical text: the variables with the ends of their search intervals, and the
+    /// constraints, a line each.
     pub fn canonical_text(&self, alloc: Global) -> Result<Vec<u8>, Memory>
         ensures { IfOk result (λ text. text.items ≡ canonical_text self.now) }
     {
@@ -27,23 +29,8 @@ impl System {
     }
 }
 
-// Appends bytes.
-fn put(out: &mut Vec<u8>, bytes: &[u8]) -> Result<(), Memory>
-    ensures { OnOk result (out.new.items ≡ out.old.items ++ bytes.now) }
-{
-    out.extend_from_slice(bytes)?;
-    Ok(())
-}
-
-fn put_number(out: &mut Vec<u8>, n: u64) -> Result<(), Memory>
-    ensures { OnOk result (out.new.items ≡ out.old.items ++ decimal n) }
-{
-    let mut digits = Buffer::new();
-    put(out, digits.format(n).as_bytes())
-}
-
 fn write_count(out: &mut Vec<u8>, word: &[u8], count: u64) -> Result<(), Memory>
-    ensures { OnOk result (out.new.items ≡ out.old.items ++ (word.now ++ decimal count ++ codes "\n")) }
+    ensures { OnOk result (out.new.items ≡ out.old.items ++ count_text word.now count) }
 {
     put(out, word)?;
     put_number(out, count)?;
@@ -51,7 +38,7 @@ fn write_count(out: &mut Vec<u8>, word: &[u8], count: u64) -> Result<(), Memory>
 }
 
 fn write_variables(out: &mut Vec<u8>, system: &System) -> Result<(), Memory>
-    ensures { OnOk result (out.new.items ≡ out.old.items ++ variables_text system.now.names (map search_bounds system.now.domains)) }
+    ensures { OnOk result (out.new.items ≡ out.old.items ++ system_variables system.now) }
 {
     for i in 0..system.variable_count() {
         write_variable(out, system, i)?;
@@ -73,7 +60,7 @@ fn write_variable(out: &mut Vec<u8>, system: &System, i: u8) -> Result<(), Memor
 }
 
 fn write_constraints(out: &mut Vec<u8>, system: &System) -> Result<(), Memory>
-    ensures { OnOk result (out.new.items ≡ out.old.items ++ constraints_text system.now.constraints) }
+    ensures { OnOk result (out.new.items ≡ out.old.items ++ system_constraints system.now) }
 {
     for i in 0..system.constraint_count() {
         write_constraint(out, system.constraint(i))?;
@@ -156,7 +143,7 @@ fn head_of(e: &Expr) -> &'static [u8]
 }
 
 fn write_fraction(out: &mut Vec<u8>, p: i128, q: u128) -> Result<(), Memory>
-    ensures { OnOk result (out.new.items ≡ out.old.items ++ (signed_decimal p ++ codes "/" ++ decimal q)) }
+    ensures { OnOk result (out.new.items ≡ out.old.items ++ fraction_text p q) }
 {
     let mut digits = Buffer::new();
     put(out, digits.format(p).as_bytes())?;

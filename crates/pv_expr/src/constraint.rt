@@ -1,4 +1,4 @@
-// Constraints between two expressions.
+//! Constraints between two expressions.
 
 use crate::expr::Expr;
 

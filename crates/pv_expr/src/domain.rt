@@ -1,4 +1,4 @@
-// The domain of a variable, as it was written.
+//! The domain of a variable, as it was written.
 
 /// One end of a domain: a fraction in lowest terms, or an infinite end.
 #[derive(Clone, Copy, Debug, PartialEq, Eq)]

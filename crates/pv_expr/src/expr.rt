@@ -1,4 +1,4 @@
-// Expressions as trees.
+//! Expressions as trees.
 
 ghost use Rattle.std.specs.Prelude.{◌≡◌, IfOk};
 ghost use Rattle.pv_expr.specs.Terms.{term_of};
@@ -9,7 +9,8 @@ use std::alloc::Global;
 /// An expression over the variables of a system, which are numbered from 0.
 #[derive(Drop)]
 pub enum Expr {
-    /// `p/q` in lowest terms, where the absolute value of p is below 10^37 and q is from 1 to 10^36.
+    /// `p/q` in lowest terms, where the absolute value of p is below 10^37 and q is from 1 to
+    /// 10^36.
     Const { p: i128, q: u128 },
     Var(u8),
     Add(Box<Expr>, Box<Expr>),

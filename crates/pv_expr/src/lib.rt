@@ -1,4 +1,5 @@
-//! Systems of constraints as trees: expressions over numbered variables, relations, domains, and the canonical text of a system.
+//! Systems of constraints as trees: expressions over numbered variables, relations, domains, and the
+//! canonical text of a system.
 #![tactic(auto)]
 
 mod canonical;
@@ -6,6 +7,7 @@ mod constraint;
 mod domain;
 mod expr;
 mod system;
+pub mod text;
 
 pub use constraint::{Constraint, Relation};
 pub use domain::{Bound, Domain};

@@ -1,8 +1,8 @@
-// A system: names, domains and constraints.
+//! A system: names, domains and constraints.
 
 ghost use Rattle.std.specs.Prelude.{◌≡◌, ◌<◌, ◌≤◌, ◌≢◌, length, map, string_bytes, All, AllPairs, sum_by, IfSome, IfNone, ℕ, slice_get};
 ghost use Rattle.pv_expr.specs.Searches.{search_bounds, end_of};
-ghost use Rattle.pv_expr.specs.Systems.{IsBound, IsDomain, IsConstraint, IsSystem, side_nodes};
+ghost use Rattle.pv_expr.specs.Systems.{HasNoName, IsBound, IsDomain, IsConstraint, IsSystem, side_nodes};
 
 use crate::constraint::Constraint;
 use crate::domain::{Bound, Domain};
@@ -89,7 +89,7 @@ impl System {
         self.names[i as usize].as_str()
     }
 
-    /// The domain of variable `i`, with the lower bound rounded down and the upper bound rounded up.
+    /// The domain of variable `i`, with the lower bound rounded down and the upper one up.
     pub fn search_interval(&self, i: u8) -> Interval
         requires { i < length self.now.names }
         ensures { slice_get (map search_bounds self.now.domains) i ≡ Some result }
@@ -100,7 +100,7 @@ impl System {
     /// The number of the variable of this name, or None where no variable has it.
     pub fn find(&self, name: &str) -> Option<u8>
         ensures found { IfSome result (λ i. slice_get self.now.names i ≡ Some name.now) }
-        ensures absent { IfNone result ((k : ℕ) → k < length self.now.names → slice_get self.now.names k ≢ Some name.now) }
+        ensures absent { IfNone result (HasNoName name.now self.now.names) }
     {
         for i in 0..self.variable_count() {
             if self.name(i) == name {

@@ -1,4 +1,4 @@
-// What no clause says: that memory is found.
+//! What no clause says: that memory is found.
 
 use crate::expr::Expr;
 use pv_num::Memory;

@@ -1,11 +1,11 @@
 -- The tables, row by row.
 use Rattle.std.proofs.Common.{◌≡◌, ◌≢◌, ℕ, zero, suc, ◌%◌, arith, refl, sym, ◌∙◌, ap, subst, cond, rules}
-use Rattle.std.specs.Prelude.{IsTrue, Bool, true, false, ◌&&◌, Option, Some, None, if◌then◌else◌, pos, eqb}
-use Rattle.pv_num.specs.Extended.{Extended, NegInf, Fin, PosInf}
+use Rattle.std.specs.Prelude.{Bool, true, false, ◌&&◌, Option, Some, None, if◌then◌else◌, pos, eqb}
+use Rattle.pv_num.specs.Extended.{Extended, Fin}
 use Rattle.pv_num.specs.Grid.{unit}
 use Rattle.pv_num.specs.Order.{le, lt, lesser, greater}
 use Rattle.pv_num.specs.Arithmetic.{neg_of}
-use Rattle.pv_interval.specs.Bounds.{Bounds, IsInterval, between, everything}
+use Rattle.pv_interval.specs.Bounds.{Bounds, IsInterval, between}
 use Rattle.pv_num.specs.Arithmetic.{div_of, pow_of}
 use Rattle.pv_num.specs.declared.num.End.TheVariants.{Down, Up}
 use Rattle.pv_interval.proofs.Picks.{far_power}

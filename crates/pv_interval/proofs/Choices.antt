@@ -1,12 +1,10 @@
 -- The lesser and the greater of two ends.
-use Rattle.std.proofs.Common.{◌≡◌, ◌≢◌, ℕ, zero, suc, ◌<◌, ◌≤◌, refl, sym, ◌∙◌, ap, subst, cond, rules, ◌⊎◌, inl, inr}
-use Rattle.std.specs.Prelude.{IsTrue, Bool, true, false, ℤ}
-use Rattle.pv_num.specs.Extended.{Extended, NegInf, Fin, PosInf}
-use Rattle.pv_num.specs.Order.{le, lt, lesser, greater}
-use Rattle.pv_interval.specs.Points.{IsBelow, IsAbove}
+use Rattle.std.proofs.Common.{◌≡◌, refl, sym, ap, subst, cond}
+use Rattle.std.specs.Prelude.{IsTrue, Bool, true, false}
+use Rattle.pv_num.specs.Extended.{Extended}
+use Rattle.pv_num.specs.Order.{le, lesser, greater}
 use Rattle.pv_interval.specs.Tables.{least_of_four, greatest_of_four}
 use Rattle.pv_interval.proofs.Ends.{le_refl, le_trans, le_antisym, le_of_false}
-use Rattle.pv_interval.proofs.Values.{below_le, above_le}
 
 -- either a is at most b, or b is at most a
 pub by_le : {P : Type 0} (a b : Extended) → (IsTrue (le a b) → P) → (IsTrue (le b a) → P) → P

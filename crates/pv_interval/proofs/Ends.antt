@@ -1,9 +1,9 @@
 -- The order of ends.
-use Rattle.std.proofs.Common.{◌≡◌, ℕ, zero, suc, refl, arith, sym, ◌∙◌, ap, subst, ◌⊎◌, inl, inr, rules}
-use Rattle.std.specs.Prelude.{IsTrue, Bool, true, false, ℤ, pos, negsuc, ◌≤ℤ◌, ◌<ℤ◌}
+use Rattle.std.proofs.Common.{◌≡◌, refl, arith, ap, ◌⊎◌, inl, inr, rules}
+use Rattle.std.specs.Prelude.{IsTrue, true, false, ℤ, ◌≤ℤ◌}
 use Rattle.std.proofs.lemmas.Int.{ints}
 use Rattle.pv_num.specs.Extended.{Extended, NegInf, Fin, PosInf}
-use Rattle.pv_num.specs.Order.{le, lt, lesser, greater}
+use Rattle.pv_num.specs.Order.{le, lt}
 
 pub fin_le : (a b : ℤ) → IsTrue (le (Fin a) (Fin b)) → a ≤ℤ b
 fin_le a b h = grind (arith, ints)

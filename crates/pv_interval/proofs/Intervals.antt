@@ -1,18 +1,18 @@
 -- Each table gives an interval: it holds the result of numbers of its arguments.
-use Rattle.std.proofs.Common.{◌≡◌, ◌≢◌, ℕ, zero, suc, ◌<◌, ◌≤◌, ◌*◌, ◌%◌, refl, arith, sym, ◌∙◌, ap, subst, cond, rules, ◌⊎◌, inl, inr}
-use Rattle.std.specs.Prelude.{IsTrue, Bool, true, false, ◌&&◌, ℤ, pos, negsuc, ◌+ℤ◌, ◌*ℤ◌, ◌≤ℤ◌, ◌<ℤ◌, Option, Some, None}
+use Rattle.std.proofs.Common.{◌≡◌, ◌≢◌, ℕ, zero, suc, ◌%◌, refl, arith, subst, cond, rules}
+use Rattle.std.specs.Prelude.{IsTrue, Bool, true, false, ℤ, pos, negsuc, ◌≤ℤ◌, Option, Some, None}
 use Rattle.std.specs.Int.RustNames.{unsigned_abs}
 use Rattle.std.proofs.lemmas.Int.{ints}
 use lib.IntN.{neg_ℤ}
 use Rattle.pv_num.specs.Extended.{Extended, NegInf, Fin, PosInf}
 use Rattle.pv_num.specs.Grid.{unit}
-use Rattle.pv_num.specs.Order.{le, lt, lesser, greater}
-use Rattle.pv_interval.specs.Bounds.{Bounds, IsInterval, between, everything}
-use Rattle.pv_interval.specs.Fractions.{Fraction, plus, minus, times, over, opposite, size, power, least, greatest}
+use Rattle.pv_num.specs.Order.{le, lesser, greater}
+use Rattle.pv_interval.specs.Bounds.{Bounds, IsInterval, between}
+use Rattle.pv_interval.specs.Fractions.{Fraction, plus, minus, times, power, least, greatest}
 use Rattle.pv_interval.specs.Points.{IsBelow, IsAbove, Lies, LiesIn, LiesInSome}
-use Rattle.pv_interval.specs.Tables.{nought, sum_of, difference_of, product_of, quotient_of, negated, absolute, least_of, greatest_of, power_of, hull_of, meet_of, is_nought, odd_power, even_power}
+use Rattle.pv_interval.specs.Tables.{sum_of, difference_of, product_of, quotient_of, negated, absolute, least_of, greatest_of, power_of, hull_of, meet_of, is_nought, odd_power, even_power}
 use Rattle.pv_interval.proofs.Products.{times_pos}
-use Rattle.pv_interval.proofs.Ends.{le_trans, fin_le, le_fin, le_of_false}
+use Rattle.pv_interval.proofs.Ends.{fin_le, le_fin}
 use Rattle.pv_interval.proofs.Values.{interval_of}
 use Rattle.pv_interval.proofs.Multiples.{unit_some}
 use Rattle.pv_interval.proofs.Keeps.{sum_keeps, difference_keeps, product_keeps, opposite_keeps}

@@ -1,25 +1,21 @@
 -- Each table keeps every rational result.
-use Rattle.std.proofs.Common.{◌≡◌, ◌≢◌, ℕ, zero, suc, ◌<◌, ◌≤◌, ◌*◌, refl, arith, sym, ◌∙◌, ap, subst, cond, rules}
-use Rattle.std.specs.Prelude.{IsTrue, Bool, true, false, ℤ, pos, negsuc, ◌+ℤ◌, ◌-ℤ◌, ◌*ℤ◌, ◌≤ℤ◌, ◌<ℤ◌}
-use Rattle.std.proofs.Math.IntN.{*ℤ_comm, *ℤ-zero, zero-*ℤ, *ℤ-one}
-use Rattle.std.proofs.lemmas.Int.{ints, by_lt_z}
+use Rattle.std.proofs.Common.{◌≡◌, ℕ, ◌<◌, ◌*◌, refl, arith, sym, ◌∙◌, ap, subst}
+use Rattle.std.specs.Prelude.{ℤ, pos, negsuc, ◌+ℤ◌, ◌*ℤ◌, ◌≤ℤ◌}
+use Rattle.std.proofs.Math.IntN.{*ℤ_comm, *ℤ-one}
+use Rattle.std.proofs.lemmas.Int.{ints}
 use Rattle.std.proofs.Math.Nat.{one-le-mul}
 use lib.IntN.{neg_ℤ}
 use Rattle.pv_num.specs.Extended.{Extended, NegInf, Fin, PosInf}
 use Rattle.pv_num.specs.Grid.{unit}
-use Rattle.pv_num.specs.Order.{le, lt, lesser, greater}
-use Rattle.pv_num.specs.Arithmetic.{neg_of, add_of, sub_of, mul_of}
+use Rattle.pv_num.specs.Arithmetic.{neg_of, add_of, mul_of}
 use Rattle.pv_num.specs.Rounding.{rounded}
-use Rattle.pv_num.specs.declared.num.End.{End}
 use Rattle.pv_num.specs.declared.num.End.TheVariants.{Down, Up}
-use Rattle.pv_interval.specs.Bounds.{Bounds, IsInterval}
+use Rattle.pv_interval.specs.Bounds.{Bounds}
 use Rattle.pv_interval.specs.Fractions.{Fraction, plus, minus, times, opposite}
-use Rattle.pv_interval.specs.Points.{IsBelow, IsAbove, Lies, LiesIn}
+use Rattle.pv_interval.specs.Points.{IsBelow, IsAbove, LiesIn}
 use Rattle.pv_interval.specs.Tables.{nought, sum_of, difference_of, product_of, negated}
-use Rattle.pv_interval.proofs.Integers.{times_assoc, swap_last, right_distrib, neg_left, neg_right}
-use Rattle.pv_interval.proofs.Products.{trans, times_pos}
-use Rattle.pv_interval.proofs.Ends.{fin_le, le_trans}
-use Rattle.pv_interval.proofs.Rounds.{AtMost}
+use Rattle.pv_interval.proofs.Integers.{times_assoc, swap_last, right_distrib, neg_left}
+use Rattle.pv_interval.proofs.Products.{times_pos}
 use Rattle.pv_interval.proofs.Values.{below_rounded, above_rounded, below_le, above_le}
 use Rattle.pv_interval.proofs.Choices.{by_le, least_1, least_2, least_3, least_4, greatest_1, greatest_2, greatest_3, greatest_4}
 use Rattle.pv_interval.proofs.Multiples.{low_1, low_2, low_3, low_4, high_1, high_2, high_3, high_4}

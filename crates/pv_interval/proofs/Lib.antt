@@ -13,3 +13,5 @@ pub mod Intervals
 pub mod Monotone
 pub mod Picks
 pub mod Cases
+pub mod Contained
+pub mod ContainedQuotients

@@ -1,20 +1,19 @@
 -- Products, quotients and powers of ends keep or turn the order.
-use Rattle.std.proofs.Common.{◌≡◌, ◌≢◌, ℕ, zero, suc, ◌<◌, ◌≤◌, ◌*◌, refl, arith, sym, ◌∙◌, ap, subst, cond, rules}
-use Rattle.std.specs.Prelude.{IsTrue, Bool, true, false, ℤ, pos, negsuc, ◌+ℤ◌, ◌*ℤ◌, ◌≤ℤ◌, ◌<ℤ◌}
-use Rattle.std.proofs.Math.IntN.{*ℤ_comm, *ℤ-zero, zero-*ℤ, neg_ℤ-neg_ℤ}
+use Rattle.std.proofs.Common.{◌≡◌, ℕ, zero, suc, ◌<◌, refl, arith, ap, subst, rules}
+use Rattle.std.specs.Prelude.{IsTrue, false, ℤ, pos, negsuc, ◌*ℤ◌, ◌≤ℤ◌}
+use Rattle.std.proofs.Math.IntN.{*ℤ_comm, *ℤ-zero}
 use Rattle.std.proofs.lemmas.Int.{ints}
 use lib.IntN.{neg_ℤ}
 use Rattle.pv_num.specs.Extended.{Extended, NegInf, Fin, PosInf}
 use Rattle.pv_num.specs.Grid.{unit}
-use Rattle.pv_num.specs.Order.{le, lt, lesser, greater}
+use Rattle.pv_num.specs.Order.{le}
 use Rattle.pv_num.specs.Arithmetic.{neg_of, mul_of, div_of, pow_of, infinite_by}
 use Rattle.pv_num.specs.Rounding.{rounded}
 use Rattle.pv_num.specs.declared.num.End.{End}
-use Rattle.pv_num.specs.declared.num.End.TheVariants.{Down, Up}
 use Rattle.pv_interval.specs.Tables.{nought}
-use Rattle.pv_interval.proofs.Products.{times_pos, times_from_zero, times_to_zero, from_zero_times, to_zero_times}
+use Rattle.pv_interval.proofs.Products.{times_pos, times_to_zero, from_zero_times, to_zero_times}
 use Rattle.pv_interval.proofs.Ends.{le_refl, le_trans, fin_le, le_fin}
-use Rattle.pv_interval.proofs.Rounds.{AtMost, rounded_mono, rounded_from_zero, rounded_to_zero}
+use Rattle.pv_interval.proofs.Rounds.{rounded_mono, rounded_from_zero, rounded_to_zero}
 use Rattle.pv_interval.proofs.Multiples.{unit_some, times_pp, times_np}
 use Rattle.pv_interval.proofs.Powers.{pow_from_zero}
 
@@ -148,7 +147,7 @@ div_mono s PosInf NegInf (Fin (pos (suc e))) h k = absurd (search rules)
 div_mono s PosInf (Fin b) (Fin (pos (suc e))) h k = absurd (search rules)
 div_mono s PosInf PosInf (Fin (pos (suc e))) h k = refl
 
-div_from_zero : (s : End) (a e : Extended) → IsTrue (le nought a) → le e nought ≡ false → IsTrue (le nought (div_of s a e))
+pub div_from_zero : (s : End) (a e : Extended) → IsTrue (le nought a) → le e nought ≡ false → IsTrue (le nought (div_of s a e))
 div_from_zero s NegInf e h k = absurd (search rules)
 div_from_zero s a NegInf h k = absurd (cc)
 div_from_zero s a (Fin (pos zero)) h k = absurd (search rules)
@@ -159,7 +158,7 @@ div_from_zero s (Fin a) (Fin (pos (suc e))) h k =
     rounded_from_zero s (a *ℤ pos unit) (suc e) (omega arith) (times_pp a (pos unit) (fin_le (pos 0) a h) (omega (arith, ints)))
 div_from_zero s PosInf (Fin (pos (suc e))) h k = refl
 
-div_to_zero : (s : End) (a e : Extended) → IsTrue (le a nought) → le e nought ≡ false → IsTrue (le (div_of s a e) nought)
+pub div_to_zero : (s : End) (a e : Extended) → IsTrue (le a nought) → le e nought ≡ false → IsTrue (le (div_of s a e) nought)
 div_to_zero s PosInf e h k = absurd (search rules)
 div_to_zero s a NegInf h k = absurd (cc)
 div_to_zero s a (Fin (pos zero)) h k = absurd (search rules)

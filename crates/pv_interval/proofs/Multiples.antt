@@ -1,22 +1,20 @@
 -- Products of ends beside products of numbers.
-use Rattle.std.proofs.Common.{◌≡◌, ◌≢◌, ℕ, zero, suc, ◌<◌, ◌≤◌, ◌*◌, refl, arith, sym, ◌∙◌, ap, subst, rules}
-use Rattle.std.specs.Prelude.{IsTrue, ℤ, pos, negsuc, ◌+ℤ◌, ◌*ℤ◌, ◌≤ℤ◌, ◌<ℤ◌}
+use Rattle.std.proofs.Common.{◌≡◌, ℕ, zero, suc, ◌<◌, ◌*◌, refl, arith, sym, ◌∙◌, ap, subst, rules}
+use Rattle.std.specs.Prelude.{IsTrue, ℤ, pos, negsuc, ◌*ℤ◌, ◌≤ℤ◌}
 use Rattle.std.proofs.Math.IntN.{*ℤ_comm, *ℤ-zero, zero-*ℤ}
-use Rattle.std.proofs.lemmas.Int.{ints, by_lt_z}
+use Rattle.std.proofs.lemmas.Int.{ints}
 use Rattle.std.proofs.lemmas.Nat.{pow_pos}
 use Rattle.pv_num.specs.Extended.{Extended, NegInf, Fin, PosInf}
 use Rattle.pv_num.specs.Grid.{unit}
-use Rattle.pv_num.specs.Order.{le, lt}
+use Rattle.pv_num.specs.Order.{le}
 use Rattle.pv_num.specs.Arithmetic.{mul_of}
 use Rattle.pv_num.specs.Rounding.{rounded}
-use Rattle.pv_num.specs.declared.num.End.{End}
 use Rattle.pv_num.specs.declared.num.End.TheVariants.{Down, Up}
 use Rattle.pv_interval.specs.Points.{IsBelow, IsAbove}
 use Rattle.pv_interval.specs.Tables.{nought}
-use Rattle.pv_interval.proofs.Integers.{times_assoc, swap_last}
+use Rattle.pv_interval.proofs.Integers.{times_assoc}
 use Rattle.pv_interval.proofs.Products.{trans, cancel_pos, times_from_zero, times_to_zero, from_zero_times, to_zero_times}
 use Rattle.pv_interval.proofs.Ends.{fin_le}
-use Rattle.pv_interval.proofs.Rounds.{AtMost}
 use Rattle.pv_interval.proofs.Values.{below_rounded, above_rounded}
 
 pub unit_some : 0 < unit

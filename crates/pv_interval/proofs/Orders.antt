@@ -1,24 +1,23 @@
 -- Least, greatest, absolute values, hulls and meets keep every rational result.
-use Rattle.std.proofs.Common.{◌≡◌, ◌≢◌, ℕ, zero, suc, ◌<◌, ◌≤◌, ◌*◌, refl, arith, sym, ◌∙◌, ap, subst, cond, rules, ◌⊎◌, inl, inr}
-use Rattle.std.specs.Prelude.{IsTrue, Bool, true, false, ℤ, pos, negsuc, ◌+ℤ◌, ◌*ℤ◌, ◌≤ℤ◌, ◌<ℤ◌, int_lt, Option, Some, None, if◌then◌else◌}
+use Rattle.std.proofs.Common.{◌≡◌, ℕ, zero, suc, ◌<◌, refl, arith, sym, subst, cond}
+use Rattle.std.specs.Prelude.{Bool, true, false, ℤ, pos, negsuc, ◌*ℤ◌, ◌≤ℤ◌, int_lt, Some, None, if◌then◌else◌}
 use Rattle.std.specs.Int.RustNames.{unsigned_abs}
-use Rattle.std.proofs.lemmas.Int.{ints, by_lt_z}
+use Rattle.std.proofs.lemmas.Int.{ints}
 use lib.IntN.{neg_ℤ}
 use Rattle.pv_num.specs.Extended.{Extended, NegInf, Fin, PosInf}
 use Rattle.pv_num.specs.Grid.{unit}
-use Rattle.pv_num.specs.Order.{le, lt, lesser, greater}
+use Rattle.pv_num.specs.Order.{le, lesser, greater}
 use Rattle.pv_num.specs.Arithmetic.{neg_of}
-use Rattle.pv_interval.specs.Bounds.{Bounds, IsInterval}
-use Rattle.pv_interval.specs.Fractions.{Fraction, below, least, greatest, opposite, size}
+use Rattle.pv_interval.specs.Bounds.{Bounds}
+use Rattle.pv_interval.specs.Fractions.{Fraction, below, least, greatest, size}
 use Rattle.pv_interval.specs.Points.{IsBelow, IsAbove, Lies, LiesIn, LiesInSome}
 use Rattle.pv_interval.specs.Tables.{nought, least_of, greatest_of, absolute, negated, hull_of, meet_of, is_from_nought, is_to_nought}
 use Rattle.pv_interval.proofs.Integers.{swap_last}
-use Rattle.pv_interval.proofs.Products.{trans, times_pos, cancel_pos}
+use Rattle.pv_interval.proofs.Products.{times_pos, cancel_pos}
 use Rattle.pv_interval.proofs.Values.{below_le, above_le, across}
-use Rattle.pv_interval.proofs.Choices.{by_le, lesser_left, lesser_right, greater_left, greater_right, lesser_either, greater_either}
-use Rattle.pv_interval.proofs.Ends.{le_of_false}
-use Rattle.pv_interval.proofs.Multiples.{zero_below, zero_above, below_zero, above_zero}
-use Rattle.pv_interval.proofs.Keeps.{neg_below, neg_above, opposite_keeps, by_sign}
+use Rattle.pv_interval.proofs.Choices.{lesser_left, lesser_right, greater_left, greater_right, lesser_either, greater_either}
+use Rattle.pv_interval.proofs.Multiples.{zero_below, below_zero, above_zero}
+use Rattle.pv_interval.proofs.Keeps.{neg_above, opposite_keeps, by_sign}
 
 pub cond_keeps : {A : Type 0} (P : A → Type 0) (t : Bool) (a b : A) → (t ≡ true → P a) → (t ≡ false → P b) → P (cond t a b)
 cond_keeps P true a b f g = f refl

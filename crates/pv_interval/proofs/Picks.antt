@@ -1,6 +1,6 @@
 -- Which products and quotients of ends are the least and the greatest.
 use Rattle.std.proofs.Common.{◌≡◌, ◌≢◌, ℕ, zero, suc, arith, refl, sym, ◌∙◌, ap, subst, cond, rules}
-use Rattle.std.specs.Prelude.{IsTrue, Bool, true, false, ◌&&◌, ℤ, pos, negsuc, ◌*ℤ◌}
+use Rattle.std.specs.Prelude.{IsTrue, Bool, true, false, ℤ, pos, negsuc, ◌*ℤ◌}
 use lib.IntN.{neg_ℤ}
 use Rattle.pv_num.specs.Grid.{unit}
 use Rattle.pv_interval.proofs.Rounds.{rounded_down_open, rounded_up_open}
@@ -155,7 +155,7 @@ product_swap x y = two_ends _ _ _ _
 
 -- ---- quotients by numbers above 0: a <= b, 0 < c <= d
 
-above_too : (a b : Extended) → IsTrue (le a b) → le a nought ≡ false → le b nought ≡ false
+pub above_too : (a b : Extended) → IsTrue (le a b) → le a nought ≡ false → le b nought ≡ false
 above_too a b h k = by_value (le b nought) refl
   where
     by_value : (t : Bool) → le b nought ≡ t → le b nought ≡ false
@@ -195,17 +195,17 @@ turn_both_sides s a b e f h k l =
     (subst (λ w. IsTrue (le (div_of s (neg_of a) (neg_of e)) w)) (div_turn s b f k) l)
 
 -- a lesser number has a greater quotient
-under_mono : (s : End) (a b e : Extended) → IsTrue (le a b) → le nought e ≡ false → IsTrue (le (div_of s b e) (div_of s a e))
+pub under_mono : (s : End) (a b e : Extended) → IsTrue (le a b) → le nought e ≡ false → IsTrue (le (div_of s b e) (div_of s a e))
 under_mono s a b e h k = turn_both_sides s b a e e k k (div_mono s (neg_of b) (neg_of a) (neg_of e) (neg_order a b h) (not_turned e k))
 
 -- c <= d < 0 and a <= 0
-under_up : (s : End) (a c d : Extended) → IsTrue (le a nought) → IsTrue (le c d) → le nought d ≡ false
+pub under_up : (s : End) (a c d : Extended) → IsTrue (le a nought) → IsTrue (le c d) → le nought d ≡ false
     → IsTrue (le (div_of s a c) (div_of s a d))
 under_up s a c d h k z = turn_both_sides s a a c d (lower_too c d k z) z
     (div_down s (neg_of a) (neg_of d) (neg_of c) (neg_order a nought h) (not_turned d z) (neg_order c d k))
 
 -- c <= d < 0 and 0 <= a
-under_down : (s : End) (a c d : Extended) → IsTrue (le nought a) → IsTrue (le c d) → le nought d ≡ false
+pub under_down : (s : End) (a c d : Extended) → IsTrue (le nought a) → IsTrue (le c d) → le nought d ≡ false
     → IsTrue (le (div_of s a d) (div_of s a c))
 under_down s a c d h k z = turn_both_sides s a a d c z (lower_too c d k z)
     (div_up s (neg_of a) (neg_of d) (neg_of c) (neg_order nought a h) (not_turned d z) (neg_order c d k))

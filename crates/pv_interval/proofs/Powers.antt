@@ -1,28 +1,27 @@
 -- Powers keep every rational result.
-use Rattle.std.proofs.Common.{◌≡◌, ◌≢◌, ℕ, zero, suc, ◌+◌, ◌<◌, ◌≤◌, ◌*◌, ◌%◌, refl, arith, sym, ◌∙◌, ap, subst, cond, rules, one-mul}
-use Rattle.std.specs.Prelude.{IsTrue, Bool, true, false, ℤ, pos, negsuc, ◌+ℤ◌, ◌*ℤ◌, ◌≤ℤ◌, ◌<ℤ◌, if◌then◌else◌, eqb}
-use Rattle.std.proofs.Math.IntN.{*ℤ_comm, *ℤ-one, zero-*ℤ, neg_ℤ-neg_ℤ}
-use Rattle.std.proofs.lemmas.Int.{ints, by_lt_z}
+use Rattle.std.proofs.Common.{◌≡◌, ◌≢◌, ℕ, zero, suc, ◌<◌, ◌*◌, ◌%◌, refl, arith, sym, ◌∙◌, ap, subst, rules}
+use Rattle.std.specs.Prelude.{IsTrue, false, ℤ, pos, negsuc, ◌*ℤ◌, ◌≤ℤ◌, if◌then◌else◌, eqb}
+use Rattle.std.proofs.Math.IntN.{neg_ℤ-neg_ℤ}
+use Rattle.std.proofs.lemmas.Int.{ints}
 use Rattle.std.proofs.lemmas.Bool.{eqb-true, eq-eqb}
 use lib.IntN.{neg_ℤ}
 use Rattle.pv_num.specs.Extended.{Extended, NegInf, Fin, PosInf}
 use Rattle.pv_num.specs.Grid.{unit}
-use Rattle.pv_num.specs.Order.{le, lt, lesser, greater}
+use Rattle.pv_num.specs.Order.{le, greater}
 use Rattle.pv_num.specs.Arithmetic.{neg_of, mul_of, pow_of}
 use Rattle.pv_num.specs.declared.num.End.{End}
 use Rattle.pv_num.specs.declared.num.End.TheVariants.{Down, Up}
-use Rattle.pv_interval.specs.Bounds.{Bounds, IsInterval}
+use Rattle.pv_interval.specs.Bounds.{Bounds}
 use Rattle.pv_interval.specs.Fractions.{Fraction, times, opposite, power}
-use Rattle.pv_interval.specs.Points.{IsBelow, IsAbove, Lies, LiesIn}
+use Rattle.pv_interval.specs.Points.{IsBelow, IsAbove, LiesIn}
 use Rattle.pv_interval.specs.Tables.{nought, power_of, odd_power, even_power, is_from_nought, is_to_nought, exactly}
 use Rattle.pv_interval.proofs.Integers.{neg_left, neg_right}
-use Rattle.pv_interval.proofs.Products.{trans}
-use Rattle.pv_interval.proofs.Ends.{le_trans, le_of_false, fin_le, le_fin}
+use Rattle.pv_interval.proofs.Ends.{le_of_false, fin_le, le_fin}
 use Rattle.pv_interval.proofs.Rounds.{rounded_from_zero}
 use Rattle.pv_interval.proofs.Values.{below_le, above_le, across}
 use Rattle.pv_interval.proofs.Choices.{greater_left, greater_right}
 use Rattle.pv_interval.proofs.Multiples.{low_1, high_1, zero_below, zero_above, below_zero, above_zero, unit_some, times_pp}
-use Rattle.pv_interval.proofs.Keeps.{neg_below, neg_above, opposite_keeps, by_sign, some_times}
+use Rattle.pv_interval.proofs.Keeps.{neg_below, neg_above, by_sign, some_times}
 use Rattle.pv_interval.proofs.Orders.{cond_keeps}
 
 -- ---- powers of a fraction

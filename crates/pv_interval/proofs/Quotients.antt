@@ -1,28 +1,27 @@
 -- Quotients keep every rational result.
-use Rattle.std.proofs.Common.{◌≡◌, ◌≢◌, ℕ, zero, suc, ◌+◌, ◌<◌, ◌≤◌, ◌*◌, refl, arith, sym, ◌∙◌, ap, subst, cond, rules}
-use Rattle.std.specs.Prelude.{IsTrue, Bool, true, false, ◌&&◌, ℤ, pos, negsuc, ◌+ℤ◌, ◌*ℤ◌, ◌≤ℤ◌, ◌<ℤ◌, if◌then◌else◌, Option, Some, None}
-use Rattle.std.proofs.Math.IntN.{*ℤ_comm, *ℤ-one, zero-*ℤ, neg_ℤ-neg_ℤ}
-use Rattle.std.proofs.lemmas.Int.{ints, by_lt_z}
+use Rattle.std.proofs.Common.{◌≡◌, ℕ, zero, suc, ◌<◌, ◌*◌, refl, arith, sym, ◌∙◌, ap, subst, rules}
+use Rattle.std.specs.Prelude.{IsTrue, Bool, true, false, ◌&&◌, ℤ, pos, negsuc, ◌*ℤ◌, ◌≤ℤ◌, if◌then◌else◌, Option, Some, None}
+use Rattle.std.proofs.Math.IntN.{*ℤ_comm, zero-*ℤ}
+use Rattle.std.proofs.lemmas.Int.{ints}
 use lib.IntN.{neg_ℤ}
 use Rattle.pv_num.specs.Extended.{Extended, NegInf, Fin, PosInf}
 use Rattle.pv_num.specs.Grid.{unit}
-use Rattle.pv_num.specs.Order.{le, lt, lesser, greater}
+use Rattle.pv_num.specs.Order.{le, lt}
 use Rattle.pv_num.specs.Arithmetic.{neg_of, div_of}
 use Rattle.pv_num.specs.Rounding.{rounded}
 use Rattle.pv_num.specs.declared.num.End.{End}
 use Rattle.pv_num.specs.declared.num.End.TheVariants.{Down, Up}
-use Rattle.pv_interval.specs.Bounds.{Bounds, IsInterval, everything}
-use Rattle.pv_interval.specs.Fractions.{Fraction, times, opposite, over, over_parts}
+use Rattle.pv_interval.specs.Bounds.{Bounds, everything}
+use Rattle.pv_interval.specs.Fractions.{Fraction, over, over_parts}
 use Rattle.pv_interval.specs.Points.{IsBelow, IsAbove, Lies, LiesIn, LiesInSome}
 use Rattle.pv_interval.specs.Tables.{nought, quotient_of, quotient_across, of_ends, is_from_nought, is_to_nought, has_nought, is_nought, exactly}
-use Rattle.pv_interval.proofs.Integers.{neg_left, neg_right, times_assoc}
-use Rattle.pv_interval.proofs.Products.{trans, times_from_zero, times_to_zero, from_zero_times, to_zero_times}
-use Rattle.pv_interval.proofs.Ends.{le_trans, le_of_false, fin_le, le_fin, lt_from, lt_not}
-use Rattle.pv_interval.proofs.Rounds.{AtMost}
+use Rattle.pv_interval.proofs.Integers.{neg_left, times_assoc}
+use Rattle.pv_interval.proofs.Products.{trans, times_from_zero, from_zero_times, to_zero_times}
+use Rattle.pv_interval.proofs.Ends.{le_trans, fin_le, lt_from}
 use Rattle.pv_interval.proofs.Values.{below_le, above_le, across, below_rounded, above_rounded}
 use Rattle.pv_interval.proofs.Choices.{by_le, least_1, least_2, least_3, least_4, greatest_1, greatest_2, greatest_3, greatest_4}
-use Rattle.pv_interval.proofs.Multiples.{cross, zero_below, zero_above, below_zero, above_zero, unit_some, times_pp, times_np, up_from, down_to, not_above}
-use Rattle.pv_interval.proofs.Keeps.{neg_below, neg_above, opposite_keeps, by_sign, some_times}
+use Rattle.pv_interval.proofs.Multiples.{cross, zero_below, zero_above, below_zero, above_zero, times_pp, times_np, up_from, down_to}
+use Rattle.pv_interval.proofs.Keeps.{neg_below, neg_above, some_times}
 use Rattle.pv_interval.proofs.Orders.{cond_keeps}
 use Rattle.pv_interval.proofs.Powers.{turn_le, turn_from}
 

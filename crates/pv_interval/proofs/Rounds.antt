@@ -1,12 +1,12 @@
 -- Rounding keeps the order, and each side keeps to its side.
-use Rattle.std.proofs.Common.{◌≡◌, ◌≢◌, ℕ, zero, suc, ◌<◌, ◌≤◌, refl, arith, sym, ◌∙◌, ap, subst, rules}
-use Rattle.std.specs.Prelude.{IsTrue, ℤ, pos, negsuc, ◌*ℤ◌, ◌≤ℤ◌, ◌<ℤ◌}
-use Rattle.std.proofs.Math.IntN.{*ℤ_comm, zero-*ℤ}
-use Rattle.std.proofs.lemmas.Int.{ints, by_lt_z}
+use Rattle.std.proofs.Common.{◌≢◌, ℕ, ◌<◌, refl, arith, sym, subst}
+use Rattle.std.specs.Prelude.{IsTrue, ℤ, pos, ◌*ℤ◌, ◌≤ℤ◌, ◌<ℤ◌}
+use Rattle.std.proofs.Math.IntN.{zero-*ℤ}
+use Rattle.std.proofs.lemmas.Int.{ints}
 use Rattle.pv_num.specs.Extended.{Extended, NegInf, Fin, PosInf}
 use Rattle.pv_num.specs.Grid.{IsGrid}
-use Rattle.pv_num.specs.Order.{le, lt}
-use Rattle.pv_num.specs.Rounding.{IsDown, IsUp, IsRounded, IsGreatestBelow, IsLeastAbove, rounded}
+use Rattle.pv_num.specs.Order.{le}
+use Rattle.pv_num.specs.Rounding.{IsDown, IsUp, rounded}
 use Rattle.pv_num.specs.declared.num.End.{End}
 use Rattle.pv_num.specs.declared.num.End.TheVariants.{Down, Up}
 use Rattle.pv_num.proofs.Rounding.{rounded-is}

@@ -1,13 +1,10 @@
 -- Ends and the rational numbers on their sides.
-use Rattle.std.proofs.Common.{◌≡◌, ◌≢◌, ℕ, zero, suc, ◌<◌, ◌≤◌, ◌*◌, refl, arith, sym, ◌∙◌, ap, subst, rules, ◌⊎◌, inl, inr}
-use Rattle.std.specs.Prelude.{IsTrue, ℤ, pos, negsuc, ◌+ℤ◌, ◌*ℤ◌, ◌≤ℤ◌, ◌<ℤ◌}
-use Rattle.std.proofs.Math.IntN.{*ℤ_comm}
-use Rattle.std.proofs.lemmas.Int.{ints, by_lt_z}
+use Rattle.std.proofs.Common.{◌≢◌, ℕ, ◌<◌, refl, rules}
+use Rattle.std.specs.Prelude.{IsTrue, ℤ, pos, ◌*ℤ◌}
 use Rattle.pv_num.specs.Extended.{Extended, NegInf, Fin, PosInf}
-use Rattle.pv_num.specs.Grid.{IsGrid, unit}
-use Rattle.pv_num.specs.Order.{le, lt, lesser, greater}
-use Rattle.pv_num.specs.Rounding.{IsDown, IsUp, IsRounded, rounded}
-use Rattle.pv_num.specs.declared.num.End.{End}
+use Rattle.pv_num.specs.Grid.{unit}
+use Rattle.pv_num.specs.Order.{le}
+use Rattle.pv_num.specs.Rounding.{IsDown, IsUp, rounded}
 use Rattle.pv_num.specs.declared.num.End.TheVariants.{Down, Up}
 use Rattle.pv_interval.specs.Bounds.{Bounds, IsInterval}
 use Rattle.pv_interval.specs.Points.{IsBelow, IsAbove, Lies}

@@ -3,3 +3,4 @@ pub mod Bounds
 pub mod Points
 pub mod Tables
 pub mod Inclusion
+pub mod Subsets

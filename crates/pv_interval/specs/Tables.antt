@@ -1,5 +1,5 @@
 -- The operations on intervals, end by end: a lower end is rounded down and an upper end up.
-use Rattle.std.specs.Prelude.{ℕ, zero, suc, ◌%◌, Bool, true, false, ◌&&◌, ℤ, pos, Option, Some, None, if◌then◌else◌, eqb}
+use Rattle.std.specs.Prelude.{ℕ, ◌%◌, Bool, ◌&&◌, pos, Option, Some, None, if◌then◌else◌, eqb}
 use Rattle.pv_num.specs.Extended.{Extended, NegInf, Fin, PosInf}
 use Rattle.pv_num.specs.Grid.{unit}
 use Rattle.pv_num.specs.Order.{le, lt, lesser, greater}

@@ -2,6 +2,8 @@
 ghost use Rattle.std.specs.Prelude.{◌≡◌, if◌then◌else◌};
 ghost use Rattle.pv_num.specs.Order.{lesser as lesser_of, greater as greater_of};
 ghost use Rattle.pv_interval.specs.Bounds.{IsInterval, between, interval_from};
+ghost use Rattle.pv_interval.specs.Fractions.{plus, minus, opposite, size, least, greatest};
+ghost use Rattle.pv_interval.specs.Inclusion.{HoldsPair, HoldsOne, HoldsBoth, Covers};
 ghost use Rattle.pv_interval.specs.Tables.{sum_of, difference_of, negated, absolute, least_of, greatest_of, hull_of, meet_of, width_of, holds};
 
 use pv_num::{End, Num};
@@ -78,7 +80,8 @@ impl Interval {
     /// Holds the sum of each number of this interval and each of `other`.
     #[inline]
     pub fn add(self, other: Interval) -> Interval
-        ensures { result ≡ sum_of self other }
+        ensures value { result ≡ sum_of self other }
+        ensures inclusion { HoldsPair plus self other result }
     {
         let lo = self.lo().add(other.lo(), End::Down);
         let hi = self.hi().add(other.hi(), End::Up);
@@ -88,7 +91,8 @@ impl Interval {
     /// Holds the difference of each number of this interval and each of `other`.
     #[inline]
     pub fn sub(self, other: Interval) -> Interval
-        ensures { result ≡ difference_of self other }
+        ensures value { result ≡ difference_of self other }
+        ensures inclusion { HoldsPair minus self other result }
     {
         let lo = self.lo().sub(other.hi(), End::Down);
         let hi = self.hi().sub(other.lo(), End::Up);
@@ -98,7 +102,8 @@ impl Interval {
     /// The numbers of this interval with the other sign.
     #[inline]
     pub fn neg(self) -> Interval
-        ensures { result ≡ negated self }
+        ensures value { result ≡ negated self }
+        ensures inclusion { HoldsOne opposite self result }
     {
         let lo = self.hi().neg();
         let hi = self.lo().neg();
@@ -108,6 +113,14 @@ impl Interval {
     /// The numbers of this interval without their sign.
     #[inline]
     pub fn abs(self) -> Interval
+        ensures value { result ≡ absolute self }
+        ensures inclusion { HoldsOne size self result }
+    {
+        self.sizes()
+    }
+
+    #[inline]
+    fn sizes(self) -> Interval
         ensures { result ≡ absolute self }
     {
         if Num::ZERO <= self.lo() {
@@ -123,7 +136,8 @@ impl Interval {
     /// Holds the lesser of each number of this interval and each of `other`.
     #[inline]
     pub fn min(self, other: Interval) -> Interval
-        ensures { result ≡ least_of self other }
+        ensures value { result ≡ least_of self other }
+        ensures inclusion { HoldsPair least self other result }
     {
         let lo = lesser(self.lo(), other.lo());
         let hi = lesser(self.hi(), other.hi());
@@ -133,7 +147,8 @@ impl Interval {
     /// Holds the greater of each number of this interval and each of `other`.
     #[inline]
     pub fn max(self, other: Interval) -> Interval
-        ensures { result ≡ greatest_of self other }
+        ensures value { result ≡ greatest_of self other }
+        ensures inclusion { HoldsPair greatest self other result }
     {
         let lo = greater(self.lo(), other.lo());
         let hi = greater(self.hi(), other.hi());
@@ -143,6 +158,14 @@ impl Interval {
     /// The numbers that lie in both; None where there is none.
     #[inline]
     pub fn meet(self, other: Interval) -> Option<Interval>
+        ensures value { result ≡ meet_of self other }
+        ensures inclusion { HoldsBoth self other result }
+    {
+        self.common(other)
+    }
+
+    #[inline]
+    fn common(self, other: Interval) -> Option<Interval>
         ensures { result ≡ meet_of self other }
     {
         let lo = greater(self.lo(), other.lo());
@@ -156,7 +179,9 @@ impl Interval {
     /// The least interval that holds both.
     #[inline]
     pub fn hull(self, other: Interval) -> Interval
-        ensures { result ≡ hull_of self other }
+        ensures value { result ≡ hull_of self other }
+        ensures holds_left { Covers self result }
+        ensures holds_right { Covers other result }
     {
         let lo = lesser(self.lo(), other.lo());
         let hi = greater(self.hi(), other.hi());

@@ -4,10 +4,9 @@
 #![tactic(auto)]
 
 mod interval;
-mod laws;
+pub mod laws;
 
 pub use interval::Interval;
-pub use laws::inclusion;
 
 #[cfg(test)]
 mod tests;

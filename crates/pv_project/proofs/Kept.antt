@@ -1,18 +1,18 @@
 -- The projections lose no argument that a result in z allows.
-use Rattle.std.proofs.Common.{◌≡◌, ◌≢◌, ◌⊎◌, inl, inr, ℕ, zero, suc, ◌<◌, ◌*◌, refl, arith, sym, ◌∙◌, ap, subst, cond, rules}
-use Rattle.std.specs.Prelude.{IsTrue, Bool, true, false, ◌&&◌, ℤ, pos, negsuc, ◌*ℤ◌, ◌≤ℤ◌, Option, Some, None, if◌then◌else◌}
+use Rattle.std.proofs.Common.{◌≡◌, ◌≢◌, ◌⊎◌, inl, inr, ℕ, zero, suc, ◌<◌, ◌*◌, refl, arith, ◌∙◌, ap, subst, cond}
+use Rattle.std.specs.Prelude.{Bool, true, false, ◌&&◌, ℤ, pos, negsuc, ◌*ℤ◌, ◌≤ℤ◌, Option, Some, None}
 use Rattle.std.proofs.lemmas.Int.{ints}
 use Rattle.std.proofs.Math.IntN.{*ℤ-zero}
 use Rattle.std.specs.Int.RustNames.{unsigned_abs}
 use lib.IntN.{neg_ℤ}
-use Rattle.pv_num.specs.Extended.{Extended, NegInf, Fin, PosInf}
+use Rattle.pv_num.specs.Extended.{Extended, NegInf, PosInf}
 use Rattle.pv_num.specs.Order.{le, lt}
-use Rattle.pv_interval.specs.Bounds.{Bounds, IsInterval, between, everything}
+use Rattle.pv_interval.specs.Bounds.{Bounds, between, everything}
 use Rattle.pv_interval.specs.Fractions.{Fraction, plus, minus, times, over, over_parts, opposite, size, least, greatest, below}
 use Rattle.pv_interval.specs.Points.{IsBelow, IsAbove, Lies, LiesIn, LiesInSome}
-use Rattle.pv_interval.specs.Tables.{nought, has_nought, is_nought, sum_of, difference_of, product_of, quotient_of, negated, meet_of, hull_of}
+use Rattle.pv_interval.specs.Tables.{nought, has_nought, is_nought, sum_of, difference_of, product_of, quotient_of, negated, meet_of}
 use Rattle.pv_interval.proofs.Ends.{lt_not}
-use Rattle.pv_interval.proofs.Values.{across, below_le, above_le}
+use Rattle.pv_interval.proofs.Values.{across}
 use Rattle.pv_interval.proofs.Multiples.{zero_below, zero_above}
 use Rattle.pv_interval.proofs.Keeps.{sum_keeps, difference_keeps, product_keeps, opposite_keeps, by_sign, some_times}
 use Rattle.pv_interval.proofs.Orders.{meet_keeps, hull_keeps_left, hull_keeps_right, cond_keeps, above_down, below_up, lt_fact, not_lt_fact, size_from, size_to}

@@ -1,12 +1,11 @@
 -- What an interval has in common with two ends.
-use Rattle.std.proofs.Common.{◌≡◌, ◌≢◌, refl, sym, ◌∙◌, ap, subst, cond, rules}
-use Rattle.std.specs.Prelude.{IsTrue, Bool, true, false, ◌&&◌, Option, Some, None}
+use Rattle.std.proofs.Common.{◌≡◌, ◌≢◌, refl, ◌∙◌, ap, cond}
+use Rattle.std.specs.Prelude.{Bool, true, false, ◌&&◌, Some, None}
 use Rattle.pv_num.specs.Extended.{Extended, NegInf, Fin, PosInf}
 use Rattle.pv_num.specs.Order.{le, lt, lesser, greater}
 use Rattle.pv_num.specs.Arithmetic.{neg_of}
 use Rattle.pv_interval.specs.Bounds.{Bounds, IsInterval, between, interval_from}
 use Rattle.pv_interval.specs.Tables.{meet_of, negated}
-use Rattle.pv_interval.proofs.Orders.{cond_keeps}
 use Rattle.pv_interval.proofs.Choices.{lesser_either, greater_either}
 
 lt_pos : (e : Extended) → e ≢ PosInf → lt e PosInf ≡ true

@@ -1,15 +1,14 @@
 -- Roots, and the cases of the power.
-use Rattle.std.proofs.Common.{◌≡◌, ◌≢◌, ℕ, zero, suc, ◌%◌, ◌<◌, ◌≤◌, refl, arith, sym, ◌∙◌, ap, subst, cond, rules}
-use Rattle.std.specs.Prelude.{IsTrue, Bool, true, false, ℤ, pos, negsuc, Option, Some, None, if◌then◌else◌, eqb}
+use Rattle.std.proofs.Common.{◌≡◌, ◌≢◌, ℕ, zero, suc, ◌%◌, refl, arith, ◌∙◌, ap, subst, cond}
+use Rattle.std.specs.Prelude.{IsTrue, Bool, true, false, ℤ, pos, Option, Some, None, if◌then◌else◌, eqb}
 use Rattle.std.proofs.lemmas.Bool.{eq-eqb}
 use Rattle.std.proofs.Math.Dec.{eqb-suc-zero}
 use lib.IntN.{neg_ℤ}
 use Rattle.pv_num.specs.Extended.{Extended, NegInf, Fin, PosInf}
 use Rattle.pv_num.specs.Grid.{unit}
-use Rattle.pv_num.specs.Order.{le, lt, lesser, greater}
+use Rattle.pv_num.specs.Order.{le, lesser, greater}
 use Rattle.pv_num.specs.Arithmetic.{neg_of, root_of}
 use Rattle.pv_num.specs.Rounding.{at_least_plus}
-use Rattle.pv_num.specs.declared.num.End.{End}
 use Rattle.pv_num.specs.declared.num.End.TheVariants.{Down, Up}
 use Rattle.pv_interval.specs.Bounds.{Bounds, IsInterval, between}
 use Rattle.pv_interval.specs.Tables.{nought, meet_of, holds}

@@ -1,27 +1,26 @@
 -- No root is lost: the power is strictly increasing from 0 on.
-use Rattle.std.proofs.Common.{◌≡◌, ◌≢◌, ◌⊎◌, inl, inr, ℕ, zero, suc, ◌%◌, ◌*◌, ◌<◌, ◌≤◌, refl, arith, sym, ◌∙◌, ap, subst, cond, rules}
-use Rattle.std.specs.Prelude.{IsTrue, Bool, true, false, ◌&&◌, ℤ, pos, negsuc, ◌*ℤ◌, ◌≤ℤ◌, ◌<ℤ◌, Option, Some, None, if◌then◌else◌, eqb}
-use Rattle.std.proofs.Math.IntN.{*ℤ_comm, zero-*ℤ, neg_ℤ-neg_ℤ}
+use Rattle.std.proofs.Common.{◌≡◌, inl, inr, ℕ, zero, suc, ◌%◌, ◌<◌, refl, arith, sym, ◌∙◌, ap, subst}
+use Rattle.std.specs.Prelude.{IsTrue, Bool, true, false, ◌&&◌, ℤ, pos, negsuc, ◌*ℤ◌, ◌≤ℤ◌, ◌<ℤ◌, Option, Some, None, if◌then◌else◌}
+use Rattle.std.proofs.Math.IntN.{*ℤ_comm, zero-*ℤ}
 use Rattle.std.proofs.lemmas.Int.{ints, by_lt_z}
 use lib.IntN.{neg_ℤ}
 use Rattle.pv_num.specs.Extended.{Extended, NegInf, Fin, PosInf}
 use Rattle.pv_num.specs.Grid.{unit}
-use Rattle.pv_num.specs.Order.{le, lt}
-use Rattle.pv_num.specs.Arithmetic.{neg_of, root_of, pow_of, mul_of, is_root_below, is_root_above}
+use Rattle.pv_num.specs.Order.{le}
+use Rattle.pv_num.specs.Arithmetic.{neg_of, root_of, pow_of, is_root_below, is_root_above}
 use Rattle.pv_num.specs.Rounding.{at_least_plus, greatest_upto, first_from, is_size, top_size}
-use Rattle.pv_num.specs.declared.num.End.{End}
 use Rattle.pv_num.specs.declared.num.End.TheVariants.{Down, Up}
 use Rattle.pv_num.proofs.Rounding.{greatest_upto-passes, first_from-found, Found, grid-size}
 use Rattle.pv_num.proofs.Signs.{zero_grid}
-use Rattle.pv_interval.specs.Bounds.{Bounds, IsInterval, between}
-use Rattle.pv_interval.specs.Fractions.{Fraction, times, opposite, power}
+use Rattle.pv_interval.specs.Bounds.{Bounds, between}
+use Rattle.pv_interval.specs.Fractions.{Fraction, opposite, power}
 use Rattle.pv_interval.specs.Points.{IsBelow, IsAbove, Lies, LiesIn, LiesInSome}
 use Rattle.pv_interval.specs.Tables.{nought, meet_of, holds}
-use Rattle.pv_interval.proofs.Products.{trans, times_pos, cancel_pos, times_from_zero, times_pos_strict}
+use Rattle.pv_interval.proofs.Products.{times_pos, cancel_pos, times_from_zero, times_pos_strict}
 use Rattle.pv_interval.proofs.Ends.{le_trans, le_of_false, le_fin}
 use Rattle.pv_interval.proofs.Values.{below_le, above_le, across}
 use Rattle.pv_interval.proofs.Integers.{swap_last}
-use Rattle.pv_interval.proofs.Multiples.{cross, unit_some, times_pp, zero_below, zero_above, below_zero, above_zero}
+use Rattle.pv_interval.proofs.Multiples.{cross, unit_some, times_pp, zero_below, zero_above, below_zero}
 use Rattle.pv_interval.proofs.Monotone.{zero_high}
 use Rattle.pv_interval.proofs.Keeps.{neg_below, neg_above, by_sign}
 use Rattle.pv_interval.proofs.Orders.{cond_keeps, meet_keeps}

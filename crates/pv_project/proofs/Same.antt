@@ -1,13 +1,13 @@
 -- Fractions that are the same number.
-use Rattle.std.proofs.Common.{◌≡◌, ℕ, zero, suc, ◌<◌, ◌*◌, refl, arith, sym, ◌∙◌, ap, subst}
-use Rattle.std.specs.Prelude.{ℤ, pos, negsuc, ◌+ℤ◌, ◌-ℤ◌, ◌*ℤ◌, ◌≤ℤ◌}
+use Rattle.std.proofs.Common.{◌≡◌, ℕ, suc, ◌<◌, ◌*◌, arith, sym, ◌∙◌, ap}
+use Rattle.std.specs.Prelude.{ℤ, pos, negsuc, ◌+ℤ◌, ◌-ℤ◌, ◌*ℤ◌}
 use Rattle.std.proofs.Math.IntN.{*ℤ_comm, +ℤ_comm, neg_ℤ-neg_ℤ}
 use Rattle.std.proofs.Math.Nat.{mul_comm}
 use Rattle.std.proofs.lemmas.Int.{ints}
 use lib.IntN.{neg_ℤ}
 use Rattle.pv_interval.specs.Bounds.{Bounds}
-use Rattle.pv_interval.specs.Fractions.{Fraction, plus, minus, times, over, over_parts}
-use Rattle.pv_interval.specs.Points.{IsBelow, IsAbove, Lies, LiesIn}
+use Rattle.pv_interval.specs.Fractions.{Fraction, plus, minus, times}
+use Rattle.pv_interval.specs.Points.{LiesIn}
 use Rattle.pv_interval.proofs.Integers.{times_assoc, swap_last, right_distrib, neg_left, neg_right}
 use Rattle.pv_interval.proofs.Orders.{above_down, below_up}
 

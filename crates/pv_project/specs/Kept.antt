@@ -10,6 +10,22 @@ abbrev pub PairIn : Fraction → Fraction → Option (Bounds × Bounds) → Type
 PairIn f g None = ⊥
 PairIn f g (Some p) = LiesIn f p.0 × LiesIn g p.1
 
+-- each pair of arguments in x and y whose result lies in z lies in the answer r
+abbrev pub KeepsPair : (Fraction → Fraction → Fraction) → Bounds → Bounds → Bounds → Option (Bounds × Bounds) → Type 0
+KeepsPair op z x y r = (f g : Fraction) → LiesIn f x → LiesIn g y → LiesIn (op f g) z → PairIn f g r
+
+-- where f / g is defined
+abbrev pub KeepsQuotient : Bounds → Bounds → Bounds → Option (Bounds × Bounds) → Type 0
+KeepsQuotient z x y r =
+    (f g h : Fraction) → over f g ≡ Some h → LiesIn f x → LiesIn g y → LiesIn h z → PairIn f g r
+
+-- each argument in x whose result lies in z lies in the answer r
+abbrev pub KeepsOne : (Fraction → Fraction) → Bounds → Bounds → Option Bounds → Type 0
+KeepsOne op z x r = (f : Fraction) → LiesIn f x → LiesIn (op f) z → LiesInSome f.top f.under r
+
+abbrev pub KeepsPower : Bounds → Bounds → ℕ → Option Bounds → Type 0
+KeepsPower z x n r = (f : Fraction) → LiesIn f x → LiesIn (power f n) z → LiesInSome f.top f.under r
+
 -- each pair of arguments in x and y whose result lies in z lies in the answer
 abbrev pub KeepsPairs : (Fraction → Fraction → Fraction) → (Bounds → Bounds → Bounds → Option (Bounds × Bounds)) → Type 0
 KeepsPairs op table =

@@ -1,10 +1,9 @@
 -- The projections of an operation: what its arguments can be where its result lies in z. None is empty.
-use Rattle.std.specs.Prelude.{ℕ, ◌%◌, Bool, ◌&&◌, pos, Option, Some, None, if◌then◌else◌, eqb}
+use Rattle.std.specs.Prelude.{ℕ, ◌%◌, ◌&&◌, pos, Option, Some, None, if◌then◌else◌, eqb}
 use Rattle.pv_num.specs.Extended.{Extended, NegInf, Fin, PosInf}
 use Rattle.pv_num.specs.Grid.{unit}
 use Rattle.pv_num.specs.Order.{le, lt}
 use Rattle.pv_num.specs.Arithmetic.{neg_of, root_of}
-use Rattle.pv_num.specs.declared.num.End.{End}
 use Rattle.pv_num.specs.declared.num.End.TheVariants.{Down, Up}
 use Rattle.pv_interval.specs.Bounds.{Bounds, between, everything}
 use Rattle.pv_interval.specs.Tables.{nought, has_nought, is_nought, holds, sum_of, difference_of, product_of, quotient_of, negated, meet_of, hull_of}

@@ -2,12 +2,11 @@
 //! HC4-revise.
 #![tactic(auto)]
 
-mod laws;
+pub mod laws;
 mod order;
 mod power;
 mod ring;
 
-pub use laws::keeps_arguments;
 pub use order::{back_abs, back_max, back_min, back_neg};
 pub use power::back_pow;
 pub use ring::{back_add, back_div, back_mul, back_sub};

@@ -4,14 +4,24 @@ ghost use Rattle.pv_num.specs.Extended.{NegInf, PosInf};
 ghost use Rattle.pv_num.specs.Order.{lesser as lesser_of, greater as greater_of};
 ghost use Rattle.pv_interval.specs.Bounds.{between};
 ghost use Rattle.pv_interval.specs.Tables.{meet_of};
+ghost use Rattle.pv_interval.specs.Fractions.{least, greatest, opposite, size};
+ghost use Rattle.pv_project.specs.Kept.{KeepsPair, KeepsOne};
 ghost use Rattle.pv_project.specs.Projections.{back_min_of, back_max_of, back_neg_of, back_abs_of, least_side, greatest_side, both_signs, hull_of_parts};
 
 use pv_interval::Interval;
 use pv_num::Num;
 
 /// The pairs of `x` and `y` whose least can lie in `z`; None where there are none.
-#[tactic(auto, unfolding(crate::specs::Projections::back_min_of))]
+#[inline]
 pub fn back_min(z: Interval, x: Interval, y: Interval) -> Option<(Interval, Interval)>
+    ensures value { result ≡ back_min_of z x y }
+    ensures kept { KeepsPair least z x y result }
+{
+    narrow_least(z, x, y)
+}
+
+#[tactic(auto, unfolding(crate::specs::Projections::back_min_of))]
+fn narrow_least(z: Interval, x: Interval, y: Interval) -> Option<(Interval, Interval)>
     ensures { result ≡ back_min_of z x y }
 {
     let left = meet_least(z, x, y)?;
@@ -20,8 +30,16 @@ pub fn back_min(z: Interval, x: Interval, y: Interval) -> Option<(Interval, Inte
 }
 
 /// The pairs of `x` and `y` whose greatest can lie in `z`; None where there are none.
-#[tactic(auto, unfolding(crate::specs::Projections::back_max_of))]
+#[inline]
 pub fn back_max(z: Interval, x: Interval, y: Interval) -> Option<(Interval, Interval)>
+    ensures value { result ≡ back_max_of z x y }
+    ensures kept { KeepsPair greatest z x y result }
+{
+    narrow_greatest(z, x, y)
+}
+
+#[tactic(auto, unfolding(crate::specs::Projections::back_max_of))]
+fn narrow_greatest(z: Interval, x: Interval, y: Interval) -> Option<(Interval, Interval)>
     ensures { result ≡ back_max_of z x y }
 {
     let left = meet_greatest(z, x, y)?;
@@ -30,16 +48,32 @@ pub fn back_max(z: Interval, x: Interval, y: Interval) -> Option<(Interval, Inte
 }
 
 /// The numbers of `x` whose opposite lies in `z`; None where there are none.
-#[tactic(auto, unfolding(crate::specs::Projections::back_neg_of))]
+#[inline]
 pub fn back_neg(z: Interval, x: Interval) -> Option<Interval>
+    ensures value { result ≡ back_neg_of z x }
+    ensures kept { KeepsOne opposite z x result }
+{
+    narrow_opposite(z, x)
+}
+
+#[tactic(auto, unfolding(crate::specs::Projections::back_neg_of))]
+fn narrow_opposite(z: Interval, x: Interval) -> Option<Interval>
     ensures { result ≡ back_neg_of z x }
 {
     x.meet(z.neg())
 }
 
 /// The hull of the numbers of `x` whose absolute value lies in `z`; None where there are none.
-#[tactic(auto, unfolding(crate::specs::Projections::back_abs_of))]
+#[inline]
 pub fn back_abs(z: Interval, x: Interval) -> Option<Interval>
+    ensures value { result ≡ back_abs_of z x }
+    ensures kept { KeepsOne size z x result }
+{
+    narrow_size(z, x)
+}
+
+#[tactic(auto, unfolding(crate::specs::Projections::back_abs_of))]
+fn narrow_size(z: Interval, x: Interval) -> Option<Interval>
     ensures { result ≡ back_abs_of z x }
 {
     let sizes = meet_between(z, Num::ZERO, Num::POS_INF)?;

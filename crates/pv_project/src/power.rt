@@ -4,6 +4,7 @@ ghost use Rattle.pv_num.specs.Extended.{Fin, NegInf, PosInf};
 ghost use Rattle.pv_num.specs.Grid.{unit};
 ghost use Rattle.pv_interval.specs.Bounds.{between};
 ghost use Rattle.pv_interval.specs.Tables.{meet_of, nought, holds};
+ghost use Rattle.pv_project.specs.Kept.{KeepsPower};
 ghost use Rattle.pv_project.specs.Projections.{chain, both_signs, even_roots, back_pow_of, odd_low, odd_high};
 
 use crate::order::{meet_between, meet_both_signs};
@@ -11,7 +12,16 @@ use pv_interval::Interval;
 use pv_num::{End, Num};
 
 /// The hull of the numbers of `x` whose power `n` lies in `z`; None where there are none. `n` is at most 32.
+#[inline]
 pub fn back_pow(z: Interval, x: Interval, n: u8) -> Option<Interval>
+    requires { n ≤ 32 }
+    ensures value { result ≡ back_pow_of z x n }
+    ensures kept { KeepsPower z x n result }
+{
+    narrow_power(z, x, n)
+}
+
+fn narrow_power(z: Interval, x: Interval, n: u8) -> Option<Interval>
     requires { n ≤ 32 }
     ensures { result ≡ back_pow_of z x n }
 {

@@ -1,13 +1,23 @@
 //! Sums, differences, products and quotients. The first argument is narrowed first, and the second by what is left of it.
 ghost use Rattle.std.specs.Prelude.{◌≡◌};
+ghost use Rattle.pv_interval.specs.Fractions.{plus, minus, times};
+ghost use Rattle.pv_project.specs.Kept.{KeepsPair, KeepsQuotient};
 ghost use Rattle.pv_project.specs.Projections.{back_add_of, back_sub_of, back_mul_of, back_div_of, factor_of};
 
 use pv_interval::Interval;
 use pv_num::Num;
 
 /// The pairs of `x` and `y` whose sum can lie in `z`; None where there are none.
-#[tactic(auto, unfolding(crate::specs::Projections::back_add_of))]
+#[inline]
 pub fn back_add(z: Interval, x: Interval, y: Interval) -> Option<(Interval, Interval)>
+    ensures value { result ≡ back_add_of z x y }
+    ensures kept { KeepsPair plus z x y result }
+{
+    narrow_sum(z, x, y)
+}
+
+#[tactic(auto, unfolding(crate::specs::Projections::back_add_of))]
+fn narrow_sum(z: Interval, x: Interval, y: Interval) -> Option<(Interval, Interval)>
     ensures { result ≡ back_add_of z x y }
 {
     let left = x.meet(z.sub(y))?;
@@ -16,8 +26,16 @@ pub fn back_add(z: Interval, x: Interval, y: Interval) -> Option<(Interval, Inte
 }
 
 /// The pairs of `x` and `y` whose difference can lie in `z`; None where there are none.
-#[tactic(auto, unfolding(crate::specs::Projections::back_sub_of))]
+#[inline]
 pub fn back_sub(z: Interval, x: Interval, y: Interval) -> Option<(Interval, Interval)>
+    ensures value { result ≡ back_sub_of z x y }
+    ensures kept { KeepsPair minus z x y result }
+{
+    narrow_difference(z, x, y)
+}
+
+#[tactic(auto, unfolding(crate::specs::Projections::back_sub_of))]
+fn narrow_difference(z: Interval, x: Interval, y: Interval) -> Option<(Interval, Interval)>
     ensures { result ≡ back_sub_of z x y }
 {
     let left = x.meet(z.add(y))?;
@@ -26,8 +44,16 @@ pub fn back_sub(z: Interval, x: Interval, y: Interval) -> Option<(Interval, Inte
 }
 
 /// The pairs of `x` and `y` whose product can lie in `z`; None where there are none.
-#[tactic(auto, unfolding(crate::specs::Projections::back_mul_of))]
+#[inline]
 pub fn back_mul(z: Interval, x: Interval, y: Interval) -> Option<(Interval, Interval)>
+    ensures value { result ≡ back_mul_of z x y }
+    ensures kept { KeepsPair times z x y result }
+{
+    narrow_product(z, x, y)
+}
+
+#[tactic(auto, unfolding(crate::specs::Projections::back_mul_of))]
+fn narrow_product(z: Interval, x: Interval, y: Interval) -> Option<(Interval, Interval)>
     ensures { result ≡ back_mul_of z x y }
 {
     let left = x.meet(factor(z, y)?)?;
@@ -36,8 +62,16 @@ pub fn back_mul(z: Interval, x: Interval, y: Interval) -> Option<(Interval, Inte
 }
 
 /// The pairs of `x` and `y` whose quotient can lie in `z`; None where there are none, so where `y` is [0,0].
-#[tactic(auto, unfolding(crate::specs::Projections::back_div_of))]
+#[inline]
 pub fn back_div(z: Interval, x: Interval, y: Interval) -> Option<(Interval, Interval)>
+    ensures value { result ≡ back_div_of z x y }
+    ensures kept { KeepsQuotient z x y result }
+{
+    narrow_quotient(z, x, y)
+}
+
+#[tactic(auto, unfolding(crate::specs::Projections::back_div_of))]
+fn narrow_quotient(z: Interval, x: Interval, y: Interval) -> Option<(Interval, Interval)>
     ensures { result ≡ back_div_of z x y }
 {
     if Num::ZERO <= y.lo() && y.hi() <= Num::ZERO {

@@ -1,5 +1,6 @@
 //! Whole powers.
 ghost use Rattle.std.specs.Prelude.{◌≡◌, ◌≤◌, ◌%◌};
+ghost use Rattle.pv_interval.specs.Inclusion.{HoldsPower};
 ghost use Rattle.pv_interval.specs.Tables.{power_of, odd_power as odd_power_of, even_power as even_power_of, signed_power as signed_power_of};
 
 use crate::interval::{Interval, greater};
@@ -7,7 +8,16 @@ use pv_num::{End, Num};
 
 impl Interval {
     /// Holds the power `n` of each number of this interval; the power 0 is 1. The exponent is at most 32.
+    #[inline]
     pub fn pow(self, n: u8) -> Interval
+        requires { n ≤ 32 }
+        ensures value { result ≡ power_of self n }
+        ensures inclusion { HoldsPower n self result }
+    {
+        self.power(n)
+    }
+
+    fn power(self, n: u8) -> Interval
         requires { n ≤ 32 }
         ensures { result ≡ power_of self n }
     {

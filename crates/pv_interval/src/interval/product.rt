@@ -1,6 +1,8 @@
 //! The product. The signs decide which two products of ends are computed; four are only where both intervals cross 0.
 ghost use Rattle.std.specs.Prelude.{◌≡◌, IsTrue};
 ghost use Rattle.pv_num.specs.Order.{le};
+ghost use Rattle.pv_interval.specs.Fractions.{times};
+ghost use Rattle.pv_interval.specs.Inclusion.{HoldsPair};
 ghost use Rattle.pv_interval.specs.Tables.{product_of, is_from_nought, is_to_nought, crosses_nought};
 
 use crate::interval::{Interval, greater, lesser, pick};
@@ -10,6 +12,14 @@ impl Interval {
     /// Holds the product of each number of this interval and each of `other`.
     #[inline]
     pub fn mul(self, other: Interval) -> Interval
+        ensures value { result ≡ product_of self other }
+        ensures inclusion { HoldsPair times self other result }
+    {
+        self.product(other)
+    }
+
+    #[inline]
+    fn product(self, other: Interval) -> Interval
         ensures { result ≡ product_of self other }
     {
         if Num::ZERO <= self.lo() {

@@ -3,6 +3,7 @@ ghost use Rattle.std.specs.Prelude.{◌≡◌, IsTrue, false};
 ghost use Rattle.pv_num.specs.Order.{le, lt};
 ghost use Rattle.pv_num.specs.Arithmetic.{div_of};
 ghost use Rattle.pv_interval.specs.Bounds.{IsInterval};
+ghost use Rattle.pv_interval.specs.Inclusion.{HoldsQuotient};
 ghost use Rattle.pv_interval.specs.Tables.{quotient_of, quotient_across, over_from_nought, over_to_nought, nought, of_ends, is_nought, has_nought};
 
 use crate::interval::{Interval, pick};
@@ -13,6 +14,14 @@ impl Interval {
     /// None exactly where `by` is [0,0].
     #[inline]
     pub fn quotient(self, by: Interval) -> Option<Interval>
+        ensures value { result ≡ quotient_of self by }
+        ensures inclusion { HoldsQuotient self by result }
+    {
+        self.divided(by)
+    }
+
+    #[inline]
+    fn divided(self, by: Interval) -> Option<Interval>
         ensures { result ≡ quotient_of self by }
     {
         if Num::ZERO < by.lo() {

@@ -1,4 +1,4 @@
-//! Cases of projections. Written by tests/projection_vectors.py: change them there.
+//! Cases of projections. Written by tests/generators/projection_vectors.py: change them there.
 use crate::tests::Ends;
 use crate::tests::Pairs::{self, Add, Div, Max, Min, Mul, Sub};
 use crate::tests::Singles::{self, Abs, Neg, Pow};

@@ -1,9 +1,7 @@
-use Rattle.std.proofs.Common.{◌≡◌, ◌∙◌, sym, subst}
-use Rattle.std.specs.Prelude.{IsTrue, Some}
+use Rattle.std.proofs.Common.{◌∙◌, sym, subst}
+use Rattle.std.specs.Prelude.{IsTrue}
 use Rattle.pv_num.specs.Order.{le}
-use Rattle.pv_interval.specs.Bounds.{between}
-use Rattle.pv_interval.specs.Tables.{nought, meet_of}
-use Rattle.pv_num.specs.Extended.{PosInf}
+use Rattle.pv_interval.specs.Tables.{nought}
 use Rattle.pv_project.proofs.Roots.{root_down_open, root_up_open, from_zero_low, from_zero_high}
 use Rattle.pv_project.proofs.power.back_even.Goals as goal
 

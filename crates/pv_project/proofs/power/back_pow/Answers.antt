@@ -1,14 +1,7 @@
-use Rattle.std.proofs.Common.{◌≡◌, ◌%◌, arith}
-use Rattle.pv_project.proofs.Roots.{power_row_zero, power_row_even, power_row_odd}
+use Rattle.std.proofs.Common.{sym, subst}
+use Rattle.pv_project.specs.Kept.{KeepsPower}
+use Rattle.pv_project.proofs.RootsKept.{back_pow_keeps}
 use Rattle.pv_project.proofs.power.back_pow.Goals as goal
 
-pub returns-then-n-eq0 : goal.returns-then-n-eq0
-returns-then-n-eq0 c = let p = power_row_zero c.args.z c.args.x c.args.n c.if-n-eq0.true in cc
-
-pub returns-then-n-eq0-2 : goal.returns-then-n-eq0-2
-returns-then-n-eq0-2 c = let p = power_row_even c.args.z c.args.x c.args.n c.if-n-eq0.false c.if-n-eq0-2.true in cc
-
-pub returns-else-n-eq0-2 : goal.returns-else-n-eq0-2
-returns-else-n-eq0-2 c =
-    let o : c.args.n % 2 ≡ 1 = omega (arith, c.if-n-eq0-2.false) in
-    let p = power_row_odd c.args.z c.args.x c.args.n o in cc
+pub returns-clause-kept : goal.returns-clause-kept
+returns-clause-kept c = subst (KeepsPower c.args.z c.args.x c.args.n) (sym c.narrow_power.ensures) (λ f. back_pow_keeps f c.args.z c.args.x c.args.n)

@@ -1,6 +1,6 @@
-use Rattle.std.proofs.Common.{◌≡◌, ◌∙◌, sym, ap}
+use Rattle.std.proofs.Common.{◌∙◌, sym, ap}
 use Rattle.pv_num.specs.Arithmetic.{neg_of, root_of}
-use Rattle.pv_num.specs.declared.num.End.TheVariants.{Down, Up}
+use Rattle.pv_num.specs.declared.num.End.TheVariants.{Down}
 use Rattle.pv_project.proofs.Roots.{root_down_open, root_up_open, neg_not_neg}
 use Rattle.pv_project.proofs.power.odd_root_high.Goals as goal
 

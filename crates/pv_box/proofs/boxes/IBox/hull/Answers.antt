@@ -10,7 +10,7 @@ loop-i-preserved c =
     record {
       dims = ap length c.set.ensures ∙ length-set c.loop-i.self c.loop-i.i c.hull-part.result ∙ c.loop-i.invariant.dims;
       done = hull_done c.args.self.now c.args.other.now c.loop-i.self c.set.new.self c.loop-i.i c.hull-part.result c.get.result c.get-in-loop-i.result
-          c.set.ensures within other c.hull-part.ensures c.get.ensures.value c.get-in-loop-i.ensures.value
+          c.set.ensures within other c.hull-part.ensures.value c.get.ensures.value c.get-in-loop-i.ensures.value
           c.loop-i.invariant.done c.loop-i.invariant.left;
       left = hull_left c.args.self.now c.loop-i.self c.set.new.self c.loop-i.i c.hull-part.result c.set.ensures c.loop-i.invariant.left;
     }

@@ -1,14 +1,8 @@
-use Rattle.std.proofs.Common.{◌≡◌, sym, ◌∙◌, true, false}
-use Rattle.pv_num.specs.Order.{le}
-use Rattle.pv_interval.specs.Tables.{nought}
-use Rattle.pv_interval.proofs.Cases.{absolute_up, absolute_down, absolute_wide}
+use Rattle.std.proofs.Common.{sym, subst}
+use Rattle.pv_interval.specs.Fractions.{size}
+use Rattle.pv_interval.specs.Inclusion.{HoldsOne}
+use Rattle.pv_interval.proofs.Orders.{absolute_keeps}
 use Rattle.pv_interval.proofs.interval.Interval.abs.Goals as goal
 
-pub returns-then-le : goal.returns-then-le
-returns-then-le c = sym (absolute_up c.args.self (cc))
-
-pub returns-then-le-2 : goal.returns-then-le-2
-returns-then-le-2 c = let e = absolute_down c.args.self (cc) (cc) in cc
-
-pub returns : goal.returns
-returns c = let e = absolute_wide c.args.self (cc) (cc) in cc
+pub returns-clause-inclusion : goal.returns-clause-inclusion
+returns-clause-inclusion c = subst (HoldsOne size c.args.self) (sym c.sizes.ensures) (λ f. absolute_keeps f c.args.self)

@@ -1,6 +1,5 @@
 use Rattle.std.proofs.Common.{◌≡◌, sym, subst}
-use Rattle.pv_num.specs.Extended.{Extended, Fin}
-use Rattle.pv_interval.specs.Bounds.{Bounds, IsInterval, between}
+use Rattle.pv_interval.specs.Bounds.{IsInterval, between}
 use Rattle.pv_interval.specs.Tables.{even_power, nought}
 use Rattle.pv_interval.proofs.Intervals.{even_interval}
 use Rattle.pv_interval.proofs.Cases.{even_up, even_down, even_wide}

@@ -1,9 +1,7 @@
-use Rattle.std.proofs.Common.{◌≡◌, sym, ◌∙◌, true, false}
-use Rattle.pv_interval.proofs.Cases.{meet_some, meet_none}
+use Rattle.std.proofs.Common.{sym, subst}
+use Rattle.pv_interval.specs.Inclusion.{HoldsBoth}
+use Rattle.pv_interval.proofs.Orders.{meet_keeps}
 use Rattle.pv_interval.proofs.interval.Interval.meet.Goals as goal
 
-pub returns-then-le : goal.returns-then-le
-returns-then-le c = let e = meet_some c.args.self c.args.other (cc) in cc
-
-pub returns : goal.returns
-returns c = let e = meet_none c.args.self c.args.other (cc) in cc
+pub returns-clause-inclusion : goal.returns-clause-inclusion
+returns-clause-inclusion c = subst (HoldsBoth c.args.self c.args.other) (sym c.common.ensures) (λ f. meet_keeps f.top f.under c.args.self c.args.other)

@@ -1,9 +1,8 @@
-use Rattle.std.proofs.Common.{◌≡◌, sym, ◌∙◌}
-use Rattle.pv_interval.proofs.Picks.{product_swap}
+use Rattle.std.proofs.Common.{sym, subst}
+use Rattle.pv_interval.specs.Fractions.{times}
+use Rattle.pv_interval.specs.Inclusion.{HoldsPair}
+use Rattle.pv_interval.proofs.Keeps.{product_keeps}
 use Rattle.pv_interval.proofs.interval.Interval.mul.Goals as goal
 
-pub returns-then-le-2 : goal.returns-then-le-2
-returns-then-le-2 c = let p = product_swap c.args.self c.args.other in cc
-
-pub returns-then-le-4 : goal.returns-then-le-4
-returns-then-le-4 c = let p = product_swap c.args.self c.args.other in cc
+pub returns-clause-inclusion : goal.returns-clause-inclusion
+returns-clause-inclusion c = subst (HoldsPair times c.args.self c.args.other) (sym c.product.ensures) (λ f g. product_keeps f g c.args.self c.args.other)

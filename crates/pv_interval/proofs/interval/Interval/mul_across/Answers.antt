@@ -1,7 +1,6 @@
 use Rattle.std.proofs.Common.{◌≡◌, sym, subst}
-use Rattle.pv_num.specs.Order.{lt}
-use Rattle.pv_interval.specs.Bounds.{Bounds, IsInterval, between}
-use Rattle.pv_interval.specs.Tables.{product_of, nought}
+use Rattle.pv_interval.specs.Bounds.{IsInterval, between}
+use Rattle.pv_interval.specs.Tables.{product_of}
 use Rattle.pv_interval.proofs.Intervals.{product_interval}
 use Rattle.pv_interval.proofs.Cases.{crossed_low, crossed_high}
 use Rattle.pv_interval.proofs.Picks.{product_wide}

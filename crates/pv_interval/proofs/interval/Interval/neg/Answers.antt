@@ -1,6 +1,16 @@
+use Rattle.std.proofs.Common.{◌≡◌, subst}
+use Rattle.pv_interval.specs.Fractions.{opposite}
+use Rattle.pv_interval.specs.Inclusion.{HoldsOne}
+use Rattle.pv_interval.proofs.Keeps.{opposite_keeps}
 use Rattle.pv_interval.specs.Tables.{negated}
 use Rattle.pv_interval.proofs.interval.Interval.neg.Goals as goal
 
-pub returns : goal.returns
+pub returns-clause-value : goal.returns-clause-value
 unfolding negated
-returns c = cc
+returns-clause-value c = cc
+
+pub returns-clause-inclusion : goal.returns-clause-inclusion
+unfolding negated
+returns-clause-inclusion c =
+    let e : negated c.args.self ≡ c.of_ends.result = cc in
+    subst (HoldsOne opposite c.args.self) e (λ f. opposite_keeps f c.args.self)

@@ -1,5 +1,5 @@
 use Rattle.std.proofs.Common.{◌≡◌, sym, subst}
-use Rattle.pv_interval.specs.Bounds.{Bounds, IsInterval, between}
+use Rattle.pv_interval.specs.Bounds.{IsInterval, between}
 use Rattle.pv_interval.specs.Tables.{odd_power}
 use Rattle.pv_interval.proofs.Intervals.{odd_interval}
 use Rattle.pv_interval.proofs.interval.Interval.odd_power.Goals as goal

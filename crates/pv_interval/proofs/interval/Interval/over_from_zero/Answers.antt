@@ -1,8 +1,8 @@
-use Rattle.std.proofs.Common.{◌≡◌, sym, ◌∙◌, subst}
+use Rattle.std.proofs.Common.{◌≡◌, subst}
 use Rattle.pv_num.specs.Arithmetic.{div_of}
-use Rattle.pv_num.specs.Extended.{Extended, PosInf, NegInf}
+use Rattle.pv_num.specs.Extended.{PosInf, NegInf}
 use Rattle.pv_num.specs.declared.num.End.TheVariants.{Down, Up}
-use Rattle.pv_interval.specs.Bounds.{Bounds, IsInterval, between}
+use Rattle.pv_interval.specs.Bounds.{IsInterval, between}
 use Rattle.pv_interval.proofs.Picks.{low_over_up, high_over_up}
 use Rattle.pv_interval.proofs.interval.Interval.over_from_zero.Goals as goal
 

@@ -1,8 +1,7 @@
 use Rattle.std.proofs.Common.{◌≡◌, sym, ◌∙◌, subst}
-use Rattle.pv_num.specs.Order.{le}
 use Rattle.pv_num.specs.Arithmetic.{div_of}
-use Rattle.pv_interval.specs.Bounds.{Bounds, IsInterval, between}
-use Rattle.pv_interval.specs.Tables.{nought, of_ends}
+use Rattle.pv_interval.specs.Bounds.{IsInterval, between}
+use Rattle.pv_interval.specs.Tables.{of_ends}
 use Rattle.pv_interval.proofs.Cases.{first_apart, second_apart, pick_apart, of_positive}
 use Rattle.pv_interval.proofs.Picks.{quotient_up}
 use Rattle.pv_interval.proofs.interval.Interval.over_positive.Goals as goal

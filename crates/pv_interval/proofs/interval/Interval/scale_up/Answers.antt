@@ -1,5 +1,5 @@
 use Rattle.std.proofs.Common.{◌≡◌, sym, subst}
-use Rattle.pv_interval.specs.Bounds.{Bounds, IsInterval, between}
+use Rattle.pv_interval.specs.Bounds.{IsInterval, between}
 use Rattle.pv_interval.specs.Tables.{product_of}
 use Rattle.pv_interval.proofs.Intervals.{product_interval}
 use Rattle.pv_interval.proofs.Picks.{product_up}
