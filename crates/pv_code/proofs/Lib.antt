@@ -1,5 +1,6 @@
 pub mod Building
 pub mod Constraints
+pub mod Moving
 pub mod Over
 pub mod Properties
 pub mod Pruning

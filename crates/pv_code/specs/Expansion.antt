@@ -1,5 +1,5 @@
 -- What a code means: the expressions that it writes, with the body of each function in place of its calls.
-use Rattle.std.specs.Prelude.{◌+◌, ◌-◌, ◌≤◌, ◌≡◌, ℕ, zero, suc, ◌++◌, List, [], ◌∷◌, Bool, true, false, pos, length, map, reverse, take, drop, get_or, Option, Some, None}
+use Rattle.std.specs.Prelude.{◌+◌, ◌-◌, ◌≤◌, ◌≡◌, ℕ, zero, suc, ◌++◌, List, [], ◌∷◌, Bool, true, false, pos, length, map, reverse, take, drop, get_or, nat_eq, ◌||◌, Option, Some, None}
 use Rattle.pv_expr.specs.declared.expr.Expr.{Expr}
 use Rattle.pv_expr.specs.declared.constraint.Relation.{Relation}
 use Rattle.pv_expr.specs.declared.constraint.Constraint.{Constraint}
@@ -63,6 +63,20 @@ step ms args (Relate r) st = st
 abbrev pub run : List Meaning → List Term → List Op → List Term → List Term
 run ms args [] st = st
 run ms args (o ∷ code) st = run ms args code (step ms args o st)
+
+-- a step names a parameter
+abbrev pub is_parameter : ℕ → Op → Bool
+is_parameter i (Parameter k) = nat_eq k i
+is_parameter i o = false
+
+-- some step of a code names a parameter
+abbrev pub occurs : ℕ → List Op → Bool
+occurs i [] = false
+occurs i (o ∷ code) = is_parameter i o || occurs i code
+
+-- a code leaves the same with either arguments
+abbrev pub RunsAlike : List Op → List Term → List Term → Type 0
+RunsAlike code a b = (ms : List Meaning) (st : List Term) → run ms b code st ≡ run ms a code st
 
 -- the meaning of a function of this body, over those before it
 abbrev pub body_meaning : List Meaning → List Op → Meaning

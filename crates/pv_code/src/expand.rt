@@ -3,7 +3,7 @@
 ghost use Rattle.std.specs.Bool.{MatchBool};
 ghost use Rattle.std.specs.Prelude.{◌≡◌, ℕ, All, true, ◌∷◌, ◌++◌, ◌+◌, ◌<◌, ◌≤◌, [], List, length, map, reverse, take, drop, IfOk, OnOk, IsOk, IsTrue, if◌then◌else◌};
 ghost use Rattle.pv_expr.specs.Terms.{term_of, one, two};
-ghost use Rattle.pv_code.specs.Expansion.{argument, body_meaning, meaning_of, meanings, run, step, is_used, rank, wants, arity_of, uses_of, callee, nothing, renumber, stacked, HasValues, WantsPresent, IsAlone, IsEnd, IsMarked, IsValue, KeepsBody, KeepsUsed, KeepsStep, KeepsCode, Meaning, Stand, sides_of, part_sides, stack_of, code_of, unary_of, binary_of, top, below};
+ghost use Rattle.pv_code.specs.Expansion.{argument, body_meaning, meaning_of, meanings, run, step, is_used, rank, wants, arity_of, uses_of, callee, nothing, renumber, stacked, HasValues, WantsPresent, IsAlone, IsEnd, IsMarked, IsValue, RunsAlike, occurs, is_parameter, KeepsBody, KeepsUsed, KeepsStep, KeepsCode, Meaning, Stand, sides_of, part_sides, stack_of, code_of, unary_of, binary_of, top, below};
 ghost use Rattle.pv_code.specs.Sizes.{AreMeasured, IsMeasured, IsShortCall};
 
 use crate::code::{Binary, Op, Unary};
@@ -11,6 +11,7 @@ use crate::measure::{Measure, measures, topmost};
 use pv_expr::{Constraint, Expr, Relation};
 use pv_num::Memory;
 use std::alloc::Global;
+use std::mem;
 
 /// A function: its size, and the part of its code that is used.
 #[derive(Drop)]
@@ -252,18 +253,26 @@ fn want(uses: &[bool], arity: u8, wanted: &mut Vec<bool>) -> Result<(), Memory>
 }
 
 /// The expressions that a used code leaves on the stack, with the arguments in place of the parameters that are used.
+/// An argument is moved to where it stands last, and copied elsewhere, so that a chain of calls copies nothing.
 #[cycle(expansion)]
 pub fn expand(
     alloc: Global,
     functions: &[Function],
     code: &[Op],
-    arguments: &[Expr],
+    arguments: &mut [Expr],
 ) -> Result<Vec<Expr>, Memory>
-    ensures { IfOk result (λ es. stack_of es.items ≡ run (meanings (map code_of functions.now)) (map term_of arguments.now) code.now []) }
+    ensures { IfOk result (λ es. stack_of es.items ≡ run (meanings (map code_of functions.now)) (map term_of arguments.old) code.now []) }
 {
     let mut stack: Vec<Expr> = Vec::new(alloc);
-    for op in code {
-        let made = made_by(alloc, functions, *op, arguments, &mut stack)?;
+    for i in 0..code.len() {
+        let made = made_by(
+            alloc,
+            functions,
+            code[i],
+            &code[i + 1..],
+            arguments,
+            &mut stack,
+        )?;
         if let Some(value) = made {
             stack.push(value)?;
         }
@@ -275,7 +284,7 @@ pub fn expand(
 pub fn expression(alloc: Global, code: &[Op]) -> Result<Expr, Memory>
     ensures { IfOk result (λ e. term_of e ≡ top (run [] [] code.now [])) }
 {
-    let mut made = expand(alloc, &[], code, &[])?;
+    let mut made = expand(alloc, &[], code, &mut [])?;
     Ok(taken(&mut made))
 }
 
@@ -290,7 +299,7 @@ pub fn constraint(
     ensures { IfOk result (λ c. (ms : List Meaning) → Stand functions.now ms → sides_of c ≡ part_sides ms code.now relation) }
 {
     let used = used_code(alloc, functions, code, 2)?;
-    let mut sides = expand(alloc, functions, used.as_slice(), &[])?;
+    let mut sides = expand(alloc, functions, used.as_slice(), &mut [])?;
     let right = taken(&mut sides);
     let left = taken(&mut sides);
     Ok(Constraint {
@@ -300,16 +309,18 @@ pub fn constraint(
     })
 }
 
-// The value of a step, if it leaves one.
+// The value of a step, if it leaves one. The steps after it find the arguments that they name.
 #[cycle(expansion)]
 fn made_by(
     alloc: Global,
     functions: &[Function],
     op: Op,
-    arguments: &[Expr],
+    rest: &[Op],
+    arguments: &mut [Expr],
     stack: &mut Vec<Expr>,
 ) -> Result<Option<Expr>, Memory>
-    ensures { IfOk result (λ made. stacked made (stack_of stack.new.items) ≡ step (meanings (map code_of functions.now)) (map term_of arguments.now) op (stack_of stack.old.items)) }
+    ensures made { IfOk result (λ made. stacked made (stack_of stack.new.items) ≡ step (meanings (map code_of functions.now)) (map term_of arguments.old) op (stack_of stack.old.items)) }
+    ensures rest { OnOk result (RunsAlike rest.now (map term_of arguments.old) (map term_of arguments.new)) }
 {
     Ok(Some(match op {
         Op::Constant(value) => Expr::Const {
@@ -317,15 +328,15 @@ fn made_by(
             q: value.q,
         },
         Op::Variable(i) => Expr::Var(i),
-        Op::Parameter(i) => argument(alloc, arguments, i)?,
+        Op::Parameter(i) => argument(alloc, arguments, i, rest)?,
         Op::One(unary) => one(alloc, unary, taken(stack))?,
         Op::Two(binary) => {
             let right = taken(stack);
             two(alloc, binary, taken(stack), right)?
         }
         Op::Call { function, arity } => {
-            let arguments = last(stack, arity)?;
-            called(alloc, functions, function, arguments.as_slice())?
+            let mut arguments = last(stack, arity)?;
+            called(alloc, functions, function, arguments.as_mut_slice())?
         }
         Op::Define | Op::Relate(_) => return Ok(None),
     }))
@@ -336,9 +347,9 @@ fn called(
     alloc: Global,
     functions: &[Function],
     function: u8,
-    arguments: &[Expr],
+    arguments: &mut [Expr],
 ) -> Result<Expr, Memory>
-    ensures { IfOk result (λ e. term_of e ≡ meaning_of (meanings (map code_of functions.now)) function (map term_of arguments.now)) }
+    ensures { IfOk result (λ e. term_of e ≡ meaning_of (meanings (map code_of functions.now)) function (map term_of arguments.old)) }
 {
     let i = function as usize;
     if i >= functions.len() {
@@ -380,12 +391,39 @@ fn nothing() -> Expr
     Expr::Const { p: 0, q: 1 }
 }
 
-fn argument(alloc: Global, arguments: &[Expr], i: u8) -> Result<Expr, Memory>
-    ensures { IfOk result (λ e. term_of e ≡ argument (map term_of arguments.now) i) }
+// The argument for a parameter. It is moved where no later step names it, and else copied.
+fn argument(alloc: Global, arguments: &mut [Expr], i: u8, rest: &[Op]) -> Result<Expr, Memory>
+    ensures value { IfOk result (λ e. term_of e ≡ argument (map term_of arguments.old) i) }
+    ensures rest { OnOk result (RunsAlike rest.now (map term_of arguments.old) (map term_of arguments.new)) }
 {
-    match arguments.get(i as usize) {
-        Some(e) => Ok(e.clone_of(alloc)?),
-        None => Ok(nothing()),
+    let at = i as usize;
+    if at >= arguments.len() {
+        return Ok(nothing());
+    }
+    if occurs(rest, i) {
+        return Ok(arguments[at].clone_of(alloc)?);
+    }
+    Ok(mem::replace(&mut arguments[at], nothing()))
+}
+
+// Whether some step names a parameter.
+fn occurs(code: &[Op], i: u8) -> bool
+    ensures { result ≡ occurs i code.now }
+{
+    for op in code {
+        if is_parameter(*op, i) {
+            return true;
+        }
+    }
+    false
+}
+
+fn is_parameter(op: Op, i: u8) -> bool
+    ensures { result ≡ is_parameter i op }
+{
+    match op {
+        Op::Parameter(k) => k == i,
+        _ => false,
     }
 }
 

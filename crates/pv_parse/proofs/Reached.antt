@@ -24,7 +24,7 @@ use Rattle.pv_tokens.specs.declared.token.Kind.{Kind}
 use Rattle.pv_tokens.specs.declared.token.Kind.TheVariants.{End}
 use Rattle.pv_tokens.specs.declared.token.Token.{Token}
 use Rattle.pv_tokens.specs.Tokens.{IsNext}
-use Rattle.pv_parse.specs.Faults.{IsFirst}
+use Rattle.pv_parse.specs.Faults.{ClosesWith, IsFirst}
 use Rattle.pv_parse.specs.Meanings.{AreBounded, AreSame, Names, learnt}
 use Rattle.pv_parse.specs.Sentences.{IsSentence, SpellsTo, StandsFor, bytes_of}
 use Rattle.pv_parse.specs.Declarations.{mark_of}
@@ -213,7 +213,7 @@ whole_told t known names start counts first initial items code from r x s rest c
 
 record BeginsHere (t : List ℕ) (known : Names) (start : Counts) (first : List Item) (before : List Symbol) (from : ℕ) : Type 0 where
   begins : BeginsWithin start first before
-  closes : (tail : List ℕ) × (code : List Op) × IsSentence (take from t ++ tail) known start first [] code
+  closes : ClosesWith t known start first from before
 
 begins_here : (t : List ℕ) (known names : Names) (start counts : Counts) (first : List Item) (initial : List Op) (items : List Item) (code : List Op) (from : ℕ) →
     (r : Reached t known names start counts first initial items code from) → BeginsHere t known start first r.before from

@@ -13,7 +13,8 @@ use Rattle.pv_tokens.specs.Tokens.{IsNext}
 use Rattle.pv_tokens.specs.Tokens.Separates.{blank}
 use Rattle.pv_tokens.proofs.Slices.{byte_in, length_slice}
 use Rattle.pv_parse.specs.Meanings.{Names, learnt}
-use Rattle.pv_parse.specs.Sentences.{IsSentence, SpellsTo, StandsFor, bytes_of}
+use Rattle.pv_parse.specs.Faults.{ClosesWith}
+use Rattle.pv_parse.specs.Sentences.{SpellsTo, StandsFor, bytes_of}
 use Rattle.pv_parse.proofs.Continued.{IsGap, Shares, next_end, spells_all, spells_shared, spells_within, stops_at}
 use Rattle.pv_parse.proofs.Pieces.{IsPiece, Mean, Piece, Placed}
 
@@ -120,7 +121,7 @@ shares t v f l =
 -- the tokens of a text up to a place, and some more, are a sentence of their own
 pub continued : (t : List ℕ) (known names : Names) (start counts final : Counts) (items : List Item) (before ss : List Symbol) (steps : List Op) (from : ℕ) (xs : List Piece) →
     SpellsTo t known start 0 before from names → Counted start before counts → Mean names counts xs ss → Derives items (before ++ ss) steps → Counted start (before ++ ss) final →
-    (tail : List ℕ) × (code : List Op) × IsSentence (take from t ++ tail) known start items [] code
+    ClosesWith t known start items from before
 continued t known names start counts final items before ss steps from xs spelled within means derived limits =
     let inside : from ≤ length t = spells_within t known start 0 before from names (omega arith) spelled in
     let cut : length (take from t) ≡ from = length-take-le from t inside in
@@ -129,10 +130,13 @@ continued t known names start counts final items before ss steps from xs spelled
     spells_shared t (take from t ++ text_of xs) from known start 0 before from names (shares t (text_of xs) from inside) gap (omega arith) spelled in
     let (m, last) = spells_tail xs ss (take from t) names counts means in
     let last' : SpellsTo (take from t ++ text_of xs) names counts from ss (length (take from t ++ text_of xs)) m =
-    subst (λ (k : ℕ). SpellsTo (take from t ++ text_of xs) names counts k ss (length (take from t ++ text_of xs)) m) cut last in (
-      text_of xs,
-      steps,
-      record {
+    subst (λ (k : ℕ). SpellsTo (take from t ++ text_of xs) names counts k ss (length (take from t ++ text_of xs)) m) cut last in
+    record {
+      tail = text_of xs;
+      code = steps;
+      rest = ss;
+      tokens = refl;
+      sentence = record {
         symbols = before ++ ss;
         steps = steps;
         counts = final;
@@ -147,5 +151,5 @@ continued t known names start counts final items before ss steps from xs spelled
         within = limits;
         derived = derived;
         code_is = refl;
-      },
-    )
+      };
+    }

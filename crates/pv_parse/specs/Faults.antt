@@ -55,9 +55,17 @@ IsLong t (Fault byte line column cause) = (65536 < length t) × (byte ≡ 65536)
 
 -- ---- The first fault
 
+-- a sentence whose bytes begin with those of a text up to a place, and whose tokens begin with these
+pub record ClosesWith (t : List ℕ) (known : Names) (start : Counts) (items : List Item) (from : ℕ) (before : List Symbol) : Type 0 where
+  pub tail : List ℕ
+  pub code : List Op
+  pub sentence : IsSentence (take from t ++ tail) known start items [] code
+  pub rest : List Symbol
+  pub tokens : sentence.symbols ≡ before ++ rest
+
 -- the token at the byte is the first such that no sentence begins with the tokens up to and with it: the text up to the end of
--- the token before it, with other bytes behind that, is a sentence (`closes`), and no tokens behind it make one (`none`); where it
--- is the end of the text, the tokens before it are no sentence
+-- the token before it, with other bytes after that, is a sentence that begins with the tokens before it (`closes`), and no tokens
+-- after it make one (`none`); where it is the end of the text, the tokens before it are no sentence
 pub record IsFirst (t : List ℕ) (known : Names) (start : Counts) (items : List Item) (byte : ℕ) (cause : Cause) : Type 0 where
   pub before : List Symbol
   pub from : ℕ
@@ -71,7 +79,7 @@ pub record IsFirst (t : List ℕ) (known : Names) (start : Counts) (items : List
   pub stands : StandsFor counts.phase names (bytes_of t token) token.kind symbol
   pub within : Counted start before counts
   pub begins : BeginsWithin start items before
-  pub closes : (tail : List ℕ) × (code : List Op) × IsSentence (take from t ++ tail) known start items [] code
+  pub closes : ClosesWith t known start items from before
   pub none : ¬ BeginsWithin start items (before ++ symbol ∷ [])
   pub unfinished : token.kind ≡ End → (steps : List Op) → Derives items before steps → ⊥
   pub because : IsCause items before counts symbol cause

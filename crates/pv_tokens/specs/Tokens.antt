@@ -162,3 +162,9 @@ AreTokensFrom t from (x ∷ rest) =
 -- all tokens of a text
 abbrev pub AreTokens : List ℕ → List Token → Type 0
 AreTokens t tokens = AreTokensFrom t 0 tokens
+
+-- a text is one list of tokens
+pub record HasOneList (t : List ℕ) : Type 0 where
+  pub tokens : List Token
+  pub are : AreTokens t tokens
+  pub one : (others : List Token) → AreTokens t others → others ≡ tokens

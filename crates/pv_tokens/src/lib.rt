@@ -4,6 +4,7 @@
 
 mod bytes;
 mod keyword;
+pub mod laws;
 mod number;
 mod numeral;
 mod place;

@@ -1,4 +1,4 @@
-// Written by tests/token_vectors.py.
+// Written by tests/generators/token_vectors.py.
 
 use crate::token::Kind;
 

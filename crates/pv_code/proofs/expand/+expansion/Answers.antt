@@ -1,7 +1,8 @@
-use Rattle.std.proofs.Common.{rules, ap, ◌≡◌, ◌≤◌, ◌∙◌, ◌<◌, length, get_or, map}
+use Rattle.std.proofs.Common.{rules, ap, ◌≡◌, ◌≤◌, ◌∙◌, ◌<◌, ◌+◌, length, get_or, map, drop}
 use Rattle.pv_expr.specs.Terms.{term_of}
-use Rattle.pv_code.specs.Expansion.{meanings, code_of}
+use Rattle.pv_code.specs.Expansion.{RunsAlike, code_of, meanings, stack_of}
 use Rattle.pv_code.proofs.Building.{called-is, called-past, run-more, run-begun, stacked-push, stacked-same}
+use Rattle.pv_code.proofs.Moving.{alike_behind}
 use Rattle.pv_code.proofs.expand.+expansion.Goals.{expand-in-Some+in_ok-push, expand-in_default}
 use Rattle.pv_code.proofs.expand.+expansion.Goals as goal
 
@@ -16,16 +17,19 @@ called-returns t c =
     let code : c.as_slice.result.now ≡ code_of (get_or c.args.functions.now c.args.function c.index-functions-i.result) = search rules in
     called-is c.args.functions.now c.args.function c.index-functions-i.result (map term_of c.args.arguments.now) _ c.as_slice.result.now _ within code c.in_ok-made.ensures c.taken.ensures.value
 
-pub expand-loop-op-init : goal.expand-loop-op-init
-expand-loop-op-init t c =
+pub expand-loop-i-init : goal.expand-loop-i-init
+expand-loop-i-init t c =
     run-begun (meanings (map code_of c.args.functions.now)) (map term_of c.args.arguments.now) c.args.code.now c.new-stack.result.items c.new-stack.ensures.items
 
-pub expand-loop-op-preserved : goal.expand-loop-op-preserved
-expand-loop-op-preserved t c =
-    let within : c.loop-op.op-index < length c.args.code.now = search rules in
-    run-more (meanings (map code_of c.args.functions.now)) (map term_of c.args.arguments.now) c.args.code.now c.loop-op.op-index _ c.loop-op.stack.items _ c.in_ok-made.made _ _ within c.in_ok-made.ensures
+pub expand-loop-i-preserved : goal.expand-loop-i-preserved
+expand-loop-i-preserved t c =
+    let within : c.loop-i.i < length c.args.code.now = search rules in
+    let alike : RunsAlike (drop (c.loop-i.i + 1) c.args.code.now) (map term_of c.loop-i.arguments) (map term_of c.made_by.new.arguments) =
+    alike_behind c.args.code.now (c.loop-i.i + 1) (map term_of c.loop-i.arguments) (map term_of c.made_by.new.arguments) c.in_ok-made.ensures.rest in
+    alike (meanings (map code_of c.args.functions.now)) (stack_of c.match-made.stack.items)
+    ∙ run-more (meanings (map code_of c.args.functions.now)) (map term_of c.loop-i.arguments) c.args.code.now c.loop-i.i _ c.loop-i.stack.items _ c.in_ok-made.made _ _ within c.in_ok-made.ensures.made
     (elim c.match-made.branch [
       | expand-in-Some+in_ok-push w ↦ stacked-push c.made_by.new.stack.items c.match-made.stack.items c.in_ok-made.made w.in-Some.value w.in-Some.is (ap (λ v. v.items) w.stack-is ∙ w.in_ok-push.ensures.items)
       | expand-in_default w ↦ stacked-same c.made_by.new.stack.items c.match-made.stack.items c.in_ok-made.made w.in_default.not-Some (ap (λ v. v.items) w.stack-is)
     ])
-    c.loop-op.invariant
+    c.loop-i.invariant
