@@ -2,9 +2,9 @@
 use Rattle.std.proofs.Common.{◌≡◌, ℕ, zero, suc, ◌+◌, ◌<◌, List, [], ◌∷◌, ◌++◌, length, refl, ap, sym, ◌∙◌, drop, get_or, add-one}
 use Rattle.std.proofs.Math.Seq.{drop-cons}
 use Rattle.pv_ctc.specs.Contracting.{hull_with}
-use Rattle.std.specs.Prelude.{All, Option, Some, None, slice_index_or}
+use Rattle.std.specs.Prelude.{option_and_then, All, Option, Some, None, slice_index_or}
 use Rattle.pv_box.specs.Boxes.{hull_boxes}
-use Rattle.pv_box.specs.QHull.{chain, column, place_hull_of, places_from, q_hull_of}
+use Rattle.pv_box.specs.QHull.{column, place_hull_of, places_from, q_hull_of}
 use Rattle.std.proofs.lemmas.List.Elements.{All-push}
 use Rattle.pv_interval.specs.Bounds.{Bounds}
 
@@ -19,7 +19,7 @@ hulls_length (x ∷ a) (y ∷ b) = ap suc (hulls_length a b)
 some_is : {A : Type 0} (x y : A) → Some x ≡ Some y → x ≡ y
 some_is x y e = cc
 
-taken : (o : Option Bounds) (p : Option (List Bounds)) (c : List Bounds) (n : ℕ) → ((xs : List Bounds) → p ≡ Some xs → length xs ≡ n) → chain o (λ x. chain p (λ xs. Some (x ∷ xs))) ≡ Some c → length c ≡ suc n
+taken : (o : Option Bounds) (p : Option (List Bounds)) (c : List Bounds) (n : ℕ) → ((xs : List Bounds) → p ≡ Some xs → length xs ≡ n) → option_and_then (λ x. option_and_then (λ xs. Some (x ∷ xs)) p) o ≡ Some c → length c ≡ suc n
 taken None p c n h e = absurd (cc)
 taken (Some x) None c n h e = absurd (cc)
 taken (Some x) (Some xs) c n h e = ap length (sym (some_is (x ∷ xs) c e)) ∙ ap suc (h xs refl)

@@ -259,6 +259,7 @@ record Stop (count named byte : ℕ) (ps : List Placed) (due : List Due) : Type 
   place : here.place ≡ byte
   ran : run count (tokens_in before) due ≡ Some now
   viable : CanEnd now
+  few : named_in (tokens_in before) + named ≤ 256
   wrong : (allowed count 0 now here.token ≡ None) ⊎ ((w : Name) × (here.token ≡ Word w) × (named_in (tokens_in before) + named ≡ 256))
 
 -- a rule of so many programs is that of none, but for one program too many
@@ -313,7 +314,7 @@ find count some byte (p ∷ ps) named due l v h =
     here_is o e h = place_is p.place byte (ap (λ x. met x p.place (λ now. refusal ps count (named_with p.token named) now)) (sym e) ∙ h)
 
     stopped : (w : Name) × (p.token ≡ Word w) × (256 ≤ named) × (allowed count named due p.token ≡ None) → refusal (p ∷ ps) count named due ≡ Some byte → Stop count named byte (p ∷ ps) due
-    stopped full h = record { before = []; here = p; after = ps; now = due; parted = refl; place = here_is (allowed count named due p.token) full.3 h; ran = refl; viable = v; wrong = inr (full.0, full.1, (let g = full.2 in omega arith)) }
+    stopped full h = record { before = []; here = p; after = ps; now = due; parted = refl; place = here_is (allowed count named due p.token) full.3 h; ran = refl; viable = v; few = omega (arith, l); wrong = inr (full.0, full.1, (let g = full.2 in omega arith)) }
 
     further : (now : List Due) → allowed count 0 due p.token ≡ Some now → Stop count (named_with p.token named) byte ps now → Stop count named byte (p ∷ ps) due
     further now e s = record {
@@ -325,11 +326,12 @@ find count some byte (p ∷ ps) named due l v h =
       place = s.place;
       ran = ap (λ o. onward o (λ next. run count (tokens_in s.before) next)) e ∙ s.ran;
       viable = s.viable;
+      few = subst (λ n. n ≤ 256) (sym (named_later p.token (named_in (tokens_in s.before)) named)) s.few;
       wrong = elim s.wrong [ inl none ↦ inl none | inr full ↦ inr (full.0, full.1, named_later p.token (named_in (tokens_in s.before)) named ∙ full.2) ];
     }
 
     cases : ((m : ℕ) (now : List Due) → m ≤ 256 → CanEnd now → refusal ps count m now ≡ Some byte → Stop count m byte ps now) → (o : Option (List Due)) → allowed count named due p.token ≡ o → allowed count named due p.token ≡ allowed count 0 due p.token → refusal (p ∷ ps) count named due ≡ Some byte → Stop count named byte (p ∷ ps) due
-    cases more None e same h = record { before = []; here = p; after = ps; now = due; parted = refl; place = here_is (allowed count named due p.token) e h; ran = refl; viable = v; wrong = inl (sym same ∙ e) }
+    cases more None e same h = record { before = []; here = p; after = ps; now = due; parted = refl; place = here_is (allowed count named due p.token) e h; ran = refl; viable = v; few = omega (arith, l); wrong = inl (sym same ∙ e) }
     cases more (Some now) e same h =
         further now (sym same ∙ e) (more (named_with p.token named) now (room count named due p.token now l e) (stays count due p.token now some v (sym same ∙ e))
         (ap (λ o. met o p.place (λ next. refusal ps count (named_with p.token named) next)) (sym e) ∙ h))
@@ -372,6 +374,7 @@ first_wrong count text byte some small short h =
       parted = s.parted;
       place = s.place;
       begins = stop_begins count byte (tokens_at text 0) some small s;
+      few = let f = s.few in omega (arith, f);
       wrong = elim s.wrong [
         | inl none ↦ inl (stop_wrong count (tokens_in s.before) s.here.token s.now small s.ran none)
         | inr full ↦ inr (record { name = full.0; is_name = full.1; full = (let e = full.2 in omega arith) })

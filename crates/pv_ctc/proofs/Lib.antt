@@ -27,3 +27,8 @@ pub mod Passing
 pub mod Summing
 pub mod OneSpelling
 pub mod Skipping
+pub mod Clauses
+pub mod Inherited
+pub mod Using
+pub mod Noting
+pub mod Falling

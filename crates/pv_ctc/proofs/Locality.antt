@@ -21,14 +21,14 @@ chain_each (Some x) f g h = h x
 chain_same : {A B : Type 0} (o p : Option A) (f g : A → Option B) → o ≡ p → ((x : A) → f x ≡ g x) → chain o f ≡ chain p g
 chain_same o p f g e h = ap (λ q. chain q f) e ∙ chain_each p f g h
 
-or_first : (s t : Bool) → s ≡ true → (s || t) ≡ true
+pub or_first : (s t : Bool) → s ≡ true → (s || t) ≡ true
 or_first s t h = ap (λ u. u || t) h
 
-or_second : (s t : Bool) → t ≡ true → (s || t) ≡ true
+pub or_second : (s t : Bool) → t ≡ true → (s || t) ≡ true
 or_second true t h = refl
 or_second false t h = h
 
-forward_same : (t : Term) (b d : List Bounds) → ((i : ℕ) → has_place i t ≡ true → at b i ≡ at d i) → forward_of b t ≡ forward_of d t
+pub forward_same : (t : Term) (b d : List Bounds) → ((i : ℕ) → has_place i t ≡ true → at b i ≡ at d i) → forward_of b t ≡ forward_of d t
 forward_same (constant p q) b d h = refl
 forward_same (place j) b d h = ap Some (h j (eq-eqb j j refl))
 forward_same (one u t) b d h = ap (λ o. chain o (λ x. Some (unary_of u x))) (forward_same t b d h)

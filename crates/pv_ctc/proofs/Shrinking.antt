@@ -1,6 +1,6 @@
 -- What a program leaves of a box lies in it.
 use Rattle.std.proofs.Common.{◌≡◌, ◌≢◌, ℕ, zero, suc, ◌+◌, ◌<◌, ◌≤◌, List, [], ◌∷◌, length, refl, ap, sym, ◌∙◌, subst, arith, get_or, cond}
-use Rattle.std.specs.Prelude.{Option, Some, None, All, IsTrue, Bool, true, false, map, ◌&&◌}
+use Rattle.std.specs.Prelude.{option_and_then, Option, Some, None, All, IsTrue, Bool, true, false, map, ◌&&◌}
 use Rattle.std.proofs.lemmas.Bool.{true≢false}
 use Rattle.std.proofs.lemmas.List.Elements.{All-cons, All-head, All-tail, All-nil}
 use Rattle.pv_num.specs.Extended.{Extended, NegInf, Fin, PosInf}
@@ -28,7 +28,7 @@ record QCame {A B : Type 0} (o : Option A) (f : A → Option B) (y : B) : Type 0
   pub first : o ≡ Some from
   pub then_is : f from ≡ Some y
 
-q_came : {A B : Type 0} (o : Option A) (f : A → Option B) (y : B) → q.chain o f ≡ Some y → QCame o f y
+q_came : {A B : Type 0} (o : Option A) (f : A → Option B) (y : B) → option_and_then f o ≡ Some y → QCame o f y
 q_came None f y e = absurd (cc)
 q_came (Some x) f y e = record { from = x; first = refl; then_is = e }
 
@@ -202,7 +202,7 @@ from_ends l h z e =
 place_within : (n : ℕ) (xs : List Bounds) (y z : Bounds) → AllWithin xs y → q.place_hull_of n xs ≡ Some z → IsPlace z y
 unfolding q.place_hull_of
 place_within n xs y z h e =
-    let v = q_came (q.least_end n xs xs) (λ l. q.chain (q.greatest_end n xs xs) (λ k. interval_from l k)) z e in
+    let v = q_came (q.least_end n xs xs) (λ l. option_and_then (λ k. interval_from l k) (q.greatest_end n xs xs)) z e in
     let w = q_came (q.greatest_end n xs xs) (λ k. interval_from v.from k) z v.then_is in
     let f = from_ends v.from w.from z w.then_is in
     let g : LiesWithin (between v.from w.from) y = (least_within n xs xs y v.from h v.first, greatest_within n xs xs y w.from h w.first) in
@@ -218,7 +218,7 @@ ArePlaces (x ∷ xs) (y ∷ ys) = IsPlace x y × ArePlaces xs ys
 pub places_within : (n k : ℕ) (cs : List (List Bounds)) (b c : List Bounds) → ((j : ℕ) → j < length b → AllWithin (q.column (k + j) cs) (get_or b j everything)) → q.places_from n k (length b) cs ≡ Some c → ArePlaces c b
 places_within n k cs [] c h e = subst (λ x. ArePlaces x []) (some_is [] c e) tt
 places_within n k cs (y ∷ b) c h e =
-    let v = q_came (q.place_hull_of n (q.column k cs)) (λ x. q.chain (q.places_from n (k + 1) (length b) cs) (λ xs. Some (x ∷ xs))) c e in
+    let v = q_came (q.place_hull_of n (q.column k cs)) (λ x. option_and_then (λ xs. Some (x ∷ xs)) (q.places_from n (k + 1) (length b) cs)) c e in
     let w = q_came (q.places_from n (k + 1) (length b) cs) (λ xs. Some (v.from ∷ xs)) c v.then_is in
     let k0 : k + 0 ≡ k = omega arith in
     let here = place_within n (q.column k cs) y v.from (subst (λ m. AllWithin (q.column m cs) y) k0 (h 0 (omega arith))) v.first in

@@ -45,7 +45,8 @@ pub record IsTooMany (before : List Token) (t : Token) : Type 0 where
   pub is_name : t ≡ Word name
   pub full : named_in before ≡ 256
 
--- a program's text begins with the tokens before the one at this byte; with this one none does, or it is one too many
+-- a program's text begins with the tokens before the one at this byte, which name at most 256 programs; with this one
+-- none does, or it is one too many
 pub record IsFirstWrong (count : ℕ) (ps : List Placed) (byte : ℕ) : Type 0 where
   pub before : List Placed
   pub here : Placed
@@ -53,6 +54,7 @@ pub record IsFirstWrong (count : ℕ) (ps : List Placed) (byte : ℕ) : Type 0 w
   pub parted : ps ≡ before ++ here ∷ after
   pub place : here.place ≡ byte
   pub begins : Begins count (tokens_in before)
+  pub few : named_in (tokens_in before) ≤ 256
   pub wrong : (¬ Begins count (tokens_in before ++ here.token ∷ [])) ⊎ IsTooMany (tokens_in before) here.token
 
 abbrev pub FirstWrong : Type 0

@@ -14,3 +14,6 @@ pub mod Taking
 pub mod Texts
 pub mod Uses
 pub mod Words
+pub mod Monotony
+pub mod Users
+pub mod Facts

@@ -1,5 +1,5 @@
 -- The set of points that a program speaks of.
-use Rattle.std.specs.Prelude.{◌≡◌, ℕ, zero, suc, ◌⊎◌, IsTrue, Some, List, [], ◌∷◌, length}
+use Rattle.std.specs.Prelude.{◌≡◌, ℕ, zero, suc, ◌⊎◌, IsTrue, Option, Some, List, [], ◌∷◌, length}
 use Rattle.pv_interval.specs.Bounds.{Bounds}
 use Rattle.pv_interval.specs.Points.{Point}
 use Rattle.pv_box.specs.Boxes.{IsBox, PointIn}
@@ -40,6 +40,14 @@ abbrev mutual
   IsInSoMany ss no_plan x (suc q) = ⊥
   IsInSoMany ss (plan_and p ps) x zero = Unit {0}
   IsInSoMany ss (plan_and p ps) x (suc q) = (IsMember ss p x × IsInSoMany ss ps x q) ⊎ IsInSoMany ss ps x (suc q)
+
+-- each member in the box lies in what is left of it
+abbrev pub MembersStay : List Sides → Plan → List Bounds → Option (List Bounds) → Type 0
+MembersStay ss p b left = (x : Point) → PointIn x b → IsMember ss p x → PointInSome x left
+
+-- each point of the box is a member
+abbrev pub AreMembers : List Sides → Plan → List Bounds → Type 0
+AreMembers ss p b = (x : Point) → PointIn x b → IsMember ss p x
 
 -- a member in a box lies in what contraction leaves of it
 abbrev pub KeepsMembers : Type 0

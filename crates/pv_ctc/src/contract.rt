@@ -1,4 +1,4 @@
-// What a program does to a box.
+//! What a program does to a box.
 
 ghost use Rattle.std.specs.Prelude.{◌≡◌, ℕ, ◌+◌, ◌<◌, ◌≤◌, length, IfOk, IfSome, OnOk, OnErr, All};
 ghost use Rattle.pv_ctc.specs.Plans.{plan_of, plans_of, IsFor, AreFor};
@@ -6,6 +6,8 @@ ghost use Rattle.pv_ctc.specs.Contracting.{sides_in, contract_of, effects, in_or
 ghost use Rattle.pv_ctc.specs.Counters.{raised, RoseAtMost};
 ghost use Rattle.pv_ctc.specs.Revisions.{revisions, revisions_in_order, revisions_of_all, sum_of_turns};
 ghost use Rattle.pv_ctc.specs.Steps.{IsStep};
+ghost use Rattle.pv_ctc.specs.Members.{MembersStay};
+ghost use Rattle.pv_box.specs.Boxes.{IsWithin};
 
 use crate::counter::{Counter, Uncounted};
 use crate::graphs::Graphs;
@@ -30,6 +32,8 @@ impl Program {
         requires dims { length bx.now ≡ graphs.now.dims }
         ensures left { IfOk result (λ o. o ≡ contract_of (sides_in graphs.now) (plan_of self.now) bx.now) }
         ensures dims { IfOk result (λ o. IfSome o (λ b. length b ≡ length bx.now)) }
+        ensures within { IfOk result (λ o. IfSome o (λ b. IsWithin b bx.now)) }
+        ensures members { IfOk result (MembersStay (sides_in graphs.now) (plan_of self.now) bx.now) }
     {
         self.contract_by(alloc, graphs, bx, &mut Uncounted)
     }
@@ -47,8 +51,11 @@ impl Program {
         requires dims { length bx.now ≡ graphs.now.dims }
         ensures left { IfOk result (λ o. o ≡ contract_of (sides_in graphs.now) (plan_of self.now) bx.now) }
         ensures dims { IfOk result (λ o. IfSome o (λ b. length b ≡ length bx.now)) }
+        ensures within { IfOk result (λ o. IfSome o (λ b. IsWithin b bx.now)) }
+        ensures members { IfOk result (MembersStay (sides_in graphs.now) (plan_of self.now) bx.now) }
         ensures counted { OnOk result (steps.new ≡ steps.old + revisions (sides_in graphs.now) (plan_of self.now) bx.now) }
         ensures at_most { OnErr result (steps.new ≤ steps.old + revisions (sides_in graphs.now) (plan_of self.now) bx.now) }
+        ensures no_fewer { OnErr result (steps.old ≤ steps.new) }
     {
         self.contract_by(alloc, graphs, bx, steps)
     }
@@ -56,6 +63,27 @@ impl Program {
     /// As `contract`, with each revision made through a counter, which then tells as many more as
     /// the contraction needs, and after want of memory at most so many more.
     pub fn contract_by<C: Counter>(
+        &self,
+        alloc: Global,
+        graphs: &Graphs,
+        bx: &IBox,
+        counter: &mut C,
+    ) -> Result<Option<IBox>, Memory>
+        requires program { IsFor (length graphs.now.graphs) (plan_of self.now) }
+        requires dims { length bx.now ≡ graphs.now.dims }
+        ensures left { IfOk result (λ o. o ≡ contract_of (sides_in graphs.now) (plan_of self.now) bx.now) }
+        ensures dims { IfOk result (λ o. IfSome o (λ b. length b ≡ length bx.now)) }
+        ensures within { IfOk result (λ o. IfSome o (λ b. IsWithin b bx.now)) }
+        ensures members { IfOk result (MembersStay (sides_in graphs.now) (plan_of self.now) bx.now) }
+        ensures counted { OnOk result (C.told counter.new ≡ raised (C.told counter.old) (revisions (sides_in graphs.now) (plan_of self.now) bx.now)) }
+        ensures at_most { OnErr result (RoseAtMost (revisions (sides_in graphs.now) (plan_of self.now) bx.now) (C.told counter.old) (C.told counter.new)) }
+    {
+        graphs.learn();
+        let _dims = bx.dims();
+        self.left_of(alloc, graphs, bx, counter)
+    }
+
+    fn left_of<C: Counter>(
         &self,
         alloc: Global,
         graphs: &Graphs,

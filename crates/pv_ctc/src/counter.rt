@@ -1,4 +1,4 @@
-// What counts the revisions of a contraction.
+//! What counts the revisions of a contraction.
 
 ghost use Rattle.std.specs.Prelude.{◌≡◌, ℕ, Option, Some, None, length, IfOk, OnErr};
 ghost use Rattle.pv_hc4.specs.Revise.{revised};

@@ -2,11 +2,14 @@
 
 ghost use Rattle.std.specs.Prelude.{◌≡◌, ◌<◌, ◌≤◌, length, map, IfOk};
 ghost use Rattle.pv_hc4.specs.Graphs.{sides_of, sides_named};
+ghost use Rattle.pv_ctc.specs.Contracting.{sides_in};
 ghost use Rattle.pv_ctc.specs.GraphLists.{AreGraphs};
+ghost use Rattle.pv_ctc.specs.Members.{AllOver};
 
+use crate::users::users_of;
 use crate::uses::uses_of;
 use pv_expr::System;
-use pv_hc4::Graph;
+use pv_hc4::{Graph, Marks};
 use pv_num::Memory;
 use std::alloc::Global;
 use std::marker::Model;
@@ -16,6 +19,7 @@ use std::marker::Model;
 pub struct Graphs {
     pub(crate) graphs: Vec<Graph>,
     pub(crate) uses: Vec<[bool; 12]>,
+    pub(crate) users: [Marks; 12],
     dims: u8,
 }
 
@@ -24,12 +28,14 @@ impl Model for Graphs {
     ghost use Rattle.pv_hc4.specs.Graphs.{sides_of};
     ghost use Rattle.pv_ctc.specs.GraphLists.{GraphList, AreGraphs};
     ghost use Rattle.pv_ctc.specs.Uses.{HaveUses};
+    ghost use Rattle.pv_ctc.specs.Users.{AreUsers};
+    ghost use Rattle.pv_ctc.specs.Members.{AllOver};
 
     ghost Value = { GraphList };
 
     ghost view = { λ g. record { graphs = g.graphs.items; dims = g.dims } };
 
-    ghost invariant = { λ g. AreGraphs (record { graphs = g.graphs.items; dims = g.dims }) × HaveUses g.uses.items (map sides_of g.graphs.items) };
+    ghost invariant = { λ g. AreGraphs (record { graphs = g.graphs.items; dims = g.dims }) × HaveUses g.uses.items (map sides_of g.graphs.items) × AreUsers g.users (map sides_of g.graphs.items) × AllOver g.dims (map sides_of g.graphs.items) };
 }
 
 impl Graphs {
@@ -46,7 +52,21 @@ impl Graphs {
             uses.push(uses_of(constraint))?;
             graphs.push(Graph::of(alloc, constraint, dims)?)?;
         }
-        Ok(Graphs { graphs, uses, dims })
+        let users = users_of(&uses);
+        Ok(Graphs {
+            graphs,
+            uses,
+            users,
+            dims,
+        })
+    }
+
+    /// Every constraint is over the system's variables. It holds by its contract alone; the call
+    /// does nothing.
+    pub fn learn(&self)
+        ensures { AllOver self.now.dims (sides_in self.now) }
+    {
+        let _ = &self.users;
     }
 
     /// How many constraints there are.

@@ -1,4 +1,4 @@
-// Hulls of what several programs left of a box.
+//! Hulls of what several programs left of a box.
 
 ghost use Rattle.std.specs.Prelude.{◌≡◌, ◌↔◌, ◌<◌, ◌≤◌, length, IfOk, All, IsTrue, Some};
 ghost use Rattle.pv_ctc.specs.Contracting.{hull_all, hull_with, q_hull_all};
@@ -6,12 +6,11 @@ ghost use Rattle.pv_ctc.specs.Steps.{IsStep};
 
 use pv_box::IBox;
 use pv_hc4::Revised;
-use pv_interval::Interval;
 use pv_num::Memory;
 use std::alloc::Global;
 
 // Makes the box the hull of others; empty where there are none.
-pub fn take_hull(alloc: Global, found: &[IBox], bx: &mut IBox) -> Result<Revised, Memory>
+pub(crate) fn take_hull(alloc: Global, found: &[IBox], bx: &mut IBox) -> Result<Revised, Memory>
     requires { All (λ b. length b ≡ length bx.old) found.now }
     ensures dims { length bx.new ≡ length bx.old }
     ensures step { IfOk result (λ r. IsStep (hull_all found.now) r bx.old bx.new) }
@@ -27,7 +26,12 @@ pub fn take_hull(alloc: Global, found: &[IBox], bx: &mut IBox) -> Result<Revised
 }
 
 // Makes the box the q-hull of others; empty where that is.
-pub fn take_q_hull(alloc: Global, q: u32, found: &[IBox], bx: &mut IBox) -> Result<Revised, Memory>
+pub(crate) fn take_q_hull(
+    alloc: Global,
+    q: u32,
+    found: &[IBox],
+    bx: &mut IBox,
+) -> Result<Revised, Memory>
     requires q { 1 ≤ q }
     requires dims { All (λ b. length b ≡ length bx.old) found.now }
     ensures dims { length bx.new ≡ length bx.old }
@@ -48,27 +52,9 @@ fn replace(bx: &mut IBox, by: &IBox) -> Revised
     ensures dims { length bx.new ≡ length bx.old }
     ensures step { IsStep (Some by.now) result bx.old bx.new }
 {
-    if is_same(bx, by) {
+    if bx.is_same(by) {
         return Revised::Kept;
     }
     bx.copy_from(by);
     Revised::Changed
-}
-
-fn is_same(a: &IBox, b: &IBox) -> bool
-    requires { length a.now ≡ length b.now }
-    ensures { IsTrue result ↔ (a.now ≡ b.now) }
-{
-    for i in 0..a.dims() {
-        if !same_interval(a.get(i), b.get(i)) {
-            return false;
-        }
-    }
-    true
-}
-
-pub fn same_interval(x: Interval, y: Interval) -> bool
-    ensures { IsTrue result ↔ (x ≡ y) }
-{
-    x.lo() == y.lo() && x.hi() == y.hi()
 }

@@ -1,5 +1,7 @@
-//! What contraction and the sure test say of points, what is counted, and what the reader of texts answers, as contracts.
+//! What contraction and the sure test say of points, what is counted, and what the reader of texts
+//! answers, as contracts.
 ghost use Rattle.pv_ctc.specs.Members.{KeepsMembers, StaysWithin, SureOfMembers};
+ghost use Rattle.pv_ctc.specs.Monotony.{KeepsSurePrograms};
 ghost use Rattle.pv_ctc.specs.Beginnings.{FirstWrong};
 ghost use Rattle.pv_ctc.specs.Refusals.{OneAnswer, OneSpelling};
 ghost use Rattle.pv_ctc.specs.Revisions.{PassesOverAlike};
@@ -21,6 +23,11 @@ pub fn sure_of_members()
     ensures { SureOfMembers }
 {}
 
+/// A program that is sure on a box is sure on each part of it. It holds by its contract alone; the call does nothing.
+pub fn sure_of_parts()
+    ensures { KeepsSurePrograms }
+{}
+
 /// A text is the spelling of a program within the limits and refused nowhere, or it is the spelling of none and refused
 /// at one byte. It holds by its contract alone; the call does nothing.
 #[tactic(auto, using(crate::proofs::Derived::one_answer))]
@@ -34,9 +41,10 @@ pub fn one_spelling()
     ensures { OneSpelling }
 {}
 
-/// For a system of one constraint or more, a text of up to 4,096 bytes that is refused is refused at the first token such
-/// that no program's text, of any number of programs, begins with the tokens up to and with it, or that names the 257th
-/// program. It holds by its contract alone; the call does nothing.
+/// For a system of one constraint or more, a text of up to 4,096 bytes that is refused is refused at
+/// the first token such that no program's text, of any number of programs, begins with the tokens up
+/// to and with it, or that names the 257th program. The tokens before it name at most 256 programs.
+/// It holds by its contract alone; the call does nothing.
 #[tactic(auto, using(crate::proofs::Closings::first_wrong))]
 pub fn first_wrong()
     ensures { FirstWrong }

@@ -8,17 +8,22 @@ mod contract;
 mod counter;
 mod graphs;
 mod hulls;
+mod knowing;
+mod knowing_sure;
+mod known;
 pub mod laws;
 pub mod program;
 mod propagation;
 mod reading;
 mod sure;
 mod token;
+mod users;
 mod uses;
 mod writing;
 
 pub use counter::Counter;
 pub use graphs::Graphs;
+pub use known::Known;
 pub use program::Program;
 pub use reading::ProgramRefused;
 

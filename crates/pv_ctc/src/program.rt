@@ -1,4 +1,4 @@
-// The program itself.
+//! The program itself.
 
 /// A contractor program. Constraints are numbered from 0.
 #[derive(Drop)]

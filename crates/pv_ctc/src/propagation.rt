@@ -1,6 +1,6 @@
-// Revisions by single constraints, and by all of them.
+//! Revisions by single constraints, and by all of them.
 
-ghost use Rattle.std.specs.Prelude.{◌≡◌, ◌⊎◌, ◌↔◌, ℕ, ◌<◌, ◌≤◌, Option, List, length, take, IfOk, OnOk, OnErr, IsFalse, ◌&&◌, false, slice_index_or, []};
+ghost use Rattle.std.specs.Prelude.{◌≡◌, ◌⊎◌, ◌↔◌, ℕ, ◌<◌, ◌≤◌, Option, List, length, take, IfOk, OnOk, OnErr, IsFalse, ◌&&◌, false, true, slice_index_or, []};
 ghost use Rattle.pv_hc4.specs.Revise.{revised};
 ghost use Rattle.pv_hc4.specs.declared.revised.Revised.TheVariants.{Empty};
 ghost use Rattle.pv_ctc.specs.Contracting.{sides_in, side_at, turns_of, all_revised};
@@ -13,14 +13,13 @@ ghost use Rattle.pv_ctc.specs.Uses.{AreAlikeFor};
 
 use crate::counter::Counter;
 use crate::graphs::Graphs;
-use crate::hulls::same_interval;
 use pv_box::IBox;
 use pv_hc4::{Revised, Scratch};
 use pv_interval::Interval;
 use pv_num::Memory;
 
 // One revision.
-pub fn revise<C: Counter>(
+pub(crate) fn revise<C: Counter>(
     graphs: &Graphs,
     i: usize,
     scratch: &mut Scratch,
@@ -37,7 +36,7 @@ pub fn revise<C: Counter>(
 }
 
 // All constraints in order, repeated until a turn changes nothing.
-pub fn propagate<C: Counter>(
+pub(crate) fn propagate<C: Counter>(
     turns: u32,
     graphs: &Graphs,
     scratch: &mut Scratch,
@@ -116,11 +115,18 @@ fn has_changed(uses: &[bool; 12], entry: &[Interval; 12], bx: &IBox) -> bool
     ensures { IsFalse result ↔ AreAlikeFor uses.now entry.now bx.now }
 {
     for i in 0..bx.dims() {
-        if uses[i as usize] && !same_interval(entry[i as usize], place(bx, i)) {
+        if differs(uses[i as usize], entry[i as usize], place(bx, i)) {
             return true;
         }
     }
     false
+}
+
+// Whether a place that is used has another interval now.
+fn differs(used: bool, before: Interval, now: Interval) -> bool
+    ensures { IsFalse result ↔ (used ≡ true → before ≡ now) }
+{
+    used && before != now
 }
 
 // The places of a box.

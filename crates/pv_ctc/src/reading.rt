@@ -1,4 +1,4 @@
-// From a text to a program.
+//! From a text to a program.
 
 ghost use Rattle.std.specs.Prelude.{◌≡◌, ℕ, ◌+◌, ◌-◌, ◌++◌, ◌<◌, ◌≤◌, [], ◌∷◌, true, length, drop, codes, decimal, IfOk, IfErr, OnOk, IsTrue, IsFalse, Option, None};
 ghost use Rattle.pv_ctc.specs.Texts.{program_text, parts_text, open_text};

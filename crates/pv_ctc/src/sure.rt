@@ -1,9 +1,10 @@
-// Whether every point of a box is a member of a program's set, as the intervals show.
+//! Whether every point of a box is a member of a program's set, as the intervals show.
 
-ghost use Rattle.std.specs.Prelude.{◌≡◌, ℕ, ◌<◌, ◌≤◌, length, nat_le, IfOk};
+ghost use Rattle.std.specs.Prelude.{◌≡◌, ℕ, ◌<◌, ◌≤◌, length, nat_le, IfOk, IsTrue};
 ghost use Rattle.pv_hc4.specs.Totality.{sure_of};
 ghost use Rattle.pv_ctc.specs.Contracting.{sides_in, side_at};
 ghost use Rattle.pv_ctc.specs.Plans.{plan_of, plans_of, IsFor, AreFor};
+ghost use Rattle.pv_ctc.specs.Members.{AreMembers};
 ghost use Rattle.pv_ctc.specs.Sureness.{program_sure, parts_sure, constraints_sure, all_true, count_true};
 
 use crate::graphs::Graphs;
@@ -19,8 +20,10 @@ impl Program {
     pub fn sure(&self, alloc: Global, graphs: &Graphs, bx: &IBox) -> Result<bool, Memory>
         requires program { IsFor (length graphs.now.graphs) (plan_of self.now) }
         requires dims { length bx.now ≡ graphs.now.dims }
-        ensures { IfOk result (λ t. t ≡ program_sure (sides_in graphs.now) (plan_of self.now) bx.now) }
+        ensures answer { IfOk result (λ t. t ≡ program_sure (sides_in graphs.now) (plan_of self.now) bx.now) }
+        ensures members { IfOk result (λ t. IsTrue t → AreMembers (sides_in graphs.now) (plan_of self.now) bx.now) }
     {
+        graphs.learn();
         let mut scratch = Scratch::new(alloc);
         is_sure(self, graphs, &mut scratch, bx)
     }

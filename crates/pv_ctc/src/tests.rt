@@ -1,4 +1,4 @@
-// Texts of programs: those that are right, and the byte of each refusal.
+//! Texts of programs: those that are right, and the byte of each refusal.
 
 mod programs;
 

@@ -1,4 +1,4 @@
-// The tokens of a program's text.
+//! The tokens of a program's text.
 
 ghost use Rattle.std.specs.Prelude.{◌≡◌, ◌+◌, ◌*◌, ◌<◌, ◌≤◌, ◌^◌, [], ◌∷◌, length, take, drop, get_or, IfSome, IfNone, slice_index};
 ghost use Rattle.std.specs.List.{prefix_len};

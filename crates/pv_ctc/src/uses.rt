@@ -1,4 +1,4 @@
-// Which variables a constraint has.
+//! Which variables a constraint has.
 
 ghost use Rattle.std.specs.Prelude.{◌≡◌, ℕ, ◌<◌, ◌||◌, false, slice_index_or, nat_eq};
 ghost use Rattle.pv_expr.specs.Terms.{term_of};
@@ -8,7 +8,7 @@ ghost use Rattle.pv_ctc.specs.Uses.{has_place, AreUses};
 use pv_expr::{Constraint, Expr};
 
 // Whether each variable stands in a constraint.
-pub fn uses_of(constraint: &Constraint) -> [bool; 12]
+pub(crate) fn uses_of(constraint: &Constraint) -> [bool; 12]
     ensures { AreUses result (sides_named constraint.now) }
 {
     let mut uses = [false; 12];

@@ -1,16 +1,17 @@
-// From a program to its text.
+//! From a program to its text.
 
 ghost use Rattle.std.specs.Prelude.{◌≡◌, ◌++◌, codes, decimal, IfOk, OnOk};
 ghost use Rattle.pv_ctc.specs.Plans.{plan_of, plans_of};
 ghost use Rattle.pv_ctc.specs.Texts.{program_text, parts_text, comma_text};
 
 use crate::program::Program;
-use itoa::Buffer;
-use std::alloc::{AllocError, Global};
+use pv_expr::text::{put, put_number};
+use pv_num::Memory;
+use std::alloc::Global;
 
 impl Program {
     /// The one spelling of the program.
-    pub fn text(&self, alloc: Global) -> Result<Vec<u8>, AllocError>
+    pub fn text(&self, alloc: Global) -> Result<Vec<u8>, Memory>
         ensures { IfOk result (λ text. text.items ≡ program_text (plan_of self.now)) }
     {
         let mut out = Vec::new(alloc);
@@ -20,7 +21,7 @@ impl Program {
 }
 
 #[cycle(writing)]
-fn write_program(out: &mut Vec<u8>, program: &Program) -> Result<(), AllocError>
+fn write_program(out: &mut Vec<u8>, program: &Program) -> Result<(), Memory>
     ensures { OnOk result (out.new.items ≡ out.old.items ++ program_text (plan_of program.now)) }
 {
     match program {
@@ -43,7 +44,7 @@ fn write_program(out: &mut Vec<u8>, program: &Program) -> Result<(), AllocError>
 
 // What stands in front of some programs, and then these, with commas between them.
 #[cycle(writing)]
-fn write_list(out: &mut Vec<u8>, head: &[u8], parts: &[Program]) -> Result<(), AllocError>
+fn write_list(out: &mut Vec<u8>, head: &[u8], parts: &[Program]) -> Result<(), Memory>
     ensures { OnOk result (out.new.items ≡ out.old.items ++ (head.now ++ parts_text 0 (plans_of parts.now) ++ codes ")")) }
 {
     put(out, head)?;
@@ -53,7 +54,7 @@ fn write_list(out: &mut Vec<u8>, head: &[u8], parts: &[Program]) -> Result<(), A
 
 // The programs of a list, with commas between them.
 #[cycle(writing)]
-fn write_parts(out: &mut Vec<u8>, parts: &[Program]) -> Result<(), AllocError>
+fn write_parts(out: &mut Vec<u8>, parts: &[Program]) -> Result<(), Memory>
     ensures { OnOk result (out.new.items ≡ out.old.items ++ parts_text 0 (plans_of parts.now)) }
 {
     for i in 0..parts.len() {
@@ -63,7 +64,7 @@ fn write_parts(out: &mut Vec<u8>, parts: &[Program]) -> Result<(), AllocError>
     Ok(())
 }
 
-fn write_comma(out: &mut Vec<u8>, i: usize) -> Result<(), AllocError>
+fn write_comma(out: &mut Vec<u8>, i: usize) -> Result<(), Memory>
     ensures { OnOk result (out.new.items ≡ out.old.items ++ comma_text i) }
 {
     if i == 0 {
@@ -73,7 +74,7 @@ fn write_comma(out: &mut Vec<u8>, i: usize) -> Result<(), AllocError>
 }
 
 // A word with its parenthesis, a number, and the other parenthesis.
-fn write_leaf(out: &mut Vec<u8>, word: &[u8], n: u32) -> Result<(), AllocError>
+fn write_leaf(out: &mut Vec<u8>, word: &[u8], n: u32) -> Result<(), Memory>
     ensures { OnOk result (out.new.items ≡ out.old.items ++ (word.now ++ decimal n ++ codes ")")) }
 {
     write_head(out, word, n)?;
@@ -81,16 +82,9 @@ fn write_leaf(out: &mut Vec<u8>, word: &[u8], n: u32) -> Result<(), AllocError>
 }
 
 // A word with its parenthesis, and a number.
-fn write_head(out: &mut Vec<u8>, word: &[u8], n: u32) -> Result<(), AllocError>
+fn write_head(out: &mut Vec<u8>, word: &[u8], n: u32) -> Result<(), Memory>
     ensures { OnOk result (out.new.items ≡ out.old.items ++ (word.now ++ decimal n)) }
 {
-    let mut digits = Buffer::new();
     put(out, word)?;
-    put(out, digits.format(n).as_bytes())
-}
-
-fn put(out: &mut Vec<u8>, bytes: &[u8]) -> Result<(), AllocError>
-    ensures { OnOk result (out.new.items ≡ out.old.items ++ bytes.now) }
-{
-    out.extend_from_slice(bytes)
+    put_number(out, n as u64)
 }

@@ -16,3 +16,6 @@ pub mod Within
 pub mod Pointing
 pub mod Numbering
 pub mod Whole
+pub mod Inherited
+pub mod Masks
+pub mod Judging

@@ -8,3 +8,6 @@ pub mod Building
 pub mod Totality
 pub mod Members
 pub mod Numbers
+pub mod Monotony
+pub mod MarkSets
+pub mod Judging

@@ -1,9 +1,9 @@
 -- Points at which a constraint holds, and boxes that lie in one another.
-use Rattle.std.specs.Prelude.{ℕ, ◌≡◌, Some, IsTrue, List, [], ◌∷◌, length}
-use Rattle.pv_num.specs.Order.{le}
+use Rattle.std.specs.Prelude.{ℕ, ◌≡◌, Some, IsTrue, List, length}
 use Rattle.pv_interval.specs.Bounds.{Bounds}
 use Rattle.pv_interval.specs.Points.{Point}
 use Rattle.pv_box.specs.Boxes.{IsBox, PointIn}
+pub use Rattle.pv_box.specs.Boxes.{IsWithin as AreWithin}
 use Rattle.pv_box.specs.Members.{PointInSome}
 use Rattle.pv_expr.specs.Systems.{IsOver}
 use Rattle.pv_expr.specs.Terms.{HoldsBetween}
@@ -29,13 +29,6 @@ Stays x Empty new = ⊥
 -- a revision lost no point of the old box at which the constraint holds
 abbrev pub LosesNone : Sides → Revised → List Bounds → List Bounds → Type 0
 LosesNone s r old new = (x : Point) → PointIn x old → HoldsAt s x → Stays x r new
-
--- a box lies in another, place by place
-abbrev pub AreWithin : List Bounds → List Bounds → Type 0
-AreWithin [] [] = Unit {0}
-AreWithin [] (y ∷ ys) = ⊥
-AreWithin (x ∷ xs) [] = ⊥
-AreWithin (x ∷ xs) (y ∷ ys) = IsTrue (le y.lo x.lo) × IsTrue (le x.hi y.hi) × AreWithin xs ys
 
 -- both sides are over n variables
 abbrev pub AreOver : ℕ → Sides → Type 0

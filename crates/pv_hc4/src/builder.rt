@@ -1,4 +1,4 @@
-// From the sides of a constraint to numbered nodes.
+//! From the sides of a constraint to numbered nodes.
 
 ghost use Rattle.std.specs.Prelude.{◌≡◌, ◌≢◌, ℕ, ◌<◌, ◌≤◌, length, IfOk, OnOk, [], Some, IfSome, IfNone, if◌then◌else◌};
 ghost use Rattle.std.specs.HashMap.{get};

@@ -1,4 +1,4 @@
-// The forward pass.
+//! The forward pass.
 
 ghost use Rattle.std.specs.Prelude.{◌≡◌, ℕ, ◌+◌, ◌<◌, ◌≤◌, length, Some, IsTrue};
 ghost use Rattle.pv_hc4.specs.Forward.{unary_of, binary_of};
@@ -36,7 +36,7 @@ fn binary(op: BinaryOp, x: Interval, y: Interval) -> Option<Interval>
 }
 
 // One place of a box.
-pub fn place(bx: &IBox, i: u8) -> Interval
+pub(crate) fn place(bx: &IBox, i: u8) -> Interval
     requires { i < length bx.now }
     ensures { result ≡ at bx.now i }
 {
@@ -58,7 +58,7 @@ fn value(node: Node, own: Interval, bx: &IBox, values: &[Interval]) -> Option<In
 }
 
 // Gives each node its interval; false where one of them is empty. At the entry the constants have theirs.
-pub fn forward_all(nodes: &[Node], bx: &IBox, values: &mut [Interval]) -> bool
+pub(crate) fn forward_all(nodes: &[Node], bx: &IBox, values: &mut [Interval]) -> bool
     requires ordered { AreOrdered nodes.now (length bx.now) }
     requires ready { AreReady nodes.now values.old }
     ensures passed { IsPass bx.now nodes.now values.new result }

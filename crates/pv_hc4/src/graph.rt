@@ -1,4 +1,4 @@
-// The graph of a constraint.
+//! The graph of a constraint.
 
 ghost use Rattle.std.specs.Prelude.{◌≡◌, ℕ, ◌+◌, ◌<◌, ◌≤◌, length, IsTrue, IfOk, OnOk, OnErr, IsOk, MatchResult, Some};
 ghost use Rattle.pv_expr.specs.Terms.{term_of};
@@ -36,11 +36,11 @@ pub struct Forward {
 /// A constraint as a list of nodes in which no two are equal expressions.
 #[derive(Drop)]
 pub struct Graph {
-    nodes: Vec<Node>,
-    ready: Vec<Interval>,
-    left: usize,
-    relation: Relation,
-    right: usize,
+    pub(crate) nodes: Vec<Node>,
+    pub(crate) ready: Vec<Interval>,
+    pub(crate) left: usize,
+    pub(crate) relation: Relation,
+    pub(crate) right: usize,
     dims: u8,
 }
 
@@ -225,7 +225,7 @@ fn forward_values(
 /// Room for one interval a node, kept from one call to the next.
 #[derive(Drop)]
 pub struct Scratch {
-    values: Vec<Interval>,
+    pub(crate) values: Vec<Interval>,
 }
 
 impl Scratch {
@@ -237,7 +237,7 @@ impl Scratch {
     }
 }
 
-fn fill(values: &mut Vec<Interval>, ready: &[Interval]) -> Result<(), Memory>
+pub fn fill(values: &mut Vec<Interval>, ready: &[Interval]) -> Result<(), Memory>
     ensures { OnOk result (values.new.items ≡ ready.now) }
 {
     values.clear();

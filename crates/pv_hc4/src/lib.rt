@@ -7,7 +7,9 @@
 mod builder;
 mod forward;
 mod graph;
+mod judge;
 pub mod laws;
+mod marks;
 mod narrow;
 mod node;
 mod relate;
@@ -17,6 +19,8 @@ mod steps;
 mod total;
 
 pub use graph::{Forward, Graph, Scratch};
+pub use judge::Judged;
+pub use marks::Marks;
 pub use node::{BinaryOp, Node, UnaryOp};
 pub use revised::Revised;
 pub use steps::Steps;

@@ -1,4 +1,4 @@
-// The downward pass.
+//! The downward pass.
 
 ghost use Rattle.std.specs.Prelude.{◌≡◌, ℕ, ◌+◌, ◌<◌, ◌≤◌, length, Some, [], ◌∷◌};
 ghost use Rattle.pv_hc4.specs.Chain.{Gives};
@@ -59,7 +59,7 @@ fn narrow_place(bx: &mut IBox, place: u8, target: Interval) -> bool
 
 // Narrows the box by all occurrences below a node; false where a step is empty, and then the box is
 // somewhere between. `entry` is the box that the values were made for.
-pub fn narrow(
+pub(crate) fn narrow(
     nodes: &[Node],
     values: &[Interval],
     at: usize,

@@ -1,4 +1,4 @@
-// The nodes of a graph.
+//! The nodes of a graph.
 
 /// An operation of one argument.
 #[derive(Clone, Copy, Debug, PartialEq, Eq, Hash)]

@@ -1,4 +1,4 @@
-// The relation between two sides.
+//! The relation between two sides.
 
 ghost use Rattle.std.specs.Prelude.{◌≡◌, IsTrue, Some};
 ghost use Rattle.pv_num.specs.Order.{le, lesser as lesser_of, greater as greater_of};
@@ -31,7 +31,7 @@ fn ordered(l: Interval, r: Interval) -> Option<(Interval, Interval)>
 }
 
 // What is left of two sides' intervals; None where no two of their numbers stand so.
-pub fn related(relation: Relation, l: Interval, r: Interval) -> Option<(Interval, Interval)>
+pub(crate) fn related(relation: Relation, l: Interval, r: Interval) -> Option<(Interval, Interval)>
     ensures { result ≡ related_of relation l r }
 {
     match relation {

@@ -1,4 +1,4 @@
-// One revision, over the parts of a graph.
+//! One revision, over the parts of a graph.
 
 ghost use Rattle.std.specs.Prelude.{◌≡◌, ◌↔◌, IsTrue, ℕ, ◌<◌, ◌≤◌, length, take, Some, None, Bool, if◌then◌else◌};
 ghost use Rattle.pv_expr.specs.Systems.{IsOver};
@@ -18,7 +18,7 @@ use pv_expr::Relation;
 use pv_interval::Interval;
 
 // The places of a box.
-fn copied(bx: &IBox) -> [Interval; 12]
+pub fn copied(bx: &IBox) -> [Interval; 12]
     ensures { take (length bx.now) result ≡ bx.now }
 {
     let mut places = [Interval::ALL; 12];
@@ -28,25 +28,19 @@ fn copied(bx: &IBox) -> [Interval; 12]
     places
 }
 
-fn is_same(entry: &[Interval], bx: &IBox) -> bool
+pub fn is_same(entry: &[Interval], bx: &IBox) -> bool
     requires { length bx.now ≡ length entry.now }
     ensures { IsTrue result ↔ (bx.now ≡ entry.now) }
 {
     for i in 0..bx.dims() {
-        if !same_interval(entry[i as usize], place(bx, i)) {
+        if entry[i as usize] != place(bx, i) {
             return false;
         }
     }
     true
 }
 
-fn same_interval(x: Interval, y: Interval) -> bool
-    ensures { IsTrue result ↔ (x ≡ y) }
-{
-    x.lo() == y.lo() && x.hi() == y.hi()
-}
-
-fn restore(entry: &[Interval], bx: &mut IBox)
+pub fn restore(entry: &[Interval], bx: &mut IBox)
     requires { length bx.old ≡ length entry.now }
     ensures { bx.new ≡ entry.now }
 {
@@ -104,7 +98,7 @@ fn narrows_nothing(
 }
 
 // Revises the box by the constraint between two nodes. At the entry the values have the constants'.
-pub fn revise_values(
+pub(crate) fn revise_values(
     nodes: &[Node],
     left: usize,
     relation: Relation,

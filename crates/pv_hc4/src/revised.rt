@@ -1,4 +1,4 @@
-// What a revision answers.
+//! What a revision answers.
 
 /// What HC4-revise did to a box.
 #[derive(Clone, Copy, Debug, PartialEq, Eq)]

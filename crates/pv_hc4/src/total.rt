@@ -1,4 +1,4 @@
-// Divisors that may be 0, and what the ends of two intervals decide.
+//! Divisors that may be 0, and what the ends of two intervals decide.
 
 ghost use Rattle.std.specs.Prelude.{◌≡◌, ◌<◌, length};
 ghost use Rattle.pv_interval.specs.Tables.{has_nought};
@@ -39,7 +39,7 @@ fn node_is_total(node: Node, values: &[Interval]) -> bool
 }
 
 // Whether no divisor's interval contains 0, for the values of a box.
-pub fn is_total(nodes: &[Node], values: &[Interval], bx: &IBox) -> bool
+pub(crate) fn is_total(nodes: &[Node], values: &[Interval], bx: &IBox) -> bool
     requires ordered { AreOrdered nodes.now (length bx.now) }
     requires valued { AreValues bx.now nodes.now values.now }
     ensures { IsTotality bx.now nodes.now result }
@@ -53,7 +53,7 @@ pub fn is_total(nodes: &[Node], values: &[Interval], bx: &IBox) -> bool
 }
 
 // Whether all numbers of one interval stand so to all of the other.
-pub fn decides(relation: Relation, l: Interval, r: Interval) -> bool
+pub(crate) fn decides(relation: Relation, l: Interval, r: Interval) -> bool
     ensures { result ≡ ends_decide relation l r }
 {
     match relation {

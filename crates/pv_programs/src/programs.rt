@@ -1,4 +1,4 @@
-// What programs leave of boxes, where they are sure, and how many revisions they need, with values from exact fractions.
+//! What programs leave of boxes, where they are sure, and how many revisions they need, with values from exact fractions.
 ghost use Rattle.std.specs.Prelude.{◌≡◌, ◌<◌, None};
 
 use crate::table;

@@ -1,4 +1,4 @@
-//! Cases of contractions. Written by tests/contraction_vectors.py: change them there.
+//! Cases of contractions. Written by tests/generators/contraction_vectors.py: change them there.
 use crate::programs::Case;
 use crate::programs::Left::{Nothing, Places};
 

@@ -1,4 +1,4 @@
-// Revisions, sure tests, forward intervals and node counts, with values from exact fractions.
+//! Revisions, sure tests, forward intervals and node counts, with values from exact fractions.
 ghost use Rattle.std.specs.Prelude.{◌≡◌, length, IfSome};
 
 use crate::table;

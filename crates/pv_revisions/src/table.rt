@@ -1,4 +1,4 @@
-//! Cases of revisions. Written by tests/revision_vectors.py: change them there.
+//! Cases of revisions. Written by tests/generators/revision_vectors.py: change them there.
 use crate::revisions::Case;
 use crate::revisions::Left::{Changed, Empty, Kept};
 

@@ -1,4 +1,4 @@
-// Made by tests/program_vectors.py.
+//! Made by tests/generators/program_vectors.py.
 
 pub const ACCEPTED: &[(u32, &str)] = &[
     (1, "hc4(0)"),
