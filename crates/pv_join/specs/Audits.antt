@@ -1,7 +1,8 @@
 -- Where a tree's outcomes are a rule's.
-use Rattle.std.specs.Prelude.{◌≡◌, ◌≢◌, ◌-◌, ◌++◌, ℕ, Some, IsTrue, List, Bool, length}
+use Rattle.std.specs.Prelude.{◌≡◌, ◌≢◌, ◌-◌, ℕ, Option, Some, None, IsTrue, List, Bool, length}
 use Rattle.pv_interval.specs.Bounds.{Bounds}
-use Rattle.pv_tree.specs.Trees.{Tree, leaf, outcome_at, precedes, box_of}
+use Rattle.pv_tree.specs.Trees.{Tree, leaf, top, outcome_at, precedes, box_of}
+use Rattle.pv_tree.specs.Pieces.{Piece}
 use Rattle.pv_interval.specs.Points.{Point}
 use Rattle.pv_tree.specs.Sets.{IsSound}
 use Rattle.pv_tree.specs.Stages.{Rule, IsStage}
@@ -30,19 +31,15 @@ IsVerdict rule depth b t verdict.Honest = IsStage rule depth b leaf t
 IsVerdict rule depth b t (verdict.DiffersAt p o) =
     IsFirstDifference rule depth b t p × (o ≡ due_at rule depth b t p) × (IsStage rule depth b leaf t → ⊥)
 
--- The node at z is settled, and not with o, which is due there; what stands before q below p is as the rule has it.
-pub record IsDifference (rule : Rule) (depth : ℕ) (b : List Bounds) (t : Tree) (p z : List Bool) (o : Outcome) (q : List Bool) : Type 0 where
-  pub due : o ≡ due_at rule depth b t z
-  pub found : Outcome
-  pub is : outcome_at t z ≡ Some found
-  pub differ : found ≢ due_at rule depth b t z
-  pub before : (r : List Bool) → IsTrue (precedes r q) → IsDue rule depth b t (p ++ r)
+-- The rule's outcome for a node that a walk meets.
+abbrev pub due_of : Rule → ℕ → Piece → Outcome
+due_of rule depth piece = rule piece.box (depth - length piece.path) (length piece.path)
 
--- The same of the nodes at and below a path.
-abbrev pub IsVerdictBelow : Rule → ℕ → List Bounds → Tree → List Bool → Audit → Type 0
-IsVerdictBelow rule depth b t p verdict.Honest = (q : List Bool) → IsDue rule depth b t (p ++ q)
-IsVerdictBelow rule depth b t p (verdict.DiffersAt z o) =
-    (q : List Bool) × ((z ≡ p ++ q) × IsDifference rule depth b t p z o q)
+-- What the check of a node found: nothing where it is open or settled by the rule, else the rule's outcome.
+abbrev pub IsChecked : Rule → ℕ → Piece → Option Outcome → Type 0
+IsChecked rule depth piece None = (o : Outcome) → top piece.tree ≡ Some o → o ≡ due_of rule depth piece
+IsChecked rule depth piece (Some due) =
+    (due ≡ due_of rule depth piece) × ((found : Outcome) × ((top piece.tree ≡ Some found) × (found ≢ due)))
 
 abbrev pub IsSoundIfHonest : (Point → Type 0) → List Bounds → Tree → Audit → Type 0
 IsSoundIfHonest inside b t verdict.Honest = IsSound inside b t

@@ -1,81 +1,109 @@
 //! The audit of a paving against a settler.
-ghost use Rattle.std.specs.Prelude.{◌≡◌, ◌-◌, IfOk, IsSome, length};
-ghost use Rattle.pv_tree.specs.Trees.{subtree, box_of};
+ghost use Rattle.std.specs.Prelude.{◌≡◌, ◌↔◌, IfOk, IsTrue, Some, length};
+ghost use Rattle.pv_tree.specs.Trees.{top, shape_of};
 ghost use Rattle.pv_tree.specs.Sets.{IsSound, Covers};
-ghost use Rattle.pv_join.specs.Audits.{IsVerdict, IsVerdictBelow, due_at, IsSoundIfHonest};
+ghost use Rattle.pv_tree.specs.Pieces.{IsPiece};
+ghost use Rattle.pv_join.specs.Audits.{IsVerdict, IsChecked, IsSoundIfHonest};
 
-use crate::merge::is_cut;
-use crate::outcomes::{blank, outcome_of, same_outcome};
+use crate::outcomes::blank;
 use crate::verdict::Audit;
 use pv_box::IBox;
 use pv_num::Memory;
-use pv_tree::{Outcome, Path, Paving, Settler};
+use pv_tree::{Outcome, Paving, Settler, Shape, Walk};
 use std::alloc::Global;
 
-/// The settler's outcome for the box at a path.
-fn due<S: Settler>(
-    alloc: Global,
-    settler: &S,
-    paving: &Paving,
-    path: Path,
-    scratch: &mut IBox,
-) -> Result<Outcome, Memory>
-    requires there { IsSome (subtree paving.now.tree path) }
-    requires dims { length paving.now.root ≡ S.dims settler.now }
-    requires scratch { length scratch.old ≡ length paving.now.root }
-    ensures due { IfOk result (λ o. o ≡ due_at (S.settle_of settler.now) (S.depth_of settler.now) paving.now.root paving.now.tree path) }
+/// Whether the node just visited, which has this shape, is settled so. `scratch` takes what the node kept.
+fn shows(walk: &Walk<'_>, shape: Shape, outcome: &Outcome, scratch: &mut IBox) -> bool
+    requires shape { shape ≡ shape_of (Some walk.now.here.tree) }
+    requires scratch { length scratch.old ≡ length walk.now.root }
+    ensures shows { IsTrue result ↔ (top walk.now.here.tree ≡ Some outcome.now) }
     ensures scratch { length scratch.new ≡ length scratch.old }
 {
-    paving.box_at(path, scratch);
-    let steps = path.len();
-    let cuts_left = settler.depth().saturating_sub(steps);
-    settler.settle(alloc, scratch, cuts_left, steps)
+    match shape {
+        Shape::Absent => false,
+        Shape::OpenLeaf => false,
+        Shape::Removed => match outcome {
+            Outcome::Removed => true,
+            _ => false,
+        },
+        Shape::Inner => {
+            walk.write_to(scratch);
+            match outcome {
+                Outcome::Inner { to } => scratch.is_same(to),
+                _ => false,
+            }
+        }
+        Shape::Small => {
+            walk.write_to(scratch);
+            match outcome {
+                Outcome::Small { to } => scratch.is_same(to),
+                _ => false,
+            }
+        }
+        Shape::Cut { var, at } => {
+            walk.write_to(scratch);
+            match outcome {
+                Outcome::Cut {
+                    to,
+                    var: other_var,
+                    at: other_at,
+                } => var == *other_var && at == *other_at && scratch.is_same(to),
+                _ => false,
+            }
+        }
+    }
 }
 
-/// Audits the nodes at and below a path.
-fn audit_below<S: Settler>(
+/// The settler's outcome for the node just visited, which has this shape, where the node is settled otherwise.
+fn differing<S: Settler>(
     alloc: Global,
     settler: &S,
-    paving: &Paving,
-    path: Path,
+    walk: &Walk<'_>,
+    shape: Shape,
     scratch: &mut IBox,
-) -> Result<Audit, Memory>
-    requires there { IsSome (subtree paving.now.tree path) }
-    requires dims { length paving.now.root ≡ S.dims settler.now }
-    requires scratch { length scratch.old ≡ length paving.now.root }
-    ensures verdict { IfOk result (λ v. IsVerdictBelow (S.settle_of settler.now) (S.depth_of settler.now) paving.now.root paving.now.tree path v) }
+) -> Result<Option<Outcome>, Memory>
+    requires shape { shape ≡ shape_of (Some walk.now.here.tree) }
+    requires piece { IsPiece walk.now.root walk.now.tree walk.now.here }
+    requires dims { length walk.now.root ≡ S.dims settler.now }
+    requires scratch { length scratch.old ≡ length walk.now.root }
+    ensures checked { IfOk result (λ o.
+        IsChecked (S.settle_of settler.now) (S.depth_of settler.now) walk.now.here o) }
     ensures scratch { length scratch.new ≡ length scratch.old }
 {
-    let _places = paving.dims();
-    let Some(found) = outcome_of(alloc, paving, path)? else {
-        return Ok(Audit::Honest);
-    };
-    let outcome = due(alloc, settler, paving, path, scratch)?;
-    if !same_outcome(&found, &outcome) {
-        return Ok(Audit::DiffersAt { path, outcome });
+    if let Shape::OpenLeaf = shape {
+        return Ok(None);
     }
-    if !is_cut(&found) {
-        return Ok(Audit::Honest);
-    }
-    match audit_below(alloc, settler, paving, path.low(), scratch)? {
-        Audit::Honest => audit_below(alloc, settler, paving, path.high(), scratch),
-        Audit::DiffersAt {
-            path: at,
-            outcome: other,
-        } => Ok(Audit::DiffersAt {
-            path: at,
-            outcome: other,
-        }),
+    walk.write_box(scratch);
+    let steps = walk.path().len();
+    let cuts_left = settler.depth().saturating_sub(steps);
+    let outcome = settler.settle(alloc, scratch, cuts_left, steps)?;
+    if shows(walk, shape, &outcome, scratch) {
+        Ok(None)
+    } else {
+        Ok(Some(outcome))
     }
 }
 
 /// Whether a paving is a stage of its open root box by a settler. Then it covers its box, and it is sound.
 pub fn audit<S: Settler>(alloc: Global, settler: &S, paving: &Paving) -> Result<Audit, Memory>
     requires { length paving.now.root ≡ S.dims settler.now }
-    ensures verdict { IfOk result (λ v. IsVerdict (S.settle_of settler.now) (S.depth_of settler.now) paving.now.root paving.now.tree v) }
+    ensures verdict { IfOk result (λ v.
+        IsVerdict (S.settle_of settler.now) (S.depth_of settler.now)
+        paving.now.root paving.now.tree v) }
     ensures covers { Covers paving.now.root paving.now.tree }
-    ensures sound { IfOk result (λ v. IsSoundIfHonest (S.inside settler.now) paving.now.root paving.now.tree v) }
+    ensures sound { IfOk result (λ v.
+        IsSoundIfHonest (S.inside settler.now) paving.now.root paving.now.tree v) }
 {
     let mut scratch = blank(alloc, paving.dims())?;
-    audit_below(alloc, settler, paving, Path::root(), &mut scratch)
+    let mut walk = Walk::of(alloc, paving)?;
+    while let Some(shape) = walk.next() {
+        match differing(alloc, settler, &walk, shape, &mut scratch)? {
+            None => {}
+            Some(outcome) => {
+                let path = walk.path();
+                return Ok(Audit::DiffersAt { path, outcome });
+            }
+        }
+    }
+    Ok(Audit::Honest)
 }

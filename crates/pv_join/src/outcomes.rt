@@ -58,28 +58,6 @@ pub(crate) fn outcome_of(
     }
 }
 
-/// Two intervals are the same.
-fn same_interval(a: Interval, b: Interval) -> bool
-    ensures { IsTrue result ↔ (a ≡ b) }
-{
-    a.lo() == b.lo() && a.hi() == b.hi()
-}
-
-/// Two boxes are the same.
-fn same_box(a: &IBox, b: &IBox) -> bool
-    ensures { IsTrue result ↔ (a.now ≡ b.now) }
-{
-    if a.dims() != b.dims() {
-        return false;
-    }
-    for i in 0..a.dims() {
-        if !same_interval(a.get(i), b.get(i)) {
-            return false;
-        }
-    }
-    true
-}
-
 /// Two outcomes are the same.
 pub(crate) fn same_outcome(a: &Outcome, b: &Outcome) -> bool
     ensures { IsTrue result ↔ (a.now ≡ b.now) }
@@ -90,11 +68,11 @@ pub(crate) fn same_outcome(a: &Outcome, b: &Outcome) -> bool
             _ => false,
         },
         Outcome::Inner { to } => match b {
-            Outcome::Inner { to: other } => same_box(to, other),
+            Outcome::Inner { to: other } => to.is_same(other),
             _ => false,
         },
         Outcome::Small { to } => match b {
-            Outcome::Small { to: other } => same_box(to, other),
+            Outcome::Small { to: other } => to.is_same(other),
             _ => false,
         },
         Outcome::Cut { to, var, at } => match b {
@@ -102,7 +80,7 @@ pub(crate) fn same_outcome(a: &Outcome, b: &Outcome) -> bool
                 to: other,
                 var: other_var,
                 at: other_at,
-            } => *var == *other_var && *at == *other_at && same_box(to, other),
+            } => *var == *other_var && *at == *other_at && to.is_same(other),
             _ => false,
         },
     }

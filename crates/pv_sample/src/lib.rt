@@ -7,4 +7,4 @@ mod steps;
 mod tests;
 
 pub use above::Above;
-pub use steps::{settle_first, settle_in_room};
+pub use steps::{grow, settle_first, settle_in_room};

@@ -1,10 +1,11 @@
-//! Settling the first open leaves of a paving, one after the other.
-ghost use Rattle.std.specs.Prelude.{◌≡◌, ◌+◌, ◌≤◌, Some, length};
+//! Settling the open leaves of a paving, one after the other.
+ghost use Rattle.std.specs.Prelude.{◌≡◌, ◌+◌, ◌≤◌, IfOk, Some, length};
 ghost use Rattle.pv_tree.specs.Trees.{subtree, leaf};
+ghost use Rattle.pv_tree.specs.Holes.{IsNext};
 
 use pv_box::IBox;
 use pv_num::Memory;
-use pv_tree::{Path, Paving, Settler};
+use pv_tree::{Growth, Path, Paving, Settler};
 use std::alloc::Global;
 
 /// Settles the first open leaf again and again, at most so many times. `scratch` takes the leaves' boxes.
@@ -76,4 +77,52 @@ fn settle_one<S: Settler>(
     let outcome = settler.settle(alloc, scratch, cuts_left, steps)?;
     paving.put_in_room(path, outcome);
     Ok(())
+}
+
+/// The paving of a box after at most so many settlings in preorder. `scratch` takes the leaves' boxes.
+pub fn grow<S: Settler>(
+    alloc: Global,
+    settler: &S,
+    root: IBox,
+    most: u32,
+    scratch: &mut IBox,
+) -> Result<Paving, Memory>
+    requires dims { length root ≡ S.dims settler.now }
+    requires scratch { length scratch.old ≡ length root }
+    ensures root { IfOk result (λ p. p.root ≡ root) }
+    ensures scratch { length scratch.new ≡ length scratch.old }
+{
+    let mut growth = Growth::open(alloc, root)?;
+    for _ in 0..most {
+        match growth.next_leaf() {
+            Some(path) => grow_one(alloc, settler, &mut growth, path, scratch)?,
+            None => return Ok(growth.finish()),
+        }
+    }
+    Ok(growth.finish())
+}
+
+/// Settles the leaf that comes next.
+fn grow_one<S: Settler>(
+    alloc: Global,
+    settler: &S,
+    growth: &mut Growth,
+    path: Path,
+    scratch: &mut IBox,
+) -> Result<(), Memory>
+    requires next { IsNext growth.old path }
+    requires dims { length growth.old.root ≡ S.dims settler.now }
+    requires scratch { length scratch.old ≡ length growth.old.root }
+    ensures root { growth.new.root ≡ growth.old.root }
+    ensures scratch { length scratch.new ≡ length scratch.old }
+{
+    growth.write_box(scratch);
+    let _sides = scratch.dims();
+    let steps = path.len();
+    let cuts_left = settler.depth().saturating_sub(steps);
+    let outcome = settler.settle(alloc, scratch, cuts_left, steps)?;
+    match growth.settle(outcome) {
+        Ok(()) => Ok(()),
+        Err(_) => Err(Memory),
+    }
 }

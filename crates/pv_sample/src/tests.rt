@@ -1,14 +1,14 @@
 //! Worked trees on the box [0,1]: made by `put`, in reserved room and from a stage, joined and audited.
-ghost use Rattle.std.specs.Prelude.{◌≡◌, ◌≤◌, Some, length, IfOk};
-ghost use Rattle.pv_tree.specs.Trees.{subtree, leaf, box_of};
+ghost use Rattle.std.specs.Prelude.{◌≡◌, ◌≤◌, Some, IsSome, [], length, IfOk};
+ghost use Rattle.pv_tree.specs.Trees.{subtree, leaf, box_of, shape_of, to_at};
 
 use crate::above::Above;
-use crate::steps::{settle_first, settle_in_room};
+use crate::steps::{grow, settle_first, settle_in_room};
 use pv_box::IBox;
 use pv_interval::Interval;
 use pv_join::{Audit, JoinRefused, audit, join};
 use pv_num::{Memory, Num};
-use pv_tree::{Path, Paving, Shape};
+use pv_tree::{Path, Paving, Shape, Walk};
 use std::alloc::Global;
 use std::test::Fail;
 
@@ -58,43 +58,47 @@ fn write_ends(bx: &IBox, out: &mut Vec<u8>) -> Result<(), Memory> {
     place.hi().write_text(out)
 }
 
-/// Writes a line for each node at and below a path, in preorder.
-fn write_below(
-    paving: &Paving,
-    path: Path,
+/// Writes what the node just visited kept of its box.
+fn write_to(walk: &Walk<'_>, scratch: &mut IBox, out: &mut Vec<u8>) -> Result<(), Memory>
+    requires there { IsSome (to_at walk.now.here.tree []) }
+    requires scratch { length scratch.old ≡ length walk.now.root }
+    ensures { length scratch.new ≡ length scratch.old }
+{
+    walk.write_to(scratch);
+    write_ends(scratch, out)
+}
+
+/// Writes the line of the node just visited, which has this shape.
+fn write_node(
+    walk: &Walk<'_>,
+    shape: Shape,
     scratch: &mut IBox,
     out: &mut Vec<u8>,
 ) -> Result<(), Memory>
-    requires { length scratch.old ≡ length paving.now.root }
+    requires shape { shape ≡ shape_of (Some walk.now.here.tree) }
+    requires scratch { length scratch.old ≡ length walk.now.root }
     ensures { length scratch.new ≡ length scratch.old }
 {
-    match paving.shape_at(path) {
+    match shape {
         Shape::Absent => return Ok(()),
         Shape::OpenLeaf => out.push(b'O')?,
         Shape::Removed => out.push(b'R')?,
         Shape::Inner => {
             out.push(b'I')?;
-            paving.to_at(path, scratch);
-            write_ends(scratch, out)?;
+            write_to(walk, scratch, out)?;
         }
         Shape::Small => {
             out.push(b'S')?;
-            paving.to_at(path, scratch);
-            write_ends(scratch, out)?;
+            write_to(walk, scratch, out)?;
         }
         Shape::Cut { var: _, at } => {
             out.extend_from_slice(b"C 0 ")?;
             at.write_text(out)?;
-            paving.to_at(path, scratch);
-            write_ends(scratch, out)?;
+            write_to(walk, scratch, out)?;
         }
     }
     out.push(b'\n')?;
-    if path.len() == 200 {
-        return Ok(());
-    }
-    write_below(paving, path.low(), scratch, out)?;
-    write_below(paving, path.high(), scratch, out)
+    Ok(())
 }
 
 /// Whether a paving's nodes have these lines in preorder.
@@ -103,7 +107,10 @@ fn has_lines(alloc: Global, paving: &Paving, text: &str) -> Result<bool, Memory>
 {
     let mut scratch = unit_box(alloc)?;
     let mut out = Vec::new(alloc);
-    write_below(paving, Path::ROOT, &mut scratch, &mut out)?;
+    let mut walk = Walk::of(alloc, paving)?;
+    while let Some(shape) = walk.next() {
+        write_node(&walk, shape, &mut scratch, &mut out)?;
+    }
     Ok(out.as_slice() == text.as_bytes())
 }
 
@@ -222,6 +229,18 @@ fn reserved_room_makes_the_tree_of_put(rt: HostRuntime) -> Result<(), Fail> {
     settle_in_room(alloc, &settler, &mut reserved, 5, &mut scratch)?;
     assert!(rt; has_lines(alloc, &reserved, QUARTER)?);
     assert!(rt; reserved.counts() == put.counts() && reserved.first_open().is_none());
+    Ok(())
+}
+
+#[test]
+fn a_paving_grows_in_preorder(rt: HostRuntime) -> Result<(), Fail> {
+    let alloc = rt.alloc();
+    let settler = from_limit(number(1, -2), 2);
+    let root = unit_box(alloc)?;
+    let mut scratch = root.clone_of(alloc)?;
+    let grown = grow(alloc, &settler, root, 100, &mut scratch)?;
+    assert!(rt; has_lines(alloc, &grown, QUARTER)?);
+    assert!(rt; grown.counts().settled() == 5 && grown.first_open().is_none());
     Ok(())
 }
 

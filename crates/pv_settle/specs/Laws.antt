@@ -19,7 +19,7 @@ use Rattle.pv_tree.specs.declared.outcome.Outcome.{Outcome}
 use Rattle.pv_tree.specs.declared.outcome.Outcome.TheVariants.{Removed, Inner, Small, Cut}
 use Rattle.pv_tree.specs.Trees.{IsWithin, IsStrictlyInside, Fits, KeepsBox, CutsAbove}
 use Rattle.pv_tree.specs.Sets.{LosesNone, IsSoundOutcome}
-use Rattle.pv_settle.specs.Rules.{Rule, dims_of}
+use Rattle.pv_settle.specs.Rules.{SettlerParts, dims_of}
 use Rattle.pv_settle.specs.Settling.{cut_or_small, settle_left, settle_contracted, settle_by, is_member}
 use Rattle.pv_settle.specs.Choosing.{chosen_inside}
 
@@ -38,7 +38,7 @@ by_cut P to None s c = s
 by_cut P to (Some k) s c = c k.0 k.1 refl
 
 -- what holds of each outcome that the tests can give holds of the outcome
-by_left : (P : Outcome → Type 0) (r : Rule) (to : List Bounds) (d k : ℕ) → (IsTrue (program_sure (sides_in r.graphs) (plan_of r.program) to) → P (Inner to)) → P (Small to) → ((v : ℕ) (a : Extended) → 0 < d → IsStrictlyInside a v to → P (Cut to v a)) → P (settle_left r to d k)
+by_left : (P : Outcome → Type 0) (r : SettlerParts) (to : List Bounds) (d k : ℕ) → (IsTrue (program_sure (sides_in r.graphs) (plan_of r.program) to) → P (Inner to)) → P (Small to) → ((v : ℕ) (a : Extended) → 0 < d → IsStrictlyInside a v to → P (Cut to v a)) → P (settle_left r to d k)
 by_left P r to d k i s c =
     by_test P (program_sure (sides_in r.graphs) (plan_of r.program) to) (Inner to) (cond (nat_eq d 0 || is_small_of r.eps to) (Small to) (cut_or_small to (choose_of r.bisector k to))) i
     (λ _. by_test P (nat_eq d 0 || is_small_of r.eps to) (Small to) (cut_or_small to (choose_of r.bisector k to)) (λ _. s)
@@ -48,35 +48,35 @@ by_left P r to d k i s c =
     some_left true u d e h = absurd (cc)
     some_left false u d e h = grind (arith, nat_tests)
 
-by_contracted : (P : Outcome → Type 0) (r : Rule) (o : Option (List Bounds)) (d k : ℕ) → (o ≡ None → P Removed) → ((to : List Bounds) → o ≡ Some to → P (settle_left r to d k)) → P (settle_contracted r o d k)
+by_contracted : (P : Outcome → Type 0) (r : SettlerParts) (o : Option (List Bounds)) (d k : ℕ) → (o ≡ None → P Removed) → ((to : List Bounds) → o ≡ Some to → P (settle_left r to d k)) → P (settle_contracted r o d k)
 by_contracted P r None d k n s = n refl
 by_contracted P r (Some to) d k n s = s to refl
 
-part_of : (r : Rule) → AllOver r.graphs.dims (sides_in r.graphs) → IsFor (length (sides_in r.graphs)) (plan_of r.program) → (b c : List Bounds) → IsBox b → contract_of (sides_in r.graphs) (plan_of r.program) b ≡ Some c → IsPart c b
+part_of : (r : SettlerParts) → AllOver r.graphs.dims (sides_in r.graphs) → IsFor (length (sides_in r.graphs)) (plan_of r.program) → (b c : List Bounds) → IsBox b → contract_of (sides_in r.graphs) (plan_of r.program) b ≡ Some c → IsPart c b
 part_of r o f b c i e = contract_part r.graphs.dims (sides_in r.graphs) o (plan_of r.program) f b c i e
 
-pub settle_fits : (r : Rule) → AllOver r.graphs.dims (sides_in r.graphs) → IsFor (length (sides_in r.graphs)) (plan_of r.program) → (b : List Bounds) (d k : ℕ) → IsBox b → Fits b (settle_by r b d k)
+pub settle_fits : (r : SettlerParts) → AllOver r.graphs.dims (sides_in r.graphs) → IsFor (length (sides_in r.graphs)) (plan_of r.program) → (b : List Bounds) (d k : ℕ) → IsBox b → Fits b (settle_by r b d k)
 unfolding settle_by
 settle_fits r o f b d k i =
     by_contracted (Fits b) r (contract_of (sides_in r.graphs) (plan_of r.program) b) d k (λ _. tt)
     (λ to e. let w = as_within to b (part_of r o f b to i e).within in by_left (Fits b) r to d k (λ _. w) w (λ v a _ h. (w, h)))
 
-pub settle_keeps_box : (r : Rule) → AllOver r.graphs.dims (sides_in r.graphs) → IsFor (length (sides_in r.graphs)) (plan_of r.program) → (b : List Bounds) (d k : ℕ) → IsBox b → KeepsBox (settle_by r b d k)
+pub settle_keeps_box : (r : SettlerParts) → AllOver r.graphs.dims (sides_in r.graphs) → IsFor (length (sides_in r.graphs)) (plan_of r.program) → (b : List Bounds) (d k : ℕ) → IsBox b → KeepsBox (settle_by r b d k)
 unfolding settle_by
 settle_keeps_box r o f b d k i =
     by_contracted KeepsBox r (contract_of (sides_in r.graphs) (plan_of r.program) b) d k (λ _. tt)
     (λ to e. let w = (part_of r o f b to i e).box in by_left KeepsBox r to d k (λ _. w) w (λ v a _ h. w))
 
-pub settle_ends : (r : Rule) (b : List Bounds) (d k : ℕ) → CutsAbove d (settle_by r b d k)
+pub settle_ends : (r : SettlerParts) (b : List Bounds) (d k : ℕ) → CutsAbove d (settle_by r b d k)
 unfolding settle_by
 settle_ends r b d k =
     by_contracted (CutsAbove d) r (contract_of (sides_in r.graphs) (plan_of r.program) b) d k (λ _. tt)
     (λ to e. by_left (CutsAbove d) r to d k (λ _. tt) tt (λ v a l h. l))
 
-left_none : (r : Rule) (b to : List Bounds) → ((x : Point) → PointIn x b → is_member r x → PointInSome x (contract_of (sides_in r.graphs) (plan_of r.program) b)) → contract_of (sides_in r.graphs) (plan_of r.program) b ≡ Some to → LosesNone (is_member r) b to
+left_none : (r : SettlerParts) (b to : List Bounds) → ((x : Point) → PointIn x b → is_member r x → PointInSome x (contract_of (sides_in r.graphs) (plan_of r.program) b)) → contract_of (sides_in r.graphs) (plan_of r.program) b ≡ Some to → LosesNone (is_member r) b to
 left_none r b to h e = λ x i out m. out (subst (PointInSome x) e (h x i m))
 
-pub settle_sound : (r : Rule) → AllOver r.graphs.dims (sides_in r.graphs) → r.graphs.dims ≡ dims_of r → IsFor (length (sides_in r.graphs)) (plan_of r.program) → (b : List Bounds) (d k : ℕ) → IsBox b → length b ≡ dims_of r → IsSoundOutcome (is_member r) b (settle_by r b d k)
+pub settle_sound : (r : SettlerParts) → AllOver r.graphs.dims (sides_in r.graphs) → r.graphs.dims ≡ dims_of r → IsFor (length (sides_in r.graphs)) (plan_of r.program) → (b : List Bounds) (d k : ℕ) → IsBox b → length b ≡ dims_of r → IsSoundOutcome (is_member r) b (settle_by r b d k)
 unfolding settle_by
 settle_sound r o s f b d k i l =
     let keeps = λ (x : Point) (p : PointIn x b) (m : is_member r x). contract-keeps r.graphs.dims (sides_in r.graphs) (plan_of r.program) b x o f i p m in

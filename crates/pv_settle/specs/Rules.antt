@@ -6,7 +6,7 @@ use Rattle.pv_expr.specs.Systems.{Parts}
 use Rattle.pv_ctc.specs.declared.program.Program.{Program}
 use Rattle.pv_ctc.specs.GraphLists.{GraphList}
 
-pub record Rule : Type 0 where
+pub record SettlerParts : Type 0 where
   pub system : Parts
   pub program : Program
   pub eps : Extended
@@ -14,5 +14,5 @@ pub record Rule : Type 0 where
   pub bisector : Bisector
   pub graphs : GraphList
 
-abbrev pub dims_of : Rule → ℕ
+abbrev pub dims_of : SettlerParts → ℕ
 dims_of r = length r.system.names

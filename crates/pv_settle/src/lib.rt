@@ -5,6 +5,7 @@
 //! (2001), with a contractor.
 #![tactic(auto)]
 
+mod knowing;
 mod settings;
 mod settler;
 mod step;

@@ -1,4 +1,4 @@
-// How boxes are settled.
+//! How boxes are settled.
 
 use pv_box::Bisector;
 use pv_num::Num;

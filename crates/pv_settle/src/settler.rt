@@ -1,4 +1,4 @@
-// The settler of a system.
+//! The settler of a system.
 
 ghost use Rattle.std.specs.Prelude.{◌≡◌, ◌≢◌, ◌<◌, ◌≤◌, pos, IsTrue, length, map, IfOk, IfSome, List, Some};
 ghost use Rattle.pv_num.specs.Extended.{Fin, PosInf};
@@ -12,8 +12,9 @@ ghost use Rattle.pv_ctc.proofs.Props.{IsFor-prop, AllOver-prop};
 
 use crate::settings::Settings;
 use pv_box::IBox;
-use pv_ctc::{Graphs, Program};
+use pv_ctc::{Graphs, Known, Program};
 use pv_expr::System;
+use pv_hc4::Scratch;
 use pv_num::Memory;
 use pv_tree::Outcome;
 use std::alloc::Global;
@@ -37,7 +38,7 @@ pub struct SystemSettler {
 impl SystemSettler {
     ghost use Rattle.pv_settle.specs.Rules.{dims_of};
     ghost use Rattle.pv_settle.specs.Settlers.{rule_of};
-    ghost use Rattle.pv_settle.specs.Settling.{settle_by, settle_left};
+    ghost use Rattle.pv_settle.specs.Settling.{settle_by};
 
     /// The settler of a system. The program was read for as many constraints as the system has.
     pub fn new(
@@ -95,37 +96,10 @@ impl SystemSettler {
         requires { length bx.now ≡ dims_of (rule_of self.now) }
         ensures { IfOk result (λ o. o ≡ settle_by (rule_of self.now) bx.now depth_left path_len) }
     {
-        match self.program.contract(alloc, &self.graphs, bx)? {
-            Some(to) => self.settle_contracted(alloc, to, depth_left, path_len),
-            None => Ok(Outcome::Removed),
-        }
-    }
-
-    // The tests that follow contraction.
-    fn settle_contracted(
-        &self,
-        alloc: Global,
-        to: IBox,
-        depth_left: u32,
-        path_len: u32,
-    ) -> Result<Outcome, Memory>
-        requires { length to ≡ dims_of (rule_of self.now) }
-        ensures { IfOk result (λ o. o ≡ settle_left (rule_of self.now) to depth_left path_len) }
-    {
-        if self.program.sure(alloc, &self.graphs, &to)? {
-            return Ok(Outcome::Inner { to });
-        }
-        if depth_left == 0 || to.is_small(self.settings.eps) {
-            return Ok(Outcome::Small { to });
-        }
-        match to.choose(self.settings.bisector, path_len) {
-            Some(choice) => Ok(Outcome::Cut {
-                to,
-                var: choice.0,
-                at: choice.1,
-            }),
-            None => Ok(Outcome::Small { to }),
-        }
+        let mut scratch = Scratch::new(alloc);
+        let nothing = Known::nothing();
+        let settled = self.settle_knowing(alloc, &mut scratch, bx, nothing, depth_left, path_len)?;
+        Ok(settled.outcome)
     }
 
     /// The search box: the system's search intervals in order.

@@ -1,4 +1,4 @@
-// The settler of a system is a settler.
+//! The settler of a system is a settler.
 
 use crate::settler::SystemSettler;
 use pv_box::IBox;

@@ -1,13 +1,13 @@
-// The settings' text and the identity of a settler.
+//! The settings' text and the identity of a settler.
 
-ghost use Rattle.std.specs.Prelude.{◌≡◌, ◌++◌, decimal, IfOk, OnOk};
+ghost use Rattle.std.specs.Prelude.{◌≡◌, ◌++◌, IfOk, OnOk};
 ghost use Rattle.pv_num.specs.Parts.{number_text};
 ghost use Rattle.pv_settle.specs.Settlers.{rule_of};
 ghost use Rattle.pv_settle.specs.Spelling.{bisector_text, settings_text, identity_of};
 
 use crate::settler::SystemSettler;
-use itoa::Buffer;
 use pv_box::Bisector;
+use pv_expr::text::{put, put_number};
 use pv_num::{Memory, Num};
 use sha2::{Digest, Sha256};
 use std::alloc::Global;
@@ -22,7 +22,7 @@ impl SystemSettler {
         put(&mut out, b"eps ")?;
         put_end(&mut out, self.settings.eps)?;
         put(&mut out, b"\ndepth ")?;
-        put_number(&mut out, self.settings.depth)?;
+        put_number(&mut out, u64::from(self.settings.depth))?;
         put(&mut out, bisector_text(self.settings.bisector))?;
         put(&mut out, &program)?;
         put(&mut out, b"\n")?;
@@ -49,20 +49,6 @@ fn bisector_text(bisector: Bisector) -> &'static [u8]
         Bisector::Largest => b"\nbisect largest\ncontract ",
         Bisector::Round => b"\nbisect round\ncontract ",
     }
-}
-
-fn put(out: &mut Vec<u8>, bytes: &[u8]) -> Result<(), Memory>
-    ensures { OnOk result (out.new.items ≡ out.old.items ++ bytes.now) }
-{
-    out.extend_from_slice(bytes)?;
-    Ok(())
-}
-
-fn put_number(out: &mut Vec<u8>, n: u32) -> Result<(), Memory>
-    ensures { OnOk result (out.new.items ≡ out.old.items ++ decimal n) }
-{
-    let mut digits = Buffer::new();
-    put(out, digits.format(n).as_bytes())
 }
 
 fn put_end(out: &mut Vec<u8>, end: Num) -> Result<(), Memory>

@@ -12,3 +12,7 @@ pub mod Halves
 pub mod Behind
 pub mod StageLaws
 pub mod Covered
+pub mod Pieces
+pub mod Stacks
+pub mod Growths
+pub mod KnownLeaves

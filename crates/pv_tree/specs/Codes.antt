@@ -1,11 +1,13 @@
 -- How trees are told apart: each has a code, which no other tree has.
-use Rattle.std.specs.Prelude.{◌≡◌, ℕ, List, ◌⊎◌, ℤ, refl}
+use Rattle.std.specs.Prelude.{◌≡◌, ℕ, Bool, List, ◌⊎◌, ℤ, refl}
 use Rattle.std.proofs.Common.{ap, inl, inr}
-use Rattle.std.specs.Coded.{Coded, code_by, coded×, coded⊎, coded_ℕ, coded_ℤ, coded_list}
+use Rattle.std.specs.Coded.{Coded, code_by, coded×, coded⊎, coded_ℕ, coded_ℤ, coded_list, coded_bool}
 use base.Stored.{Gv, gnil, gnum, gcons, coded_unit}
 use Rattle.pv_num.specs.Extended.{Extended, NegInf, Fin, PosInf}
 use Rattle.pv_interval.specs.Bounds.{Bounds}
 use Rattle.pv_tree.specs.Trees.{Tree, leaf, removed, inner, small, cut, Seen}
+use Rattle.pv_tree.specs.Pieces.{Piece, Walked}
+use Rattle.pv_tree.specs.Holes.{Hole, Growing}
 
 abbrev end_parts : Extended → Unit {0} ⊎ ℤ ⊎ Unit {0}
 end_parts NegInf = inl tt
@@ -93,3 +95,25 @@ abbrev pub coded_seen : Coded Seen
 coded_seen =
     code_by (List Bounds × (Tree × ℕ)) (coded× coded_box (coded× coded_tree coded_ℕ)) (λ s. (s.root, (s.tree, s.spare)))
     (λ p. record { root = p.0; tree = p.1.0; spare = p.1.1 }) (λ _. refl)
+
+abbrev pub coded_path : Coded (List Bool)
+coded_path = coded_list coded_bool
+
+abbrev pub coded_piece : Coded Piece
+coded_piece =
+    code_by (List Bool × (List Bounds × Tree)) (coded× coded_path (coded× coded_box coded_tree)) (λ s. (s.path, (s.box, s.tree)))
+    (λ p. record { path = p.0; box = p.1.0; tree = p.1.1 }) (λ _. refl)
+
+abbrev pub coded_walked : Coded Walked
+coded_walked =
+    code_by (List Bounds × (Tree × (Piece × List Piece))) (coded× coded_box (coded× coded_tree (coded× coded_piece (coded_list coded_piece))))
+    (λ s. (s.root, (s.tree, (s.here, s.pending))))
+    (λ p. record { root = p.0; tree = p.1.0; here = p.1.1.0; pending = p.1.1.1 }) (λ _. refl)
+
+abbrev pub coded_hole : Coded Hole
+coded_hole = code_by (List Bool × List Bounds) (coded× coded_path coded_box) (λ s. (s.path, s.box)) (λ p. record { path = p.0; box = p.1 }) (λ _. refl)
+
+abbrev pub coded_growing : Coded Growing
+coded_growing =
+    code_by (List Bounds × (Tree × List Hole)) (coded× coded_box (coded× coded_tree (coded_list coded_hole))) (λ s. (s.root, (s.tree, s.holes)))
+    (λ p. record { root = p.0; tree = p.1.0; holes = p.1.1 }) (λ _. refl)

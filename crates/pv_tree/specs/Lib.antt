@@ -1,10 +1,15 @@
 pub mod Trees
+pub mod Pieces
+pub mod Holes
 pub mod Codes
 pub mod Paths
 pub mod PathText
 pub mod Arena
 pub mod Spots
+pub mod Stops
 pub mod Intakes
 pub mod Sets
 pub mod Stages
 pub mod Laws
+pub mod KnownHalves
+pub mod KnownLeaves

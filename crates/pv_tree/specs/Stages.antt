@@ -1,8 +1,8 @@
 -- Full trees and stages, by one settling rule.
-use Rattle.std.specs.Prelude.{◌≡◌, ℕ, zero, suc, ◌-◌, Bool, Some, List}
+use Rattle.std.specs.Prelude.{◌≡◌, ℕ, zero, suc, ◌-◌, Bool, Some, List, [], length}
 use Rattle.pv_interval.specs.Bounds.{Bounds}
 use Rattle.pv_box.specs.Boxes.{lower_half, upper_half}
-use Rattle.pv_tree.specs.Trees.{Tree, leaf, removed, inner, small, cut, outcome_at, settled}
+use Rattle.pv_tree.specs.Trees.{Tree, leaf, removed, inner, small, cut, outcome_at, settled, graft, box_of, opens, Paves, Seen}
 use Rattle.pv_tree.specs.declared.outcome.Outcome.{Outcome}
 use Rattle.pv_tree.specs.declared.outcome.Outcome.TheVariants.{Removed, Inner, Small, Cut}
 
@@ -37,3 +37,20 @@ Grows s t = (p : List Bool) (o : Outcome) → outcome_at s p ≡ Some o → outc
 pub record IsStage (rule : Rule) (depth : ℕ) (b : List Bounds) (opening t : Tree) : Type 0 where
   pub grown : Grows opening t
   pub grows : Grows t (full_of rule depth b opening 0)
+
+-- The tree of a paving in which the leaf at a path is settled by a rule, with the cuts that the depth leaves.
+abbrev pub settled_by : Rule → ℕ → Seen → List Bool → Tree
+settled_by rule depth p path = graft p.tree path (settled (rule (box_of p.root p.tree path) (depth - length path) (length path)))
+
+-- What was a stage of an opening still is one.
+abbrev pub KeepsStages : Rule → ℕ → Seen → Seen → Type 0
+KeepsStages rule depth old new =
+    (opening : Tree) → Paves old.root opening → IsStage rule depth old.root opening old.tree → IsStage rule depth new.root opening new.tree
+
+-- Each stage of a paving is a paving.
+abbrev pub StagesPave : Rule → ℕ → List Bounds → Type 0
+StagesPave rule depth b = (opening t : Tree) → Paves b opening → IsStage rule depth b opening t → Paves b t
+
+-- A stage with no open leaf is the full tree.
+abbrev pub ClosedStagesAreFull : Rule → ℕ → List Bounds → Type 0
+ClosedStagesAreFull rule depth b = (opening t : Tree) → IsStage rule depth b opening t → opens t ≡ [] → t ≡ full_of rule depth b opening 0

@@ -4,6 +4,7 @@ use Rattle.pv_num.specs.Extended.{Extended, NegInf, Fin, PosInf}
 use Rattle.pv_num.specs.Order.{le, lt}
 use Rattle.pv_interval.specs.Bounds.{Bounds}
 use Rattle.pv_box.specs.Boxes.{IsBox, lower_half, upper_half}
+pub use Rattle.pv_box.specs.Boxes.{IsWithin}
 use Rattle.pv_tree.specs.declared.outcome.Outcome.{Outcome}
 use Rattle.pv_tree.specs.declared.outcome.Outcome.TheVariants.{Removed, Inner, Small, Cut}
 use Rattle.pv_tree.specs.declared.outcome.Counts.{Counts}
@@ -136,13 +137,6 @@ height removed = 0
 height (inner to) = 0
 height (small to) = 0
 height (cut to var at low high) = suc (max (height low) (height high))
-
--- A box lies in another, place by place.
-abbrev pub IsWithin : List Bounds → List Bounds → Type 0
-IsWithin [] [] = Unit {0}
-IsWithin [] (y ∷ ys) = ⊥
-IsWithin (x ∷ xs) [] = ⊥
-IsWithin (x ∷ xs) (y ∷ ys) = IsTrue (le y.lo x.lo) × IsTrue (le x.hi y.hi) × IsWithin xs ys
 
 -- A number that is finite and strictly between the ends of a place.
 abbrev pub IsBetween : Extended → Bounds → Type 0

@@ -167,7 +167,7 @@ pub(crate) fn child_box(ends: &[Interval], cell: Cell, high: bool, into: &mut IB
 }
 
 /// Where the ends of a cell's `to` begin.
-fn start_in(cell: Cell) -> Option<usize>
+pub(crate) fn start_in(cell: Cell) -> Option<usize>
     ensures { result ≡ start_of cell }
 {
     match cell {
@@ -248,6 +248,32 @@ pub(crate) fn close_way(nodes: &mut Vec<Node>, path: Path)
     ensures capacity { vec_capacity nodes.new ≡ vec_capacity nodes.old }
 {
     close(nodes, 0, path, 0);
+}
+
+/// Marks each cut as closed where both its children are, from the last node back.
+fn mark_back(nodes: &mut [Node])
+    requires kids { HasKids nodes.old }
+    requires marks { MarksRight nodes.old }
+    ensures { IsRemarked nodes.old nodes.new }
+{
+    let mut at = nodes.len();
+    while at > 0 {
+        at -= 1;
+        if let Some(kids) = kids_at(nodes, at) {
+            mark(nodes, at, kids);
+        }
+    }
+}
+
+/// Marks each cut as `mark_back` does.
+pub(crate) fn mark_all(nodes: &mut Vec<Node>)
+    requires kids { HasKids nodes.old.items }
+    requires marks { MarksRight nodes.old.items }
+    ensures remarked { IsRemarked nodes.old.items nodes.new.items }
+    ensures count { vec_len nodes.new ≡ vec_len nodes.old }
+    ensures capacity { vec_capacity nodes.new ≡ vec_capacity nodes.old }
+{
+    mark_back(nodes);
 }
 
 /// The counts after an open leaf was settled.

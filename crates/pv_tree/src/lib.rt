@@ -4,18 +4,26 @@
 mod arena;
 mod batch;
 mod cell;
+mod growth;
 mod intake;
+mod knowing;
+mod known_leaves;
 mod outcome;
 mod path;
 mod paving;
 mod search;
 mod settler;
 mod steps;
+mod stop;
 #[cfg(test)]
 mod tests;
+mod walk;
 
 pub use batch::Batch;
+pub use growth::Growth;
+pub use knowing::{Forgetful, KnowingSettler, Settled};
 pub use outcome::{Counts, Outcome, Shape};
 pub use path::{MOST_STEPS, Path};
 pub use paving::{Paving, PutRefused};
 pub use settler::Settler;
+pub use walk::Walk;

@@ -40,6 +40,15 @@ pub struct Counts {
 }
 
 impl Counts {
+    /// The counts of one open leaf.
+    pub(crate) const OPEN: Counts = Counts {
+        cut: 0,
+        removed: 0,
+        inner: 0,
+        small: 0,
+        open_leaves: 1,
+    };
+
     /// The number of nodes that are not open.
     pub fn settled(&self) -> u64
         requires { self.now.cut + self.now.removed + self.now.inner + self.now.small < 2 ^ 64 }

@@ -107,7 +107,9 @@ impl Path {
 
     /// Appends a digit a step, 0 for low and 1 for high; of the root a dot.
     pub fn write_text(self, out: &mut Vec<u8>) -> Result<(), Memory>
-        ensures written { out.new.items ≡ (if is_ok result then out.old.items ++ path_text self else out.old.items) }
+        ensures written { out.new.items ≡ (if is_ok result
+            then out.old.items ++ path_text self
+            else out.old.items) }
     {
         let steps = self.len();
         out.reserve(1 + steps as usize)?;

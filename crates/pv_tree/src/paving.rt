@@ -27,11 +27,11 @@ pub struct PutRefused {
 /// A tree of settled boxes over a root box. Its open leaves are what is left to settle.
 #[derive(Drop)]
 pub struct Paving {
-    root: IBox,
-    ends: Vec<Interval>,
-    nodes: Vec<Node>,
-    counts: Counts,
-    spare: u64,
+    pub(crate) root: IBox,
+    pub(crate) ends: Vec<Interval>,
+    pub(crate) nodes: Vec<Node>,
+    pub(crate) counts: Counts,
+    pub(crate) spare: u64,
 }
 
 impl Model for Paving {
@@ -166,8 +166,11 @@ impl Paving {
         requires fits { Fits (box_of self.old.root self.old.tree path) outcome }
         requires depth { HasDepth path outcome }
         ensures root { self.new.root ≡ self.old.root }
-        ensures tree { self.new.tree ≡ (if is_ok result then graft self.old.tree path (settled outcome) else self.old.tree) }
+        ensures tree { self.new.tree ≡ (if is_ok result
+            then graft self.old.tree path (settled outcome)
+            else self.old.tree) }
         ensures spare { self.old.spare ≤ self.new.spare }
+        ensures refused { OnErr result (self.new.spare ≡ self.old.spare) }
         ensures back { IfErr result (λ e. e.outcome ≡ outcome) }
     {
         let wanted = self.spare + 1;

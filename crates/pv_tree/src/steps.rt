@@ -1,8 +1,15 @@
 //! Settling a paving's leaves by a settler, from stage to stage.
-ghost use Rattle.std.specs.Prelude.{◌≡◌, ◌-◌, ◌<◌, ◌≤◌, if◌then◌else◌, is_ok, Some, [], length};
-ghost use Rattle.pv_tree.specs.Trees.{Tree, leaf, subtree, graft, settled, box_of, opens, Paves};
-ghost use Rattle.pv_tree.specs.Stages.{IsStage, full_of};
+ghost use Rattle.std.specs.Prelude.{◌≡◌, ◌≤◌, if◌then◌else◌, is_ok, OnErr, Some, length};
+ghost use Rattle.pv_tree.specs.Trees.{leaf, subtree};
+ghost use Rattle.pv_tree.specs.Stages.{
+  IsStage,
+  settled_by,
+  KeepsStages,
+  StagesPave,
+  ClosedStagesAreFull,
+};
 ghost use Rattle.pv_tree.specs.Sets.{IsSound};
+ghost use Rattle.pv_tree.specs.Laws.{StagesAreSound};
 
 use crate::path::Path;
 use crate::paving::Paving;
@@ -24,9 +31,12 @@ impl Paving {
         requires dims { length self.old.root ≡ S.dims settler.now }
         requires scratch { length scratch.old ≡ length self.old.root }
         ensures root { self.new.root ≡ self.old.root }
-        ensures tree { self.new.tree ≡ (if is_ok result then graft self.old.tree path (settled (S.settle_of settler.now (box_of self.old.root self.old.tree path) (S.depth_of settler.now - length path) (length path))) else self.old.tree) }
+        ensures tree { self.new.tree ≡ (if is_ok result
+            then settled_by (S.settle_of settler.now) (S.depth_of settler.now) self.old path
+            else self.old.tree) }
         ensures spare { self.old.spare ≤ self.new.spare }
-        ensures stage { (opening : Tree) → Paves self.old.root opening → IsStage (S.settle_of settler.now) (S.depth_of settler.now) self.old.root opening self.old.tree → IsStage (S.settle_of settler.now) (S.depth_of settler.now) self.new.root opening self.new.tree }
+        ensures refused { OnErr result (self.new.spare ≡ self.old.spare) }
+        ensures stage { KeepsStages (S.settle_of settler.now) (S.depth_of settler.now) self.old self.new }
         ensures scratch { length scratch.new ≡ length scratch.old }
     {
         let _places = self.dims();
@@ -47,9 +57,10 @@ impl Paving {
         requires { length self.now.root ≡ S.dims settler.now }
         ensures open_stage { IsStage (S.settle_of settler.now) (S.depth_of settler.now) self.now.root leaf leaf }
         ensures open_sound { IsSound (S.inside settler.now) self.now.root leaf }
-        ensures sound { (opening t : Tree) → Paves self.now.root opening → IsSound (S.inside settler.now) self.now.root opening → IsStage (S.settle_of settler.now) (S.depth_of settler.now) self.now.root opening t → IsSound (S.inside settler.now) self.now.root t }
-        ensures paves { (opening t : Tree) → Paves self.now.root opening → IsStage (S.settle_of settler.now) (S.depth_of settler.now) self.now.root opening t → Paves self.now.root t }
-        ensures whole { (opening t : Tree) → IsStage (S.settle_of settler.now) (S.depth_of settler.now) self.now.root opening t → opens t ≡ [] → t ≡ full_of (S.settle_of settler.now) (S.depth_of settler.now) self.now.root opening 0 }
+        ensures sound { StagesAreSound (S.settle_of settler.now) (S.depth_of settler.now)
+            (S.inside settler.now) self.now.root }
+        ensures paves { StagesPave (S.settle_of settler.now) (S.depth_of settler.now) self.now.root }
+        ensures whole { ClosedStagesAreFull (S.settle_of settler.now) (S.depth_of settler.now) self.now.root }
     {
         let _places = self.dims();
     }

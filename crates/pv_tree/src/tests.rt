@@ -1,6 +1,11 @@
-//! Paths as text and in order, and a batch.
+//! Paths as text and in order, a batch, and a growth whose leaf is passed.
 use crate::batch::Batch;
+use crate::growth::Growth;
+use crate::outcome::Shape;
 use crate::path::Path;
+use crate::walk::Walk;
+use pv_box::IBox;
+use pv_interval::Interval;
 use std::test::Fail;
 
 #[test]
@@ -16,5 +21,22 @@ fn paths_and_batches(rt: HostRuntime) -> Result<(), Fail> {
     assert_eq!(rt; batch.len(), 1);
     assert_eq!(rt; batch.pop(), Some(7));
     assert_eq!(rt; batch.pop(), None);
+    Ok(())
+}
+
+#[test]
+fn a_leaf_is_passed(rt: HostRuntime) -> Result<(), Fail> {
+    let mut parts = Vec::new(rt.alloc());
+    parts.push(Interval::ALL)?;
+    let mut growth = Growth::open(rt.alloc(), IBox::new(parts))?;
+    assert!(rt; growth.next_leaf() == Some(Path::ROOT));
+    growth.pass();
+    assert!(rt; growth.next_leaf().is_none());
+    assert_eq!(rt; growth.counts().open_leaves, 1);
+    let paving = growth.finish();
+    assert!(rt; paving.first_open() == Some(Path::ROOT));
+    let mut walk = Walk::of(rt.alloc(), &paving)?;
+    assert!(rt; matches!(walk.next(), Some(Shape::OpenLeaf)));
+    assert!(rt; walk.next().is_none());
     Ok(())
 }

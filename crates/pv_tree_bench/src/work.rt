@@ -1,19 +1,28 @@
 //! What is measured.
-ghost use Rattle.std.specs.Prelude.{◌≡◌, length, IfOk};
+ghost use Rattle.std.specs.Prelude.{◌≡◌, length, IfOk, IsSome, Some};
+ghost use Rattle.pv_tree.specs.Trees.{subtree, shape_of};
+ghost use Rattle.pv_tree_bench.specs.Kept.{keeps_shape};
 
 use pv_box::IBox;
 use pv_interval::Interval;
 use pv_join::{Audit, JoinRefused, audit, join};
 use pv_num::{Memory, Num};
-use pv_sample::{Above, settle_first};
-use pv_tree::{Counts, Paving};
+use pv_sample::{Above, grow, settle_first};
+use pv_tree::{Counts, Path, Paving, Shape, Walk};
 use std::alloc::Global;
 
 /// What is done to the tree.
 #[derive(Clone, Copy, PartialEq, Eq)]
 pub enum Work {
     Nothing,
+    /// Builds the tree by `put` at the first open leaf.
     Settle,
+    /// Builds it in preorder.
+    Grow,
+    /// Goes over its nodes in preorder, and reads each one's shape and boxes.
+    Walk,
+    /// Reads the same of each node by its path.
+    Find,
     Count,
     Clone,
     Join,
@@ -25,6 +34,9 @@ impl Work {
         match word {
             "none" => Some(Work::Nothing),
             "settle" => Some(Work::Settle),
+            "grow" => Some(Work::Grow),
+            "walk" => Some(Work::Walk),
+            "find" => Some(Work::Find),
             "count" => Some(Work::Count),
             "clone" => Some(Work::Clone),
             "join" => Some(Work::Join),
@@ -64,6 +76,97 @@ fn combs(alloc: Global, settler: &Above) -> Result<Paving, Memory>
     Ok(paving)
 }
 
+/// The tree, grown in preorder.
+fn grown(alloc: Global, settler: &Above) -> Result<Paving, Memory>
+    requires { settler.now.dims ≡ 2 }
+    ensures { IfOk result (λ p. length p.root ≡ 2) }
+{
+    let bx = root(alloc)?;
+    let mut scratch = bx.clone_of(alloc)?;
+    grow(alloc, settler, bx, 100_000, &mut scratch)
+}
+
+/// The counts with one more node of a shape.
+fn counted(counts: Counts, shape: &Shape) -> Counts {
+    let mut more = counts;
+    match *shape {
+        Shape::Absent => {}
+        Shape::OpenLeaf => more.open_leaves = more.open_leaves.saturating_add(1),
+        Shape::Removed => more.removed = more.removed.saturating_add(1),
+        Shape::Inner => more.inner = more.inner.saturating_add(1),
+        Shape::Small => more.small = more.small.saturating_add(1),
+        Shape::Cut { .. } => more.cut = more.cut.saturating_add(1),
+    }
+    more
+}
+
+/// Whether a node of this shape kept something.
+fn keeps(shape: &Shape) -> bool
+    ensures { result ≡ keeps_shape shape.now }
+{
+    match *shape {
+        Shape::Absent => false,
+        Shape::OpenLeaf => false,
+        Shape::Removed => false,
+        Shape::Inner => true,
+        Shape::Small => true,
+        Shape::Cut { .. } => true,
+    }
+}
+
+/// Reads the boxes of the node just visited.
+fn read_here(walk: &Walk<'_>, shape: &Shape, scratch: &mut IBox)
+    requires shape { shape.now ≡ shape_of (Some walk.now.here.tree) }
+    requires scratch { length scratch.old ≡ length walk.now.root }
+    ensures { length scratch.new ≡ length scratch.old }
+{
+    walk.write_box(scratch);
+    if keeps(shape) {
+        walk.write_to(scratch);
+    }
+}
+
+/// Reads the boxes of the node at a path.
+fn read_at(tree: &Paving, path: Path, scratch: &mut IBox)
+    requires there { IsSome (subtree tree.now.tree path) }
+    requires scratch { length scratch.old ≡ length tree.now.root }
+    ensures { length scratch.new ≡ length scratch.old }
+{
+    let shape = tree.shape_at(path);
+    tree.box_at(path, scratch);
+    if keeps(&shape) {
+        tree.to_at(path, scratch);
+    }
+}
+
+/// Reads the boxes of each node in one walk.
+fn walk_over(alloc: Global, tree: &Paving) -> Result<Counts, Memory>
+    requires { length tree.now.root ≡ 2 }
+{
+    let mut scratch = root(alloc)?;
+    let mut counts = NONE;
+    let mut walk = Walk::of(alloc, tree)?;
+    while let Some(shape) = walk.next() {
+        read_here(&walk, &shape, &mut scratch);
+        counts = counted(counts, &shape);
+    }
+    Ok(counts)
+}
+
+/// Reads the boxes of each node by its path.
+fn find_each(alloc: Global, tree: &Paving) -> Result<Counts, Memory>
+    requires { length tree.now.root ≡ 2 }
+{
+    let mut scratch = root(alloc)?;
+    let mut counts = NONE;
+    let mut walk = Walk::of(alloc, tree)?;
+    while let Some(shape) = walk.next() {
+        read_at(tree, walk.path(), &mut scratch);
+        counts = counted(counts, &shape);
+    }
+    Ok(counts)
+}
+
 /// Does the work once, and counts the nodes of what comes of it.
 fn once(alloc: Global, work: Work, settler: &Above, tree: &Paving) -> Result<Counts, Memory>
     requires dims { settler.now.dims ≡ 2 }
@@ -76,6 +179,12 @@ fn once(alloc: Global, work: Work, settler: &Above, tree: &Paving) -> Result<Cou
             let again = combs(alloc, settler)?;
             Ok(again.counts())
         }
+        Work::Grow => {
+            let again = grown(alloc, settler)?;
+            Ok(again.counts())
+        }
+        Work::Walk => walk_over(alloc, tree),
+        Work::Find => find_each(alloc, tree),
         Work::Clone => {
             let copy = tree.clone_of(alloc)?;
             Ok(copy.counts())
