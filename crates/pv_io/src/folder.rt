@@ -1,3 +1,4 @@
+//! Named files, and why one can't be read or kept.
 ghost use Rattle.std.specs.Prelude.{◌≡◌, ◌≢◌, ℕ, ◌≤◌, List, [], OnOk, IsErrOf};
 ghost use Rattle.pv_io.specs.Outside.{Rose, Content, IsWhole, IsTooLong, MayBeAbsent, stored};
 
@@ -61,13 +62,17 @@ pub trait Folder {
     fn fetch(&mut self, name: &str, limit: u64, into: &mut Vec<u8>) -> Result<(), FetchRefused>
         requires { into.old.items ≡ [] }
         ensures whole { OnOk result (IsWhole (content self.old name.now) limit into.new.items) }
-        ensures too_long { IsErrOf result FetchRefused.TooLong → IsTooLong (content self.old name.now) limit into.new.items }
-        ensures absent { IsErrOf result FetchRefused.Absent → MayBeAbsent (content self.old name.now) }
-        ensures cause { IsErrOf result FetchRefused.Failed → Rose (fetch_faults self.old) (fetch_faults self.new) }
+        ensures too_long { IsErrOf result FetchRefused.TooLong
+            → IsTooLong (content self.old name.now) limit into.new.items }
+        ensures absent { IsErrOf result FetchRefused.Absent
+            → MayBeAbsent (content self.old name.now) }
+        ensures cause { IsErrOf result FetchRefused.Failed
+            → Rose (fetch_faults self.old) (fetch_faults self.new) }
         ensures empty_absent { IsErrOf result FetchRefused.Absent → into.new.items ≡ [] }
         ensures empty_failed { IsErrOf result FetchRefused.Failed → into.new.items ≡ [] }
         ensures empty_memory { IsErrOf result FetchRefused.Memory → into.new.items ≡ [] }
-        ensures no_fault { IsErrOf result FetchRefused.Memory → fetch_faults self.new ≡ fetch_faults self.old }
+        ensures no_fault { IsErrOf result FetchRefused.Memory
+            → fetch_faults self.new ≡ fetch_faults self.old }
         ensures unchanged { (other : List ℕ) → content self.new other ≡ content self.old other }
         ensures counts_on { fetch_faults self.old ≤ fetch_faults self.new }
         ensures no_store_fault { store_faults self.new ≡ store_faults self.old };
@@ -75,10 +80,14 @@ pub trait Folder {
     /// Makes the bytes the content of a name.
     fn store(&mut self, name: &str, bytes: &[u8]) -> Result<(), StoreRefused>
         ensures whole { OnOk result (content self.new name.now ≡ stored (content self.old name.now) bytes.now) }
-        ensures cause { IsErrOf result StoreRefused.Failed → Rose (store_faults self.old) (store_faults self.new) }
-        ensures unchanged { IsErrOf result StoreRefused.Memory → content self.new name.now ≡ content self.old name.now }
-        ensures no_fault { IsErrOf result StoreRefused.Memory → store_faults self.new ≡ store_faults self.old }
-        ensures others { (other : List ℕ) → other ≢ name.now → content self.new other ≡ content self.old other }
+        ensures cause { IsErrOf result StoreRefused.Failed
+            → Rose (store_faults self.old) (store_faults self.new) }
+        ensures unchanged { IsErrOf result StoreRefused.Memory
+            → content self.new name.now ≡ content self.old name.now }
+        ensures no_fault { IsErrOf result StoreRefused.Memory
+            → store_faults self.new ≡ store_faults self.old }
+        ensures others { (other : List ℕ)
+            → other ≢ name.now → content self.new other ≡ content self.old other }
         ensures counts_on { store_faults self.old ≤ store_faults self.new }
         ensures no_fetch_fault { fetch_faults self.new ≡ fetch_faults self.old };
 }

@@ -1,3 +1,4 @@
+//! A folder in memory whose calls fail by a list.
 ghost use Rattle.std.specs.Prelude.{◌≡◌, ◌≢◌, ◌↔◌, ℕ, ◌≤◌, List, [], OnOk, IsErrOf, Contains};
 ghost use Rattle.pv_io.specs.Outside.{Rose, IsWhole, IsTooLong, MayBeAbsent, stored};
 ghost use Rattle.pv_io.specs.Answers.{turns_after_fetch, faults_after_fetch, turns_after_store, faults_after_store};
@@ -45,19 +46,24 @@ impl Folder for MemFolder {
     fn fetch(&mut self, name: &str, limit: u64, into: &mut Vec<u8>) -> Result<(), FetchRefused>
         requires { into.old.items ≡ [] }
         ensures whole { OnOk result (IsWhole (kept_in self.old name.now) limit into.new.items) }
-        ensures too_long { IsErrOf result FetchRefused.TooLong → IsTooLong (kept_in self.old name.now) limit into.new.items }
-        ensures absent { IsErrOf result FetchRefused.Absent → MayBeAbsent (kept_in self.old name.now) }
-        ensures cause { IsErrOf result FetchRefused.Failed → Rose (fetch_faults_of self.old) (fetch_faults_of self.new) }
+        ensures too_long { IsErrOf result FetchRefused.TooLong
+            → IsTooLong (kept_in self.old name.now) limit into.new.items }
+        ensures absent { IsErrOf result FetchRefused.Absent
+            → MayBeAbsent (kept_in self.old name.now) }
+        ensures cause { IsErrOf result FetchRefused.Failed
+            → Rose (fetch_faults_of self.old) (fetch_faults_of self.new) }
         ensures empty_absent { IsErrOf result FetchRefused.Absent → into.new.items ≡ [] }
         ensures empty_failed { IsErrOf result FetchRefused.Failed → into.new.items ≡ [] }
         ensures empty_memory { IsErrOf result FetchRefused.Memory → into.new.items ≡ [] }
-        ensures no_fault { IsErrOf result FetchRefused.Memory → fetch_faults_of self.new ≡ fetch_faults_of self.old }
+        ensures no_fault { IsErrOf result FetchRefused.Memory
+            → fetch_faults_of self.new ≡ fetch_faults_of self.old }
         ensures unchanged { (other : List ℕ) → kept_in self.new other ≡ kept_in self.old other }
         ensures counts_on { fetch_faults_of self.old ≤ fetch_faults_of self.new }
         ensures no_store_fault { store_faults_of self.new ≡ store_faults_of self.old }
 
         // Beyond what every folder says: which calls fail, and what is counted.
-        ensures fails { IsErrOf result FetchRefused.Failed ↔ Contains (turns_of self.old).failing (turns_of self.old).next }
+        ensures fails { IsErrOf result FetchRefused.Failed
+            ↔ Contains (turns_of self.old).failing (turns_of self.old).next }
         ensures turns { turns_of self.new ≡ turns_after_fetch result (turns_of self.old) }
         ensures faults { fetch_faults_of self.new ≡ faults_after_fetch result (fetch_faults_of self.old) }
     {
@@ -75,15 +81,20 @@ impl Folder for MemFolder {
 
     fn store(&mut self, name: &str, bytes: &[u8]) -> Result<(), StoreRefused>
         ensures whole { OnOk result (kept_in self.new name.now ≡ stored (kept_in self.old name.now) bytes.now) }
-        ensures cause { IsErrOf result StoreRefused.Failed → Rose (store_faults_of self.old) (store_faults_of self.new) }
-        ensures unchanged { IsErrOf result StoreRefused.Memory → kept_in self.new name.now ≡ kept_in self.old name.now }
-        ensures no_fault { IsErrOf result StoreRefused.Memory → store_faults_of self.new ≡ store_faults_of self.old }
-        ensures others { (other : List ℕ) → other ≢ name.now → kept_in self.new other ≡ kept_in self.old other }
+        ensures cause { IsErrOf result StoreRefused.Failed
+            → Rose (store_faults_of self.old) (store_faults_of self.new) }
+        ensures unchanged { IsErrOf result StoreRefused.Memory
+            → kept_in self.new name.now ≡ kept_in self.old name.now }
+        ensures no_fault { IsErrOf result StoreRefused.Memory
+            → store_faults_of self.new ≡ store_faults_of self.old }
+        ensures others { (other : List ℕ)
+            → other ≢ name.now → kept_in self.new other ≡ kept_in self.old other }
         ensures counts_on { store_faults_of self.old ≤ store_faults_of self.new }
         ensures no_fetch_fault { fetch_faults_of self.new ≡ fetch_faults_of self.old }
 
         // Beyond what every folder says: which calls fail, and what is counted.
-        ensures fails { IsErrOf result StoreRefused.Failed ↔ Contains (turns_of self.old).failing (turns_of self.old).next }
+        ensures fails { IsErrOf result StoreRefused.Failed
+            ↔ Contains (turns_of self.old).failing (turns_of self.old).next }
         ensures turns { turns_of self.new ≡ turns_after_store result (turns_of self.old) }
         ensures faults { store_faults_of self.new ≡ faults_after_store result (store_faults_of self.old) }
     {

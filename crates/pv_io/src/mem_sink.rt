@@ -1,3 +1,4 @@
+//! A sink in memory whose calls fail by a list.
 ghost use Rattle.std.specs.Prelude.{◌≡◌, ◌↔◌, [], ℕ, ◌≤◌, List, Some, OnOk, IsErrOf, Contains};
 ghost use Rattle.pv_io.specs.Outside.{Rose, appended, AppendsFront};
 ghost use Rattle.pv_io.specs.Answers.{spool_after};
@@ -26,7 +27,8 @@ impl Model for MemSink {
 impl MemSink {
     /// A sink that has taken nothing. Its calls are numbered from 0, and those in the list fail.
     pub fn new(alloc: Global, fail: Vec<u64>) -> Self
-        ensures { result ≡ record { bytes = []; turns = record { failing = fail.items; next = 0 }; faults = 0 } }
+        ensures { result
+            ≡ record { bytes = []; turns = record { failing = fail.items; next = 0 }; faults = 0 } }
     {
         MemSink {
             plain: PlainSink::new(alloc),
@@ -49,7 +51,8 @@ impl Sink for MemSink {
     ghost faults = { λ s. s.faults };
 
     fn write(&mut self, bytes: &[u8]) -> Result<(), WriteRefused>
-        ensures fails { IsErrOf result WriteRefused.Failed ↔ Contains self.old.turns.failing self.old.turns.next }
+        ensures fails { IsErrOf result WriteRefused.Failed
+            ↔ Contains self.old.turns.failing self.old.turns.next }
         ensures counts_on { self.old.faults ≤ self.new.faults }
         ensures state { self.new ≡ spool_after result bytes.now self.old }
     {

@@ -1,3 +1,4 @@
+//! A folder in memory that never fails.
 ghost use Rattle.std.specs.Prelude.{◌≡◌, ◌≢◌, [], ◌++◌, ℕ, ◌+◌, ◌<◌, ◌≤◌, List, length, take, IfSome, OnOk, OnErr, IsErrOf};
 ghost use Rattle.pv_io.specs.Outside.{Content, IsWhole, IsTooLong, MayBeAbsent, holds};
 ghost use Rattle.pv_io.specs.Scripted.{content_of};
@@ -27,7 +28,8 @@ impl PlainFolder {
 fn copy_front(whole: &[u8], limit: u64, into: &mut Vec<u8>) -> Result<(), FetchRefused>
     requires { into.old.items ≡ [] }
     ensures whole { OnOk result ((into.new.items ≡ whole.now) × (length whole.now ≤ limit)) }
-    ensures too_long { IsErrOf result FetchRefused.TooLong → (into.new.items ≡ take (limit + 1) whole.now) × (limit < length whole.now) }
+    ensures too_long { IsErrOf result FetchRefused.TooLong
+        → (into.new.items ≡ take (limit + 1) whole.now) × (limit < length whole.now) }
     ensures absent { result ≢ Err FetchRefused.Absent }
     ensures failed { result ≢ Err FetchRefused.Failed }
     ensures memory { IsErrOf result FetchRefused.Memory → into.new.items ≡ [] }
@@ -48,7 +50,8 @@ fn put(
 ) -> Result<(), AllocError>
     ensures whole { OnOk result (content_of files.new name.now ≡ holds bytes.now) }
     ensures err { OnErr result (content_of files.new name.now ≡ content_of files.old name.now) }
-    ensures others { (other : List ℕ) → other ≢ name.now → content_of files.new other ≡ content_of files.old other }
+    ensures others { (other : List ℕ)
+        → other ≢ name.now → content_of files.new other ≡ content_of files.old other }
 {
     let key = String::from_str(alloc, name)?;
     files.insert(key, bytes.to_vec(alloc)?)?;

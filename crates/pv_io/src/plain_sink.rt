@@ -1,3 +1,4 @@
+//! A sink in memory that never fails.
 ghost use Rattle.std.specs.Prelude.{◌≡◌, [], ℕ, List, Some};
 
 use crate::{Sink, WriteRefused};

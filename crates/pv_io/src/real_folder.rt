@@ -1,5 +1,8 @@
-ghost use Rattle.std.specs.Prelude.{◌≡◌, ℕ, [], ◌+◌, ◌≤◌, ◌<◌, length, IsErrOf, OnOk};
+//! The folder of the machine.
+ghost use Rattle.std.specs.Prelude.{◌≡◌, ◌≢◌, ℕ, [], ◌+◌, ◌≤◌, ◌<◌, length, IsErrOf, OnOk};
+ghost use Rattle.std.specs.Io.KnownBytes.{Consumes, IsAtEnd};
 ghost use Rattle.pv_io.specs.Outside.{untold};
+ghost use Rattle.pv_io.specs.Real.{TakesIn, real_fetch_faults, real_store_faults};
 
 use crate::real_sink::takes_all;
 use crate::{FetchRefused, Folder, StoreRefused};
@@ -19,7 +22,10 @@ pub struct RealFolder<'a, R> {
 
 impl<'a, R: Files> RealFolder<'a, R> {
     /// A folder that has met no fault, over the machine's files.
-    pub fn new(rt: &'a R) -> Self {
+    pub fn new(rt: &'a R) -> Self
+        ensures no_fetch_fault { real_fetch_faults result ≡ 0 }
+        ensures no_store_fault { real_store_faults result ≡ 0 }
+    {
         RealFolder {
             rt,
             fetch_faults: 0,
@@ -39,9 +45,9 @@ enum Turn {
 impl<'a, R: Files> Folder for RealFolder<'a, R> {
     ghost content = { λ _ _. untold };
 
-    ghost fetch_faults = { λ f. f.fetch_faults };
+    ghost fetch_faults = { real_fetch_faults };
 
-    ghost store_faults = { λ f. f.store_faults };
+    ghost store_faults = { real_store_faults };
 
     fn fetch(&mut self, name: &str, limit: u64, into: &mut Vec<u8>) -> Result<(), FetchRefused> {
         let answer = read_file(self.rt, name, limit, into);
@@ -95,6 +101,10 @@ fn read_up_to<F: Read>(file: &mut F, limit: u64, into: &mut Vec<u8>) -> Result<(
     requires { into.old.items ≡ [] }
     ensures whole { OnOk result (length into.new.items ≤ limit) }
     ensures too_long { IsErrOf result FetchRefused.TooLong → length into.new.items ≡ limit + 1 }
+    ensures read { OnOk result (Consumes (F.remaining file.old) (F.remaining file.new) into.new.items) }
+    ensures end { OnOk result (IsAtEnd (F.remaining file.new)) }
+    ensures front { IsErrOf result FetchRefused.TooLong
+        → Consumes (F.remaining file.old) (F.remaining file.new) into.new.items }
 {
     let mut buffer = [0u8; CHUNK];
     for _ in 0..u64::MAX {
@@ -115,8 +125,12 @@ fn read_up_to<F: Read>(file: &mut F, limit: u64, into: &mut Vec<u8>) -> Result<(
 
 // One read, whose bytes go behind those that are there. A read that a signal cut short is tried again.
 fn read_some<F: Read>(file: &mut F, buffer: &mut [u8], into: &mut Vec<u8>) -> Turn
+    requires { 0 < length buffer.old }
     ensures no_more { length into.new.items ≤ length into.old.items + length buffer.old }
-    ensures end { result ≡ Turn.End → into.new.items ≡ into.old.items }
+    ensures end { result ≡ Turn.End
+        → (into.new.items ≡ into.old.items) × IsAtEnd (F.remaining file.new) }
+    ensures read { result ≢ Turn.Memory
+        → TakesIn (F.remaining file.old) (F.remaining file.new) into.old.items into.new.items }
 {
     match file.read(buffer) {
         Ok(0) => Turn::End,

@@ -1,4 +1,8 @@
-ghost use Rattle.std.specs.Prelude.{◌≡◌, ℕ, None};
+//! A sink over a writer of the machine.
+ghost use Rattle.std.specs.Prelude.{◌≡◌, ℕ, ◌≤◌, List, Option, None, OnOk, IsErrOf, IsTrue, length, take, drop};
+ghost use Rattle.std.specs.Io.KnownBytes.{Appends};
+ghost use Rattle.pv_io.specs.Outside.{Rose};
+ghost use Rattle.pv_io.specs.Real.{AppendsSome, sink_faults, writer_of};
 
 use crate::{Sink, WriteRefused};
 use std::io::{ErrorKind, Write};
@@ -12,7 +16,10 @@ pub struct RealSink<W> {
 
 impl<W: Write> RealSink<W> {
     /// A sink that has met no fault.
-    pub fn new(inner: W) -> Self {
+    pub fn new(inner: W) -> Self
+        ensures no_fault { sink_faults result ≡ 0 }
+        ensures writer { writer_of result ≡ inner }
+    {
         RealSink { inner, faults: 0 }
     }
 }
@@ -20,9 +27,21 @@ impl<W: Write> RealSink<W> {
 impl<W: Write> Sink for RealSink<W> {
     ghost written = { λ _. None };
 
-    ghost faults = { λ s. s.faults };
+    ghost faults = { sink_faults };
 
-    fn write(&mut self, bytes: &[u8]) -> Result<(), WriteRefused> {
+    fn write(&mut self, bytes: &[u8]) -> Result<(), WriteRefused>
+        ensures cause { IsErrOf result WriteRefused.Failed
+            → Rose (sink_faults self.old) (sink_faults self.new) }
+        ensures no_fault { IsErrOf result WriteRefused.Memory
+            → sink_faults self.new ≡ sink_faults self.old }
+        ensures counts_on { sink_faults self.old ≤ sink_faults self.new }
+
+        // Beyond what every sink says: what went to the writer, where the writer tells it.
+        ensures taken { OnOk result
+            (Appends (W.contents (writer_of self.old)) (W.contents (writer_of self.new)) bytes.now) }
+        ensures taken_front { IsErrOf result WriteRefused.Failed
+            → AppendsSome (W.contents (writer_of self.old)) (W.contents (writer_of self.new)) bytes.now }
+    {
         if takes_all(&mut self.inner, bytes) {
             return Ok(());
         }
@@ -33,7 +52,10 @@ impl<W: Write> Sink for RealSink<W> {
 
 /// Hands the whole piece to a writer, and says whether it was taken. A writer that takes nothing of
 /// what is left has failed. A write that a signal cut short is tried again.
-pub(crate) fn takes_all<W: Write>(inner: &mut W, bytes: &[u8]) -> bool {
+pub(crate) fn takes_all<W: Write>(inner: &mut W, bytes: &[u8]) -> bool
+    ensures all { IsTrue result → Appends (W.contents inner.old) (W.contents inner.new) bytes.now }
+    ensures front { AppendsSome (W.contents inner.old) (W.contents inner.new) bytes.now }
+{
     let mut rest = bytes;
     for _ in 0..u64::MAX {
         if rest.is_empty() {
@@ -41,10 +63,17 @@ pub(crate) fn takes_all<W: Write>(inner: &mut W, bytes: &[u8]) -> bool {
         }
         match inner.write(rest) {
             Ok(0) => return false,
-            Ok(taken) => rest = &rest[taken..],
+            Ok(taken) => rest = behind(rest, taken),
             Err(e) if e.kind() == ErrorKind::Interrupted => {}
             Err(_) => return false,
         }
     }
     false
+}
+
+fn behind(bytes: &[u8], taken: usize) -> &[u8]
+    requires { taken ≤ length bytes.now }
+    ensures { result.now ≡ drop taken bytes.now }
+{
+    &bytes[taken..]
 }

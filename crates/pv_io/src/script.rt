@@ -1,3 +1,4 @@
+//! Which calls fail.
 ghost use Rattle.std.specs.Prelude.{◌≡◌, ◌↔◌, ℕ, ◌+◌, ◌-◌, ◌^◌, min, IsTrue, Contains};
 ghost use Rattle.pv_io.specs.Scripted.{one_more};
 

@@ -1,3 +1,4 @@
+//! What takes bytes, and why it may not.
 ghost use Rattle.std.specs.Prelude.{◌≡◌, ℕ, ◌≤◌, List, Option, OnOk, IsErrOf};
 ghost use Rattle.pv_io.specs.Outside.{Rose, appended, AppendsFront};
 
@@ -33,9 +34,12 @@ pub trait Sink {
     /// Takes the whole piece, or says why not.
     fn write(&mut self, bytes: &[u8]) -> Result<(), WriteRefused>
         ensures whole { OnOk result (written self.new ≡ appended (written self.old) bytes.now) }
-        ensures front { IsErrOf result WriteRefused.Failed → AppendsFront (written self.old) (written self.new) bytes.now }
-        ensures cause { IsErrOf result WriteRefused.Failed → Rose (faults self.old) (faults self.new) }
-        ensures unchanged { IsErrOf result WriteRefused.Memory → written self.new ≡ written self.old }
+        ensures front { IsErrOf result WriteRefused.Failed
+            → AppendsFront (written self.old) (written self.new) bytes.now }
+        ensures cause { IsErrOf result WriteRefused.Failed
+            → Rose (faults self.old) (faults self.new) }
+        ensures unchanged { IsErrOf result WriteRefused.Memory
+            → written self.new ≡ written self.old }
         ensures no_fault { IsErrOf result WriteRefused.Memory → faults self.new ≡ faults self.old }
         ensures counts_on { faults self.old ≤ faults self.new };
 }

@@ -1,3 +1,4 @@
+//! Tests of what no clause says: the texts of both real ends, and each impl once.
 use super::*;
 use std::alloc::{AllocError, Global};
 use std::collections::BTreeMap;
@@ -88,14 +89,16 @@ impl Write for Slow {
 #[test]
 fn a_real_sink_goes_on_until_all_is_taken(rt: HostRuntime) -> Result<(), Fail> {
     let alloc = rt.alloc();
-    let mut sink = RealSink::new(Slow {
+    let mut slow = Slow {
         taken: Vec::new(alloc),
         room: 7,
         interrupted: false,
-    });
+    };
+    let mut sink = RealSink::new(&mut slow);
     assert_eq!(rt; sink.write(b"abcde"), Ok(()));
     assert_eq!(rt; sink.write(b""), Ok(()));
     assert_eq!(rt; sink.write(b"fgh"), Err(WriteRefused::Failed));
+    assert_eq!(rt; slow.taken.as_slice(), b"abcdefg".as_slice());
     Ok(())
 }
 
@@ -125,5 +128,34 @@ fn a_real_folder_reads_what_it_stored(rt: HostRuntime) -> Result<(), Fail> {
     }
     fs::remove_file(&rt, name)?;
     fs::remove_dir(&rt, "pv_io_test_dir")?;
+    Ok(())
+}
+
+// More than three pieces of what one read takes, with no period that a piece could hide.
+fn long_text(alloc: Global) -> Result<Vec<u8>, AllocError> {
+    let mut text = Vec::new(alloc);
+    for i in 0..50_000u32 {
+        text.push((i % 251) as u8)?;
+    }
+    Ok(text)
+}
+
+#[test]
+fn a_real_folder_reads_in_pieces(rt: HostRuntime) -> Result<(), Fail> {
+    let name = "pv_io_test_long";
+    let mut text = long_text(rt.alloc())?;
+    let mut folder = RealFolder::new(&rt);
+    assert_eq!(rt; folder.store(name, &text), Ok(()));
+    let mut into = Vec::new(rt.alloc());
+    assert_eq!(rt; folder.fetch(name, 50_000, &mut into), Ok(()));
+    assert!(rt; into.as_slice() == text.as_slice());
+    let mut into = Vec::new(rt.alloc());
+    assert_eq!(rt;
+        folder.fetch(name, 40_000, &mut into),
+        Err(FetchRefused::TooLong)
+    );
+    text.truncate(40_001);
+    assert!(rt; into.as_slice() == text.as_slice());
+    fs::remove_file(&rt, name)?;
     Ok(())
 }
