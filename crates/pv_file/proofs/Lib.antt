@@ -1,0 +1,15 @@
+mod Bytes
+mod Numbers
+mod Places
+mod Ends
+mod Rights
+mod Shapes
+mod Handing
+mod Digests
+mod Steps
+mod Refusals
+mod Headers
+mod Fits
+mod Reached
+mod Wholes
+mod Different

@@ -1,0 +1,24 @@
+//! Paving files: the text of a paving in two versions, written and read.
+//!
+//! A file has a line for its version, one for the identity of what it is a paving of, and one for each
+//! node in preorder. The root's box is not in it.
+#![tactic(auto)]
+
+mod cut;
+mod header;
+pub mod laws;
+mod lines;
+mod outcome_line;
+mod reader;
+mod refusal;
+#[cfg(test)]
+mod tests;
+mod version;
+mod writer;
+
+pub use lines::{write_node, write_outcome};
+pub use outcome_line::read_outcome;
+pub use reader::read;
+pub use refusal::{FileRefused, FileWriteRefused};
+pub use version::Version;
+pub use writer::{write, write_lines};
