@@ -1,0 +1,11 @@
+pub mod Slots
+pub mod Paths
+pub mod Growth
+pub mod Fulls
+pub mod Marked
+pub mod Boards
+pub mod Takes
+pub mod Settling
+pub mod Piling
+pub mod Openings
+pub mod Dealing

@@ -1,0 +1,28 @@
+//! The board: one paving that several workers settle, which of its leaves are issued to whom, and what is left of a budget.
+#![tactic(auto)]
+
+mod board;
+mod deal;
+mod desk;
+mod leaves;
+mod mark;
+mod marks;
+mod naming;
+mod opening;
+mod pile;
+#[cfg(test)]
+mod rows;
+#[cfg(test)]
+mod seeded;
+mod shared;
+#[cfg(test)]
+mod tests;
+mod ticket;
+mod told;
+
+pub use board::Board;
+pub use naming::{Endings, Naming, Settlings};
+pub use opening::OpenRefused;
+pub use shared::Shared;
+pub use ticket::{Look, Settled, Ticket};
+pub use told::Told;

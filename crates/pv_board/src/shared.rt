@@ -1,0 +1,167 @@
+//! A board behind a lock, for several callers.
+ghost use Rattle.std.specs.Prelude.{◌≡◌, ◌≢◌, ◌+◌, ◌-◌, ◌<◌, ◌≤◌, [], false, IsTrue, is_some, IsSome, length, if◌then◌else◌};
+ghost use Rattle.pv_tree.specs.Trees.{subtree, box_of};
+ghost use Rattle.pv_tree.specs.Stages.{full_of};
+ghost use Rattle.pv_board.specs.Marks.{issued};
+ghost use Rattle.pv_board.specs.Rules.{IsStageBelow, settled_in};
+ghost use Rattle.pv_board.specs.Events.{IsOver};
+ghost use Rattle.pv_board.specs.Tallies.{tally_of, handed_in, given_more, told_of, one_if, tickets_in, IsLow};
+ghost use Rattle.pv_board.specs.declared.ticket.Look.TheVariants.{Same};
+
+use crate::board::Board;
+use crate::desk::Desk;
+use crate::naming::Naming;
+use crate::ticket::{Look, Settled, Ticket};
+use crate::told::Told;
+use pv_box::IBox;
+use pv_tree::{Batch, Outcome, Paving};
+use std::sync::ledger::Blank;
+use std::sync::{Condvar, Mutex, Wait};
+
+/// A board that several callers settle. Each call but `idle` takes the lock, makes the board's call of its name, and lets go.
+#[derive(Drop)]
+pub struct Shared<N: Naming> {
+    desk: Mutex<Desk<N>>,
+    changed: Condvar,
+}
+
+impl<N: Naming> Shared<N> {
+    /// Puts a board behind a lock. The counts have all 32 parts.
+    pub fn new(board: Board<N>, settlings: Blank, endings: Blank) -> (Shared<N>, Told<N>)
+        requires idle { issued board.marks ≡ 0 }
+        requires used { board.used ≡ 0 }
+        requires none_added { settled_in board.tree ≡ settled_in N.opening }
+        requires settlings { (settlings.name ≡ N.settlings) × (settlings.parts ≡ 32) }
+        requires endings { (endings.name ≡ N.endings) × (endings.parts ≡ 32) }
+        ensures { result.1 ≡ tally_of 32 }
+    {
+        let (desk, told) = Desk::open(board, settlings, endings);
+        let shared = Shared {
+            desk: Mutex::new(desk),
+            changed: Condvar::new(),
+        };
+        (shared, told)
+    }
+
+    /// Issues some open leaf.
+    pub fn take<R: Wait>(&self, rt: &R, told: &mut Told<N>) -> Option<Ticket>
+        requires { IsLow told.old }
+        ensures { told.new ≡ given_more told.old (one_if (is_some result)) }
+    {
+        self.desk.lock(rt).take(told)
+    }
+
+    /// Settles a ticket's leaf, and wakes all who wait.
+    pub fn settle<R: Wait>(
+        &self,
+        rt: &R,
+        ticket: Ticket,
+        outcome: Outcome,
+        told: &mut Told<N>,
+    ) -> Settled
+        requires low { IsLow told.old }
+        requires there { IsSome (subtree (full_of N.rule N.depth N.root N.opening 0) ticket.path) }
+        requires due { outcome ≡ N.rule (box_of N.root (full_of N.rule N.depth N.root N.opening 0) ticket.path) (N.depth - length ticket.path) (length ticket.path) }
+        ensures { told.new ≡ handed_in told.old (one_if result.fresh) (tickets_in result) }
+    {
+        let settled = self.desk.lock(rt).settle(ticket, outcome, told);
+        self.changed.notify_all();
+        settled
+    }
+
+    /// Puts a stage of a ticket's leaf in the leaf's place, and wakes all who wait.
+    pub fn settle_stage<R: Wait>(
+        &self,
+        rt: &R,
+        ticket: Ticket,
+        stage: &Paving,
+        told: &mut Told<N>,
+        children: &mut Batch<Ticket>,
+    ) -> bool
+        requires low { IsLow told.old }
+        requires there { IsSome (subtree (full_of N.rule N.depth N.root N.opening 0) ticket.path) }
+        requires root { stage.now.root ≡ box_of N.root (full_of N.rule N.depth N.root N.opening 0) ticket.path }
+        requires stage { IsStageBelow N.rule N.depth stage.now.root (length ticket.path) stage.now.tree }
+        requires some { 1 ≤ settled_in stage.now.tree }
+        requires few { settled_in stage.now.tree ≤ 1 + ticket.grant }
+        requires empty { children.old ≡ [] }
+        ensures { told.new ≡ handed_in told.old (if result then settled_in stage.now.tree else 0) (length children.new) }
+    {
+        let is_current = self
+            .desk
+            .lock(rt)
+            .settle_stage(ticket, stage, told, children);
+        self.changed.notify_all();
+        is_current
+    }
+
+    /// Gives a ticket's leaf back, and wakes all who wait.
+    pub fn give_back<R: Wait>(&self, rt: &R, ticket: Ticket, told: &mut Told<N>)
+        requires { IsLow told.old }
+        ensures { told.new ≡ handed_in told.old 0 0 }
+    {
+        self.desk.lock(rt).give_back(ticket, told);
+        self.changed.notify_all();
+    }
+
+    /// Moves units from what is left to a ticket's grant.
+    pub fn extend<R: Wait>(&self, rt: &R, ticket: &mut Ticket, want: u64) -> u64
+        requires { ticket.old.grant + want ≤ 15 }
+        ensures units { result ≤ want }
+        ensures path { ticket.new.path ≡ ticket.old.path }
+        ensures grant { ticket.new.grant ≡ ticket.old.grant + result }
+    {
+        self.desk.lock(rt).extend(ticket, want)
+    }
+
+    /// Writes the box that a ticket's path has in the full tree over another box. False where the tree has no such path yet.
+    pub fn box_of<R: Wait>(&self, rt: &R, ticket: &Ticket, into: &mut IBox) -> bool
+        requires dims { length into.old ≡ N.dims }
+        ensures is { IsTrue result → into.new ≡ box_of N.root (full_of N.rule N.depth N.root N.opening 0) ticket.now.path }
+        ensures in_full { IsTrue result → IsSome (subtree (full_of N.rule N.depth N.root N.opening 0) ticket.now.path) }
+        ensures same { result ≡ false → into.new ≡ into.old }
+        ensures places { length into.new ≡ length into.old }
+    {
+        self.desk.lock(rt).box_of(ticket, into)
+    }
+
+    /// Changes the number that idle callers look at, and wakes all who wait.
+    pub fn announce<R: Wait>(&self, rt: &R) {
+        self.desk.lock(rt).announce();
+        self.changed.notify_all();
+    }
+
+    /// Stops the board, and wakes all who wait.
+    pub fn stop<R: Wait>(&self, rt: &R) {
+        self.desk.lock(rt).stop();
+        self.changed.notify_all();
+    }
+
+    /// Waits until there is a leaf to settle, all is done, or the board's number differs from `seen`. It may wait for another thread.
+    pub fn idle<R: Wait>(&self, rt: &R, seen: u64, told: &mut Told<N>) -> Look
+        requires { IsLow told.old }
+        ensures told { told.new ≡ told_of told.old result }
+        ensures news { result ≢ Same }
+    {
+        let mut desk = self.desk.lock(rt);
+        for _ in rt.forever() {
+            match desk.look(seen, told) {
+                Look::Work(ticket) => return Look::Work(ticket),
+                Look::Done => return Look::Done,
+                Look::Changed(steps) => return Look::Changed(steps),
+                Look::Same => desk = self.changed.wait(rt, desk),
+            }
+        }
+        unreachable!()
+    }
+
+    /// The board, once all parts are back: what was used is what was settled, and after an ending nothing can be taken.
+    pub fn into_board(self, told: Told<N>) -> Board<N>
+        requires { told.parts ≡ 32 }
+        ensures used { result.used ≡ told.settled }
+        ensures over { 0 < told.ended → IsOver result }
+        ensures none_added { settled_in result.tree ≡ settled_in N.opening + result.used }
+    {
+        self.desk.into_inner().close(told)
+    }
+}
