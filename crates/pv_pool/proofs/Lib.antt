@@ -1,0 +1,9 @@
+pub mod HandSums
+pub mod Rule
+pub mod Thieves
+pub mod Linking
+pub mod Handbacks
+pub mod Rows
+pub mod Sitting
+pub mod Serving
+pub mod Accounting

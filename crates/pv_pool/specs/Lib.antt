@@ -1,0 +1,9 @@
+pub mod Hands
+pub mod Counting
+pub mod Idling
+pub mod Benches
+pub mod Links
+pub mod Seats
+pub mod Ends
+pub mod Pools
+pub mod Accounts
