@@ -1,19 +1,19 @@
 -- What the words ask for, by what clap answers.
-use Rattle.std.proofs.Common.{◌≡◌, ◌⊎◌, inl, inr, Bool, true, false, List, [], ◌∷◌, length, refl, sym, ◌∙◌, ap, subst, if◌then◌else◌}
-use Rattle.std.specs.Prelude.{Option, Some, None, Result, MatchResult, option_map}
-use Rattle.std.specs.Option.{ok_or}
-use lib.Dec.{eqb-suc-zero}
+use Rattle.std.proofs.Common.{◌≡◌, ◌⊎◌, inl, inr, true, List, [], ◌∷◌, refl, sym, ◌∙◌, ap, subst}
+use Rattle.std.specs.Prelude.{Option, Some, None, Result, Ok, Err, MatchResult, ◌≢◌}
 use Rattle.clap.proofs.OnLiterals.{clap_on_literals}
-use Rattle.clap.specs.Walk.{is_empty}
-use Rattle.clap.specs.Words.{App, Text, Kinds, HasKind, IsAmong, fault_of, is_simple, is_simple_and_free, subcommand_of, kind_of}
+use Rattle.clap.specs.Words.{App, Row, Text, Kinds, HasKind, IsAmong, fault_of, is_simple, is_simple_and_free, subcommand_of, kind_of}
 use Rattle.clap.specs.declared.error.Error.{Error}
 use Rattle.clap.specs.declared.error.kind.ErrorKind.{ErrorKind}
 use Rattle.clap.specs.declared.error.kind.ErrorKind.TheVariants.{OutOfMemory}
-use Rattle.pv_cli.specs.Grammar.{paver_app}
-use Rattle.pv_cli.specs.Asking.{Asked, asked, asked_in, seen_of}
-use Rattle.pv_cli.specs.declared.words.Words.{Words}
+use Rattle.pv_cli.specs.Commands.{paver_app}
+use Rattle.pv_cli.specs.Requests.{IsAsked, Asks, HasBadValue, HasBadValueIn, AreRefused}
+use Rattle.pv_cli.specs.Found.{IsNoCommand, RefusesCommand, RefusesFound}
+use Rattle.pv_cli.specs.Ends.{RefusesWords}
+use Rattle.pv_cli.specs.declared.request.Request.{Request}
 use Rattle.pv_cli.specs.declared.refusal.Refusal.{Refusal}
-use Rattle.pv_cli.specs.declared.refusal.Refusal.TheVariants.{Usage, Memory}
+use Rattle.pv_cli.specs.declared.refusal.Refusal.TheVariants.{Usage, System, Contract, NoFile, ReadFault, Paving, NotStored, NotPrinted, Memory, TreeLimit, Disagree, Differs}
+use Rattle.pv_cli.proofs.Known.{IsACommand, IsKnown, known}
 
 paver_free : is_simple_and_free paver_app ≡ true
 unfolding clap_on_literals paver_app
@@ -30,47 +30,61 @@ is_simple_app a e = ap is_simple e ∙ paver_simple
 pub is_free_app : (a : App) → a ≡ paver_app → is_simple_and_free a ≡ true
 is_free_app a e = ap is_simple_and_free e ∙ paver_free
 
-no_kinds : (kinds : Kinds) → kinds ≡ [] → is_empty kinds ≡ true
-no_kinds kinds e = ap (λ (k : Kinds). is_empty k) e
+no_kind : (k : ErrorKind) (kinds : Kinds) → IsAmong k kinds → kinds ≢ []
+no_kind k [] h e = h
+no_kind k (x ∷ xs) h e = cc
 
-some_kind : (k : ErrorKind) (kinds : Kinds) → IsAmong k kinds → is_empty kinds ≡ false
-some_kind k [] h = absurd h
-some_kind k (x ∷ xs) h = eqb-suc-zero (length xs)
-
-chosen : (t : Bool) (a : Option Asked) → t ≡ true → (if t then a else None) ≡ a
-chosen t a e = ap (λ (b : Bool). if b then a else None) e
-
-left : (t : Bool) (a : Option Asked) → t ≡ false → (if t then a else None) ≡ None
-left t a e = ap (λ (b : Bool). if b then a else None) e
-
--- clap takes the words
-pub asked_of_taken : (a : App) (words : List Text) → a ≡ paver_app → fault_of a words ≡ [] → asked words ≡ asked_in (subcommand_of a words)
-unfolding asked
-asked_of_taken a words e none =
-    chosen (is_empty (fault_of paver_app words)) (asked_in (subcommand_of paver_app words)) (no_kinds (fault_of paver_app words) (ap (λ (b : App). fault_of b words) (sym e) ∙ none))
-    ∙ ap (λ (b : App). asked_in (subcommand_of b words)) (sym e)
-
--- clap refuses the words
-pub asked_of_refused : (a : App) (words : List Text) (k : ErrorKind) → a ≡ paver_app → IsAmong k (fault_of a words) → asked words ≡ None
-unfolding asked
-asked_of_refused a words k e h =
-    left (is_empty (fault_of paver_app words)) (asked_in (subcommand_of paver_app words))
-    (ap (λ (b : App). is_empty (fault_of b words)) (sym e) ∙ some_kind k (fault_of a words) h)
+-- clap takes the words, and they ask for this
+asks_of : (a : App) (words : List Text) (found : Option (Text × List Row)) (q : Request) → a ≡ paver_app → fault_of a words ≡ [] → found ≡ subcommand_of a words
+    → IsAsked found q → Asks words q
+asks_of a words found q e none met asked = (
+  ap (λ (b : App). fault_of b words) (sym e) ∙ none,
+  subst (λ (o : Option (Text × List Row)). IsAsked o q) (met ∙ ap (λ (b : App). subcommand_of b words) e) asked,
+)
 
 -- clap fails, and not for want of memory
-pub asked_of_error : (a : App) (words : List Text) (e : Error) → a ≡ paver_app → HasKind (fault_of a words) e → (kind_of e ≡ OutOfMemory → ⊥) → asked words ≡ None
-asked_of_error a words e is (inl memory) other = absurd (other memory)
-asked_of_error a words e is (inr among) other = asked_of_refused a words (kind_of e) is among
-
-abbrev Refuses : List Text → Refusal → Type 0
-Refuses words r = (r ≡ Memory) ⊎ ((r ≡ Usage) × (asked words ≡ None))
+fails : (a : App) (words : List Text) (e : Error) → a ≡ paver_app → HasKind (fault_of a words) e → (kind_of e ≡ OutOfMemory → ⊥) → AreRefused words
+fails a words e is (inl memory) other = absurd (other memory)
+fails a words e is (inr among) other =
+    inl (no_kind (kind_of e) (fault_of paver_app words) (subst (λ (b : App). IsAmong (kind_of e) (fault_of b words)) is among))
 
 pub error_refuses : (a : App) (words : List Text) (e : Error) (k : ErrorKind) (r : Refusal) → a ≡ paver_app → HasKind (fault_of a words) e → k ≡ kind_of e
-    → (r ≡ Memory) ⊎ ((r ≡ Usage) × (k ≡ OutOfMemory → ⊥)) → Refuses words r
-error_refuses a words e k r is kinds same (inl memory) = inl memory
-error_refuses a words e k r is kinds same (inr usage) = inr (usage.0, asked_of_error a words e is kinds (λ m. usage.1 (same ∙ m)))
+    → (r ≡ Memory) ⊎ ((r ≡ Usage) × (k ≡ OutOfMemory → ⊥)) → RefusesWords words r
+error_refuses a words e k r is kinds same (inl memory) = subst (RefusesWords words) (sym memory) tt
+error_refuses a words e k r is kinds same (inr usage) = subst (RefusesWords words) (sym usage.0) (fails a words e is kinds (λ m. usage.1 (same ∙ m)))
 
-pub answered : (words : List Text) (o : Option Words) (r : Result Words Refusal) → r ≡ ok_or o Usage → asked words ≡ option_map seen_of o
-    → MatchResult r (λ w. asked words ≡ Some (seen_of w)) (Refuses words)
-answered words None r is e = subst (λ (s : Result Words Refusal). MatchResult s (λ w. asked words ≡ Some (seen_of w)) (Refuses words)) (sym is) (inr (refl, e))
-answered words (Some w) r is e = subst (λ (s : Result Words Refusal). MatchResult s (λ w. asked words ≡ Some (seen_of w)) (Refuses words)) (sym is) e
+-- no command but these is met where clap takes the words
+bad_value : (name : Text) (rows : List Row) → IsACommand name → IsNoCommand name ⊎ HasBadValue rows → HasBadValue rows
+bad_value name rows (inl c) (inl none) = absurd (none.0 c)
+bad_value name rows (inr (inl c)) (inl none) = absurd (none.1 c)
+bad_value name rows (inr (inr (inl c))) (inl none) = absurd (none.2 c)
+bad_value name rows (inr (inr (inr (inl c)))) (inl none) = absurd (none.3 c)
+bad_value name rows (inr (inr (inr (inr c)))) (inl none) = absurd (none.4 c)
+bad_value name rows is (inr bad) = bad
+
+refuses_command : (words : List Text) (p : Text × List Row) (r : Refusal) → subcommand_of paver_app words ≡ Some p → IsACommand p.0 → RefusesCommand p.0 p.1 r → RefusesWords words r
+refuses_command words p Usage e is h = inr (subst HasBadValueIn (sym e) (bad_value p.0 p.1 is h))
+refuses_command words p Memory e is h = tt
+refuses_command words p (System line column byte cause) e is h = h
+refuses_command words p (Contract byte) e is h = h
+refuses_command words p (NoFile n) e is h = h
+refuses_command words p (ReadFault n) e is h = h
+refuses_command words p (Paving n fault) e is h = h
+refuses_command words p (NotStored n) e is h = h
+refuses_command words p NotPrinted e is h = h
+refuses_command words p (TreeLimit n) e is h = h
+refuses_command words p (Disagree path a b) e is h = h
+refuses_command words p (Differs path a b) e is h = h
+
+refuses_found : (words : List Text) (found : Option (Text × List Row)) (r : Refusal) → found ≡ subcommand_of paver_app words → IsKnown found → RefusesFound found r → RefusesWords words r
+refuses_found words None r e is h = absurd is
+refuses_found words (Some p) r e is h = refuses_command words p r (sym e) is h
+
+-- what clap found is what the words ask for, or why they are refused
+pub found_is : (a : App) (words : List Text) (found : Option (Text × List Row)) (r : Result Request Refusal) → a ≡ paver_app → fault_of a words ≡ [] → found ≡ subcommand_of a words
+    → MatchResult r (IsAsked found) (RefusesFound found) → MatchResult r (Asks words) (RefusesWords words)
+found_is a words found (Ok q) e none met h = asks_of a words found q e none met h
+found_is a words found (Err r) e none met h =
+    let here : found ≡ subcommand_of paver_app words = met ∙ ap (λ (b : App). subcommand_of b words) e in
+    let taken : fault_of paver_app words ≡ [] = ap (λ (b : App). fault_of b words) (sym e) ∙ none in
+    refuses_found words found r here (subst IsKnown (sym here) (known words taken)) h

@@ -1,6 +1,6 @@
 -- A budget is enough exactly where the full tree needs no more of it.
-use Rattle.std.proofs.Common.{◌≡◌, inl, inr, ℕ, suc, ◌+◌, ◌-◌, ◌<◌, ◌≤◌, Bool, false, List, [], ◌∷◌, length, refl, sym, ◌∙◌, ap, subst, arith}
-use Rattle.std.specs.Prelude.{Some, None, IsTrue, ◌↔◌}
+use Rattle.std.proofs.Common.{◌≡◌, inl, inr, ℕ, suc, ◌+◌, ◌-◌, ◌<◌, ◌≤◌, Bool, List, [], ◌∷◌, length, refl, sym, ap, subst, arith}
+use Rattle.std.specs.Prelude.{Option, Some, None, ◌≢◌, ◌↔◌}
 use Rattle.pv_interval.specs.Bounds.{Bounds}
 use Rattle.pv_interval.specs.Points.{Point}
 use Rattle.pv_box.specs.Boxes.{IsBox, lower_half, upper_half}
@@ -10,7 +10,9 @@ use Rattle.pv_tree.specs.Stages.{Rule, full_of, Grows, IsStage}
 use Rattle.pv_tree.specs.Laws.{IsLawful}
 use Rattle.pv_tree.proofs.StageLaws.{IsCut, top_removed, top_inner, top_small, top_cut, grows_low, grows_high, grows_leaf, grows_self, grows_cut, step_stage, whole_stage}
 use Rattle.pv_tree.proofs.TreeFacts.{settled_more}
-use Rattle.pv_cli.specs.Runs.{settled_in, IsSpent, FullFits}
+use Rattle.pv_tree.proofs.Searches.{some_is}
+use Rattle.pv_cli.specs.Pavings.{settled_in, FullFits}
+use Rattle.pv_cli.specs.Turns.{IsSpent}
 
 same_or_more : (s t : Tree) → s ≡ t → settled_in s ≤ settled_in t
 same_or_more s t e = let n : settled_in s ≡ settled_in t = ap settled_in e in omega arith
@@ -55,9 +57,18 @@ none_some p e = cc
 cons_nil : (q : List Bool) (ps : List (List Bool)) → q ∷ ps ≡ [] → ⊥
 cons_nil q ps e = cc
 
-pub some_first : (ps : List (List Bool)) (p : List Bool) → first ps ≡ Some p → ps ≡ [] → ⊥
+some_first : (ps : List (List Bool)) (p : List Bool) → first ps ≡ Some p → ps ≡ [] → ⊥
 some_first [] p e none = let bad : None ≡ Some p = e in absurd (none_some p bad)
 some_first (q ∷ ps) p e none = absurd (cons_nil q ps none)
+
+at_most : (budget : ℕ) (opening t : Tree) → IsSpent budget opening t → settled_in t ≤ settled_in opening + budget
+at_most budget opening t (inl spent) = omega arith
+at_most budget opening t (inr done) = done.1
+
+-- where a leaf is open, the whole budget was spent
+pub spent_of : (budget : ℕ) (opening t : Tree) → IsSpent budget opening t → opens t ≢ [] → settled_in t ≡ settled_in opening + budget
+spent_of budget opening t (inl spent) open_left = spent
+spent_of budget opening t (inr done) open_left = absurd (open_left done.0)
 
 module _ (rule : Rule) (depth dims : ℕ) (inside : Point → Type 0) (laws : IsLawful rule depth dims inside) where
   -- where a leaf is open the full tree has more settled nodes
@@ -82,10 +93,21 @@ module _ (rule : Rule) (depth dims : ℕ) (inside : Point → Type 0) (laws : Is
       let more : settled_in t < settled_in (full_of rule depth b opening 0) = more_in_full b opening t p h e paves stage open_leaf in
       absurd (omega arith)
 
-pub not_true : IsTrue false → ⊥
-not_true e = cc
+  none_open : (t : Tree) (o : Option (List Bool)) → o ≡ first (opens t) → (b : List Bounds) (opening : Tree) (budget : ℕ) → IsBox b → length b ≡ dims → Paves b opening
+      → IsStage rule depth b opening t → settled_in t ≡ settled_in opening + budget → FullFits rule depth b opening budget → opens t ≡ []
+  none_open t None e b opening budget h places paves stage spent fits = no_first (opens t) (sym e)
+  none_open t (Some p) e b opening budget h places paves stage spent fits =
+      absurd (full_exceeds b opening t p budget h places paves stage (some_is t (Some p) e) spent fits)
 
--- what was spent where a leaf of an open box is left open
-pub spent_told : (w : Bool) (t o : Tree) (budget : ℕ) → o ≡ leaf → IsTrue w ↔ (opens t ≡ []) → IsSpent budget o t → w ≡ false → settled_in t ≡ budget
-spent_told w t o budget e f (inl done) not_whole = absurd (not_true (sym not_whole ∙ f.1 done.0))
-spent_told w t o budget e f (inr left) not_whole = let n : settled_in o ≡ 0 = ap settled_in e in omega (arith, left.1)
+  all_done : (b : List Bounds) (opening t : Tree) (budget : ℕ) → IsBox b → length b ≡ dims → Paves b opening → IsStage rule depth b opening t
+      → IsSpent budget opening t → FullFits rule depth b opening budget → opens t ≡ []
+  all_done b opening t budget h places paves stage (inl spent) fits = none_open t (first (opens t)) refl b opening budget h places paves stage spent fits
+  all_done b opening t budget h places paves stage (inr done) fits = done.0
+
+  -- no leaf is left open exactly where the budget is enough
+  pub fits_of : (b : List Bounds) (opening t : Tree) (budget : ℕ) → IsBox b → length b ≡ dims → Paves b opening → IsStage rule depth b opening t → IsSpent budget opening t
+      → (opens t ≡ []) ↔ FullFits rule depth b opening budget
+  fits_of b opening t budget h places paves stage spent = (
+    λ none. full_fits b opening t budget stage none (at_most budget opening t spent),
+    λ fits. all_done b opening t budget h places paves stage spent fits,
+  )

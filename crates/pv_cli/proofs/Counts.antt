@@ -7,7 +7,7 @@ use Rattle.std.proofs.lemmas.Bool.Decides.{eqb_tells}
 use Rattle.std.proofs.lemmas.Int.Digits.{digits_value-lt}
 use Rattle.std.proofs.lemmas.Result.{OkIff-at_ok, OkIff-at_err}
 use Rattle.std.proofs.Math.Nat.{pow-le-pow_right}
-use Rattle.pv_cli.specs.Choices.{IsDigits}
+use Rattle.pv_cli.specs.Requests.{IsDigits}
 
 no_plus : (t : List ℕ) → (slice_index t 0 == 43) ≡ false → without_leading_plus t ≡ t
 no_plus t e = ap (λ (b : Bool). drop (cond b 1 0) t) e

@@ -1,7 +1,26 @@
-ghost use Rattle.std.specs.Prelude.{◌≡◌, true, false, IfOk};
-ghost use Rattle.clap.specs.Words.{app_of};
+//! The commands as clap is told of them.
+ghost use Rattle.std.specs.Prelude.{◌≡◌, codes, true, false, IfOk};
+ghost use Rattle.clap.specs.Words.{app_of, with_rule};
 ghost use Rattle.clap.specs.declared.builder.command.Command.TheViews.{out-Command};
-ghost use Rattle.pv_cli.specs.Grammar.{bare_app, top_app, system_app, with_option, with_options, paver_app};
+ghost use Rattle.pv_cli.specs.Commands.{
+  word_rule,
+  words_rule,
+  bare_app,
+  top_app,
+  system_app,
+  paving_app,
+  pavings_app,
+  with_option,
+  with_settings,
+  with_effort,
+  with_out,
+  check_app,
+  run_app,
+  resume_app,
+  merge_app,
+  audit_app,
+  paver_app,
+};
 
 use clap::{Arg, ArgAction, Command};
 use std::alloc::{AllocError, Global};
@@ -10,9 +29,12 @@ use std::alloc::{AllocError, Global};
 pub(crate) fn paver<'a>(alloc: Global) -> Result<Command<'a>, AllocError>
     ensures { IfOk result (λ c. app_of c ≡ paver_app) }
 {
-    let check = plain(alloc, "check")?;
-    let run = with_options(plain(alloc, "run")?, alloc)?;
-    top(alloc).subcommand(check)?.subcommand(run)
+    top(alloc)
+        .subcommand(system(alloc, "check")?)?
+        .subcommand(run(alloc)?)?
+        .subcommand(resume(alloc)?)?
+        .subcommand(merge(alloc)?)?
+        .subcommand(audit(alloc)?)
 }
 
 // The program, without its commands.
@@ -22,6 +44,37 @@ fn top<'a>(alloc: Global) -> Command<'a>
     bare(alloc, "paver")
         .disable_help_subcommand(true)
         .subcommand_required(true)
+}
+
+fn run<'a>(alloc: Global) -> Result<Command<'a>, AllocError>
+    ensures app { IfOk result (λ c. app_of c ≡ run_app) }
+    ensures local { IfOk result (λ c. (out-Command c).has_globals ≡ false) }
+{
+    let command = with_settings(system(alloc, "run")?, alloc)?;
+    with_option(with_effort(command, alloc)?, alloc, "out")
+}
+
+fn resume<'a>(alloc: Global) -> Result<Command<'a>, AllocError>
+    ensures app { IfOk result (λ c. app_of c ≡ resume_app) }
+    ensures local { IfOk result (λ c. (out-Command c).has_globals ≡ false) }
+{
+    let command = with_settings(pavings(alloc, "resume")?, alloc)?;
+    with_option(with_effort(command, alloc)?, alloc, "out")
+}
+
+fn merge<'a>(alloc: Global) -> Result<Command<'a>, AllocError>
+    ensures app { IfOk result (λ c. app_of c ≡ merge_app) }
+    ensures local { IfOk result (λ c. (out-Command c).has_globals ≡ false) }
+{
+    let command = with_settings(pavings(alloc, "merge")?, alloc)?;
+    with_option(command, alloc, "out")
+}
+
+fn audit<'a>(alloc: Global) -> Result<Command<'a>, AllocError>
+    ensures app { IfOk result (λ c. app_of c ≡ audit_app) }
+    ensures local { IfOk result (λ c. (out-Command c).has_globals ≡ false) }
+{
+    with_settings(paving(alloc, "audit")?, alloc)
 }
 
 // A command that has nothing.
@@ -35,27 +88,78 @@ fn bare<'a>(alloc: Global, name: &'a str) -> Command<'a>
 }
 
 // A command with the name of a system.
-fn plain<'a>(alloc: Global, name: &'a str) -> Result<Command<'a>, AllocError>
+fn system<'a>(alloc: Global, name: &'a str) -> Result<Command<'a>, AllocError>
     ensures app { IfOk result (λ c. app_of c ≡ system_app name.entry.now) }
     ensures local { IfOk result (λ c. (out-Command c).has_globals ≡ false) }
 {
-    let system = Arg::new(alloc, "SYSTEM")
-        .required(true)
-        .action(ArgAction::Set);
-    bare(alloc, name).arg(system)
+    with_word(bare(alloc, name), alloc, "SYSTEM")
 }
 
-fn with_options<'a>(command: Command<'a>, alloc: Global) -> Result<Command<'a>, AllocError>
+// A command with the names of a system and of a paving file.
+fn paving<'a>(alloc: Global, name: &'a str) -> Result<Command<'a>, AllocError>
+    ensures app { IfOk result (λ c. app_of c ≡ paving_app name.entry.now) }
+    ensures local { IfOk result (λ c. (out-Command c).has_globals ≡ false) }
+{
+    with_word(system(alloc, name)?, alloc, "PAVING")
+}
+
+// A command with the names of a system and of one to eight paving files.
+fn pavings<'a>(alloc: Global, name: &'a str) -> Result<Command<'a>, AllocError>
+    ensures app { IfOk result (λ c. app_of c ≡ pavings_app name.entry.now) }
+    ensures local { IfOk result (λ c. (out-Command c).has_globals ≡ false) }
+{
+    with_words(system(alloc, name)?, alloc, "PAVING")
+}
+
+fn with_settings<'a>(command: Command<'a>, alloc: Global) -> Result<Command<'a>, AllocError>
     requires { (out-Command command).has_globals ≡ false }
-    ensures app { IfOk result (λ c. app_of c ≡ with_options (app_of command.entry)) }
+    ensures app { IfOk result (λ c. app_of c ≡ with_settings (app_of command.entry)) }
     ensures local { IfOk result (λ c. (out-Command c).has_globals ≡ false) }
 {
     let command = with_option(command, alloc, "eps")?;
     let command = with_option(command, alloc, "depth")?;
     let command = with_option(command, alloc, "bisect")?;
-    let command = with_option(command, alloc, "contract")?;
+    with_option(command, alloc, "contract")
+}
+
+fn with_effort<'a>(command: Command<'a>, alloc: Global) -> Result<Command<'a>, AllocError>
+    requires { (out-Command command).has_globals ≡ false }
+    ensures app { IfOk result (λ c. app_of c ≡ with_effort (app_of command.entry)) }
+    ensures local { IfOk result (λ c. (out-Command c).has_globals ≡ false) }
+{
     let command = with_option(command, alloc, "workers")?;
     with_option(command, alloc, "boxes")
+}
+
+// The command with a word that has to be there.
+fn with_word<'a>(
+    command: Command<'a>,
+    alloc: Global,
+    name: &'a str,
+) -> Result<Command<'a>, AllocError>
+    requires { (out-Command command).has_globals ≡ false }
+    ensures app { IfOk result (λ c. app_of c ≡ with_rule (app_of command.entry) (word_rule name.entry.now)) }
+    ensures local { IfOk result (λ c. (out-Command c).has_globals ≡ false) }
+{
+    let word = Arg::new(alloc, name).required(true).action(ArgAction::Set);
+    command.arg(word)
+}
+
+// The command with one to eight words.
+fn with_words<'a>(
+    command: Command<'a>,
+    alloc: Global,
+    name: &'a str,
+) -> Result<Command<'a>, AllocError>
+    requires { (out-Command command).has_globals ≡ false }
+    ensures app { IfOk result (λ c. app_of c ≡ with_rule (app_of command.entry) (words_rule name.entry.now)) }
+    ensures local { IfOk result (λ c. (out-Command c).has_globals ≡ false) }
+{
+    let words = Arg::new(alloc, name)
+        .required(true)
+        .num_args(1..=8)
+        .action(ArgAction::Append);
+    command.arg(words)
 }
 
 // The command with an option that takes a value.

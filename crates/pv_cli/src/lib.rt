@@ -1,25 +1,34 @@
 //! The command line of the paver: words in, a status out.
 #![tactic(auto)]
 
+mod audit;
+mod check;
 mod command_line;
 mod decimal;
-mod fetched;
+mod deliver;
 mod gate;
-pub mod laws;
+mod growing;
+mod honest;
 mod main_call;
-mod node_text;
-mod options;
+mod merge;
+mod opening;
 mod paving;
-mod printing;
+mod pavings;
+mod product;
+mod reading;
 mod refusal;
-mod report;
+mod request;
+mod resume;
+mod run;
 mod status;
+mod summary;
+mod system;
 mod telling;
 mod values;
-mod words;
-mod work;
 
 pub use gate::{Gate, NoGate};
 pub use main_call::paver_main;
-pub use refusal::Refusal;
+pub use paving::pave;
+pub use refusal::{FileFault, Refusal};
 pub use status::Status;
+pub use telling::{Unread, tell_unread};

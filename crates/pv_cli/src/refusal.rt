@@ -1,14 +1,18 @@
-ghost use Rattle.std.specs.Prelude.{◌≡◌, [], ◌++◌, IfOk, OnOk, decimal};
-ghost use Rattle.pv_cli.specs.Refusals.{status_of, words_of, line_of};
+//! What ends a command early.
+ghost use Rattle.std.specs.Prelude.{◌≡◌, ◌++◌, codes, IfOk, OnOk, decimal};
+ghost use Rattle.pv_tree.specs.PathText.{path_text};
+ghost use Rattle.pv_cli.specs.Refusals.{status_of, words_of, line_of, fault_words};
 
 use crate::Status;
 use crate::decimal::push_decimal;
+use pv_num::Memory;
 use pv_parse::Cause;
+use pv_tree::Path;
 use std::alloc::{AllocError, AllocFailed, Global};
 
-/// What ends a command before its work is printed.
-#[derive(Clone, Copy, Debug, PartialEq, Eq)]
-pub enum Refusal {
+/// What ends a command before all its work is done and printed.
+#[derive(Drop)]
+pub enum Refusal<'a> {
     /// The words are no command, or a value in them is refused.
     Usage,
     /// The text of the system has a fault. Lines and columns are counted from 1, bytes from 0.
@@ -22,17 +26,59 @@ pub enum Refusal {
     Contract {
         byte: u32,
     },
-    /// The file of the system could not be read.
-    ReadFault,
+    /// There is no file of this name.
+    NoFile {
+        name: &'a str,
+    },
+    /// The file of this name is no paving file of the system by the settings.
+    Paving {
+        name: &'a str,
+        fault: FileFault,
+    },
+    /// The file of this name could not be read.
+    ReadFault {
+        name: &'a str,
+    },
+    /// The file of this name could not be written.
+    NotStored {
+        name: &'a str,
+    },
     /// The standard output could not be written.
-    WriteFault,
+    NotPrinted,
     /// There was no memory.
     Memory,
-    /// There is no file of the system's name.
-    NoFile,
+    /// The tree of the files has so many settled nodes, and with the budget too many.
+    TreeLimit {
+        settled: u64,
+    },
+    /// A file has another outcome at a path than the join of those before it. Both outcomes are lines of files.
+    Disagree {
+        path: Path,
+        joined: Vec<u8>,
+        file: Vec<u8>,
+    },
+    /// A file has another outcome at a path than its system gives. Both outcomes are lines of files.
+    Differs {
+        path: Path,
+        file: Vec<u8>,
+        due: Vec<u8>,
+    },
 }
 
-impl From<AllocError> for Refusal {
+/// Why a file is no paving file of a system by settings. Lines are counted from 1.
+#[derive(Clone, Copy, Debug, PartialEq, Eq)]
+pub enum FileFault {
+    /// It is longer than 70,000,000 bytes.
+    TooLong,
+    /// It was made for another system or by other settings.
+    WrongIdentity,
+    /// This line is the first that no such file has.
+    BadLine { line: u64 },
+    /// This line is that of the 100,001st settled node.
+    TooManyNodes { line: u64 },
+}
+
+impl<'a> From<AllocError> for Refusal<'a> {
     ghost use Rattle.pv_cli.specs.declared.refusal.Refusal.TheVariants.{Memory};
 
     ghost from_gives = { λ _ e. e ≡ Memory };
@@ -42,7 +88,7 @@ impl From<AllocError> for Refusal {
     }
 }
 
-impl<T: Drop> From<AllocFailed<T>> for Refusal {
+impl<'a, T: Drop> From<AllocFailed<T>> for Refusal<'a> {
     ghost use Rattle.pv_cli.specs.declared.refusal.Refusal.TheVariants.{Memory};
 
     ghost from_gives = { λ _ e. e ≡ Memory };
@@ -52,58 +98,137 @@ impl<T: Drop> From<AllocFailed<T>> for Refusal {
     }
 }
 
-impl Refusal {
+impl<'a> From<Memory> for Refusal<'a> {
+    ghost use Rattle.pv_cli.specs.declared.refusal.Refusal.TheVariants.{Memory};
+
+    ghost from_gives = { λ _ e. e ≡ Memory };
+
+    fn from(_: Memory) -> Self {
+        Refusal::Memory
+    }
+}
+
+impl<'a> Refusal<'a> {
     /// The status with which the command ends.
-    pub fn status(self) -> Status
-        ensures { result ≡ status_of self }
+    pub fn status(&self) -> Status
+        ensures { result ≡ status_of self.now }
     {
         match self {
             Refusal::Usage | Refusal::Contract { .. } => Status::Usage,
             Refusal::System { .. } => Status::SystemRefused,
-            Refusal::ReadFault => Status::ReadFault,
-            Refusal::WriteFault => Status::WriteFault,
+            Refusal::NoFile { .. } => Status::NoFile,
+            Refusal::ReadFault { .. } => Status::ReadFault,
+            Refusal::NotStored { .. } | Refusal::NotPrinted => Status::WriteFault,
+            Refusal::Paving { .. } => Status::PavingRefused,
             Refusal::Memory => Status::WantOfMemory,
-            Refusal::NoFile => Status::NoFile,
+            Refusal::TreeLimit { .. } => Status::TreeLimit,
+            Refusal::Disagree { .. } | Refusal::Differs { .. } => Status::Disagree,
         }
     }
 
-    /// The line for the standard error, where `name` is the name of the system's file.
-    pub fn line(self, alloc: Global, name: &str) -> Result<Vec<u8>, AllocError>
-        ensures { IfOk result (λ line. line.items ≡ line_of self name.now) }
+    /// The line for the standard error.
+    pub fn line(&self, alloc: Global) -> Result<Vec<u8>, Memory>
+        ensures { IfOk result (λ line. line.items ≡ line_of self.now) }
     {
-        let mut line = self.words(alloc, name)?;
+        let mut line = self.words(alloc)?;
         line.push(b'\n')?;
         Ok(line)
     }
 
-    fn words(self, alloc: Global, name: &str) -> Result<Vec<u8>, AllocError>
-        ensures { IfOk result (λ line. line.items ≡ words_of self name.now) }
+    fn words(&self, alloc: Global) -> Result<Vec<u8>, Memory>
+        ensures { IfOk result (λ line. line.items ≡ words_of self.now) }
     {
         match self {
-            Refusal::Usage => Vec::from_slice(
+            Refusal::Usage => joined(
                 alloc,
                 b"usage: paver COMMAND SYSTEM [OPTIONS] [PAVING..]",
+                "",
             ),
             Refusal::System {
                 line,
                 column,
                 byte,
                 cause,
-            } => fault_words(alloc, line, column, byte, cause),
+            } => system_words(alloc, *line, *column, *byte, *cause),
             Refusal::Contract { byte } => {
                 let mut words = Vec::from_slice(alloc, b"contract: refused at byte ")?;
-                push_decimal(&mut words, u64::from(byte))?;
+                push_decimal(&mut words, u64::from(*byte))?;
                 Ok(words)
             }
-            Refusal::ReadFault => joined(alloc, b"read fault: ", name),
-            Refusal::WriteFault => Vec::from_slice(alloc, b"write fault: standard output"),
-            Refusal::Memory => Vec::from_slice(alloc, b"want of memory"),
-            Refusal::NoFile => joined(alloc, b"no file: ", name),
+            Refusal::NoFile { name } => joined(alloc, b"no file: ", name),
+            Refusal::ReadFault { name } => joined(alloc, b"read fault: ", name),
+            Refusal::NotStored { name } => joined(alloc, b"write fault: ", name),
+            Refusal::NotPrinted => joined(alloc, b"write fault: standard output", ""),
+            Refusal::Paving { name, fault } => fault.words(alloc, name),
+            Refusal::Memory => joined(alloc, b"want of memory", ""),
+            Refusal::TreeLimit { settled } => {
+                let mut words = Vec::from_slice(alloc, b"tree limit: ")?;
+                push_decimal(&mut words, *settled)?;
+                words.extend_from_slice(b" settled")?;
+                Ok(words)
+            }
+            Refusal::Disagree { path, joined, file } => {
+                apart(alloc, b"disagree ", *path, joined, file)
+            }
+            Refusal::Differs { path, file, due } => apart(alloc, b"differs ", *path, file, due),
         }
     }
 }
 
-fn joined(alloc: Global, front: &[u8], name: &str) -> Result<Vec<u8>, AllocError>
+impl FileFault {
+    fn words(self, alloc: Global, name: &str) -> Result<Vec<u8>, Memory>
+        ensures { IfOk result (λ words. words.items ≡ codes "paving " ++ (name.now ++ (codes ": " ++ fault_words self))) }
+    {
+        let mut words = Vec::from_slice(alloc, b"paving ")?;
+        words.extend_from_slice(name.as_bytes())?;
+        words.extend_from_slice(b": ")?;
+        self.push_words(&mut words)?;
+        Ok(words)
+    }
+
+    fn push_words(self, words: &mut Vec<u8>) -> Result<(), Memory>
+        ensures { OnOk result (words.new.items ≡ words.old.items ++ fault_words self) }
+    {
+        match self {
+            FileFault::TooLong => words.extend_from_slice(b"too long")?,
+            FileFault::WrongIdentity => words.extend_from_slice(b"wrong identity")?,
+            FileFault::BadLine { line } => push_numbered(words, b"bad line ", line)?,
+            FileFault::TooManyNodes { line } => {
+                push_numbered(words, b"too many nodes at line ", line)?;
+            }
+        }
+        Ok(())
+    }
+}
+
+fn push_numbered(words: &mut Vec<u8>, front: &[u8], n: u64) -> Result<(), Memory>
+    ensures { OnOk result (words.new.items ≡ words.old.items ++ (front.now ++ decimal n)) }
+{
+    words.extend_from_slice(front)?;
+    push_decimal(words, n)?;
+    Ok(())
+}
+
+// Two outcomes at a path.
+fn apart(
+    alloc: Global,
+    front: &[u8],
+    path: Path,
+    one: &[u8],
+    other: &[u8],
+) -> Result<Vec<u8>, Memory>
+    ensures { IfOk result (λ words. words.items ≡ front.now ++ (path_text path ++ (codes ": " ++ (one.now ++ (codes " | " ++ other.now))))) }
+{
+    let mut words = Vec::from_slice(alloc, front)?;
+    path.write_text(&mut words)?;
+    words.extend_from_slice(b": ")?;
+    words.extend_from_slice(one)?;
+    words.extend_from_slice(b" | ")?;
+    words.extend_from_slice(other)?;
+    Ok(words)
+}
+
+fn joined(alloc: Global, front: &[u8], name: &str) -> Result<Vec<u8>, Memory>
     ensures { IfOk result (λ words. words.items ≡ front.now ++ name.now) }
 {
     let mut words = Vec::from_slice(alloc, front)?;
@@ -111,14 +236,14 @@ fn joined(alloc: Global, front: &[u8], name: &str) -> Result<Vec<u8>, AllocError
     Ok(words)
 }
 
-fn fault_words(
+fn system_words(
     alloc: Global,
     line: u32,
     column: u32,
     byte: u32,
     cause: Cause,
-) -> Result<Vec<u8>, AllocError>
-    ensures { IfOk result (λ words. words.items ≡ words_of (Refusal.System line column byte cause) []) }
+) -> Result<Vec<u8>, Memory>
+    ensures { IfOk result (λ words. words.items ≡ words_of (Refusal.System line column byte cause)) }
 {
     let mut words = Vec::from_slice(alloc, b"system: line ")?;
     push_decimal(&mut words, u64::from(line))?;

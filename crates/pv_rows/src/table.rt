@@ -262,7 +262,7 @@ pub(crate) const REFUSED: [Row; 25] = [
         err: "usage: paver COMMAND SYSTEM [OPTIONS] [PAVING..]\n",
     },
     Row {
-        words: "resume s a",
+        words: "pave s",
         system: "Variables x in [0,4]; Constraints x <= 1; end\n",
         status: 2,
         out: "",
@@ -353,7 +353,7 @@ pub(crate) const REFUSED: [Row; 25] = [
         err: "usage: paver COMMAND SYSTEM [OPTIONS] [PAVING..]\n",
     },
     Row {
-        words: "run s --out p",
+        words: "run s --out",
         system: "Variables x in [0,4]; Constraints x <= 1; end\n",
         status: 2,
         out: "",

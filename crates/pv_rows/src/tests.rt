@@ -28,11 +28,17 @@ const NONE: Fails = Fails {
     err: &[],
 };
 
-fn call(alloc: Global, words: &str, system: &str, fails: Fails) -> Result<Answer, Fail> {
+/// The words of a command line, behind the program's name.
+pub(crate) fn words_of(alloc: Global, words: &str) -> Result<Vec<String>, Fail> {
     let mut list = vec![in alloc; String::from_str(alloc, "paver")?]?;
     for word in words.split(' ').filter(|w| !w.is_empty()) {
         list.push(String::from_str(alloc, word)?)?;
     }
+    Ok(list)
+}
+
+fn call(alloc: Global, words: &str, system: &str, fails: Fails) -> Result<Answer, Fail> {
+    let list = words_of(alloc, words)?;
     let mut files = BTreeMap::new(alloc);
     files.insert(
         String::from_str(alloc, "s")?,

@@ -1,6 +1,6 @@
 use Rattle.std.proofs.Common.{◌∙◌, ap}
 use Rattle.pv_tree.proofs.TreeFacts.{settled_more}
-use Rattle.pv_cli.specs.Runs.{settled_in}
+use Rattle.pv_cli.specs.Pavings.{settled_in}
 use Rattle.pv_cli.proofs.paving.settle_first.Goals as goal
 
 pub returns-in_ok-settle_leaf-in-Some-clause-count :

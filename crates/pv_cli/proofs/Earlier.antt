@@ -1,0 +1,136 @@
+-- What was read of a folder that was only read before.
+use Rattle.std.proofs.Common.{◌≡◌, ◌⊎◌, inl, inr, ℕ, ◌≤◌, ◌<◌, List, [], ◌∷◌, refl, sym, ◌∙◌, subst, arith}
+use Rattle.pv_settle.specs.Rules.{SettlerParts}
+use Rattle.pv_interval.specs.Bounds.{Bounds}
+use Rattle.pv_tree.specs.Trees.{Tree, Seen}
+use Rattle.pv_io.specs.Outside.{Content, Rose, IsWhole, IsTooLong, MayBeAbsent}
+use Rattle.pv_cli.specs.Requests.{names_in}
+use Rattle.pv_cli.specs.Systems.{Files, AreOnlyRead, RefusesFetch, search_box}
+use Rattle.pv_cli.specs.Files.{HasPaving, HoldsOther, HoldsLong, HasFileFault, RefusesPaving, HavePavings, RefusesPavings}
+use Rattle.std.specs.Borrow.{Bor}
+use Rattle.pv_settle.specs.Spelling.{identity_of}
+use Rattle.pv_file.specs.Readings.{IsFirstBadLine, IsOneTooMany}
+use Rattle.pv_cli.specs.Reads.{AreRead, AreOver, IsKeyOf, trees_of}
+use Rattle.pv_cli.specs.declared.pavings.Key.{Key}
+use Rattle.pv_cli.specs.declared.refusal.FileFault.{FileFault}
+use Rattle.pv_cli.specs.declared.refusal.FileFault.TheVariants.{TooLong, WrongIdentity, BadLine, TooManyNodes}
+use Rattle.pv_cli.specs.declared.refusal.Refusal.{Refusal}
+use Rattle.pv_cli.specs.declared.refusal.Refusal.TheVariants.{Usage, System, Contract, NoFile, ReadFault, Paving, NotStored, NotPrinted, Memory, TreeLimit, Disagree, Differs}
+
+pub only_read_on : (a b c : Files) → AreOnlyRead a b → AreOnlyRead b c → AreOnlyRead a c
+only_read_on a b c h k = record {
+  content = λ name. k.content name ∙ h.content name;
+  fetch_faults = let one = h.fetch_faults in let two = k.fetch_faults in omega arith;
+  store_faults = k.store_faults ∙ h.store_faults;
+}
+
+pub rose_from : (a b c : ℕ) → a ≤ b → Rose b c → Rose a c
+rose_from a b c h (inl more) = inl (omega arith)
+rose_from a b c h (inr end) = inr end
+
+module _ (a b : Files) (read : AreOnlyRead a b) where
+  other_before : (name : List ℕ) (says : List ℕ → Type 0) → HoldsOther b name says → HoldsOther a name says
+  other_before name says h = record { bytes = h.bytes; fetched = subst (λ (x : Content). IsWhole x 70000000 h.bytes) (read.content name) h.fetched; other = h.other }
+
+  long_before : (name : List ℕ) → HoldsLong b name → HoldsLong a name
+  long_before name h = record { bytes = h.bytes; long = subst (λ (x : Content). IsTooLong x 70000000 h.bytes) (read.content name) h.long }
+
+  fault_before : (rule : SettlerParts) (name : List ℕ) (f : FileFault) → HasFileFault b rule name f → HasFileFault a rule name f
+  fault_before rule name TooLong h = long_before name h
+  fault_before rule name WrongIdentity h = other_before name _ h
+  fault_before rule name (BadLine n) h = other_before name _ h
+  fault_before rule name (TooManyNodes n) h = other_before name _ h
+
+  fetch_before : (c : Files) (name : List ℕ) (r : Refusal) → RefusesFetch b c name r → RefusesFetch a c name r
+  fetch_before c name (NoFile n) h = (h.0, subst (λ (x : Content). MayBeAbsent x) (read.content name) h.1)
+  fetch_before c name (ReadFault n) h = (h.0, rose_from a.fetch_faults b.fetch_faults c.fetch_faults read.fetch_faults h.1)
+  fetch_before c name Memory h = tt
+  fetch_before c name Usage h = h
+  fetch_before c name (System line column byte cause) h = h
+  fetch_before c name (Contract byte) h = h
+  fetch_before c name (Paving n f) h = h
+  fetch_before c name (NotStored n) h = h
+  fetch_before c name NotPrinted h = h
+  fetch_before c name (TreeLimit n) h = h
+  fetch_before c name (Disagree p x y) h = h
+  fetch_before c name (Differs p x y) h = h
+
+  pub paving_before : (rule : SettlerParts) (name : List ℕ) (t : Tree) → HasPaving b rule name t → HasPaving a rule name t
+  paving_before rule name t h = record {
+    bytes = h.bytes;
+    fetched = subst (λ (x : Content). IsWhole x 70000000 h.bytes) (read.content name) h.fetched;
+    text = h.text;
+    paving = h.paving;
+    few = h.few;
+  }
+
+  pub refused_before : (c : Files) (rule : SettlerParts) (name : List ℕ) (r : Refusal) → RefusesPaving b c rule name r → RefusesPaving a c rule name r
+  refused_before c rule name (Paving n f) h = (h.0, fault_before rule name f h.1)
+  refused_before c rule name (NoFile n) h = fetch_before c name (NoFile n) h
+  refused_before c rule name (ReadFault n) h = fetch_before c name (ReadFault n) h
+  refused_before c rule name Memory h = tt
+  refused_before c rule name Usage h = h
+  refused_before c rule name (System line column byte cause) h = h
+  refused_before c rule name (Contract byte) h = h
+  refused_before c rule name (NotStored n) h = h
+  refused_before c rule name NotPrinted h = h
+  refused_before c rule name (TreeLimit n) h = h
+  refused_before c rule name (Disagree p x y) h = h
+  refused_before c rule name (Differs p x y) h = h
+
+  pub read_before : (rule : SettlerParts) (ns : List (List ℕ)) (ps : List Seen) → AreRead b rule ns ps → AreRead a rule ns ps
+  read_before rule [] [] h = tt
+  read_before rule [] (p ∷ ps) h = absurd h
+  read_before rule (n ∷ ns) [] h = absurd h
+  read_before rule (n ∷ ns) (p ∷ ps) h = (h.0, paving_before rule n p.tree h.1, read_before rule ns ps h.2)
+
+  pub all_refused_before : (c : Files) (rule : SettlerParts) (ns : List (List ℕ)) (r : Refusal) → RefusesPavings b c rule ns r → RefusesPavings a c rule ns r
+  all_refused_before c rule [] r h = h
+  all_refused_before c rule (n ∷ ns) r (inl h) = inl (refused_before c rule n r h)
+  all_refused_before c rule (n ∷ ns) r (inr h) = inr (h.0, paving_before rule n h.0 h.1, all_refused_before c rule ns r h.2)
+
+-- what was read are pavings of the files, and over the search box
+pub held_of : (a : Files) (rule : SettlerParts) (ns : List (List ℕ)) (ps : List Seen) → AreRead a rule ns ps → HavePavings a rule ns (trees_of ps)
+held_of a rule [] [] h = tt
+held_of a rule [] (p ∷ ps) h = absurd h
+held_of a rule (n ∷ ns) [] h = absurd h
+held_of a rule (n ∷ ns) (p ∷ ps) h = (h.1, held_of a rule ns ps h.2)
+
+pub over_of : (a : Files) (rule : SettlerParts) (b : List Bounds) (ns : List (List ℕ)) (ps : List Seen) → b ≡ search_box rule → AreRead a rule ns ps → AreOver b ps
+over_of a rule b [] [] e h = tt
+over_of a rule b [] (p ∷ ps) e h = absurd h
+over_of a rule b (n ∷ ns) [] e h = absurd h
+over_of a rule b (n ∷ ns) (p ∷ ps) e h = (h.0 ∙ sym e, over_of a rule b ns ps e h.2)
+
+-- ---- A file that was read and is refused at a line
+
+bytes_for : (rule : SettlerParts) (key : Key) (P : List ℕ → List ℕ → List Bounds → Type 0) (bytes read : List ℕ) → IsKeyOf rule key → read ≡ bytes → P read key.identity key.root
+    → P bytes (identity_of rule) (search_box rule)
+bytes_for rule key P bytes read is same h =
+    subst (λ (x : List ℕ). P x (identity_of rule) (search_box rule)) same
+    (subst (λ (x : List Bounds). P read (identity_of rule) x) is.root (subst (λ (x : List ℕ). P read x key.root) is.identity h))
+
+pub bad_line : (a b : Files) (rule : SettlerParts) (key : Key) (name : Bor (List ℕ)) (n : ℕ) (bytes read : List ℕ) (r : Refusal) → IsKeyOf rule key → read ≡ bytes
+    → IsWhole (a.content name.now) 70000000 bytes → IsFirstBadLine n read key.identity key.root → r ≡ Paving name (BadLine n) → RefusesPaving a b rule name.now r
+bad_line a b rule key name n bytes read r is same whole h e =
+    subst (RefusesPaving a b rule name.now) (sym e)
+    (refl, record { bytes = bytes; fetched = whole; other = bytes_for rule key (IsFirstBadLine n) bytes read is same h })
+
+pub one_too_many : (a b : Files) (rule : SettlerParts) (key : Key) (name : Bor (List ℕ)) (n : ℕ) (bytes read : List ℕ) (r : Refusal) → IsKeyOf rule key → read ≡ bytes
+    → IsWhole (a.content name.now) 70000000 bytes → IsOneTooMany n read key.identity key.root → r ≡ Paving name (TooManyNodes n) → RefusesPaving a b rule name.now r
+one_too_many a b rule key name n bytes read r is same whole h e =
+    subst (RefusesPaving a b rule name.now) (sym e)
+    (refl, record { bytes = bytes; fetched = whole; other = bytes_for rule key (IsOneTooMany n) bytes read is same h })
+
+-- ---- Several files, the first of which was read
+
+pub first_read : (a b : Files) → AreOnlyRead a b → (rule : SettlerParts) (key : Key) (names rest : List (Bor (List ℕ))) (name : Bor (List ℕ)) (ps qs : List Seen) (p : Seen) → IsKeyOf rule key
+    → names ≡ name ∷ rest → ps ≡ p ∷ qs → p.root ≡ key.root → HasPaving a rule name.now p.tree → AreRead b rule (names_in rest) qs → AreRead a rule (names_in names) ps
+first_read a b read rule key names rest name ps qs p is e f root held h =
+    subst (λ (ns : List (Bor (List ℕ))). AreRead a rule (names_in ns) ps) (sym e)
+    (subst (λ (xs : List Seen). AreRead a rule (name.now ∷ names_in rest) xs) (sym f) (root ∙ is.root, held, read_before a b read rule (names_in rest) qs h))
+
+pub first_held : (a b : Files) → AreOnlyRead a b → (c : Files) (rule : SettlerParts) (names rest : List (Bor (List ℕ))) (name : Bor (List ℕ)) (t : Tree) (r : Refusal)
+    → names ≡ name ∷ rest → HasPaving a rule name.now t → RefusesPavings b c rule (names_in rest) r → RefusesPavings a c rule (names_in names) r
+first_held a b read c rule names rest name t r e held h =
+    subst (λ (ns : List (Bor (List ℕ))). RefusesPavings a c rule (names_in ns) r) (sym e) (inr (t, held, all_refused_before a b read c rule (names_in rest) r h))

@@ -1,0 +1,140 @@
+-- How a command ends, by its steps.
+use Rattle.std.proofs.Common.{◌≡◌, ◌⊎◌, inl, inr, ℕ, ◌==◌, true, false, ◌<◌, ◌≤◌, List, [], ◌∷◌, ◌++◌, length, Option, Some, None, refl, sym, ◌∙◌, ap, subst, arith}
+use Rattle.std.specs.Prelude.{◌≢◌, Result, Ok, Err, IfOk, IfErr, OnOk, IsErrAnd}
+use Rattle.std.proofs.lemmas.Bool.Decides.{eqb_tells}
+use Rattle.clap.specs.Words.{Text}
+use Rattle.pv_expr.specs.Systems.{Parts}
+use Rattle.pv_io.specs.Outside.{Content, Rose, appended, stored, AppendsFront}
+use Rattle.pv_parse.specs.Faults.{IsPlaced, IsRefusal, SaysTooLong}
+use Rattle.pv_parse.specs.declared.refused.ParseRefused.{ParseRefused}
+use Rattle.pv_parse.specs.declared.refused.ParseRefused.TheVariants as parse
+use Rattle.pv_cli.specs.Requests.{Asks, AreRefused, out_of}
+use Rattle.pv_cli.specs.Systems.{Files, AreOnlyRead}
+use Rattle.pv_cli.specs.Products.{Product, text, paved, printed_of, HasStatus, ComesOf, RefusesWork}
+use Rattle.pv_cli.specs.Ends.{Stream, Outside, AreUntouched, AreOthersKept, IsStored, IsKept, IsDelivered, IsCutOff, RefusesDelivery, IsAnswered, RefusesRequest, RefusesWords, IsRefusedSo, in_words, in_request, Tells, IsEnd}
+use Rattle.pv_cli.specs.declared.request.Request.{Request}
+use Rattle.pv_cli.specs.declared.refusal.Refusal.{Refusal}
+use Rattle.pv_cli.specs.declared.refusal.Refusal.TheVariants.{Usage, System, Contract, NoFile, ReadFault, Paving, NotStored, NotPrinted, Memory, TreeLimit, Disagree, Differs}
+use Rattle.pv_cli.specs.declared.status.Status.{Status}
+use Rattle.pv_cli.proofs.Earlier.{only_read_on}
+
+pub same_files : (f : Files) → AreOnlyRead f f
+same_files f = record { content = λ name. refl; fetch_faults = omega arith; store_faults = refl }
+
+-- ---- A delivery that begins where files were only read
+
+module _ (a b c : Files) (read : AreOnlyRead a b) (x y : Stream) where
+  others_on : (name : Text) → AreOthersKept name b c → AreOthersKept name a c
+  others_on name h = record {
+    others = λ other n. h.others other n ∙ read.content other;
+    fetch_faults = let one = read.fetch_faults in let two = h.fetch_faults in omega arith;
+    store_faults = let one = read.store_faults in let two = h.store_faults in omega arith;
+  }
+
+  stored_on : (name : Text) (bytes : List ℕ) → IsStored name bytes b c → IsStored name bytes a c
+  stored_on name bytes h = record {
+    kept = others_on name h.kept;
+    is = h.is ∙ ap (λ (k : Content). stored k bytes) (read.content name);
+  }
+
+  kept_on : (out : Option Text) (p : Product) → IsKept out p b c → IsKept out p a c
+  kept_on None p h = only_read_on a b c read h
+  kept_on (Some name) (text t) h = only_read_on a b c read h
+  kept_on (Some name) (paved identity root t) h = stored_on name _ h
+
+  cut_on : (out : Option Text) (p : Product) → IsCutOff out p b c x y → IsCutOff out p a c x y
+  cut_on out p h = record { files = kept_on out p h.files; out = h.out }
+
+  delivered_on : (out : Option Text) (p : Product) → IsDelivered out p b c x y → IsDelivered out p a c x y
+  delivered_on out p h = record { files = kept_on out p h.files; out = h.out }
+
+  delivery_on : (out : Option Text) (p : Product) (r : Refusal) → RefusesDelivery out p b c x y r → RefusesDelivery out p a c x y r
+  delivery_on out p (NotStored name) h = record {
+    asked = h.asked;
+    files = others_on name.now h.files;
+    out = h.out;
+    rose = subst (λ (n : ℕ). Rose n c.store_faults) read.store_faults h.rose;
+  }
+  delivery_on out p NotPrinted h = (cut_on out p h.0, h.1)
+  delivery_on out p Memory (inl same) = inl (record { files = only_read_on a b c read same.files; out = same.out })
+  delivery_on out p Memory (inr cut) = inr (cut_on out p cut)
+  delivery_on out p Usage h = h
+  delivery_on out p (System line column byte cause) h = h
+  delivery_on out p (Contract byte) h = h
+  delivery_on out p (NoFile n) h = h
+  delivery_on out p (ReadFault n) h = h
+  delivery_on out p (Paving n f) h = h
+  delivery_on out p (TreeLimit n) h = h
+  delivery_on out p (Disagree path u v) h = h
+  delivery_on out p (Differs path u v) h = h
+
+  pub when_delivered : (r : Result Status Refusal) (q : Request) (p : Product) (file : Option Text) → file ≡ out_of q → ComesOf a q p → IfOk r (HasStatus p)
+      → OnOk r (IsDelivered file p b c x y) → IfOk r (IsAnswered q a c x y)
+  when_delivered (Ok s) q p file same comes is delivered = record {
+    product = p;
+    comes = comes;
+    delivered = subst (λ (f : Option Text). IsDelivered f p a c x y) same (delivered_on file p delivered);
+    is = is;
+  }
+  when_delivered (Err e) q p file same comes is delivered = tt
+
+  pub when_undelivered : (r : Result Status Refusal) (q : Request) (p : Product) (file : Option Text) → file ≡ out_of q → ComesOf a q p
+      → IfErr r (RefusesDelivery file p b c x y) → IfErr r (RefusesRequest q a c x y)
+  when_undelivered (Ok s) q p file same comes h = tt
+  when_undelivered (Err e) q p file same comes h = inr (record {
+    product = p;
+    comes = comes;
+    refused = subst (λ (f : Option Text). RefusesDelivery f p a c x y e) same (delivery_on file p e h);
+  })
+
+-- ---- The whole command
+
+-- the words were refused
+pub words_refused : (words : List Text) (before after : Outside) (r : Refusal) (status : Status) → RefusesWords words r
+    → AreUntouched before.files after.files before.out after.out → Tells r status before.err after.err → IsEnd words before after status
+words_refused words before after r status h same told = inr (record { refusal = r; so = in_words h same; told = told })
+
+-- what they ask for was refused
+pub request_refused : (words : List Text) (before after : Outside) (r : Refusal) (status : Status) (q : Request) → Asks words q
+    → RefusesRequest q before.files after.files before.out after.out r → Tells r status before.err after.err → IsEnd words before after status
+request_refused words before after r status q asks h told = inr (record { refusal = r; so = in_request q asks h; told = told })
+
+-- ---- A store
+
+-- an error is passed on
+pub passed : {A : Type 0} (r : Result A Refusal) (e : Refusal) (P : Refusal → Type 0) → IsErrAnd r (λ x. x ≡ e) → P e → IfErr r P
+passed (Ok x) e P h p = absurd h
+passed (Err x) e P h p = subst P (sym h) p
+
+none_more : (x : ℕ) (b : List ℕ) → [] ≡ x ∷ b → ⊥
+none_more x b e = cc
+
+first_same : (x y : ℕ) (a b : List ℕ) → x ∷ a ≡ y ∷ b → x ≡ y
+first_same x y a b e = cc
+
+rest_same : (x y : ℕ) (a b : List ℕ) → x ∷ a ≡ y ∷ b → a ≡ b
+rest_same x y a b e = cc
+
+both_same : (x y : ℕ) (a b : List ℕ) → x ≡ y → a ≡ b → x ∷ a ≡ y ∷ b
+both_same x y a b e f = cc
+
+same_or_other : (a b : List ℕ) → (a ≡ b) ⊎ (a ≡ b → ⊥)
+same_or_other [] [] = inl refl
+same_or_other [] (y ∷ b) = inr (none_more y b)
+same_or_other (x ∷ a) [] = inr (λ e. none_more x a (sym e))
+same_or_other (x ∷ a) (y ∷ b) = heads (eqb_tells x y) (same_or_other a b)
+  where
+    heads : (((x == y) ≡ true) × (x ≡ y)) ⊎ (((x == y) ≡ false) × (x ≡ y → ⊥)) → (a ≡ b) ⊎ (a ≡ b → ⊥) → (x ∷ a ≡ y ∷ b) ⊎ (x ∷ a ≡ y ∷ b → ⊥)
+    heads (inl same) (inl rest) = inl (both_same x y a b same.1 rest)
+    heads (inl same) (inr other) = inr (λ e. other (rest_same x y a b e))
+    heads (inr other) r = inr (λ e. other.1 (first_same x y a b e))
+
+pub all_kept : (f g : Text → Content) (name : Text) → g name ≡ f name → ((other : Text) → other ≢ name → g other ≡ f other) → (other : Text) → g other ≡ f other
+all_kept f g name same others other = by (same_or_other other name)
+  where
+    by : (other ≡ name) ⊎ (other ≡ name → ⊥) → g other ≡ f other
+    by (inl e) = ap g e ∙ same ∙ ap f (sym e)
+    by (inr n) = others other n
+
+pub no_less : (m n : ℕ) → n ≡ m → m ≤ n
+no_less m n e = omega arith

@@ -1,0 +1,43 @@
+use Rattle.std.proofs.Common.{◌≡◌, ◌<◌, ◌≤◌, ◌+◌, List, ℕ, rules, arith, sym, ◌∙◌, ap, ap₂, subst}
+use Rattle.pv_interval.specs.Bounds.{Bounds}
+use Rattle.pv_tree.specs.Trees.{IsPaving}
+use Rattle.pv_settle.specs.Settlers.{rule_of}
+use Rattle.pv_cli.specs.Requests.{names_in}
+use Rattle.pv_cli.specs.Systems.{files}
+use Rattle.pv_cli.specs.Pavings.{settled_in}
+use Rattle.pv_cli.specs.Products.{paved}
+use Rattle.pv_cli.proofs.Refused.{opening_refused}
+use Rattle.pv_cli.proofs.Joined.{join_stage}
+use Rattle.pv_cli.proofs.merge.merge.Goals as goal
+
+pub returns-in-Err-clause-refused : goal.returns-in-Err-clause-refused
+returns-in-Err-clause-refused g c =
+    opening_refused _ _ c.args.system.now (names_in c.args.names.now) c.args.settings.now 0 c.in-Err.refusal c.in-Err.ensures.refused
+
+pub returns-then-settled-gt-MOST_SETTLED-clause-refused : goal.returns-then-settled-gt-MOST_SETTLED-clause-refused
+returns-then-settled-gt-MOST_SETTLED-clause-refused g c =
+    let o = c.in-Ok.ensures.opened in
+    record {
+      rule = rule_of c.in-Ok.opening.settler;
+      trees = o.trees;
+      opening = c.in-Ok.opening.paving.tree;
+      opened = o.opening;
+      settled = search rules;
+      many = search rules;
+    }
+
+pub returns-clause-comes : goal.returns-clause-comes
+returns-clause-comes g c =
+    let o = c.in-Ok.ensures.opened in
+    let t = c.in-Ok.opening.paving.tree in
+    let few : settled_in t ≤ 100000 = search rules in
+    record {
+      rule = rule_of c.in-Ok.opening.settler;
+      trees = o.trees;
+      tree = t;
+      opened = o.opening;
+      few = few;
+      paving = subst (λ (b : List Bounds). IsPaving b t) o.root c.learn_honest.ensures.paving;
+      honest = λ stages. c.learn_honest.ensures.honest o.opening.read.system c.args.settings.now o.opening.read.is (join_stage _ _ _ o.trees t o.opening.join stages);
+      is = ap₂ (λ (i : List ℕ) (b : List Bounds). paved i b t) c.in_ok-identity.ensures o.root;
+    }

@@ -1,0 +1,47 @@
+use Rattle.std.proofs.Common.{◌≡◌, ◌<◌, ◌≤◌, ◌+◌, List, ℕ, rules, sym, ◌∙◌, ap₂, subst}
+use Rattle.pv_interval.specs.Bounds.{Bounds}
+use Rattle.pv_tree.specs.Trees.{leaf}
+use Rattle.pv_tree.specs.Stages.{IsStage}
+use Rattle.pv_settle.specs.Settlers.{rule_of}
+use Rattle.pv_settle.specs.Settling.{settle_by}
+use Rattle.pv_cli.specs.Requests.{names_in}
+use Rattle.pv_cli.specs.Pavings.{IsPaved, settled_in}
+use Rattle.pv_cli.specs.Products.{paved}
+use Rattle.pv_cli.proofs.Refused.{opening_refused}
+use Rattle.pv_cli.proofs.Joined.{join_stage}
+use Rattle.pv_cli.proofs.resume.resume.Goals as goal
+
+pub returns-in-Err-clause-refused : goal.returns-in-Err-clause-refused
+returns-in-Err-clause-refused g c =
+    opening_refused _ _ c.args.system.now (names_in c.args.names.now) c.args.settings.now c.args.effort.now.boxes c.in-Err.refusal c.in-Err.ensures.refused
+
+pub returns-then-settled-effort-gt-MOST_SETTLED-clause-refused : goal.returns-then-settled-effort-gt-MOST_SETTLED-clause-refused
+returns-then-settled-effort-gt-MOST_SETTLED-clause-refused g c =
+    let o = c.in-Ok.ensures.opened in
+    record {
+      rule = rule_of c.in-Ok.opening.settler;
+      trees = o.trees;
+      opening = c.in-Ok.opening.paving.tree;
+      opened = o.opening;
+      settled = search rules;
+      many = search rules;
+    }
+
+pub returns-clause-comes : goal.returns-clause-comes
+returns-clause-comes g c =
+    let o = c.in-Ok.ensures.opened in
+    let rule = rule_of c.in-Ok.opening.settler in
+    let first = c.in-Ok.opening.paving.tree in
+    let done = c.in_ok-resumed.ensures in
+    let few : settled_in first + c.args.effort.now.boxes ≤ 100000 = search rules in
+    record {
+      rule = rule;
+      trees = o.trees;
+      opening = first;
+      opened = o.opening;
+      few = few;
+      tree = done.tree;
+      run = done.resumed.run;
+      honest = λ stages. done.resumed.honest o.opening.read.system c.args.settings.now o.opening.read.is (join_stage _ _ _ o.trees first o.opening.join stages);
+      is = done.is;
+    }

@@ -1,0 +1,71 @@
+-- The commands as clap sees them: one level, the names of a system and of paving files, options that take a
+-- value, and none of the flags and commands that clap adds by itself.
+use Rattle.std.specs.Prelude.{true, codes, Some}
+use Rattle.clap.specs.Words.{App, Rule, Text, new_app, new_rule, with_rule, with_subcommand}
+use Rattle.clap.specs.Simple.{on_top}
+use Rattle.clap.specs.declared.builder.action.ArgAction.TheVariants.{Set, Append}
+use Rattle.clap.specs.declared.builder.range.ValueRange.{ValueRange}
+
+-- a word that has to be there
+abbrev pub word_rule : Text → Rule
+word_rule name = record (new_rule name) { required = true; action = Some Set }
+
+-- one to eight such words, between which options may stand
+abbrev pub words_rule : Text → Rule
+words_rule name = record (new_rule name) {
+  required = true;
+  range = Some (record { start_inclusive = 1; end_inclusive = 8 });
+  action = Some Append;
+}
+
+-- `--name value`
+abbrev pub option_rule : Text → Rule
+option_rule name = record (new_rule name) { long = Some name; action = Some Set }
+
+abbrev pub with_option : Text → App → App
+with_option name a = with_rule a (option_rule name)
+
+abbrev pub bare_app : Text → App
+bare_app name = on_top (λ s. record s { disable_help_flag = true; disable_version_flag = true }) (new_app name)
+
+abbrev pub top_app : App
+top_app = on_top (λ s. record s { disable_help_subcommand = true; subcommand_required = true }) (bare_app (codes "paver"))
+
+abbrev pub system_app : Text → App
+system_app name = with_rule (bare_app name) (word_rule (codes "SYSTEM"))
+
+abbrev pub paving_app : Text → App
+paving_app name = with_rule (system_app name) (word_rule (codes "PAVING"))
+
+abbrev pub pavings_app : Text → App
+pavings_app name = with_rule (system_app name) (words_rule (codes "PAVING"))
+
+abbrev pub with_settings : App → App
+with_settings a =
+    with_option (codes "contract") (with_option (codes "bisect") (with_option (codes "depth") (with_option (codes "eps") a)))
+
+abbrev pub with_effort : App → App
+with_effort a = with_option (codes "boxes") (with_option (codes "workers") a)
+
+abbrev pub with_out : App → App
+with_out a = with_option (codes "out") a
+
+abbrev pub check_app : App
+check_app = system_app (codes "check")
+
+abbrev pub run_app : App
+run_app = with_out (with_effort (with_settings (system_app (codes "run"))))
+
+abbrev pub resume_app : App
+resume_app = with_out (with_effort (with_settings (pavings_app (codes "resume"))))
+
+abbrev pub merge_app : App
+merge_app = with_out (with_settings (pavings_app (codes "merge")))
+
+abbrev pub audit_app : App
+audit_app = with_settings (paving_app (codes "audit"))
+
+unfoldable pub paver_app : App
+paver_app =
+    with_subcommand (with_subcommand (with_subcommand (with_subcommand (with_subcommand top_app check_app.top) run_app.top)
+    resume_app.top) merge_app.top) audit_app.top

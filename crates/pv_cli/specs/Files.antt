@@ -1,0 +1,134 @@
+-- What a command reads of paving files, and their join.
+use Rattle.std.specs.Prelude.{◌≡◌, ◌⊎◌, ◌<◌, ◌≤◌, ◌+◌, ◌++◌, ℕ, Bool, Some, List, [], ◌∷◌}
+use Rattle.pv_interval.specs.Bounds.{Bounds}
+use Rattle.pv_expr.specs.Searches.{search_bounds}
+use Rattle.pv_settle.specs.Rules.{SettlerParts}
+use Rattle.pv_settle.specs.Spelling.{identity_of}
+use Rattle.pv_tree.specs.Trees.{Tree, outcome_at}
+use Rattle.pv_tree.specs.Stages.{Grows}
+use Rattle.pv_tree.specs.declared.outcome.Outcome.{Outcome}
+use Rattle.pv_join.specs.Joins.{IsFirstDisagreement}
+use Rattle.pv_file.specs.Lines.{outcome_line}
+use Rattle.pv_file.specs.Readings.{IsTextOf, IsPavingInFormat, HasOtherIdentity, IsFirstBadLine, IsOneTooMany}
+use Rattle.pv_io.specs.Outside.{IsWhole, IsTooLong}
+use Rattle.pv_cli.specs.Systems.{Files, RefusesFetch, HasRule, RefusesRule, search_box}
+use Rattle.pv_cli.specs.Pavings.{settled_in}
+use Rattle.pv_cli.specs.declared.request.Settings.{Settings}
+use Rattle.pv_cli.specs.declared.refusal.FileFault.{FileFault}
+use Rattle.pv_cli.specs.declared.refusal.FileFault.TheVariants.{TooLong, WrongIdentity, BadLine, TooManyNodes}
+use Rattle.pv_cli.specs.declared.refusal.Refusal.{Refusal}
+use Rattle.pv_cli.specs.declared.refusal.Refusal.TheVariants.{Paving, Memory, Disagree}
+
+-- ---- One file
+
+-- the file of this name holds at most 70,000,000 bytes: the text, in one of the versions, of this paving of the
+-- search box, for the system and its settings, with at most 100,000 settled nodes
+pub record HasPaving (before : Files) (rule : SettlerParts) (name : List ℕ) (t : Tree) : Type 0 where
+  pub bytes : List ℕ
+  pub fetched : IsWhole (before.content name) 70000000 bytes
+  pub text : IsTextOf bytes (identity_of rule) (search_box rule) t
+  pub paving : IsPavingInFormat (search_box rule) t
+  pub few : settled_in t ≤ 100000
+
+-- the file holds other bytes, of which this is said
+pub record HoldsOther (before : Files) (name : List ℕ) (says : List ℕ → Type 0) : Type 0 where
+  pub bytes : List ℕ
+  pub fetched : IsWhole (before.content name) 70000000 bytes
+  pub other : says bytes
+
+pub record HoldsLong (before : Files) (name : List ℕ) : Type 0 where
+  pub bytes : List ℕ
+  pub long : IsTooLong (before.content name) 70000000 bytes
+
+-- what is wrong with the file of this name
+abbrev pub HasFileFault : Files → SettlerParts → List ℕ → FileFault → Type 0
+HasFileFault before rule name TooLong = HoldsLong before name
+HasFileFault before rule name WrongIdentity =
+    HoldsOther before name (λ bytes. HasOtherIdentity bytes (identity_of rule) (search_box rule))
+HasFileFault before rule name (BadLine n) =
+    HoldsOther before name (λ bytes. IsFirstBadLine n bytes (identity_of rule) (search_box rule))
+HasFileFault before rule name (TooManyNodes n) =
+    HoldsOther before name (λ bytes. IsOneTooMany n bytes (identity_of rule) (search_box rule))
+
+-- why the file of this name gives no paving
+abbrev pub RefusesPaving : Files → Files → SettlerParts → List ℕ → Refusal → Type 0
+RefusesPaving before after rule name (Paving n fault) = (n.now ≡ name) × HasFileFault before rule name fault
+RefusesPaving before after rule name r = RefusesFetch before after name r
+
+-- ---- Several files
+
+-- the files of these names hold these pavings
+abbrev pub HavePavings : Files → SettlerParts → List (List ℕ) → List Tree → Type 0
+HavePavings before rule [] [] = Unit {0}
+HavePavings before rule [] (t ∷ ts) = ⊥
+HavePavings before rule (n ∷ ns) [] = ⊥
+HavePavings before rule (n ∷ ns) (t ∷ ts) = HasPaving before rule n t × HavePavings before rule ns ts
+
+-- the files of these names are read in order, and one is refused
+abbrev pub RefusesPavings : Files → Files → SettlerParts → List (List ℕ) → Refusal → Type 0
+RefusesPavings before after rule [] r = r ≡ Memory
+RefusesPavings before after rule (n ∷ ns) r =
+    RefusesPaving before after rule n r
+    ⊎ ((t : Tree) × HasPaving before rule n t × RefusesPavings before after rule ns r)
+
+-- each of the trees
+abbrev pub AllTrees : (Tree → Type 0) → List Tree → Type 0
+AllTrees P [] = Unit {0}
+AllTrees P (t ∷ ts) = P t × AllTrees P ts
+
+-- one of the trees
+abbrev pub AnyTree : (Tree → Type 0) → List Tree → Type 0
+AnyTree P [] = ⊥
+AnyTree P (t ∷ ts) = P t ⊎ AnyTree P ts
+
+-- The join of trees: what is settled in one of them is settled so in it, and nothing else is settled. It does not
+-- depend on their order, nor on repeats.
+pub record IsJoinOf (ts : List Tree) (t : Tree) : Type 0 where
+  pub each : AllTrees (λ s. Grows s t) ts
+  pub only : (p : List Bool) (o : Outcome) → outcome_at t p ≡ Some o → AnyTree (λ s. outcome_at s p ≡ Some o) ts
+
+-- A tree has another outcome than the join of those before it, at a path that is the first in preorder of those.
+-- Both outcomes are given by their lines.
+pub record IsDisagreement (ts : List Tree) (path : List Bool) (joined file : List ℕ) : Type 0 where
+  pub earlier : List Tree
+  pub next : Tree
+  pub later : List Tree
+  pub are : ts ≡ earlier ++ next ∷ later
+  pub join : Tree
+  pub is_join : IsJoinOf earlier join
+  pub first : IsFirstDisagreement join next path
+  pub joined_is : joined ≡ outcome_line first.here.left
+  pub file_is : file ≡ outcome_line first.here.right
+
+abbrev pub RefusesJoin : List Tree → Refusal → Type 0
+RefusesJoin ts (Disagree path joined file) = IsDisagreement ts path joined.items file.items
+RefusesJoin ts Memory = Unit {0}
+RefusesJoin ts _ = ⊥
+
+-- ---- A system and files of its pavings
+
+-- the files of these names hold pavings of the system, and this is their join
+pub record HasOpening (before : Files) (system : List ℕ) (names : List (List ℕ)) (s : Settings) (rule : SettlerParts) (ts : List Tree) (opening : Tree) : Type 0 where
+  pub read : HasRule before system s rule
+  pub held : HavePavings before rule names ts
+  pub join : IsJoinOf ts opening
+
+-- they hold pavings of the system that have no join
+pub record HasNoJoin (before : Files) (system : List ℕ) (names : List (List ℕ)) (s : Settings) (r : Refusal) : Type 0 where
+  pub rule : SettlerParts
+  pub read : HasRule before system s rule
+  pub trees : List Tree
+  pub held : HavePavings before rule names trees
+  pub refused : RefusesJoin trees r
+
+-- the system is there, and one of the files is refused
+pub record HasBadFile (before after : Files) (system : List ℕ) (names : List (List ℕ)) (s : Settings) (r : Refusal) : Type 0 where
+  pub rule : SettlerParts
+  pub read : HasRule before system s rule
+  pub refused : RefusesPavings before after rule names r
+
+-- why there is no such join: the first refusal of the system, of the files in order, and of their joins
+abbrev pub RefusesOpening : Files → Files → List ℕ → List (List ℕ) → Settings → Refusal → Type 0
+RefusesOpening before after system names s r =
+    RefusesRule before after system s r
+    ⊎ (HasBadFile before after system names s r ⊎ HasNoJoin before system names s r)

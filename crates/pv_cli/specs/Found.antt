@@ -1,0 +1,30 @@
+-- What clap found for the words, as the reader of requests sees it on its way.
+use Rattle.std.specs.Prelude.{◌≢◌, ◌⊎◌, List, Option, Some, None, codes}
+use Rattle.clap.specs.Words.{Row, Text, found_of, rows_of}
+use Rattle.clap.specs.declared.parser.matches.ArgMatches.{ArgMatches}
+use Rattle.pv_cli.specs.Requests.{HasBadValue}
+use Rattle.pv_cli.specs.declared.refusal.Refusal.{Refusal}
+use Rattle.pv_cli.specs.declared.refusal.Refusal.TheVariants.{Usage, Memory}
+
+abbrev pub rows_in : ArgMatches → List Row
+rows_in m = rows_of (found_of m)
+
+-- a value is bad, or memory was wanting
+abbrev pub RefusesValues : List Row → Refusal → Type 0
+RefusesValues rows Usage = HasBadValue rows
+RefusesValues rows Memory = Unit {0}
+RefusesValues rows _ = ⊥
+
+abbrev pub IsNoCommand : Text → Type 0
+IsNoCommand name =
+    (name ≢ codes "check") × (name ≢ codes "run") × (name ≢ codes "resume") × (name ≢ codes "merge") × (name ≢ codes "audit")
+
+abbrev pub RefusesCommand : Text → List Row → Refusal → Type 0
+RefusesCommand name rows Usage = IsNoCommand name ⊎ HasBadValue rows
+RefusesCommand name rows Memory = Unit {0}
+RefusesCommand name rows _ = ⊥
+
+abbrev pub RefusesFound : Option (Text × List Row) → Refusal → Type 0
+RefusesFound None Usage = Unit {0}
+RefusesFound None _ = ⊥
+RefusesFound (Some p) r = RefusesCommand p.0 p.1 r

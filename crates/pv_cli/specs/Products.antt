@@ -1,0 +1,164 @@
+-- What comes of a command's work.
+use Rattle.std.specs.Prelude.{◌≡◌, ◌≢◌, ◌⊎◌, ◌<◌, ◌≤◌, ◌+◌, ◌++◌, ◌∷◌, ℕ, Bool, List, [], Option, Some, None, codes, decimal}
+use Rattle.clap.specs.Words.{Text}
+use Rattle.pv_interval.specs.Bounds.{Bounds}
+use Rattle.pv_expr.specs.Systems.{Parts}
+use Rattle.pv_expr.specs.Canonical.{canonical_text}
+use Rattle.pv_settle.specs.Rules.{SettlerParts}
+use Rattle.pv_settle.specs.Settling.{settle_by, is_member}
+use Rattle.pv_settle.specs.Spelling.{identity_of}
+use Rattle.pv_tree.specs.Trees.{Tree, leaf, opens, counts_of, settled_of, IsPaving}
+use Rattle.pv_tree.specs.Stages.{IsStage, full_of}
+use Rattle.pv_tree.specs.Sets.{IsSound, Covers}
+use Rattle.pv_tree.specs.declared.outcome.Counts.{Counts}
+use Rattle.pv_join.specs.Audits.{IsFirstDifference, due_at}
+use Rattle.pv_file.specs.Lines.{lines_of, outcome_line}
+use Rattle.pv_file.specs.Texts.{file_text}
+use Rattle.pv_file.specs.declared.version.Version.TheVariants.{One, Two}
+use Rattle.pv_cli.specs.Requests.{names_in}
+use Rattle.pv_cli.specs.Systems.{Files, HasSystem, HasRule, RefusesSystem, RefusesRule, search_box}
+use Rattle.pv_cli.specs.Pavings.{IsPaved, HoldInside, settled_in}
+use Rattle.pv_cli.specs.Files.{HasPaving, AllTrees, HasOpening, HasBadFile, RefusesOpening}
+use Rattle.pv_cli.specs.declared.request.Settings.{Settings}
+use Rattle.pv_cli.specs.declared.request.Request.{Request}
+use Rattle.pv_cli.specs.declared.request.Request.TheVariants.{Check, Run, Resume, Merge, Audit}
+use Rattle.pv_cli.specs.declared.refusal.Refusal.{Refusal}
+use Rattle.pv_cli.specs.declared.refusal.Refusal.TheVariants.{TreeLimit, Differs}
+use Rattle.pv_cli.specs.declared.status.Status.{Status}
+use Rattle.pv_cli.specs.declared.status.Status.TheVariants.{Done, OpenLeft}
+
+-- a text, or a paving of a box for an identity
+pub data Product : Type 0 where
+  text : List ℕ → Product
+  paved : List ℕ → List Bounds → Tree → Product
+
+unfoldable pub summary_of : Counts → List ℕ
+summary_of c =
+    codes "settled " ++ (decimal (settled_of c) ++ (codes " cut " ++ (decimal c.cut ++ (codes " removed " ++ (decimal c.removed
+    ++ (codes " inner " ++ (decimal c.inner ++ (codes " small " ++ (decimal c.small ++ (codes " open " ++ (decimal c.open_leaves ++ 10 ∷ [])))))))))))
+
+-- what is printed of it: a paving's summary, and where no file is asked for its nodes' lines
+abbrev pub printed_of : Option Text → Product → List ℕ
+printed_of out (text t) = t
+printed_of None (paved identity b t) = summary_of (counts_of t) ++ lines_of One b t
+printed_of (Some name) (paved identity b t) = summary_of (counts_of t)
+
+-- the status with which the command ends that delivered it: 1 says that a leaf is open
+abbrev pub HasStatus : Product → Status → Type 0
+HasStatus (text t) s = s ≡ Done
+HasStatus (paved identity b t) s = ((s ≡ Done) × (opens t ≡ [])) ⊎ ((s ≡ OpenLeft) × (opens t ≢ []))
+
+-- ---- What is said of pavings
+
+-- The paving is a stage of the open search box: so it covers the box, it is sound for the set that the program
+-- speaks of, and without an open leaf it is the full tree. By the default program every constraint holds at each
+-- rational point of each inner box.
+pub record IsHonest (s : Settings) (rule : SettlerParts) (t : Tree) : Type 0 where
+  pub stage : IsStage (settle_by rule) rule.depth (search_box rule) leaf t
+  pub covers : Covers (search_box rule) t
+  pub sound : IsSound (is_member rule) (search_box rule) t
+  pub whole : opens t ≡ [] → t ≡ full_of (settle_by rule) rule.depth (search_box rule) leaf 0
+  pub by_default : s.contract.now ≡ codes "prop(8)" → HoldInside rule.system.constraints t
+
+-- the premise on files: each is a stage of the open search box, as all are that this program wrote for the system
+-- and its settings; `audit` decides it
+abbrev pub AreStages : SettlerParts → List Tree → Type 0
+AreStages rule ts = AllTrees (IsStage (settle_by rule) rule.depth (search_box rule) leaf) ts
+
+-- ---- What comes of the commands
+
+-- `check` gives the canonical text
+pub record ComesOfCheck (before : Files) (system : Text) (p : Product) : Type 0 where
+  pub parts : Parts
+  pub read : HasSystem before system parts
+  pub is : p ≡ text (canonical_text parts)
+
+-- `run` gives what the budget settles of the open search box
+pub record ComesOfRun (before : Files) (system : Text) (s : Settings) (budget : ℕ) (p : Product) : Type 0 where
+  pub rule : SettlerParts
+  pub read : HasRule before system s rule
+  pub tree : Tree
+  pub run : IsPaved (settle_by rule) rule.depth (search_box rule) leaf budget tree
+  pub honest : IsHonest s rule tree
+  pub is : p ≡ paved (identity_of rule) (search_box rule) tree
+
+-- `resume` gives what the budget settles of the join of the files
+pub record ComesOfResume (before : Files) (system : Text) (names : List Text) (s : Settings) (budget : ℕ) (p : Product) : Type 0 where
+  pub rule : SettlerParts
+  pub trees : List Tree
+  pub opening : Tree
+  pub opened : HasOpening before system names s rule trees opening
+  pub few : settled_in opening + budget ≤ 100000
+  pub tree : Tree
+  pub run : IsPaved (settle_by rule) rule.depth (search_box rule) opening budget tree
+  pub honest : AreStages rule trees → IsHonest s rule tree
+  pub is : p ≡ paved (identity_of rule) (search_box rule) tree
+
+-- `merge` gives the join of the files
+pub record ComesOfMerge (before : Files) (system : Text) (names : List Text) (s : Settings) (p : Product) : Type 0 where
+  pub rule : SettlerParts
+  pub trees : List Tree
+  pub tree : Tree
+  pub opened : HasOpening before system names s rule trees tree
+  pub few : settled_in tree ≤ 100000
+  pub paving : IsPaving (search_box rule) tree
+  pub honest : AreStages rule trees → IsHonest s rule tree
+  pub is : p ≡ paved (identity_of rule) (search_box rule) tree
+
+-- `audit` says that the file's paving is a stage of the open search box
+pub record ComesOfAudit (before : Files) (system name : Text) (s : Settings) (p : Product) : Type 0 where
+  pub rule : SettlerParts
+  pub read : HasRule before system s rule
+  pub tree : Tree
+  pub held : HasPaving before rule name tree
+  pub honest : IsHonest s rule tree
+  pub is : p ≡ text (codes "honest" ++ 10 ∷ [])
+
+-- what comes of a request
+abbrev pub ComesOf : Files → Request → Product → Type 0
+ComesOf before (Check system) p = ComesOfCheck before system.now p
+ComesOf before (Run system settings effort out) p = ComesOfRun before system.now settings effort.boxes p
+ComesOf before (Resume system pavings settings effort out) p =
+    ComesOfResume before system.now (names_in pavings.items) settings effort.boxes p
+ComesOf before (Merge system pavings settings out) p = ComesOfMerge before system.now (names_in pavings.items) settings p
+ComesOf before (Audit system paving settings) p = ComesOfAudit before system.now paving.now settings p
+
+-- ---- Why nothing comes of them
+
+-- the join of the files has so many settled nodes, and with the budget too many
+pub record IsOverLimit (before : Files) (system : Text) (names : List Text) (s : Settings) (budget n : ℕ) : Type 0 where
+  pub rule : SettlerParts
+  pub trees : List Tree
+  pub opening : Tree
+  pub opened : HasOpening before system names s rule trees opening
+  pub settled : n ≡ settled_in opening
+  pub many : 100000 < n + budget
+
+abbrev pub RefusesJoined : Files → Files → Text → List Text → Settings → ℕ → Refusal → Type 0
+RefusesJoined before after system names s budget (TreeLimit n) = IsOverLimit before system names s budget n
+RefusesJoined before after system names s budget r = RefusesOpening before after system names s r
+
+-- The file's paving is no stage of the open search box: at this path, the first such one in preorder, its outcome
+-- is not the one that is due there. Both are given by their lines.
+pub record HasDifference (before : Files) (system name : Text) (s : Settings) (path : List Bool) (file due : List ℕ) : Type 0 where
+  pub rule : SettlerParts
+  pub read : HasRule before system s rule
+  pub tree : Tree
+  pub held : HasPaving before rule name tree
+  pub first : IsFirstDifference (settle_by rule) rule.depth (search_box rule) tree path
+  pub file_is : file ≡ outcome_line first.found
+  pub due_is : due ≡ outcome_line (due_at (settle_by rule) rule.depth (search_box rule) tree path)
+  pub no_stage : IsStage (settle_by rule) rule.depth (search_box rule) leaf tree → ⊥
+
+abbrev pub RefusesAudit : Files → Files → Text → Text → Settings → Refusal → Type 0
+RefusesAudit before after system name s (Differs path file due) = HasDifference before system name s path file.items due.items
+RefusesAudit before after system name s r = RefusesRule before after system s r ⊎ HasBadFile before after system (name ∷ []) s r
+
+abbrev pub RefusesWork : Files → Files → Request → Refusal → Type 0
+RefusesWork before after (Check system) r = RefusesSystem before after system.now r
+RefusesWork before after (Run system settings effort out) r = RefusesRule before after system.now settings r
+RefusesWork before after (Resume system pavings settings effort out) r =
+    RefusesJoined before after system.now (names_in pavings.items) settings effort.boxes r
+RefusesWork before after (Merge system pavings settings out) r =
+    RefusesJoined before after system.now (names_in pavings.items) settings 0 r
+RefusesWork before after (Audit system paving settings) r = RefusesAudit before after system.now paving.now settings r

@@ -1,0 +1,59 @@
+-- Pavings that were read, as the code holds them.
+use Rattle.std.specs.Prelude.{◌≡◌, ℕ, Bool, Some, List, [], ◌∷◌, map, length}
+use Rattle.pv_settle.specs.Rules.{SettlerParts, dims_of}
+use Rattle.pv_settle.specs.Spelling.{identity_of}
+use Rattle.pv_interval.specs.Bounds.{Bounds}
+use Rattle.pv_tree.specs.Trees.{Tree, Seen, outcome_at}
+use Rattle.pv_tree.specs.declared.outcome.Outcome.{Outcome}
+use Rattle.pv_file.specs.Lines.{outcome_line}
+use Rattle.pv_settle.specs.Settlers.{rule_of}
+use Rattle.pv_cli.specs.Systems.{Files, search_box}
+use Rattle.pv_cli.specs.Files.{HasPaving, HasOpening}
+use Rattle.pv_cli.specs.declared.request.Settings.{Settings}
+use Rattle.pv_cli.specs.declared.opening.Opening.{Opening}
+use Rattle.pv_cli.specs.declared.refusal.Refusal.{Refusal}
+use Rattle.pv_cli.specs.declared.refusal.Refusal.TheVariants.{Disagree, Differs, Memory}
+use Rattle.pv_cli.specs.declared.pavings.Key.{Key}
+
+-- the key of a rule's paving files
+pub record IsKeyOf (rule : SettlerParts) (key : Key) : Type 0 where
+  pub identity : key.identity ≡ identity_of rule
+  pub root : key.root ≡ search_box rule
+
+abbrev pub trees_of : List Seen → List Tree
+trees_of = map (λ p. p.tree)
+
+-- the files of these names hold these pavings of the search box
+abbrev pub AreRead : Files → SettlerParts → List (List ℕ) → List Seen → Type 0
+AreRead before rule [] [] = Unit {0}
+AreRead before rule [] (p ∷ ps) = ⊥
+AreRead before rule (n ∷ ns) [] = ⊥
+AreRead before rule (n ∷ ns) (p ∷ ps) = (p.root ≡ search_box rule) × HasPaving before rule n p.tree × AreRead before rule ns ps
+
+-- pavings over a box
+abbrev pub AreOver : List Bounds → List Seen → Type 0
+AreOver b [] = Unit {0}
+AreOver b (p ∷ ps) = (p.root ≡ b) × AreOver b ps
+
+-- the line of the outcome at a path
+abbrev pub IsLineAt : Tree → List Bool → List ℕ → Type 0
+IsLineAt t path line = (o : Outcome) → outcome_at t path ≡ Some o → line ≡ outcome_line o
+
+-- the refusal for two trees that disagree at a path, or want of memory
+abbrev pub IsDisagree : Tree → Tree → List Bool → Refusal → Type 0
+IsDisagree joined file path (Disagree p a b) = (p ≡ path) × IsLineAt joined path a.items × IsLineAt file path b.items
+IsDisagree joined file path Memory = Unit {0}
+IsDisagree joined file path _ = ⊥
+
+-- the refusal for an outcome that is due in place of that at a path, or want of memory
+abbrev pub IsDiffers : Tree → List Bool → Outcome → Refusal → Type 0
+IsDiffers file path due (Differs p a b) = (p ≡ path) × IsLineAt file path a.items × (b.items ≡ outcome_line due)
+IsDiffers file path due Memory = Unit {0}
+IsDiffers file path due _ = ⊥
+
+-- a settler and the join of its paving files
+pub record IsOpened (before : Files) (system : List ℕ) (names : List (List ℕ)) (s : Settings) (o : Opening) : Type 0 where
+  pub trees : List Tree
+  pub opening : HasOpening before system names s (rule_of o.settler) trees o.paving.tree
+  pub root : o.paving.root ≡ search_box (rule_of o.settler)
+  pub dims : length o.paving.root ≡ dims_of (rule_of o.settler)

@@ -1,0 +1,140 @@
+-- What the words of a command ask for.
+use Rattle.std.specs.Prelude.{◌≡◌, ◌≢◌, ◌⊎◌, ℕ, ◌<◌, ◌≤◌, ℤ, List, [], Option, Some, None, codes, length, map, option_map, unwrap_or}
+use Rattle.std.specs.Str.Parse.{digits_value, AllDigits}
+use Rattle.clap.specs.Words.{Row, Text, first_of, all_of, fault_of, subcommand_of}
+use Rattle.std.specs.Borrow.{Bor}
+use Rattle.pv_num.specs.Extended.{Extended}
+use Rattle.pv_num.specs.Arithmetic.{ratio_of}
+use Rattle.pv_num.specs.declared.num.End.TheVariants.{Down}
+use Rattle.pv_box.specs.declared.choice.Bisector.{Bisector}
+use Rattle.pv_box.specs.declared.choice.Bisector.TheVariants.{Largest, Round}
+use Rattle.pv_tokens.specs.Numbers.{IsRead}
+use Rattle.pv_cli.specs.Commands.{paver_app}
+use Rattle.pv_cli.specs.declared.request.Settings.{Settings}
+use Rattle.pv_cli.specs.declared.request.Effort.{Effort}
+use Rattle.pv_cli.specs.declared.request.Request.{Request}
+use Rattle.pv_cli.specs.declared.request.Request.TheVariants.{Check, Run, Resume, Merge, Audit}
+
+-- one to ten digits, and the number that they write
+pub record IsDigits (t : Text) (n : ℕ) : Type 0 where
+  pub some : 1 ≤ length t
+  pub few : length t ≤ 10
+  pub digits : AllDigits 10 t
+  pub value : n ≡ digits_value 10 t
+
+-- such a number from `low` to `high`
+pub record IsCount (low high : ℕ) (t : Text) (n : ℕ) : Type 0 where
+  pub number : IsDigits t n
+  pub from : low ≤ n
+  pub to : n ≤ high
+
+-- an unsigned number of the system's language, rounded down
+pub record IsWidth (t : Text) (n : Extended) : Type 0 where
+  pub ratio : ℤ × ℕ
+  pub read : IsRead t ratio
+  pub rounded : n ≡ ratio_of Down ratio.0 ratio.1
+
+abbrev pub bisector_name : Bisector → Text
+bisector_name Largest = codes "largest"
+bisector_name Round = codes "round"
+
+-- the text of an option, or what stands for one that is not given
+abbrev pub value_of : Text → Text → List Row → Text
+value_of name default rows = unwrap_or (first_of name rows) default
+
+abbrev pub eps_text : List Row → Text
+eps_text = value_of (codes "eps") (codes "0.125")
+
+abbrev pub depth_text : List Row → Text
+depth_text = value_of (codes "depth") (codes "60")
+
+abbrev pub bisect_text : List Row → Text
+bisect_text = value_of (codes "bisect") (codes "largest")
+
+abbrev pub contract_text : List Row → Text
+contract_text = value_of (codes "contract") (codes "prop(8)")
+
+abbrev pub workers_text : List Row → Text
+workers_text = value_of (codes "workers") (codes "4")
+
+abbrev pub boxes_text : List Row → Text
+boxes_text = value_of (codes "boxes") (codes "20000")
+
+-- the settings that the options give
+pub record AreSettings (rows : List Row) (s : Settings) : Type 0 where
+  pub eps : IsWidth (eps_text rows) s.eps
+  pub depth : IsCount 1 200 (depth_text rows) s.depth
+  pub bisector : bisect_text rows ≡ bisector_name s.bisector
+  pub contract : s.contract.now ≡ contract_text rows
+
+-- the threads and the budget that the options give
+pub record IsEffort (rows : List Row) (e : Effort) : Type 0 where
+  pub workers : IsCount 1 16 (workers_text rows) e.workers
+  pub boxes : IsCount 1 100000 (boxes_text rows) e.boxes
+
+-- the name of the system
+abbrev pub system_name : List Row → Text
+system_name = value_of (codes "SYSTEM") []
+
+-- the names of the paving files
+abbrev pub paving_names : List Row → List Text
+paving_names rows = unwrap_or (all_of (codes "PAVING") rows) []
+
+abbrev pub names_in : List (Bor Text) → List Text
+names_in = map (λ name. name.now)
+
+-- up to eight paving files
+pub record ArePavings (rows : List Row) (names : List (Bor Text)) : Type 0 where
+  pub are : names_in names ≡ paving_names rows
+  pub few : length names ≤ 8
+
+abbrev pub IsOut : List Row → Option (Bor Text) → Type 0
+IsOut rows out = option_map (λ name. name.now) out ≡ first_of (codes "out") rows
+
+-- the value of an option has another spelling or is outside its range, or there are more than eight paving files
+pub data HasBadValue (rows : List Row) : Type 0 where
+  bad_eps : ((n : Extended) → IsWidth (eps_text rows) n → ⊥) → HasBadValue rows
+  bad_depth : ((n : ℕ) → IsCount 1 200 (depth_text rows) n → ⊥) → HasBadValue rows
+  bad_bisector : ((b : Bisector) → bisect_text rows ≡ bisector_name b → ⊥) → HasBadValue rows
+  bad_workers : ((n : ℕ) → IsCount 1 16 (workers_text rows) n → ⊥) → HasBadValue rows
+  bad_boxes : ((n : ℕ) → IsCount 1 100000 (boxes_text rows) n → ⊥) → HasBadValue rows
+  bad_pavings : 8 < length (paving_names rows) → HasBadValue rows
+
+-- the command of this name, with what was found for its words and options, asks for this
+abbrev pub IsAskedBy : Text → List Row → Request → Type 0
+IsAskedBy command rows (Check system) = (command ≡ codes "check") × (system.now ≡ system_name rows)
+IsAskedBy command rows (Run system settings effort out) =
+    (command ≡ codes "run") × (system.now ≡ system_name rows) × AreSettings rows settings × IsEffort rows effort × IsOut rows out
+IsAskedBy command rows (Resume system pavings settings effort out) =
+    (command ≡ codes "resume") × (system.now ≡ system_name rows) × ArePavings rows pavings.items × AreSettings rows settings
+    × IsEffort rows effort × IsOut rows out
+IsAskedBy command rows (Merge system pavings settings out) =
+    (command ≡ codes "merge") × (system.now ≡ system_name rows) × ArePavings rows pavings.items × AreSettings rows settings
+    × IsOut rows out
+IsAskedBy command rows (Audit system paving settings) =
+    (command ≡ codes "audit") × (system.now ≡ system_name rows) × (paving.now ≡ value_of (codes "PAVING") [] rows)
+    × AreSettings rows settings
+
+abbrev pub IsAsked : Option (Text × List Row) → Request → Type 0
+IsAsked None q = ⊥
+IsAsked (Some p) q = IsAskedBy p.0 p.1 q
+
+-- the words, of which the first is the program's name, ask for this
+abbrev pub Asks : List Text → Request → Type 0
+Asks words q = (fault_of paver_app words ≡ []) × IsAsked (subcommand_of paver_app words) q
+
+abbrev pub HasBadValueIn : Option (Text × List Row) → Type 0
+HasBadValueIn None = ⊥
+HasBadValueIn (Some p) = HasBadValue p.1
+
+-- clap refuses the words, or a value is bad
+abbrev pub AreRefused : List Text → Type 0
+AreRefused words = (fault_of paver_app words ≢ []) ⊎ HasBadValueIn (subcommand_of paver_app words)
+
+-- the file that is asked for
+abbrev pub out_of : Request → Option Text
+out_of (Check system) = None
+out_of (Run system settings effort out) = option_map (λ name. name.now) out
+out_of (Resume system pavings settings effort out) = option_map (λ name. name.now) out
+out_of (Merge system pavings settings out) = option_map (λ name. name.now) out
+out_of (Audit system paving settings) = None

@@ -1,0 +1,71 @@
+//! `audit`: settles again what a paving file says is settled.
+ghost use Rattle.std.specs.Prelude.{◌≡◌, IfOk, IfErr, IsSome};
+ghost use Rattle.pv_tree.specs.Trees.{outcome_at};
+ghost use Rattle.pv_file.specs.Lines.{outcome_line};
+ghost use Rattle.pv_cli.specs.Systems.{files, AreOnlyRead};
+ghost use Rattle.pv_cli.specs.Products.{ComesOfAudit, RefusesAudit};
+ghost use Rattle.pv_cli.specs.Reads.{IsDiffers};
+ghost use Rattle.pv_cli.specs.Made.{made};
+
+use crate::Refusal;
+use crate::honest::learn_honest;
+use crate::opening::line_at;
+use crate::pavings::{Key, paving_in};
+use crate::product::Product;
+use crate::request::Settings;
+use crate::system::settler_in;
+use pv_file::write_outcome;
+use pv_io::Folder;
+use pv_join::Audit;
+use pv_num::Memory;
+use pv_tree::{Outcome, Path, Paving};
+use std::alloc::Global;
+
+/// Says that the paving in a file is a stage of the open search box of the system in another.
+pub(crate) fn audit<'a, F: Folder>(
+    alloc: Global,
+    folder: &mut F,
+    system: &'a str,
+    name: &'a str,
+    settings: &Settings<'a>,
+) -> Result<Product, Refusal<'a>>
+    ensures read { AreOnlyRead (files (F.content folder.old) (F.fetch_faults folder.old) (F.store_faults folder.old)) (files (F.content folder.new) (F.fetch_faults folder.new) (F.store_faults folder.new)) }
+    ensures comes { IfOk result (λ p. ComesOfAudit (files (F.content folder.old) (F.fetch_faults folder.old) (F.store_faults folder.old)) system.now name.now settings.now (made p)) }
+    ensures refused { IfErr result (RefusesAudit (files (F.content folder.old) (F.fetch_faults folder.old) (F.store_faults folder.old)) (files (F.content folder.new) (F.fetch_faults folder.new) (F.store_faults folder.new)) system.now name.now settings.now) }
+{
+    let settler = match settler_in(alloc, folder, system, settings) {
+        Ok(settler) => settler,
+        Err(refusal) => return Err(refusal),
+    };
+    let key = Key::of(alloc, &settler)?;
+    let paving = match paving_in(alloc, folder, &key, name) {
+        Ok(paving) => paving,
+        Err(refusal) => return Err(refusal),
+    };
+    match pv_join::audit(alloc, &settler, &paving)? {
+        Audit::Honest => {
+            learn_honest(&paving, &settler);
+            Ok(Product::Text(Vec::from_slice(alloc, b"honest\n")?))
+        }
+        Audit::DiffersAt { path, outcome } => Err(differs(alloc, &paving, path, &outcome)),
+    }
+}
+
+// The refusal for an outcome that is due in place of the one at a path.
+fn differs<'a>(alloc: Global, file: &Paving, path: Path, due: &Outcome) -> Refusal<'a>
+    requires { IsSome (outcome_at file.now.tree path) }
+    ensures { IsDiffers file.now.tree path due.now result }
+{
+    match (line_at(alloc, file, path), line_of(alloc, due)) {
+        (Ok(file), Ok(due)) => Refusal::Differs { path, file, due },
+        _ => Refusal::Memory,
+    }
+}
+
+fn line_of(alloc: Global, outcome: &Outcome) -> Result<Vec<u8>, Memory>
+    ensures { IfOk result (λ line. line.items ≡ outcome_line outcome.now) }
+{
+    let mut line = Vec::new(alloc);
+    write_outcome(outcome, &mut line)?;
+    Ok(line)
+}

@@ -1,0 +1,140 @@
+//! The join of the paving files of a system.
+ghost use Rattle.std.specs.Prelude.{◌≡◌, ◌++◌, ◌∷◌, List, map, IfOk, IfErr, IsSome, OnOk};
+ghost use Rattle.pv_interval.specs.Bounds.{Bounds};
+ghost use Rattle.pv_tree.specs.Trees.{Tree, subtree, outcome_at};
+ghost use Rattle.pv_join.specs.Joins.{IsJoin, IsJoinRefusal};
+ghost use Rattle.pv_file.specs.Lines.{outcome_line};
+ghost use Rattle.pv_tree.specs.declared.outcome.Outcome.{Outcome};
+ghost use Rattle.pv_settle.specs.Settlers.{rule_of};
+ghost use Rattle.pv_cli.specs.Requests.{names_in};
+ghost use Rattle.pv_cli.specs.Systems.{files, AreOnlyRead, search_box};
+ghost use Rattle.pv_cli.specs.Files.{IsJoinOf, RefusesJoin, RefusesOpening};
+ghost use Rattle.pv_cli.specs.Reads.{trees_of, IsOpened, IsLineAt, IsDisagree, AreOver};
+
+use crate::Refusal;
+use crate::pavings::{Key, pavings_in};
+use crate::request::Settings;
+use crate::system::settler_in;
+use pv_box::IBox;
+use pv_file::write_node;
+use pv_io::Folder;
+use pv_join::{JoinRefused, join};
+use pv_num::Memory;
+use pv_settle::SystemSettler;
+use pv_tree::{Path, Paving};
+use std::alloc::Global;
+
+/// The most settled nodes that a tree may have.
+pub(crate) const MOST_SETTLED: u64 = 100_000;
+
+/// A system's settler, and the join of its paving files.
+#[derive(Drop)]
+pub(crate) struct Opening {
+    pub settler: SystemSettler,
+    pub paving: Paving,
+}
+
+/// The join of the files of these names, which hold pavings of the system in a file by the settings.
+pub(crate) fn opening_in<'a, F: Folder>(
+    alloc: Global,
+    folder: &mut F,
+    system: &'a str,
+    names: &[&'a str],
+    settings: &Settings<'a>,
+) -> Result<Opening, Refusal<'a>>
+    ensures read { AreOnlyRead (files (F.content folder.old) (F.fetch_faults folder.old) (F.store_faults folder.old)) (files (F.content folder.new) (F.fetch_faults folder.new) (F.store_faults folder.new)) }
+    ensures opened { IfOk result (IsOpened (files (F.content folder.old) (F.fetch_faults folder.old) (F.store_faults folder.old)) system.now (names_in names.now) settings.now) }
+    ensures refused { IfErr result (RefusesOpening (files (F.content folder.old) (F.fetch_faults folder.old) (F.store_faults folder.old)) (files (F.content folder.new) (F.fetch_faults folder.new) (F.store_faults folder.new)) system.now (names_in names.now) settings.now) }
+{
+    let settler = match settler_in(alloc, folder, system, settings) {
+        Ok(settler) => settler,
+        Err(refusal) => return Err(refusal),
+    };
+    let key = Key::of(alloc, &settler)?;
+    let pavings = match pavings_in(alloc, folder, &key, names) {
+        Ok(pavings) => pavings,
+        Err(refusal) => return Err(refusal),
+    };
+    let root = settler.search_box(alloc)?;
+    match join_all(alloc, root, pavings) {
+        Ok(paving) => Ok(Opening { settler, paving }),
+        Err(refusal) => Err(refusal),
+    }
+}
+
+/// The join of pavings over a box.
+fn join_all<'a>(alloc: Global, root: IBox, pavings: Vec<Paving>) -> Result<Paving, Refusal<'a>>
+    requires { AreOver root pavings.items }
+    ensures root { IfOk result (λ p. p.root ≡ root) }
+    ensures join { IfOk result (λ p. IsJoinOf (trees_of pavings.items) p.tree) }
+    ensures refused { IfErr result (RefusesJoin (trees_of pavings.items)) }
+{
+    let mut rest = pavings;
+    if rest.is_empty() {
+        return Ok(Paving::open(alloc, root)?);
+    }
+    let first = rest.remove(0);
+    join_on(alloc, first, &rest)
+}
+
+// The join of a paving, which is the join of earlier ones, with further ones.
+fn join_on<'a>(alloc: Global, earlier: Paving, later: &[Paving]) -> Result<Paving, Refusal<'a>>
+    requires { AreOver earlier.root later.now }
+    ensures root { IfOk result (λ p. p.root ≡ earlier.root) }
+    ensures join { IfOk result (λ p. (ts : List Tree) → IsJoinOf ts earlier.tree → IsJoinOf (ts ++ trees_of later.now) p.tree) }
+    ensures refused { IfErr result (λ r. (ts : List Tree) → IsJoinOf ts earlier.tree → RefusesJoin (ts ++ trees_of later.now) r) }
+{
+    let Some((next, later)) = later.split_first() else {
+        return Ok(earlier);
+    };
+    match join_two(alloc, &earlier, next) {
+        Ok(joined) => join_on(alloc, joined, later),
+        Err(refusal) => Err(refusal),
+    }
+}
+
+// The join of a paving, which is the join of earlier ones, with another one.
+fn join_two<'a>(alloc: Global, earlier: &Paving, next: &Paving) -> Result<Paving, Refusal<'a>>
+    requires { next.now.root ≡ earlier.now.root }
+    ensures root { IfOk result (λ p. p.root ≡ earlier.now.root) }
+    ensures join { IfOk result (λ p. IsJoin earlier.now.tree next.now.tree p.tree) }
+    ensures refused { IfErr result (λ r. (ts us : List Tree) → IsJoinOf ts earlier.now.tree → RefusesJoin (ts ++ next.now.tree ∷ us) r) }
+{
+    match join(alloc, earlier, next) {
+        Ok(joined) => Ok(joined),
+        Err(refused) => Err(no_join(alloc, earlier, next, refused)),
+    }
+}
+
+// The refusal for two pavings that have no join.
+fn no_join<'a>(alloc: Global, earlier: &Paving, next: &Paving, refused: JoinRefused) -> Refusal<'a>
+    requires { IsJoinRefusal earlier.now.tree next.now.tree refused }
+    ensures { (ts us : List Tree) → IsJoinOf ts earlier.now.tree → RefusesJoin (ts ++ next.now.tree ∷ us) result }
+{
+    match refused {
+        JoinRefused::Memory => Refusal::Memory,
+        JoinRefused::Disagree { path } => disagree(alloc, earlier, next, path),
+    }
+}
+
+// The refusal for two pavings that disagree at a path.
+fn disagree<'a>(alloc: Global, joined: &Paving, file: &Paving, path: Path) -> Refusal<'a>
+    requires joined { IsSome (outcome_at joined.now.tree path) }
+    requires file { IsSome (outcome_at file.now.tree path) }
+    ensures { IsDisagree joined.now.tree file.now.tree path result }
+{
+    match (line_at(alloc, joined, path), line_at(alloc, file, path)) {
+        (Ok(joined), Ok(file)) => Refusal::Disagree { path, joined, file },
+        _ => Refusal::Memory,
+    }
+}
+
+/// The line of the settled node at a path.
+pub(crate) fn line_at(alloc: Global, p: &Paving, path: Path) -> Result<Vec<u8>, Memory>
+    requires { IsSome (outcome_at p.now.tree path) }
+    ensures { IfOk result (λ line. IsLineAt p.now.tree path line.items) }
+{
+    let mut line = Vec::new(alloc);
+    write_node(alloc, p, path, &mut line)?;
+    Ok(line)
+}

@@ -1,0 +1,206 @@
+//! From the words of a command to what they ask for.
+ghost use Rattle.std.specs.Prelude.{◌≡◌, ◌≢◌, ◌⊎◌, List, codes, map, option_map, MatchOption, MatchResult, string_bytes, IfOk, IfErr, unwrap_or};
+ghost use Rattle.clap.specs.Words.{all_of, subcommand_rows_of};
+ghost use Rattle.pv_cli.specs.Requests.{value_of, system_name, paving_names, names_in, AreSettings, IsEffort, ArePavings, IsOut, HasBadValue, IsAskedBy, IsAsked, Asks};
+ghost use Rattle.pv_cli.specs.Found.{rows_in, RefusesValues, RefusesCommand, RefusesFound};
+ghost use Rattle.pv_cli.specs.Ends.{RefusesWords};
+
+use crate::Refusal;
+use crate::command_line::paver;
+use crate::request::{Effort, Request, Settings};
+use crate::values::{bisector_of, count_of, width_of};
+use clap::ArgMatches;
+use clap::error::ErrorKind;
+use std::alloc::Global;
+
+/// Reads the words of a command, of which the first is the program's name.
+pub(crate) fn read<'a>(alloc: Global, words: &'a [String]) -> Result<Request<'a>, Refusal<'a>>
+    ensures { MatchResult result (Asks (map string_bytes words.entry.now)) (RefusesWords (map string_bytes words.entry.now)) }
+{
+    let matches = match paver(alloc)?.try_get_matches_from(words) {
+        Ok(matches) => matches,
+        Err(error) => return Err(refusal_by(error.kind())),
+    };
+    request_of(alloc, &matches)
+}
+
+fn refusal_by<'a>(kind: ErrorKind) -> Refusal<'a>
+    ensures { (result ≡ Refusal.Memory) ⊎ ((result ≡ Refusal.Usage) × (kind ≢ ErrorKind.OutOfMemory)) }
+{
+    match kind {
+        ErrorKind::OutOfMemory => Refusal::Memory,
+        _ => Refusal::Usage,
+    }
+}
+
+fn request_of<'a>(alloc: Global, matches: &ArgMatches<'a>) -> Result<Request<'a>, Refusal<'a>>
+    ensures { MatchResult result (IsAsked (subcommand_rows_of matches.now)) (RefusesFound (subcommand_rows_of matches.now)) }
+{
+    match matches.subcommand() {
+        Some((command, found)) => command_in(alloc, command, found),
+        None => Err(Refusal::Usage),
+    }
+}
+
+fn command_in<'a>(
+    alloc: Global,
+    command: &str,
+    found: &ArgMatches<'a>,
+) -> Result<Request<'a>, Refusal<'a>>
+    ensures { MatchResult result (IsAskedBy command.now (rows_in found.now)) (RefusesCommand command.now (rows_in found.now)) }
+{
+    match command {
+        "check" => Ok(check_in(found)),
+        "run" => run_in(found),
+        "resume" => resume_in(alloc, found),
+        "merge" => merge_in(alloc, found),
+        "audit" => audit_in(found),
+        _ => Err(Refusal::Usage),
+    }
+}
+
+fn check_in<'a>(found: &ArgMatches<'a>) -> Request<'a>
+    ensures { IsAskedBy (codes "check") (rows_in found.now) result }
+{
+    Request::Check {
+        system: text_in(found, "SYSTEM", ""),
+    }
+}
+
+fn run_in<'a>(found: &ArgMatches<'a>) -> Result<Request<'a>, Refusal<'a>>
+    ensures { MatchResult result (IsAskedBy (codes "run") (rows_in found.now)) (RefusesValues (rows_in found.now)) }
+{
+    let settings = match settings_in(found) {
+        Some(settings) => settings,
+        None => return Err(Refusal::Usage),
+    };
+    match effort_in(found) {
+        Some(effort) => Ok(Request::Run {
+            system: text_in(found, "SYSTEM", ""),
+            settings,
+            effort,
+            out: out_in(found),
+        }),
+        None => Err(Refusal::Usage),
+    }
+}
+
+fn resume_in<'a>(alloc: Global, found: &ArgMatches<'a>) -> Result<Request<'a>, Refusal<'a>>
+    ensures { MatchResult result (IsAskedBy (codes "resume") (rows_in found.now)) (RefusesValues (rows_in found.now)) }
+{
+    let pavings = match pavings_in(alloc, found) {
+        Ok(pavings) => pavings,
+        Err(refusal) => return Err(refusal),
+    };
+    let settings = match settings_in(found) {
+        Some(settings) => settings,
+        None => return Err(Refusal::Usage),
+    };
+    match effort_in(found) {
+        Some(effort) => Ok(Request::Resume {
+            system: text_in(found, "SYSTEM", ""),
+            pavings,
+            settings,
+            effort,
+            out: out_in(found),
+        }),
+        None => Err(Refusal::Usage),
+    }
+}
+
+fn merge_in<'a>(alloc: Global, found: &ArgMatches<'a>) -> Result<Request<'a>, Refusal<'a>>
+    ensures { MatchResult result (IsAskedBy (codes "merge") (rows_in found.now)) (RefusesValues (rows_in found.now)) }
+{
+    let pavings = match pavings_in(alloc, found) {
+        Ok(pavings) => pavings,
+        Err(refusal) => return Err(refusal),
+    };
+    match settings_in(found) {
+        Some(settings) => Ok(Request::Merge {
+            system: text_in(found, "SYSTEM", ""),
+            pavings,
+            settings,
+            out: out_in(found),
+        }),
+        None => Err(Refusal::Usage),
+    }
+}
+
+fn audit_in<'a>(found: &ArgMatches<'a>) -> Result<Request<'a>, Refusal<'a>>
+    ensures { MatchResult result (IsAskedBy (codes "audit") (rows_in found.now)) (RefusesValues (rows_in found.now)) }
+{
+    match settings_in(found) {
+        Some(settings) => Ok(Request::Audit {
+            system: text_in(found, "SYSTEM", ""),
+            paving: text_in(found, "PAVING", ""),
+            settings,
+        }),
+        None => Err(Refusal::Usage),
+    }
+}
+
+fn settings_in<'a>(found: &ArgMatches<'a>) -> Option<Settings<'a>>
+    ensures { MatchOption result (HasBadValue (rows_in found.now)) (AreSettings (rows_in found.now)) }
+{
+    let eps = width_of(text_in(found, "eps", "0.125"))?;
+    let depth = count_of(text_in(found, "depth", "60"), 1, 200)? as u32;
+    let bisector = bisector_of(text_in(found, "bisect", "largest"))?;
+    let contract = text_in(found, "contract", "prop(8)");
+    Some(Settings {
+        eps,
+        depth,
+        bisector,
+        contract,
+    })
+}
+
+fn effort_in(found: &ArgMatches<'_>) -> Option<Effort>
+    ensures { MatchOption result (HasBadValue (rows_in found.now)) (IsEffort (rows_in found.now)) }
+{
+    let workers = count_of(text_in(found, "workers", "4"), 1, 16)? as u32;
+    let boxes = count_of(text_in(found, "boxes", "20000"), 1, 100_000)?;
+    Some(Effort { workers, boxes })
+}
+
+fn pavings_in<'a>(alloc: Global, found: &ArgMatches<'a>) -> Result<Vec<&'a str>, Refusal<'a>>
+    ensures { MatchResult result (λ names. ArePavings (rows_in found.now) names.items) (RefusesValues (rows_in found.now)) }
+{
+    let names = match raw_names(alloc, found) {
+        Ok(names) => names,
+        Err(refusal) => return Err(refusal),
+    };
+    if names.len() <= 8 {
+        Ok(names)
+    } else {
+        Err(Refusal::Usage)
+    }
+}
+
+#[tactic(auto, using(crate::proofs::Rows::some_are, crate::proofs::Rows::none_are))]
+fn raw_names<'a>(alloc: Global, found: &ArgMatches<'a>) -> Result<Vec<&'a str>, Refusal<'a>>
+    ensures names { IfOk result (λ names. names_in names.items ≡ paving_names (rows_in found.now)) }
+    ensures refused { IfErr result (λ e. e ≡ Refusal.Memory) }
+{
+    match found.get_raw("PAVING") {
+        Some(names) => Ok(Vec::from_slice(alloc, names)?),
+        None => Ok(Vec::new(alloc)),
+    }
+}
+
+#[tactic(auto, using(crate::proofs::Rows::first_is))]
+fn out_in<'a>(found: &ArgMatches<'a>) -> Option<&'a str>
+    ensures { IsOut (rows_in found.now) result }
+{
+    found.get_str("out")
+}
+
+// The text of a word or an option, or what stands for one that is not given.
+#[tactic(auto, using(crate::proofs::Rows::first_is))]
+fn text_in<'a>(found: &ArgMatches<'a>, name: &str, default: &'a str) -> &'a str
+    ensures { result.now ≡ value_of name.now default.entry.now (rows_in found.now) }
+{
+    match found.get_str(name) {
+        Some(text) => text,
+        None => default,
+    }
+}

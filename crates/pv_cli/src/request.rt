@@ -1,0 +1,66 @@
+//! What a command asks for, with the values of its options.
+ghost use Rattle.std.specs.Prelude.{◌≢◌, ◌≤◌, pos, IsTrue};
+ghost use Rattle.pv_num.specs.Extended.{Fin, PosInf};
+ghost use Rattle.pv_num.specs.Order.{le};
+
+use pv_box::Bisector;
+use pv_num::Num;
+
+/// How boxes are settled.
+#[derive(Clone, Copy)]
+pub struct Settings<'a> {
+    pub eps: Num,
+    pub depth: u32,
+    pub bisector: Bisector,
+    /// The text of the contractor program.
+    pub contract: &'a str,
+    ghost eps_from: { IsTrue (le (Fin (pos 0)) eps) },
+    ghost eps_finite: { eps ≢ PosInf },
+    ghost depth_fits: { (1 ≤ depth) × (depth ≤ 200) },
+}
+
+/// How much is settled at most, and by how many threads.
+#[derive(Clone, Copy)]
+pub struct Effort {
+    pub workers: u32,
+    pub boxes: u64,
+    ghost workers_fit: { (1 ≤ workers) × (workers ≤ 16) },
+    ghost boxes_fit: { (1 ≤ boxes) × (boxes ≤ 100000) },
+}
+
+/// What the words of a command ask for.
+#[derive(Drop)]
+pub enum Request<'a> {
+    /// Print the canonical text of a system.
+    Check {
+        system: &'a str,
+    },
+    /// Pave the search box of a system.
+    Run {
+        system: &'a str,
+        settings: Settings<'a>,
+        effort: Effort,
+        out: Option<&'a str>,
+    },
+    /// Go on from the join of paving files.
+    Resume {
+        system: &'a str,
+        pavings: Vec<&'a str>,
+        settings: Settings<'a>,
+        effort: Effort,
+        out: Option<&'a str>,
+    },
+    /// Join paving files.
+    Merge {
+        system: &'a str,
+        pavings: Vec<&'a str>,
+        settings: Settings<'a>,
+        out: Option<&'a str>,
+    },
+    /// Settle again what a paving file says is settled.
+    Audit {
+        system: &'a str,
+        paving: &'a str,
+        settings: Settings<'a>,
+    },
+}

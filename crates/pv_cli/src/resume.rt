@@ -1,0 +1,79 @@
+//! `resume`: what a budget settles of the join of paving files.
+ghost use Rattle.std.specs.Prelude.{◌≡◌, ◌+◌, ◌<◌, ◌≤◌, IfOk, IfErr, length};
+ghost use Rattle.pv_settle.specs.Rules.{dims_of};
+ghost use Rattle.pv_settle.specs.Settlers.{rule_of};
+ghost use Rattle.pv_cli.specs.Requests.{names_in};
+ghost use Rattle.pv_cli.specs.Systems.{files, AreOnlyRead, search_box};
+ghost use Rattle.pv_cli.specs.Pavings.{settled_in};
+ghost use Rattle.pv_cli.specs.Products.{ComesOfResume, RefusesJoined};
+ghost use Rattle.pv_cli.specs.Made.{made};
+ghost use Rattle.pv_cli.specs.Resumed.{IsResumed, GivesResumed};
+
+use crate::honest::learn_honest;
+use crate::opening::{MOST_SETTLED, Opening, opening_in};
+use crate::product::Product;
+use crate::request::{Effort, Settings};
+use crate::{Gate, Refusal, pave};
+use pv_io::Folder;
+use pv_num::Memory;
+use pv_settle::SystemSettler;
+use pv_tree::Paving;
+use std::alloc::Global;
+
+/// What the budget settles of the join of the files of these names.
+pub(crate) fn resume<'a, F: Folder, G: Gate>(
+    alloc: Global,
+    folder: &mut F,
+    system: &'a str,
+    names: &[&'a str],
+    settings: &Settings<'a>,
+    effort: &Effort,
+    gate: &G,
+) -> Result<Product, Refusal<'a>>
+    ensures read { AreOnlyRead (files (F.content folder.old) (F.fetch_faults folder.old) (F.store_faults folder.old)) (files (F.content folder.new) (F.fetch_faults folder.new) (F.store_faults folder.new)) }
+    ensures comes { IfOk result (λ p. ComesOfResume (files (F.content folder.old) (F.fetch_faults folder.old) (F.store_faults folder.old)) system.now (names_in names.now) settings.now effort.now.boxes (made p)) }
+    ensures refused { IfErr result (RefusesJoined (files (F.content folder.old) (F.fetch_faults folder.old) (F.store_faults folder.old)) (files (F.content folder.new) (F.fetch_faults folder.new) (F.store_faults folder.new)) system.now (names_in names.now) settings.now effort.now.boxes) }
+{
+    let opening = match opening_in(alloc, folder, system, names, settings) {
+        Ok(opening) => opening,
+        Err(refusal) => return Err(refusal),
+    };
+    let settled = opening.paving.counts().settled();
+    if settled + effort.boxes > MOST_SETTLED {
+        return Err(Refusal::TreeLimit { settled });
+    }
+    Ok(resumed(alloc, opening, effort.boxes, gate)?)
+}
+
+fn resumed<G: Gate>(
+    alloc: Global,
+    opening: Opening,
+    budget: u64,
+    gate: &G,
+) -> Result<Product, Memory>
+    requires root { opening.paving.root ≡ search_box (rule_of opening.settler) }
+    requires dims { length opening.paving.root ≡ dims_of (rule_of opening.settler) }
+    ensures { IfOk result (λ p. GivesResumed (rule_of opening.settler) opening.paving.tree budget (made p)) }
+{
+    let Opening { settler, paving } = opening;
+    let identity = settler.identity(alloc)?;
+    let paving = go_on(alloc, &settler, paving, budget, gate)?;
+    Ok(Product::Paved { identity, paving })
+}
+
+fn go_on<G: Gate>(
+    alloc: Global,
+    settler: &SystemSettler,
+    opening: Paving,
+    budget: u64,
+    gate: &G,
+) -> Result<Paving, Memory>
+    requires root { opening.root ≡ search_box (rule_of settler.now) }
+    requires dims { length opening.root ≡ dims_of (rule_of settler.now) }
+    ensures root { IfOk result (λ p. p.root ≡ search_box (rule_of settler.now)) }
+    ensures resumed { IfOk result (λ p. IsResumed (rule_of settler.now) opening.tree budget p.tree) }
+{
+    let paving = pave(alloc, settler, opening, budget, gate)?;
+    learn_honest(&paving, settler);
+    Ok(paving)
+}

@@ -1,0 +1,59 @@
+//! `run`: a paving of the search box of a system.
+ghost use Rattle.std.specs.Prelude.{◌≡◌, IfOk, IfErr, length};
+ghost use Rattle.pv_tree.specs.Trees.{leaf};
+ghost use Rattle.pv_settle.specs.Settlers.{rule_of};
+ghost use Rattle.pv_settle.specs.Rules.{dims_of};
+ghost use Rattle.pv_settle.specs.Settling.{settle_by};
+ghost use Rattle.pv_cli.specs.Systems.{files, AreOnlyRead, RefusesRule, search_box};
+ghost use Rattle.pv_cli.specs.Pavings.{IsPaved};
+ghost use Rattle.pv_cli.specs.Products.{ComesOfRun};
+ghost use Rattle.pv_cli.specs.Made.{made};
+
+use crate::growing::grow;
+use crate::honest::learn_honest;
+use crate::product::Product;
+use crate::request::{Effort, Settings};
+use crate::system::settler_in;
+use crate::{Gate, Refusal};
+use pv_io::Folder;
+use pv_num::Memory;
+use pv_settle::SystemSettler;
+use pv_tree::Paving;
+use std::alloc::Global;
+
+/// The paving of the search box of the system in a file, as far as the budget goes.
+pub(crate) fn run<'a, F: Folder, G: Gate>(
+    alloc: Global,
+    folder: &mut F,
+    system: &'a str,
+    settings: &Settings<'a>,
+    effort: &Effort,
+    gate: &G,
+) -> Result<Product, Refusal<'a>>
+    ensures read { AreOnlyRead (files (F.content folder.old) (F.fetch_faults folder.old) (F.store_faults folder.old)) (files (F.content folder.new) (F.fetch_faults folder.new) (F.store_faults folder.new)) }
+    ensures comes { IfOk result (λ p. ComesOfRun (files (F.content folder.old) (F.fetch_faults folder.old) (F.store_faults folder.old)) system.now settings.now effort.now.boxes (made p)) }
+    ensures refused { IfErr result (RefusesRule (files (F.content folder.old) (F.fetch_faults folder.old) (F.store_faults folder.old)) (files (F.content folder.new) (F.fetch_faults folder.new) (F.store_faults folder.new)) system.now settings.now) }
+{
+    let settler = match settler_in(alloc, folder, system, settings) {
+        Ok(settler) => settler,
+        Err(refusal) => return Err(refusal),
+    };
+    let identity = settler.identity(alloc)?;
+    let paving = paved(alloc, &settler, effort.boxes, gate)?;
+    learn_honest(&paving, &settler);
+    Ok(Product::Paved { identity, paving })
+}
+
+fn paved<G: Gate>(
+    alloc: Global,
+    settler: &SystemSettler,
+    budget: u64,
+    gate: &G,
+) -> Result<Paving, Memory>
+    ensures root { IfOk result (λ p. p.root ≡ search_box (rule_of settler.now)) }
+    ensures paved { IfOk result (λ p. IsPaved (settle_by (rule_of settler.now)) (rule_of settler.now).depth (search_box (rule_of settler.now)) leaf budget p.tree) }
+    ensures dims { IfOk result (λ p. length p.root ≡ dims_of (rule_of settler.now)) }
+{
+    let root = settler.search_box(alloc)?;
+    grow(alloc, settler, root, budget, gate)
+}

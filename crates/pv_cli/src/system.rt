@@ -1,0 +1,126 @@
+//! The system of a command, and its settler.
+ghost use Rattle.std.specs.Prelude.{◌≡◌, ◌≤◌, ℕ, List, length, IfOk, IfErr};
+ghost use Rattle.pv_settle.specs.Settlers.{rule_of};
+ghost use Rattle.pv_cli.specs.Systems.{files, AreOnlyRead, IsFetched, HasSystem, RefusesSystem, RefusesFetch, IsRuleFor, HasRule, RefusesSettings, RefusesRule};
+
+use crate::Refusal;
+use crate::request::Settings;
+use pv_ctc::{Program, ProgramRefused};
+use pv_expr::System;
+use pv_io::{FetchRefused, Folder};
+use pv_parse::{ParseRefused, parse};
+use pv_settle::SystemSettler;
+use std::alloc::Global;
+
+/// The longest text of a system, in bytes.
+const SYSTEM_LIMIT: u64 = 65536;
+
+impl<'a> From<ParseRefused> for Refusal<'a> {
+    ghost use Rattle.pv_cli.specs.Systems.{refusal_of};
+
+    ghost from_gives = { λ fault e. e ≡ refusal_of fault };
+
+    fn from(refused: ParseRefused) -> Self {
+        match refused {
+            ParseRefused::Memory => Refusal::Memory,
+            ParseRefused::Fault {
+                byte,
+                line,
+                column,
+                cause,
+            } => Refusal::System {
+                line,
+                column,
+                byte,
+                cause,
+            },
+        }
+    }
+}
+
+impl<'a> From<ProgramRefused> for Refusal<'a> {
+    ghost use Rattle.pv_cli.specs.Systems.{program_refusal_of};
+
+    ghost from_gives = { λ fault e. e ≡ program_refusal_of fault };
+
+    fn from(refused: ProgramRefused) -> Self {
+        match refused {
+            ProgramRefused::Memory => Refusal::Memory,
+            ProgramRefused::Bad { byte } => Refusal::Contract { byte },
+        }
+    }
+}
+
+/// The settler of the system in a file, by the settings.
+pub(crate) fn settler_in<'a, F: Folder>(
+    alloc: Global,
+    folder: &mut F,
+    name: &'a str,
+    settings: &Settings<'a>,
+) -> Result<SystemSettler, Refusal<'a>>
+    ensures read { AreOnlyRead (files (F.content folder.old) (F.fetch_faults folder.old) (F.store_faults folder.old)) (files (F.content folder.new) (F.fetch_faults folder.new) (F.store_faults folder.new)) }
+    ensures rule { IfOk result (λ s. HasRule (files (F.content folder.old) (F.fetch_faults folder.old) (F.store_faults folder.old)) name.now settings.now (rule_of s)) }
+    ensures refused { IfErr result (RefusesRule (files (F.content folder.old) (F.fetch_faults folder.old) (F.store_faults folder.old)) (files (F.content folder.new) (F.fetch_faults folder.new) (F.store_faults folder.new)) name.now settings.now) }
+{
+    match system_in(alloc, folder, name) {
+        Ok(system) => settler_for(alloc, system, settings),
+        Err(refusal) => Err(refusal),
+    }
+}
+
+fn settler_for<'a>(
+    alloc: Global,
+    system: System,
+    settings: &Settings<'a>,
+) -> Result<SystemSettler, Refusal<'a>>
+    ensures rule { IfOk result (λ s. IsRuleFor system settings.now (rule_of s)) }
+    ensures refused { IfErr result (RefusesSettings system settings.now) }
+{
+    let program = Program::read(
+        alloc,
+        settings.contract.as_bytes(),
+        system.constraint_count(),
+    )?;
+    let by = pv_settle::Settings {
+        eps: settings.eps,
+        depth: settings.depth,
+        bisector: settings.bisector,
+    };
+    Ok(SystemSettler::new(alloc, system, program, by)?)
+}
+
+/// The system in a file.
+pub(crate) fn system_in<'a, F: Folder>(
+    alloc: Global,
+    folder: &mut F,
+    name: &'a str,
+) -> Result<System, Refusal<'a>>
+    ensures read { AreOnlyRead (files (F.content folder.old) (F.fetch_faults folder.old) (F.store_faults folder.old)) (files (F.content folder.new) (F.fetch_faults folder.new) (F.store_faults folder.new)) }
+    ensures system { IfOk result (λ s. HasSystem (files (F.content folder.old) (F.fetch_faults folder.old) (F.store_faults folder.old)) name.now s) }
+    ensures refused { IfErr result (RefusesSystem (files (F.content folder.old) (F.fetch_faults folder.old) (F.store_faults folder.old)) (files (F.content folder.new) (F.fetch_faults folder.new) (F.store_faults folder.new)) name.now) }
+{
+    match text_in(alloc, folder, name) {
+        Ok(text) => Ok(parse(alloc, &text)?),
+        Err(refusal) => Err(refusal),
+    }
+}
+
+// The text of a system, or the first 65,537 bytes of a longer one.
+#[tactic(auto, using(crate::proofs::Fetches::fetched_whole, crate::proofs::Fetches::fetched_front))]
+fn text_in<'a, F: Folder>(
+    alloc: Global,
+    folder: &mut F,
+    name: &'a str,
+) -> Result<Vec<u8>, Refusal<'a>>
+    ensures read { AreOnlyRead (files (F.content folder.old) (F.fetch_faults folder.old) (F.store_faults folder.old)) (files (F.content folder.new) (F.fetch_faults folder.new) (F.store_faults folder.new)) }
+    ensures text { IfOk result (λ text. IsFetched (F.content folder.old name.now) text.items) }
+    ensures refused { IfErr result (RefusesFetch (files (F.content folder.old) (F.fetch_faults folder.old) (F.store_faults folder.old)) (files (F.content folder.new) (F.fetch_faults folder.new) (F.store_faults folder.new)) name.now) }
+{
+    let mut text = Vec::new(alloc);
+    match folder.fetch(name, SYSTEM_LIMIT, &mut text) {
+        Ok(()) | Err(FetchRefused::TooLong) => Ok(text),
+        Err(FetchRefused::Absent) => Err(Refusal::NoFile { name }),
+        Err(FetchRefused::Failed) => Err(Refusal::ReadFault { name }),
+        Err(FetchRefused::Memory) => Err(Refusal::Memory),
+    }
+}
