@@ -1,0 +1,26 @@
+# Completion of paver's words for bash.
+_paver() {
+    local word=${COMP_WORDS[COMP_CWORD]} before=${COMP_WORDS[COMP_CWORD-1]} command=${COMP_WORDS[1]}
+    local settings="--eps --depth --bisect --contract"
+    COMPREPLY=()
+    if [ "$COMP_CWORD" -eq 1 ]; then
+        mapfile -t COMPREPLY < <(compgen -W "check run resume merge audit" -- "$word")
+        return
+    fi
+    case $before in
+        --bisect) mapfile -t COMPREPLY < <(compgen -W "largest round" -- "$word"); return ;;
+        --contract) mapfile -t COMPREPLY < <(compgen -W "prop(8) hc4( compose( union( qinter( fix( prop(" -- "$word"); return ;;
+        --eps|--depth|--boxes|--workers) return ;;
+        --out) mapfile -t COMPREPLY < <(compgen -f -- "$word"); return ;;
+    esac
+    if [[ $word == -* ]]; then
+        case $command in
+            run|resume) mapfile -t COMPREPLY < <(compgen -W "$settings --boxes --workers --out" -- "$word") ;;
+            merge) mapfile -t COMPREPLY < <(compgen -W "$settings --out" -- "$word") ;;
+            audit) mapfile -t COMPREPLY < <(compgen -W "$settings" -- "$word") ;;
+        esac
+        return
+    fi
+    mapfile -t COMPREPLY < <(compgen -f -- "$word")
+}
+complete -o filenames -F _paver paver

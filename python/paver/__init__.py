@@ -1,0 +1,30 @@
+"""Runs the interval paver, reads its pavings exactly, and helps to write its systems.
+
+    import paver
+    answer = paver.run("examples/ring.mbx", eps="0.25")
+    paving = answer.paving()
+    print(paving.counts(), paving.volumes(), paving.hull())
+    for box in paving.inner(): print(box.exact)
+
+Numbers are exact Fractions; floats are rounded outward and come only where they are asked for.
+"""
+from .advice import depth_that_suffices, warnings_of
+from .canonical import System
+from .cover import Box, Cluster
+from .errors import (ContractRefused, Disagree, NoFile, NotInProgram, PaverError, PavingError, PavingRefused,
+                     ProgramFault, ProgramMissing, ReadFault, SystemRefused, TreeLimit, UsageError, WantOfMemory,
+                     WriteFault)
+from .paving import Parts, Paving
+from .picture import svg
+from .plots import plot, plot_projection
+from .program import Answer, audit, check, check_text, find, merge, resume, run
+from .roots import find_roots
+from .split import gather, split
+
+__all__ = [
+    "Answer", "Box", "Cluster", "ContractRefused", "Disagree", "NoFile", "NotInProgram", "Parts", "Paving",
+    "PaverError", "PavingError", "PavingRefused", "ProgramFault", "ProgramMissing", "ReadFault", "System",
+    "SystemRefused", "TreeLimit", "UsageError", "WantOfMemory", "WriteFault", "audit", "check", "check_text",
+    "depth_that_suffices", "find", "find_roots", "gather", "merge", "plot", "plot_projection", "resume", "run",
+    "split", "svg", "warnings_of",
+]

@@ -1,0 +1,223 @@
+"""python -m paver COMMAND: tools around the program. Each is a function of the package too."""
+import argparse
+import os
+import sys
+from pathlib import Path
+
+from . import errors, explain, program
+from .advice import limits_of, warnings_of
+from .cover import KEPT
+from .ibex import translate
+from .numbers import as_float
+from .paving import Paving
+from .picture import svg
+from .plots import drawing, plot, plot_projection
+from .roots import ONE, TESTED, NotSquare, find_roots
+from .split import gather, split
+
+
+def run_options(parser):
+    for name in program.OPTIONS:
+        parser.add_argument(f"--{name}", help=f"as the program's --{name}")
+
+
+def options_of(arguments):
+    return {name: getattr(arguments, name) for name in program.OPTIONS if getattr(arguments, name) is not None}
+
+
+def paving_of(arguments, sentences=warnings_of):
+    """The paving of a command, a file's or that of a run, and the sentences on it."""
+    if getattr(arguments, "paving", None):
+        return Paving.read(arguments.paving, system=arguments.system, program=arguments.program), []
+    answer = program.run(arguments.system, program=arguments.program, **options_of(arguments))
+    paving = answer.paving()
+    return paving, sentences(answer, paving)
+
+
+def roots(arguments):
+    """Prints each cluster of undecided boxes of a square system with its verdict. Status 1 where one is undecided."""
+    system = program.check(arguments.system, program=arguments.program)
+    paving, warnings = paving_of(arguments, limits_of)
+    found = find_roots(system, paving)
+    for root in found:
+        count = "1 box" if root.boxes == 1 else f"{root.boxes} boxes"
+        print(f"{root.verdict}: {count}" + (f" ({root.remark})" if root.remark else ""))
+        for name, (low, high) in zip(system.names, root.box):
+            print(f"  {name} in [{as_float(low, False)!r}, {as_float(high, True)!r}]")
+    counts = {verdict: sum(root.verdict == verdict for root in found) for verdict in (ONE, "none", "undecided")}
+    print(f"{counts[ONE]} roots, {counts['none']} clusters without one, {counts['undecided']} undecided; {TESTED}.")
+    report(warnings)
+    return 1 if counts["undecided"] or paving.counts()["open"] else 0
+
+
+def report(warnings):
+    for sentence in warnings:
+        print(f"note: {sentence}", file=sys.stderr)
+
+
+def from_ibex(arguments):
+    """Prints the profile's text of an IBEX file; status 3, and each form by its line, where something is refused."""
+    found = translate(Path(arguments.file).read_text(encoding="latin-1"))
+    for refusal in found.refusals:
+        print(f"{arguments.file}: {refusal}", file=sys.stderr)
+    if found.text is None:
+        return 3
+    for note in found.notes:
+        print(f"note: {note}", file=sys.stderr)
+    sys.stdout.write(found.text)
+    return 0
+
+
+def explain_command(arguments):
+    """Says in sentences what is refused, or lists the constraints by number. Status 2 where something is refused."""
+    lines, good = explain.explained(arguments.system, arguments.options, arguments.program)
+    print("\n".join(lines))
+    if good and arguments.groups:
+        system = program.check(arguments.system, program=arguments.program)
+        groups = explain.groups_of(len(system.constraints), arguments.groups)
+        agree = arguments.agree or max(1, len(groups) - 1)
+        print(f"at least {agree} of {len(groups)} groups of constraints:")
+        print(f"  --contract '{explain.qinter_text(groups, agree)}'")
+    return 0 if good else 2
+
+
+def summary(arguments):
+    """Prints counts, volumes, hull, clusters and the widest small box of a paving."""
+    paving, warnings = paving_of(arguments)
+    print_summary(paving)
+    report(warnings)
+    return 0
+
+
+def print_summary(paving):
+    print(" ".join(f"{name} {count}" for name, count in paving.counts().items()))
+    for kind, volume in paving.volumes().items():
+        print(f"volume {kind} {as_float(volume, False):.9g}")
+    for k, (low, high) in enumerate(paving.floats_of_hull() or ()):
+        print(f"hull {paving.name_of(k)} [{low:.17g}, {high:.17g}]")
+    print(f"clusters {len(paving.clusters())}")
+    widest = paving.widest()
+    if widest is not None:
+        print(f"widest small box {as_float(widest.width, True):.9g}: {widest!r}")
+
+
+def csv_command(arguments):
+    """Prints the kept boxes of a paving as CSV."""
+    paving, warnings = paving_of(arguments)
+    paving.write_csv(sys.stdout, KEPT, arguments.exactly)
+    report(warnings)
+    return 0
+
+
+def plot_command(arguments):
+    """Draws a slice, or the projection on two variables, into a picture file: SVG by the package itself, other forms by
+    matplotlib where it is installed."""
+    paving, warnings = paving_of(arguments)
+    at = dict(word.split("=", 1) for word in arguments.at or [])
+    names = [int(word) if word.isdigit() else word for word in (arguments.x, arguments.y)]
+    title = Path(arguments.system).stem
+    if arguments.picture.endswith(".svg"):
+        Path(arguments.picture).write_text(svg(paving, *names, at, arguments.project, title, not arguments.stretch,
+                                               arguments.near))
+    else:
+        draw_by_matplotlib(paving, names, at, title, arguments)
+    report(warnings)
+    return 0
+
+
+def draw_by_matplotlib(paving, names, at, title, arguments):
+    pyplot = drawing()[0]
+    if arguments.project:
+        plot_projection(paving, *names, title=title, equal=not arguments.stretch)
+    else:
+        plot(paving, *names, at, title=title, equal=not arguments.stretch)
+    pyplot.savefig(arguments.picture)
+
+
+def split_command(arguments):
+    """Writes the sub-systems of the parts of a search box, and prints their names."""
+    variables = arguments.variables.split(",") if arguments.variables else None
+    for path in split(arguments.system, arguments.parts, arguments.folder, variables=variables,
+                      program=arguments.program):
+        print(path)
+    return 0
+
+
+def gather_command(arguments):
+    """Puts the answers to a folder's parts together: a summary, or CSV."""
+    parts = gather(arguments.folder, program=arguments.program)
+    if arguments.csv:
+        parts.write_csv(sys.stdout, KEPT, False)
+    else:
+        print_summary(parts)
+    return 0
+
+
+def parser():
+    main_parser = argparse.ArgumentParser(prog="python -m paver", description=__doc__)
+    main_parser.add_argument("--program", help="the program's path; else the variable PAVER, else PATH")
+    commands = main_parser.add_subparsers(dest="command", required=True)
+    for name, work in (("roots", roots), ("summary", summary), ("csv", csv_command), ("plot", plot_command)):
+        command = commands.add_parser(name, help=work.__doc__, description=work.__doc__)
+        command.set_defaults(work=work)
+        command.add_argument("system")
+        command.add_argument("paving", nargs="?", help="a stored paving or printed text; else the system is run")
+        run_options(command)
+    commands.choices["csv"].add_argument("--exactly", action="store_true", help="fractions in place of floats")
+    drawn = commands.choices["plot"]
+    drawn.add_argument("--picture", required=True, help="the file to write, as ring.png")
+    drawn.add_argument("--x", default="0", help="a variable's name or number")
+    drawn.add_argument("--y", default="1")
+    drawn.add_argument("--at", action="append", metavar="NAME=VALUE", help="the value of another variable")
+    drawn.add_argument("--near", action="store_true", help="axes around what is kept (SVG)")
+    drawn.add_argument("--stretch", action="store_true", help="scales that are not equal")
+    drawn.add_argument("--project", action="store_true", help="the projection in place of a slice")
+    more_commands(commands)
+    return main_parser
+
+
+def more_commands(commands):
+    def add(name, work):
+        command = commands.add_parser(name, help=work.__doc__, description=work.__doc__)
+        command.set_defaults(work=work)
+        return command
+
+    add("from-ibex", from_ibex).add_argument("file")
+    explained = add("explain", explain_command)
+    explained.add_argument("system")
+    explained.add_argument("--groups", type=int, help="constraints in each group of a qinter text")
+    explained.add_argument("--agree", type=int, help="how many groups have to agree; else all but one")
+    explained.set_defaults(options=[])
+    parted = add("split", split_command)
+    parted.add_argument("system")
+    parted.add_argument("--parts", type=int, required=True)
+    parted.add_argument("--folder", default="parts")
+    parted.add_argument("--variables", help="names of those that may be cut, joined by commas")
+    gathered = add("gather", gather_command)
+    gathered.add_argument("folder")
+    gathered.add_argument("--csv", action="store_true")
+
+
+def main(words=None):
+    known = parser()
+    arguments, rest = known.parse_known_args(words)
+    if rest and arguments.command != "explain":
+        known.error(f"unknown words: {' '.join(rest)}")
+    if arguments.command == "explain":
+        arguments.options = rest
+    try:
+        return arguments.work(arguments)
+    except errors.SystemRefused as fault:
+        text = Path(arguments.system).read_bytes().decode("latin-1")
+        print("\n".join(explain.of_refused_system(arguments.system, text, fault)), file=sys.stderr)
+        return 3
+    except BrokenPipeError:  # a reader as head ended early: nothing more can be said on standard output
+        os.dup2(os.open(os.devnull, os.O_WRONLY), sys.stdout.fileno())
+        return 6
+    except (errors.PaverError, errors.PavingError, NotSquare, ValueError, OSError, ImportError) as fault:
+        print(f"paver: {fault}", file=sys.stderr)
+        return 2
+
+
+if __name__ == "__main__":
+    sys.exit(main())

@@ -1,0 +1,136 @@
+"""A system as the program understood it: what `paver check` prints, read.
+
+An expression is a list of steps in postfix order: ("const", Fraction), ("var", i), ("^", n), or an operation's sign
+alone, as ("+",) or ("neg",).
+"""
+import re
+from fractions import Fraction
+
+PRECEDENCE = {"+": 1, "-": 1, "*": 2, "/": 2, "neg": 2, "^": 3}
+
+
+class Constraint:
+    """relation is =, <=, >=, < or >; left and right are expressions."""
+
+    def __init__(self, relation, left, right):
+        self.relation, self.left, self.right = relation, left, right
+
+    def infix(self, names):
+        return f"{infix(self.left, names)} {self.relation} {infix(self.right, names)}"
+
+
+class System:
+    """names of the variables; root, the search box as texts, low and high end of each variable in turn;
+    constraints in order; text is the canonical text."""
+
+    def __init__(self, names, root, constraints, text):
+        self.names, self.root, self.constraints, self.text = names, root, constraints, text
+
+    @classmethod
+    def from_text(cls, text):
+        """Reads the canonical text; ValueError where it is none."""
+        lines = text.splitlines()
+        try:
+            count = int(lines[0].split(" ")[1])
+            variables = [line.split(" ") for line in lines[1:1 + count]]
+            constraints = [read_constraint(line) for line in lines[2 + count:]]
+            names = [words[0] for words in variables]
+            root = tuple(end for words in variables for end in words[1:3])
+        except (IndexError, ValueError) as fault:
+            raise ValueError("this is no canonical text") from fault
+        return cls(names, root, constraints, text)
+
+
+def read_constraint(line):
+    relation, _, rest = line.partition(" ")
+    words = re.findall(r"[()]|[^\s()]+", rest)
+    left, at = read_expression(words, 0)
+    right, at = read_expression(words, at)
+    if at != len(words):
+        raise ValueError("words behind the right side")
+    return Constraint(relation, left, right)
+
+
+def read_expression(words, at):
+    """The expression that begins at a word, and where the next one begins; without recursion, as trees can be deep."""
+    steps, waiting = [], []
+    while True:
+        word = words[at]
+        at += 1
+        if word == "(":
+            waiting.append(words[at])
+            at += 1
+        elif word == ")":
+            operation = waiting.pop()
+            if operation != "^":
+                steps.append((operation,))
+        elif waiting and waiting[-1] == "^" and word.isdigit():
+            steps.append(("^", int(word)))
+        elif word.startswith("v"):
+            steps.append(("var", int(word[1:])))
+        else:
+            steps.append(("const", Fraction(word)))
+        if not waiting:
+            return steps, at
+
+
+def infix(steps, names):
+    """An expression as Minibex writes it, with few parentheses."""
+    stack = []
+    for step in steps:
+        kind = step[0]
+        if kind == "const":
+            stack.append(constant_text(step[1]))
+        elif kind == "var":
+            stack.append((names[step[1]], 4))
+        elif kind == "^":
+            base, rank = stack.pop()
+            stack.append((f"{base}^{step[1]}" if rank == 4 else f"({base})^{step[1]}", 3))
+        elif kind == "neg":
+            inner, rank = stack.pop()
+            stack.append((f"-{inner}" if rank >= 3 else f"-({inner})", 2))
+        elif kind == "abs":
+            stack.append((f"abs({stack.pop()[0]})", 4))
+        else:
+            right, left = stack.pop(), stack.pop()
+            stack.append(joined(kind, left, right))
+    return stack[0][0]
+
+
+def joined(kind, left, right):
+    if kind in ("min", "max"):
+        return f"{kind}({left[0]}, {right[0]})", 4
+    rank = PRECEDENCE[kind]
+    first = left[0] if left[1] >= rank else f"({left[0]})"
+    second = right[0] if right[1] > rank and not right[0].startswith("-") else f"({right[0]})"
+    blank = " " if rank == 1 else ""
+    return f"{first}{blank}{kind}{blank}{second}", rank
+
+
+def constant_text(value):
+    from .numbers import decimal
+    text = decimal(value)
+    if text is None or len(text) > 12:
+        return f"{value.numerator}/{value.denominator}" if value.denominator != 1 else str(value), 2
+    return text, 4 if value >= 0 else 2
+
+
+def value(steps, point):
+    """The exact value at a point of rational numbers; None where it is undefined."""
+    stack = []
+    for step in steps:
+        kind = step[0]
+        if kind == "const":
+            stack.append(step[1])
+        elif kind == "var":
+            stack.append(point[step[1]])
+        elif kind in ("^", "neg", "abs"):
+            x = stack.pop()
+            stack.append(x ** step[1] if kind == "^" else -x if kind == "neg" else abs(x))
+        else:
+            y, x = stack.pop(), stack.pop()
+            if kind == "/" and y == 0:
+                return None
+            stack.append(x + y if kind == "+" else x - y if kind == "-" else x * y if kind == "*" else
+                         x / y if kind == "/" else min(x, y) if kind == "min" else max(x, y))
+    return stack[0]

@@ -1,0 +1,76 @@
+"""What can go wrong with a call of the program, each cause as an exception with its place."""
+
+
+class PaverError(Exception):
+    """The base of all: status is the program's, line what it wrote on standard error."""
+
+    def __init__(self, status, line, **place):
+        super().__init__(line or f"the program ended with status {status}")
+        self.status, self.line = status, line
+        for name, value in place.items():
+            setattr(self, name, value)
+
+
+class UsageError(PaverError):
+    """Status 2: the words or a value are refused."""
+
+
+class ContractRefused(UsageError):
+    """Status 2: the contractor text is refused at .byte."""
+
+
+class ObjectiveRefused(UsageError):
+    """Status 2: the expression of --of is refused at .byte with .cause."""
+
+
+class SystemRefused(PaverError):
+    """Status 3: the system is refused at .row, .column (from 1) and .byte (from 0) with .cause."""
+
+
+class PavingRefused(PaverError):
+    """Status 4: the paving .name is refused with .cause, at .row (None where the cause has no line)."""
+
+
+class ReadFault(PaverError):
+    """Status 5: the file .name could not be read."""
+
+
+class WriteFault(PaverError):
+    """Status 6: .name, a file or standard output, took not all."""
+
+
+class WantOfMemory(PaverError):
+    """Status 7."""
+
+
+class TreeLimit(PaverError):
+    """Status 8: .settled nodes, and the budget with them, are above 100,000."""
+
+
+class Disagree(PaverError):
+    """Status 9: at the node .path, pavings disagree (.kind "disagree") or a paving differs from what settling gives
+    ("differs"); .first and .second are the two node lines, None for what is an open leaf's place."""
+
+
+class NoFile(PaverError):
+    """Status 11: there is no file .name."""
+
+
+class ProgramFault(PaverError):
+    """The program ended in a way that it should not: by a signal, or with an unknown status."""
+
+
+class ProgramMissing(PaverError):
+    """The program was not found: give its path, set the variable PAVER, or put it on PATH."""
+
+
+class NotInProgram(UsageError):
+    """The program that was found has no such command or option yet."""
+
+
+class PavingError(ValueError):
+    """A text that is no paving: .row is its line from 1, .cause says what is wrong."""
+
+    def __init__(self, row, cause):
+        super().__init__(f"line {row}: {cause}")
+        self.row, self.cause = row, cause

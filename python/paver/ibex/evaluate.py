@@ -1,0 +1,308 @@
+"""What the expressions of a file mean: arrays of scalar terms."""
+import math
+from fractions import Fraction
+
+from .. import minibex as profile
+from . import terms
+from .refusals import INSTEAD, Refusal, refused_word
+from .terms import Array, scalar
+
+ARGUMENTS = {"abs": 1, "sqr": 1}
+MOST_PARAMETERS = 12
+MOST_TURNS = 10000  # of one loop or sum, and of a power
+
+
+class IntervalConstant:
+    """low and high are exact values, Fractions or ±math.inf."""
+
+    def __init__(self, low, high):
+        self.low, self.high = low, high
+
+
+class Scope:
+    """What names mean: constants, variables and functions of the file, and the loops and parameters around."""
+
+    def __init__(self, declared=()):
+        self.names, self.functions = {}, {}
+        self.declared, self.taken = set(declared), set(profile.RESERVED)
+        self.variables, self.variable_names = [], set()
+        self.extra, self.written, self.notes = [], {}, []
+
+    def fresh(self, wanted, own=None):
+        """A name that is not taken, near the wanted one: own is the declared name that may be taken."""
+        name = wanted
+        while name in self.taken or (name in self.declared and name != own):
+            name += "_"
+        self.taken.add(name)
+        return name
+
+    def without_variables(self):
+        """The scope of a function's body."""
+        bare = Scope.__new__(Scope)
+        bare.__dict__.update(self.__dict__)
+        bare.names = {name: value for name, value in self.names.items() if name not in self.variable_names}
+        return bare
+
+
+class Evaluator:
+    def __init__(self, scope, local=None):
+        self.scope, self.local = scope, local or {}
+
+    def within(self, name, value):
+        return Evaluator(self.scope, {**self.local, name: value})
+
+    # ---- constants
+
+    def number(self, e):
+        """The exact value of a constant scalar expression; Refusal of every other."""
+        term = self.scalar(e)
+        value = terms.value_of(term)
+        if value is None:
+            raise Refusal(e[1], "a value that is not constant here", "a number, or an expression of constants")
+        return value
+
+    def whole(self, e):
+        value = self.number(e)
+        if value.denominator != 1:
+            raise Refusal(e[1], f"{value} as a whole number", "a whole number")
+        return int(value)
+
+    def turns(self, line, low, high):
+        """The numbers that an index runs through."""
+        low, high = self.whole(low), self.whole(high)
+        if high - low > MOST_TURNS:
+            raise Refusal(line, f"a loop of {high - low + 1} turns", f"at most {MOST_TURNS} turns")
+        return range(low, high + 1)
+
+    def end(self, e):
+        """A bound: an exact value, which may be infinite."""
+        if e[0] == "oo":
+            return math.inf
+        if e[0] == "neg" and e[2][0] == "oo":
+            return -math.inf
+        return self.number(e)
+
+    def interval(self, e):
+        """The two ends of an interval literal or constant, or None where e is neither."""
+        if e[0] == "interval":
+            low, high = self.end(e[2]), self.end(e[3])
+            if low > high or low == math.inf or high == -math.inf:
+                raise Refusal(e[1], "an empty interval", "a lower end that is not above the upper one")
+            return low, high
+        if e[0] == "name":
+            found = self.local.get(e[2], self.scope.names.get(e[2]))
+            if isinstance(found, IntervalConstant):
+                return found.low, found.high
+        return None
+
+    def scalar(self, e):
+        found = self.value(e)
+        if not found.is_scalar:
+            raise Refusal(e[1], f"{found.rows} x {found.columns} entries where one is needed", "an index")
+        return found.terms[0]
+
+    # ---- expressions
+
+    def value(self, e):
+        """The Array of an expression."""
+        kind = e[0]
+        if kind in ("+", "-"):
+            return terms.by_entries(kind, self.value(e[2]), self.value(e[3]), e[1])
+        if kind == "*":
+            return terms.product(self.value(e[2]), self.value(e[3]), e[1])
+        if kind == "/":
+            divisor = self.scalar(e[3])
+            return self.value(e[2]).each(lambda term: ("/", term, divisor))
+        work = {"number": self.literal, "name": self.named, "apply": self.applied, "at": self.indexed,
+                "neg": self.negated, "transpose": lambda e: self.value(e[2]).transposed(), "^": self.power,
+                "list": self.listed, "interval": self.chosen, "sum": self.summed}.get(kind)
+        if work is None:
+            form = {"oo": "`oo` in an expression", "all": "`:` alone", "span": "a span of indices"}[kind]
+            raise Refusal(e[1], form, "a number or an index")
+        return work(e)
+
+    def literal(self, e):
+        return scalar(terms.number(e[2]))
+
+    def negated(self, e):
+        return self.value(e[2]).each(lambda term: terms.number(-term[1]) if term[0] == "number" else ("neg", term))
+
+    def named(self, e):
+        name = e[2]
+        found = self.local.get(name, self.scope.names.get(name))
+        if isinstance(found, IntervalConstant):
+            return self.chosen(e)
+        if found is not None:
+            return found
+        if name in INSTEAD:
+            raise refused_word(e[1], name)
+        raise Refusal(e[1], f"the name `{name}`, which is not declared", "a declaration of it")
+
+    def chosen(self, e):
+        """An interval in an expression is a new variable: the constraint is met where it is for some value of it."""
+        low, high = self.interval(e)
+        if low == high:
+            return scalar(terms.number(low))
+        known = e[2] if e[0] == "name" else None
+        if known in self.scope.written:
+            return scalar(("name", self.scope.written[known]))
+        name = self.scope.fresh(known or f"interval_{len(self.scope.extra) + 1}", known)
+        self.scope.extra.append((name, low, high, e[1]))
+        if known:
+            self.scope.written[known] = name
+        self.scope.notes.append(f"line {e[1]}: the interval is the variable {name}, with one value for all constraints")
+        return scalar(("name", name))
+
+    def power(self, e):
+        base, n = self.scalar(e[2]), self.number_of_exponent(e)
+        if abs(n) > MOST_TURNS:
+            raise Refusal(e[1], f"the exponent {float(n):g}", f"one up to {MOST_TURNS}")
+        if n.denominator != 1:
+            raise Refusal(e[1], f"the exponent {n}, which is no whole number", INSTEAD["root"])
+        return scalar(terms.raised(base, int(n)))
+
+    def number_of_exponent(self, e):
+        try:
+            return self.number(e[3])
+        except Refusal as fault:
+            raise Refusal(e[1], "an exponent that is not constant", "a constant whole exponent, or a variable for the "
+                          "whole power") from fault
+
+    def summed(self, e):
+        _, line, name, low, high, body = e
+        turns = self.turns(line, low, high)
+        if not turns:
+            return scalar(terms.number(0))
+        total = None
+        for k in turns:
+            part = self.within(name, scalar(terms.number(k))).value(body)
+            total = part if total is None else terms.by_entries("+", total, part, line)
+        return total
+
+    def listed(self, e):
+        """`(a, b)` is a row, `(a; b)` a column; a list of rows, or of columns, is a matrix."""
+        _, line, separator, entries = e
+        parts = [self.value(entry) for entry in entries]
+        if all(part.is_scalar for part in parts):
+            found = [part.terms[0] for part in parts]
+            return Array(1, len(found), found) if separator == "," else Array(len(found), 1, found)
+        if len({part.shape for part in parts}) > 1:
+            raise Refusal(line, "a list of entries of several shapes", "one shape")
+        if parts[0].rows == 1:
+            return Array(len(parts), parts[0].columns, [term for part in parts for term in part.terms])
+        if parts[0].columns == 1:
+            found = [term for part in parts for term in part.terms]
+            return Array(len(parts), parts[0].rows, found).transposed()
+        raise Refusal(line, "an array of matrices", "names for its entries")
+
+    # ---- indices and calls
+
+    def indexed(self, e):
+        _, line, base, indices, first = e
+        if base[0] == "at" and first == 0 and len(indices) == 1 and base[4] == 0 and len(base[3]) == 1:
+            return self.picked(self.value(base[2]), [base[3][0], indices[0]], 0, line)
+        return self.picked(self.value(base), indices, first, line)
+
+    def picked(self, array, indices, first, line):
+        if len(indices) == 1 and array.rows == 1 and array.columns > 1:
+            indices = [("number", line, Fraction(first)), *indices]
+        if len(indices) == 1:
+            indices = [*indices, ("all", line)]
+        if len(indices) != 2:
+            raise Refusal(line, f"{len(indices)} indices", "one or two")
+        rows = self.places(indices[0], array.rows, first, line)
+        columns = self.places(indices[1], array.columns, first, line)
+        return Array(len(rows), len(columns), [array.row(i)[j] for i in rows for j in columns])
+
+    def places(self, index, count, first, line):
+        """The places, from 0, that an index names."""
+        if index[0] == "all":
+            return list(range(count))
+        low = self.whole(index[2] if index[0] == "span" else index)
+        high = self.whole(index[3]) if index[0] == "span" else low
+        if low < first or high >= count + first or high < low:
+            raise Refusal(line, f"the index {low if low == high else f'{low}:{high}'}",
+                          f"one from {first} to {count + first - 1}: `x(i)` counts from 1, `x[i]` from 0")
+        return list(range(low - first, high - first + 1))
+
+    def applied(self, e):
+        _, line, name, arguments = e
+        if name in self.local or name in self.scope.names:
+            return self.picked(self.named(("name", line, name)), arguments, 1, line)
+        if name in INSTEAD:
+            raise refused_word(line, name)
+        found = [self.value(argument) for argument in arguments]
+        if name in ("min", "max") and len(found) >= 2:
+            nested = self.scalar(arguments[-1])
+            for argument in reversed(arguments[:-1]):
+                nested = ("call", name, (self.scalar(argument), nested))
+            return scalar(nested)
+        if ARGUMENTS.get(name) == len(found):
+            return found[0].each(lambda term: ("call", name, (term,)))
+        if name not in self.scope.functions:
+            raise Refusal(line, f"the function `{name}` of {len(found)}", "its definition by + - * / ^ abs sqr min max")
+        return self.called(line, name, found)
+
+    def called(self, line, name, arguments):
+        function = self.scope.functions[name]
+        if len(arguments) != len(function.parameters):
+            raise Refusal(line, f"{len(arguments)} arguments of `{name}`", f"{len(function.parameters)}")
+        if all(argument.is_scalar for argument in arguments) and function.is_kept(self):
+            return scalar(("call", function.kept_name, tuple(argument.terms[0] for argument in arguments)))
+        return function.body_for(self, arguments)
+
+
+class Function:
+    """A function of the file: it is kept as one where its parameters and value are scalars, and else written out."""
+
+    def __init__(self, name, line, parameters, local, body):
+        self.name, self.line, self.parameters, self.local, self.body = name, line, parameters, local, body
+        self.kept_name = self.kept = None
+        self.tried = False
+
+    def body_for(self, evaluator, arguments):
+        """The body with arguments in place of the parameters. No variable and no loop is known there."""
+        inner = Evaluator(evaluator.scope.without_variables(), {})
+        for (name, dims), argument in zip(self.parameters, arguments):
+            shape = shape_of(inner, dims)
+            if argument.shape != shape and argument.transposed().shape != shape:
+                raise Refusal(self.line, f"an argument of {argument.rows} x {argument.columns} entries for `{name}`",
+                              f"one of {shape[0]} x {shape[1]}")
+            inner.local[name] = argument if argument.shape == shape else argument.transposed()
+        for _, name, e in self.local:
+            inner.local[name] = inner.value(e)
+        return inner.value(self.body)
+
+    def is_kept(self, evaluator):
+        """Whether it is kept; its text is worked out once."""
+        if not self.tried:
+            self.tried = True
+            self.keep(evaluator)
+        return self.kept is not None
+
+    def keep(self, evaluator):
+        if len(self.parameters) > MOST_PARAMETERS or any(dims for _, dims in self.parameters):
+            return
+        names = []
+        for name, _ in self.parameters:
+            while name in profile.RESERVED or name in evaluator.scope.functions or name in names:
+                name += "_"
+            names.append(name)
+        try:
+            body = self.body_for(evaluator, [scalar(("name", name)) for name in names])
+            if not body.is_scalar:
+                return
+            text = terms.text_of(body.terms[0], self.line)
+        except Refusal:
+            return
+        self.kept_name = evaluator.scope.fresh(self.name, self.name)
+        self.kept = f"function {self.kept_name}({', '.join(names)})\n  return {text};\nend"
+        evaluator.scope.written[("function", self.name)] = self
+
+
+def shape_of(evaluator, dims):
+    """Rows and columns of a declaration: x[n] is a column."""
+    sizes = [evaluator.whole(e) for e in dims]
+    if len(sizes) > 2 or any(size < 1 for size in sizes):
+        raise Refusal(dims[0][1], "an array of that shape", "one or two indices, each at least 1")
+    return (sizes + [1, 1])[0], (sizes + [1, 1])[1]

@@ -1,0 +1,223 @@
+"""Writes the profile's text of a file in IBEX's Minibex: vectors become variables, loops are written out."""
+import math
+from fractions import Fraction
+
+from ..numbers import minibex
+from . import terms
+from .evaluate import Evaluator, Function, IntervalConstant, Scope, shape_of
+from .refusals import Refusal
+from .syntax import read
+from .terms import Array, scalar
+
+MOST = {"variables": 12, "constraints": 64, "functions": 64, "bytes": 65536}
+
+
+class Translation:
+    """text is the profile's text, or None where something was refused; refusals are those, in the order of their
+    lines; notes say what was changed and is worth a look."""
+
+    def __init__(self, text, refusals, notes):
+        self.text, self.refusals, self.notes = text, refusals, notes
+
+
+class Translator:
+    def __init__(self, text):
+        self.file = file = read(text)
+        self.scope = Scope(name for name, *_ in file.constants + file.variables + file.functions)
+        self.evaluator = Evaluator(self.scope)
+        self.refusals = list(self.file.refusals)
+        self.constants, self.constraints = [], []
+
+    def guarded(self, work, *arguments):
+        try:
+            work(*arguments)
+        except Refusal as refusal:
+            self.refusals.append(refusal)
+
+    def translated(self):
+        file = self.file
+        for entry in file.constants:
+            self.guarded(self.constant, *entry)
+        for entry in file.variables:
+            self.guarded(self.variable, *entry)
+        for entry in file.functions:
+            self.guarded(self.function, *entry)
+        for constraint in file.constraints:
+            self.guarded(self.constraint, self.evaluator, constraint)
+        if not self.constraints and not self.refusals:
+            self.refusals.append(Refusal(1, "a system without constraints", "at least one constraint"))
+        if not self.scope.variables and not self.refusals:
+            self.refusals.append(Refusal(1, "a system without variables", "at least one variable"))
+        self.limits()
+        notes = list(dict.fromkeys(self.scope.notes))
+        if self.refusals:
+            return Translation(None, sorted(self.unique(), key=lambda refusal: refusal.line), notes)
+        return Translation(self.text(notes), [], notes)
+
+    def unique(self):
+        return list({(refusal.line, refusal.form): refusal for refusal in self.refusals}.values())
+
+    # ---- declarations
+
+    def new(self, name, line):
+        if name in self.scope.names or name in self.scope.functions:
+            raise Refusal(line, f"a second declaration of `{name}`", "another name")
+
+    def function(self, name, line, *rest):
+        self.new(name, line)
+        self.scope.functions[name] = Function(name, line, *rest)
+
+    def constant(self, name, line, dims, e):
+        self.new(name, line)
+        ends = self.evaluator.interval(e)
+        if ends is not None:
+            self.scope.names[name] = scalar(terms.number(ends[0])) if ends[0] == ends[1] else IntervalConstant(*ends)
+            return
+        array = self.evaluator.value(e)
+        values = [terms.value_of(term) for term in array.terms]
+        if None in values:
+            raise Refusal(line, f"the constant `{name}`", "a number, or an interval")
+        shape = shape_of(self.evaluator, dims) if dims else array.shape
+        if len(values) != shape[0] * shape[1]:
+            raise Refusal(line, f"{len(values)} entries of `{name}`", f"{shape[0]} x {shape[1]} entries")
+        if shape != (1, 1) or minibex(values[0]) is None:
+            self.scope.names[name] = Array(*shape, [terms.number(value) for value in values])
+            return
+        written = self.scope.fresh(name, name)
+        self.constants.append((written, values[0]))
+        self.scope.names[name] = scalar(("constant", written, values[0]))
+
+    def variable(self, name, line, dims, domain):
+        self.new(name, line)
+        shape = shape_of(self.evaluator, dims)
+        count = shape[0] * shape[1]
+        domains = self.domains(domain, count, line)
+        names = []
+        for k in range(count):
+            row, column = divmod(k, shape[1])
+            ending = f"_{row + 1}" + (f"_{column + 1}" if len(dims) == 2 else "") if dims else ""
+            names.append(self.scope.fresh(name + ending, None if dims else name))
+        for written, (low, high) in zip(names, domains):
+            self.scope.variables.append((written, low, high, line))
+        self.scope.names[name] = Array(*shape, [("name", written) for written in names])
+        self.scope.variable_names.add(name)
+
+    def domains(self, domain, count, line):
+        if domain is None:
+            return [(-math.inf, math.inf)] * count
+        ends = self.evaluator.interval(domain)
+        if ends is not None:
+            return [ends] * count
+        if domain[0] == "list":
+            found = [pair for entry in domain[3] for pair in self.domains(entry, 1, line)]
+            if len(found) == count:
+                return found
+            raise Refusal(line, f"{len(found)} domains for {count} entries", "one for each, or one for all")
+        if count > 1 and domain[0] == "name":
+            array = self.evaluator.value(domain)
+            if len(array.terms) == count:
+                return [(terms.value_of(term),) * 2 for term in array.terms]
+        value = self.evaluator.number(domain)
+        return [(value, value)] * count
+
+    # ---- constraints
+
+    def constraint(self, evaluator, c):
+        kind, line = c[0], c[1]
+        if kind == "for":
+            for k in evaluator.turns(line, c[3], c[4]):
+                for inner in c[5]:
+                    self.guarded(self.constraint, evaluator.within(c[2], scalar(terms.number(k))), inner)
+        elif kind == "member":
+            self.member(evaluator, line, c[2], c[3])
+        else:
+            for left, relation, right in zip(c[2][::2], c[2][1::2], c[2][2::2]):
+                self.related(evaluator, line, left, relation, right)
+
+    def related(self, evaluator, line, left, relation, right):
+        sides = evaluator.interval(left), evaluator.interval(right)
+        if relation == "=" and sides[1] is not None and sides[0] is None:
+            self.member(evaluator, line, left, right)
+            return
+        if relation == "=" and sides[0] is not None and sides[1] is None:
+            self.member(evaluator, line, right, left)
+            return
+        pairs = terms.by_entries(relation, evaluator.value(left), evaluator.value(right), line)
+        for _, a, b in pairs.terms:
+            self.constraints.append((line, f"{terms.text_of(a, line)} {relation} {terms.text_of(b, line)}"))
+
+    def member(self, evaluator, line, e, domain):
+        array = evaluator.value(e)
+        for term, (low, high) in zip(array.terms, self.domains(domain, len(array.terms), line)):
+            text = terms.text_of(term, line)
+            if low == high:
+                self.constraints.append((line, f"{text} = {terms.text_of(terms.number(low), line)}"))
+                continue
+            if low > -math.inf:
+                self.constraints.append((line, f"{text} >= {terms.text_of(terms.number(low), line)}"))
+            if high < math.inf:
+                self.constraints.append((line, f"{text} <= {terms.text_of(terms.number(high), line)}"))
+
+    # ---- the text
+
+    def limits(self):
+        variables = len(self.scope.variables) + len(self.scope.extra)
+        if variables > MOST["variables"]:
+            name, _, _, line = (self.scope.variables + self.scope.extra)[MOST["variables"]]
+            self.refusals.append(Refusal(line, f"{variables} variables, from `{name}` on",
+                                         f"at most {MOST['variables']}: fix some, or eliminate them by hand"))
+        if len(self.constraints) > MOST["constraints"]:
+            self.refusals.append(Refusal(self.constraints[MOST["constraints"]][0], f"{len(self.constraints)} constraints",
+                                         f"at most {MOST['constraints']}: join some by min and max: a <= 0 and b <= 0 "
+                                         "is max(a, b) <= 0"))
+
+    def bound(self, value, up, line, name):
+        if value in (math.inf, -math.inf):
+            return "oo" if value > 0 else "-oo"
+        text = minibex(value)
+        if text is None:
+            text = outward(value, up)
+            self.scope.notes.append(f"line {line}: the {'upper' if up else 'lower'} bound of {name} is rounded outward")
+        return text
+
+    def text(self, notes):
+        lines = []
+        if self.constants:
+            lines.append("Constants")
+            lines += [f"  {name} = {minibex(value)};" for name, value in self.constants]
+        lines += [function.kept for key, function in self.scope.written.items() if key[0] == "function"
+                  and isinstance(function, Function)]
+        lines.append("Variables")
+        for name, low, high, line in self.scope.variables + self.scope.extra:
+            ends = "" if (low, high) == (-math.inf, math.inf) else \
+                f" in [{self.bound(low, False, line, name)}, {self.bound(high, True, line, name)}]"
+            lines.append(f"  {name}{ends};")
+        lines.append("Constraints")
+        lines += [f"  {text};" for _, text in self.constraints]
+        notes += [note for note in self.scope.notes if note not in notes]
+        head = ["// Written by `python -m paver from-ibex`.", *(f"// {note}" for note in notes)]
+        return "\n".join([*head, *lines, "end"]) + "\n"
+
+
+def outward(value, up):
+    """A number of few digits next to a value on its side."""
+    places = 30
+    scaled, rest = divmod(value.numerator * 10 ** places, value.denominator)
+    found = minibex(Fraction(scaled + (1 if up and rest else 0), 10 ** places))
+    return found or minibex(Fraction(value.__ceil__() if up else value.__floor__()))
+
+
+def translate(text):
+    """The Translation of a file's text."""
+    try:
+        found = Translator(text).translated()
+    except Refusal as refusal:
+        return Translation(None, [refusal], [])
+    except RecursionError:
+        deep = Refusal(1, "an expression or a function that goes too deep", "fewer nested parentheses, and no function that "
+                       "calls itself")
+        return Translation(None, [deep], [])
+    if found.text is not None and len(found.text) > MOST["bytes"]:
+        refusal = Refusal(1, f"a text of {len(found.text)} bytes once it is written out", f"at most {MOST['bytes']}")
+        return Translation(None, [refusal], found.notes)
+    return found

@@ -1,0 +1,143 @@
+"""Numbers of pavings. A number is written m:e for m·2^e, or -oo or +oo.
+
+Three forms are used. The text is what files hold. The grid form is the whole number value·2^512, which is exact
+for every finite number of a paving and quick to compare; an infinite end is ±INFINITE, beyond every finite one.
+Exact values are Fractions, or ±math.inf; floats are asked for by their side and rounded outward.
+"""
+import math
+import re
+from fractions import Fraction
+from functools import lru_cache
+
+SCALE = 512
+INFINITE = 1 << 4096
+MANTISSA_BITS = 62
+GREATEST = ((1 << 62) - 1) << (450 + SCALE)
+NUMBER = re.compile(r"(-?[1-9][0-9]{0,18}):(-?[1-9][0-9]{0,2}|0)\Z")
+
+
+class NumberError(ValueError):
+    """A text that is no number of a paving."""
+
+
+@lru_cache(maxsize=1 << 16)
+def grid(text):
+    """The grid form of a number's text; NumberError where it is none."""
+    if text == "0:0":
+        return 0
+    if text == "+oo":
+        return INFINITE
+    if text == "-oo":
+        return -INFINITE
+    match = NUMBER.match(text)
+    if match is None:
+        raise NumberError(f"{text!r} is no number of a paving")
+    mantissa, exponent = int(match.group(1)), int(match.group(2)) + SCALE
+    short = 0 <= exponent <= 2 * SCALE and mantissa % 2 == 1 and abs(mantissa) >> MANTISSA_BITS == 0
+    if not short or abs(mantissa) << exponent > GREATEST:
+        raise NumberError(f"{text!r} is no number of a paving")
+    return mantissa << exponent
+
+
+def exact_of_grid(value):
+    """The exact value of a grid form: a Fraction, or an infinite float."""
+    if abs(value) >= INFINITE:
+        return math.inf if value > 0 else -math.inf
+    return Fraction(value, 1 << SCALE)
+
+
+def exact(text):
+    """The exact value of a number's text: a Fraction, or an infinite float."""
+    return exact_of_grid(grid(text))
+
+
+def as_float(value, up):
+    """The greatest float that is not above an exact value, or, where up is set, the least that is not below it."""
+    if isinstance(value, float):
+        return value
+    try:
+        nearest = value.numerator / value.denominator
+    except OverflowError:
+        nearest = math.inf if value > 0 else -math.inf
+    if not up and nearest > value:
+        return math.nextafter(nearest, -math.inf) if hasattr(math, "nextafter") else stepped(nearest, -1)
+    if up and nearest < value:
+        return math.nextafter(nearest, math.inf) if hasattr(math, "nextafter") else stepped(nearest, 1)
+    return nearest
+
+
+def stepped(value, direction):
+    """A float beyond value by at least one step, for Pythons before 3.9, which have no math.nextafter."""
+    return value + direction * max(abs(value) * 2.0 ** -52, 5e-324)
+
+
+@lru_cache(maxsize=1 << 16)
+def float_of(text, up):
+    """A number's text as a float that is rounded to its side."""
+    return as_float(exact(text), up)
+
+
+def spelling(value):
+    """The text of a grid form that is a number of a paving."""
+    if abs(value) >= INFINITE:
+        return "+oo" if value > 0 else "-oo"
+    if value == 0:
+        return "0:0"
+    trailing = (value & -value).bit_length() - 1
+    return f"{value >> trailing}:{trailing - SCALE}"
+
+
+def rounded(value, up):
+    """The text of the number next to an exact value on its side: the greatest not above it, or the least not below."""
+    if isinstance(value, float) and math.isinf(value):
+        return "+oo" if value > 0 else "-oo"
+    value = Fraction(value)
+    if value < 0:
+        text = rounded(-value, not up)
+        return text if text == "0:0" else "-" + text.lstrip("+")
+    scaled, rest = divmod(value.numerator << SCALE, value.denominator)
+    shift = max(0, scaled.bit_length() - MANTISSA_BITS)
+    below = (scaled >> shift) << shift
+    if up and (rest or below != scaled):
+        below += 1 << shift
+    if below > GREATEST:
+        return "+oo" if up else spelling(GREATEST)
+    return spelling(below)
+
+
+def decimal(value):
+    """The Minibex spelling of an exact value, without an exponent; None where it has no finite decimal expansion."""
+    value = Fraction(value)
+    twos = fives = 0
+    rest = value.denominator
+    while rest % 2 == 0:
+        rest, twos = rest // 2, twos + 1
+    while rest % 5 == 0:
+        rest, fives = rest // 5, fives + 1
+    if rest != 1:
+        return None
+    places = max(twos, fives)
+    digits = str(abs(value.numerator) * 10 ** places // value.denominator).rjust(places + 1, "0")
+    text = digits if places == 0 else f"{digits[:-places]}.{digits[-places:]}"
+    return "-" + text if value < 0 else text
+
+
+def minibex(value):
+    """The Minibex spelling of an exact value within the limits of the profile's numbers; None where it has none."""
+    text = decimal(value)
+    if text is None:
+        return None
+    digits = text.lstrip("-")
+    whole, _, places = digits.partition(".")
+    if len((whole + places).lstrip("0") or "0") <= 37 and len(places) <= 36:
+        return text
+    stripped = whole.rstrip("0")
+    power = len(whole) - len(stripped)
+    if not places and stripped and power <= 36 and len(stripped) + power <= 37:
+        return ("-" if value < 0 else "") + f"{stripped}e{power}"
+    return None
+
+
+def wide(value):
+    """An exact value in few digits for people: it is not exact."""
+    return f"{as_float(value, True):.6g}"

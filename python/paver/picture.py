@@ -1,0 +1,99 @@
+"""Pictures as SVG 1.1 with stock Python alone: axes, numbers, names, equal scales."""
+import math
+from html import escape
+
+from .plots import FILL, axes_of, finite, finite_axes, grouped, projection, rectangles
+
+SIZE, MARGIN, BELOW = 600, 60, 90
+EDGE = "#90a4ae"
+
+
+class Frame:
+    """Where values are drawn: the longer axis is SIZE long; scales are equal unless equal is False."""
+
+    def __init__(self, axes, equal):
+        self.axes = axes
+        widths = [high - low or 1.0 for low, high in axes]
+        scales = [SIZE / width for width in widths]
+        self.scales = [min(scales)] * 2 if equal else scales
+        self.sizes = [width * scale for width, scale in zip(widths, self.scales)]
+
+    def x(self, value):
+        return MARGIN + (value - self.axes[0][0]) * self.scales[0]
+
+    def y(self, value):
+        return MARGIN / 2 + (self.axes[1][1] - value) * self.scales[1]
+
+
+def short(value):
+    """A pixel in few characters."""
+    return f"{value:.1f}".rstrip("0").rstrip(".")
+
+
+def ticks(low, high):
+    """Numbers of few digits between two ends, 3 to 8 of them."""
+    step = 10.0 ** math.floor(math.log10(high - low)) if high > low else 1.0
+    while (high - low) / step > 8:
+        step *= 2
+    while (high - low) / step < 3:
+        step /= 2
+    first = math.ceil(low / step)
+    return [k * step for k in range(first, math.floor(high / step) + 1)]
+
+
+def path_of(pairs, frame):
+    """The outlines of rectangles as one path."""
+    parts = []
+    for (a, b), (c, d) in pairs:
+        left, right, top, bottom = frame.x(a), frame.x(b), frame.y(d), frame.y(c)
+        parts.append(f"M{short(left)} {short(top)}H{short(right)}V{short(bottom)}H{short(left)}z")
+    return "".join(parts)
+
+
+def axis_lines(frame, names):
+    """The ticks, numbers and names of both axes."""
+    left, bottom = MARGIN, MARGIN / 2 + frame.sizes[1]
+    for value in ticks(*frame.axes[0]):
+        x = short(frame.x(value))
+        yield f'<path d="M{x} {short(bottom)}v5" stroke="#000"/>'
+        yield f'<text x="{x}" y="{short(bottom + 20)}" text-anchor="middle">{value:g}</text>'
+    for value in ticks(*frame.axes[1]):
+        y = frame.y(value)
+        yield f'<path d="M{left} {short(y)}h-5" stroke="#000"/>'
+        yield f'<text x="{left - 9}" y="{short(y + 4)}" text-anchor="end">{value:g}</text>'
+    middle = MARGIN / 2 + frame.sizes[1] / 2
+    centre = short(left + frame.sizes[0] / 2)
+    yield f'<text x="{centre}" y="{short(bottom + 38)}" text-anchor="middle">{escape(names[0])}</text>'
+    yield f'<text x="14" y="{short(middle)}" text-anchor="middle" transform="rotate(-90 14 {short(middle)})">' \
+          f"{escape(names[1])}</text>"
+
+
+def legend(frame):
+    at, y = MARGIN, MARGIN / 2 + frame.sizes[1] + 50
+    for kind, color in FILL.items():
+        yield f'<rect x="{at}" y="{short(y)}" width="12" height="12" fill="{color}" stroke="{EDGE}"/>'
+        yield f'<text x="{at + 17}" y="{short(y + 11)}">{kind}</text>'
+        at += 95
+
+
+def svg(cover, x=0, y=1, at=None, project=False, title=None, equal=True, near=False):
+    """The text of a picture: a slice with the values of the dict `at` for the other variables, or the projection on two.
+    In a slice what no kept box covers is removed; a projection paints the shadows of the kept boxes alone.
+    With near the axes end where what is kept ends."""
+    frame = Frame(finite_axes(axes_of(cover, x, y, near)), equal)
+    kept = ("inner", "small", "open")
+    shown = projection(cover, x, y) if project else rectangles(cover, x, y, at, kept)
+    width, height = MARGIN * 1.5 + frame.sizes[0], MARGIN / 2 + frame.sizes[1] + BELOW
+    lines = [f'<svg xmlns="http://www.w3.org/2000/svg" width="{short(width)}" height="{short(height)}" '
+             f'viewBox="0 0 {short(width)} {short(height)}" font-family="sans-serif" font-size="13">']
+    if title:
+        lines.append(f"<title>{escape(title)}</title>")
+    lines.append('<rect width="100%" height="100%" fill="#fff"/>')
+    outline = path_of([frame.axes], frame)
+    lines.append(f'<path d="{outline}" fill="{"#fff" if project else FILL["removed"]}" stroke="none"/>')
+    for kind, *pairs in grouped(shown):
+        drawn = path_of([finite(pair, frame.axes) for pair in pairs], frame)
+        lines.append(f'<path d="{drawn}" fill="{FILL[kind]}" stroke="{EDGE}" stroke-width="0.4"/>')
+    lines.append(f'<path d="{outline}" fill="none" stroke="#000"/>')
+    lines += [*axis_lines(frame, [cover.name_of(cover.variable(k)) for k in (x, y)]), *legend(frame), "</svg>"]
+    return "\n".join(lines) + "\n"
