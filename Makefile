@@ -1,15 +1,19 @@
+# make try      a first look in a minute: paves an example by a program that is not proved, and says so
 # make          proves and builds the program and leaves it as ./paver
-# make demo     paves an example and leaves its picture as demo/ring.svg
+# make demo     the same on JOBS processors; paves an example and leaves its picture as demo/ring.svg
 # make test     the whole test command: the gate and the end-to-end tests
 # make bench    measures beside a lean Rust program, where there is a rustc
-# make install PREFIX=/usr/local
+# make install PREFIX=/usr/local      the program, its man page and completions; make uninstall takes them away
 PREFIX ?= /usr/local
+SHARE := $(DESTDIR)$(PREFIX)/share
+JOBS ?= 4
 SOURCES := $(shell find crates -name out -prune -o -type f \( -name '*.rt' -o -name '*.antt' \) -print) crates.txt
 
 all: paver
 
 # `rt run` proves, compiles and links, and then runs the program; with no words it answers its usage line.
 paver: $(SOURCES)
+	$(PROVE_FIRST)
 	rm -f crates/paver/out/paver
 	cd crates/paver && rt run >../../paver.log 2>&1; test -x out/paver || { tail -n 20 ../../paver.log; exit 1; }
 	rm -f paver.log
@@ -20,6 +24,18 @@ bench: paver
 	cd crates/pv_tree_bench && rt run -- none 0 >/dev/null 2>&1
 	python3 bench/run.py
 
+# Nothing is proved here, and not every slip would stop the run.
+try:
+	mkdir -p demo
+	cd crates/paver && rt try --data ring.mbx=../../examples/ring.mbx -- run ring.mbx --eps 0.5 >../../demo/try.log
+	sed -n '/^settled /,$$p' demo/try.log > demo/try.txt
+	python3 examples/picture.py demo/try.txt "-3,3,-3,3" > demo/try.svg
+	head -n 1 demo/try.txt
+	@echo "NOT PROVED: this run took the program as it is written, with no proof. make demo proves it first."
+	@echo "the picture is in demo/try.svg"
+
+# The crates are proved side by side before the program is linked: the link alone would prove them one by one.
+demo: PROVE_FIRST = rt all check --jobs $(JOBS)
 demo: paver
 	mkdir -p demo
 	./paver run examples/ring.mbx > demo/ring.txt
@@ -31,10 +47,19 @@ test:
 	.ci/run
 
 install: paver
-	install -d $(DESTDIR)$(PREFIX)/bin
+	install -d $(DESTDIR)$(PREFIX)/bin $(SHARE)/man/man1 $(SHARE)/bash-completion/completions
+	install -d $(SHARE)/zsh/site-functions $(SHARE)/fish/vendor_completions.d
 	install -m 755 paver $(DESTDIR)$(PREFIX)/bin/paver
+	install -m 644 docs/paver.1 $(SHARE)/man/man1/paver.1
+	install -m 644 completions/paver.bash $(SHARE)/bash-completion/completions/paver
+	install -m 644 completions/_paver $(SHARE)/zsh/site-functions/_paver
+	install -m 644 completions/paver.fish $(SHARE)/fish/vendor_completions.d/paver.fish
+
+uninstall:
+	rm -f $(DESTDIR)$(PREFIX)/bin/paver $(SHARE)/man/man1/paver.1 $(SHARE)/bash-completion/completions/paver
+	rm -f $(SHARE)/zsh/site-functions/_paver $(SHARE)/fish/vendor_completions.d/paver.fish
 
 clean:
 	rm -rf paver demo crates/*/out
 
-.PHONY: all demo test bench install clean
+.PHONY: all try demo test bench install uninstall clean

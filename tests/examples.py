@@ -1,7 +1,11 @@
 """The example systems and the options that each is run with."""
 from fractions import Fraction
 
-BEACONS = ",".join(f"compose(hc4({2 * k}),hc4({2 * k + 1}))" for k in range(5))
+
+def pairs(count):
+    """Programs that ask for constraints 2k and 2k + 1 together."""
+    return ",".join(f"compose(hc4({2 * k}),hc4({2 * k + 1}))" for k in range(count))
+
 
 EXAMPLES = [
     ("tolerance", ["--eps", "0.5"]),
@@ -10,10 +14,15 @@ EXAMPLES = [
     ("pi_gains", ["--eps", "0.0625"]),
     ("gough_slice", ["--eps", "0.03125"]),
     ("bounded_error_fit", ["--eps", "0.03125"]),
-    ("localisation", ["--eps", "0.0625", "--contract", f"qinter(4,{BEACONS})"]),
+    ("localisation", ["--eps", "0.0625", "--contract", f"qinter(4,{pairs(5)})"]),
     ("unbounded", ["--depth", "14"]),
     ("torus", ["--eps", "0.25", "--boxes", "100000"]),
     ("planar_arm", ["--eps", "0.25", "--boxes", "100000"]),
+    ("arm_configurations", ["--eps", "0.0625"]),
+    ("robust_pid", ["--eps", "0.5", "--boxes", "100000"]),
+    ("outlier_decay", ["--eps", "0.0078125", "--contract", f"qinter(6,{pairs(7)})"]),
+    ("three_rpr", ["--eps", "0.125", "--boxes", "100000"]),
+    ("puma_poses", ["--eps", "0.0625"]),
 ]
 
 

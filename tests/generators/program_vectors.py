@@ -139,7 +139,7 @@ def literal(text):
 
 
 def main():
-    out = ["// Made by tests/program_vectors.py.", "",
+    out = ["//! Made by tests/generators/program_vectors.py.", "",
            "pub const ACCEPTED: &[(u32, &str)] = &["]
     for count, text in GOOD:
         assert refused_at(text, count) is None, text

@@ -156,10 +156,10 @@ def main():
     for name, n, z, x in singles:
         found = back_pow(z, x, n) if name == "Pow" else back_neg(z, x) if name == "Neg" else back_abs(z, x)
         second.append(f"    ({name}, {n}, {pair(z)}, {pair(x)}, {answer(found)}),")
-    path = os.path.join(os.path.dirname(__file__), "../crates/pv_project/src/tests/vectors.rt")
+    path = os.path.join(os.path.dirname(__file__), "../../crates/pv_project/src/tests/vectors.rt")
     os.makedirs(os.path.dirname(path), exist_ok=True)
     with open(path, "w") as out:
-        out.write("//! Cases of projections. Written by tests/projection_vectors.py: change them there.\n")
+        out.write("//! Cases of projections. Written by tests/generators/projection_vectors.py: change them there.\n")
         out.write("use crate::tests::Ends;\n")
         out.write("use crate::tests::Pairs::{self, Add, Div, Max, Min, Mul, Sub};\n")
         out.write("use crate::tests::Singles::{self, Abs, Neg, Pow};\n\n")

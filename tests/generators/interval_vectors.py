@@ -243,10 +243,10 @@ def main():
     rows = []
     for name, n, x, y in cases():
         rows.append(f"    ({name}, {n}, {pair(x)}, {pair(y)}, {answer(result_of(name, n, x, y))}),")
-    path = os.path.join(os.path.dirname(__file__), "../crates/pv_interval/src/tests/vectors.rt")
+    path = os.path.join(os.path.dirname(__file__), "../../crates/pv_interval/src/tests/vectors.rt")
     os.makedirs(os.path.dirname(path), exist_ok=True)
     with open(path, "w") as out:
-        out.write("//! Cases of interval operations. Written by tests/interval_vectors.py: change them there.\n")
+        out.write("//! Cases of interval operations. Written by tests/generators/interval_vectors.py: change them there.\n")
         out.write("use crate::tests::Ends;\n")
         out.write("use crate::tests::Operation::{self, Abs, Add, Hull, Max, Meet, Min, Mul, Neg, Pow, Quotient, Sub};\n\n")
         out.write(f"pub(super) static CASES: [(Operation, u8, Ends, Ends, Option<Ends>); {len(rows)}] = [\n")

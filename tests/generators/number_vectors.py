@@ -1,6 +1,6 @@
 """Arithmetic cases of pv_num, worked out with exact integers and fractions.
 
-Run `python3 tests/number_vectors.py` at the top of the repository: it writes crates/pv_num/src/tests/vectors.rt.
+Run `python3 tests/generators/number_vectors.py` at the top of the repository: it writes crates/pv_num/src/tests/vectors.rt.
 A number is a whole number N of units of 2^-512 that is m * 2^k with m < 2^62 and k <= 962, or an infinite end.
 """
 import random
@@ -138,7 +138,7 @@ def cases():
 
 def main():
     lines = [
-        "//! Cases of exact arithmetic. Written by tests/number_vectors.py: change them there.",
+        "//! Cases of exact arithmetic. Written by tests/generators/number_vectors.py: change them there.",
         "use crate::End::{self, Down, Up};",
         "use crate::tests::Operation::{self, Add, Div, Mul};",
         "use crate::tests::Spelled;",
@@ -149,7 +149,7 @@ def main():
     for name, a, b, side, want in rows:
         lines.append(f"    ({name}, {a}, {b}, {side}, {want}),")
     lines.append("];")
-    target = Path(__file__).resolve().parents[1] / "crates/pv_num/src/tests/vectors.rt"
+    target = Path(__file__).resolve().parents[2] / "crates/pv_num/src/tests/vectors.rt"
     target.write_text("\n".join(lines) + "\n")
     print(len(rows), "cases")
 

@@ -6,11 +6,15 @@ Writes crates/pv_revisions/src/table.rt. A number is written as a mantissa and a
 an infinite end.
 """
 import os
+import sys
+from pathlib import Path
 
 import case_table
-from reference import minibex
-from reference.numbers import DOWN, NEG_INF, POS_INF, SCALE, UP
-from reference.paver import Constraint, Empty, bound
+
+sys.path.insert(0, str(Path(__file__).resolve().parents[1]))
+from reference import minibex  # noqa: E402
+from reference.numbers import DOWN, NEG_INF, POS_INF, SCALE, UP  # noqa: E402
+from reference.paver import Constraint, Empty, bound  # noqa: E402
 
 # x, y, constraint: ten cases a group
 GROUPS = {
@@ -141,14 +145,14 @@ def row(x, y, text):
 
 
 HEADING = (
-    "//! Cases of revisions. Written by tests/revision_vectors.py: change them there.\n"
+    "//! Cases of revisions. Written by tests/generators/revision_vectors.py: change them there.\n"
     "use crate::revisions::Case;\n"
     "use crate::revisions::Left::{Changed, Empty, Kept};\n"
 )
 
 
 def main():
-    path = os.path.join(os.path.dirname(__file__), "../crates/pv_revisions/src/table.rt")
+    path = os.path.join(os.path.dirname(__file__), "../../crates/pv_revisions/src/table.rt")
     case_table.write(path, HEADING, GROUPS, row)
 
 

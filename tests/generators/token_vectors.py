@@ -2,7 +2,7 @@
 """Writes the tables of crates/pv_tokens/src/tests/lexical.rt: tokens, values of numbers, lines and columns.
 
 The tokens come from regular expressions, the values from fractions, and none from the program.
-Run it at the top of the repository: python3 tests/token_vectors.py > crates/pv_tokens/src/tests/lexical.rt
+Run it at the top of the repository: python3 tests/generators/token_vectors.py > crates/pv_tokens/src/tests/lexical.rt
 """
 import re
 from fractions import Fraction
@@ -64,7 +64,7 @@ def literal(text):
 
 
 def main():
-    print("// Written by tests/token_vectors.py.\n")
+    print("// Written by tests/generators/token_vectors.py.\n")
     print("use crate::token::Kind;\n")
     print("/// Texts and the value of the number that each is, where it is one that is not too wide.")
     print("pub(crate) const NUMBERS: &[(&[u8], Option<(i128, u128)>)] = &[")

@@ -7,11 +7,15 @@ Writes crates/pv_programs/src/table.rt. A number is written as a mantissa and an
 an infinite end.
 """
 import os
+import sys
+from pathlib import Path
 
 import case_table
-from reference import minibex
-from reference.paver import Settler
-from revision_vectors import ends
+
+sys.path.insert(0, str(Path(__file__).resolve().parents[1]))
+from reference import minibex  # noqa: E402
+from reference.paver import Settler  # noqa: E402
+from revision_vectors import ends  # noqa: E402
 
 THREE = ("[0,4]", "[0,4]", "x <= 2; x >= 1; x >= 3")
 RINGS = ("[-4,4]", "[-4,4]", "x^2 + y^2 <= 4; (x - 1)^2 + y^2 <= 4; (x - 6)^2 + y^2 <= 1")
@@ -76,14 +80,14 @@ def row(x, y, constraints, program):
 
 
 HEADING = (
-    "//! Cases of contractions. Written by tests/contraction_vectors.py: change them there.\n"
+    "//! Cases of contractions. Written by tests/generators/contraction_vectors.py: change them there.\n"
     "use crate::programs::Case;\n"
     "use crate::programs::Left::{Nothing, Places};\n"
 )
 
 
 def main():
-    path = os.path.join(os.path.dirname(__file__), "../crates/pv_programs/src/table.rt")
+    path = os.path.join(os.path.dirname(__file__), "../../crates/pv_programs/src/table.rt")
     case_table.write(path, HEADING, GROUPS, row)
 
 

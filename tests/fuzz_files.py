@@ -1,0 +1,140 @@
+#!/usr/bin/env python3
+"""Compares `merge`, `resume` and `audit` with the reference's on made paving files: good ones, cut out of full trees,
+and random edits of them.
+
+    python3 tests/fuzz_files.py ./paver [COUNT [SEED]]
+
+The last line is 'N passed, M failed'. Words whose answer differs are printed with both answers.
+"""
+import os
+import random
+import subprocess
+import sys
+import tempfile
+from fractions import Fraction
+from pathlib import Path
+
+sys.path.insert(0, str(Path(__file__).parent))
+from cases import system  # noqa: E402
+from paving_files import call  # noqa: E402
+from reference import files  # noqa: E402
+from reference.commands import answer  # noqa: E402
+
+SYSTEMS = [
+    (system("x in [0,1]", "1/x >= 0"), ["--eps", "0.25"], {"eps": Fraction(1, 4)}),
+    (system("x in [0,1], y in [-1,2]", "x*y <= 0.5; x + y >= 0"), ["--eps", "0.5"], {"eps": Fraction(1, 2)}),
+    (system("x, y in [0,3]", "x^2 + y = 2; y <= 1"), ["--eps", "1", "--depth", "5", "--bisect", "round"],
+     {"eps": Fraction(1), "depth": 5, "bisector": "round"}),
+]
+WORDS = ["0:0", "1:0", "1:-1", "3:-2", "-1:0", "+oo", "-oo", "=", "O", "X", "I", "S", "C", "0", "1", "2:0", "", "01",
+         "4611686018427387903:450", "1:511", "1:512", "1:-512", "1:-513"]
+
+
+def pruned(tree, source, chance):
+    """The tree with some nodes open."""
+    if source.random() < chance:
+        return ("O",)
+    if tree[0] != "C":
+        return tree
+    return (*tree[:4], pruned(tree[4], source, chance), pruned(tree[5], source, chance))
+
+
+def altered(tree, source):
+    """The tree with one settled node, and what is below it, settled otherwise: a good paving that is no stage."""
+    if tree[0] == "C" and source.random() < 0.7:
+        side = source.choice([4, 5])
+        return (*tree[:side], altered(tree[side], source), *tree[side + 1:])
+    if tree[0] in "OX":
+        return source.choice([("O",), ("X",)])
+    to = list(tree[1])
+    if source.random() < 0.3:
+        place = source.randrange(len(to))
+        to[place] = (to[place][0], to[place][0]) if to[place][0] != float("-inf") else to[place]
+    return source.choice("IS"), to
+
+
+def edited(data, source):
+    """The bytes with one random change."""
+    kind = source.randrange(7)
+    if kind == 0:
+        at = source.randrange(len(data) + 1)
+        return data[:at]
+    if kind == 1:
+        at = source.randrange(len(data))
+        return data[:at] + bytes([source.choice(b"#0 1:-=+oOXISC\n\r\xff")]) + data[at + source.randrange(2):]
+    rows = data.split(b"\n")
+    at = source.randrange(len(rows))
+    if kind == 2:
+        del rows[at]
+    elif kind == 3:
+        rows.insert(at, source.choice(rows))
+    elif kind == 4:
+        other = source.randrange(len(rows))
+        rows[at], rows[other] = rows[other], rows[at]
+    else:
+        words = rows[at].split(b" ")
+        place = source.randrange(len(words))
+        words[place] = source.choice(WORDS).encode() if kind == 5 else source.choice(source.choice(rows).split(b" "))
+        rows[at] = b" ".join(words)
+    return b"\n".join(rows)
+
+
+class Maker:
+    def __init__(self, source):
+        self.source = source
+        self.calls = [(text, options, call(text, **settings)) for text, options, settings in SYSTEMS]
+        self.full = [files.go_on(c.settler, ("O",), 200) for _, _, c in self.calls]
+
+    def file(self, reference, full):
+        tree = pruned(full, self.source, self.source.choice([0, 0.05, 0.2]))
+        if self.source.random() < 0.3:
+            tree = altered(tree, self.source)
+        data = reference.write(tree, self.source.choice([1, 2]))
+        for _ in range(self.source.choice([0, 0, 0, 0, 1, 1, 2])):
+            data = edited(data, self.source)
+        return data
+
+    def work(self):
+        """Words, files, and the work of the reference."""
+        at = self.source.randrange(len(self.calls))
+        (text, options, reference), full = self.calls[at], self.full[at]
+        named = [(f"f{i}", self.file(reference, full)) for i in range(self.source.choice([1, 1, 2, 3]))]
+        made = {"s": text, **dict(named)}
+        out = self.source.choice([None, "o"])
+        kept = ["--out", out] if out else []
+        names = [name for name, _ in named]
+        kind = self.source.randrange(3)
+        if kind == 0:
+            return ["merge", "s", *names, *options, *kept], made, lambda: reference.merge(named, out)
+        if kind == 1:
+            budget = self.source.choice([1, 2, 5, 1000, 99990])
+            words = ["resume", "s", *names, *options, *kept, "--boxes", str(budget)]
+            return words, made, lambda: reference.resume(named, budget, out)
+        return ["audit", "s", names[0], *options], made, lambda: reference.audit(*named[0])
+
+
+def main():
+    paver = os.path.abspath(sys.argv[1])
+    count = int(sys.argv[2]) if len(sys.argv) > 2 else 1000
+    maker = Maker(random.Random(int(sys.argv[3]) if len(sys.argv) > 3 else 1))
+    passed = failed = 0
+    with tempfile.TemporaryDirectory() as name:
+        folder = Path(name)
+        for _ in range(count):
+            words, made, work = maker.work()
+            (folder / "o").unlink(missing_ok=True)
+            for file, data in made.items():
+                (folder / file).write_bytes(data)
+            got = subprocess.run([paver, *words], cwd=folder, stdin=subprocess.DEVNULL, capture_output=True, timeout=120)
+            stored = (folder / "o").read_bytes() if (folder / "o").exists() else None
+            wanted = answer(work)
+            same = (got.returncode, got.stdout, got.stderr, stored) == wanted
+            passed, failed = passed + same, failed + (not same)
+            if not same and failed <= 10:
+                print(words, (got.returncode, got.stdout[:200], got.stderr, stored), "in place of", wanted, made)
+    print(f"{passed} passed, {failed} failed")
+    return 1 if failed or not passed else 0
+
+
+if __name__ == "__main__":
+    sys.exit(main())

@@ -1,0 +1,227 @@
+"""Checks of the package's calls of the program: statuses as exceptions, numbers, and the commands on stored files."""
+import hashlib
+import random
+import tempfile
+from fractions import Fraction
+from pathlib import Path
+
+import paver
+from examples import EXAMPLES
+from paver import numbers, program
+from reference import numbers as plain
+
+EXAMPLE_FOLDER = Path(__file__).parent.parent / "examples"
+EXPECTED = Path(__file__).parent / "expected" / "summaries.txt"
+
+
+class Skipped(Exception):
+    """The program, or this machine, does not have what a check needs."""
+
+
+def example(name):
+    return EXAMPLE_FOLDER / f"{name}.mbx"
+
+
+def options_of(words):
+    return {name[2:]: value for name, value in zip(words[::2], words[1::2])}
+
+
+def needs(command):
+    """Skips where the program has no such command."""
+    if not program.has(command):
+        raise Skipped(f"the program has no `{command}` yet")
+
+
+def raised(expected, work, /, **place):
+    """That a call raises an exception with these places."""
+    try:
+        work()
+    except expected as fault:
+        found = {name: getattr(fault, name) for name in place}
+        assert found == place, f"{found} in place of {place}"
+        return
+    raise AssertionError(f"no {expected.__name__}")
+
+
+# ---- numbers
+
+def check_numbers():
+    source = random.Random(1)
+    for _ in range(3000):
+        value = Fraction(source.randrange(-10 ** 25, 10 ** 25), source.randrange(1, 10 ** source.randrange(1, 30)))
+        for up in (False, True):
+            text = numbers.rounded(value, up)
+            wanted = plain.from_fraction(value, plain.UP if up else plain.DOWN)
+            assert text == plain.spelling(wanted), (value, up, text)
+            assert numbers.exact(text) == plain.as_fraction(wanted)
+            assert numbers.spelling(numbers.grid(text)) == text
+        low, high = numbers.as_float(value, False), numbers.as_float(value, True)
+        assert Fraction(low) <= value <= Fraction(high) and (low == high) == (Fraction(low) == value)
+    assert numbers.exact("-oo") == float("-inf") and numbers.float_of("+oo", False) == float("inf")
+    top = numbers.spelling(numbers.GREATEST)
+    assert numbers.rounded(Fraction(2) ** 600, True) == "+oo" and numbers.rounded(Fraction(2) ** 600, False) == top
+    assert numbers.rounded(-Fraction(2) ** 600, False) == "-oo" and numbers.rounded(-Fraction(2) ** 600, True) == "-" + top
+    for bad in ("1", "2:0", "01:0", "1:+1", "0:1", "-0:0", "oo", "1:-513", "1:00", " 1:0", "4611686018427387905:0"):
+        raised(numbers.NumberError, lambda bad=bad: numbers.grid(bad))
+
+
+def check_minibex_numbers():
+    for value, text in ((Fraction(1, 8), "0.125"), (Fraction(-5, 2), "-2.5"), (Fraction(7), "7"), (Fraction(1, 3), None),
+                        (Fraction(10 ** 36), "1" + "0" * 36), (Fraction(10 ** 37), None), (Fraction(1, 2 ** 40), None)):
+        assert numbers.minibex(value) == text, (value, numbers.minibex(value))
+
+
+# ---- statuses
+
+LINES = [
+    (2, "usage: paver COMMAND SYSTEM [OPTIONS] [PAVING..]", paver.UsageError, {}),
+    (2, "contract: refused at byte 22", paver.ContractRefused, {"byte": 22}),
+    (3, "system: line 1 column 39 byte 38: Unexpected", paver.SystemRefused,
+     {"row": 1, "column": 39, "byte": 38, "cause": "Unexpected"}),
+    (4, "paving a: b: too long", paver.PavingRefused, {"name": "a: b", "cause": "too long", "row": None}),
+    (4, "paving p: wrong identity", paver.PavingRefused, {"name": "p", "cause": "wrong identity"}),
+    (4, "paving p: bad line 7", paver.PavingRefused, {"cause": "bad line", "row": 7}),
+    (4, "paving p: too many nodes at line 100003", paver.PavingRefused, {"cause": "too many nodes", "row": 100003}),
+    (5, "read fault: x y", paver.ReadFault, {"name": "x y"}),
+    (6, "write fault: standard output", paver.WriteFault, {"name": "standard output"}),
+    (7, "want of memory", paver.WantOfMemory, {}),
+    (8, "tree limit: 100001 settled", paver.TreeLimit, {"settled": 100001}),
+    (9, "disagree 0110: X | I 0:0 1:0", paver.Disagree,
+     {"kind": "disagree", "path": "0110", "first": "X", "second": "I 0:0 1:0"}),
+    (9, "differs .: S 0:0 1:0 | X", paver.Disagree, {"kind": "differs", "path": ".", "first": "S 0:0 1:0", "second": "X"}),
+    (11, "no file: s.mbx", paver.NoFile, {"name": "s.mbx"}),
+    (-9, "", paver.ProgramFault, {"status": -9}),
+    (2, "something else", paver.ProgramFault, {}),
+]
+
+
+def check_lines():
+    for status, line, kind, place in LINES:
+        fault = program.fault_of(status, line)
+        assert type(fault) is kind, (line, type(fault))
+        for name, value in place.items():
+            assert getattr(fault, name) == value, (line, name)
+
+
+def check_refusals():
+    ring = example("ring")
+    raised(paver.UsageError, lambda: paver.run(ring, depth=0))
+    raised(paver.ContractRefused, lambda: paver.run(ring, contract="union()"), byte=6)
+    raised(paver.SystemRefused, lambda: paver.check_text("Variables x in [0,4];\nConstraints x + <= 1; end"),
+           row=2, column=17, byte=38, cause="Unexpected")
+    raised(paver.NoFile, lambda: paver.run("no such file"), name="no such file")
+    raised(paver.ProgramMissing, lambda: paver.run(ring, program="/no/such/program"))
+    raised(TypeError, lambda: paver.run(ring, width=1))
+    raised(ValueError, lambda: paver.run(ring, eps=Fraction(1, 3)))
+
+
+def check_answers():
+    answer = paver.run(example("ring"), eps=Fraction(1), boxes=5)
+    assert (answer.status, answer.complete, answer.summary["open"] > 0) == (1, False, True)
+    assert any("budget" in sentence and "resume" in sentence for sentence in answer.warnings())
+    shallow = paver.run(example("ring"), depth=4)
+    assert any("--depth 12 suffices" in sentence for sentence in shallow.warnings()), shallow.warnings()
+    enough = paver.run(example("ring"), depth=12)
+    assert enough.complete and not any("wider" in sentence for sentence in enough.warnings())
+    assert enough.paving().widest().width <= Fraction(1, 8)
+    assert paver.run(example("ring"), eps=0.5).text == paver.run(example("ring"), eps="0.5").text
+
+
+def check_depths():
+    """The rule for a depth that suffices, on widths that differ, for both ways to cut."""
+    text = "Variables x in [0,64], y in [0,1]; Constraints x*y >= 3.1; x + 7*y <= 40.3; end"
+    with tempfile.TemporaryDirectory() as folder:
+        path = Path(folder) / "s.mbx"
+        path.write_text(text)
+        for bisect, depth in (("largest", 8), ("round", 14)):
+            root = [(0, 64), (0, 1)]
+            assert paver.depth_that_suffices(root, Fraction(1, 2), bisect) == depth
+            answer = paver.run(path, eps="0.5", bisect=bisect, depth=depth, contract="hc4(0)")
+            assert answer.paving().widest().width <= Fraction(1, 2), bisect
+            shallow = paver.run(path, eps="0.5", bisect=bisect, depth=3, contract="hc4(0)")
+            assert any(f"--depth {depth} suffices" in sentence for sentence in shallow.warnings()), shallow.warnings()
+    assert paver.depth_that_suffices([(0, 1), (float("-inf"), 0)], 1) is None
+    exact = paver.run(example("ring"), eps=0, depth=5)
+    assert any("with eps 0 no depth" in sentence for sentence in exact.warnings())
+    assert [paver.depth_that_suffices([(0, w)], 1) for w in (1, 2, 3, 4, 5, Fraction(1, 3), 0)] == [0, 1, 2, 2, 3, 0, 0]
+
+
+def check_canonical():
+    system = paver.check(example("pi_gains"))
+    assert system.names == ["kp", "ki"] and system.root == ("-1:1", "5:1", "-1:0", "1:2")
+    assert system.constraints[2].infix(system.names) == "9*(1 + kp) > (1 + kp)^2 + 9*ki"
+    deep = "Variables x; Constraints " + "-" * 999 + "x <= 1; end"
+    assert len(paver.check_text(deep).constraints[0].left) == 1000
+
+
+def check_digest(name, words, digest):
+    """The printed text is the reference's, so that what is read below is the reference's paving."""
+    answer = paver.run(example(name), **options_of(words))
+    assert hashlib.sha256(answer.text.encode()).hexdigest() == digest
+
+
+# ---- stored files
+
+def check_missing():
+    """What an older program lacks is named."""
+    assert program.has("run") and program.has("check")
+    for command, work in (("resume", paver.resume), ("merge", paver.merge), ("audit", paver.audit)):
+        if not program.has(command):
+            raised(paver.NotInProgram, lambda work=work: work(example("ring"), "none"))
+    if not program.has("run --out"):
+        raised(paver.NotInProgram, lambda: paver.run(example("ring"), out="none"))
+
+
+def check_stored():
+    needs("run --out")
+    with tempfile.TemporaryDirectory() as folder:
+        out = Path(folder) / "ring.paving"
+        answer = paver.run(example("ring"), eps="0.5", out=out)
+        stored, printed = answer.paving(), paver.run(example("ring"), eps="0.5").paving()
+        assert stored.version == 2 and list(stored.nodes()) == list(printed.nodes())
+        raised(paver.WriteFault, lambda: paver.run(example("ring"), out=Path(folder) / "none" / "x"))
+
+
+def check_resumed():
+    needs("run --out")
+    needs("resume")
+    with tempfile.TemporaryDirectory() as folder:
+        first, second = Path(folder) / "1", Path(folder) / "2"
+        assert not paver.run(example("ring"), boxes=100, out=first).complete
+        answer = paver.resume(example("ring"), first, out=second)
+        assert answer.complete and answer.paving().counts() == paver.run(example("ring")).paving().counts()
+        raised(paver.PavingRefused, lambda: paver.resume(example("ring"), first, eps=1), cause="wrong identity")
+
+
+def check_merged():
+    needs("run --out")
+    needs("merge")
+    with tempfile.TemporaryDirectory() as folder:
+        first, second, third = (Path(folder) / name for name in "123")
+        paver.run(example("ring"), boxes=100, out=first)
+        paver.run(example("ring"), boxes=300, out=second)
+        answer = paver.merge(example("ring"), [first, second], out=third)
+        assert not answer.complete and third.read_bytes() == second.read_bytes()
+
+
+def check_audited():
+    needs("run --out")
+    needs("audit")
+    with tempfile.TemporaryDirectory() as folder:
+        out = Path(folder) / "1"
+        paver.run(example("ring"), eps=1, out=out)
+        assert paver.audit(example("ring"), out, eps=1)
+        lines = out.read_text().splitlines()
+        last = max(k for k, line in enumerate(lines) if line.startswith("S"))
+        lines[last] = "X"
+        out.write_text("".join(f"{line}\n" for line in lines))
+        raised(paver.Disagree, lambda: paver.audit(example("ring"), out, eps=1), kind="differs", first="X")
+
+
+def checks():
+    expected = dict(line.split(" ", 2)[:2] for line in EXPECTED.read_text().splitlines())
+    named = [check_numbers, check_minibex_numbers, check_lines, check_refusals, check_answers, check_depths, check_canonical,
+             check_missing, check_stored, check_resumed, check_merged, check_audited]
+    found = [(check.__name__[6:].replace("_", " "), check, ()) for check in named]
+    return found + [(f"the reference's text of {name}", check_digest, (name, words, expected[name]))
+                    for name, words in EXAMPLES]

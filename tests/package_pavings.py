@@ -1,0 +1,392 @@
+"""Checks of what the package reads in pavings, beside the reference's own reading of the printed text."""
+import contextlib
+import csv
+import io
+import random
+import time
+import xml.dom.minidom
+from fractions import Fraction
+
+import paver
+from examples import EXAMPLES, settings_of
+from package_checks import Skipped, example, options_of, raised
+from paver import plots
+from reference import minibex
+from reference.numbers import UNIT, spelling
+from reference.paver import Settler, halves
+from soundness import end, ends, parts
+
+BRUTE = 400  # boxes that are compared each with each
+KINDS = {"I": "inner", "S": "small", "O": "open"}
+IDENTITY = "identity " + "0123456789abcdef" * 4
+
+
+def exact_of(x):
+    return x if isinstance(x, float) else Fraction(x, UNIT)
+
+
+def walked(lines, root):
+    """Of each node its letter, box and `to`, in the reference's numbers."""
+    waiting = [root]
+    for line in lines:
+        kind, *words = line.split()
+        box = waiting.pop()
+        to = None if kind in "XO" else ends(words[2:] if kind == "C" else words)
+        yield line, box, to
+        if kind == "C":
+            waiting += reversed(halves(to, int(words[0]), end(words[1])))
+
+
+def second_version(lines, root):
+    """The text of version 2: an end that equals the box's is `=`."""
+    text = [f"paving 2\n{IDENTITY}\n"]
+    for line, box, to in walked(lines, root):
+        if to is None:
+            text.append(f"{line}\n")
+            continue
+        words = line.split()
+        head = words[:3] if words[0] == "C" else words[:1]
+        moved = ["=" if new == old else spelling(new) for x, y in zip(to, box) for new, old in zip(x, y)]
+        text.append(" ".join(head + moved) + "\n")
+    return "".join(text)
+
+
+class Known:
+    """An example's paving as printed, and the reference's reading of it."""
+    found = {}
+
+    def __init__(self, name, words):
+        self.system = minibex.read(example(name).read_text())
+        self.settler = Settler(self.system, **settings_of(words)[0])
+        self.answer = paver.run(example(name), **options_of(words))
+        self.lines = self.answer.text.splitlines()[1:]
+        self.paving = self.answer.paving()
+        self.nodes = list(walked(self.lines, self.settler.root))
+
+    @classmethod
+    def of(cls, name, words):
+        key = (name, *words)
+        if key not in cls.found:
+            cls.found[key] = cls(name, words)
+        return cls.found[key]
+
+    def kept(self):
+        """(class, pairs of exact values) of each kept box."""
+        for line, box, to in self.nodes:
+            if line[0] in KINDS:
+                yield KINDS[line[0]], tuple((exact_of(a), exact_of(b)) for a, b in (to or box))
+
+
+def check_boxes(name, words):
+    """The kept boxes, the removed parts, the counts and the hull."""
+    known = Known.of(name, words)
+    kept = list(known.kept())
+    assert [(box.kind, box.exact) for box in known.paving.boxes("inner", "small", "open")] == kept
+    summary = known.answer.text.split("\n")[0].split()
+    assert known.paving.counts() == {summary[k]: int(summary[k + 1]) for k in range(0, 12, 2)}
+    hull = tuple((min(box[k][0] for _, box in kept), max(box[k][1] for _, box in kept))
+                 for k in range(len(known.system.names)))
+    assert known.paving.hull() == hull
+    assert known.paving.names == known.system.names
+    for box in known.paving.inner():
+        for (low, high), (a, b) in zip(box.exact, box.floats):
+            assert a <= low and high <= b
+
+
+def check_versions(name, words):
+    """Both versions of the file say the same as the printed text."""
+    known = Known.of(name, words)
+    first = f"paving 1\n{IDENTITY}\n" + "".join(f"{line}\n" for line in known.lines)
+    second = second_version(known.lines, known.settler.root)
+    root = [tuple(exact_of(x) for x in pair) for pair in known.settler.root]
+    for version, text in ((1, first), (2, second)):
+        paving = paver.Paving.from_text(text, root=root)
+        assert paving.version == version and paving.identity == IDENTITY.split()[1]
+        assert list(paving.nodes()) == list(known.paving.nodes())
+        paving.check_numbers()
+    bare = paver.Paving.from_text(first)
+    assert [box.words for box in bare.inner()] == [box.words for box in known.paving.inner()]
+    raised(ValueError, lambda: list(paver.Paving.from_text(second).inner()))
+
+
+def check_volumes(name, words):
+    known = Known.of(name, words)
+    volumes = known.paving.volumes()
+    if any(isinstance(x, float) for pair in known.settler.root for x in pair):
+        assert volumes["removed"] == volumes["small"] == float("inf")
+        return
+    for kind in KINDS.values():
+        total = Fraction(0)
+        for found, box in known.kept():
+            if found == kind:
+                volume = Fraction(1)
+                for low, high in box:
+                    volume *= high - low
+                total += volume
+        assert volumes[kind] == total, kind
+    whole = Fraction(1)
+    for low, high in known.settler.root:
+        whole *= Fraction(high - low, UNIT)
+    assert sum(volumes.values()) == whole
+
+
+def check_points(name, words):
+    """Random points lie in the parts in which the reference sees them."""
+    known, source = Known.of(name, words), random.Random(5)
+    claims = list(parts(known.lines, known.settler.root))
+    boxes = list(known.paving.boxes())
+    for _ in range(60):
+        point = [Fraction(source.randrange(-3 << 20, 6 << 20), 1 << 20) for _ in known.system.names]
+        grid = [x * UNIT for x in point]
+
+        def within(box, grid=grid):
+            return all(low <= x <= high for x, (low, high) in zip(grid, box))
+
+        def strictly(box, grid=grid):
+            return all(low < x < high for x, (low, high) in zip(grid, box))
+
+        if not within(known.settler.root):
+            continue
+        wanted = {kind for kind, box, left in claims if strictly(box) and not (left and within(left))}
+        seen = {box.kind for box in boxes if box.holds(point)}
+        assert seen and wanted <= seen, (point, wanted, seen)
+
+
+def brute_clusters(boxes, gap):
+    groups = []
+    for number, box in enumerate(boxes):
+        touched = [group for group in groups if any(
+            all(max(a[0], b[0]) - min(a[1], b[1]) <= gap for a, b in zip(box, boxes[other])) for other in group)]
+        groups = [group for group in groups if group not in touched] + [sorted([number, *sum(touched, [])])]
+    return sorted(groups)
+
+
+def check_clusters(name, words):
+    known = Known.of(name, words)
+    boxes = [(kind, box) for kind, box in known.kept() if kind in ("small", "inner")]
+    kinds = ("small", "inner") if len(boxes) <= BRUTE else ("small",)
+    boxes = [box for kind, box in boxes if kind in kinds]
+    if len(boxes) > BRUTE or any(isinstance(end, float) for box in boxes for pair in box for end in pair):
+        assert sum(len(cluster.boxes) for cluster in known.paving.clusters(0, kinds)) == len(boxes)
+        return
+    order = {box: number for number, box in enumerate(boxes)}
+    for gap in (Fraction(0), Fraction(1, 10)):
+        found = sorted(sorted(order[box.exact] for box in cluster.boxes) for cluster in known.paving.clusters(gap, kinds))
+        assert found == brute_clusters(boxes, gap), gap
+
+
+def check_csv(name, words):
+    known, file = Known.of(name, words), io.StringIO()
+    known.paving.write_csv(file, exactly=True)
+    rows = list(csv.reader(io.StringIO(file.getvalue())))
+    assert len(rows[0]) == 1 + 2 * len(known.system.names) and rows[0][1] == f"{known.system.names[0]}_low"
+    for row, (kind, box) in zip(rows[1:], known.kept()):
+        assert row[0] == kind
+        assert [float(w) if "inf" in w else Fraction(w) for w in row[1:]] == [end for pair in box for end in pair]
+
+
+def check_slices(name, words):
+    """What a slice and a projection draw."""
+    known = Known.of(name, words)
+    names, source = known.system.names, random.Random(9)
+    for _ in range(3):
+        x, y = source.sample(names, 2)
+        at = {name: Fraction(source.randrange(-8, 16), 8) for name in names if name not in (x, y)}
+        fixed = {names.index(name): value for name, value in at.items()}
+        wanted = [kind for kind, box in known.kept() if all(box[k][0] <= v <= box[k][1] for k, v in fixed.items())]
+        found = [kind for kind, *_ in plots.rectangles(known.paving, x, y, at)]
+        assert [kind for kind in found if kind != "removed"] == wanted
+    shadows = {(kind, box[0], box[1]) for kind, box in known.kept()}
+    drawn = list(plots.projection(known.paving, names[0], names[1]))
+    assert len(drawn) == len(shadows)
+    raised(ValueError, lambda: list(plots.rectangles(known.paving, names[0], names[0])))
+
+
+def check_svg(name, words):
+    """The picture is XML with a part of a path for each box that is seen, and has the names of its axes."""
+    known = Known.of(name, words)
+    names = known.system.names
+    at = {name: 0 for name in names[2:]}
+    fixed = {k: Fraction(0) for k in range(2, len(names))}
+    seen = sum(all(box[k][0] <= v <= box[k][1] for k, v in fixed.items()) for _, box in known.kept())
+    shadows = len({(kind, box[0], box[1]) for kind, box in known.kept()})
+    for project, count in ((False, seen), (True, shadows)):
+        document = xml.dom.minidom.parseString(paver.svg(known.paving, at=at, project=project))
+        paths = [path.getAttribute("d") for path in document.getElementsByTagName("path")
+                 if path.getAttribute("stroke-width")]
+        assert sum(path.count("z") for path in paths) == count
+        texts = [text.firstChild.data for text in document.getElementsByTagName("text")]
+        assert names[0] in texts and names[1] in texts and "removed" in texts
+
+
+# ---- other texts
+
+def check_long_text():
+    """A text of a million lines is read in seconds."""
+    depth = 19
+    lines = []
+
+    def grow(k, low, high):
+        if k == depth:
+            lines.append(f"S {spelling(low)} {spelling(high)} 0:0 1:0")
+            return
+        middle = (low + high) // 2
+        lines.append(f"C 0 {spelling(middle)} {spelling(low)} {spelling(high)} 0:0 1:0")
+        grow(k + 1, low, middle)
+        grow(k + 1, middle, high)
+
+    grow(0, 0, UNIT)
+    count = 1 << depth
+    text = f"settled {len(lines)} cut {count - 1} removed 0 inner 0 small {count} open 0\n" + "\n".join(lines) + "\n"
+    begun = time.process_time()
+    paving = paver.Paving.from_text(text, root=[(0, 1), (0, 1)])
+    read = time.process_time() - begun
+    volumes = paving.volumes()
+    spent = time.process_time() - begun
+    print(f"a text of {len(lines)} lines: read in {read:.1f} s, its volumes in {spent - read:.1f} s")
+    assert volumes["small"] == 1 and read < 20 and spent < 90
+
+
+BAD = [
+    ("", 1), ("paving 3\n", 1), ("paving 1", 1), ("paving 1\nidentity 12\n", 2),
+    (f"paving 1\n{IDENTITY}\n", 3), (f"paving 1\n{IDENTITY}\nX\nX\n", 4), (f"paving 1\n{IDENTITY}\nQ\n", 3),
+    (f"paving 1\n{IDENTITY}\n\n", 3), (f"paving 1\n{IDENTITY}\nI 0:0 1:0 0:0\n", 3),
+    (f"paving 1\n{IDENTITY}\nC 0 1:-1 0:0 1:0 0:0 1:0\nX\n", 5),
+    ("settled 1 cut 0 removed 1 inner 0 small 0 open 0\nS 0:0 1:0 0:0 1:0\n", 1),
+    ("settled 3 cut 1 removed 2 inner 0 small 0 open 0\nC 0 1:-1 0:0 1:0 0:0 1:0\nX\n", 4),
+    ("settled 1 cut 0 removed 0 inner 0 small 1 open 0\nS 0:0 1:0 0:0", 2),
+]
+
+
+def check_bad_texts():
+    for text, row in BAD:
+        raised(paver.PavingError, lambda text=text: paver.Paving.from_text(text, root=[(0, 1), (0, 1)]), row=row)
+    for line in ("S 0:0 2:0 0:0 1:0", "S 0:0 3:0 0:0 1:0", "S 1:0 0:0 0:0 1:0"):
+        paving = paver.Paving.from_text(f"paving 1\n{IDENTITY}\n{line}\n", root=[(0, 1), (0, 1)])
+        raised(paver.PavingError, paving.check_numbers, row=3)
+    for line in ("S 0:0 = = =", "S = 3:0 = =", "S = =: = =", "S = 1:2000 = ="):
+        paving = paver.Paving.from_text(f"paving 2\n{IDENTITY}\n{line}\n", root=[(0, 1), (0, 1)])
+        raised(paver.PavingError, paving.check_numbers, row=3)
+    for at in ("0:0", "1:0", "3:0"):
+        paving = paver.Paving.from_text(f"paving 2\n{IDENTITY}\nC 0 {at} = = = =\nX\nX\n", root=[(0, 1), (0, 1)])
+        raised(paver.PavingError, paving.check_numbers, row=3)
+
+
+def mutated(text, source):
+    """A text with one or two slips."""
+    pieces = ["=", "0:0", "1:0", "-oo", "+oo", " ", "\n", "X\n", "O\n", "S", "I", "C", "1:3", "-", "3:0", "02", "\r"]
+    for _ in range(source.randrange(1, 3)):
+        at, kind = source.randrange(len(text)), source.randrange(4)
+        if kind == 0:
+            text = text[:at] + source.choice(pieces) + text[at:]
+        elif kind == 1:
+            text = text[:at] + text[at + source.randrange(1, 4):]
+        else:
+            sign = " " if kind == 2 else "\n"
+            parts_of_text = text.split(sign)
+            parts_of_text[source.randrange(len(parts_of_text))] = source.choice([*pieces[:5], *parts_of_text[2:]])
+            text = sign.join(parts_of_text)
+    return text
+
+
+def is_read(text, root):
+    try:
+        paving = paver.Paving.from_text(text, root=root)
+        paving.check_numbers()
+    except paver.PavingError:
+        return False
+    return paving.identity == IDENTITY.split()[1]
+
+
+def check_mutated_files():
+    """The package takes the files that the reference's reader takes, and no others."""
+    try:
+        from reference import files
+    except ImportError as fault:
+        raise Skipped("the reference reads no files here") from fault
+    known, source, taken = Known.of("tolerance", ["--eps", "2"]), random.Random(8), 0
+    first = f"paving 1\n{IDENTITY}\n" + "".join(f"{line}\n" for line in known.lines)
+    texts = [first, second_version(known.lines, known.settler.root)]
+    root = [tuple(exact_of(x) for x in pair) for pair in known.settler.root]
+    for _ in range(4000):
+        text = mutated(source.choice(texts), source)
+        try:
+            files.read(text.encode(), known.settler.root, IDENTITY.split()[1])
+            good = True
+        except files.Refused:
+            good = False
+        taken += good
+        assert is_read(text, root) == good, text
+    assert taken > 20
+
+
+def check_open_leaf():
+    paving = paver.run(example("ring"), boxes=7).paving()
+    path, box = paving.path_of_first_open(), list(paving.boxes())
+    assert path == "0" * path.count("0") + "1" * path.count("1") or set(path) <= {"0", "1"}
+    assert paving.counts()["open"] == sum(b.kind == "open" for b in box) > 0
+    assert sum(paving.volumes().values()) == 36
+    assert paver.run(example("ring")).paving().path_of_first_open() is None
+
+
+@contextlib.contextmanager
+def without_matplotlib():
+    try:
+        import matplotlib  # noqa: F401
+    except ImportError:
+        yield True
+    else:
+        yield False
+
+
+def check_plots():
+    """A picture is drawn where matplotlib is there; else the package says what is missing."""
+    paving = paver.run(example("ring")).paving()
+    with without_matplotlib() as missing:
+        if missing:
+            raised(plots.PlotsMissing, lambda: paver.plot(paving))
+            raise Skipped("plots are skipped: matplotlib is not installed")
+        import matplotlib
+        matplotlib.use("Agg")
+        axes = paver.plot(paving, "x", "y", title="ring")
+        assert (axes.get_xlabel(), axes.get_ylabel(), axes.get_aspect()) == ("x", "y", 1.0)
+        paver.plot_projection(paving)
+
+
+TRUTHS = {
+    "arm_configurations": ([(1, 0), (1, 1), (1, -1)], [(Fraction(1, 4), 0), (0, 0)]),
+    "robust_pid": ([(3, 1, 1), (2, 1, 2)], [(8, 8, Fraction(-3, 2)), (Fraction(17, 2), Fraction(15, 2), Fraction(1, 10))]),
+    "outlier_decay": ([(5, Fraction(4, 5))], [(5, Fraction(1, 2)), (9, Fraction(4, 5))]),
+    "three_rpr": ([(Fraction(3, 2), Fraction(4, 5), 0)], [(Fraction(1, 100), Fraction(1, 100), Fraction(1, 100))]),
+    "puma_poses": ([tuple(Fraction(n, 100) for n in (80, 60, 96, -28, 60, -80))], [(0, 1, 1, 0, 1, 0)]),
+}
+
+
+def check_truth(name, words):
+    """Points that are known to be in the set lie in no inner part of what is removed, and the others in no inner box."""
+    known = Known.of(name, words)
+    members, others = TRUTHS[name]
+    for point in [*members, *others]:
+        held = known.settler.member(known.settler.program, [minibex.holds(c, point) for c in known.system.constraints])
+        assert held == (point in members), f"{point} by its own constraints"
+    for point in members:
+        assert known.paving.where(point) - {"removed"}, f"{point} is lost"
+    for point in others:
+        assert "inner" not in known.paving.where(point), f"{point} is no member"
+
+
+def check_no_outlier():
+    """With no measurement left out, no law agrees with all seven."""
+    assert paver.run(example("outlier_decay")).paving().hull() is None
+
+
+def checks():
+    found = []
+    for name, words in EXAMPLES:
+        for check in (check_boxes, check_versions, check_volumes, check_points, check_clusters, check_csv, check_slices,
+                      check_svg):
+            found.append((f"{check.__name__[6:]} of {name}", check, (name, words)))
+        if name in TRUTHS:
+            found.append((f"known points of {name}", check_truth, (name, words)))
+    more = [check_long_text, check_bad_texts, check_mutated_files, check_open_leaf, check_plots, check_no_outlier]
+    return found + [(check.__name__[6:].replace("_", " "), check, ()) for check in more]

@@ -1,0 +1,311 @@
+"""Checks of the tools around the program: roots, from-ibex, explain, split and gather."""
+import contextlib
+import io
+import random
+import re
+import tempfile
+from fractions import Fraction
+from pathlib import Path
+
+import paver
+from ibex_cases import REFUSED, TAKEN
+from package_checks import example, raised
+from paver import __main__ as commands
+from paver import expect, explain
+from paver.cover import hull_of
+from paver.ibex import translate
+from reader_cases import FAULTS, GOOD
+from reference import minibex
+from reference.faults import first_fault
+
+
+def command(*words):
+    """The status, standard output and standard error of a command of the package."""
+    out, err = io.StringIO(), io.StringIO()
+    with contextlib.redirect_stdout(out), contextlib.redirect_stderr(err):
+        status = commands.main([str(word) for word in words])
+    return status, out.getvalue(), err.getvalue()
+
+
+# ---- roots
+
+ROOTS = [
+    ("a square root", "Variables x in [0,2]; Constraints x^2 = 2; end", [(1.4142135623730951,)], 0, 0),
+    ("two signs", "Variables x in [-2,2]; Constraints x^2 = 2; end", [(-1.4142135623730951,), (1.4142135623730951,)], 0, 0),
+    ("three roots of a cubic", "Variables x in [-3,3]; Constraints x^3 - 4*x = 1; end",
+     [(-1.8608058531117035,), (-0.2541016883650524,), (2.114907541476756,)], 0, 0),
+    ("a circle and a line", "Variables x in [-2,2], y in [-2,2]; Constraints x^2 + y^2 = 1; x = y; end",
+     [(-0.7071067811865476,) * 2, (0.7071067811865476,) * 2], 0, 0),
+    ("an inequality refuses one", "Variables x in [-2,2], y in [-2,2]; Constraints x^2 + y^2 = 1; x = y; x + y > 0; end",
+     [(0.7071067811865476,) * 2], None, 0),
+    ("a rational root", "Variables x in [0,1]; Constraints 1/(1 + x) = 0.8; end", [(0.25,)], 0, 0),
+    ("a double root stays undecided", "Variables x in [-1,3]; Constraints x^2 - 2*x + 1 = 0; end", [], None, None),
+    ("no root", "Variables x in [-2,2], y in [-2,2]; Constraints x^2 + y^2 = 1; x + y = 1.5; end", [], None, 0),
+    ("a kink", "Variables x in [-1,3]; Constraints abs(x - 1) + x = 1.5; end", [(1.25,)], 0, 0),
+    ("least and greatest", "Variables x in [-2,2]; Constraints min(2*x, x + 1) = 0.5; end", [(0.25,)], 0, 0),
+    ("a root on the edge", "Variables x in [0,2]; Constraints x^3 + x = 0; end", [(0,)], 0, 0),
+    ("a quotient", "Variables x in [0.5,2], y in [0.5,2]; Constraints x/y = 1.25; x*y = 0.8; end", [(1.0, 0.8)], 0, 0),
+]
+
+
+def check_roots(text, wanted, none, undecided):
+    with tempfile.TemporaryDirectory() as folder:
+        path = Path(folder) / "s.mbx"
+        path.write_text(text)
+        system, answer = paver.check(path), paver.run(path, eps="0.01")
+        found = paver.find_roots(system, answer.paving())
+    ones = sorted(root.box for root in found if root.verdict == "one root, here")
+    assert len(ones) == len(wanted), found
+    for box, point in zip(ones, wanted):
+        for (low, high), x in zip(box, point):
+            assert low - Fraction(1, 10 ** 12) <= Fraction(x) <= high + Fraction(1, 10 ** 12) and high - low < 1e-9
+    if none is not None:
+        assert sum(root.verdict == "none" for root in found) == none, found
+    count = sum(root.verdict == "undecided" for root in found)
+    assert count == undecided if undecided is not None else count > 0, found
+
+
+def check_random_roots():
+    """Systems that are made from their roots: each is found once, or its cluster stays undecided."""
+    source = random.Random(12)
+    for _ in range(12):
+        wanted = sorted(Fraction(k, 10) for k in source.sample(range(-19, 20), 3))
+        shift = Fraction(source.randrange(-5, 6), 4)
+        product = "*".join(f"(x - {a})" if a >= 0 else f"(x + {-a})" for a in map(float, wanted))
+        text = f"Variables x in [-2,2], y in [-9,9]; Constraints {product} = 0; y - x^2 - x = {float(shift)}; end"
+        with tempfile.TemporaryDirectory() as folder:
+            path = Path(folder) / "s.mbx"
+            path.write_text(text)
+            found = paver.find_roots(paver.check(path), paver.run(path, eps="0.01", boxes=3000).paving())
+        points = [(x, x * x + x + shift) for x in wanted]
+        for root in found:
+            inside = [p for p in points if all(low <= x <= high for x, (low, high) in zip(p, root.box))]
+            assert root.verdict != "one root, here" or len(inside) == 1, (text, root)
+            assert root.verdict != "none" or not inside, (text, root)
+        for point in points:
+            assert any(all(low <= x <= high for x, (low, high) in zip(point, root.box)) for root in found), (text, point)
+
+
+def check_roots_of_puma():
+    system = paver.check(example("puma_poses"))
+    found = paver.find_roots(system, paver.run(example("puma_poses"), eps="0.0625").paving())
+    assert [root.verdict for root in found] == ["one root, here"] * 4
+    known = [Fraction(n, 100) for n in (80, 60, 96, -28, 60, -80)]
+    assert sum(all(low <= x <= high for (low, high), x in zip(root.box, known)) for root in found) == 1
+    for root in found:
+        for constraint in minibex.read(example("puma_poses").read_text()).constraints:
+            left, right = (minibex.value(side, root.middle) for side in constraint[1:])
+            assert abs(left - right) < Fraction(1, 10 ** 20)
+
+
+def check_roots_of_no_square():
+    system = paver.check(example("ring"))
+    raised(ValueError, lambda: paver.find_roots(system, paver.run(example("ring")).paving()))
+
+
+def check_roots_command():
+    status, out, _ = command("roots", example("puma_poses"), "--eps", "0.0625")
+    assert status == 0 and out.count("one root, here") == 4 and "tested and not proved" in out
+    low, high = re.search(r"c1 in \[(0\.[78]\d*), (0\.8\d*)\]", out).groups()
+    assert Fraction(float(low)) <= Fraction(4, 5) <= Fraction(float(high)) and float(high) - float(low) < 1e-15
+
+
+# ---- from IBEX
+
+def check_taken(file, wanted):
+    found = translate(file)
+    assert found.text is not None, [str(refusal) for refusal in found.refusals]
+    assert first_fault(found.text.encode()) is None, found.text
+    paver.check_text(found.text)
+    ours, theirs, source = minibex.read(found.text), minibex.read(wanted), random.Random(3)
+    assert ours.names == theirs.names and ours.domains == theirs.domains, (ours.names, ours.domains)
+    assert [c[0] for c in ours.constraints] == [c[0] for c in theirs.constraints], found.text
+    for _ in range(40):
+        point = [Fraction(source.randrange(-40, 41), 16) or Fraction(1, 7) for _ in ours.names]
+        for mine, other in zip(ours.constraints, theirs.constraints):
+            values = [[minibex.value(side, point) for side in constraint[1:]] for constraint in (mine, other)]
+            differences = [None if None in pair else pair[0] - pair[1] for pair in values]
+            assert differences[0] == differences[1], (mine, other)
+
+
+def check_refused(file, wanted):
+    found = translate(file)
+    assert found.text is None
+    seen = [(refusal.line, refusal.form) for refusal in found.refusals]
+    assert len(seen) == len(wanted), seen
+    for (line, word), (at, form) in zip(wanted, seen):
+        assert line == at and word in form, (seen, wanted)
+    assert all(refusal.instead and "Instead" in str(refusal) for refusal in found.refusals)
+
+
+def check_ibex_command():
+    with tempfile.TemporaryDirectory() as folder:
+        path = Path(folder) / "a.mbx"
+        path.write_text(TAKEN[0][1])
+        status, out, _ = command("from-ibex", path)
+        assert status == 0 and out == translate(TAKEN[0][1]).text
+        path.write_text(REFUSED[0][1])
+        status, out, err = command("from-ibex", path)
+        assert status == 3 and out == "" and "line 4: `cos` can't be written. Instead: two variables c and s" in err
+
+
+# ---- explain
+
+EXPLAINED = [
+    ("Variables x in [0,4];\nConstraints\n\tx + <= 1; end", [],
+     ["line 3, column 6", "\n    \t    ^", "Expected here: a sign,"]),
+    ("Variables x in [0,4]; Constraints sqrt(x) <= 1; end", [], ["NotInProfile", "In place of `sqrt`: a variable r"]),
+    ("Variables x in [0,4]; Constraints x^40 <= 1; end", [], ["BadExponent", "(x^20)^2"]),
+    ("Variables x in [0,4]; Constraints y <= 1; end", [], ["UnknownName", "a name (x)"]),
+    ("Variables x in [5,4]; Constraints x <= 1; end", [], ["BadBounds", "empty"]),
+    ("Variables x in [0,4]; Constraints x <= 1", [], ["EndOfText", "`;` or `end`"]),
+    ("Variables x in [0,4]; Constraints min(x) <= 1; end", [], ["`min` takes 2 arguments"]),
+    ("Variables x in [0,4]; Constraints x <= .5; end", [], ["BadByte", "from-ibex"]),
+    ("Variables x in [0,4]; Constraints x <= 1; x >= 0; end", ["--contract", "fix(0,hc4(0))"],
+     ["0: x <= 1", "1: x >= 0", "refused at byte 4", "from 1 to 64"]),
+    ("Variables x in [0,4]; Constraints x <= 1; end", ["--contract=qinter(2,hc4(0))"], ["byte 15", "2 have to agree"]),
+    ("Variables x in [0,4]; Constraints x <= 1; end", ["--contract", "hc4(1)"], ["a constraint's number from 0 to 0"]),
+    ("Variables x in [0,4]; Constraints x <= 1; end", ["--depth", "300"], ["a whole number from 1 to 200"]),
+    ("Variables x in [0,4]; Constraints x <= 1; end", ["--eps", "-1"], ["unsigned"]),
+    ("Variables x in [0,4]; Constraints x <= 1; end", ["--width", "1"], ["no option"]),
+    ("Variables x in [0,4]; Constraints x <= 1; end", ["--eps", "1", "--eps", "2"], ["twice"]),
+    ("Variables x in [0,4]; Constraints x <= 1; end", ["--bisect"], ["needs a value"]),
+]
+
+
+def check_explained(text, words, phrases):
+    with tempfile.TemporaryDirectory() as folder:
+        path = Path(folder) / "s.mbx"
+        path.write_text(text)
+        status, out, _ = command("explain", path, *words)
+    assert status == 2
+    for phrase in phrases:
+        assert phrase in out, f"{phrase!r} is not in {out!r}"
+
+
+TOKENS = {"a sign": "-", "a number": "1", "an operator": "+", "a relation (= <= >= < >)": "<=", "`in [low, high]`": "in",
+          "a whole exponent from 0 to 32, in digits alone": "2"}
+
+
+def token_of(phrase):
+    """A token that a phrase of what is expected stands for; None where it stands for none here."""
+    if phrase in TOKENS:
+        return TOKENS[phrase]
+    if phrase.startswith("a new name"):
+        return "zz9"
+    named = re.match(r"a (?:name|function|constant) \(([A-Za-z_0-9]+)", phrase)
+    quoted = re.match(r"`([^`]+)`", phrase)
+    return named.group(1) if named else quoted.group(1) if quoted else None
+
+
+def check_expected():
+    """With any token that is expected put in, the text is good beyond it: by the reference's reader."""
+    count = 0
+    for cause, marked in FAULTS:
+        if cause in explain.WHOLE:
+            continue
+        byte, text = len(marked[:marked.index("¶")].encode()), marked.replace("¶", "").encode()
+        phrases = expect.at_system(text.decode("latin-1"), byte)
+        assert phrases, marked
+        for phrase in phrases:
+            if phrase == "the end of the text":
+                assert first_fault(text[:byte]) is None, (marked, phrase)
+            elif token_of(phrase):
+                token = token_of(phrase).encode()
+                fault = first_fault(text[:byte] + b" " + token + b" " + text[byte:])
+                at_limit = fault is not None and fault[1] in explain.WHOLE
+                assert fault is None or at_limit or fault[0] > byte + len(token), (marked, phrase, fault)
+                count += 1
+    assert count > 300, count
+
+
+def check_explained_good():
+    status, out, _ = command("explain", example("localisation"), "--groups", "2", "--agree", "4")
+    assert status == 0 and "  9: (x - 9)^2 + (y - 8)^2 <= 1.4^2" in out
+    text = explain.qinter_text(explain.groups_of(10, 2), 4)
+    assert f"--contract '{text}'" in out
+    assert paver.run(example("localisation"), eps="0.0625", contract=text).summary["inner"] == 15
+    raised(ValueError, lambda: explain.qinter_text([[0], [1]], 3))
+
+
+# ---- split and gather
+
+SPLIT = [
+    ("torus", 8, {"eps": "0.5"}, None), ("ring", 5, {"eps": "0.25"}, ["x"]), ("bounded_error_fit", 6, {"eps": "0.1"}, None),
+    ("unbounded", 4, {"depth": 6}, None), ("three_rpr", 3, {"eps": "0.5"}, None),
+]
+
+
+def check_split(name, count, options, variables):
+    """The parts have no gap and overlap in faces alone; the sum of the answers is an answer to the whole."""
+    whole = paver.run(example(name), **options).paving()
+    with tempfile.TemporaryDirectory() as folder:
+        paths = paver.split(example(name), count, folder, variables=variables)
+        assert len(paths) == count
+        roots = [paver.Box("open", paver.check(path).root) for path in paths]
+        assert all(paver.check(path).constraints[0].left == paver.check(example(name)).constraints[0].left for path in paths)
+        assert sum(root.volume for root in roots) == paver.Box("open", whole.root).volume
+        for k, first in enumerate(roots):
+            for second in roots[k + 1:]:
+                assert any(a[1] <= b[0] or b[1] <= a[0] for a, b in zip(first.exact, second.exact))
+        raised(FileNotFoundError, lambda: paver.gather(folder))
+        for path in paths:
+            path.with_suffix(".txt").write_text(paver.run(path, **options).text)
+        parts = paver.gather(folder)
+        status, out, _ = command("gather", folder)
+        assert status == 0 and out.startswith(f"settled {parts.counts()['settled']} ")
+    if name != "unbounded":
+        volumes = parts.volumes()
+        assert sum(volumes.values()) == sum(whole.volumes().values())
+        assert volumes["inner"] <= sum(whole.volumes()[kind] for kind in ("inner", "small"))
+        assert len(parts.clusters()) == len(whole.clusters())
+
+
+def check_split_texts():
+    """Every good text of the reader's table can be split: comments, constants as bounds, variables without a domain."""
+    count = 0
+    for text in GOOD:
+        with tempfile.TemporaryDirectory() as folder:
+            path = Path(folder) / "s.mbx"
+            path.write_bytes(text.encode())
+            whole = paver.check(path)
+            try:
+                paths = paver.split(path, 3, folder)
+            except ValueError:
+                assert paver.Box("open", whole.root).width == 0 or len(whole.names) == 1, text
+                continue
+            parts = [paver.check(part) for part in paths]
+            assert all(part.text.split("ctrs")[1] == whole.text.split("ctrs")[1] for part in parts), text
+            boxes = [paver.Box("open", part.root) for part in parts]
+            assert hull_of(boxes) == paver.Box("open", whole.root).exact, text
+            count += 1
+    assert count > len(GOOD) // 2
+
+
+def check_split_again():
+    """A part can be split once more."""
+    with tempfile.TemporaryDirectory() as folder:
+        first = paver.split(example("ring"), 3, Path(folder) / "a")[0]
+        second = paver.split(first, 2, Path(folder) / "b")
+        volumes = [paver.Box("open", paver.check(path).root).volume for path in (first, *second)]
+        assert volumes[0] == volumes[1] + volumes[2]
+        raised(ValueError, lambda: paver.split(example("ring"), 2, folder, variables=[]))
+
+
+def check_summary_command():
+    status, out, err = command("summary", example("ring"), "--depth", "8")
+    assert status == 0 and out.startswith("settled 335 ") and "clusters 1\n" in out
+    assert "--depth 12 suffices" in err
+    status, out, _ = command("csv", example("ring"), "--eps", "2")
+    assert status == 0 and out.splitlines()[0] == "class,x_low,x_high,y_low,y_high"
+
+
+def checks():
+    named = [check_random_roots, check_roots_of_puma, check_roots_of_no_square, check_roots_command, check_ibex_command,
+             check_expected, check_explained_good, check_split_texts, check_split_again, check_summary_command]
+    found = [(check.__name__[6:].replace("_", " "), check, ()) for check in named]
+    found += [(f"roots: {name}", check_roots, rest) for name, *rest in ROOTS]
+    found += [(f"from IBEX: {name}", check_taken, rest) for name, *rest in TAKEN]
+    found += [(f"from IBEX, refused: {name}", check_refused, rest) for name, *rest in REFUSED]
+    found += [(f"explain: {text} {words}", check_explained, (text, words, phrases)) for text, words, phrases in EXPLAINED]
+    return found + [(f"split of {case[0]}", check_split, case) for case in SPLIT]

@@ -1,0 +1,87 @@
+"""What the commands on paving files answer, by the reference's own files and settler."""
+import hashlib
+
+from . import files
+from .paver import Settler, node_line
+from .numbers import spelling
+
+
+class Call:
+    """A system's text and its settings, as the options spell them."""
+
+    def __init__(self, system, canonical, **settings):
+        self.settler = Settler(system, **settings)
+        depth, bisector = self.settler.depth, self.settler.bisector
+        contract = settings.get("contract", "prop(8)")
+        text = f"eps {spelling(self.settler.eps)}\ndepth {depth}\nbisect {bisector}\ncontract {contract}\n"
+        self.identity = hashlib.sha256(canonical + text.encode()).hexdigest()
+
+    def write(self, tree, version=2):
+        return files.write(tree, self.settler.root, self.identity, version)
+
+    def read(self, name, data):
+        try:
+            return files.read(data, self.settler.root, self.identity)
+        except files.Refused as refused:
+            raise Stopped(4, f"paving {name}: {refused}") from None
+
+    def opening(self, named):
+        trees = [self.read(name, data) for name, data in named]
+        whole = trees[0]
+        for tree in trees[1:]:
+            try:
+                whole = files.join(whole, tree)
+            except files.Disagree as apart:
+                raise Stopped(9, line_of("disagree", apart.path, apart.one, apart.other)) from None
+        return whole
+
+    def delivered(self, tree, out):
+        summary = (files.summary(tree) + "\n").encode()
+        status = 1 if files.counts(tree)["O"] else 0
+        if out:
+            return status, summary, b"", self.write(tree)
+        body = "".join(line + "\n" for line in files.lines(tree, self.settler.root, 1))
+        return status, summary + body.encode(), b"", None
+
+    def run(self, budget, out):
+        return self.delivered(files.go_on(self.settler, ("O",), budget), out)
+
+    def resume(self, named, budget, out):
+        tree = self.opening(named)
+        settled = files.settled(tree)
+        if settled + budget > files.MOST_SETTLED:
+            raise Stopped(8, f"tree limit: {settled} settled")
+        return self.delivered(files.go_on(self.settler, tree, budget), out)
+
+    def merge(self, named, out):
+        tree = self.opening(named)
+        settled = files.settled(tree)
+        if settled > files.MOST_SETTLED:
+            raise Stopped(8, f"tree limit: {settled} settled")
+        return self.delivered(tree, out)
+
+    def audit(self, name, data):
+        found = files.audit(self.settler, self.read(name, data))
+        if found:
+            raise Stopped(9, line_of("differs", *found))
+        return 0, b"honest\n", b"", None
+
+
+class Stopped(Exception):
+    """A status and its line."""
+
+    def __init__(self, status, line):
+        super().__init__(line)
+        self.status, self.line = status, line
+
+
+def line_of(word, path, one, other):
+    return f"{word} {files.path_text(path)}: {node_line(one)} | {node_line(other)}"
+
+
+def answer(work):
+    """Status, standard output, standard error and what is stored, None for nothing."""
+    try:
+        return work()
+    except Stopped as stopped:
+        return stopped.status, b"", (stopped.line + "\n").encode(), None

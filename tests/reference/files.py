@@ -1,0 +1,229 @@
+"""Paving files written, read, joined and audited straight from their format, slow and plain.
+
+A tree is a tuple: ("O",), ("X",), ("I", to), ("S", to) or ("C", to, variable, at, low, high).
+"""
+import re
+
+from .numbers import NEG_INF, POS_INF, TOP, spelling
+from .paver import halves, node_line
+
+MOST_SETTLED = 100_000
+MOST_BYTES = 70_000_000
+MOST_STEPS = 200
+
+
+class Refused(Exception):
+    """Why bytes are no paving file: what the line on standard error says after the file's name."""
+
+
+class Disagree(Exception):
+    """Two outcomes at one path."""
+
+    def __init__(self, path, one, other):
+        super().__init__(path)
+        self.path, self.one, self.other = path, one, other
+
+
+def settled(tree):
+    count, waiting = 0, [tree]
+    while waiting:
+        node = waiting.pop()
+        count += node[0] != "O"
+        waiting += node[4:]
+    return count
+
+
+def outcome(node):
+    return node[:4]
+
+
+def counts(tree):
+    found, waiting = dict.fromkeys("CXISO", 0), [tree]
+    while waiting:
+        node = waiting.pop()
+        found[node[0]] += 1
+        waiting += node[4:]
+    return found
+
+
+def summary(tree):
+    found = counts(tree)
+    return "settled %d cut %d removed %d inner %d small %d open %d" % (
+        sum(found.values()) - found["O"], found["C"], found["X"], found["I"], found["S"], found["O"])
+
+
+def lines(tree, root, version):
+    """The node lines in preorder, without line feeds."""
+    waiting = [(tree, root)]
+    while waiting:
+        node, box = waiting.pop()
+        yield node_line(outcome(node)) if version == 1 or node[0] in "OX" else changes_line(node, box)
+        if node[0] == "C":
+            low, high = halves(*node[1:4])
+            waiting += [(node[5], high), (node[4], low)]
+
+
+def changes_line(node, box):
+    ends = " ".join("=" if new == old else spelling(new)
+                    for new_place, old_place in zip(node[1], box) for new, old in zip(new_place, old_place))
+    cut = f"{node[2]} {spelling(node[3])} " if node[0] == "C" else ""
+    return f"{node[0]} {cut}{ends}"
+
+
+def write(tree, root, identity, version=2):
+    head = [f"paving {version}", f"identity {identity}"]
+    return "".join(line + "\n" for line in [*head, *lines(tree, root, version)]).encode()
+
+
+def number(word):
+    """The number of its one spelling; None where the word is none."""
+    if word in ("-oo", "+oo"):
+        return NEG_INF if word == "-oo" else POS_INF
+    parts = re.fullmatch(r"(-?(?:0|[1-9][0-9]{0,30})):(-?(?:0|[1-9][0-9]{0,5}))", word)
+    if not parts:
+        return None
+    mantissa, exponent = int(parts[1]), int(parts[2])
+    if not -512 <= exponent <= 511:
+        return None
+    value = mantissa << (exponent + 512)
+    return value if abs(value) <= TOP and spelling(value) == word else None
+
+
+def new_end(word, old, version):
+    if version == 2 and word == "=":
+        return old
+    value = number(word)
+    return None if version == 2 and value == old else value
+
+
+def outcome_of(line, box, version):
+    """The outcome that a line gives for a box, ("O",) included; None where it gives none."""
+    words = line.split(" ")
+    if line in ("O", "X"):
+        return (line,)
+    if words[0] not in ("I", "S", "C"):
+        return None
+    ends = words[3:] if words[0] == "C" else words[1:]
+    if len(ends) != 2 * len(box):
+        return None
+    to = []
+    for (low, high), (old_low, old_high) in zip(zip(ends[::2], ends[1::2]), box):
+        low, high = new_end(low, old_low, version), new_end(high, old_high, version)
+        if low is None or high is None or low > high or low == POS_INF or high == NEG_INF:
+            return None
+        if low < old_low or high > old_high:
+            return None
+        to.append((low, high))
+    if words[0] != "C":
+        return words[0], to
+    if not re.fullmatch("0|[1-9][0-9]?", words[1]) or int(words[1]) >= len(box):
+        return None
+    variable, at = int(words[1]), number(words[2])
+    if at is None or at in (NEG_INF, POS_INF) or not to[variable][0] < at < to[variable][1]:
+        return None
+    return "C", to, variable, at
+
+
+class Reader:
+    def __init__(self, data):
+        self.data, self.at, self.line = data, 0, 0
+
+    def next(self):
+        """The next line without its line feed; None where there is none."""
+        self.line += 1
+        end = self.data.find(b"\n", self.at)
+        if end < 0:
+            return None
+        line, self.at = self.data[self.at:end], end + 1
+        return line.decode("latin-1")
+
+    def bad(self):
+        raise Refused(f"bad line {self.line}")
+
+
+def read(data, root, identity):
+    if len(data) > MOST_BYTES:
+        raise Refused("too long")
+    reader = Reader(data)
+    version = {"paving 1": 1, "paving 2": 2}.get(reader.next()) or reader.bad()
+    second = reader.next()
+    if second is None or not re.fullmatch("identity [0-9a-f]{64}", second):
+        reader.bad()
+    if second != f"identity {identity}":
+        raise Refused("wrong identity")
+    found, waiting, count = [], [(root, 0)], 0
+    while waiting:
+        box, steps = waiting.pop()
+        line = reader.next()
+        node = None if line is None else outcome_of(line, box, version)
+        if node is None or (node[0] == "C" and steps == MOST_STEPS):
+            reader.bad()
+        count += node[0] != "O"
+        if count > MOST_SETTLED:
+            raise Refused(f"too many nodes at line {reader.line}")
+        found.append(node)
+        if node[0] == "C":
+            low, high = halves(*node[1:])
+            waiting += [(high, steps + 1), (low, steps + 1)]
+    if reader.at < len(data):
+        reader.line += 1
+        reader.bad()
+    return tree_of(found)
+
+
+def tree_of(nodes):
+    """The tree of outcomes in preorder."""
+    stack = []
+    for node in reversed(nodes):
+        stack.append((*node, stack.pop(), stack.pop()) if node[0] == "C" else node)
+    return stack[0]
+
+
+def path_text(path):
+    return path or "."
+
+
+def join(one, other, path=""):
+    """The join of two trees over one box."""
+    if one[0] == "O":
+        return other
+    if other[0] == "O":
+        return one
+    if outcome(one) != outcome(other):
+        raise Disagree(path, outcome(one), outcome(other))
+    if one[0] != "C":
+        return one
+    low = join(one[4], other[4], path + "0")
+    return (*outcome(one), low, join(one[5], other[5], path + "1"))
+
+
+def go_on(settler, tree, budget):
+    """The tree with so many more nodes settled, each time the first open leaf in preorder."""
+    found, waiting = [], [(tree, settler.root, 0)]
+    while waiting:
+        node, box, steps = waiting.pop()
+        if node[0] == "O" and budget:
+            budget -= 1
+            node = settler.settle(box, max(0, settler.depth - steps), steps)
+        found.append(outcome(node))
+        if node[0] == "C":
+            low, high = halves(*outcome(node)[1:])
+            kids = node[4:] or (("O",), ("O",))
+            waiting += [(kids[1], high, steps + 1), (kids[0], low, steps + 1)]
+    return tree_of(found)
+
+
+def audit(settler, tree):
+    """None where the tree is a stage of the open box; else the first path, the tree's outcome and the settler's."""
+    waiting = [(tree, settler.root, "")]
+    while waiting:
+        node, box, path = waiting.pop()
+        if node[0] == "O":
+            continue
+        due = settler.settle(box, max(0, settler.depth - len(path)), len(path))
+        if outcome(node) != due:
+            return path, outcome(node), due
+        if node[0] == "C":
+            low, high = halves(*due[1:])
+            waiting += [(node[5], high, path + "1"), (node[4], low, path + "0")]
+    return None
