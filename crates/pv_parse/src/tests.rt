@@ -1,5 +1,5 @@
 // What no clause says yet: a table of texts, and texts at the limits. The table of faults is run on the real program,
-// by tests/reader_table.py: with it among these tests the prover does not finish.
+// by tests/runners/reader_table.py: with it among these tests the prover does not finish.
 
 mod systems;
 

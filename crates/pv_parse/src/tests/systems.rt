@@ -1,4 +1,4 @@
-// Written by tests/reader_cases.py, which has the table by hand.
+// Written by tests/data/reader_cases.py, which has the table by hand.
 
 /// Texts of systems, and their canonical texts.
 pub(super) const SYSTEMS: [(&[u8], &[u8]); 63] = [

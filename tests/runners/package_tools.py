@@ -8,13 +8,13 @@ from fractions import Fraction
 from pathlib import Path
 
 import paver
-from ibex_cases import REFUSED, TAKEN
+from data.ibex_cases import REFUSED, TAKEN
 from package_checks import example, raised
 from paver import __main__ as commands
 from paver import expect, explain
 from paver.cover import hull_of
 from paver.ibex import translate
-from reader_cases import FAULTS, GOOD
+from data.reader_cases import FAULTS, GOOD
 from reference import minibex
 from reference.faults import first_fault
 

@@ -9,7 +9,7 @@ from pathlib import Path
 
 from package_checks import Skipped
 
-TOP = Path(__file__).parent.parent
+TOP = Path(__file__).resolve().parents[2]
 COMMANDS = ["check", "run", "resume", "merge", "audit"]
 OPTIONS = ["eps", "depth", "bisect", "contract", "boxes", "workers", "out"]
 STATUSES = ["0", "1", "2", "3", "4", "5", "6", "7", "8", "9", "11"]

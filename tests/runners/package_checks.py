@@ -6,12 +6,12 @@ from fractions import Fraction
 from pathlib import Path
 
 import paver
-from examples import EXAMPLES
+from data.examples import EXAMPLES
 from paver import numbers, program
 from reference import numbers as plain
 
-EXAMPLE_FOLDER = Path(__file__).parent.parent / "examples"
-EXPECTED = Path(__file__).parent / "expected" / "summaries.txt"
+EXAMPLE_FOLDER = Path(__file__).resolve().parents[2] / "examples"
+EXPECTED = Path(__file__).resolve().parents[1] / "data" / "summaries.txt"
 
 
 class Skipped(Exception):

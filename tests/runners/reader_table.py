@@ -1,7 +1,7 @@
 #!/usr/bin/env python3
 """Runs `paver check` on the table of texts by hand, and on texts by hand at the limits of the profile.
 
-    python3 tests/reader_table.py ./paver
+    python3 tests/runners/reader_table.py ./paver
 
 The sign ¶ stands right before the fault of a text. The last line is 'N passed, M failed'.
 """
@@ -11,8 +11,8 @@ import sys
 import tempfile
 from pathlib import Path
 
-sys.path.insert(0, str(Path(__file__).parent))
-from reader_cases import C, FAULTS, GOOD, canonical, place  # noqa: E402
+sys.path.insert(0, str(Path(__file__).resolve().parents[1]))
+from data.reader_cases import C, FAULTS, GOOD, canonical, place  # noqa: E402
 
 ONE = "x<=1"
 FUNCTIONS = [f"function f{k}(a) return a; end " for k in range(64)]

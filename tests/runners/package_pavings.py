@@ -8,7 +8,7 @@ import xml.dom.minidom
 from fractions import Fraction
 
 import paver
-from examples import EXAMPLES, settings_of
+from data.examples import EXAMPLES, settings_of
 from package_checks import Skipped, example, options_of, raised
 from paver import plots
 from reference import minibex

@@ -1,7 +1,7 @@
 #!/usr/bin/env python3
 """Tests the Python package in python/paver on the program, beside the plain paver in tests/reference.
 
-    python3 tests/test_python.py ./paver [WORD]
+    python3 tests/runners/test_python.py ./paver [WORD]
 
 runs the checks whose names contain WORD. What the program does not have yet, and plots where matplotlib is not
 installed, is skipped by name. The last line is 'N passed, M failed'.
@@ -12,8 +12,9 @@ import time
 import traceback
 from pathlib import Path
 
-HERE = Path(__file__).parent
-sys.path[:0] = [str(HERE), str(HERE.parent / "python")]
+HERE = Path(__file__).resolve().parent
+TOP = HERE.parents[1]
+sys.path[:0] = [str(HERE.parent), str(TOP / "python")]
 import package_around  # noqa: E402
 import package_checks  # noqa: E402
 import package_pavings  # noqa: E402

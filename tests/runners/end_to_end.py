@@ -2,7 +2,7 @@
 """Runs the real binary on real files, each case in a fresh folder, and compares what it prints on standard
 output and standard error, its status, and the files that are there afterwards.
 
-    python3 tests/end_to_end.py ./paver [WORD]
+    python3 tests/runners/end_to_end.py ./paver [WORD]
 
 runs the cases whose names contain WORD. The last line is 'N passed, M failed'.
 """
@@ -13,13 +13,14 @@ import sys
 import tempfile
 from pathlib import Path
 
-sys.path.insert(0, str(Path(__file__).parent))
-from cases import CASES  # noqa: E402
-from examples import EXAMPLES  # noqa: E402
-from reader_cases import canonical  # noqa: E402
+sys.path.insert(0, str(Path(__file__).resolve().parents[1]))
+from data.cases import CASES  # noqa: E402
+from data.examples import EXAMPLES  # noqa: E402
+from data.reader_cases import canonical  # noqa: E402
 from soundness import faults_of_paving  # noqa: E402
 
-HERE = Path(__file__).parent
+HERE = Path(__file__).resolve().parent
+TOP = HERE.parents[1]
 SECONDS = 120
 
 
@@ -61,7 +62,7 @@ def faults_of_case(paver, case):
 
 def faults_of_example(paver, name, words, expected):
     """An example has to print what the slow reference printed, and its paving has to be sound at sampled points."""
-    system = HERE.parent / "examples" / f"{name}.mbx"
+    system = TOP / "examples" / f"{name}.mbx"
     answer = run(paver, ["run", str(system), *words], HERE)
     if answer.returncode not in (0, 1):
         return [f"status {answer.returncode}, {answer.stderr!r}"]
@@ -77,14 +78,14 @@ def faults_of_example(paver, name, words, expected):
 
 def faults_of_check(paver, name):
     """The canonical text of an example, beside that of the reference reader."""
-    system = HERE.parent / "examples" / f"{name}.mbx"
+    system = TOP / "examples" / f"{name}.mbx"
     answer = run(paver, ["check", str(system)], HERE)
     wanted = canonical(system.read_text())
     return [] if answer.returncode == 0 and answer.stdout == wanted else [f"{answer.stdout[:300]!r} {answer.stderr!r}"]
 
 
 def expected_summaries():
-    lines = (HERE / "expected" / "summaries.txt").read_text().splitlines()
+    lines = (TOP / "tests" / "data" / "summaries.txt").read_text().splitlines()
     return {name: (digest, summary) for name, digest, summary in (line.split(" ", 2) for line in lines)}
 
 

@@ -3,7 +3,7 @@ member of the set, and none of a removed part is."""
 import random
 from fractions import Fraction
 
-from examples import settings_of
+from data.examples import settings_of
 from reference import minibex, paver
 from reference.numbers import NEG_INF, POS_INF, UNIT
 

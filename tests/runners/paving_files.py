@@ -2,7 +2,7 @@
 """Runs the real binary's commands on paving files, real ones in fresh folders: runs that stop, go on, are shared out
 and joined, and are audited; and bad files, names, folders and disks.
 
-    python3 tests/paving_files.py ./paver [WORD]
+    python3 tests/runners/paving_files.py ./paver [WORD]
 
 runs the checks whose names contain WORD. The last line is 'N passed, M failed'.
 """
@@ -12,9 +12,9 @@ import sys
 import tempfile
 from pathlib import Path
 
-sys.path.insert(0, str(Path(__file__).parent))
-from cases import HALF_LINE, RECIPROCAL, USAGE, lines, system  # noqa: E402
-from reader_cases import canonical  # noqa: E402
+sys.path.insert(0, str(Path(__file__).resolve().parents[1]))
+from data.cases import HALF_LINE, RECIPROCAL, USAGE, lines, system  # noqa: E402
+from data.reader_cases import canonical  # noqa: E402
 from reference import files, minibex  # noqa: E402
 from reference.commands import Call, answer  # noqa: E402
 from fractions import Fraction  # noqa: E402

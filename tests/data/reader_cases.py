@@ -1,15 +1,15 @@
 #!/usr/bin/env python3
 """The table of texts for the reader's tests, by hand from the grammar; the sign ¶ stands right before the fault.
 
-    python3 tests/reader_cases.py
+    python3 tests/data/reader_cases.py
 
-writes crates/pv_parse/src/tests/systems.rt, after a comparison with the reference reader; tests/reader_table.py runs
+writes crates/pv_parse/src/tests/systems.rt, after a comparison with the reference reader; tests/runners/reader_table.py runs
 the whole table on the real program.
 """
 import sys
 from pathlib import Path
 
-sys.path.insert(0, str(Path(__file__).parent))
+sys.path.insert(0, str(Path(__file__).resolve().parents[1]))
 from reference import minibex, numbers  # noqa: E402
 from reference.faults import first_fault  # noqa: E402
 from reference.paver import bound  # noqa: E402
@@ -170,7 +170,7 @@ def literal(text):
 
 
 def main():
-    folder = Path(__file__).parent.parent / "crates/pv_parse/src/tests"
+    folder = Path(__file__).resolve().parents[2] / "crates/pv_parse/src/tests"
     wrong = 0
     for cause, marked in FAULTS:
         assert marked.count("¶") == 1, marked
@@ -185,7 +185,7 @@ def main():
             wrong += 1
             print("not good for the reference:", text, found)
     print(len(FAULTS), "faults,", len(GOOD), "good,", wrong, "differ")
-    head = "// Written by tests/reader_cases.py, which has the table by hand.\n\n"
+    head = "// Written by tests/data/reader_cases.py, which has the table by hand.\n\n"
     body = head + "/// Texts of systems, and their canonical texts.\n"
     body += f"pub(super) const SYSTEMS: [(&[u8], &[u8]); {len(GOOD)}] = [\n"
     body += "".join(f"    ({literal(t.encode())}, {literal(canonical(t))}),\n" for t in GOOD)

@@ -1,17 +1,17 @@
 #!/usr/bin/env python3
 """Works out by the slow reference what `paver run` has to print for each example.
 
-    python3 tests/expected_summaries.py [NAME..]
+    python3 tests/generators/expected_summaries.py [NAME..]
 
 prints a line per example: its name, the SHA-256 of the printed text, and the summary line.
-tests/expected/summaries.txt holds what it printed; the end-to-end tests compare the program with that.
+tests/data/summaries.txt holds what it printed; the end-to-end tests compare the program with that.
 """
 import hashlib
 import sys
 from pathlib import Path
 
-sys.path.insert(0, str(Path(__file__).parent))
-from examples import EXAMPLES, settings_of  # noqa: E402
+sys.path.insert(0, str(Path(__file__).resolve().parents[1]))
+from data.examples import EXAMPLES, settings_of  # noqa: E402
 from reference import minibex, paver  # noqa: E402
 
 
@@ -19,7 +19,7 @@ def main():
     wanted = sys.argv[1:] or [name for name, _ in EXAMPLES]
     for name, words in EXAMPLES:
         if name in wanted:
-            text = (Path(__file__).parent.parent / "examples" / f"{name}.mbx").read_text()
+            text = (Path(__file__).resolve().parents[2] / "examples" / f"{name}.mbx").read_text()
             settings, budget = settings_of(words)
             summary, lines = paver.pave(paver.Settler(minibex.read(text), **settings), budget)
             printed = "".join(f"{line}\n" for line in [summary, *lines])

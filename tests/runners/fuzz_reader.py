@@ -1,7 +1,7 @@
 #!/usr/bin/env python3
 """Compares `paver check` with the reference's first fault on made texts, good and broken.
 
-    python3 tests/fuzz_reader.py ./paver [COUNT [SEED]]
+    python3 tests/runners/fuzz_reader.py ./paver [COUNT [SEED]]
 
 The last line is 'N passed, M failed'. A text that differs is printed with both answers.
 """
@@ -13,7 +13,7 @@ import tempfile
 import threading
 from pathlib import Path
 
-sys.path.insert(0, str(Path(__file__).parent))
+sys.path.insert(0, str(Path(__file__).resolve().parents[1]))
 from reference.faults import line_of  # noqa: E402
 
 NAMES = ["x", "y", "z", "k", "f", "g", "a", "b", "_t", "x1", "in", "oo", "min", "sqr", "sin", "pi", "End", "end",

@@ -2,7 +2,7 @@
 """Compares `merge`, `resume` and `audit` with the reference's on made paving files: good ones, cut out of full trees,
 and random edits of them.
 
-    python3 tests/fuzz_files.py ./paver [COUNT [SEED]]
+    python3 tests/runners/fuzz_files.py ./paver [COUNT [SEED]]
 
 The last line is 'N passed, M failed'. Words whose answer differs are printed with both answers.
 """
@@ -14,8 +14,8 @@ import tempfile
 from fractions import Fraction
 from pathlib import Path
 
-sys.path.insert(0, str(Path(__file__).parent))
-from cases import system  # noqa: E402
+sys.path.insert(0, str(Path(__file__).resolve().parents[1]))
+from data.cases import system  # noqa: E402
 from paving_files import call  # noqa: E402
 from reference import files  # noqa: E402
 from reference.commands import answer  # noqa: E402
