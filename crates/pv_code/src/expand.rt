@@ -29,7 +29,8 @@ impl Function {
         requires short { All IsShortCall body.now }
         requires present { HasValues 0 body.now 1 }
         ensures keeps { IfOk result (λ f. KeepsBody functions.now body.now f) }
-        ensures measured { IfOk result (λ f. (ms : List Meaning) → AreMeasured functions.now ms → IsMeasured f.measure (body_meaning ms body.now)) }
+        ensures measured { IfOk result (λ f. (ms : List Meaning) → AreMeasured functions.now ms →
+            IsMeasured f.measure (body_meaning ms body.now)) }
     {
         let mut left = measures(alloc, functions, body)?;
         let measure = topmost(&mut left);
@@ -232,7 +233,8 @@ fn keep_used(functions: &[Function], op: Op, kept: &mut Vec<Op>) -> Result<(), M
 
 // Wants those of a step's values that it uses.
 fn want_used(functions: &[Function], op: Op, wanted: &mut Vec<bool>) -> Result<(), Memory>
-    ensures { OnOk result (wanted.new.items ≡ wanted.old.items ++ wants (uses_of functions.now op) (arity_of op)) }
+    ensures { OnOk result (wanted.new.items ≡
+        wanted.old.items ++ wants (uses_of functions.now op) (arity_of op)) }
 {
     match op {
         Op::One(_) => want(&[true], 1, wanted),
@@ -261,7 +263,8 @@ pub fn expand(
     code: &[Op],
     arguments: &mut [Expr],
 ) -> Result<Vec<Expr>, Memory>
-    ensures { IfOk result (λ es. stack_of es.items ≡ run (meanings (map code_of functions.now)) (map term_of arguments.old) code.now []) }
+    ensures { IfOk result (λ es. stack_of es.items ≡
+        run (meanings (map code_of functions.now)) (map term_of arguments.old) code.now []) }
 {
     let mut stack: Vec<Expr> = Vec::new(alloc);
     for i in 0..code.len() {
@@ -296,7 +299,8 @@ pub fn constraint(
     relation: Relation,
 ) -> Result<Constraint, Memory>
     requires { HasValues 0 code.now 2 }
-    ensures { IfOk result (λ c. (ms : List Meaning) → Stand functions.now ms → sides_of c ≡ part_sides ms code.now relation) }
+    ensures { IfOk result (λ c. (ms : List Meaning) → Stand functions.now ms → sides_of c ≡
+        part_sides ms code.now relation) }
 {
     let used = used_code(alloc, functions, code, 2)?;
     let mut sides = expand(alloc, functions, used.as_slice(), &mut [])?;
@@ -319,7 +323,9 @@ fn made_by(
     arguments: &mut [Expr],
     stack: &mut Vec<Expr>,
 ) -> Result<Option<Expr>, Memory>
-    ensures made { IfOk result (λ made. stacked made (stack_of stack.new.items) ≡ step (meanings (map code_of functions.now)) (map term_of arguments.old) op (stack_of stack.old.items)) }
+    ensures made { IfOk result (λ made. stacked made (stack_of stack.new.items) ≡
+        step (meanings (map code_of functions.now)) (map term_of arguments.old) op
+        (stack_of stack.old.items)) }
     ensures rest { OnOk result (RunsAlike rest.now (map term_of arguments.old) (map term_of arguments.new)) }
 {
     Ok(Some(match op {
@@ -349,7 +355,8 @@ fn called(
     function: u8,
     arguments: &mut [Expr],
 ) -> Result<Expr, Memory>
-    ensures { IfOk result (λ e. term_of e ≡ meaning_of (meanings (map code_of functions.now)) function (map term_of arguments.old)) }
+    ensures { IfOk result (λ e. term_of e ≡
+        meaning_of (meanings (map code_of functions.now)) function (map term_of arguments.old)) }
 {
     let i = function as usize;
     if i >= functions.len() {

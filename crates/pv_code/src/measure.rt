@@ -55,7 +55,8 @@ impl Measure {
 
     // The same below one node more.
     fn below_one(&self) -> Measure
-        ensures { (args : List Term) (t : Term) (u : Unary) → IsSize self.now args t → IsSize result args (one u t) }
+        ensures { (args : List Term) (t : Term) (u : Unary) → IsSize self.now args t →
+            IsSize result args (one u t) }
     {
         Measure {
             nodes: self.nodes.saturating_add(1),
@@ -67,7 +68,8 @@ impl Measure {
 
     // Both below one node.
     fn joined(&self, other: &Measure) -> Measure
-        ensures { (args : List Term) (t u : Term) (b : Binary) → IsSize self.now args t → IsSize other.now args u → IsSize result args (two b t u) }
+        ensures { (args : List Term) (t u : Term) (b : Binary) → IsSize self.now args t →
+            IsSize other.now args u → IsSize result args (two b t u) }
     {
         let both = self.beside(other);
         Measure {
@@ -82,8 +84,10 @@ impl Measure {
     fn beside(&self, other: &Measure) -> Measure
         ensures nodes { result.nodes ≡ cut (self.now.nodes + other.now.nodes) }
         ensures depth { result.depth ≡ max self.now.depth other.now.depth }
-        ensures uses { (k : ℕ) → k < 12 → slice_index result.uses k ≡ cut (slice_index self.now.uses k + slice_index other.now.uses k) }
-        ensures reach { (k : ℕ) → k < 12 → slice_index result.reach k ≡ max (slice_index self.now.reach k) (slice_index other.now.reach k) }
+        ensures uses { (k : ℕ) → k < 12 → slice_index result.uses k ≡
+            cut (slice_index self.now.uses k + slice_index other.now.uses k) }
+        ensures reach { (k : ℕ) → k < 12 → slice_index result.reach k ≡
+            max (slice_index self.now.reach k) (slice_index other.now.reach k) }
     {
         Measure {
             nodes: self.nodes.saturating_add(other.nodes),
@@ -117,7 +121,8 @@ impl Measure {
 
     // The body of a function with these arguments in place of its parameters.
     fn called(&self, arguments: &[Measure]) -> Measure
-        ensures { (args inner : List Term) (t : Term) → AreSizes args arguments.now inner → IsSize self.now inner t → IsSize result args t }
+        ensures { (args inner : List Term) (t : Term) → AreSizes args arguments.now inner →
+            IsSize self.now inner t → IsSize result args t }
     {
         let mut made = Measure {
             nodes: self.nodes,
@@ -156,7 +161,8 @@ impl Measure {
 }
 
 fn argument(arguments: &[Measure], i: usize) -> Measure
-    ensures { (args inner : List Term) → AreSizes args arguments.now inner → IsSize result args (argument inner i) }
+    ensures { (args inner : List Term) → AreSizes args arguments.now inner →
+        IsSize result args (argument inner i) }
 {
     match arguments.get(i) {
         Some(argument) => *argument,
@@ -224,7 +230,8 @@ pub fn nodes_with(
     before: u64,
 ) -> Result<Option<u64>, Memory>
     requires { All IsShortCall code.now }
-    ensures { IfOk result (λ nodes. (ms : List Meaning) → AreMeasured functions.now ms → (r : Relation) → IsRoom before (part_sides ms code.now r) nodes) }
+    ensures { IfOk result (λ nodes. (ms : List Meaning) → AreMeasured functions.now ms → (r : Relation) →
+        IsRoom before (part_sides ms code.now r) nodes) }
 {
     let mut sides = measures(alloc, functions, code)?;
     let right = topmost(&mut sides);
@@ -233,7 +240,8 @@ pub fn nodes_with(
 }
 
 fn with_sides(left: &Measure, right: &Measure, before: u64) -> Option<u64>
-    ensures { (t u : Term) (r : Relation) → IsSize left.now [] t → IsSize right.now [] u → IsRoom before (record { left = t; relation = r; right = u }) result }
+    ensures { (t u : Term) (r : Relation) → IsSize left.now [] t → IsSize right.now [] u →
+        IsRoom before (record { left = t; relation = r; right = u }) result }
 {
     if left.whole_depth() > MAX_DEPTH || right.whole_depth() > MAX_DEPTH {
         return None;
@@ -266,7 +274,9 @@ pub(crate) fn measures(
 // Does with the measures on the stack what a step does with the values.
 fn take_step(functions: &[Function], op: Op, stack: &mut Vec<Measure>) -> Result<(), Memory>
     requires { IsShortCall op }
-    ensures { OnOk result ((ms : List Meaning) (args ts : List Term) → AreMeasured functions.now ms → length args ≤ 12 → AreStacked stack.old.items args ts → AreStacked stack.new.items args (step ms args op ts)) }
+    ensures { OnOk result ((ms : List Meaning) (args ts : List Term) → AreMeasured functions.now ms →
+        length args ≤ 12 → AreStacked stack.old.items args ts →
+        AreStacked stack.new.items args (step ms args op ts)) }
 {
     let made = match op {
         Op::Constant(_) => LEAF,
@@ -286,7 +296,8 @@ fn take_step(functions: &[Function], op: Op, stack: &mut Vec<Measure>) -> Result
 
 /// The measure on top of the stack.
 pub(crate) fn topmost(stack: &mut Vec<Measure>) -> Measure
-    ensures { (args ts : List Term) → AreStacked stack.old.items args ts → IsSize result args (top ts) × AreStacked stack.new.items args (below ts) }
+    ensures { (args ts : List Term) → AreStacked stack.old.items args ts → IsSize result args (top ts) ×
+        AreStacked stack.new.items args (below ts) }
 {
     match stack.pop() {
         Some(measure) => measure,

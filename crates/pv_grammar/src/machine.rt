@@ -103,7 +103,8 @@ impl Machine {
 
     /// Takes off the items that end before the token, writes their code, and takes off the item that the token meets.
     pub fn settle(&mut self, symbol: Symbol) -> Result<Option<Item>, Memory>
-        ensures { IfOk result (λ met. Settles symbol (pile self.old.stack.items) self.old.code.items met (pile self.new.stack.items) self.new.code.items) }
+        ensures { IfOk result (λ met. Settles symbol (pile self.old.stack.items) self.old.code.items met
+            (pile self.new.stack.items) self.new.code.items) }
     {
         while let Some(item) = self.stack.pop() {
             if item.stays(symbol) {
@@ -143,7 +144,8 @@ impl Machine {
     }
 
     fn put_expression(&mut self) -> Result<(), Memory>
-        ensures stack { OnOk result (pile self.new.stack.items ≡ Item.WantFactor ∷ Item.MoreFactors ∷ Item.MoreTerms ∷ pile self.old.stack.items) }
+        ensures stack { OnOk result (pile self.new.stack.items ≡
+            Item.WantFactor ∷ Item.MoreFactors ∷ Item.MoreTerms ∷ pile self.old.stack.items) }
         ensures code { OnOk result (self.new.code ≡ self.old.code) }
     {
         self.put(Item::MoreTerms)?;
@@ -153,7 +155,9 @@ impl Machine {
 
     /// Takes the token where the item stood; false where the grammar does not allow it there.
     pub fn take(&mut self, item: Item, symbol: Symbol) -> Result<bool, Memory>
-        ensures { IfOk result (λ b. Takes b (produced item symbol) (pile self.old.stack.items) self.old.code.items (pile self.new.stack.items) self.new.code.items) }
+        ensures { IfOk result (λ b. Takes b (produced item symbol)
+            (pile self.old.stack.items) self.old.code.items
+            (pile self.new.stack.items) self.new.code.items) }
     {
         match item {
             Item::Exactly(fixed) => match symbol {
@@ -194,7 +198,9 @@ impl Machine {
     }
 
     fn take_factor(&mut self, symbol: Symbol) -> Result<bool, Memory>
-        ensures { IfOk result (λ b. Takes b (produced Item.WantFactor symbol) (pile self.old.stack.items) self.old.code.items (pile self.new.stack.items) self.new.code.items) }
+        ensures { IfOk result (λ b. Takes b (produced Item.WantFactor symbol)
+            (pile self.old.stack.items) self.old.code.items
+            (pile self.new.stack.items) self.new.code.items) }
     {
         match symbol {
             Symbol::Fixed(Fixed::Plus) => {
@@ -233,7 +239,9 @@ impl Machine {
     }
 
     fn take_factors(&mut self, symbol: Symbol) -> Result<bool, Memory>
-        ensures { IfOk result (λ b. Takes b (produced Item.MoreFactors symbol) (pile self.old.stack.items) self.old.code.items (pile self.new.stack.items) self.new.code.items) }
+        ensures { IfOk result (λ b. Takes b (produced Item.MoreFactors symbol)
+            (pile self.old.stack.items) self.old.code.items
+            (pile self.new.stack.items) self.new.code.items) }
     {
         match symbol {
             Symbol::Fixed(Fixed::Star) => {
@@ -253,7 +261,9 @@ impl Machine {
     }
 
     fn take_terms(&mut self, symbol: Symbol) -> Result<bool, Memory>
-        ensures { IfOk result (λ b. Takes b (produced Item.MoreTerms symbol) (pile self.old.stack.items) self.old.code.items (pile self.new.stack.items) self.new.code.items) }
+        ensures { IfOk result (λ b. Takes b (produced Item.MoreTerms symbol)
+            (pile self.old.stack.items) self.old.code.items
+            (pile self.new.stack.items) self.new.code.items) }
     {
         match symbol {
             Symbol::Fixed(Fixed::Plus) => {
@@ -275,7 +285,9 @@ impl Machine {
     }
 
     fn take_power(&mut self, symbol: Symbol) -> Result<bool, Memory>
-        ensures { IfOk result (λ b. Takes b (produced Item.MaybePower symbol) (pile self.old.stack.items) self.old.code.items (pile self.new.stack.items) self.new.code.items) }
+        ensures { IfOk result (λ b. Takes b (produced Item.MaybePower symbol)
+            (pile self.old.stack.items) self.old.code.items
+            (pile self.new.stack.items) self.new.code.items) }
     {
         match symbol {
             Symbol::Fixed(Fixed::Caret) => {
@@ -287,7 +299,9 @@ impl Machine {
     }
 
     fn take_exponent(&mut self, symbol: Symbol) -> Result<bool, Memory>
-        ensures { IfOk result (λ b. Takes b (produced Item.WantExponent symbol) (pile self.old.stack.items) self.old.code.items (pile self.new.stack.items) self.new.code.items) }
+        ensures { IfOk result (λ b. Takes b (produced Item.WantExponent symbol)
+            (pile self.old.stack.items) self.old.code.items
+            (pile self.new.stack.items) self.new.code.items) }
     {
         match symbol {
             Symbol::Number {
@@ -302,7 +316,9 @@ impl Machine {
     }
 
     fn take_argument(&mut self, more: u8, symbol: Symbol) -> Result<bool, Memory>
-        ensures { IfOk result (λ b. Takes b (produced (Item.MoreArguments more) symbol) (pile self.old.stack.items) self.old.code.items (pile self.new.stack.items) self.new.code.items) }
+        ensures { IfOk result (λ b. Takes b (produced (Item.MoreArguments more) symbol)
+            (pile self.old.stack.items) self.old.code.items
+            (pile self.new.stack.items) self.new.code.items) }
     {
         match symbol {
             Symbol::Fixed(Fixed::Close) => Ok(more == 0),
@@ -319,7 +335,9 @@ impl Machine {
     }
 
     fn take_relation(&mut self, symbol: Symbol) -> Result<bool, Memory>
-        ensures { IfOk result (λ b. Takes b (produced Item.WantRelation symbol) (pile self.old.stack.items) self.old.code.items (pile self.new.stack.items) self.new.code.items) }
+        ensures { IfOk result (λ b. Takes b (produced Item.WantRelation symbol)
+            (pile self.old.stack.items) self.old.code.items
+            (pile self.new.stack.items) self.new.code.items) }
     {
         match symbol {
             Symbol::Relation(relation) => {
@@ -332,7 +350,9 @@ impl Machine {
     }
 
     fn take_next(&mut self, symbol: Symbol) -> Result<bool, Memory>
-        ensures { IfOk result (λ b. Takes b (produced Item.MoreConstraints symbol) (pile self.old.stack.items) self.old.code.items (pile self.new.stack.items) self.new.code.items) }
+        ensures { IfOk result (λ b. Takes b (produced Item.MoreConstraints symbol)
+            (pile self.old.stack.items) self.old.code.items
+            (pile self.new.stack.items) self.new.code.items) }
     {
         match symbol {
             Symbol::Fixed(Fixed::Semicolon) => {
@@ -344,7 +364,9 @@ impl Machine {
     }
 
     fn take_constraint(&mut self, symbol: Symbol) -> Result<bool, Memory>
-        ensures { IfOk result (λ b. Takes b (produced Item.MaybeConstraint symbol) (pile self.old.stack.items) self.old.code.items (pile self.new.stack.items) self.new.code.items) }
+        ensures { IfOk result (λ b. Takes b (produced Item.MaybeConstraint symbol)
+            (pile self.old.stack.items) self.old.code.items
+            (pile self.new.stack.items) self.new.code.items) }
     {
         self.put(Item::MoreConstraints)?;
         self.put(Item::WantRelation)?;
@@ -354,7 +376,9 @@ impl Machine {
     }
 
     fn take_block(&mut self, symbol: Symbol) -> Result<bool, Memory>
-        ensures { IfOk result (λ b. Takes b (produced Item.MaybeConstants symbol) (pile self.old.stack.items) self.old.code.items (pile self.new.stack.items) self.new.code.items) }
+        ensures { IfOk result (λ b. Takes b (produced Item.MaybeConstants symbol)
+            (pile self.old.stack.items) self.old.code.items
+            (pile self.new.stack.items) self.new.code.items) }
     {
         match symbol {
             Symbol::Fixed(Fixed::Constants) => {
@@ -367,7 +391,9 @@ impl Machine {
     }
 
     fn take_constant(&mut self, symbol: Symbol) -> Result<bool, Memory>
-        ensures { IfOk result (λ b. Takes b (produced Item.WantConstant symbol) (pile self.old.stack.items) self.old.code.items (pile self.new.stack.items) self.new.code.items) }
+        ensures { IfOk result (λ b. Takes b (produced Item.WantConstant symbol)
+            (pile self.old.stack.items) self.old.code.items
+            (pile self.new.stack.items) self.new.code.items) }
     {
         match symbol {
             Symbol::Declared { .. } => {
@@ -381,7 +407,9 @@ impl Machine {
     }
 
     fn take_constants(&mut self, symbol: Symbol) -> Result<bool, Memory>
-        ensures { IfOk result (λ b. Takes b (produced Item.MoreConstants symbol) (pile self.old.stack.items) self.old.code.items (pile self.new.stack.items) self.new.code.items) }
+        ensures { IfOk result (λ b. Takes b (produced Item.MoreConstants symbol)
+            (pile self.old.stack.items) self.old.code.items
+            (pile self.new.stack.items) self.new.code.items) }
     {
         match symbol {
             Symbol::Fixed(Fixed::Comma | Fixed::Semicolon) => {
@@ -393,7 +421,9 @@ impl Machine {
     }
 
     fn take_further_constant(&mut self, symbol: Symbol) -> Result<bool, Memory>
-        ensures { IfOk result (λ b. Takes b (produced Item.MaybeConstant symbol) (pile self.old.stack.items) self.old.code.items (pile self.new.stack.items) self.new.code.items) }
+        ensures { IfOk result (λ b. Takes b (produced Item.MaybeConstant symbol)
+            (pile self.old.stack.items) self.old.code.items
+            (pile self.new.stack.items) self.new.code.items) }
     {
         match symbol {
             Symbol::Declared { .. } => {
@@ -408,7 +438,9 @@ impl Machine {
     }
 
     fn take_function(&mut self, symbol: Symbol) -> Result<bool, Memory>
-        ensures { IfOk result (λ b. Takes b (produced Item.MaybeFunctions symbol) (pile self.old.stack.items) self.old.code.items (pile self.new.stack.items) self.new.code.items) }
+        ensures { IfOk result (λ b. Takes b (produced Item.MaybeFunctions symbol)
+            (pile self.old.stack.items) self.old.code.items
+            (pile self.new.stack.items) self.new.code.items) }
     {
         match symbol {
             Symbol::Fixed(Fixed::Function) => {
@@ -438,7 +470,9 @@ impl Machine {
     }
 
     fn take_parameters(&mut self, symbol: Symbol) -> Result<bool, Memory>
-        ensures { IfOk result (λ b. Takes b (produced Item.MoreParameters symbol) (pile self.old.stack.items) self.old.code.items (pile self.new.stack.items) self.new.code.items) }
+        ensures { IfOk result (λ b. Takes b (produced Item.MoreParameters symbol)
+            (pile self.old.stack.items) self.old.code.items
+            (pile self.new.stack.items) self.new.code.items) }
     {
         match symbol {
             Symbol::Fixed(Fixed::Comma) => {
@@ -452,7 +486,9 @@ impl Machine {
     }
 
     fn take_variable(&mut self, symbol: Symbol) -> Result<bool, Memory>
-        ensures { IfOk result (λ b. Takes b (produced Item.WantVariable symbol) (pile self.old.stack.items) self.old.code.items (pile self.new.stack.items) self.new.code.items) }
+        ensures { IfOk result (λ b. Takes b (produced Item.WantVariable symbol)
+            (pile self.old.stack.items) self.old.code.items
+            (pile self.new.stack.items) self.new.code.items) }
     {
         match symbol {
             Symbol::Declared { .. } => {
@@ -464,7 +500,9 @@ impl Machine {
     }
 
     fn take_variables(&mut self, symbol: Symbol) -> Result<bool, Memory>
-        ensures { IfOk result (λ b. Takes b (produced Item.MoreVariables symbol) (pile self.old.stack.items) self.old.code.items (pile self.new.stack.items) self.new.code.items) }
+        ensures { IfOk result (λ b. Takes b (produced Item.MoreVariables symbol)
+            (pile self.old.stack.items) self.old.code.items
+            (pile self.new.stack.items) self.new.code.items) }
     {
         match symbol {
             Symbol::Fixed(Fixed::Comma | Fixed::Semicolon) => {
@@ -476,7 +514,9 @@ impl Machine {
     }
 
     fn take_further_variable(&mut self, symbol: Symbol) -> Result<bool, Memory>
-        ensures { IfOk result (λ b. Takes b (produced Item.MaybeVariable symbol) (pile self.old.stack.items) self.old.code.items (pile self.new.stack.items) self.new.code.items) }
+        ensures { IfOk result (λ b. Takes b (produced Item.MaybeVariable symbol)
+            (pile self.old.stack.items) self.old.code.items
+            (pile self.new.stack.items) self.new.code.items) }
     {
         match symbol {
             Symbol::Declared { .. } => {
@@ -489,7 +529,9 @@ impl Machine {
     }
 
     fn take_domain(&mut self, symbol: Symbol) -> Result<bool, Memory>
-        ensures { IfOk result (λ b. Takes b (produced Item.MaybeDomain symbol) (pile self.old.stack.items) self.old.code.items (pile self.new.stack.items) self.new.code.items) }
+        ensures { IfOk result (λ b. Takes b (produced Item.MaybeDomain symbol)
+            (pile self.old.stack.items) self.old.code.items
+            (pile self.new.stack.items) self.new.code.items) }
     {
         match symbol {
             Symbol::Fixed(Fixed::In) => {

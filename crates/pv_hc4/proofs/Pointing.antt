@@ -9,7 +9,7 @@ use Rattle.pv_box.specs.Members.{PointInSome}
 use Rattle.pv_hc4.specs.Graphs.{IsAnswer}
 use Rattle.pv_hc4.specs.Revise.{Sides, revised}
 use Rattle.pv_hc4.specs.Totality.{sure_of}
-use Rattle.pv_hc4.specs.Members.{AreOver, AreWithin, HoldsOn, Stays, LosesNone}
+use Rattle.pv_hc4.specs.Members.{AreOver, AreWithin, HoldsOn, Stays, LosesNoPoint}
 use Rattle.pv_hc4.specs.declared.revised.Revised.{Revised}
 use Rattle.pv_hc4.specs.declared.revised.Revised.TheVariants.{Kept, Changed, Empty}
 use Rattle.pv_hc4.proofs.Keeping.{revised-keeps}
@@ -39,7 +39,7 @@ answer_within s (Some b) Kept old new e a = within_equal new old a.1
 answer_within s (Some b) Changed old new e a = subst (λ c. AreWithin c old) (sym a.0) (revised-within s old b e)
 answer_within s (Some b) Empty old new e a = absurd a
 
-pub loses_none : {E : Type 0} (q : Result Revised E) (s : Sides) (n : ℕ) (old new : List Bounds) → AreOver n s → IfOk q (λ r. IsAnswer (revised s old) r old new) → IfOk q (λ r. LosesNone s r old new)
+pub loses_none : {E : Type 0} (q : Result Revised E) (s : Sides) (n : ℕ) (old new : List Bounds) → AreOver n s → IfOk q (λ r. IsAnswer (revised s old) r old new) → IfOk q (λ r. LosesNoPoint s r old new)
 loses_none (Ok r) s n old new o a = λ x h k. answer_stays x (revised s old) r old new a (revised-keeps s n old x o.0 o.1 h k)
 loses_none (Err e) s n old new o a = tt
 

@@ -27,8 +27,8 @@ Stays x Changed new = PointIn x new
 Stays x Empty new = ⊥
 
 -- a revision lost no point of the old box at which the constraint holds
-abbrev pub LosesNone : Sides → Revised → List Bounds → List Bounds → Type 0
-LosesNone s r old new = (x : Point) → PointIn x old → HoldsAt s x → Stays x r new
+abbrev pub LosesNoPoint : Sides → Revised → List Bounds → List Bounds → Type 0
+LosesNoPoint s r old new = (x : Point) → PointIn x old → HoldsAt s x → Stays x r new
 
 -- both sides are over n variables
 abbrev pub AreOver : ℕ → Sides → Type 0

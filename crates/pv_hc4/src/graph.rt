@@ -7,7 +7,7 @@ ghost use Rattle.pv_hc4.specs.Revise.{revised};
 ghost use Rattle.pv_hc4.specs.Graphs.{sides_of, sides_named, IsAnswer, IsGraph, AreReady};
 ghost use Rattle.pv_hc4.specs.Totality.{forward_sides, sure_of};
 ghost use Rattle.pv_hc4.specs.Numbers.{CountsParts};
-ghost use Rattle.pv_hc4.specs.Members.{AreOver, AreWithin, HoldsOn, LosesNone};
+ghost use Rattle.pv_hc4.specs.Members.{AreOver, AreWithin, HoldsOn, LosesNoPoint};
 
 use crate::builder::Builder;
 use crate::forward::forward_all;
@@ -123,7 +123,7 @@ impl Graph {
         ensures answer { IfOk result (λ r. IsAnswer (revised (sides_of self.now) bx.old) r bx.old bx.new) }
         ensures unchanged { OnErr result (bx.new ≡ bx.old) }
         ensures within { AreWithin bx.new bx.old }
-        ensures points { IfOk result (λ r. LosesNone (sides_of self.now) r bx.old bx.new) }
+        ensures points { IfOk result (λ r. LosesNoPoint (sides_of self.now) r bx.old bx.new) }
     {
         self.learn();
         self.revise_in(&mut Scratch::new(alloc), bx)

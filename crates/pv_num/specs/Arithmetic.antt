@@ -53,9 +53,9 @@ mul_of side PosInf (Fin b) = infinite_by b
 mul_of side PosInf PosInf = PosInf
 
 -- A quotient of finite numbers, with the signs turned so that the divisor is positive.
-abbrev pub quotient_of : End → ℤ → ℤ → Extended
-quotient_of side a (pos b) = rounded side (a *ℤ pos unit) b
-quotient_of side a (negsuc b) = rounded side (neg_ℤ a *ℤ pos unit) (suc b)
+abbrev pub rounded_quotient : End → ℤ → ℤ → Extended
+rounded_quotient side a (pos b) = rounded side (a *ℤ pos unit) b
+rounded_quotient side a (negsuc b) = rounded side (neg_ℤ a *ℤ pos unit) (suc b)
 
 -- Anything over an infinite end is 0. Of a divisor 0 nothing is meant.
 abbrev pub div_of : End → Extended → Extended → Extended
@@ -63,7 +63,7 @@ div_of side NegInf NegInf = Fin (pos 0)
 div_of side NegInf (Fin b) = infinite_by (neg_ℤ b)
 div_of side NegInf PosInf = Fin (pos 0)
 div_of side (Fin a) NegInf = Fin (pos 0)
-div_of side (Fin a) (Fin b) = quotient_of side a b
+div_of side (Fin a) (Fin b) = rounded_quotient side a b
 div_of side (Fin a) PosInf = Fin (pos 0)
 div_of side PosInf NegInf = Fin (pos 0)
 div_of side PosInf (Fin b) = infinite_by b

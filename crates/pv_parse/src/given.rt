@@ -136,7 +136,8 @@ fn bracket_behind(symbol: Symbol, start: usize, bracket: usize) -> usize
 
 /// The bracket of the first domain that is bad.
 pub(crate) fn first_bad(given: &[Given]) -> Option<usize>
-    ensures some { IfSome result (λ byte. IsFirstBad (map domain_given given.now) (map bracket_given given.now) byte) }
+    ensures some { IfSome result (λ byte. IsFirstBad (map domain_given given.now)
+        (map bracket_given given.now) byte) }
     ensures none { IsNone result → AreGood (map domain_given given.now) }
 {
     first_bad_from(given, 0)
@@ -144,7 +145,8 @@ pub(crate) fn first_bad(given: &[Given]) -> Option<usize>
 
 fn first_bad_from(given: &[Given], i: usize) -> Option<usize>
     requires { i ≤ length given.now }
-    ensures some { IfSome result (λ byte. IsFirstBad (map domain_given (drop i given.now)) (map bracket_given (drop i given.now)) byte) }
+    ensures some { IfSome result (λ byte. IsFirstBad (map domain_given (drop i given.now))
+        (map bracket_given (drop i given.now)) byte) }
     ensures none { IsNone result → AreGood (map domain_given (drop i given.now)) }
 {
     if i == given.len() {

@@ -22,11 +22,14 @@ pub fn one_system()
 
 /// The same of the text of an expression over some variables, which are one way of knowing names.
 pub fn one_expression()
-    ensures names { (variables : List (List ℕ)) (n m : Names) → KnowsVariables variables n → KnowsVariables variables m → n ≡ m }
+    ensures names { (variables : List (List ℕ)) (n m : Names) → KnowsVariables variables n →
+        KnowsVariables variables m → n ≡ m }
     ensures spelled { (t : List ℕ) (n : Names) → IsSpelledOnce t n (nothing Phase.Sides) }
     ensures code { (t : List ℕ) (n : Names) → HasOneCode t n (nothing Phase.Sides) expression_items }
-    ensures either { (variables : List (List ℕ)) (t : List ℕ) → IsEither (IsExpressionText variables t) (IsExpressionFault variables t) }
-    ensures apart { (variables : List (List ℕ)) (t : List ℕ) → Excludes (IsExpressionText variables t) (IsExpressionFault variables t) }
+    ensures either { (variables : List (List ℕ)) (t : List ℕ) →
+        IsEither (IsExpressionText variables t) (IsExpressionFault variables t) }
+    ensures apart { (variables : List (List ℕ)) (t : List ℕ) →
+        Excludes (IsExpressionText variables t) (IsExpressionFault variables t) }
     ensures fault { (variables : List (List ℕ)) (t : List ℕ) → IsAtMostOne (IsExpressionFault variables t) }
 {}
 
@@ -41,8 +44,10 @@ pub fn one_outcome()
 
 /// The same of the text of an expression over some variables, and of what `parse_expr` says.
 pub fn one_expression_outcome()
-    ensures either { (variables : List (List ℕ)) (t : List ℕ) → IsEither (IsExpressionSentence variables t) (IsExpressionFaultOf variables t) }
-    ensures apart { (variables : List (List ℕ)) (t : List ℕ) → Excludes (IsExpressionSentence variables t) (IsExpressionFaultOf variables t) }
+    ensures either { (variables : List (List ℕ)) (t : List ℕ) →
+        IsEither (IsExpressionSentence variables t) (IsExpressionFaultOf variables t) }
+    ensures apart { (variables : List (List ℕ)) (t : List ℕ) →
+        Excludes (IsExpressionSentence variables t) (IsExpressionFaultOf variables t) }
     ensures fault { (variables : List (List ℕ)) (t : List ℕ) → IsAtMostOne (IsExpressionFaultOf variables t) }
     ensures term { (variables : List (List ℕ)) (t : List ℕ) → MeansOneTerm variables t }
 {}

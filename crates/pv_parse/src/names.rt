@@ -193,7 +193,8 @@ impl Names {
         requires ordered { token.start ≤ token.end }
         requires within { token.end ≤ length text.now }
         requires fraction { HasFraction symbol }
-        ensures { OnOk result (AreSame (view self.new) (learnt counts symbol (bytes_of text.now token) (view self.old))) }
+        ensures { OnOk result (AreSame (view self.new)
+            (learnt counts symbol (bytes_of text.now token) (view self.old))) }
     {
         self.tell(symbol, counts, &text[token.start..token.end])?;
         self.negative = symbol.is_minus();
@@ -213,7 +214,8 @@ impl Names {
     }
 
     fn declare(&mut self, name: &[u8], counts: Counts) -> Result<(), Memory>
-        ensures { OnOk result (AreSame (view self.new) (with_name counts.phase counts name.now (view self.old))) }
+        ensures { OnOk result (AreSame (view self.new)
+            (with_name counts.phase counts name.now (view self.old))) }
     {
         let own = Vec::from_slice(self.alloc, name)?;
         match counts.phase {
@@ -242,7 +244,8 @@ impl Names {
     }
 
     fn end_function(&mut self, counts: Counts) -> Result<(), Memory>
-        ensures { OnOk result (AreSame (view self.new) (with_function counts.phase counts (view self.old))) }
+        ensures { OnOk result (AreSame (view self.new)
+            (with_function counts.phase counts (view self.old))) }
     {
         match counts.phase {
             Phase::Body => {

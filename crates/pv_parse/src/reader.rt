@@ -138,9 +138,13 @@ fn read_tokens(
     requires names { AreBounded (view names.now) }
     requires fractions { KnowsFractions (view names.now) }
     ensures placed { IfErr result (λ e. IsPlaced text.now e) }
-    ensures sentence { OnOk result (IsSentence text.now (view names.old) start (pile machine.old.stack.items) machine.old.code.items machine.new.code.items) }
-    ensures told { OnOk result (IsToldAs text.now (view names.old) start (pile machine.old.stack.items) machine.old.code.items machine.new.code.items (scoped scope.old) (scoped scope.new)) }
-    ensures fault { IfErr result (λ e. IsFirstOf text.now (view names.old) start (pile machine.old.stack.items) e) }
+    ensures sentence { OnOk result (IsSentence text.now (view names.old) start
+        (pile machine.old.stack.items) machine.old.code.items machine.new.code.items) }
+    ensures told { OnOk result (IsToldAs text.now (view names.old) start
+        (pile machine.old.stack.items) machine.old.code.items machine.new.code.items
+        (scoped scope.old) (scoped scope.new)) }
+    ensures fault { IfErr result (λ e. IsFirstOf text.now (view names.old) start
+        (pile machine.old.stack.items) e) }
 {
     let mut from = 0;
     let mut counts = start;

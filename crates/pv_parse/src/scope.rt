@@ -85,7 +85,8 @@ impl Scope {
         requires within { token.end ≤ length text.now }
         requires fraction { HasFraction symbol }
         requires ascii { declares phase symbol ≡ true → IsAscii (bytes_of text.now token) }
-        ensures { OnOk result (scoped self.new ≡ followed (mark_of text.now phase symbol token) (scoped self.old)) }
+        ensures { OnOk result (scoped self.new ≡
+            followed (mark_of text.now phase symbol token) (scoped self.old)) }
     {
         self.take_constraint(symbol, token.start)?;
         if declares(phase, symbol) {
@@ -100,7 +101,8 @@ impl Scope {
         ensures variables { self.new.variables ≡ self.old.variables }
         ensures given { self.new.given ≡ self.old.given }
         ensures begun { OnOk result (self.new.begun ≡ begun_behind symbol (begun_at start self.old.begun)) }
-        ensures starts { OnOk result (self.new.starts.items ≡ self.old.starts.items ++ start_of symbol (begun_at start self.old.begun)) }
+        ensures starts { OnOk result (self.new.starts.items ≡
+            self.old.starts.items ++ start_of symbol (begun_at start self.old.begun)) }
     {
         let begun = self.begun.at(start);
         self.begun = begun.behind(symbol);
@@ -127,7 +129,8 @@ impl Scope {
 
     fn declare(&mut self, name: &[u8]) -> Result<(), Memory>
         requires { IsAscii name.now }
-        ensures variables { OnOk result (map string_bytes self.new.variables.items ≡ map string_bytes self.old.variables.items ++ name.now ∷ []) }
+        ensures variables { OnOk result (map string_bytes self.new.variables.items ≡
+            map string_bytes self.old.variables.items ++ name.now ∷ []) }
         ensures given { OnOk result (self.new.given.items ≡ self.old.given.items ++ nothing_given ∷ []) }
         ensures begun { self.new.begun ≡ self.old.begun }
         ensures starts { self.new.starts ≡ self.old.starts }

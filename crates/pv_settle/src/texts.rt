@@ -23,7 +23,7 @@ impl SystemSettler {
         put_end(&mut out, self.settings.eps)?;
         put(&mut out, b"\ndepth ")?;
         put_number(&mut out, u64::from(self.settings.depth))?;
-        put(&mut out, bisector_text(self.settings.bisector))?;
+        put(&mut out, bisector_words(self.settings.bisector))?;
         put(&mut out, &program)?;
         put(&mut out, b"\n")?;
         Ok(out)
@@ -42,7 +42,7 @@ impl SystemSettler {
     }
 }
 
-fn bisector_text(bisector: Bisector) -> &'static [u8]
+fn bisector_words(bisector: Bisector) -> &'static [u8]
     ensures { result.now ≡ bisector_text bisector }
 {
     match bisector {

@@ -30,7 +30,8 @@ pub struct Decimal {
 /// lowest terms. None where the text is no number or is too wide: D·10^s with s below -36 or above
 /// 36, or with more than 37 digits in D and the zeros that s puts behind it.
 pub fn read_number(text: &[u8]) -> Option<(i128, u128)>
-    ensures read { MatchOption result ((d : Decimal) → IsNumeral text.now d → TooWide d) (λ v. IsRead text.now v) }
+    ensures read { MatchOption result ((d : Decimal) → IsNumeral text.now d → TooWide d) (λ v.
+        IsRead text.now v) }
     ensures fraction { IfSome result (λ v. IsFraction v.0 v.1) }
     ensures not_negative { IfSome result (λ v. pos 0 ≤ℤ v.0) }
 {
@@ -47,7 +48,8 @@ pub fn read_number(text: &[u8]) -> Option<(i128, u128)>
 
 /// The value of digits alone, where it is at most 32.
 pub fn exponent_of(text: &[u8]) -> Option<u8>
-    ensures { MatchOption result (¬ ((n : ℕ) × IsExponentText text.now n)) (λ n. IsExponentText text.now n) }
+    ensures { MatchOption result (¬ ((n : ℕ) × IsExponentText text.now n)) (λ n.
+        IsExponentText text.now n) }
 {
     if !are_digits(text) {
         return None;
@@ -57,7 +59,8 @@ pub fn exponent_of(text: &[u8]) -> Option<u8>
 }
 
 fn are_digits(text: &[u8]) -> bool
-    ensures { MatchBool result (EachIndex text.now (λ k. IsDigit (slice_index text.now k))) (¬ EachIndex text.now (λ k. IsDigit (slice_index text.now k))) }
+    ensures { MatchBool result (EachIndex text.now (λ k. IsDigit (slice_index text.now k)))
+        (¬ EachIndex text.now (λ k. IsDigit (slice_index text.now k))) }
 {
     for byte in text {
         if !is_digit(*byte) {
@@ -99,7 +102,8 @@ fn with_digits(value: u128, digits: &[u8]) -> u128
     requires least { value ≤ 10 ^ 37 }
     requires digits { EachIndex digits.now (λ k. IsDigit (slice_index digits.now k)) }
     ensures most { result ≤ 10 ^ 37 }
-    ensures value { (before : List ℕ) → value ≡ min (10 ^ 37) (digits_value 10 before) → result ≡ min (10 ^ 37) (digits_value 10 (before ++ digits.now)) }
+    ensures value { (before : List ℕ) → value ≡ min (10 ^ 37) (digits_value 10 before) → result ≡
+        min (10 ^ 37) (digits_value 10 (before ++ digits.now)) }
 {
     let mut all = value;
     for digit in digits {
@@ -128,7 +132,8 @@ fn value_of(decimal: Decimal) -> Option<(i128, u128)>
 // A number with zeros behind it, where it keeps below `LIMIT`.
 fn with_zeros(digits: u128, zeros: u32) -> Option<u128>
     requires { zeros ≤ 36 }
-    ensures { MatchOption result (10 ^ 37 ≤ digits * 10 ^ zeros) (λ n. (n ≡ digits * 10 ^ zeros) × (n < 10 ^ 37)) }
+    ensures { MatchOption result (10 ^ 37 ≤ digits * 10 ^ zeros) (λ n. (n ≡ digits * 10 ^ zeros) ×
+        (n < 10 ^ 37)) }
 {
     let all = digits.checked_mul(power_of_ten(zeros))?;
     if all < LIMIT { Some(all) } else { None }

@@ -40,7 +40,8 @@ fn gap_end(text: &[u8], from: usize) -> usize
 // Where the blank or comment that begins at a place ends.
 fn separator_end(text: &[u8], at: usize) -> Option<usize>
     requires { at ≤ length text.now }
-    ensures { MatchOption result ((k : ℕ) → ¬ Separates text.now at k) (λ end. Separates text.now at end × at < end × end ≤ length text.now) }
+    ensures { MatchOption result ((k : ℕ) → ¬ Separates text.now at k) (λ end.
+        Separates text.now at end × at < end × end ≤ length text.now) }
 {
     match byte_at(text, at) {
         b' ' | b'\t' | b'\r' | b'\n' => Some(at + 1),
@@ -52,7 +53,8 @@ fn separator_end(text: &[u8], at: usize) -> Option<usize>
 // Where the comment that begins at a slash ends.
 fn comment_end(text: &[u8], at: usize) -> Option<usize>
     requires slash { slice_index text.now at ≡ 47 }
-    ensures { MatchOption result ((k : ℕ) → ¬ Separates text.now at k) (λ end. Separates text.now at end × at < end × end ≤ length text.now) }
+    ensures { MatchOption result ((k : ℕ) → ¬ Separates text.now at k) (λ end.
+        Separates text.now at end × at < end × end ≤ length text.now) }
 {
     match byte_at(text, at + 1) {
         b'/' => Some(line_end(text, at + 2)),
@@ -80,7 +82,8 @@ fn line_end(text: &[u8], from: usize) -> usize
 // The next `*/`, or None where there is none.
 fn close_of(text: &[u8], from: usize) -> Option<usize>
     requires { from ≤ length text.now }
-    ensures { MatchOption result ((k : ℕ) → from ≤ k → ¬ Closes text.now k) (λ close. from ≤ close × Closes text.now close × ((k : ℕ) → from ≤ k → k < close → ¬ Closes text.now k)) }
+    ensures { MatchOption result ((k : ℕ) → from ≤ k → ¬ Closes text.now k) (λ close. from ≤ close ×
+        Closes text.now close × ((k : ℕ) → from ≤ k → k < close → ¬ Closes text.now k)) }
 {
     for at in from..text.len() {
         if text[at] == b'*' && byte_at(text, at + 1) == b'/' {

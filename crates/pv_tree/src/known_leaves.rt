@@ -41,7 +41,11 @@ impl Growth {
             then settle_next self.old (S.settle_of settler.now scratch.new (S.depth_of settler.now - length path) (length path))
             else self.old) }
         ensures facts { AreKnown (S.knows settler.now) (reverse facts.new.items) self.new.holes }
-        ensures stage { (opening : Tree) → Paves self.old.root opening → IsStage (S.settle_of settler.now) (S.depth_of settler.now) self.old.root opening self.old.tree → IsStage (S.settle_of settler.now) (S.depth_of settler.now) self.new.root opening self.new.tree }
+        ensures stage { (opening : Tree) → Paves self.old.root opening →
+            IsStage (S.settle_of settler.now)
+            (S.depth_of settler.now) self.old.root opening self.old.tree →
+            IsStage (S.settle_of settler.now)
+            (S.depth_of settler.now) self.new.root opening self.new.tree }
     {
         self.write_box(scratch);
         facts.reserve(1)?;
@@ -81,8 +85,14 @@ impl Growth {
         ensures settled { self.new ≡ (if is_ok result
             then settle_next self.old (S.settle_of settler.now bx.now (S.depth_of settler.now - length path) (length path))
             else self.old) }
-        ensures handed { IfOk result (IsHandedOn (S.knows settler.now) (S.settle_of settler.now bx.now (S.depth_of settler.now - length path) (length path))) }
-        ensures stage { (opening : Tree) → Paves self.old.root opening → IsStage (S.settle_of settler.now) (S.depth_of settler.now) self.old.root opening self.old.tree → IsStage (S.settle_of settler.now) (S.depth_of settler.now) self.new.root opening self.new.tree }
+        ensures handed { IfOk result (IsHandedOn (S.knows settler.now)
+            (S.settle_of settler.now bx.now (S.depth_of settler.now - length path)
+            (length path))) }
+        ensures stage { (opening : Tree) → Paves self.old.root opening →
+            IsStage (S.settle_of settler.now)
+            (S.depth_of settler.now) self.old.root opening self.old.tree →
+            IsStage (S.settle_of settler.now)
+            (S.depth_of settler.now) self.new.root opening self.new.tree }
     {
         let _places = self.dims();
         let _sides = bx.dims();
