@@ -1,12 +1,16 @@
 """Checks of what lies around the program: the man page, completions, installing, and the package for pip."""
 import os
+import pty
 import re
+import select
 import shutil
 import subprocess
 import sys
 import tempfile
+import time
 from pathlib import Path
 
+import paver
 from package_checks import Skipped
 
 TOP = Path(__file__).resolve().parents[2]
@@ -66,6 +70,76 @@ def check_completions():
         assert all(word in text for word in [*COMMANDS, *OPTIONS]), file
 
 
+def fish_offers(line):
+    script = f"source '{TOP}/completions/paver.fish'; complete -C '{line}'"
+    done = subprocess.run(["fish", "-c", script], capture_output=True, text=True, timeout=60, check=False)
+    assert done.returncode == 0 and done.stderr == "", done.stderr
+    return [offer.split("\t")[0] for offer in done.stdout.splitlines()]
+
+
+def check_fish():
+    needs_tool("fish")
+    assert sorted(fish_offers("paver ")) == sorted(COMMANDS)
+    assert sorted(fish_offers("paver run s --")) == sorted(f"--{name}" for name in OPTIONS)
+    assert sorted(fish_offers("paver audit s --")) == ["--bisect", "--contract", "--depth", "--eps"]
+    assert fish_offers("paver run s --bisect r") == ["round"]
+
+
+def said_within(terminal, seconds):
+    """What comes from a terminal until it is silent for that long."""
+    said = b""
+    while select.select([terminal], [], [], seconds)[0]:
+        said += os.read(terminal, 4096)
+    return said.decode()
+
+
+def zsh_makes_of(typed):
+    """What stands on zsh's line after these keys and a tab."""
+    child, terminal = pty.fork()
+    if child == 0:
+        os.execvpe("zsh", ["zsh", "-f", "-i"], {**os.environ, "TERM": "dumb"})
+    ready = f"PROMPT=; fpath=('{TOP}/completions' $fpath); autoload -Uz compinit; compinit -u -D; print rea''dy\n"
+    os.write(terminal, ready.encode())
+    begun, said = time.monotonic(), ""
+    while "ready" not in said and time.monotonic() < begun + 60:
+        said += said_within(terminal, 0.5)
+    os.write(terminal, typed.encode() + b"\t")
+    line = said_within(terminal, 2)
+    os.write(terminal, b"\x15exit\n")
+    os.close(terminal)
+    os.waitpid(child, 0)
+    return line
+
+
+def check_zsh():
+    needs_tool("zsh")
+    assert zsh_makes_of("paver re") == "paver resume "
+    assert zsh_makes_of("paver run s --bisect l") == "paver run s --bisect largest "
+    assert zsh_makes_of("paver audit s --d") == "paver audit s --depth="
+
+
+def check_octave():
+    """A stored file, and the same printed, have the package's counts and boxes."""
+    needs_tool("octave")
+    with tempfile.TemporaryDirectory() as folder:
+        words = [os.environ["PAVER"], "run", str(TOP / "examples" / "ring.mbx"), "--eps", "1"]
+        printed = subprocess.run(words, capture_output=True, text=True, timeout=60, check=True).stdout
+        (Path(folder) / "printed").write_text(printed)
+        subprocess.run([*words, "--out", f"{folder}/stored"], capture_output=True, timeout=60, check=True)
+        script = f"addpath('{TOP}/python'); a = read_paving('{folder}/printed'); " \
+                 f"b = read_paving('{folder}/stored', [-3 3; -3 3]); " \
+                 "printf('%d %d %d %d %d\\n', rows(a.inner), rows(a.small), a.removed, a.cut, isequal(a.small, b.small)); " \
+                 "printf('%.17g ', a.small(1, :))"
+        done = subprocess.run(["octave", "--no-gui", "--quiet", "--norc", "--eval", script], capture_output=True, text=True,
+                              timeout=120, check=False)
+        assert done.returncode == 0, done.stderr
+        found, first = done.stdout.split("\n")
+        kinds = [line[0] for line in printed.splitlines()[1:]]
+        assert found.split() == [*(str(kinds.count(kind)) for kind in "ISXC"), "1"], found
+        small = next(iter(paver.Paving.from_text(printed).small())).exact
+        assert [float(word) for word in first.split()] == [float(end) for side in small for end in side], first
+
+
 def check_install():
     """`make install` and `make uninstall` under another root; the program is not built for it."""
     needs_tool("make")
@@ -117,5 +191,6 @@ def check_vim():
 
 
 def checks():
-    named = [check_man_page, check_man_page_by_groff, check_completions, check_install, check_pip, check_vim]
+    named = [check_man_page, check_man_page_by_groff, check_completions, check_fish, check_zsh, check_octave, check_install,
+             check_pip, check_vim]
     return [(check.__name__[6:].replace("_", " "), check, ()) for check in named]
