@@ -1,0 +1,9 @@
+//! Systems that are made from a number: the same number makes the same circles on every machine.
+#![tactic(auto)]
+
+mod circles;
+mod draws;
+#[cfg(test)]
+mod tests;
+
+pub use circles::sample_system;
