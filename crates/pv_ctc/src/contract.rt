@@ -53,8 +53,10 @@ impl Program {
         ensures dims { IfOk result (λ o. IfSome o (λ b. length b ≡ length bx.now)) }
         ensures within { IfOk result (λ o. IfSome o (λ b. IsWithin b bx.now)) }
         ensures members { IfOk result (MembersStay (sides_in graphs.now) (plan_of self.now) bx.now) }
-        ensures counted { OnOk result (steps.new ≡ steps.old + revisions (sides_in graphs.now) (plan_of self.now) bx.now) }
-        ensures at_most { OnErr result (steps.new ≤ steps.old + revisions (sides_in graphs.now) (plan_of self.now) bx.now) }
+        ensures counted { OnOk result (steps.new ≡
+            steps.old + revisions (sides_in graphs.now) (plan_of self.now) bx.now) }
+        ensures at_most { OnErr result (steps.new ≤ steps.old + revisions (sides_in graphs.now)
+            (plan_of self.now) bx.now) }
         ensures no_fewer { OnErr result (steps.old ≤ steps.new) }
     {
         self.contract_by(alloc, graphs, bx, steps)
@@ -75,8 +77,11 @@ impl Program {
         ensures dims { IfOk result (λ o. IfSome o (λ b. length b ≡ length bx.now)) }
         ensures within { IfOk result (λ o. IfSome o (λ b. IsWithin b bx.now)) }
         ensures members { IfOk result (MembersStay (sides_in graphs.now) (plan_of self.now) bx.now) }
-        ensures counted { OnOk result (C.told counter.new ≡ raised (C.told counter.old) (revisions (sides_in graphs.now) (plan_of self.now) bx.now)) }
-        ensures at_most { OnErr result (RoseAtMost (revisions (sides_in graphs.now) (plan_of self.now) bx.now) (C.told counter.old) (C.told counter.new)) }
+        ensures counted { OnOk result (C.told counter.new ≡
+            raised (C.told counter.old)
+            (revisions (sides_in graphs.now) (plan_of self.now) bx.now)) }
+        ensures at_most { OnErr result (RoseAtMost (revisions (sides_in graphs.now) (plan_of self.now) bx.now)
+            (C.told counter.old) (C.told counter.new)) }
     {
         graphs.learn();
         let _dims = bx.dims();
@@ -94,8 +99,11 @@ impl Program {
         requires dims { length bx.now ≡ graphs.now.dims }
         ensures left { IfOk result (λ o. o ≡ contract_of (sides_in graphs.now) (plan_of self.now) bx.now) }
         ensures dims { IfOk result (λ o. IfSome o (λ b. length b ≡ length bx.now)) }
-        ensures counted { OnOk result (C.told counter.new ≡ raised (C.told counter.old) (revisions (sides_in graphs.now) (plan_of self.now) bx.now)) }
-        ensures at_most { OnErr result (RoseAtMost (revisions (sides_in graphs.now) (plan_of self.now) bx.now) (C.told counter.old) (C.told counter.new)) }
+        ensures counted { OnOk result (C.told counter.new ≡
+            raised (C.told counter.old)
+            (revisions (sides_in graphs.now) (plan_of self.now) bx.now)) }
+        ensures at_most { OnErr result (RoseAtMost (revisions (sides_in graphs.now) (plan_of self.now) bx.now)
+            (C.told counter.old) (C.told counter.new)) }
     {
         let mut scratch = Scratch::new(alloc);
         let mut to = bx.clone_of(alloc)?;
@@ -119,9 +127,13 @@ fn narrow_by<C: Counter>(
     requires program { IsFor (length graphs.now.graphs) (plan_of program.now) }
     requires dims { length bx.old ≡ graphs.now.dims }
     ensures dims { length bx.new ≡ length bx.old }
-    ensures step { IfOk result (λ r. IsStep (contract_of (sides_in graphs.now) (plan_of program.now) bx.old) r bx.old bx.new) }
-    ensures counted { OnOk result (C.told counter.new ≡ raised (C.told counter.old) (revisions (sides_in graphs.now) (plan_of program.now) bx.old)) }
-    ensures at_most { OnErr result (RoseAtMost (revisions (sides_in graphs.now) (plan_of program.now) bx.old) (C.told counter.old) (C.told counter.new)) }
+    ensures step { IfOk result (λ r. IsStep
+        (contract_of (sides_in graphs.now) (plan_of program.now) bx.old) r bx.old bx.new) }
+    ensures counted { OnOk result (C.told counter.new ≡
+        raised (C.told counter.old)
+        (revisions (sides_in graphs.now) (plan_of program.now) bx.old)) }
+    ensures at_most { OnErr result (RoseAtMost (revisions (sides_in graphs.now) (plan_of program.now) bx.old)
+        (C.told counter.old) (C.told counter.new)) }
 {
     match program {
         Program::Hc4(i) => revise(graphs, *i as usize, scratch, bx, counter),
@@ -154,9 +166,14 @@ fn narrow_in_order<C: Counter>(
     requires programs { AreFor (length graphs.now.graphs) (plans_of parts.now) }
     requires dims { length bx.old ≡ graphs.now.dims }
     ensures dims { length bx.new ≡ length bx.old }
-    ensures step { IfOk result (λ r. IsStep (in_order (effects (sides_in graphs.now) (plans_of parts.now)) bx.old) r bx.old bx.new) }
-    ensures counted { OnOk result (C.told counter.new ≡ raised (C.told counter.old) (revisions_in_order (sides_in graphs.now) (plans_of parts.now) bx.old)) }
-    ensures at_most { OnErr result (RoseAtMost (revisions_in_order (sides_in graphs.now) (plans_of parts.now) bx.old) (C.told counter.old) (C.told counter.new)) }
+    ensures step { IfOk result (λ r. IsStep
+        (in_order (effects (sides_in graphs.now) (plans_of parts.now)) bx.old) r bx.old bx.new) }
+    ensures counted { OnOk result (C.told counter.new ≡
+        raised (C.told counter.old)
+        (revisions_in_order (sides_in graphs.now) (plans_of parts.now) bx.old)) }
+    ensures at_most { OnErr result (RoseAtMost
+        (revisions_in_order (sides_in graphs.now) (plans_of parts.now) bx.old)
+        (C.told counter.old) (C.told counter.new)) }
 {
     let mut answer = Revised::Kept;
     for part in parts {
@@ -183,9 +200,17 @@ fn narrow_in_turns<C: Counter>(
     requires program { IsFor (length graphs.now.graphs) (plan_of part.now) }
     requires dims { length bx.old ≡ graphs.now.dims }
     ensures dims { length bx.new ≡ length bx.old }
-    ensures step { IfOk result (λ r. IsStep (turns_of turns (contract_of (sides_in graphs.now) (plan_of part.now)) bx.old) r bx.old bx.new) }
-    ensures counted { OnOk result (C.told counter.new ≡ raised (C.told counter.old) (sum_of_turns turns (contract_of (sides_in graphs.now) (plan_of part.now)) (revisions (sides_in graphs.now) (plan_of part.now)) bx.old)) }
-    ensures at_most { OnErr result (RoseAtMost (sum_of_turns turns (contract_of (sides_in graphs.now) (plan_of part.now)) (revisions (sides_in graphs.now) (plan_of part.now)) bx.old) (C.told counter.old) (C.told counter.new)) }
+    ensures step { IfOk result (λ r. IsStep
+        (turns_of turns (contract_of (sides_in graphs.now)
+        (plan_of part.now)) bx.old) r bx.old bx.new) }
+    ensures counted { OnOk result (C.told counter.new ≡
+        raised (C.told counter.old)
+        (sum_of_turns turns (contract_of (sides_in graphs.now) (plan_of part.now))
+        (revisions (sides_in graphs.now) (plan_of part.now)) bx.old)) }
+    ensures at_most { OnErr result (RoseAtMost
+        (sum_of_turns turns (contract_of (sides_in graphs.now) (plan_of part.now))
+        (revisions (sides_in graphs.now) (plan_of part.now)) bx.old) (C.told counter.old)
+        (C.told counter.new)) }
 {
     let mut answer = Revised::Kept;
     let mut left = turns;
@@ -213,9 +238,14 @@ fn left_by_each<C: Counter>(
     requires programs { AreFor (length graphs.now.graphs) (plans_of parts.now) }
     requires dims { length bx.now ≡ graphs.now.dims }
     ensures dims { IfOk result (λ v. All (λ b. length b ≡ length bx.now) v.items) }
-    ensures found { IfOk result (λ v. v.items ≡ results (effects (sides_in graphs.now) (plans_of parts.now)) bx.now) }
-    ensures counted { OnOk result (C.told counter.new ≡ raised (C.told counter.old) (revisions_of_all (sides_in graphs.now) (plans_of parts.now) bx.now)) }
-    ensures at_most { OnErr result (RoseAtMost (revisions_of_all (sides_in graphs.now) (plans_of parts.now) bx.now) (C.told counter.old) (C.told counter.new)) }
+    ensures found { IfOk result (λ v. v.items ≡
+        results (effects (sides_in graphs.now) (plans_of parts.now)) bx.now) }
+    ensures counted { OnOk result (C.told counter.new ≡
+        raised (C.told counter.old)
+        (revisions_of_all (sides_in graphs.now) (plans_of parts.now) bx.now)) }
+    ensures at_most { OnErr result (RoseAtMost
+        (revisions_of_all (sides_in graphs.now) (plans_of parts.now) bx.now)
+        (C.told counter.old) (C.told counter.new)) }
 {
     let mut found: Vec<IBox> = Vec::new(alloc);
     for part in parts {

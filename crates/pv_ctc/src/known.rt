@@ -41,7 +41,8 @@ impl Known {
     /// as both halves of a cut do.
     pub fn after_cut(self, graphs: &Graphs, var: u8) -> Known
         requires { var < 12 }
-        ensures { (b c : List Bounds) → Knows (sides_in graphs.now) self b → IsPartAt var b c → Knows (sides_in graphs.now) result c }
+        ensures { (b c : List Bounds) → Knows (sides_in graphs.now) self b → IsPartAt var b c →
+            Knows (sides_in graphs.now) result c }
     {
         graphs.learn();
         let users = graphs.users[usize::from(var)];
@@ -62,7 +63,9 @@ impl Known {
     // What is known after one more revision.
     pub(crate) fn noting(self, graphs: &Graphs, number: u8, judged: Judged) -> Known
         requires { number < 64 }
-        ensures { (b d : List Bounds) → IsBox d → Knows (sides_in graphs.now) self b → IsNoted (side_at (sides_in graphs.now) number) judged b d → (revised_by judged ≡ Empty) ⊎ Knows (sides_in graphs.now) result d }
+        ensures { (b d : List Bounds) → IsBox d → Knows (sides_in graphs.now) self b →
+            IsNoted (side_at (sides_in graphs.now) number) judged b d →
+            (revised_by judged ≡ Empty) ⊎ Knows (sides_in graphs.now) result d }
     {
         graphs.learn();
         match judged {
@@ -84,7 +87,8 @@ impl Known {
 
     // What is known behind a step of several parts.
     pub(crate) fn behind(self, graphs: &Graphs, answer: Revised) -> Known
-        ensures { (b d : List Bounds) → IsBox d → AreWithin d b → Knows (sides_in graphs.now) self b → IsSoFar answer b d → Knows (sides_in graphs.now) result d }
+        ensures { (b d : List Bounds) → IsBox d → AreWithin d b → Knows (sides_in graphs.now) self b →
+            IsSoFar answer b d → Knows (sides_in graphs.now) result d }
     {
         graphs.learn();
         match answer {
@@ -100,7 +104,8 @@ impl Known {
 // The marked constraints that have none of some variables.
 fn spared(graphs: &Graphs, clean: Marks, changed: Marks) -> Marks
     ensures kept { (k : ℕ) → is_marked result k ≡ true → is_marked clean k ≡ true }
-    ensures spared { (k v : ℕ) → k < length (sides_in graphs.now) → v < 12 → is_marked result k ≡ true → is_marked changed v ≡ true → has_variable v (side_at (sides_in graphs.now) k) ≡ false }
+    ensures spared { (k v : ℕ) → k < length (sides_in graphs.now) → v < 12 → is_marked result k ≡ true →
+        is_marked changed v ≡ true → has_variable v (side_at (sides_in graphs.now) k) ≡ false }
 {
     let mut left = clean;
     for v in 0..12u8 {

@@ -1,0 +1,131 @@
+#!/usr/bin/env python3
+"""Runs each command of the real binary with its n-th allocation refused, for every n in turn, and with all from the n-th on.
+
+    python3 tests/runners/allocations.py ./paver [WORD]
+
+The answer has to be status 7 with its line, or the very answer of a call that is refused nothing; no other file may change,
+and a file that is stored is whole. Needs a C compiler, and says so where there is none. The last line is
+'N passed, M failed'.
+"""
+import os
+import shutil
+import subprocess
+import sys
+import tempfile
+from pathlib import Path
+
+sys.path.insert(0, str(Path(__file__).resolve().parents[1]))
+from data.cases import RECIPROCAL, system  # noqa: E402
+
+SECONDS = 60
+# Beyond so many allocations of one command every 7th is refused.
+EACH = 600
+QUARTER = ["--eps", "0.25"]
+SOLID = system("x in [-2,2], y in [-2,2]", "x^2 + y^2 <= 2; x * y >= 0")
+
+
+def commands():
+    return {
+        "check": (["check", "s"], None),
+        "check of a refused text": (["check", "bad"], None),
+        "run": (["run", "s", *QUARTER, "--boxes", "400"], None),
+        "run by four": (["run", "s", *QUARTER, "--boxes", "400", "--workers", "4"], None),
+        "run out": (["run", "s", *QUARTER, "--out", "new"], "new"),
+        "resume": (["resume", "r", "part", *QUARTER, "--out", "new"], "new"),
+        "merge": (["merge", "r", "part", "other", *QUARTER, "--out", "new"], "new"),
+        "merge of two that disagree": (["merge", "r", "other", "foul", *QUARTER], None),
+        "audit": (["audit", "r", "whole", *QUARTER], None),
+        "a bad file": (["audit", "r", "bad", *QUARTER], None),
+        "no file": (["run", "no"], None),
+        "words": (["run", "s", "--eps"], None),
+        "a contract": (["run", "s", "--contract", "union(hc4(0),prop(3),q)"], None),
+    }
+
+
+class Tried:
+    def __init__(self, paver, shim, folder):
+        self.paver, self.shim, self.folder, self.faults = paver, shim, Path(folder), []
+
+    def call(self, words, **refuse):
+        environment = {"LD_PRELOAD": str(self.shim), "REFUSE_COUNT": str(self.folder / "count"),
+                       **{name.upper(): str(value) for name, value in refuse.items()}}
+        done = subprocess.run([self.paver, *words], cwd=self.folder / "files", env=environment, capture_output=True,
+                              timeout=SECONDS, check=False)
+        return done.returncode, done.stdout, done.stderr
+
+    def files(self):
+        return {path.name: path.read_bytes() for path in (self.folder / "files").iterdir()}
+
+    def count(self):
+        return int((self.folder / "count").read_text())
+
+    def prepare(self):
+        files = self.folder / "files"
+        files.mkdir()
+        (files / "s").write_bytes(SOLID)
+        (files / "r").write_bytes(RECIPROCAL)
+        (files / "bad").write_bytes(b"Variables x in [0,4]; Constraints x <= ; end\n")
+        for name, budget in (("part", "1"), ("other", "2"), ("whole", "100")):
+            self.call(["run", "r", *QUARTER, "--boxes", budget, "--out", name])
+        head = (files / "whole").read_bytes().split(b"\n")[:2]
+        (files / "foul").write_bytes(b"\n".join([*head, b"I = =", b""]))
+
+    def try_command(self, words, stored):
+        before = self.files()
+        wanted = self.call(words)
+        count, after = self.count(), self.files()
+        new = after.get(stored)
+        tried = [n for n in range(1, count + 1) if n <= EACH or n % 7 == 0]
+        for how in ("refuse", "refuse_from"):
+            for n in tried:
+                if stored:
+                    (self.folder / "files" / stored).unlink(missing_ok=True)
+                got = self.call(words, **{how: n})
+                self.judge(words, how, n, got, wanted, before, stored, new)
+
+    def judge(self, words, how, n, got, wanted, before, stored, new):
+        status, out, err = got
+        whole = wanted[1].startswith(out) if status == 7 else got == wanted
+        # where the line finds no memory, nothing more is written
+        line = err in (b"want of memory\n", b"") if status == 7 else True
+        now = self.files()
+        kept = {name: text for name, text in now.items() if name != stored} == {
+            name: text for name, text in before.items() if name != stored}
+        held = stored is None or now.get(stored) in ((new,) if status == wanted[0] else (new, None))
+        if not (whole and line and kept and held):
+            self.faults.append(f"{' '.join(words)}, {how} {n}: status {status}, {out[:80]!r}, {err[:80]!r}, "
+                               f"files kept {kept}, stored whole {held}")
+
+
+def main():
+    paver, word = os.path.abspath(sys.argv[1]), sys.argv[2] if len(sys.argv) > 2 else ""
+    compiler = shutil.which("cc")
+    if not compiler:
+        print("skipped: there is no C compiler here")
+        print("0 passed, 0 failed")
+        return 0
+    passed = failed = 0
+    with tempfile.TemporaryDirectory() as made:
+        shim = Path(made) / "refuse.so"
+        source = Path(__file__).with_name("refuse_allocation.c")
+        subprocess.run([compiler, "-O1", "-shared", "-fPIC", str(source), "-o", str(shim)], check=True)
+        for name, (words, stored) in commands().items():
+            if word not in name:
+                continue
+            folder = Path(made) / name.replace(" ", "_")
+            folder.mkdir()
+            tried = Tried(paver, shim, folder)
+            tried.prepare()
+            try:
+                tried.try_command(words, stored)
+            except (subprocess.TimeoutExpired, OSError, ValueError) as fault:
+                tried.faults.append(str(fault))
+            passed, failed = passed + (not tried.faults), failed + bool(tried.faults)
+            for fault in tried.faults[:6]:
+                print(f"{name}: {fault}")
+    print(f"{passed} passed, {failed} failed")
+    return 1 if failed or not passed else 0
+
+
+if __name__ == "__main__":
+    sys.exit(main())

@@ -1,0 +1,213 @@
+#!/usr/bin/env python3
+"""Runs the real binary where the machine is unkind: streams that are closed, broken, full or slow, files without an end,
+folders, odd names, limits of file size and of memory, and kills in the middle of a run.
+
+    python3 tests/runners/outside.py ./paver [WORD]
+
+runs the checks whose names contain WORD. The last line is 'N passed, M failed'.
+"""
+import os
+import resource
+import signal
+import subprocess
+import sys
+import tempfile
+import time
+from pathlib import Path
+
+sys.path.insert(0, str(Path(__file__).resolve().parents[1]))
+from data.cases import HALF_LINE, RECIPROCAL, USAGE, system  # noqa: E402
+
+SECONDS = 120
+RING = system("x in [-3,3], y in [-3,3]", "x^2 + y^2 >= 1; x^2 + y^2 <= 4")
+# Without a bound on the budget this runs for long: every node is a sliver of the plane.
+LONG = system("x in [0,9999999], y in [0,9999999]", "x < y")
+PRINT_FAULT = b"write fault: standard output\n"
+
+
+class Folder:
+    """The files of a run, and how they stood before it."""
+
+    def __init__(self, paver, path):
+        self.paver, self.path = paver, Path(path)
+
+    def put(self, name, text):
+        (self.path / name).write_bytes(text)
+
+    def files(self):
+        return {path.name: path.read_bytes() for path in self.path.iterdir() if path.is_file()}
+
+    def run(self, *words, **more):
+        more.setdefault("stdout", subprocess.PIPE)
+        more.setdefault("stderr", subprocess.PIPE)
+        return subprocess.run([self.paver, *words], cwd=self.path, timeout=SECONDS, check=False, **more)
+
+    def refused(self, words, status, line, changed=(), **more):
+        """The call has this status and line, and changes nothing but the named files."""
+        before = self.files()
+        done = self.run(*words, **more)
+        assert done.returncode == status, (words, done.returncode, done.stderr)
+        assert done.stderr in (line, None), (words, done.stderr)
+        after = {name: text for name, text in self.files().items() if name not in changed}
+        assert after == {name: text for name, text in before.items() if name not in changed}, words
+        return done
+
+
+def closed(number):
+    return lambda: os.close(number)
+
+
+def closed_streams(f):
+    f.put("s", RING)
+    whole = f.run("run", "s", "--eps", "1").stdout
+    f.refused(["run", "s", "--eps", "1"], 6, PRINT_FAULT, stdout=None, preexec_fn=closed(1))
+    done = f.run("run", "s", "--eps", "1", stdin=None, preexec_fn=closed(0))
+    assert (done.returncode, done.stdout) == (0, whole)
+    done = f.run("run", "no", stderr=None, preexec_fn=closed(2))
+    assert (done.returncode, done.stdout) == (11, b"")
+    f.refused(["run", "s", "--eps", "1", "--out", "p"], 6, PRINT_FAULT, changed=["p"], stdout=None, preexec_fn=closed(1))
+    done = f.run("audit", "s", "p", "--eps", "1")
+    assert (done.returncode, done.stdout) == (0, b"honest\n"), done
+
+
+def full_streams(f):
+    f.put("s", RING)
+    with open("/dev/full", "wb") as full:
+        for words in (["check", "s"], ["run", "s"]):
+            f.refused(words, 6, PRINT_FAULT, stdout=full)
+        done = f.run("run", "no", stderr=full)
+        assert (done.returncode, done.stdout) == (11, b"")
+        done = f.run("run", "--eps", stderr=full)
+        assert (done.returncode, done.stdout) == (2, b"")
+
+
+def broken_pipe(f):
+    f.put("s", RING)
+    reader, writer = os.pipe()
+    os.close(reader)
+    with os.fdopen(writer, "wb") as pipe:
+        f.refused(["run", "s"], 6, PRINT_FAULT, stdout=pipe)
+
+
+def slow_reader(f):
+    f.put("s", RING)
+    whole = f.run("run", "s").stdout
+    with subprocess.Popen([f.paver, "run", "s"], cwd=f.path, stdout=subprocess.PIPE) as child:
+        said = b""
+        while piece := os.read(child.stdout.fileno(), 997):
+            said += piece
+            time.sleep(0.0005)
+        assert (child.wait(SECONDS), said) == (0, whole)
+
+
+def files_without_an_end(f):
+    f.put("s", RECIPROCAL)
+    done = f.run("check", "/dev/zero")
+    assert (done.returncode, done.stdout) == (3, b"") and done.stderr.startswith(b"system: line 1 column "), done.stderr
+    f.refused(["merge", "s", "/dev/zero"], 4, b"paving /dev/zero: too long\n")
+    f.put("long", b"paving 2\n" * 7_777_778)
+    f.refused(["audit", "s", "long"], 4, b"paving long: too long\n")
+    f.refused(["run", "/dev/null"], 3, b"system: line 1 column 1 byte 0: Unexpected\n")
+    f.refused(["run", "."], 5, b"read fault: .\n")
+
+
+def growing_file(f):
+    """What is there when it is read counts; a fault is one of the text, and never a crash."""
+    f.put("s", RECIPROCAL)
+    f.put("p", b"")
+    grow = "import time\nwhile True:\n open('p', 'ab').write(b'paving 2\\n' * 9000)\n time.sleep(0.001)"
+    with subprocess.Popen([sys.executable, "-c", grow], cwd=f.path) as child:
+        try:
+            for _ in range(10):
+                done = f.run("audit", "s", "p")
+                assert done.returncode == 4 and done.stderr.startswith(b"paving p: "), done
+        finally:
+            child.kill()
+
+
+def odd_names(f):
+    f.put("s", HALF_LINE)
+    for name in ("two words", "-", "\u00fc", "a\nb", "\x1b[31m", "*", "..."):
+        f.refused(["check", f"./{name}"], 11, f"no file: ./{name}\n".encode())
+        f.put(name, HALF_LINE)
+        done = f.run("run", f"./{name}", "--out", "p")
+        assert done.returncode == 0, (name, done.stderr)
+    f.refused(["check", ""], 11, b"no file: \n")
+    f.refused(["check", "n" * 4000], 5, b"read fault: " + b"n" * 4000 + b"\n")
+
+
+def file_size_limit(f):
+    """A store that the limit cuts short is a fault, or the machine ends the program; other files stay."""
+    f.put("s", RING)
+    before = f.files()
+    done = f.run("run", "s", "--out", "p", preexec_fn=lambda: resource.setrlimit(resource.RLIMIT_FSIZE, (512, 512)))
+    assert done.returncode in (6, -signal.SIGXFSZ), done
+    assert done.returncode != 6 or done.stderr == b"write fault: p\n", done
+    assert done.stdout == b"", done
+    assert {name: text for name, text in f.files().items() if name != "p"} == before
+
+
+def killed_in_the_middle(f):
+    """A run that is killed while it works has changed nothing."""
+    f.put("s", LONG)
+    f.put("p", b"as it was\n")
+    before = f.files()
+    for number in (signal.SIGTERM, signal.SIGINT, signal.SIGHUP, signal.SIGKILL):
+        words = [f.paver, "run", "s", "--boxes", "100000", "--depth", "200", "--out", "p"]
+        with subprocess.Popen(words, cwd=f.path, stdout=subprocess.DEVNULL) as child:
+            time.sleep(0.05)
+            child.send_signal(number)
+            assert child.wait(SECONDS) == -number, number
+        assert f.files() == before, number
+
+
+def little_memory(f):
+    """Address space from what a start needs on: the right answer, or want of memory with its line."""
+    f.put("s", RING)
+    whole = f.run("run", "s", "--eps", "0.03125").stdout
+    answers = set()
+    for pages in range(400, 4000, 60):
+        limit = pages * 4096
+        done = f.run("run", "s", "--eps", "0.03125", "--out", "p",
+                     preexec_fn=lambda limit=limit: resource.setrlimit(resource.RLIMIT_AS, (limit, limit)))
+        if done.returncode in (127, -signal.SIGSEGV, -signal.SIGKILL) and not answers:
+            continue
+        answers.add(done.returncode)
+        assert done.returncode in (0, 7), (pages, done)
+        assert (done.stdout, done.stderr) == ((whole.split(b"\n")[0] + b"\n", b"") if done.returncode == 0 else
+                                              (b"", b"want of memory\n")), (pages, done)
+    assert answers == {0, 7}, answers
+
+
+def no_words(f):
+    f.refused([], 2, USAGE)
+    f.refused(["run"], 2, USAGE)
+    f.refused(["--help"], 2, USAGE)
+    f.refused(["run", "s", "--version"], 2, USAGE)
+    f.refused([b"\xff\xfe"], 2, USAGE)
+
+
+CHECKS = [closed_streams, full_streams, broken_pipe, slow_reader, files_without_an_end, growing_file, odd_names,
+          file_size_limit, killed_in_the_middle, little_memory, no_words]
+
+
+def main():
+    paver, word = os.path.abspath(sys.argv[1]), sys.argv[2] if len(sys.argv) > 2 else ""
+    passed = failed = 0
+    for check in CHECKS:
+        name = check.__name__.replace("_", " ")
+        if word not in name:
+            continue
+        with tempfile.TemporaryDirectory() as made:
+            try:
+                check(Folder(paver, made))
+                passed += 1
+            except (AssertionError, subprocess.TimeoutExpired, OSError) as fault:
+                failed += 1
+                print(f"{name}: {str(fault)[:600]}")
+    print(f"{passed} passed, {failed} failed")
+    return 1 if failed or not passed else 0
+
+
+if __name__ == "__main__":
+    sys.exit(main())
