@@ -102,7 +102,7 @@ pub(crate) fn whole_root(wide: u128) -> u64 {
     // a little too small, so that the square is below the number
     let inverse = inverse.saturating_sub(4);
     let root = part as u64 * inverse as u64 / 2;
-    corrected(wide, corrected(wide, root, inverse), inverse)
+    last_step(wide, corrected(wide, corrected(wide, root, inverse), inverse))
 }
 
 // One step of Newton's method for 1 / sqrt(part / 2^32), times 2^31: x + x (1 - part x^2) / 2.
@@ -119,7 +119,19 @@ fn nearer(part: u32, inverse: u32) -> u32 {
 #[inline]
 fn corrected(wide: u128, root: u64, inverse: u32) -> u64 {
     let square = root as u128 * root as u128;
-    let rest = ((wide.saturating_sub(square) >> 32) % WORD) as u64;
-    let more = (rest as u128 * inverse as u128 >> 62) % WORD;
+    // the first root is right to 28 bits, so that the rest has at most 97
+    let rest = ((wide.saturating_sub(square) >> 34) % WORD) as u64;
+    let more = (rest as u128 * inverse as u128 >> 60) % WORD;
     root.saturating_add(more as u64)
+}
+
+// The corrected root is too small by one at most.
+#[inline]
+fn last_step(wide: u128, root: u64) -> u64 {
+    let rest = wide.saturating_sub(root as u128 * root as u128);
+    if root as u128 * 2 < rest {
+        root.saturating_add(1)
+    } else {
+        root
+    }
 }
