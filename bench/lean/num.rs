@@ -1,4 +1,5 @@
 //! The arithmetic of `pv_num` in plain Rust: 62-bit mantissas, rounded outward.
+use crate::roots::{near_root, whole_root};
 use std::cmp::Ordering;
 
 #[derive(Clone, Copy, PartialEq, Eq, PartialOrd, Ord, Debug)]
@@ -180,7 +181,7 @@ impl Num {
         (1..n).fold(self, |r, _| r.mul(self, up))
     }
 
-    fn by_rank(rank: u128) -> Num {
+    pub fn by_rank(rank: u128) -> Num {
         if rank < 1 << 61 {
             return Num { class: Positive, exponent: 0, mantissa: rank as u64 };
         }
@@ -188,17 +189,8 @@ impl Num {
         Num { class: Positive, exponent, mantissa: (rank - ((exponent as u128) << 61)) as u64 }
     }
 
-    fn rank(self) -> u128 {
+    pub fn rank(self) -> u128 {
         ((self.exponent as u128) << 61) + self.mantissa as u128
-    }
-
-    /// A first guess from floating point.
-    fn guess(self, n: u8) -> Num {
-        let at = self.exponent as i32 - 512;
-        let exponent = at.div_euclid(n as i32);
-        let rest = (self.mantissa as f64) * 2f64.powi(at.rem_euclid(n as i32) - 62);
-        let r = rest.powf(1.0 / n as f64) * 2f64.powf(62.0 / n as f64);
-        finite(false, (r * 2f64.powi(50)) as u128, exponent - 50 + 512, false)
     }
 
     /// The square root of a number with 62 bits in its mantissa: the whole part of the root of one number of 123 or 124
@@ -206,16 +198,7 @@ impl Num {
     fn square_root(self, up: bool) -> Num {
         let odd = (self.exponent & 1) as u32;
         let parts = (self.mantissa as u128) << (62 - odd);
-        // right to 52 bits, and then by Newton's method to one unit
-        let mut root = (parts as f64).sqrt() as u64;
-        let rest = parts as i128 - root as i128 * root as i128;
-        root = root.wrapping_add_signed((rest as f64 / (2.0 * root as f64)) as i64);
-        while root as u128 * root as u128 > parts {
-            root -= 1;
-        }
-        while (root + 1) as u128 * (root + 1) as u128 <= parts {
-            root += 1;
-        }
+        let root = whole_root(parts);
         let more = up && root as u128 * root as u128 != parts;
         let rank = ((self.exponent as u128 + 450 + odd as u128) / 2 << 61) + root as u128 + more as u128;
         Num::by_rank(rank)
@@ -237,7 +220,7 @@ impl Num {
             if up { r.pow(n, false) >= self } else { r.pow(n, true) > self }
         };
         // the least good rank; for Down the answer is the one before it
-        let (mut low, mut high) = (self.guess(n).rank(), 0);
+        let (mut low, mut high) = (near_root(self, n).rank(), 0);
         let mut step = 1;
         if good(low) {
             high = low;

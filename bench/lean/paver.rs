@@ -11,6 +11,7 @@ mod interval;
 mod num;
 mod program;
 mod reader;
+mod roots;
 use graph::{Box_, Graph};
 use interval::*;
 use num::{Num, NEG_INF, POS_INF};
