@@ -181,14 +181,25 @@ fn q_hull(q: usize, i: usize, found: &[Box_]) -> Option<Interval> {
     (lo <= hi).then_some(Interval { lo, hi })
 }
 
-/// A number in digits, behind a sign.
+const PAIRS: &[u8; 200] = b"0001020304050607080910111213141516171819202122232425262728293031323334353637383940414243444546474849\
+5051525354555657585960616263646566676869707172737475767778798081828384858687888990919293949596979899";
+
+/// A number in digits, behind a sign; two digits a step.
 fn write_number(out: &mut Vec<u8>, negative: bool, mut n: u64) {
     let mut digits = [0u8; 20];
     let mut at = 20;
-    while at == 20 || n > 0 {
+    while n >= 100 {
+        let pair = (n % 100) as usize * 2;
+        n /= 100;
+        at -= 2;
+        digits[at..at + 2].copy_from_slice(&PAIRS[pair..pair + 2]);
+    }
+    if n >= 10 {
+        at -= 2;
+        digits[at..at + 2].copy_from_slice(&PAIRS[n as usize * 2..n as usize * 2 + 2]);
+    } else {
         at -= 1;
-        digits[at] = b'0' + (n % 10) as u8;
-        n /= 10;
+        digits[at] = b'0' + n as u8;
     }
     if negative {
         out.push(b'-');
