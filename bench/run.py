@@ -4,13 +4,15 @@
     make && python3 bench/run.py            everything
     python3 bench/run.py numbers            nanoseconds for add, mul and div in a dependent chain
     python3 bench/run.py calls              nanoseconds for the other calls of pv_num
-    python3 bench/run.py paving             settled nodes a second
+    python3 bench/run.py paving             settled nodes a second of fourteen kinds of systems, beside bench/lean
     python3 bench/run.py printing           the share of instructions that printing takes, where there is valgrind
     python3 bench/run.py growth             how the time grows as --eps is halved
     python3 bench/run.py trees              milliseconds for settling, counting, copying, joining and auditing a large tree
 
-Each figure is the best of five runs. Needs rustc for the yardstick; without it only paver's own figures are printed.
+Each figure is the best of five runs or more. Needs rustc for the yardstick; without it only paver's own figures are printed.
 """
+import re
+import resource
 import shutil
 import subprocess
 import sys
@@ -20,13 +22,24 @@ from pathlib import Path
 
 TOP = Path(__file__).parent.parent
 EXAMPLES = TOP / "examples"
+SYSTEMS = TOP / "bench" / "systems"
 STEPS = 10_000_000
+TURNS = 6
 PAVINGS = [
-    ("two variables, strict order", None, ["--boxes", "20000"]),
-    ("PI gains, 2 variables", "pi_gains", ["--eps", "0.0078125", "--boxes", "100000"]),
-    ("Gough slice, 2 variables", "gough_slice", ["--eps", "0.0009765625", "--boxes", "100000"]),
-    ("torus, 3 variables", "torus", ["--eps", "0.0625", "--boxes", "100000"]),
-    ("planar arm, 4 variables", "planar_arm", ["--eps", "0.125", "--boxes", "100000"]),
+    ("ring", EXAMPLES / "ring.mbx", ["--eps", "0.00390625"]),
+    ("agnesi", SYSTEMS / "agnesi.mbx", None),
+    ("PI gains", EXAMPLES / "pi_gains.mbx", ["--eps", "0.0078125"]),
+    ("circles of known points", SYSTEMS / "known_points.mbx", None),
+    ("polynomial of degree 4", SYSTEMS / "quartic.mbx", None),
+    ("least maximum", SYSTEMS / "least_maximum.mbx", None),
+    ("Gough slice, 12 constraints", EXAMPLES / "gough_slice.mbx", ["--eps", "0.0009765625"]),
+    ("rate law, 8 measurements", SYSTEMS / "rate_law.mbx", None),
+    ("arm with sines and cosines", SYSTEMS / "arm_angles.mbx", None),
+    ("beacons, qinter", SYSTEMS / "beacons.mbx", None),
+    ("union of solids", SYSTEMS / "solids.mbx", None),
+    ("torus", EXAMPLES / "torus.mbx", ["--eps", "0.125"]),
+    ("planar arm", EXAMPLES / "planar_arm.mbx", ["--eps", "0.125"]),
+    ("strict order, a deep tree", None, []),
 ]
 ORDER = "Variables x in [0,9999999], y in [0,9999999]; Constraints x < y; end\n"
 
@@ -72,34 +85,50 @@ def calls(_):
         print(f"{operation:7} {(spent - fed) / STEPS * 1e10:8.1f} ns")
 
 
-def system_of(folder, name):
-    if name:
-        return EXAMPLES / f"{name}.mbx"
-    system = Path(folder) / "order.mbx"
-    system.write_text(ORDER)
-    return system
+def paving_of(folder, file, words):
+    """The words that follow `run`. A system of bench/systems/ has its options in its comment."""
+    if file is None:
+        file = Path(folder) / "order.mbx"
+        file.write_text(ORDER)
+    if words is None:
+        words = re.search(r"^//   (--.*)$", file.read_text(), re.MULTILINE).group(1).split()
+    budget = [] if file.name != "order.mbx" else ["--boxes", "20000"]
+    return [file, *words, *(budget or ["--boxes", "100000"])]
+
+
+def processor_seconds(words):
+    """The processor time of a run, and what it printed."""
+    before = resource.getrusage(resource.RUSAGE_CHILDREN)
+    printed = subprocess.run([str(word) for word in words], stdout=subprocess.PIPE, check=False).stdout
+    after = resource.getrusage(resource.RUSAGE_CHILDREN)
+    return after.ru_utime + after.ru_stime - before.ru_utime - before.ru_stime, printed
 
 
 def paving(folder):
+    """Thousand settled nodes a second, the programs in turn, and the best time of each."""
     lean = yardstick(folder, "paver")
-    for title, name, words in PAVINGS:
-        system = system_of(folder, name)
-        spent, printed = seconds([TOP / "paver", "run", system, *words])
-        settled = int(printed.split()[1])
-        line = f"{title:28} {settled:7} nodes {settled / spent / 1000:8.0f} thousand a second"
+    for title, file, words in PAVINGS:
+        words = paving_of(folder, file, words)
+        runs = [[TOP / "paver", "run", *words]] + ([[lean, *words]] if lean else [])
+        best, printed = [float("inf")] * len(runs), [b""] * len(runs)
+        for _ in range(TURNS):
+            for i, run in enumerate(runs):
+                spent, printed[i] = processor_seconds(run)
+                best[i] = min(best[i], spent)
+        settled = int(printed[0].split()[1])
+        line = f"{title:28} {settled:7} nodes, paver {settled / best[0] / 1000:6.0f}"
         if lean:
-            other, same = seconds([lean, system, *words])
-            line += f", {spent / other:5.2f} times lean Rust{'' if same == printed else ', OTHER OUTPUT'}"
-        print(line)
+            same = "" if printed[0] == printed[1] else ", OTHER OUTPUT"
+            line += f", lean Rust {settled / best[1] / 1000:6.0f}, ratio {best[1] / best[0]:5.2f}{same}"
+        print(line, flush=True)
 
 
 def printing(folder):
     if not shutil.which("valgrind"):
         return
     counts = Path(folder) / "counts"
-    for title, name, words in PAVINGS:
-        system = system_of(folder, name)
-        run = [TOP / "paver", "run", system, *words[:-1], "5000"]
+    for title, file, words in PAVINGS:
+        run = [TOP / "paver", "run", *paving_of(folder, file, words)[:-1], "5000"]
         subprocess.run(["valgrind", "--tool=callgrind", f"--callgrind-out-file={counts}", *map(str, run)],
                        stdout=subprocess.DEVNULL, stderr=subprocess.DEVNULL, check=False)
         lines = subprocess.run(["callgrind_annotate", "--inclusive=yes", str(counts)], stdout=subprocess.PIPE,

@@ -1,4 +1,5 @@
 //! The arithmetic of `pv_num` in plain Rust: 62-bit mantissas, rounded outward.
+use crate::roots::{near_root, whole_root};
 use std::cmp::Ordering;
 
 #[derive(Clone, Copy, PartialEq, Eq, PartialOrd, Ord, Debug)]
@@ -180,7 +181,7 @@ impl Num {
         (1..n).fold(self, |r, _| r.mul(self, up))
     }
 
-    fn by_rank(rank: u128) -> Num {
+    pub fn by_rank(rank: u128) -> Num {
         if rank < 1 << 61 {
             return Num { class: Positive, exponent: 0, mantissa: rank as u64 };
         }
@@ -188,24 +189,19 @@ impl Num {
         Num { class: Positive, exponent, mantissa: (rank - ((exponent as u128) << 61)) as u64 }
     }
 
-    fn rank(self) -> u128 {
+    pub fn rank(self) -> u128 {
         ((self.exponent as u128) << 61) + self.mantissa as u128
     }
 
-    /// A first guess: the integer square root for n = 2, else from floating point.
-    fn guess(self, n: u8) -> Num {
-        let at = self.exponent as i32 - 512;
-        if n == 2 {
-            let odd = at & 1;
-            let parts = (self.mantissa as u128) << (62 + odd);
-            let mut r = (parts as f64).sqrt() as u128;
-            r = (r + parts / r.max(1)) / 2;
-            return finite(false, r, (at - 62 - odd) / 2 + 512, false);
-        }
-        let exponent = at.div_euclid(n as i32);
-        let rest = (self.mantissa as f64) * 2f64.powi(at.rem_euclid(n as i32) - 62);
-        let r = rest.powf(1.0 / n as f64) * 2f64.powf(62.0 / n as f64);
-        finite(false, (r * 2f64.powi(50)) as u128, exponent - 50 + 512, false)
+    /// The square root of a number with 62 bits in its mantissa: the whole part of the root of one number of 123 or 124
+    /// bits, and one more where a rest is left and the root is rounded up.
+    fn square_root(self, up: bool) -> Num {
+        let odd = (self.exponent & 1) as u32;
+        let parts = (self.mantissa as u128) << (62 - odd);
+        let root = whole_root(parts);
+        let more = up && root as u128 * root as u128 != parts;
+        let rank = ((self.exponent as u128 + 450 + odd as u128) / 2 << 61) + root as u128 + more as u128;
+        Num::by_rank(rank)
     }
 
     /// self at least 0. Gallops from the guess, and then bisects.
@@ -216,12 +212,15 @@ impl Num {
         if n == 1 || self.is_zero() {
             return self;
         }
+        if n == 2 && self.exponent > 0 {
+            return self.square_root(up);
+        }
         let good = |rank: u128| {
             let r = Num::by_rank(rank);
             if up { r.pow(n, false) >= self } else { r.pow(n, true) > self }
         };
         // the least good rank; for Down the answer is the one before it
-        let (mut low, mut high) = (self.guess(n).rank(), 0);
+        let (mut low, mut high) = (near_root(self, n).rank(), 0);
         let mut step = 1;
         if good(low) {
             high = low;
@@ -307,16 +306,23 @@ impl Num {
         finite(negative, parts, at - 1, up)
     }
 
-    pub fn spelling(self) -> String {
+    /// The sign, the odd mantissa and the exponent; of an infinite end its text.
+    pub fn spelled(self) -> Result<(bool, u64, i32), &'static str> {
         match self.class {
-            NegInf => "-oo".into(),
-            PosInf => "+oo".into(),
-            _ if self.mantissa == 0 => "0:0".into(),
+            NegInf => Err("-oo"),
+            PosInf => Err("+oo"),
+            _ if self.mantissa == 0 => Ok((false, 0, 0)),
             class => {
                 let odd = self.mantissa.trailing_zeros();
-                let sign = if class == Negative { "-" } else { "" };
-                format!("{sign}{}:{}", self.mantissa >> odd, self.exponent as i32 - 512 + odd as i32)
+                Ok((class == Negative, self.mantissa >> odd, self.exponent as i32 - 512 + odd as i32))
             }
+        }
+    }
+
+    pub fn spelling(self) -> String {
+        match self.spelled() {
+            Err(end) => end.into(),
+            Ok((negative, mantissa, exponent)) => format!("{}{mantissa}:{exponent}", if negative { "-" } else { "" }),
         }
     }
 }

@@ -3,7 +3,10 @@
 //!     rustc -O bench/lean/numbers.rs -o /tmp/numbers && /tmp/numbers mul 10000000
 //!
 //! Prints the last number, so that nothing of the chain can be left out.
+#[allow(dead_code)]
 mod num;
+#[allow(dead_code)]
+mod roots;
 use num::{finite, Num};
 use std::env::args;
 

@@ -1,226 +1,160 @@
-//! A lean paver in plain Rust with the same arithmetic and the same results, as a yardstick: `prop(8)`, one thread.
+//! A lean paver in plain Rust with the same arithmetic and the same results, as a yardstick; one thread.
 //!
 //!     rustc --edition 2021 -O bench/lean/paver.rs -o /tmp/lean && /tmp/lean SYSTEM --eps 0.25 --boxes 100000 --depth 60
 //!
-//! A constraint that is sure on the box needs no downward pass; one that was kept is skipped until a place of one of
-//! its variables changes.
+//! It takes the same short cuts as paver. A constraint that is sure on a box is sure on every part of it, and is neither
+//! revised nor tested there again. One that was kept is clean, and passed over until a place of one of its variables
+//! changes, by a contraction or a cut. Both facts go with a box to its halves. Leaves wait on a stack, and a node is
+//! printed when it is settled.
+mod graph;
 mod interval;
 mod num;
+mod program;
 mod reader;
+mod roots;
+use graph::{Box_, Graph};
 use interval::*;
-use num::{Num, NEG_INF, POS_INF, ZERO};
-use reader::Expr;
-use std::collections::HashMap;
+use num::{Num, NEG_INF, POS_INF};
+use program::Program;
 use std::io::Write;
 
-type Box_ = [Interval; 12];
-
-#[derive(Clone, Copy, PartialEq, Eq, Hash)]
-enum Node {
-    Const(usize),
-    Var(usize),
-    One(char, usize),
-    Two(char, usize, usize),
-    Pow(usize, u8),
+/// What is known of each of up to 64 constraints on a box.
+#[derive(Clone, Copy)]
+struct Known {
+    sure: u64,
+    clean: u64,
 }
 
-struct Graph {
-    nodes: Vec<Node>,
-    constants: Vec<Interval>,
-    relation: String,
-    left: usize,
-    right: usize,
-    uses: u16,
-}
-
-impl Graph {
-    fn of(relation: &str, left: &Expr, right: &Expr) -> Graph {
-        let mut g = Graph { nodes: vec![], constants: vec![], relation: relation.into(), left: 0, right: 0, uses: 0 };
-        let mut seen = HashMap::new();
-        g.left = g.intern(left, &mut seen);
-        g.right = g.intern(right, &mut seen);
-        g
-    }
-
-    fn intern(&mut self, e: &Expr, seen: &mut HashMap<Node, usize>) -> usize {
-        let node = match e {
-            Expr::Const(p, q) => {
-                let x = Interval { lo: Num::ratio(*p, *q, false), hi: Num::ratio(*p, *q, true) };
-                let at = self.constants.iter().position(|y| *y == x).unwrap_or(self.constants.len());
-                if at == self.constants.len() {
-                    self.constants.push(x);
-                }
-                Node::Const(at)
-            }
-            Expr::Var(i) => {
-                self.uses |= 1 << i;
-                Node::Var(*i)
-            }
-            Expr::One(o, e) => Node::One(*o, self.intern(e, seen)),
-            Expr::Two(o, e, f) => Node::Two(*o, self.intern(e, seen), self.intern(f, seen)),
-            Expr::Pow(e, n) => Node::Pow(self.intern(e, seen), *n),
-            Expr::Parameter(_) => unreachable!(),
-        };
-        *seen.entry(node).or_insert_with(|| {
-            self.nodes.push(node);
-            self.nodes.len() - 1
-        })
-    }
-
-    /// Whether no divisor holds 0; None where a divisor is [0,0].
-    fn forward(&self, bx: &Box_, values: &mut Vec<Interval>) -> Option<bool> {
-        values.clear();
-        let mut total = true;
-        for node in &self.nodes {
-            let x = match *node {
-                Node::Const(i) => self.constants[i],
-                Node::Var(i) => bx[i],
-                Node::One('-', e) => values[e].neg(),
-                Node::One(_, e) => values[e].abs(),
-                Node::Pow(e, n) => values[e].pow(n),
-                Node::Two(o, e, f) => {
-                    let (x, y) = (values[e], values[f]);
-                    match o {
-                        '+' => x.add(y),
-                        '-' => x.sub(y),
-                        '*' => x.mul(y),
-                        'm' => x.min(y),
-                        'M' => x.max(y),
-                        _ => {
-                            total &= !y.has_zero();
-                            x.quotient(y)?
-                        }
-                    }
-                }
-            };
-            values.push(x);
-        }
-        Some(total)
-    }
-
-    fn related(&self, l: Interval, r: Interval) -> Option<(Interval, Interval)> {
-        let below = |l: Interval, r: Interval, strict: bool| {
-            if l.lo > r.hi || (strict && l.lo >= r.hi) {
-                return None;
-            }
-            Some((Interval { lo: l.lo, hi: l.hi.min(r.hi) }, Interval { lo: r.lo.max(l.lo), hi: r.hi }))
-        };
-        match self.relation.as_str() {
-            "=" => l.meet(r).map(|x| (x, x)),
-            "<=" => below(l, r, false),
-            "<" => below(l, r, true),
-            ">=" => below(r, l, false).map(|(r, l)| (l, r)),
-            _ => below(r, l, true).map(|(r, l)| (l, r)),
-        }
-    }
-
-    fn decided(&self, l: Interval, r: Interval) -> bool {
-        match self.relation.as_str() {
-            "=" => l.lo == l.hi && r.lo == r.hi && l.lo == r.lo,
-            "<=" => l.hi <= r.lo,
-            "<" => l.hi < r.lo,
-            ">=" => l.lo >= r.hi,
-            _ => l.lo > r.hi,
-        }
-    }
-
-    fn down(&self, at: usize, z: Interval, values: &[Interval], bx: &mut Box_) -> Option<()> {
-        match self.nodes[at] {
-            Node::Const(_) => {}
-            Node::Var(i) => bx[i] = bx[i].meet(z)?,
-            Node::One('-', e) => self.down(e, values[e].meet(z.neg())?, values, bx)?,
-            Node::One(_, e) => self.down(e, back_abs(z, values[e])?, values, bx)?,
-            Node::Pow(e, n) => self.down(e, back_pow(z, values[e], n)?, values, bx)?,
-            Node::Two(o, e, f) => {
-                let (x, y) = (values[e], values[f]);
-                let (x1, y1) = match o {
-                    '+' => back_add(z, x, y)?,
-                    '-' => back_sub(z, x, y)?,
-                    '*' => back_mul(z, x, y)?,
-                    'm' => back_min(z, x, y)?,
-                    'M' => back_max(z, x, y)?,
-                    _ => back_div(z, x, y)?,
-                };
-                self.down(e, x1, values, bx)?;
-                self.down(f, y1, values, bx)?;
-            }
-        }
-        Some(())
-    }
-}
-
-#[derive(Clone, Copy, PartialEq)]
-enum Mark {
-    Dirty,
-    Clean,
-    Sure,
-}
+const NOTHING: Known = Known { sure: 0, clean: 0 };
 
 struct Paver {
     graphs: Vec<Graph>,
+    /// For each variable the constraints that have it.
+    users: [u64; 12],
     dims: usize,
     eps: Num,
     values: Vec<Interval>,
-    marks: Vec<Mark>,
 }
 
 impl Paver {
-    fn contract(&mut self, bx: &mut Box_) -> Option<()> {
-        self.marks.iter_mut().for_each(|m| *m = Mark::Dirty);
-        for _ in 0..8 {
-            let mut changed = false;
-            for i in 0..self.graphs.len() {
-                if self.marks[i] == Mark::Dirty {
-                    changed |= self.revise(i, bx)?;
+    /// Whether something of the box changed; None where nothing is left.
+    fn contract(&mut self, program: &Program, bx: &mut Box_, known: &mut Known) -> Option<bool> {
+        match program {
+            Program::Hc4(i) => self.revise(*i, bx, known),
+            Program::Compose(parts) => {
+                let mut changed = false;
+                for part in parts {
+                    changed |= self.contract(part, bx, known)?;
                 }
+                Some(changed)
             }
-            if !changed {
-                break;
+            Program::Hull(q, parts) => {
+                let hull = self.hull(*q, parts, bx, *known)?;
+                let changed = bx[..self.dims] != hull[..self.dims];
+                if changed {
+                    *bx = hull;
+                    known.clean = 0;
+                }
+                Some(changed)
             }
+            Program::Fix(turns, part) => self.in_turns(*turns, |p| p.contract(part, bx, known)),
+            Program::Prop(turns) => self.in_turns(*turns, |p| {
+                let mut changed = false;
+                for i in 0..p.graphs.len() {
+                    changed |= p.revise(i, bx, known)?;
+                }
+                Some(changed)
+            }),
         }
-        Some(())
     }
 
-    fn revise(&mut self, i: usize, bx: &mut Box_) -> Option<bool> {
+    fn in_turns(&mut self, turns: usize, mut turn: impl FnMut(&mut Paver) -> Option<bool>) -> Option<bool> {
+        for done in 0..turns {
+            if !turn(self)? {
+                return Some(done > 0);
+            }
+        }
+        Some(turns > 0)
+    }
+
+    fn hull(&mut self, q: Option<usize>, parts: &[Program], bx: &Box_, known: Known) -> Option<Box_> {
+        let mut found: Vec<Box_> = Vec::with_capacity(parts.len());
+        for part in parts {
+            let (mut to, mut here) = (*bx, known);
+            if self.contract(part, &mut to, &mut here).is_some() {
+                found.push(to);
+            }
+        }
+        let mut hull = *found.first()?;
+        match q {
+            None => {
+                for other in &found[1..] {
+                    (0..self.dims).for_each(|i| hull[i] = hull[i].hull(other[i]));
+                }
+            }
+            Some(q) => {
+                for i in 0..self.dims {
+                    hull[i] = q_hull(q, i, &found)?;
+                }
+            }
+        }
+        Some(hull)
+    }
+
+    fn revise(&mut self, i: usize, bx: &mut Box_, known: &mut Known) -> Option<bool> {
+        let bit = 1u64 << i;
+        if (known.sure | known.clean) & bit != 0 {
+            return Some(false);
+        }
         let g = &self.graphs[i];
         let total = g.forward(bx, &mut self.values)?;
         let (l, r) = (self.values[g.left], self.values[g.right]);
         if total && g.decided(l, r) {
-            self.marks[i] = Mark::Sure;
+            known.sure |= bit;
             return Some(false);
         }
         let (l, r) = g.related(l, r)?;
         let before = *bx;
         g.down(g.left, l, &self.values, bx)?;
         g.down(g.right, r, &self.values, bx)?;
-        let moved: u16 = (0..self.dims).filter(|k| bx[*k] != before[*k]).map(|k| 1 << k).sum();
-        if moved == 0 {
-            self.marks[i] = Mark::Clean;
-            return Some(false);
-        }
-        for (g, mark) in self.graphs.iter().zip(&mut self.marks) {
-            if *mark == Mark::Clean && g.uses & moved != 0 {
-                *mark = Mark::Dirty;
+        let mut touched = 0;
+        for k in 0..self.dims {
+            if bx[k] != before[k] {
+                touched |= self.users[k];
             }
         }
+        if touched == 0 {
+            known.clean |= bit;
+            return Some(false);
+        }
+        known.clean &= !touched;
         Some(true)
     }
 
-    fn sure(&mut self, bx: &Box_) -> bool {
-        for i in 0..self.graphs.len() {
-            let g = &self.graphs[i];
-            let sure = match self.marks[i] {
-                Mark::Sure => true,
-                Mark::Clean => false,
-                Mark::Dirty => {
-                    g.forward(bx, &mut self.values) == Some(true) && g.decided(self.values[g.left], self.values[g.right])
-                }
-            };
-            if !sure {
-                return false;
+    fn sure(&mut self, program: &Program, bx: &Box_, known: &mut Known) -> bool {
+        match program {
+            Program::Hc4(i) => self.is_sure(*i, bx, known),
+            Program::Compose(parts) => parts.iter().all(|part| self.sure(part, bx, known)),
+            Program::Hull(q, parts) => {
+                let q = q.unwrap_or(1);
+                q == 0 || parts.iter().filter(|part| self.sure(part, bx, known)).take(q).count() == q
             }
+            Program::Fix(_, part) => self.sure(part, bx, known),
+            Program::Prop(_) => (0..self.graphs.len()).all(|i| self.is_sure(i, bx, known)),
         }
-        true
+    }
+
+    fn is_sure(&mut self, i: usize, bx: &Box_, known: &mut Known) -> bool {
+        let bit = 1u64 << i;
+        if (known.sure | known.clean) & bit != 0 {
+            return known.sure & bit != 0;
+        }
+        let g = &self.graphs[i];
+        let sure = g.forward(bx, &mut self.values) == Some(true) && g.decided(self.values[g.left], self.values[g.right]);
+        if sure {
+            known.sure |= bit;
+        }
+        sure
     }
 
     fn choose(&self, bx: &Box_) -> Option<(usize, Num)> {
@@ -239,79 +173,147 @@ impl Paver {
     }
 }
 
+/// From the least lower end to the greatest upper one that lie in at least q of the intervals.
+fn q_hull(q: usize, i: usize, found: &[Box_]) -> Option<Interval> {
+    let enough = |n: &Num| found.iter().filter(|b| b[i].lo <= *n && *n <= b[i].hi).count() >= q;
+    let lo = found.iter().map(|b| b[i].lo).filter(|n| enough(n)).min()?;
+    let hi = found.iter().map(|b| b[i].hi).filter(|n| enough(n)).max()?;
+    (lo <= hi).then_some(Interval { lo, hi })
+}
+
+const PAIRS: &[u8; 200] = b"0001020304050607080910111213141516171819202122232425262728293031323334353637383940414243444546474849\
+5051525354555657585960616263646566676869707172737475767778798081828384858687888990919293949596979899";
+
+/// A number in digits, behind a sign; two digits a step.
+fn write_number(out: &mut Vec<u8>, negative: bool, mut n: u64) {
+    let mut digits = [0u8; 20];
+    let mut at = 20;
+    while n >= 100 {
+        let pair = (n % 100) as usize * 2;
+        n /= 100;
+        at -= 2;
+        digits[at..at + 2].copy_from_slice(&PAIRS[pair..pair + 2]);
+    }
+    if n >= 10 {
+        at -= 2;
+        digits[at..at + 2].copy_from_slice(&PAIRS[n as usize * 2..n as usize * 2 + 2]);
+    } else {
+        at -= 1;
+        digits[at] = b'0' + n as u8;
+    }
+    if negative {
+        out.push(b'-');
+    }
+    out.extend_from_slice(&digits[at..]);
+}
+
+fn write_num(out: &mut Vec<u8>, n: Num) {
+    out.push(b' ');
+    match n.spelled() {
+        Ok((negative, mantissa, exponent)) => {
+            write_number(out, negative, mantissa);
+            out.push(b':');
+            write_number(out, exponent < 0, exponent.unsigned_abs() as u64);
+        }
+        Err(end) => out.extend_from_slice(end.as_bytes()),
+    }
+}
+
 fn option(words: &[String], name: &str, default: &str) -> String {
     words.iter().position(|w| w == name).map_or(default.into(), |i| words[i + 1].clone())
 }
 
-fn main() {
-    let words: Vec<String> = std::env::args().collect();
-    let system = reader::read(&std::fs::read_to_string(&words[1]).unwrap());
-    let eps: f64 = option(&words, "--eps", "0.125").parse().unwrap();
-    let (depth, budget): (usize, usize) =
-        (option(&words, "--depth", "60").parse().unwrap(), option(&words, "--boxes", "20000").parse().unwrap());
+fn search_box(system: &reader::System) -> Box_ {
     let mut root = [ALL; 12];
     for (i, (lo, hi)) in system.domains.iter().enumerate() {
         root[i].lo = lo.map_or(NEG_INF, |(p, q)| Num::ratio(p, q, false));
         root[i].hi = hi.map_or(POS_INF, |(p, q)| Num::ratio(p, q, true));
     }
-    let mut p = Paver {
-        graphs: system.constraints.iter().map(|(o, l, r)| Graph::of(o, l, r)).collect(),
-        dims: system.names.len(),
-        eps: Num::ratio((eps * (1u64 << 40) as f64) as i128, 1 << 40, false),
-        values: vec![],
-        marks: vec![Mark::Dirty; system.constraints.len()],
-    };
-    let (mut lines, mut counts, mut settled) = (String::new(), [0usize; 5], 0);
-    let mut waiting = vec![(root, 0usize)];
-    while let Some((mut bx, length)) = waiting.pop() {
-        if settled == budget {
-            lines.push_str("O\n");
-            counts[4] += 1;
-            continue;
+    root
+}
+
+fn paver_of(system: &reader::System, eps: Num) -> Paver {
+    let graphs: Vec<Graph> = system.constraints.iter().map(|(o, l, r)| Graph::of(o, l, r)).collect();
+    let mut users = [0; 12];
+    for (i, g) in graphs.iter().enumerate() {
+        (0..12).filter(|v| g.uses & 1 << v != 0).for_each(|v| users[v] |= 1u64 << i);
+    }
+    Paver { graphs, users, dims: system.names.len(), eps, values: vec![] }
+}
+
+struct Printed {
+    lines: Vec<u8>,
+    cut: usize,
+    removed: usize,
+    inner: usize,
+    small: usize,
+}
+
+/// Settles one leaf, and says where it is cut.
+fn settle(p: &mut Paver, program: &Program, bx: &mut Box_, known: &mut Known, depth_left: usize, to: &mut Printed) -> Option<(usize, Num)> {
+    if p.contract(program, bx, known).is_none() {
+        to.removed += 1;
+        to.lines.extend_from_slice(b"X\n");
+        return None;
+    }
+    let mut choice = None;
+    if p.sure(program, bx, known) {
+        to.inner += 1;
+        to.lines.push(b'I');
+    } else {
+        if depth_left > 0 && !bx[..p.dims].iter().all(|x| x.width() <= p.eps) {
+            choice = p.choose(bx);
         }
-        settled += 1;
-        if p.contract(&mut bx).is_none() {
-            lines.push_str("X\n");
-            counts[1] += 1;
-            continue;
-        }
-        let small = |p: &Paver| bx[..p.dims].iter().all(|x| x.width() <= p.eps);
-        let mut head = String::new();
-        if p.sure(&bx) {
-            counts[2] += 1;
-            head.push('I');
-        } else {
-            let choice = if small(&p) || length >= depth { None } else { p.choose(&bx) };
-            match choice {
-                None => {
-                    counts[3] += 1;
-                    head.push('S');
-                }
-                Some((i, at)) => {
-                    counts[0] += 1;
-                    head = format!("C {i} {}", at.spelling());
-                    let (mut low, mut high) = (bx, bx);
-                    low[i].hi = at;
-                    high[i].lo = at;
-                    waiting.push((high, length + 1));
-                    waiting.push((low, length + 1));
-                }
+        match choice {
+            None => {
+                to.small += 1;
+                to.lines.push(b'S');
+            }
+            Some((i, at)) => {
+                to.cut += 1;
+                to.lines.extend_from_slice(b"C ");
+                write_number(&mut to.lines, false, i as u64);
+                write_num(&mut to.lines, at);
             }
         }
-        lines.push_str(&head);
-        for x in &bx[..p.dims] {
-            lines.push(' ');
-            lines.push_str(&x.lo.spelling());
-            lines.push(' ');
-            lines.push_str(&x.hi.spelling());
-        }
-        lines.push('\n');
     }
-    let [cut, removed, inner, small, open] = counts;
-    let _ = ZERO;
-    let summary = format!("settled {settled} cut {cut} removed {removed} inner {inner} small {small} open {open}\n");
-    let out = std::io::stdout();
-    let mut out = out.lock();
+    for x in &bx[..p.dims] {
+        write_num(&mut to.lines, x.lo);
+        write_num(&mut to.lines, x.hi);
+    }
+    to.lines.push(b'\n');
+    choice
+}
+
+fn main() {
+    let words: Vec<String> = std::env::args().collect();
+    let system = reader::read(&std::fs::read_to_string(&words[1]).unwrap());
+    let program = program::read(&option(&words, "--contract", "prop(8)"));
+    let eps: f64 = option(&words, "--eps", "0.125").parse().unwrap();
+    let (depth, budget): (usize, usize) =
+        (option(&words, "--depth", "60").parse().unwrap(), option(&words, "--boxes", "20000").parse().unwrap());
+    let mut p = paver_of(&system, Num::ratio((eps * (1u64 << 40) as f64) as i128, 1 << 40, false));
+    let mut to = Printed { lines: vec![], cut: 0, removed: 0, inner: 0, small: 0 };
+    let mut settled = 0;
+    let mut waiting = vec![(search_box(&system), NOTHING, depth)];
+    while settled < budget {
+        let Some((mut bx, mut known, depth_left)) = waiting.pop() else { break };
+        settled += 1;
+        if let Some((i, at)) = settle(&mut p, &program, &mut bx, &mut known, depth_left, &mut to) {
+            known.clean &= !p.users[i];
+            let mut low = bx;
+            low[i].hi = at;
+            bx[i].lo = at;
+            waiting.push((bx, known, depth_left - 1));
+            waiting.push((low, known, depth_left - 1));
+        }
+    }
+    for _ in &waiting {
+        to.lines.extend_from_slice(b"O\n");
+    }
+    let Printed { lines, cut, removed, inner, small } = to;
+    let summary = format!("settled {settled} cut {cut} removed {removed} inner {inner} small {small} open {}\n", waiting.len());
+    let mut out = std::io::stdout().lock();
     out.write_all(summary.as_bytes()).unwrap();
-    out.write_all(lines.as_bytes()).unwrap();
+    out.write_all(&lines).unwrap();
 }

@@ -1,6 +1,6 @@
 //! Where a box is cut, and when it is small.
-ghost use Rattle.std.specs.Prelude.{◌⊎◌, ◌%◌, ◌≡◌, ◌≢◌, ◌<◌, ◌≤◌, IsTrue, IfSome, IfNone, Some, None, ℕ, length, drop, slice_index_or};
-ghost use Rattle.pv_num.specs.Extended.{NegInf, PosInf};
+ghost use Rattle.std.specs.Prelude.{Option, ◌⊎◌, ◌%◌, ◌≡◌, ◌≢◌, ◌<◌, ◌≤◌, IsTrue, IfSome, IfNone, Some, None, ℕ, length, drop, slice_index_or};
+ghost use Rattle.pv_num.specs.Extended.{Extended, NegInf, PosInf};
 ghost use Rattle.pv_num.specs.Order.{le, lt};
 ghost use Rattle.pv_interval.specs.Bounds.{Bounds, IsInterval};
 ghost use Rattle.pv_box.specs.Boxes.{IsInside, IsInsidePlace};
@@ -126,10 +126,24 @@ impl IBox {
         }
         let later = self.widest_from(i + 1);
         let part = self.get(i);
+        let width = part.width();
+        if is_wider(&later, width) {
+            return later;
+        }
         match cut_of(part) {
-            Some(at) => Some(wider(i, at, part.width(), later)),
+            Some(at) => Some(wider(i, at, width, later)),
             None => later,
         }
+    }
+}
+
+// Whether the best of the later candidates is wider than this: then it stays, whether or not there is a cut here.
+fn is_wider(later: &Option<Candidate>, width: Num) -> bool
+    ensures { IsTrue result → (cut : Option Extended) (var : ℕ) → wider_of cut var width later.now ≡ later.now }
+{
+    match later {
+        Some(best) => width < best.width,
+        None => false,
     }
 }
 

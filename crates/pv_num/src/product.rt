@@ -49,6 +49,9 @@ impl Num {
         if n == 0 {
             return Num::ONE;
         }
+        if n == 2 {
+            return self.mul(self, side);
+        }
         let mut power = self;
         for _ in 1..n {
             power = power.mul(self, side);

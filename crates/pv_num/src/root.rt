@@ -140,63 +140,120 @@ fn guess(z: Num, n: u8) -> u128
     near_root(z, n)
 }
 
-// The index of a root, found by Newton's method from the logarithm on.
+// The index of a root: near it by the mantissa alone, and then by one step of Newton's method with all bits.
 fn near_root(z: Num, n: u8) -> u128
     requires { (1 ≤ n) × (n ≤ 32) }
 {
-    let mut root = number_at(by_logarithm(z, n).min(TOP_INDEX));
-    for _ in 0..NEWTON_STEPS {
-        root = improved(z, n, root);
+    let x = number_at(by_mantissa(z, n).min(TOP_INDEX));
+    let power = x.pow(n, End::Down);
+    let rest = z.sub(power, End::Down);
+    let more = share_of_rest(z, n, x.mantissa, rest) as u128;
+    let index = x.exponent as u128 * 0x2000_0000_0000_0000 + x.mantissa as u128;
+    if rest < Num::ZERO {
+        index.saturating_sub(more)
+    } else {
+        index + more
     }
-    root.exponent as u128 * 0x2000_0000_0000_0000 + root.mantissa as u128
 }
+
+// x rest / (n z), in units of x's mantissa.
+fn share_of_rest(z: Num, n: u8, mantissa: u64, rest: Num) -> u64
+    requires { (1 ≤ n) × (n ≤ 32) }
+{
+    let of = ((z.mantissa >> 31) % HALF_WORD * n as u64).max(1);
+    let share = (mantissa >> 31) % HALF_WORD * ((rest.mantissa >> 31) % HALF_WORD) / of;
+    let distance = z.exponent.saturating_sub(rest.exponent).saturating_sub(31);
+    share >> distance.min(63)
+}
+
+const HALF_WORD: u64 = 0x8000_0000;
 
 // From an error of less than a hundredth on, each step doubles the number of right bits.
-const NEWTON_STEPS: u8 = 4;
-
-// One step of Newton's method: ((n - 1) x + z / x^(n-1)) / n.
-fn improved(z: Num, n: u8, x: Num) -> Num
-    requires { (1 ≤ n) × (n ≤ 32) }
-{
-    if x < Num::ZERO {
-        return x;
-    }
-    let power = x.pow(n - 1, End::Down);
-    let times = Num::from_ratio(n as i128, 1, End::Down);
-    if power == Num::ZERO || times == Num::ZERO {
-        return x;
-    }
-    let rest = z.div(power, End::Down).sub(x, End::Down);
-    x.add(rest.div(times, End::Down), End::Down)
+#[inline]
+fn newton_steps(n: u8) -> u8 {
+    if n <= 16 { 3 } else { 4 }
 }
 
-// The index of a number whose n-th power is about a number above 0: the logarithm of that to the base 2, with 16 bits
-// behind the point, is divided by n.
-fn by_logarithm(z: Num, n: u8) -> u128
+// The index of a root, right to 40 bits or so. With z = w 2^j (2^k)^n, w from 1 to 2 and j below n, it is the inverse
+// root of w 2^j that is found, a number from 1/2 to 1.
+fn by_mantissa(z: Num, n: u8) -> u128
     requires { (1 ≤ n) × (n ≤ 32) }
 {
-    let zeros = z.mantissa.leading_zeros();
-    let fraction = ((z.mantissa << zeros.min(63)) >> 47) % ONE_BELOW;
-    let whole = (z.exponent as u64 + 64).saturating_sub(zeros as u64 + 1);
-    // a whole multiple of n is added and taken away again, so that nothing is below 0
-    let logarithm = whole * ONE_BELOW
-        + fraction
-        + bend(fraction)
-        + UNIT_BITS * (n as u64 - 1) * ONE_BELOW;
-    let part = logarithm / n as u64;
-    let mantissa = ONE_BELOW + part % ONE_BELOW - bend(part % ONE_BELOW);
-    let exponent = (part / ONE_BELOW).saturating_sub(61);
-    exponent as u128 * 0x2000_0000_0000_0000 + (mantissa as u128) * 0x2000_0000_0000
+    let zeros = z.mantissa.leading_zeros().min(63);
+    let word = z.mantissa << zeros;
+    // a whole multiple of n is added to the exponent, so that it is not below 0
+    let exponent = z.exponent as u64 + (63 - zeros) as u64 + UNIT_BITS * (n as u64 - 1);
+    let share = ONE_IN_32_BITS / n as u64 + 1;
+    let whole = exponent * share / ONE_IN_32_BITS;
+    let twos = exponent.saturating_sub(whole * n as u64);
+    let mut inverse = by_logarithm((word >> 47) % ONE_BELOW, twos % 32, share);
+    for _ in 0..newton_steps(n) {
+        inverse = nearer(word >> 9, inverse, n, twos, share);
+    }
+    let root = scaled(word >> 9, inverse, n - 1, twos);
+    whole.saturating_sub(61) as u128 * 0x2000_0000_0000_0000 + root as u128 * 0x80
+}
+
+const ONE_IN_32_BITS: u64 = 0x1_0000_0000;
+
+// Where the inverse root of (1 + fraction) 2^twos lies, with 41 bits behind the point; `share` is 1 / n in 32 bits.
+#[inline]
+fn by_logarithm(fraction: u64, twos: u64, share: u64) -> u64
+    requires fraction { fraction < 65536 }
+    requires twos { twos < 32 }
+    requires share { share ≤ 4294967297 }
+    ensures { result < 2 ^ 42 }
+{
+    let logarithm = twos * ONE_BELOW + fraction + bend(fraction);
+    let part = logarithm * share / ONE_IN_32_BITS;
+    let down = ONE_BELOW - part % ONE_BELOW;
+    (ONE_BELOW + down - bend(down)) * 0x100_0000
+}
+
+// One step of Newton's method for the inverse root y of w 2^twos: y + y (1 - w 2^twos y^n) / n.
+#[inline]
+fn nearer(word: u64, inverse: u64, n: u8, twos: u64, share: u64) -> u64
+    requires { share ≤ 4294967297 }
+{
+    let power = scaled(word, inverse, n, twos);
+    let part = ((inverse as u128 * share as u128 >> 41) % WORD) as u64;
+    let missing = ONE_IN_54_BITS.saturating_sub(power) as u128 * part as u128 >> 45;
+    let beyond = power.saturating_sub(ONE_IN_54_BITS) as u128 * part as u128 >> 45;
+    inverse
+        .saturating_add((missing % WORD) as u64)
+        .saturating_sub((beyond % WORD) as u64)
+}
+
+const ONE_IN_54_BITS: u64 = 0x40_0000_0000_0000;
+
+const WORD: u128 = 0x1_0000_0000_0000_0000;
+
+// w 2^twos y^count, with as many bits behind the point as w has; y has 41, and count is not below twos.
+#[inline]
+fn scaled(word: u64, inverse: u64, count: u8, twos: u64) -> u64 {
+    let mut product = word;
+    for i in 0..count {
+        let doubled = (i as u64) < twos;
+        product = ((product as u128 * inverse as u128 >> places(doubled)) % WORD) as u64;
+    }
+    product
+}
+
+#[inline]
+fn places(doubled: bool) -> u16
+    ensures { result ≤ 41 }
+{
+    if doubled { 40 } else { 41 }
 }
 
 const ONE_BELOW: u64 = 0x1_0000;
 
-// A number of so many bits is about 1.
+// The exponent of 1.
 const UNIT_BITS: u64 = 512;
 
 // What the logarithm of 1 + x is above x, for x from 0 to 1, both times 2^16; 2^x is as much below 1 + x.
 fn bend(x: u64) -> u64
-    requires { x < 65536 }
+    requires { x ≤ 65536 }
     ensures { result ≤ x }
 {
     x * (ONE_BELOW - x) / ONE_BELOW * 22_500 / ONE_BELOW
