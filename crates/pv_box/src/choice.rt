@@ -139,7 +139,8 @@ impl IBox {
 
 // Whether the best of the later candidates is wider than this: then it stays, whether or not there is a cut here.
 fn is_wider(later: &Option<Candidate>, width: Num) -> bool
-    ensures { IsTrue result → (cut : Option Extended) (var : ℕ) → wider_of cut var width later.now ≡ later.now }
+    ensures { IsTrue result → (cut : Option Extended) (var : ℕ) → wider_of cut var width later.now ≡
+        later.now }
 {
     match later {
         Some(best) => width < best.width,

@@ -49,7 +49,8 @@ pub(crate) fn fitted(word: u64, exponent: u16, toward: Toward) -> Magnitude
     requires room { 2 ^ 62 ≤ word → exponent < 962 }
     requires justified { 0 < exponent → 2 ^ 61 ≤ word }
     ensures not_zero { 0 < word → 0 < size_of result }
-    ensures sized { (v : ℕ) (b : ℕ) → 0 < b → (0 < exponent → 2 ^ 61 * (2 ^ exponent * b) ≤ v) → IsWhole toward v (2 ^ exponent * b) word → IsSized toward v b (Some result) }
+    ensures sized { (v : ℕ) (b : ℕ) → 0 < b → (0 < exponent → 2 ^ 61 * (2 ^ exponent * b) ≤ v) →
+        IsWhole toward v (2 ^ exponent * b) word → IsSized toward v b (Some result) }
 {
     if word < 0x4000_0000_0000_0000 {
         return Magnitude {

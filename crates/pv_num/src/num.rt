@@ -162,7 +162,8 @@ impl Num {
         requires other_finite { is_infinite_of other ≡ false }
         ensures finite { IsTrue result → is_infinite_of self ≡ false }
         ensures alike { IsTrue result → is_negative_of self ≡ is_negative_of other }
-        ensures unlike { result ≡ false → is_infinite_of self ≡ false → is_negative_of self ≢ is_negative_of other }
+        ensures unlike { result ≡ false → is_infinite_of self ≡ false →
+            is_negative_of self ≢ is_negative_of other }
     {
         self.class == other.class
     }

@@ -23,7 +23,8 @@ pub(crate) fn first_of_squares(z: Num, n: u8, side: End) -> Option<u128>
 // The same for a size.
 fn first_of_size(z: Magnitude, side: End) -> Option<u128>
     ensures fits { IfSome result (λ i. i < 962 * 2 ^ 61 + 2 ^ 62) }
-    ensures below { IfSome result (λ i. 0 < i → is_reached side (Fin (pos (size_of z))) 2 (size_at (i - 1)) ≡ false) }
+    ensures below { IfSome result (λ i. 0 < i → is_reached side (Fin (pos (size_of z))) 2 (size_at (i - 1)) ≡
+        false) }
     ensures here { IfSome result (λ i. is_reached side (Fin (pos (size_of z))) 2 (size_at i) ≡ true) }
 {
     if z.exponent == 0 {
@@ -102,7 +103,10 @@ pub(crate) fn whole_root(wide: u128) -> u64 {
     // a little too small, so that the square is below the number
     let inverse = inverse.saturating_sub(4);
     let root = part as u64 * inverse as u64 / 2;
-    last_step(wide, corrected(wide, corrected(wide, root, inverse), inverse))
+    last_step(
+        wide,
+        corrected(wide, corrected(wide, root, inverse), inverse),
+    )
 }
 
 // One step of Newton's method for 1 / sqrt(part / 2^32), times 2^31: x + x (1 - part x^2) / 2.

@@ -12,7 +12,8 @@ use itoa::Buffer;
 impl Num {
     /// Appends the spelling. After a refusal the text is as before.
     pub fn write_text(self, out: &mut Vec<u8>) -> Result<(), Memory>
-        ensures written { out.new.items ≡ (if is_ok result then out.old.items ++ number_text self else out.old.items) }
+        ensures written { out.new.items ≡
+            (if is_ok result then out.old.items ++ number_text self else out.old.items) }
     {
         let before = out.len();
         match append(self.parts(), out) {
@@ -72,7 +73,8 @@ fn are_parts(parts: Parts, m: i64, e: i16) -> bool
 // Two whole numbers with a colon between.
 fn read_parts(bytes: &[u8]) -> Option<(i64, i16)>
     ensures sound { IfSome result (λ p. bytes.now ≡ signed_decimal p.0 ++ 58 ∷ signed_decimal p.1) }
-    ensures complete { (m e : ℤ) → unsigned_abs m < 2 ^ 63 → unsigned_abs e < 2 ^ 15 → bytes.now ≡ signed_decimal m ++ 58 ∷ signed_decimal e → result ≡ Some (m, e) }
+    ensures complete { (m e : ℤ) → unsigned_abs m < 2 ^ 63 → unsigned_abs e < 2 ^ 15 → bytes.now ≡
+        signed_decimal m ++ 58 ∷ signed_decimal e → result ≡ Some (m, e) }
 {
     let colon = colon_of(bytes)?;
     let m = read_whole(&bytes[..colon])?;
