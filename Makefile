@@ -2,11 +2,13 @@
 # make          proves and builds the program and leaves it as ./paver
 # make demo     the same on JOBS processors; paves an example and leaves its picture as demo/ring.svg
 # make test     the whole test command: the gate and the end-to-end tests
+# make fuzz     COUNT made texts and files, and each allocation of each command refused in turn
 # make bench    measures beside a lean Rust program, where there is a rustc
 # make install PREFIX=/usr/local      the program, its man page and completions; make uninstall takes them away
 PREFIX ?= /usr/local
 SHARE := $(DESTDIR)$(PREFIX)/share
 JOBS ?= 4
+COUNT ?= 100000
 SOURCES := $(shell find crates -name out -prune -o -type f \( -name '*.rt' -o -name '*.antt' \) -print) crates.txt
 
 all: paver
@@ -46,6 +48,11 @@ demo: paver
 test:
 	.ci/run
 
+fuzz: paver
+	python3 tests/runners/fuzz_reader.py ./paver $(COUNT)
+	python3 tests/runners/fuzz_files.py ./paver $(COUNT)
+	python3 tests/runners/allocations.py ./paver
+
 install: paver
 	install -d $(DESTDIR)$(PREFIX)/bin $(SHARE)/man/man1 $(SHARE)/bash-completion/completions
 	install -d $(SHARE)/zsh/site-functions $(SHARE)/fish/vendor_completions.d
@@ -62,4 +69,4 @@ uninstall:
 clean:
 	rm -rf paver demo crates/*/out
 
-.PHONY: all try demo test bench install uninstall clean
+.PHONY: all try demo test fuzz bench install uninstall clean
