@@ -172,7 +172,9 @@ fn keep(
     wanted: &mut Vec<bool>,
     kept: &mut Vec<Op>,
 ) -> Result<(), Memory>
-    ensures keeps { OnOk result (KeepsStep functions.now op wanted.old.items kept.old.items wanted.new.items kept.new.items) }
+    ensures keeps { OnOk result
+        (KeepsStep functions.now op wanted.old.items kept.old.items
+        wanted.new.items kept.new.items) }
     ensures present { OnOk result (WantsPresent op wanted.old.items wanted.new.items) }
 {
     if !is_value(op) {
@@ -326,7 +328,8 @@ fn made_by(
     ensures made { IfOk result (λ made. stacked made (stack_of stack.new.items) ≡
         step (meanings (map code_of functions.now)) (map term_of arguments.old) op
         (stack_of stack.old.items)) }
-    ensures rest { OnOk result (RunsAlike rest.now (map term_of arguments.old) (map term_of arguments.new)) }
+    ensures rest { OnOk result (RunsAlike rest.now (map term_of arguments.old)
+        (map term_of arguments.new)) }
 {
     Ok(Some(match op {
         Op::Constant(value) => Expr::Const {
@@ -373,8 +376,10 @@ fn called(
 
 // The last so many, in the order in which they were put there.
 fn last(stack: &mut Vec<Expr>, n: u8) -> Result<Vec<Expr>, Memory>
-    ensures values { IfOk result (λ es. map term_of es.items ≡ reverse (take n (stack_of stack.old.items))) }
-    ensures stack { IfOk result (λ es. stack_of stack.new.items ≡ drop n (stack_of stack.old.items)) }
+    ensures values { IfOk result (λ es. map term_of es.items ≡
+        reverse (take n (stack_of stack.old.items))) }
+    ensures stack { IfOk result (λ es. stack_of stack.new.items ≡
+        drop n (stack_of stack.old.items)) }
 {
     let first = stack.len().saturating_sub(n as usize);
     let values = stack.split_off(first)?;
@@ -401,7 +406,8 @@ fn nothing() -> Expr
 // The argument for a parameter. It is moved where no later step names it, and else copied.
 fn argument(alloc: Global, arguments: &mut [Expr], i: u8, rest: &[Op]) -> Result<Expr, Memory>
     ensures value { IfOk result (λ e. term_of e ≡ argument (map term_of arguments.old) i) }
-    ensures rest { OnOk result (RunsAlike rest.now (map term_of arguments.old) (map term_of arguments.new)) }
+    ensures rest { OnOk result (RunsAlike rest.now (map term_of arguments.old)
+        (map term_of arguments.new)) }
 {
     let at = i as usize;
     if at >= arguments.len() {

@@ -100,7 +100,8 @@ impl Measure {
     // So many copies of it, the deepest at this place.
     fn copied(&self, uses: u64, reach: u64) -> Measure
         ensures nodes { result.nodes ≡ cut (self.now.nodes * uses) }
-        ensures uses { (k : ℕ) → k < 12 → slice_index result.uses k ≡ cut (slice_index self.now.uses k * uses) }
+        ensures uses { (k : ℕ) → k < 12 → slice_index result.uses k ≡
+            cut (slice_index self.now.uses k * uses) }
         ensures depth { AreBelow reach self.now result }
     {
         let (depth, reach) = if reach > 0 {
@@ -171,7 +172,8 @@ fn argument(arguments: &[Measure], i: usize) -> Measure
 }
 
 fn sums(a: &[u64; 12], b: &[u64; 12]) -> [u64; 12]
-    ensures { (k : ℕ) → k < 12 → slice_index result k ≡ cut (slice_index a.now k + slice_index b.now k) }
+    ensures { (k : ℕ) → k < 12 → slice_index result k ≡
+        cut (slice_index a.now k + slice_index b.now k) }
 {
     let mut made = [0; 12];
     for i in 0..12 {
@@ -181,7 +183,8 @@ fn sums(a: &[u64; 12], b: &[u64; 12]) -> [u64; 12]
 }
 
 fn greatest(a: &[u64; 12], b: &[u64; 12]) -> [u64; 12]
-    ensures { (k : ℕ) → k < 12 → slice_index result k ≡ max (slice_index a.now k) (slice_index b.now k) }
+    ensures { (k : ℕ) → k < 12 → slice_index result k ≡
+        max (slice_index a.now k) (slice_index b.now k) }
 {
     let mut made = [0; 12];
     for i in 0..12 {

@@ -189,7 +189,8 @@ impl Machine {
 
     fn operand(&mut self, op: Op) -> Result<bool, Memory>
         ensures taken { IfOk result (λ b. b ≡ true) }
-        ensures stack { OnOk result (pile self.new.stack.items ≡ Item.MaybePower ∷ pile self.old.stack.items) }
+        ensures stack { OnOk result (pile self.new.stack.items ≡
+            Item.MaybePower ∷ pile self.old.stack.items) }
         ensures code { OnOk result (self.new.code.items ≡ self.old.code.items ++ op ∷ []) }
     {
         self.write(op)?;
@@ -458,7 +459,8 @@ impl Machine {
 
     // A function from its body on, and the functions behind it.
     fn put_body(&mut self) -> Result<(), Memory>
-        ensures stack { OnOk result (pile self.new.stack.items ≡ body_items ++ pile self.old.stack.items) }
+        ensures stack { OnOk result (pile self.new.stack.items ≡
+            body_items ++ pile self.old.stack.items) }
         ensures code { OnOk result (self.new.code ≡ self.old.code) }
     {
         self.put(Item::MaybeFunctions)?;
@@ -543,7 +545,8 @@ impl Machine {
     }
 
     fn put_domain(&mut self) -> Result<(), Memory>
-        ensures stack { OnOk result (pile self.new.stack.items ≡ domain_items ++ pile self.old.stack.items) }
+        ensures stack { OnOk result (pile self.new.stack.items ≡
+            domain_items ++ pile self.old.stack.items) }
         ensures code { OnOk result (self.new.code ≡ self.old.code) }
     {
         self.put(Item::Exactly(Fixed::CloseBracket))?;

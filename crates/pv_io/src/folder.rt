@@ -79,9 +79,8 @@ pub trait Folder {
 
     /// Makes the bytes the content of a name.
     fn store(&mut self, name: &str, bytes: &[u8]) -> Result<(), StoreRefused>
-        ensures whole {
-            OnOk result (content self.new name.now ≡ stored (content self.old name.now) bytes.now)
-        }
+        ensures whole { OnOk result (content self.new name.now ≡
+            stored (content self.old name.now) bytes.now) }
         ensures cause { IsErrOf result StoreRefused.Failed
             → Rose (store_faults self.old) (store_faults self.new) }
         ensures unchanged { IsErrOf result StoreRefused.Memory

@@ -65,9 +65,8 @@ impl Folder for MemFolder {
         ensures fails { IsErrOf result FetchRefused.Failed
             ↔ Contains (turns_of self.old).failing (turns_of self.old).next }
         ensures turns { turns_of self.new ≡ turns_after_fetch result (turns_of self.old) }
-        ensures faults {
-            fetch_faults_of self.new ≡ faults_after_fetch result (fetch_faults_of self.old)
-        }
+        ensures faults { fetch_faults_of self.new ≡
+            faults_after_fetch result (fetch_faults_of self.old) }
     {
         if self.script.fails() {
             self.script.advance();
@@ -82,9 +81,8 @@ impl Folder for MemFolder {
     }
 
     fn store(&mut self, name: &str, bytes: &[u8]) -> Result<(), StoreRefused>
-        ensures whole {
-            OnOk result (kept_in self.new name.now ≡ stored (kept_in self.old name.now) bytes.now)
-        }
+        ensures whole { OnOk result (kept_in self.new name.now ≡
+            stored (kept_in self.old name.now) bytes.now) }
         ensures cause { IsErrOf result StoreRefused.Failed
             → Rose (store_faults_of self.old) (store_faults_of self.new) }
         ensures unchanged { IsErrOf result StoreRefused.Memory
@@ -100,9 +98,8 @@ impl Folder for MemFolder {
         ensures fails { IsErrOf result StoreRefused.Failed
             ↔ Contains (turns_of self.old).failing (turns_of self.old).next }
         ensures turns { turns_of self.new ≡ turns_after_store result (turns_of self.old) }
-        ensures faults {
-            store_faults_of self.new ≡ faults_after_store result (store_faults_of self.old)
-        }
+        ensures faults { store_faults_of self.new ≡
+            faults_after_store result (store_faults_of self.old) }
     {
         if self.script.fails() {
             self.script.advance();

@@ -101,9 +101,8 @@ fn read_up_to<F: Read>(file: &mut F, limit: u64, into: &mut Vec<u8>) -> Result<(
     requires { into.old.items ≡ [] }
     ensures whole { OnOk result (length into.new.items ≤ limit) }
     ensures too_long { IsErrOf result FetchRefused.TooLong → length into.new.items ≡ limit + 1 }
-    ensures read {
-        OnOk result (Consumes (F.remaining file.old) (F.remaining file.new) into.new.items)
-    }
+    ensures read { OnOk result (Consumes (F.remaining file.old)
+        (F.remaining file.new) into.new.items) }
     ensures end { OnOk result (IsAtEnd (F.remaining file.new)) }
     ensures front { IsErrOf result FetchRefused.TooLong
         → Consumes (F.remaining file.old) (F.remaining file.new) into.new.items }

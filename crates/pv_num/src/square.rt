@@ -25,7 +25,8 @@ fn first_of_size(z: Magnitude, side: End) -> Option<u128>
     ensures fits { IfSome result (λ i. i < 962 * 2 ^ 61 + 2 ^ 62) }
     ensures below { IfSome result (λ i. 0 < i → is_reached side (Fin (pos (size_of z))) 2 (size_at (i - 1)) ≡
         false) }
-    ensures here { IfSome result (λ i. is_reached side (Fin (pos (size_of z))) 2 (size_at i) ≡ true) }
+    ensures here { IfSome result (λ i. is_reached side (Fin (pos (size_of z))) 2 (size_at i) ≡
+        true) }
 {
     if z.exponent == 0 {
         return None;

@@ -28,7 +28,8 @@ impl Num {
     /// The number of a spelling. None exactly where the bytes are not the spelling of a number.
     pub fn read_text(bytes: &[u8]) -> Option<Num>
         ensures sound { IfSome result (λ x. bytes.now ≡ number_text x) }
-        ensures complete { (x : Extended) → IsNumber x → bytes.now ≡ number_text x → result ≡ Some x }
+        ensures complete { (x : Extended) → IsNumber x → bytes.now ≡ number_text x → result ≡
+            Some x }
     {
         if same_bytes(bytes, b"-oo") {
             return Some(Num::NEG_INF);
@@ -99,7 +100,8 @@ fn small(e: i64) -> Option<i16>
 // Where the first colon is.
 fn colon_of(bytes: &[u8]) -> Option<usize>
     ensures found { IfSome result (λ i. i < length bytes.now) }
-    ensures split { IfSome result (λ i. bytes.now ≡ take i bytes.now ++ 58 ∷ drop (i + 1) bytes.now) }
+    ensures split { IfSome result (λ i. bytes.now ≡
+        take i bytes.now ++ 58 ∷ drop (i + 1) bytes.now) }
     ensures first { result ≡ position (λ b. b == 58) bytes.now }
 {
     bytes.iter().position(|b| *b == b':')
@@ -108,7 +110,8 @@ fn colon_of(bytes: &[u8]) -> Option<usize>
 // A whole number in the one spelling that is written.
 fn read_whole(bytes: &[u8]) -> Option<i64>
     ensures sound { IfSome result (λ z. bytes.now ≡ signed_decimal z) }
-    ensures complete { (z : ℤ) → unsigned_abs z < 2 ^ 63 → bytes.now ≡ signed_decimal z → result ≡ Some z }
+    ensures complete { (z : ℤ) → unsigned_abs z < 2 ^ 63 → bytes.now ≡ signed_decimal z → result ≡
+        Some z }
 {
     let number = parsed(bytes)?;
     let mut digits = Buffer::new();

@@ -25,12 +25,14 @@ pub fn one_expression()
     ensures names { (variables : List (List ℕ)) (n m : Names) → KnowsVariables variables n →
         KnowsVariables variables m → n ≡ m }
     ensures spelled { (t : List ℕ) (n : Names) → IsSpelledOnce t n (nothing Phase.Sides) }
-    ensures code { (t : List ℕ) (n : Names) → HasOneCode t n (nothing Phase.Sides) expression_items }
+    ensures code { (t : List ℕ) (n : Names) →
+        HasOneCode t n (nothing Phase.Sides) expression_items }
     ensures either { (variables : List (List ℕ)) (t : List ℕ) →
         IsEither (IsExpressionText variables t) (IsExpressionFault variables t) }
     ensures apart { (variables : List (List ℕ)) (t : List ℕ) →
         Excludes (IsExpressionText variables t) (IsExpressionFault variables t) }
-    ensures fault { (variables : List (List ℕ)) (t : List ℕ) → IsAtMostOne (IsExpressionFault variables t) }
+    ensures fault { (variables : List (List ℕ)) (t : List ℕ) →
+        IsAtMostOne (IsExpressionFault variables t) }
 {}
 
 /// A text is a system's, and means one then, or it has a fault, at one place and with one cause; and never both: so what `parse`
@@ -48,7 +50,8 @@ pub fn one_expression_outcome()
         IsEither (IsExpressionSentence variables t) (IsExpressionFaultOf variables t) }
     ensures apart { (variables : List (List ℕ)) (t : List ℕ) →
         Excludes (IsExpressionSentence variables t) (IsExpressionFaultOf variables t) }
-    ensures fault { (variables : List (List ℕ)) (t : List ℕ) → IsAtMostOne (IsExpressionFaultOf variables t) }
+    ensures fault { (variables : List (List ℕ)) (t : List ℕ) →
+        IsAtMostOne (IsExpressionFaultOf variables t) }
     ensures term { (variables : List (List ℕ)) (t : List ℕ) → MeansOneTerm variables t }
 {}
 
@@ -62,7 +65,8 @@ pub fn tree_texts()
 
 /// The same of the text of an expression over some variables, and of `parse_expr`.
 pub fn tree_expressions()
-    ensures sentences { (variables : List (List ℕ)) (t : List ℕ) → ExpressionSentencesAgree variables t }
+    ensures sentences { (variables : List (List ℕ)) (t : List ℕ) →
+        ExpressionSentencesAgree variables t }
     ensures one { (t : List ℕ) (known : Names) → HasOneExpressionTree known t }
     ensures term { (variables : List (List ℕ)) (t : List ℕ) → MeansTermByTree variables t }
 {}

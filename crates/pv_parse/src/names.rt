@@ -68,14 +68,16 @@ impl Names {
     }
 
     fn know(&mut self, name: Vec<u8>, meaning: Meaning) -> Result<(), Memory>
-        ensures { OnOk result (AreSame (view self.new) (with_known name.items meaning (view self.old))) }
+        ensures { OnOk result (AreSame (view self.new)
+            (with_known name.items meaning (view self.old))) }
     {
         self.known.insert(name, meaning)?;
         Ok(())
     }
 
     fn know_parameter(&mut self, name: Vec<u8>, place: u8) -> Result<(), Memory>
-        ensures { OnOk result (AreSame (view self.new) (with_parameter name.items place (view self.old))) }
+        ensures { OnOk result (AreSame (view self.new)
+            (with_parameter name.items place (view self.old))) }
     {
         self.parameters.insert(name, place)?;
         Ok(())
@@ -86,7 +88,8 @@ impl Names {
         requires ordered { token.start ≤ token.end }
         requires within { token.end ≤ length text.now }
         requires fractions { KnowsFractions (view self.now) }
-        ensures stands { StandsFor phase (view self.now) (bytes_of text.now token) token.kind result }
+        ensures stands { StandsFor phase (view self.now)
+            (bytes_of text.now token) token.kind result }
         ensures fraction { HasFraction result }
     {
         let bytes = &text[token.start..token.end];
@@ -124,7 +127,8 @@ impl Names {
     }
 
     fn in_body(&self, name: &[u8]) -> Symbol
-        ensures { result ≡ in_body (found self.now.parameters name.now) (found self.now.known name.now) }
+        ensures { result ≡ in_body (found self.now.parameters name.now)
+            (found self.now.known name.now) }
     {
         match self.parameters.get(name) {
             Some(i) => Symbol::Parameter(*i),
@@ -203,7 +207,8 @@ impl Names {
 
     fn tell(&mut self, symbol: Symbol, counts: Counts, name: &[u8]) -> Result<(), Memory>
         requires { HasFraction symbol }
-        ensures { OnOk result (AreSame (view self.new) (told counts symbol name.now (view self.old))) }
+        ensures { OnOk result (AreSame (view self.new)
+            (told counts symbol name.now (view self.old))) }
     {
         match symbol {
             Symbol::Declared { .. } => self.declare(name, counts),

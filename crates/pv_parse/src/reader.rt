@@ -175,7 +175,8 @@ fn ended(text: &[u8], token: Token, symbol: Symbol) -> Result<(), ParseRefused>
     requires short { length text.now ≤ 65536 }
     ensures ends { IsOk result → token.kind ≡ Kind.End }
     ensures placed { IfErr result (λ e. IsPlaced text.now e) }
-    ensures at { IfErr result (λ e. (token.kind ≢ Kind.End) × IsAt token.start (refusal false symbol) e) }
+    ensures at { IfErr result (λ e. (token.kind ≢ Kind.End) ×
+        IsAt token.start (refusal false symbol) e) }
 {
     if token.kind == Kind::End {
         return Ok(());

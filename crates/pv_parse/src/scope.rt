@@ -100,7 +100,8 @@ impl Scope {
     fn take_constraint(&mut self, symbol: Symbol, start: usize) -> Result<(), Memory>
         ensures variables { self.new.variables ≡ self.old.variables }
         ensures given { self.new.given ≡ self.old.given }
-        ensures begun { OnOk result (self.new.begun ≡ begun_behind symbol (begun_at start self.old.begun)) }
+        ensures begun { OnOk result (self.new.begun ≡
+            begun_behind symbol (begun_at start self.old.begun)) }
         ensures starts { OnOk result (self.new.starts.items ≡
             self.old.starts.items ++ start_of symbol (begun_at start self.old.begun)) }
     {
@@ -113,7 +114,8 @@ impl Scope {
         ensures variables { self.new.variables ≡ self.old.variables }
         ensures given { self.new.given ≡ self.old.given }
         ensures begun { self.new.begun ≡ self.old.begun }
-        ensures starts { OnOk result (self.new.starts.items ≡ self.old.starts.items ++ start_of symbol begun) }
+        ensures starts { OnOk result (self.new.starts.items ≡
+            self.old.starts.items ++ start_of symbol begun) }
     {
         match symbol {
             Symbol::Relation(_) => match begun {
@@ -131,7 +133,8 @@ impl Scope {
         requires { IsAscii name.now }
         ensures variables { OnOk result (map string_bytes self.new.variables.items ≡
             map string_bytes self.old.variables.items ++ name.now ∷ []) }
-        ensures given { OnOk result (self.new.given.items ≡ self.old.given.items ++ nothing_given ∷ []) }
+        ensures given { OnOk result (self.new.given.items ≡
+            self.old.given.items ++ nothing_given ∷ []) }
         ensures begun { self.new.begun ≡ self.old.begun }
         ensures starts { self.new.starts ≡ self.old.starts }
     {
@@ -144,7 +147,8 @@ impl Scope {
     fn take_bound(&mut self, phase: Phase, symbol: Symbol, start: usize)
         requires { HasFraction symbol }
         ensures variables { self.new.variables ≡ self.old.variables }
-        ensures given { self.new.given.items ≡ with_last (given_behind phase symbol start) self.old.given.items }
+        ensures given { self.new.given.items ≡
+            with_last (given_behind phase symbol start) self.old.given.items }
         ensures begun { self.new.begun ≡ self.old.begun }
         ensures starts { self.new.starts ≡ self.old.starts }
     {

@@ -55,7 +55,8 @@ fn back_odd(z: Interval, x: Interval, n: u8) -> Option<Interval>
 fn back_even(z: Interval, x: Interval, n: u8) -> Option<Interval>
     requires positive { 1 ≤ n }
     requires fits { n ≤ 32 }
-    ensures { result ≡ chain (meet_of z (between nought PosInf)) (λ w. both_signs x (even_roots w n)) }
+    ensures { result ≡ chain (meet_of z (between nought PosInf)) (λ w.
+        both_signs x (even_roots w n)) }
 {
     let powers = meet_between(z, Num::ZERO, Num::POS_INF)?;
     let lo = powers.lo().root(n, End::Down);

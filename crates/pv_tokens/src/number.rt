@@ -116,7 +116,8 @@ fn with_digits(value: u128, digits: &[u8]) -> u128
 fn value_of(decimal: Decimal) -> Option<(i128, u128)>
     requires up { decimal.up ≤ 10 ^ 37 }
     requires down { decimal.down ≤ 10 ^ 38 }
-    ensures value { MatchOption result (TooWide decimal) (λ v. (¬ TooWide decimal) × IsValue decimal v) }
+    ensures value { MatchOption result (TooWide decimal) (λ v. (¬ TooWide decimal) ×
+        IsValue decimal v) }
     ensures fraction { IfSome result (λ v. IsFraction v.0 v.1) }
     ensures not_negative { IfSome result (λ v. pos 0 ≤ℤ v.0) }
 {

@@ -84,7 +84,8 @@ pub(crate) fn lay_down(ends: &mut Vec<Interval>, outcome: &Outcome, kids: usize)
     ensures longer { IsLonger ends.old.items ends.new.items }
     ensures length { vec_len ends.new ≡ vec_len ends.old + places_of outcome.now }
     ensures capacity { vec_capacity ends.new ≡ vec_capacity ends.old }
-    ensures shows { (d : ℕ) → HasPlaces d outcome.now → Shows d ends.new.items result outcome.now kids }
+    ensures shows { (d : ℕ) → HasPlaces d outcome.now →
+        Shows d ends.new.items result outcome.now kids }
     ensures keeps { KeepsBox outcome.now }
 {
     let start = ends.len();

@@ -120,7 +120,8 @@ impl Growth {
     pub fn settle(&mut self, outcome: Outcome) -> Result<(), PutRefused>
         requires { Takes self.old.holes outcome }
         ensures root { self.new.root ≡ self.old.root }
-        ensures settled { self.new ≡ (if is_ok result then settle_next self.old outcome else self.old) }
+        ensures settled { self.new ≡
+            (if is_ok result then settle_next self.old outcome else self.old) }
         ensures back { IfErr result (λ e. e.outcome ≡ outcome) }
     {
         let places = self.root.dims();

@@ -49,7 +49,8 @@ pub trait KnowingSettler: Settler {
     ) -> Result<Settled<Self::Known>, Memory>
         requires dims { length bx.now ≡ Self.dims self.now }
         requires known { knows self.now known bx.now }
-        ensures outcome { IfOk result (λ s. s.outcome ≡ Self.settle_of self.now bx.now depth_left path_len) }
+        ensures outcome { IfOk result (λ s. s.outcome ≡
+            Self.settle_of self.now bx.now depth_left path_len) }
         ensures known { IfOk result (λ s. HoldsOfHalves (knows self.now s.known) s.outcome) };
 }
 

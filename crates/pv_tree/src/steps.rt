@@ -36,7 +36,8 @@ impl Paving {
             else self.old.tree) }
         ensures spare { self.old.spare ≤ self.new.spare }
         ensures refused { OnErr result (self.new.spare ≡ self.old.spare) }
-        ensures stage { KeepsStages (S.settle_of settler.now) (S.depth_of settler.now) self.old self.new }
+        ensures stage { KeepsStages (S.settle_of settler.now)
+            (S.depth_of settler.now) self.old self.new }
         ensures scratch { length scratch.new ≡ length scratch.old }
     {
         let _places = self.dims();
@@ -55,12 +56,15 @@ impl Paving {
     /// opening is sound, and a stage with no open leaf is the full tree.
     pub fn learn_stages<S: Settler>(&self, settler: &S)
         requires { length self.now.root ≡ S.dims settler.now }
-        ensures open_stage { IsStage (S.settle_of settler.now) (S.depth_of settler.now) self.now.root leaf leaf }
+        ensures open_stage { IsStage (S.settle_of settler.now)
+            (S.depth_of settler.now) self.now.root leaf leaf }
         ensures open_sound { IsSound (S.inside settler.now) self.now.root leaf }
         ensures sound { StagesAreSound (S.settle_of settler.now) (S.depth_of settler.now)
             (S.inside settler.now) self.now.root }
-        ensures paves { StagesPave (S.settle_of settler.now) (S.depth_of settler.now) self.now.root }
-        ensures whole { ClosedStagesAreFull (S.settle_of settler.now) (S.depth_of settler.now) self.now.root }
+        ensures paves { StagesPave (S.settle_of settler.now)
+            (S.depth_of settler.now) self.now.root }
+        ensures whole { ClosedStagesAreFull (S.settle_of settler.now)
+            (S.depth_of settler.now) self.now.root }
     {
         let _places = self.dims();
     }

@@ -53,7 +53,8 @@ pub(crate) fn push_pair(stops: &mut Vec<Stop>, stop: &Stop, kids: usize)
 pub(crate) fn push_kids(stops: &mut Vec<Stop>, nodes: &[Node], stop: &Stop)
     requires kids { HasKids nodes.now }
     requires there { stop.now.at < length nodes.now }
-    requires short { (c : _) → kids_of (cell_at nodes.now stop.now.at) ≡ Some c → length stop.now.path < 200 }
+    requires short { (c : _) → kids_of (cell_at nodes.now stop.now.at) ≡ Some c →
+        length stop.now.path < 200 }
     requires room { (c : _) → kids_of (cell_at nodes.now stop.now.at) ≡ Some c →
         vec_len stops.old + 2 ≤ vec_capacity stops.old }
     ensures items { stops.new.items ≡
