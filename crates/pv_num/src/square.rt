@@ -102,7 +102,10 @@ pub(crate) fn whole_root(wide: u128) -> u64 {
     // a little too small, so that the square is below the number
     let inverse = inverse.saturating_sub(4);
     let root = part as u64 * inverse as u64 / 2;
-    last_step(wide, corrected(wide, corrected(wide, root, inverse), inverse))
+    last_step(
+        wide,
+        corrected(wide, corrected(wide, root, inverse), inverse),
+    )
 }
 
 // One step of Newton's method for 1 / sqrt(part / 2^32), times 2^31: x + x (1 - part x^2) / 2.
