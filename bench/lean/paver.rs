@@ -4,7 +4,8 @@
 //!
 //! It takes the same short cuts as paver. A constraint that is sure on a box is sure on every part of it, and is neither
 //! revised nor tested there again. One that was kept is clean, and passed over until a place of one of its variables
-//! changes, by a contraction or a cut. Both facts go with a box to its halves. Leaves wait on a stack, and a node is
+//! changes, by a contraction or a cut. Both facts go with a box to its halves. A pass down stops where a
+//! target is the node's own interval. Leaves wait on a stack, and a node is
 //! printed when it is settled.
 mod graph;
 mod interval;
@@ -115,8 +116,8 @@ impl Paver {
         }
         let (l, r) = g.related(l, r)?;
         let before = *bx;
-        g.down(g.left, l, &self.values, bx)?;
-        g.down(g.right, r, &self.values, bx)?;
+        g.down(g.left, l, &self.values, total, bx)?;
+        g.down(g.right, r, &self.values, total, bx)?;
         let mut touched = 0;
         for k in 0..self.dims {
             if bx[k] != before[k] {
