@@ -174,11 +174,22 @@ impl Paver {
     }
 }
 
-/// From the least lower end to the greatest upper one that lie in at least q of the intervals.
+/// From the least lower end to the greatest upper one that lie in at least q of the intervals. An end is only counted
+/// where it is better than the best so far.
 fn q_hull(q: usize, i: usize, found: &[Box_]) -> Option<Interval> {
-    let enough = |n: &Num| found.iter().filter(|b| b[i].lo <= *n && *n <= b[i].hi).count() >= q;
-    let lo = found.iter().map(|b| b[i].lo).filter(|n| enough(n)).min()?;
-    let hi = found.iter().map(|b| b[i].hi).filter(|n| enough(n)).max()?;
+    let enough = |n: Num| found.iter().filter(|b| b[i].lo <= n && n <= b[i].hi).count() >= q;
+    let mut low: Option<Num> = None;
+    let mut high: Option<Num> = None;
+    for b in found {
+        let Interval { lo, hi } = b[i];
+        if low.is_none_or(|best| lo < best) && enough(lo) {
+            low = Some(lo);
+        }
+        if high.is_none_or(|best| best < hi) && enough(hi) {
+            high = Some(hi);
+        }
+    }
+    let (lo, hi) = (low?, high?);
     (lo <= hi).then_some(Interval { lo, hi })
 }
 
