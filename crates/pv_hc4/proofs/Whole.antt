@@ -245,7 +245,7 @@ same_bounds x y e = cc
 fine_is : (o : Option Bounds) (x : Bounds) → o ≡ Some x → Fine o → IsInterval x
 fine_is o x e h = subst Fine e h
 
-targets_whole : (n : ℕ) (b : List Bounds) (t : Term) (z : Bounds) → IsOver n t → All IsInterval b → total_of b t ≡ true → forward_of b t ≡ Some z → OwnTargets b (targets_of b t z)
+pub targets_whole : (n : ℕ) (b : List Bounds) (t : Term) (z : Bounds) → IsOver n t → All IsInterval b → total_of b t ≡ true → forward_of b t ≡ Some z → OwnTargets b (targets_of b t z)
 targets_whole n b (constant p q) z o h d e = tt
 targets_whole n b (place i) z o h d e = (sym (same_bounds (at b i) z e), tt)
 targets_whole n b (one u t) z o h d e =

@@ -66,8 +66,8 @@ fn narrow_sides(
 {
     let saved = copied(bx);
     let entry = &saved[..bx.dims() as usize];
-    if narrow(nodes, values, left, both.0, entry, bx)
-        && narrow(nodes, values, right, both.1, entry, bx)
+    if narrow(nodes, values, false, left, both.0, entry, bx)
+        && narrow(nodes, values, false, right, both.1, entry, bx)
     {
         if is_same(entry, bx) {
             Revised::Kept
