@@ -1,6 +1,6 @@
 -- What absorbing a stage does to a board.
 use Rattle.std.proofs.Common.{◌≡◌, ℕ, zero, suc, ◌+◌, ◌-◌, ◌<◌, ◌≤◌, Bool, Option, Some, None, List, [], ◌∷◌, ◌++◌, length, refl, sym, ◌∙◌, ap, arith, subst, append-nil}
-use Rattle.std.specs.Prelude.{IsSome, nat_lt, if◌then◌else◌}
+use Rattle.std.specs.Prelude.{IsSome, if◌then◌else◌}
 use Rattle.pv_interval.specs.Bounds.{Bounds}
 use Rattle.pv_tree.specs.Trees.{Tree, Seen, leaf, subtree, outcome_at, opens, box_of}
 use Rattle.pv_tree.specs.Stages.{Rule, IsStage, Grows, full_of}
@@ -15,7 +15,7 @@ use Rattle.pv_board.specs.Rules.{settled_in}
 use Rattle.pv_board.specs.Core.{Core}
 use Rattle.pv_board.specs.Events.{IsOver, may_issue}
 use Rattle.pv_board.specs.Leaves.{marks_of, AreOpen, HasRoom, IsBoard, seen}
-use Rattle.pv_board.specs.Absorbing.{IsJoinAside, IsAbsorbed, part_at, filled, filling, CanFill, CanPileAll}
+use Rattle.pv_board.specs.Absorbing.{IsJoinAside, IsAbsorbed, part_at, filled, if_some, filling, CanFill, CanPileAll}
 use Rattle.pv_board.proofs.Growth.{once_most, few_opens, grows_settled}
 use Rattle.pv_board.proofs.Fulls.{grows_box}
 use Rattle.pv_board.proofs.Marked.{unmarked}
@@ -38,7 +38,7 @@ marks_on f g (m ∷ ms) h =
 filling_outcome : (stage : Tree) (ps : List (List Bool)) (x r : List Bool) (o : Outcome) → outcome_at (filling stage ps x) r ≡ Some o → outcome_at stage (x ++ r) ≡ Some o
 filling_outcome stage ps x r o e = go (times x ps) r e
   where
-    go : (n : ℕ) (r : List Bool) → outcome_at (if nat_lt 0 n then part_at stage x else leaf) r ≡ Some o → outcome_at stage (x ++ r) ≡ Some o
+    go : (n : ℕ) (r : List Bool) → outcome_at (if_some n (part_at stage x)) r ≡ Some o → outcome_at stage (x ++ r) ≡ Some o
     go zero [] e = cc
     go zero (b ∷ r) e = cc
     go (suc n) r e = sym (part_outcome stage x r) ∙ e

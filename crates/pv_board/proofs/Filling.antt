@@ -1,6 +1,6 @@
 -- Trees whose open leaves were filled.
-use Rattle.std.proofs.Common.{◌≡◌, ℕ, zero, suc, ◌+◌, ◌<◌, ◌≤◌, Bool, true, false, Option, Some, None, List, [], ◌∷◌, ◌++◌, take, length, get_or, refl, sym, ◌∙◌, ap, arith, subst, append-nil}
-use Rattle.std.specs.Prelude.{IsSome, nat_lt, if◌then◌else◌}
+use Rattle.std.proofs.Common.{◌≡◌, ℕ, zero, suc, ◌+◌, ◌<◌, ◌≤◌, max, Bool, true, false, Option, Some, None, List, [], ◌∷◌, ◌++◌, take, take_all, length, get_or, refl, sym, ◌∙◌, ap, arith, subst}
+use Rattle.std.specs.Prelude.{IsSome}
 use Rattle.std.proofs.lemmas.List.{take_more}
 use Rattle.pv_num.specs.Extended.{Extended}
 use Rattle.pv_interval.specs.Bounds.{Bounds}
@@ -10,11 +10,19 @@ use Rattle.pv_tree.specs.Stages.{Grows}
 use Rattle.pv_tree.specs.declared.outcome.Outcome.{Outcome}
 use Rattle.pv_tree.specs.declared.outcome.Outcome.TheVariants.{Removed, Inner, Small, Cut}
 use Rattle.pv_tree.proofs.StageLaws.{IsCut, top_cut, grows_leaf, grows_self, grows_low, grows_high, grows_cut}
-use Rattle.pv_join.specs.Joins.{settled_side, Agree, is_a_cut}
+use Rattle.pv_tree.specs.Trees.{shape_of, height}
+use Rattle.pv_tree.specs.declared.outcome.Shape.{Shape}
+use Rattle.pv_tree.specs.declared.outcome.Shape.TheVariants.{Absent}
+use Rattle.pv_join.specs.Joins.{settled_side, Agree, IsJoin, HasPart, IsOverlaid, IsRefusal, IsFirstDisagreement, is_a_cut}
+use Rattle.pv_join.specs.declared.merge.JoinRefused.{JoinRefused}
+use Rattle.pv_join.specs.declared.merge.JoinRefused.TheVariants as refused
+use Rattle.pv_join.proofs.JoinFacts.{join_unique, join_leaf_left, graft_same, some_there}
 use Rattle.pv_board.specs.Marks.{weigh, at, times}
-use Rattle.pv_board.specs.Absorbing.{part_at, filled, filling, CanFill}
-use Rattle.pv_board.proofs.Paths.{at_self, weigh-append}
+use Rattle.pv_board.specs.Absorbing.{part_at, filled, if_some, filling, CanFill, CanPileAll}
+use Rattle.pv_board.proofs.Paths.{at_self, weigh-append, weigh-ones}
+use Rattle.pv_board.specs.Piles.{piled, CanPile}
 use Rattle.pv_board.proofs.Growth.{weigh_cut}
+use Rattle.pv_board.proofs.Piling.{pile_weighs}
 
 abbrev low_of : (List Bool → Tree) → List Bool → Tree
 low_of g p = g (false ∷ p)
@@ -168,22 +176,27 @@ some_part t p s e = ap (λ (o : Option Tree). elim o [ None ↦ leaf | Some x �
 pub filling_in : (stage : Tree) (ps : List (List Bool)) (p : List Bool) → 0 < times p ps → filling stage ps p ≡ part_at stage p
 filling_in stage ps p h = go (times p ps) h
   where
-    go : (n : ℕ) → 0 < n → (if nat_lt 0 n then part_at stage p else leaf) ≡ part_at stage p
+    go : (n : ℕ) → 0 < n → if_some n (part_at stage p) ≡ part_at stage p
     go zero h = absurd (omega (arith, h))
     go (suc n) h = refl
 
 pub filling_out : (stage : Tree) (ps : List (List Bool)) (p : List Bool) → times p ps ≡ 0 → filling stage ps p ≡ leaf
-filling_out stage ps p e = ap (λ (n : ℕ). if nat_lt 0 n then part_at stage p else leaf) e
+filling_out stage ps p e = ap (λ (n : ℕ). if_some n (part_at stage p)) e
 
 -- one path more of a list
-pub times_more : (ps : List (List Bool)) (i : ℕ) (d q : List Bool) → i < length ps → times q (take (i + 1) ps) ≡ times q (take i ps) + at (get_or ps i d) q 1
-times_more ps i d q l =
-    let e = ap (times q) (take_more ps i d l) in let w = weigh-append (λ (p : List Bool). at p q 1) (take i ps) (get_or ps i d ∷ []) in omega (arith, e, w)
+weigh_more : (f : List Bool → ℕ) (ps : List (List Bool)) (i : ℕ) (d : List Bool) → i < length ps → weigh f (take (i + 1) ps) ≡ weigh f (take i ps) + f (get_or ps i d)
+weigh_more f ps i d l = let e = ap (weigh f) (take_more ps i d l) in let w = weigh-append f (take i ps) (get_or ps i d ∷ []) in omega (arith, e, w)
+
+take_weigh : (f : List Bool → ℕ) (n : ℕ) (ps : List (List Bool)) → weigh f (take n ps) ≤ weigh f ps
+take_weigh f zero ps = omega arith
+take_weigh f (suc n) [] = omega arith
+take_weigh f (suc n) (p ∷ ps) = let r = take_weigh f n ps in omega (arith, r)
+
+times_more : (ps : List (List Bool)) (i : ℕ) (d q : List Bool) → i < length ps → times q (take (i + 1) ps) ≡ times q (take i ps) + at (get_or ps i d) q 1
+times_more ps i d q l = weigh_more (λ (p : List Bool). at p q 1) ps i d l
 
 take_times : (n : ℕ) (ps : List (List Bool)) (q : List Bool) → times q (take n ps) ≤ times q ps
-take_times zero ps q = omega arith
-take_times (suc n) [] q = omega arith
-take_times (suc n) (p ∷ ps) q = let r = take_times n ps q in omega (arith, r)
+take_times n ps q = take_weigh (λ (p : List Bool). at p q 1) n ps
 
 -- a path of the list that was not filled yet
 pub times_at : (ps : List (List Bool)) (i : ℕ) (d : List Bool) → i < length ps → 0 < times (get_or ps i d) ps
@@ -194,28 +207,34 @@ pub times_before : (ps : List (List Bool)) (i : ℕ) (d : List Bool) → i < len
 times_before ps i d l few =
     let m = times_more ps i d (get_or ps i d) l in let s = at_self (get_or ps i d) 1 in let t = take_times (i + 1) ps (get_or ps i d) in omega (arith, m, s, t, few)
 
-module _ (old stage : Seen) (ps : List (List Bool)) (h : CanFill old stage ps) (i : ℕ) (d : List Bool) (l : i < length ps) where
-  abbrev here : List Bool
-  here = get_or ps i d
+module _ (old stage : Seen) (ps : List (List Bool)) (h : CanFill old stage ps) (i : ℕ) (x : List Bool) (l : i < length ps) (is : x ≡ get_or ps i x) where
+  one_of : 0 < times x ps
+  one_of = subst (λ (p : List Bool). 0 < times p ps) (sym is) (times_at ps i x l)
 
-  was_open : subtree old.tree (get_or ps i d) ≡ Some leaf
-  was_open = h.are_open (get_or ps i d) (times_at ps i d l)
+  none_yet : times x (take i ps) ≡ 0
+  none_yet = subst (λ (p : List Bool). times p (take i ps) ≡ 0) (sym is) (times_before ps i x l (h.distinct (get_or ps i x)))
 
-  pub still_open : (t : Tree) → t ≡ filled old.tree (filling stage.tree (take i ps)) → subtree t (get_or ps i d) ≡ Some leaf
+  more_of : (q : List Bool) → times q (take (i + 1) ps) ≡ times q (take i ps) + at x q 1
+  more_of q = let m = times_more ps i x q l in let e = ap (λ (p : List Bool). at p q 1) is in omega (arith, m, e)
+
+  was_open : subtree old.tree x ≡ Some leaf
+  was_open = h.are_open x one_of
+
+  pub still_open : (t : Tree) → t ≡ filled old.tree (filling stage.tree (take i ps)) → subtree t x ≡ Some leaf
   still_open t e =
-      ap (λ (z : Tree). subtree z (get_or ps i d)) e ∙ filled_at old.tree (filling stage.tree (take i ps)) (get_or ps i d) was_open
-      ∙ ap (λ (z : Tree). Some z) (filling_out stage.tree (take i ps) (get_or ps i d) (times_before ps i d l (h.distinct (get_or ps i d))))
+      ap (λ (z : Tree). subtree z x) e ∙ filled_at old.tree (filling stage.tree (take i ps)) x was_open
+      ∙ ap (λ (z : Tree). Some z) (filling_out stage.tree (take i ps) x none_yet)
 
-  pub same_box : (s : Seen) → s.root ≡ old.root → s.tree ≡ filled old.tree (filling stage.tree (take i ps)) → IsSome (subtree stage.tree (get_or ps i d)) → box_of s.root s.tree (get_or ps i d) ≡ box_of stage.root stage.tree (get_or ps i d)
+  pub same_box : (s : Seen) → s.root ≡ old.root → s.tree ≡ filled old.tree (filling stage.tree (take i ps)) → IsSome (subtree stage.tree x) → box_of s.root s.tree x ≡ box_of stage.root stage.tree x
   same_box s r e there =
-      (λ k. box_of (r k) (e k) (get_or ps i d)) ∙ filled_box old.root old.tree (filling stage.tree (take i ps)) (get_or ps i d) was_open ∙ h.box_is (get_or ps i d) (times_at ps i d l) there
+      (λ k. box_of (r k) (e k) x) ∙ filled_box old.root old.tree (filling stage.tree (take i ps)) x was_open ∙ h.box_is x one_of there
 
-  pub fill_more : (t u : Tree) → t ≡ filled old.tree (filling stage.tree (take i ps)) → u ≡ graft t (get_or ps i d) (part_at stage.tree (get_or ps i d)) → u ≡ filled old.tree (filling stage.tree (take (i + 1) ps))
-  fill_more t u e is =
-      is ∙ ap (λ (z : Tree). graft z (get_or ps i d) (part_at stage.tree (get_or ps i d))) e
-      ∙ filled_graft old.tree (filling stage.tree (take i ps)) (filling stage.tree (take (i + 1) ps)) (get_or ps i d) (part_at stage.tree (get_or ps i d)) was_open
-      (filling_in stage.tree (take (i + 1) ps) (get_or ps i d) (let m = times_more ps i d (get_or ps i d) l in let s = at_self (get_or ps i d) 1 in omega (arith, m, s)))
-      (λ q z. ap (λ (n : ℕ). if nat_lt 0 n then part_at stage.tree q else leaf) (let m = times_more ps i d q l in omega (arith, m, z)))
+  pub fill_more : (t u : Tree) → t ≡ filled old.tree (filling stage.tree (take i ps)) → u ≡ graft t x (part_at stage.tree x) → u ≡ filled old.tree (filling stage.tree (take (i + 1) ps))
+  fill_more t u e grafted =
+      grafted ∙ ap (λ (z : Tree). graft z x (part_at stage.tree x)) e
+      ∙ filled_graft old.tree (filling stage.tree (take i ps)) (filling stage.tree (take (i + 1) ps)) x (part_at stage.tree x) was_open
+      (filling_in stage.tree (take (i + 1) ps) x (let m = more_of x in let s = at_self x 1 in omega (arith, m, s)))
+      (λ q z. ap (λ (n : ℕ). if_some n (part_at stage.tree q)) (let m = more_of q in omega (arith, m, z)))
 
 pub fill_none : (stage t : Tree) (ps : List (List Bool)) → t ≡ filled t (filling stage (take 0 ps))
 fill_none stage t ps = sym (filled_none t (filling stage (take 0 ps)) (λ p. refl))
@@ -228,3 +247,79 @@ pub weigh_on : (f g : List Bool → ℕ) (ps : List (List Bool)) → ((p : List 
 weigh_on f g [] h = refl
 weigh_on f g (p ∷ ps) h =
     let e = h p (let s = at_self p 1 in omega (arith, s)) in let r = weigh_on f g ps (λ q m. h q (omega (arith, m))) in omega (arith, e, r)
+
+-- an open leaf of whose path the other tree has nothing
+absent_path : (o : Option Tree) → Absent ≡ shape_of o → o ≡ None
+absent_path None e = refl
+absent_path (Some leaf) e = cc
+absent_path (Some removed) e = cc
+absent_path (Some (inner to)) e = cc
+absent_path (Some (small to)) e = cc
+absent_path (Some (cut to v a l r)) e = cc
+
+pub absent_part : (t over : Tree) (p : List Bool) (s : Shape) → s ≡ shape_of (subtree over p) → s ≡ Absent → subtree t p ≡ Some leaf → t ≡ graft t p (part_at over p)
+absent_part t over p s e is o =
+    let none : subtree over p ≡ None = absent_path (subtree over p) (sym is ∙ e) in
+    let part : part_at over p ≡ leaf = ap (λ (x : Option Tree). elim x [ None ↦ leaf | Some y ↦ y ]) none in
+    sym (ap (graft t p) part ∙ graft_same t p leaf o)
+
+-- what is laid over an open leaf is the part of the other tree there
+pub overlaid_leaf : (old over new : Tree) (p : List Bool) → subtree old p ≡ Some leaf → IsSome (subtree over p) → IsOverlaid old over new p → new ≡ graft old p (part_at over p)
+overlaid_leaf old over new p o there h =
+    let x : (s : Tree) × (subtree over p ≡ Some s) = some_there (subtree over p) there in
+    let y : HasPart old new p leaf x.0 = h leaf x.0 o x.1 in
+    y.new_is ∙ ap (graft old p) (join_unique leaf x.0 y.part x.0 y.is_join (join_leaf_left x.0) ∙ sym (some_part over p x.0 x.1))
+
+-- and it does not disagree
+leaf_disagrees : (old over : Tree) (p q : List Bool) → subtree old p ≡ Some leaf → IsSome (subtree over p) → IsRefusal old over p (refused.Disagree q) → ⊥
+leaf_disagrees old over p q o there h =
+    let x : (s : Tree) × (subtree over p ≡ Some s) = some_there (subtree over p) there in
+    let y : (r : List Bool) × ((q ≡ p ++ r) × IsFirstDisagreement leaf x.0 r) = h leaf x.0 o x.1 in
+    let w : None ≡ Some y.1.1.here.left = sym (outcome_leaf y.0) ∙ y.1.1.here.left_is in cc
+
+pub leaf_refusal : (old over : Tree) (p q : List Bool) (e : JoinRefused) → subtree old p ≡ Some leaf → IsSome (subtree over p) → e ≡ refused.Disagree q → IsRefusal old over p e → ⊥
+leaf_refusal old over p q e o there is h = leaf_disagrees old over p q o there (subst (IsRefusal old over p) is h)
+
+-- piling up the leaves below the paths of a list
+part_is : (t : Tree) (p : List Bool) → IsSome (subtree t p) → subtree t p ≡ Some (part_at t p)
+part_is t p there = let x : (s : Tree) × (subtree t p ≡ Some s) = some_there (subtree t p) there in x.1 ∙ ap (λ (z : Tree). Some z) (sym (some_part t p x.0 x.1))
+
+part_height : (t : Tree) (p : List Bool) (s : Tree) → subtree t p ≡ Some s → length p + height s ≤ height t
+part_height t [] s e = let w : t ≡ s = cc in let h = ap height w in omega (arith, h)
+part_height (cut to v a l r) (false ∷ p) s e = let h = part_height l p s e in omega (arith, h)
+part_height (cut to v a l r) (true ∷ p) s e = let h = part_height r p s e in omega (arith, h)
+part_height leaf (b ∷ p) s e = cc
+part_height removed (b ∷ p) s e = cc
+part_height (inner to) (b ∷ p) s e = cc
+part_height (small to) (b ∷ p) s e = cc
+
+abbrev below : (List Bool → ℕ) → Tree → List Bool → ℕ
+below f t p = weigh (λ q. f (p ++ q)) (opens (part_at t p))
+
+module _ (t : Tree) (ps : List (List Bool)) (room : ℕ) (h : CanPileAll t ps room) (i : ℕ) (x : List Bool) (l : i < length ps) (is : x ≡ get_or ps i x) where
+  there_now : subtree t x ≡ Some (part_at t x)
+  there_now = part_is t x (h.there x (subst (λ (p : List Bool). 0 < times p ps) (sym is) (times_at ps i x l)))
+
+  more_now : (f : List Bool → ℕ) → weigh f (take (i + 1) ps) ≡ weigh f (take i ps) + f x
+  more_now f = let m = weigh_more f ps i x l in let e = ap f is in omega (arith, m, e)
+
+  pub can_pile : (leaves : List (List Bool)) (len cap : ℕ) → height t ≤ 200 → ((f : List Bool → ℕ) → weigh f leaves ≡ weigh (λ p. weigh (λ q. f (p ++ q)) (opens (part_at t p))) (take i ps)) → len ≡ length leaves → room ≤ cap → CanPile t x x len cap
+  can_pile leaves len cap high so_far size fits =
+      let d = part_height t x (part_at t x) there_now in
+      let c = so_far (λ (q : List Bool). 1) in
+      let m = more_now (below (λ (q : List Bool). 1) t) in
+      let all = take_weigh (below (λ (q : List Bool). 1) t) (i + 1) ps in
+      let few = h.few in
+      let n = weigh-ones leaves in let o = weigh-ones (opens (part_at t x)) in
+      record { part = part_at t x; is = there_now; depth = omega (arith, d, high); fits = omega (arith, c, m, all, few, n, o, size, fits) }
+
+  pub piled_more : (old new : List (List Bool)) → ((f : List Bool → ℕ) → weigh f old ≡ weigh (λ p. weigh (λ q. f (p ++ q)) (opens (part_at t p))) (take i ps)) → ((s : Tree) → subtree t x ≡ Some s → new ≡ old ++ piled x s)
+      → (f : List Bool → ℕ) → weigh f new ≡ weigh (λ p. weigh (λ q. f (p ++ q)) (opens (part_at t p))) (take (i + 1) ps)
+  piled_more old new so_far more f =
+      let c = so_far f in let m = more_now (below f t) in
+      let e = ap (weigh f) (more (part_at t x) there_now) in let a = weigh-append f old (piled x (part_at t x)) in
+      let w = pile_weighs f x (part_at t x) in omega (arith, c, m, e, a, w)
+
+pub piled_all : (t : Tree) (leaves ps : List (List Bool)) (i : ℕ) → length ps ≤ i → ((f : List Bool → ℕ) → weigh f leaves ≡ weigh (λ p. weigh (λ q. f (p ++ q)) (opens (part_at t p))) (take i ps))
+    → (f : List Bool → ℕ) → weigh f leaves ≡ weigh (λ p. weigh (λ q. f (p ++ q)) (opens (part_at t p))) ps
+piled_all t leaves ps i n h f = h f ∙ ap (weigh (below f t)) (take_all i ps n)

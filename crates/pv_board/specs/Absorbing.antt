@@ -1,5 +1,5 @@
 -- What a board becomes where a stage is absorbed, and what refuses it.
-use Rattle.std.specs.Prelude.{◌≡◌, ℕ, ◌+◌, ◌<◌, ◌≤◌, Bool, true, false, if◌then◌else◌, nat_lt, Option, Some, None, IsSome, List, [], ◌∷◌, ◌++◌, length}
+use Rattle.std.specs.Prelude.{◌≡◌, ℕ, zero, suc, ◌+◌, ◌<◌, ◌≤◌, Bool, true, false, Some, None, IsSome, List, [], ◌∷◌, ◌++◌}
 use Rattle.pv_interval.specs.Bounds.{Bounds}
 use Rattle.pv_tree.specs.Trees.{Tree, Seen, leaf, removed, inner, small, cut, subtree, outcome_at, box_of, opens}
 use Rattle.pv_join.specs.Joins.{settled_side}
@@ -49,9 +49,14 @@ filled (inner to) g = inner to
 filled (small to) g = small to
 filled (cut to v a low high) g = cut to v a (filled low (λ p. g (false ∷ p))) (filled high (λ p. g (true ∷ p)))
 
+-- A tree where it is counted, and else an open leaf.
+abbrev pub if_some : ℕ → Tree → Tree
+if_some zero t = leaf
+if_some (suc n) t = t
+
 -- At the paths of a list what a stage has there, and at others an open leaf.
 abbrev pub filling : Tree → List (List Bool) → List Bool → Tree
-filling stage ps p = if nat_lt 0 (times p ps) then part_at stage p else leaf
+filling stage ps p = if_some (times p ps) (part_at stage p)
 
 -- The paths of a list are distinct open leaves, and a stage has the same box at each of them.
 pub record CanFill (old stage : Seen) (ps : List (List Bool)) : Type 0 where

@@ -1,5 +1,5 @@
 //! Absorbing a stage: what it settles below the free leaves of a paving.
-ghost use Rattle.std.specs.Prelude.{◌≡◌, ◌+◌, ◌≤◌, OnOk, IfOk, IsSome, ℕ, List, Bool, length, vec_capacity, vec_len};
+ghost use Rattle.std.specs.Prelude.{◌≡◌, ◌++◌, ◌≤◌, OnOk, IfOk, IsSome, ℕ, List, Bool, vec_capacity};
 ghost use Rattle.pv_tree.specs.Trees.{leaf, subtree, graft, box_of, opens, settled_of};
 ghost use Rattle.pv_board.specs.Marks.{weigh};
 ghost use Rattle.pv_board.specs.Absorbing.{CanFill, filled, filling, part_at, CanPileAll};
@@ -79,7 +79,8 @@ pub(crate) fn leaves_below(
     let _places = paving.dims();
     let mut leaves = Vec::with_capacity(alloc, MOST_LEAVES)?;
     for i in 0..nodes.len() {
-        pile(paving, nodes[i], nodes[i], &mut leaves);
+        let path = nodes[i];
+        pile(paving, path, path, &mut leaves);
     }
     Ok(leaves)
 }
