@@ -12,3 +12,4 @@ pub mod Inside
 pub mod Joined
 pub mod Earlier
 pub mod Refused
+pub mod Merges
