@@ -23,14 +23,14 @@ struct Step {
     holds: &'static str,
 }
 
-const SYSTEM: &str = "Variables x in [0,1]; Constraints 1/x >= 0; end\n";
+pub(crate) const SYSTEM: &str = "Variables x in [0,1]; Constraints 1/x >= 0; end\n";
 
 const HALF_LINE: &str = "Variables x in [0,4]; Constraints x <= 1; end\n";
 
 pub(crate) const WHOLE: &str =
     "paving 2\nidentity be80eb05bcbc91b70b7ad422c002b378eff58622ab1c9a053f3fcbdf6852f81a\nC 0 1:-1 = =\nC 0 1:-2 = =\nS = =\nI = =\nI = =\n";
 
-const WHOLE_1: &str =
+pub(crate) const WHOLE_1: &str =
     "paving 1\nidentity be80eb05bcbc91b70b7ad422c002b378eff58622ab1c9a053f3fcbdf6852f81a\nC 0 1:-1 0:0 1:0\nC 0 1:-2 0:0 1:-1\nS 0:0 1:-2\nI 1:-2 1:-1\nI 1:-1 1:0\n";
 
 const PART: &str =
