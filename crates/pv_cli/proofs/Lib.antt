@@ -13,3 +13,4 @@ pub mod Joined
 pub mod Earlier
 pub mod Refused
 pub mod Merges
+pub mod StatusLaws

@@ -30,11 +30,24 @@ use Rattle.pv_file.specs.Texts.{file_text}
 use Rattle.pv_file.specs.declared.version.Version.{Version}
 use Rattle.pv_file.specs.declared.version.Version.TheVariants.{One, Two}
 use Rattle.pv_file.proofs.Different.{texts-differ}
+use Rattle.pv_cli.specs.Requests.{Asks, names_in, out_of}
+use Rattle.pv_cli.specs.Refusals.{status_of}
 use Rattle.pv_cli.specs.Systems.{Files, IsFetched, HasSystem, IsRuleFor, HasRule, search_box}
-use Rattle.pv_cli.specs.Files.{HasPaving, HavePavings, AllTrees, AnyTree, IsJoinOf, HasOpening}
-use Rattle.pv_cli.specs.Products.{Product, paved, ComesOfMerge}
-use Rattle.pv_cli.specs.Merges.{IsTree, AreSameTrees, JoinAlike, IsNamed, AreSameNames, AreSameSettings, AreTold}
+use Rattle.pv_cli.specs.Pavings.{settled_in}
+use Rattle.pv_cli.specs.Files.{HasPaving, HavePavings, AllTrees, AnyTree, IsJoinOf, HasOpening, IsDisagreement}
+use Rattle.pv_cli.specs.Products.{Product, text, paved, HasStatus, ComesOf, ComesOfMerge, IsOverLimit, RefusesJoined, RefusesWork}
+use Rattle.pv_cli.specs.Ends.{Stream, Outside, IsKept, IsDelivered, IsAnswered, RefusesDelivery, RefusesWords, IsRefusedSo, in_words, in_request, Tells}
+use Rattle.pv_cli.specs.Merges.{IsTree, AreSameTrees, JoinAlike, IsNamed, AreSameNames, AreSameSettings, AreSameMerge, AskForSameMerge, AreTold, EndAlike, MergesEndAlike, MergesAreTakenAlike}
 use Rattle.pv_cli.specs.declared.request.Settings.{Settings}
+use Rattle.pv_cli.specs.declared.request.Request.{Request}
+use Rattle.pv_cli.specs.declared.request.Request.TheVariants.{Check, Run, Resume, Merge, Audit}
+use Rattle.pv_cli.specs.declared.refusal.Refusal.{Refusal}
+use Rattle.pv_cli.specs.declared.refusal.Refusal.TheVariants.{Usage, System, Contract, NoFile, ReadFault, Paving, NotStored, NotPrinted, Memory, TreeLimit, Disagree, Differs}
+use Rattle.pv_cli.specs.declared.status.Status.{Status}
+use Rattle.pv_cli.specs.declared.status.Status.TheVariants as status
+use Rattle.pv_cli.proofs.Ends.{same_or_other}
+use Rattle.pv_cli.proofs.Joined.{any_left, any_right}
+use Rattle.pv_cli.proofs.StatusLaws.{no_files}
 
 -- ---- Trees
 
@@ -213,3 +226,173 @@ same_merge before system names others x y p q told names_are same h k =
     let trees = same_trees before h.rule k.rule names others h.trees k.trees told rules names_are h.opened.held k.opened.held in
     let tree : k.tree ≡ h.tree = one_join k.trees h.tree k.tree (join_moves h.trees k.trees h.tree trees h.opened.join) k.opened.join in
     h.is ∙ (λ i. paved (rules.identity i) (rules.box i) (sym tree i)) ∙ sym k.is
+
+-- ---- Two commands
+
+product_alike : (before : Files) (q r : Request) (p other : Product) → AreTold before → AreSameMerge q r → ComesOf before q p → ComesOf before r other
+    → (p ≡ other) × (out_of q ≡ out_of r)
+product_alike before (Merge system pavings s out) (Merge system' pavings' s' out') p other told h c d = (
+  same_merge before system.now (names_in pavings.items) (names_in pavings'.items) s s' p other told h.1 h.2 c
+      (subst (λ (n : Text). ComesOfMerge before n (names_in pavings'.items) s' other) (sym h.0) d),
+  h.3,
+)
+product_alike before q r p other told h c d = absurd h
+
+kept_alike : (out : Option Text) (p : Product) (before one other : Files) → IsKept out p before one → IsKept out p before other → (name : Text) → one.content name ≡ other.content name
+kept_alike None p before one other h k name = h.content name ∙ sym (k.content name)
+kept_alike (Some m) (text t) before one other h k name = h.content name ∙ sym (k.content name)
+kept_alike (Some m) (paved identity b t) before one other h k name = by (same_or_other name m)
+  where
+    by : (name ≡ m) ⊎ (name ≡ m → ⊥) → one.content name ≡ other.content name
+    by (inl e) = ap one.content e ∙ h.is ∙ sym k.is ∙ sym (ap other.content e)
+    by (inr n) = h.kept.others name n ∙ sym (k.kept.others name n)
+
+one_status : (p : Product) (s other : Status) → HasStatus p s → HasStatus p other → s ≡ other
+one_status (text t) s other h k = h ∙ sym k
+one_status (paved identity b t) s other (inl h) (inl k) = h.0 ∙ sym k.0
+one_status (paved identity b t) s other (inl h) (inr k) = absurd (k.1 h.1)
+one_status (paved identity b t) s other (inr h) (inl k) = absurd (h.1 k.1)
+one_status (paved identity b t) s other (inr h) (inr k) = h.0 ∙ sym k.0
+
+answered_alike : (q r : Request) (before one other : Outside) (s s' : Status) → AreTold before.files → AreSameMerge q r
+    → IsAnswered q before.files one.files before.out one.out s → IsAnswered r before.files other.files before.out other.out s' → EndAlike one other s s'
+answered_alike q r before one other s s' told same h k =
+    let alike = product_alike before.files q r h.product k.product told same h.comes k.comes in
+    let there : IsDelivered (out_of q) h.product before.files other.files before.out other.out =
+    subst (λ (f : Option Text). IsDelivered f h.product before.files other.files before.out other.out) (sym alike.1)
+    (subst (λ (p : Product). IsDelivered (out_of r) p before.files other.files before.out other.out) (sym alike.0) k.delivered) in
+    record {
+      printed = h.delivered.out ∙ sym there.out;
+      files = kept_alike (out_of q) h.product before.files one.files other.files h.delivered.files there.files;
+      ended = one_status h.product s s' h.is (subst (λ (p : Product). HasStatus p s') (sym alike.0) k.is);
+    }
+
+pub merges_end_alike : MergesEndAlike
+merges_end_alike words others before one other s s' told ask d e =
+    answered_alike d.request e.request before one other s s' told (ask d.request e.request d.asks e.asks) d.answered e.answered
+
+-- ---- Refusals
+
+-- an outcome that the join of some of the trees has is the join's of all
+joined_has : (ts us : List Tree) (joined t : Tree) (p : List Bool) (o : Outcome) → IsJoinOf ts joined → IsJoinOf (ts ++ us) t → outcome_at joined p ≡ Some o → outcome_at t p ≡ Some o
+joined_has ts us joined t p o h k e = any_grows (ts ++ us) t p o (any_left (λ s. outcome_at s p ≡ Some o) ts us (h.only p o e)) k.each
+
+next_has : (ts us : List Tree) (next t : Tree) (p : List Bool) (o : Outcome) → IsJoinOf (ts ++ next ∷ us) t → outcome_at next p ≡ Some o → outcome_at t p ≡ Some o
+next_has ts us next t p o k e = any_grows (ts ++ next ∷ us) t p o (any_right (λ s. outcome_at s p ≡ Some o) ts (next ∷ us) (inl e)) k.each
+
+-- trees that have a join don't disagree
+no_disagreement : (ts : List Tree) (t : Tree) (path : List Bool) (a b : List ℕ) → IsJoinOf ts t → IsDisagreement ts path a b → ⊥
+no_disagreement ts t path a b h d =
+    let all : IsJoinOf (d.earlier ++ d.next ∷ d.later) t = subst (λ (us : List Tree). IsJoinOf us t) d.are h in
+    let left = joined_has d.earlier (d.next ∷ d.later) d.join t path d.first.here.left d.is_join all d.first.here.left_is in
+    let right = next_has d.earlier d.later d.next t path d.first.here.right all d.first.here.right_is in
+    d.first.here.differ (same_some d.first.here.left d.first.here.right (sym left ∙ right))
+  where
+    same_some : (o u : Outcome) → Some o ≡ Some u → o ≡ u
+    same_some o u e = cc
+
+abbrev IsOver : Status → Type 0
+IsOver status.Done = ⊥
+IsOver status.OpenLeft = ⊥
+IsOver status.Usage = ⊥
+IsOver status.SystemRefused = ⊥
+IsOver status.PavingRefused = ⊥
+IsOver status.ReadFault = ⊥
+IsOver status.WriteFault = ⊥
+IsOver status.WantOfMemory = ⊥
+IsOver status.TreeLimit = Unit {0}
+IsOver status.Disagree = Unit {0}
+IsOver status.KeeperFault = ⊥
+IsOver status.NoFile = ⊥
+
+module _ (before after : Files) (system : Text) (names others : List Text) (x y : Settings) (p : Product) (told : AreTold before) (names_are : AreSameNames names others)
+  (same : AreSameSettings x y) (h : ComesOfMerge before system names x p) where
+  joined_too : (q : SettlerParts) (us : List Tree) → HasRule before system y q → HavePavings before q others us → IsJoinOf us h.tree
+  joined_too q us read held =
+      join_moves h.trees us h.tree
+      (same_trees before h.rule q names others h.trees us told (read_rules before system x y h.rule q told same h.opened.read read) names_are h.opened.held held) h.opened.join
+
+  not_over : (n : ℕ) → IsOverLimit before system others y 0 n → ⊥
+  not_over n k =
+      let tree : k.opening ≡ h.tree = one_join k.trees h.tree k.opening (joined_too k.rule k.trees k.opened.read k.opened.held) k.opened.join in
+      let size : settled_in k.opening ≡ settled_in h.tree = ap settled_in tree in
+      let few = h.few in let many = k.many in let is = k.settled in
+      omega arith
+
+  disagree_or_memory : (path : _) (a b : _) → Disagree path a b ≡ Memory → ⊥
+  disagree_or_memory path a b e = cc
+
+  differs_or_memory : (path : _) (a b : _) → Differs path a b ≡ Memory → ⊥
+  differs_or_memory path a b e = cc
+
+  not_refused : (r : Refusal) → IsOver (status_of r) → RefusesJoined before after system others y 0 r → ⊥
+  not_refused (TreeLimit n) over k = not_over n k
+  not_refused (Disagree path a b) over (inl k) = k
+  not_refused (Disagree path a b) over (inr (inl k)) = no_files before after k.rule (Disagree path a b) (disagree_or_memory path a b) (λ n w. w) others k.refused
+  not_refused (Disagree path a b) over (inr (inr k)) =
+      no_disagreement k.trees h.tree path a.items b.items (joined_too k.rule k.trees k.read k.held) k.refused
+  not_refused (Differs path a b) over (inl k) = k
+  not_refused (Differs path a b) over (inr (inl k)) = no_files before after k.rule (Differs path a b) (differs_or_memory path a b) (λ n w. w) others k.refused
+  not_refused (Differs path a b) over (inr (inr k)) = k.refused
+  not_refused Usage over k = over
+  not_refused (System line column byte cause) over k = over
+  not_refused (Contract byte) over k = over
+  not_refused (NoFile n) over k = over
+  not_refused (ReadFault n) over k = over
+  not_refused (Paving n f) over k = over
+  not_refused (NotStored n) over k = over
+  not_refused NotPrinted over k = over
+  not_refused Memory over k = over
+
+work_taken : (before after : Files) (q r : Request) (p : Product) (e : Refusal) → AreTold before → AreSameMerge q r → ComesOf before q p → IsOver (status_of e) → RefusesWork before after r e → ⊥
+work_taken before after (Merge system pavings s out) (Merge system' pavings' s' out') p e told h c over w =
+    not_refused before after system.now (names_in pavings.items) (names_in pavings'.items) s s' p told h.1 h.2 c e over
+    (subst (λ (n : Text). RefusesJoined before after n (names_in pavings'.items) s' 0 e) (sym h.0) w)
+work_taken before after q r p e told h c over w = absurd h
+
+words_over : (words : List Text) (r : Refusal) → IsOver (status_of r) → RefusesWords words r → ⊥
+words_over words (TreeLimit n) over h = h
+words_over words (Disagree path a b) over h = h
+words_over words (Differs path a b) over h = h
+words_over words Usage over h = over
+words_over words (System line column byte cause) over h = over
+words_over words (Contract byte) over h = over
+words_over words (NoFile n) over h = over
+words_over words (ReadFault n) over h = over
+words_over words (Paving n f) over h = over
+words_over words (NotStored n) over h = over
+words_over words NotPrinted over h = over
+words_over words Memory over h = over
+
+delivery_over : (out : Option Text) (p : Product) (before after : Files) (x y : Stream) (r : Refusal) → IsOver (status_of r) → RefusesDelivery out p before after x y r → ⊥
+delivery_over out p before after x y (TreeLimit n) over h = h
+delivery_over out p before after x y (Disagree path a b) over h = h
+delivery_over out p before after x y (Differs path a b) over h = h
+delivery_over out p before after x y Usage over h = over
+delivery_over out p before after x y (System line column byte cause) over h = over
+delivery_over out p before after x y (Contract byte) over h = over
+delivery_over out p before after x y (NoFile n) over h = over
+delivery_over out p before after x y (ReadFault n) over h = over
+delivery_over out p before after x y (Paving n f) over h = over
+delivery_over out p before after x y (NotStored n) over h = over
+delivery_over out p before after x y NotPrinted over h = over
+delivery_over out p before after x y Memory over h = over
+
+refusal_taken : (words others : List Text) (before other : Outside) (q : Request) (p : Product) (e : Refusal) → AreTold before.files → AskForSameMerge words others → Asks words q
+    → ComesOf before.files q p → IsOver (status_of e) → IsRefusedSo others before other e → ⊥
+refusal_taken words others before other q p e told ask asks comes over (in_words h same) = words_over others e over h
+refusal_taken words others before other q p e told ask asks comes over (in_request r asked (inl work)) =
+    work_taken before.files other.files q r p e told (ask q r asks asked) comes over work.0
+refusal_taken words others before other q p e told ask asks comes over (in_request r asked (inr f)) =
+    delivery_over (out_of r) f.product before.files other.files before.out other.out e over f.refused
+
+told_taken : (words others : List Text) (before other : Outside) (q : Request) (p : Product) (e : Refusal) (s : Status) → AreTold before.files → AskForSameMerge words others → Asks words q
+    → ComesOf before.files q p → IsOver s → IsRefusedSo others before other e → Tells e s before.err other.err → ⊥
+told_taken words others before other q p e s told ask asks comes over so (inl line) =
+    refusal_taken words others before other q p e told ask asks comes (subst IsOver line.0 over) so
+told_taken words others before other q p e s told ask asks comes over so (inr memory) = subst IsOver memory.0 over
+
+pub merges_are_taken_alike : MergesAreTakenAlike
+merges_are_taken_alike words others before one other s s' told ask d r =
+    let none = told_taken words others before other d.request d.answered.product r.refusal s' told ask d.asks d.answered.comes in
+    (λ e. none (subst IsOver (sym e) tt) r.so r.told, λ e. none (subst IsOver (sym e) tt) r.so r.told)

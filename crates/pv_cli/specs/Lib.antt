@@ -15,3 +15,4 @@ pub mod Turns
 pub mod Telling
 pub mod Resumed
 pub mod Merges
+pub mod StatusLaws

@@ -67,7 +67,7 @@ AreTold f = (name : Text) → f.content name ≢ untold
 pub record EndAlike (one other : Outside) (status status' : Status) : Type 0 where
   pub printed : one.out.written ≡ other.out.written
   pub files : (name : Text) → one.files.content name ≡ other.files.content name
-  pub status : status ≡ status'
+  pub ended : status ≡ status'
 
 -- two commands for the same join, over the same files, end alike where both are done
 abbrev pub MergesEndAlike : Type 0
