@@ -306,7 +306,7 @@ IsOver status.KeeperFault = ⊥
 IsOver status.NoFile = ⊥
 
 module _ (before after : Files) (system : Text) (names others : List Text) (x y : Settings) (p : Product) (told : AreTold before) (names_are : AreSameNames names others)
-  (same : AreSameSettings x y) (h : ComesOfMerge before system names x p) where
+    (same : AreSameSettings x y) (h : ComesOfMerge before system names x p) where
   joined_too : (q : SettlerParts) (us : List Tree) → HasRule before system y q → HavePavings before q others us → IsJoinOf us h.tree
   joined_too q us read held =
       join_moves h.trees us h.tree
