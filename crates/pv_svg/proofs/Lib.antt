@@ -1,0 +1,5 @@
+mod Shares
+mod Axes
+mod Meetings
+mod Showing
+mod Handing

@@ -1,0 +1,5 @@
+pub mod Planes
+pub mod Pixels
+pub mod Rectangles
+pub mod Texts
+pub mod Pieces
