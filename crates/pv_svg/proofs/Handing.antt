@@ -99,3 +99,8 @@ pub end_held : (d : Drawn) (sent held held' total : List ℕ) (i : ℕ) → leng
     → total ≡ (sent ++ held') ++ []
 end_held d sent held held' total i l t h =
     line_held total sent held held' foot_text (lines_from d i) [] t (no_line d i l ∙ sym (append-nil foot_text)) h
+
+-- the line is that of the picture as contracts see it
+pub seen_line : (inside d : Drawn) (r : Rectangle) (held held' : List ℕ) → inside ≡ d → held' ≡ held ++ rectangle_text inside.x inside.y r
+    → held' ≡ held ++ rectangle_text d.x d.y r
+seen_line inside d r held held' e h = h ∙ ap (λ p. held ++ rectangle_text p.x p.y r) e

@@ -1,6 +1,6 @@
 use Rattle.std.proofs.Common.{◌≡◌, ◌++◌, ◌∙◌, append_assoc, rules}
 use Rattle.std.proofs.lemmas.Result.{on_ok_weaker, on_err_weaker}
-use Rattle.pv_svg.proofs.Handing.{sent_front, held_front, line_held, part_sent, more_sent, all_sent, next_line, end_held, on_any}
+use Rattle.pv_svg.proofs.Handing.{sent_front, held_front, line_held, part_sent, more_sent, all_sent, next_line, end_held, seen_line, on_any}
 use Rattle.pv_svg.proofs.picture.Picture.write.Goals as goal
 
 pub returns-in_err-push_rectangle-clause-front : goal.returns-in_err-push_rectangle-clause-front
@@ -10,13 +10,13 @@ returns-in_err-push_rectangle-clause-front g c =
 pub returns-in_err-hand_over_piece-clause-front : goal.returns-in_err-hand_over_piece-clause-front
 returns-in_err-hand_over_piece-clause-front g c =
     let line = next_line c.args.self.now c.loop-i.i c.index.result.now (search rules) (search rules) in
-    let held = line_held _ c.loop-i.invariant.sent _ _ _ _ _ c.loop-i.invariant.text line c.in_ok-push_rectangle.ensures in
+    let held = line_held _ c.loop-i.invariant.sent _ _ _ _ _ c.loop-i.invariant.text line (seen_line _ c.args.self.now c.index.result.now _ _ c.self.view_is c.in_ok-push_rectangle.ensures) in
     on_any _ (held_front _ _ _ c.loop-i.invariant.sent _ _ _ c.loop-i.invariant.told held c.in_err-hand_over_piece.ensures.front)
 
 pub loop-i-preserved : goal.loop-i-preserved
 loop-i-preserved g c =
     let line = next_line c.args.self.now c.loop-i.i c.index.result.now (search rules) (search rules) in
-    let held = line_held _ c.loop-i.invariant.sent _ _ _ _ _ c.loop-i.invariant.text line c.in_ok-push_rectangle.ensures in
+    let held = line_held _ c.loop-i.invariant.sent _ _ _ _ _ c.loop-i.invariant.text line (seen_line _ c.args.self.now c.index.result.now _ _ c.self.view_is c.in_ok-push_rectangle.ensures) in
     let part = c.in_ok-hand_over_piece.ensures.part in record {
       counts = search rules;
       sent = c.loop-i.invariant.sent ++ part.0;
