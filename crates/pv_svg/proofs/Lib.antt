@@ -3,3 +3,6 @@ mod Axes
 mod Meetings
 mod Showing
 mod Handing
+mod Painting
+mod Places
+mod Sounds

@@ -63,8 +63,7 @@ share_there p q l z =
       | inr k ↦
           let w : q ≤ k.0 * 1 = up_above q 1 k.0 (omega arith) k.1 in
           let below : a.0 * 1 ≤ p = a.1.below in
-          let s = down_nat (a.0 * unit) k.0 (omega arith) in
-          (
+          let s = down_nat (a.0 * unit) k.0 (omega arith) in (
             s.0,
             record {
               is = ap (λ x. div_of Down x (rounded Up (pos q) 1)) a.1.is ∙ ap (λ x. div_of Down (Fin (pos a.0)) x) k.1 ∙ s.1.is;

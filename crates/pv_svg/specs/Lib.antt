@@ -3,3 +3,4 @@ pub mod Pixels
 pub mod Rectangles
 pub mod Texts
 pub mod Pieces
+pub mod Paints

@@ -4,6 +4,7 @@
 //! numbers lie in its places. The rectangles come in preorder, and a later one is painted over the earlier ones.
 #![tactic(auto)]
 
+pub mod laws;
 mod picture;
 mod pixel;
 mod plane;
