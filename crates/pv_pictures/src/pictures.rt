@@ -1,4 +1,8 @@
 //! Pictures of pavings of 2, 3 and 12 variables, with texts from exact fractions.
+ghost use Rattle.std.specs.Prelude.{◌≡◌, ◌<◌, IsTrue, length};
+ghost use Rattle.pv_svg.specs.Planes.{place};
+ghost use Rattle.pv_svg.specs.Pixels.{IsFinite};
+
 use crate::table;
 use pv_box::IBox;
 use pv_file::read;
@@ -61,12 +65,28 @@ fn joined(alloc: Global, one: &str, two: &str, three: &str) -> Option<Vec<u8>> {
     Some(text)
 }
 
+// Whether a place of a box has no infinite end.
+fn is_finite(bx: &IBox, i: u8) -> bool
+    requires { i < length bx.now }
+    ensures { IsTrue result → IsFinite (place bx.now i) }
+{
+    let part = bx.get(i);
+    part.lo() != Num::NEG_INF && part.hi() != Num::POS_INF
+}
+
 // The text of a case's picture.
 fn picture(alloc: Global, case: &Case) -> Option<PlainSink> {
     let root = root_box(alloc, case)?;
     let text = joined(alloc, HEADER, case.lines, "")?;
     let paving = read(alloc, &text, IDENTITY, &root).ok()?;
     let at = numbers(alloc, case.at)?;
+    let places = root.dims();
+    if case.x >= places || case.y >= places || case.x == case.y || at.len() + 2 != places as usize {
+        return None;
+    }
+    if !is_finite(&root, case.x) || !is_finite(&root, case.y) {
+        return None;
+    }
     let picture = slice(alloc, &paving, case.x, case.y, &at).ok()?;
     let mut sink = PlainSink::new(alloc);
     picture.write(alloc, &mut sink).ok()?;
