@@ -1,14 +1,18 @@
--- The accounts of the workers of a paving.
-use Rattle.std.specs.Prelude.{◌≡◌, ℕ, ◌+◌, ◌^◌, ◌<◌, ◌≤◌, List, [], ◌∷◌}
+-- The counts of the workers of a paving.
+use Rattle.std.specs.Prelude.{ℕ, ◌+◌, List, [], ◌∷◌}
 use Rattle.pv_board.specs.Tallies.{Tally}
 use Rattle.pv_pool.specs.Counting.{Numbers, AreBelow}
-use Rattle.pv_workers.specs.declared.account.Account.{Account}
 
 -- The numbers that a pool's contracts speak of.
 abbrev pub numbers_of : Tally → Numbers
 numbers_of t = record { given = t.given; back = t.spent; looks = t.looks; ends = t.ended; parts = t.parts }
 
--- The parts of all accounts together.
-abbrev pub parts_in : List Account → ℕ
+-- The parts of all workers together.
+abbrev pub parts_in : List Tally → ℕ
 parts_in [] = 0
-parts_in (a ∷ rest) = a.told.parts + parts_in rest
+parts_in (t ∷ ts) = t.parts + parts_in ts
+
+-- Each worker's counts of tickets and looks are below a bound.
+abbrev pub AllBelow : ℕ → List Tally → Type 0
+AllBelow bound [] = Unit {0}
+AllBelow bound (t ∷ ts) = AreBelow bound (numbers_of t) × AllBelow bound ts

@@ -10,6 +10,7 @@ use crate::account::Account;
 use crate::ruled::Ruled;
 use crate::stage::stage_at;
 use pv_board::{Look, Naming, Settled, Shared, Ticket, Told};
+use pv_box::IBox;
 use pv_num::Memory;
 use pv_pool::{Gate, Idle, Work};
 use pv_tree::{Batch, Outcome, Settler};
@@ -38,7 +39,7 @@ impl<'a, N: Naming + Send, S: Settler, G: Gate> Work for Crew<'a, N, S, G> {
 
     ghost use Rattle.pv_workers.specs.Accounts.{numbers_of};
 
-    ghost numbers = { λ a. numbers_of a.told };
+    ghost numbers = { numbers_of };
 
     fn work<R: Wait>(
         &self,
@@ -48,15 +49,16 @@ impl<'a, N: Naming + Send, S: Settler, G: Gate> Work for Crew<'a, N, S, G> {
         account: &mut Account<N>,
         children: &mut Batch<Ticket>,
     ) {
-        if !account.scratch.fill(rt, self.shared, &ticket) {
-            self.shared.give_back(rt, ticket, &mut account.told);
+        let told = &mut account.told;
+        let leaf = &mut account.scratch;
+        if !self.shared.box_of(rt, &ticket, leaf) {
+            self.shared.give_back(rt, ticket, told);
             return;
         }
-        let steps = ticket.path().len();
-        if steps < STAGED_FROM {
-            self.settle(rt, worker, ticket, account, children);
+        if ticket.path().len() < STAGED_FROM {
+            self.settle(rt, worker, ticket, leaf, told, children);
         } else {
-            self.settle_stage(rt, worker, ticket, account, children);
+            self.settle_stage(rt, worker, ticket, leaf, told, children);
         }
     }
 
@@ -79,62 +81,56 @@ impl<'a, N: Naming + Send, S: Settler, G: Gate> Work for Crew<'a, N, S, G> {
 }
 
 impl<'a, N: Naming + Send, S: Settler, G: Gate> Crew<'a, N, S, G> {
-    // Settles the leaf of a ticket, whose box is in the scratch. The tickets of a cut's children become `children`.
+    // Settles the leaf of a ticket. The tickets of a cut's children become `children`.
     fn settle<R: Wait>(
         &self,
         rt: &R,
         worker: u64,
         ticket: Ticket,
-        account: &mut Account<N>,
+        leaf: &IBox,
+        told: &mut Told<N>,
         children: &mut Batch<Ticket>,
     )
-        requires low { IsLow account.old.told }
+        requires low { IsLow told.old }
+        requires places { length leaf.now ≡ N.dims }
         requires there { IsSome (subtree (full_of N.rule N.depth N.root N.opening 0) ticket.path) }
-        requires leaf { account.old.scratch.leaf ≡ box_of N.root (full_of N.rule N.depth N.root N.opening 0) ticket.path }
+        requires leaf { leaf.now ≡ box_of N.root (full_of N.rule N.depth N.root N.opening 0) ticket.path }
         requires none { children.old ≡ [] }
-        ensures { numbers_of account.new.told ≡ after_work (length children.new) (numbers_of account.old.told) }
+        ensures { numbers_of told.new ≡ after_work (length children.new) (numbers_of told.old) }
     {
         let path = ticket.path();
         self.gate.enter(worker, path);
-        let told = &mut account.told;
-        match self.ruled.settle(self.alloc, &account.scratch.leaf, path) {
+        match self.ruled.settle(self.alloc, leaf, path) {
             Ok(outcome) => hand_in(rt, self.shared, ticket, outcome, told, children),
             Err(Memory) => give_up(rt, self.shared, ticket, told),
         }
     }
 
-    // Settles some nodes from the leaf of a ticket on, whose box is in the scratch, with a grant for all but the first.
-    // The tickets of the stage's open leaves become `children`.
+    // Settles some nodes from the leaf of a ticket on, with a grant for all but the first. `leaf` is the leaf's box, and takes
+    // other boxes then. The tickets of the stage's open leaves become `children`.
     fn settle_stage<R: Wait>(
         &self,
         rt: &R,
         worker: u64,
         ticket: Ticket,
-        account: &mut Account<N>,
+        leaf: &mut IBox,
+        told: &mut Told<N>,
         children: &mut Batch<Ticket>,
     )
-        requires low { IsLow account.old.told }
+        requires low { IsLow told.old }
+        requires places { length leaf.old ≡ N.dims }
         requires there { IsSome (subtree (full_of N.rule N.depth N.root N.opening 0) ticket.path) }
-        requires leaf { account.old.scratch.leaf ≡ box_of N.root (full_of N.rule N.depth N.root N.opening 0) ticket.path }
+        requires leaf { leaf.old ≡ box_of N.root (full_of N.rule N.depth N.root N.opening 0) ticket.path }
         requires none { children.old ≡ [] }
-        ensures { numbers_of account.new.told ≡ after_work (length children.new) (numbers_of account.old.told) }
+        ensures told { numbers_of told.new ≡ after_work (length children.new) (numbers_of told.old) }
+        ensures places { length leaf.new ≡ N.dims }
     {
         let mut ticket = ticket;
         let want = MOST_GRANT - ticket.grant();
         self.shared.extend(rt, &mut ticket, want);
         let path = ticket.path();
         let most = 1 + ticket.grant();
-        let stage = stage_at(
-            self.alloc,
-            self.ruled,
-            self.gate,
-            worker,
-            path,
-            most,
-            &mut account.scratch,
-        );
-        let told = &mut account.told;
-        match stage {
+        match stage_at(self.alloc, self.ruled, self.gate, worker, path, most, leaf) {
             Ok(stage) => {
                 self.shared.settle_stage(rt, ticket, &stage, told, children);
             }

@@ -7,7 +7,6 @@ mod paving;
 mod rest;
 mod ruled;
 mod stage;
-
 #[cfg(test)]
 mod tests;
 

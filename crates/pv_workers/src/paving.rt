@@ -6,7 +6,7 @@ ghost use Rattle.pv_board.specs.Marks.{issued};
 ghost use Rattle.pv_board.specs.Rules.{IsFitting, settled_in};
 ghost use Rattle.pv_workers.specs.Pavings.{IsPaved, IsSpent};
 
-use crate::account::{Scratch, joined, split};
+use crate::account::{blank, joined, split};
 use crate::crew::Crew;
 use crate::rest::{close, settle_rest};
 use crate::ruled::Ruled;
@@ -108,7 +108,7 @@ fn pave_named<N: Naming + Send + Sync, S: Settler + Sync, G: Gate + Sync, R: Thr
 {
     let places = opening.dims();
     let ruled: Ruled<N, S> = Ruled::of(settler);
-    let mut scratch = Scratch::new(alloc, places)?;
+    let mut scratch = blank(alloc, places)?;
     let board = opened(alloc, opening, budget)?;
     let (mut board, spent) = worked(
         rt, alloc, &ruled, board, places, workers, gate, settlings, endings,

@@ -9,9 +9,9 @@ ghost use Rattle.pv_board.specs.Tallies.{one_if};
 ghost use Rattle.pv_workers.specs.Boards.{IsRecalled};
 ghost use Rattle.pv_workers.specs.Pavings.{IsSpent};
 
-use crate::account::Scratch;
 use crate::ruled::Ruled;
 use pv_board::{Board, Naming, Ticket};
+use pv_box::IBox;
 use pv_num::Memory;
 use pv_pool::Gate;
 use pv_tree::{Paving, Settler};
@@ -28,9 +28,10 @@ pub(crate) fn settle_rest<N: Naming, S: Settler, G: Gate>(
     ruled: &Ruled<N, S>,
     gate: &G,
     board: &mut Board<N>,
-    scratch: &mut Scratch<N>,
+    scratch: &mut IBox,
 ) -> Result<u64, Memory>
-    requires { settled_in board.old.tree ≡ settled_in N.opening + board.old.used }
+    requires settled { settled_in board.old.tree ≡ settled_in N.opening + board.old.used }
+    requires places { length scratch.old ≡ N.dims }
     ensures used { IfOk result (λ own. board.new.used ≡ board.old.used + own) }
     ensures recalled { OnOk result (IsRecalled N.opening board.new) }
     ensures over { OnOk result (IsOver board.new) }
@@ -51,12 +52,14 @@ fn settle_one<N: Naming, S: Settler, G: Gate>(
     ruled: &Ruled<N, S>,
     gate: &G,
     board: &mut Board<N>,
-    scratch: &mut Scratch<N>,
+    scratch: &mut IBox,
 ) -> Result<bool, Memory>
-    requires { IsRecalled N.opening board.old }
+    requires recalled { IsRecalled N.opening board.old }
+    requires places { length scratch.old ≡ N.dims }
     ensures recalled { OnOk result (IsRecalled N.opening board.new) }
     ensures used { IfOk result (λ more. board.new.used ≡ board.old.used + one_if more) }
     ensures dry { IfOk result (λ more. more ≡ false → IsDry board.new) }
+    ensures places { length scratch.new ≡ N.dims }
 {
     let Some(ticket) = board.take() else {
         return Ok(false);
@@ -73,20 +76,22 @@ fn settle_taken<N: Naming, S: Settler, G: Gate>(
     gate: &G,
     board: &mut Board<N>,
     ticket: Ticket,
-    scratch: &mut Scratch<N>,
+    scratch: &mut IBox,
 ) -> Result<(), Memory>
     requires current { is_current board.old ticket ≡ true }
     requires there { IsSome (subtree board.old.tree ticket.path) }
+    requires places { length scratch.old ≡ N.dims }
     ensures used { OnOk result (board.new.used ≡ board.old.used + 1) }
     ensures settled { OnOk result (settled_in board.new.tree ≡ settled_in board.old.tree + 1) }
+    ensures places { length scratch.new ≡ N.dims }
 {
     let _used = board.used();
-    if !board.box_of(&ticket, &mut scratch.leaf) {
+    if !board.box_of(&ticket, scratch) {
         unreachable!()
     }
     let path = ticket.path();
     gate.enter(0, path);
-    let outcome = ruled.settle(alloc, &scratch.leaf, path)?;
+    let outcome = ruled.settle(alloc, scratch, path)?;
     let _children = board.settle(ticket, outcome);
     Ok(())
 }
