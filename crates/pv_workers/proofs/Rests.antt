@@ -1,6 +1,7 @@
 -- What the caller finds on a board.
-use Rattle.std.proofs.Common.{◌≡◌, inl, inr, ◌⊎◌, ℕ, suc, ◌+◌, ◌<◌, ◌≤◌, Bool, true, false, Some, List, [], ◌∷◌, refl, sym, ◌∙◌, ap, arith, subst}
-use Rattle.std.specs.Prelude.{nat_eq, ◌≢◌}
+use Rattle.std.proofs.Common.{◌≡◌, inl, inr, ◌⊎◌, ℕ, zero, suc, ◌+◌, ◌<◌, ◌≤◌, Bool, true, false, Some, List, [], ◌∷◌, refl, sym, ◌∙◌, ap, arith, subst}
+use Rattle.std.specs.Prelude.{nat_eq}
+use Rattle.std.proofs.lemmas.Bool.Decides.{eqb_tells}
 use Rattle.pv_interval.specs.Bounds.{Bounds}
 use Rattle.pv_tree.specs.Trees.{Tree, leaf, subtree, opens}
 use Rattle.pv_tree.specs.Stages.{Rule}
@@ -13,12 +14,8 @@ use Rattle.pv_board.proofs.Paths.{at_self}
 use Rattle.pv_workers.specs.Pavings.{IsSpent}
 use Rattle.pv_workers.specs.Boards.{IsRecalled}
 
-nat_same : (n : ℕ) → nat_eq n n ≡ true
-nat_same 0 = refl
-nat_same (suc n) = nat_same n
-
 nat_equal : (m n : ℕ) → m ≡ n → nat_eq m n ≡ true
-nat_equal m n e = subst (λ (k : ℕ). nat_eq m k ≡ true) e (nat_same m)
+nat_equal m n e = elim (eqb_tells m n) [ inl h ↦ h.0 | inr h ↦ absurd (h.1 e) ]
 
 -- a ticket that was just taken is current
 pub taken_current : (old new : Core) (t : Mark) → IsTake old new t → is_current new t ≡ true
@@ -68,3 +65,15 @@ stopped_over c p over h e = by_cases c.stopped (λ s.
     let d = over.dry (may_all c.stopped c.left s h) p e in
     let z = none_held c.marks p over.none in
     absurd (omega (arith, d, z)))
+
+no_units : (stopped : Bool) (left : ℕ) → left ≡ 0 → 0 < free_units stopped left → ⊥
+no_units true left e h = absurd (omega (arith, h))
+no_units false left e h = absurd (omega (arith, e, h))
+
+-- where all that was left was settled, nothing can be taken
+pub over_spent : (rule : Rule) (depth : ℕ) (root : List Bounds) (opening : Tree) (budget : ℕ) (old new : Core) → IsCore rule depth root opening budget old → IsCore rule depth root opening budget new
+    → issued old.marks ≡ 0 → issued new.marks ≡ 0 → new.used ≡ old.used + old.left → IsOver new
+over_spent rule depth root opening budget old new h k none gone used =
+    let a = h.conserved in let b = k.conserved in let g = none_granted old.marks none in
+    let z : new.left ≡ 0 = omega (arith, a, b, none, gone, g, used) in
+    record { none = gone; dry = λ may q e. absurd (no_units new.stopped new.left z may) }

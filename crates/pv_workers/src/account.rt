@@ -38,6 +38,14 @@ impl<N: Naming> Account<N> {
     {
         Account { told, scratch }
     }
+
+    // Its counts.
+    fn into_told(self) -> Told<N>
+        ensures { result ≡ self }
+    {
+        let Account { told, scratch: _ } = self;
+        told
+    }
 }
 
 /// A box of so many places.
@@ -90,12 +98,12 @@ pub(crate) fn joined<N: Naming>(accounts: Vec<Account<N>>) -> Told<N>
     ensures few { result.spent < 2 ^ 75 }
 {
     let mut rest = accounts;
-    let Some(Account { told, scratch: _ }) = rest.pop() else {
+    let Some(last) = rest.pop() else {
         unreachable!()
     };
-    let mut told = told;
+    let mut told = last.into_told();
     while let Some(account) = rest.pop() {
-        told.join(account.told);
+        told.join(account.into_told());
     }
     told
 }

@@ -80,7 +80,7 @@ impl<'a, N: Naming + Send, S: Settler, G: Gate> Work for Crew<'a, N, S, G> {
     }
 }
 
-impl<'a, N: Naming + Send, S: Settler, G: Gate> Crew<'a, N, S, G> {
+impl<'a, N: Naming, S: Settler, G: Gate> Crew<'a, N, S, G> {
     // Settles the leaf of a ticket. The tickets of a cut's children become `children`.
     fn settle<R: Wait>(
         &self,

@@ -43,6 +43,7 @@ pub(crate) fn settle_rest<N: Naming, S: Settler, G: Gate>(
             return Ok(settled);
         }
     }
+    let _used = board.used();
     Ok(left)
 }
 
@@ -112,8 +113,11 @@ pub(crate) fn close<N: Naming>(board: Board<N>) -> Result<Paving, Memory>
 {
     let left = board.left();
     let paving = board.into_paving();
-    if left > 0 && paving.first_open().is_some() {
-        return Err(Memory);
+    if left == 0 {
+        return Ok(paving);
     }
-    Ok(paving)
+    match paving.first_open() {
+        None => Ok(paving),
+        Some(_) => Err(Memory),
+    }
 }

@@ -1,6 +1,5 @@
 //! A settler whose rule is the one that a board is named for.
 ghost use Rattle.std.specs.Prelude.{◌≡◌, ◌-◌, length, IfOk};
-ghost use Rattle.pv_board.specs.Rules.{IsFitting};
 
 use pv_board::Naming;
 use pv_box::IBox;
@@ -17,7 +16,6 @@ pub(crate) struct Ruled<'a, N: Naming, S: Settler> {
     ghost rule: { N.rule ≡ S.settle_of settler.now },
     ghost depth: { N.depth ≡ S.depth_of settler.now },
     ghost dims: { N.dims ≡ S.dims settler.now },
-    ghost fits: { IsFitting N.rule N.depth N.dims },
 }
 
 impl<'a, N: Naming, S: Settler> Ruled<'a, N, S> {
@@ -26,7 +24,6 @@ impl<'a, N: Naming, S: Settler> Ruled<'a, N, S> {
         requires rule { N.rule ≡ S.settle_of settler.now }
         requires depth { N.depth ≡ S.depth_of settler.now }
         requires dims { N.dims ≡ S.dims settler.now }
-        requires fits { IsFitting N.rule N.depth N.dims }
     {
         Ruled {
             settler,

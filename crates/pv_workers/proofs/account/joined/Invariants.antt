@@ -1,14 +1,12 @@
-use Rattle.std.proofs.Common.{◌≡◌, ◌+◌, ◌-◌, ◌*◌, ◌^◌, ◌≤◌, length}
-use Rattle.pv_workers.specs.Accounts.{parts_in, AllBelow, numbers_of}
-use Rattle.pv_pool.specs.Counting.{AreBelow}
+use Rattle.std.proofs.Common.{◌≡◌, ◌+◌, ◌^◌, ◌≤◌, length}
+use Rattle.pv_workers.specs.Accounts.{parts_in, AllBelow, HasRoom}
 use Rattle.pv_workers.proofs.account.joined.Given as goal
 
 abbrev pub invariant-loop-account : goal.invariant-loop-account
 invariant-loop-account g l = record {
   parts : l.told.parts + parts_in l.rest.items ≡ parts_in l.fn.accounts.items;
   below : AllBelow (2 ^ 71) l.rest.items;
-  few : length l.rest.items ≤ 15;
-  low : AreBelow (2 ^ 71 * (16 - length l.rest.items)) (numbers_of l.told);
+  room : HasRoom (length l.rest.items) l.told;
 }
 
 abbrev pub decreases-loop-account : goal.decreases-loop-account
