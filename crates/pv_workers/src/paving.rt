@@ -1,5 +1,5 @@
 //! Paving on a budget by several workers.
-ghost use Rattle.std.specs.Prelude.{◌≡◌, ◌+◌, ◌*◌, ◌^◌, ◌<◌, ◌≤◌, length, IfOk};
+ghost use Rattle.std.specs.Prelude.{◌≡◌, ◌+◌, ◌*◌, ◌^◌, ◌<◌, ◌≤◌, ℕ, length, IfOk};
 ghost use Rattle.pv_tree.specs.Trees.{Tree, Paves};
 ghost use Rattle.pv_tree.specs.Stages.{IsStage};
 ghost use Rattle.pv_board.specs.Marks.{issued};
@@ -69,9 +69,17 @@ pub fn pave<S: Settler + Sync, G: Gate + Sync, R: Threads + Wait + Sync>(
         Blank::new(32),
         Blank::new(32),
     )?;
-    let _sides = paved.paving.dims();
-    paved.paving.learn_stages(settler);
+    learn_paved(&paved.paving, settler);
     Ok(paved)
+}
+
+// Does nothing. Its contract is what a stage is that spent a budget, or closed before.
+fn learn_paved<S: Settler>(paving: &Paving, settler: &S)
+    requires { length paving.now.root ≡ S.dims settler.now }
+    ensures { (opening : Tree) (budget : ℕ) → Paves paving.now.root opening → IsStage (S.settle_of settler.now) (S.depth_of settler.now) paving.now.root opening paving.now.tree → IsSpent budget opening paving.now.tree → IsPaved (S.settle_of settler.now) (S.depth_of settler.now) paving.now.root opening budget paving.now.tree }
+{
+    let _places = paving.dims();
+    let _depth = settler.depth();
 }
 
 // The same under a name for the board and its ledgers.

@@ -1,4 +1,4 @@
-use Rattle.std.proofs.Common.{◌≡◌, ◌+◌, ◌^◌, [], ◌∷◌, ◌++◌, sym, ◌∙◌, ap, arith, subst}
+use Rattle.std.proofs.Common.{◌≡◌, ◌+◌, ◌^◌, ◌≤◌, [], ◌∷◌, ◌++◌, sym, ◌∙◌, ap, arith, subst}
 use Rattle.pv_board.specs.Tallies.{Tally, joined}
 use Rattle.pv_workers.specs.Accounts.{parts_in, AllBelow, HasRoom}
 use Rattle.pv_workers.proofs.Counts.{Joins, parts_push, below_first, room_first, room_more, can_join}
@@ -14,7 +14,7 @@ loop-account-init g c =
     record {
       parts = omega (arith, p, q);
       below = below_first (2 ^ 71) ts t (subst (AllBelow (2 ^ 71)) e c.requires.below);
-      room = subst (HasRoom _) same (room_first ts us t e c.requires.sixteen c.requires.below);
+      room = subst (HasRoom _) same (room_first ts us t e (subst (λ n. n ≤ 16) c.args.accounts.ok.0 c.requires.sixteen) c.requires.below);
     }
 
 pub join-requires-clause-looks : goal.join-requires-clause-looks

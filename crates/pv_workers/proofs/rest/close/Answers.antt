@@ -1,5 +1,5 @@
-use Rattle.std.proofs.Common.{◌≡◌, ◌<◌, ◌∙◌, sym, ap, arith, subst}
-use Rattle.pv_tree.specs.Trees.{Tree, subtree}
+use Rattle.std.proofs.Common.{◌≡◌, ◌<◌, Some, ◌∙◌, sym, arith, subst}
+use Rattle.pv_tree.specs.Trees.{Tree, leaf, subtree}
 use Rattle.pv_workers.specs.Pavings.{IsSpent}
 use Rattle.pv_workers.proofs.Rests.{spent_all, stopped_over}
 use Rattle.pv_workers.proofs.rest.close.Goals as goal
@@ -11,4 +11,7 @@ returns-then-left-eq0-clause-spent g c =
     (spent_all n.rule n.depth n.root n.opening n.budget c.args.board c.left-left.ensures.core c.requires.recalled (sym c.left-left.ensures.left ∙ c.if-left-eq0.true))
 
 pub returns-in-Some-clause-stopped : goal.returns-in-Some-clause-stopped
-returns-in-Some-clause-stopped g c = ?
+returns-in-Some-clause-stopped g c =
+    let some : 0 < c.args.board.left = omega (arith, c.if-left-eq0.false, c.left-left.ensures.left) in
+    stopped_over c.args.board c.in-Some.field-0 c.requires.over some
+    (subst (λ (t : Tree). subtree t c.in-Some.field-0 ≡ Some leaf) c.into_paving-paving.ensures.tree c.in-Some.ensures.is_open)
