@@ -1,0 +1,5 @@
+pub mod Budgets
+pub mod Rests
+pub mod Below
+pub mod Counts
+pub mod Laws
