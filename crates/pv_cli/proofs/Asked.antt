@@ -59,7 +59,8 @@ bad_value name rows (inl c) (inl none) = absurd (none.0 c)
 bad_value name rows (inr (inl c)) (inl none) = absurd (none.1 c)
 bad_value name rows (inr (inr (inl c))) (inl none) = absurd (none.2 c)
 bad_value name rows (inr (inr (inr (inl c)))) (inl none) = absurd (none.3 c)
-bad_value name rows (inr (inr (inr (inr c)))) (inl none) = absurd (none.4 c)
+bad_value name rows (inr (inr (inr (inr (inl c))))) (inl none) = absurd (none.4 c)
+bad_value name rows (inr (inr (inr (inr (inr c))))) (inl none) = absurd (none.5 c)
 bad_value name rows is (inr bad) = bad
 
 refuses_command : (words : List Text) (p : Text × List Row) (r : Refusal) → subcommand_of paver_app words ≡ Some p → IsACommand p.0 → RefusesCommand p.0 p.1 r → RefusesWords words r

@@ -16,7 +16,8 @@ use Rattle.pv_cli.specs.Commands.{paver_app}
 
 abbrev pub IsACommand : Text → Type 0
 IsACommand name =
-    (name ≡ codes "check") ⊎ ((name ≡ codes "run") ⊎ ((name ≡ codes "resume") ⊎ ((name ≡ codes "merge") ⊎ (name ≡ codes "audit"))))
+    (name ≡ codes "check") ⊎ ((name ≡ codes "run") ⊎ ((name ≡ codes "resume") ⊎ ((name ≡ codes "merge")
+    ⊎ ((name ≡ codes "audit") ⊎ (name ≡ codes "svg")))))
 
 abbrev pub IsKnown : Option (Text × List Row) → Type 0
 IsKnown None = ⊥
@@ -60,23 +61,24 @@ entered_among : (a : App) (stop : Option (Text × List Text)) → IsFoundIn (map
 entered_among a None = tt
 entered_among a (Some p) = found_among (λ s. answers_to p.0 (label_of s)) a.subs p.1
 
-five_names : map (λ (s : Shape). s.name) (built paver_app).subs ≡ codes "check" ∷ codes "run" ∷ codes "resume" ∷ codes "merge" ∷ codes "audit" ∷ []
+six_names : map (λ (s : Shape). s.name) (built paver_app).subs ≡ codes "check" ∷ codes "run" ∷ codes "resume" ∷ codes "merge" ∷ codes "audit" ∷ codes "svg" ∷ []
 unfolding clap_on_literals paver_app
-five_names = refl
+six_names = refl
 
 needs_one : (built paver_app).top.subcommand_required ≡ true
 unfolding clap_on_literals paver_app
 needs_one = refl
 
-is_a_command : (name : Text) → IsAmongNames name (codes "check" ∷ codes "run" ∷ codes "resume" ∷ codes "merge" ∷ codes "audit" ∷ []) → IsACommand name
+is_a_command : (name : Text) → IsAmongNames name (codes "check" ∷ codes "run" ∷ codes "resume" ∷ codes "merge" ∷ codes "audit" ∷ codes "svg" ∷ []) → IsACommand name
 is_a_command name (inl e) = inl e
 is_a_command name (inr (inl e)) = inr (inl e)
 is_a_command name (inr (inr (inl e))) = inr (inr (inl e))
 is_a_command name (inr (inr (inr (inl e)))) = inr (inr (inr (inl e)))
-is_a_command name (inr (inr (inr (inr (inl e))))) = inr (inr (inr (inr e)))
-is_a_command name (inr (inr (inr (inr (inr none))))) = absurd none
+is_a_command name (inr (inr (inr (inr (inl e))))) = inr (inr (inr (inr (inl e))))
+is_a_command name (inr (inr (inr (inr (inr (inl e)))))) = inr (inr (inr (inr (inr e))))
+is_a_command name (inr (inr (inr (inr (inr (inr none)))))) = absurd none
 
-is_known : (o : Option (Text × List Row)) → is_some o ≡ true → IsFoundIn (codes "check" ∷ codes "run" ∷ codes "resume" ∷ codes "merge" ∷ codes "audit" ∷ []) o → IsKnown o
+is_known : (o : Option (Text × List Row)) → is_some o ≡ true → IsFoundIn (codes "check" ∷ codes "run" ∷ codes "resume" ∷ codes "merge" ∷ codes "audit" ∷ codes "svg" ∷ []) o → IsKnown o
 is_known None e h = absurd (cc)
 is_known (Some p) e h = is_a_command p.0 h
 
@@ -104,4 +106,4 @@ meets a words needs none = level_meets a.top (names_of a) nothing_held words _ _
 pub known : (words : List Text) → fault_of paver_app words ≡ [] → IsKnown (subcommand_of paver_app words)
 known words none =
     is_known (subcommand_of paver_app words) (meets (built paver_app) (argument_words paver_app words) needs_one none)
-    (subst (λ (names : List Text). IsFoundIn names (subcommand_of paver_app words)) five_names (entered_among (built paver_app) _))
+    (subst (λ (names : List Text). IsFoundIn names (subcommand_of paver_app words)) six_names (entered_among (built paver_app) _))

@@ -14,3 +14,5 @@ pub mod Earlier
 pub mod Refused
 pub mod Merges
 pub mod StatusLaws
+mod Levels
+mod Drawn

@@ -9,17 +9,17 @@ use Rattle.pv_tree.specs.Trees.{Tree, leaf, opens}
 use Rattle.pv_settle.specs.Rules.{SettlerParts}
 use Rattle.pv_settle.specs.Spelling.{identity_of}
 use Rattle.pv_cli.specs.Commands.{paver_app}
-use Rattle.pv_cli.specs.Requests.{names_in, out_of, paving_names, AreSettings, IsEffort, ArePavings, HasBadSetting, bad_eps, bad_depth, bad_bisector, HasBadEffort, bad_workers, bad_boxes, HasManyPavings, HasBadValue, in_run, in_resume, in_merge, in_audit, IsAskedBy, IsAsked, Asks, HasBadValueIn, AreRefused}
+use Rattle.pv_cli.specs.Requests.{names_in, out_of, paving_names, AreSettings, IsEffort, ArePavings, HasBadSetting, bad_eps, bad_depth, bad_bisector, HasBadEffort, bad_workers, bad_boxes, HasManyPavings, HasBadValue, in_run, in_resume, in_merge, in_audit, in_svg, IsAskedBy, IsAsked, Asks, HasBadValueIn, AreRefused}
 use Rattle.pv_cli.specs.Refusals.{status_of, line_of}
 use Rattle.pv_cli.specs.Systems.{Files, HasRule, search_box}
 use Rattle.pv_cli.specs.Files.{RefusesPaving, RefusesPavings}
 use Rattle.pv_cli.specs.Products.{Product, text, paved, HasStatus, IsHonest, AreStages, ComesOf, ComesOfRun, ComesOfResume, ComesOfMerge, RefusesWork}
 use Rattle.pv_cli.specs.Ends.{Stream, Outside, AreUntouched, IsKept, RefusesDelivery, RefusesWords, IsRefusedSo, in_words, in_request, IsTold, Tells}
-use Rattle.pv_cli.specs.StatusLaws.{full_by, IsFullRun, IsFullResume, IsClosedJoin, IsWhole, DoneIsWhole, IsPartRun, IsPartResume, IsOpenJoin, IsPart, OpenLeftIsPart, IsEarly, IsCause, IsRefusedEarly, EarlyIsUntouched, IsUnstored, IsUnprinted, IsUnwritten, WriteFaultIsUnwritten, IsCutOffText, MemoryLeaves, OthersStay, AskingIsNotRefused, IsWordsRefused, RefusedWordsEnd, HasBadContract, UsageIsOfWords}
+use Rattle.pv_cli.specs.StatusLaws.{full_by, IsFullRun, IsFullResume, IsClosedJoin, IsWhole, DoneIsWhole, IsPartRun, IsPartResume, IsOpenJoin, IsPart, OpenLeftIsPart, IsEarly, IsCause, IsRefusedEarly, EarlyIsUntouched, IsUnstored, IsUnprinted, IsUnwritten, WriteFaultIsUnwritten, IsCutOffText, MemoryLeaves, OthersStay, AskingIsNotRefused, IsWordsRefused, RefusedWordsEnd, HasBadContract, HasBadPlane, UsageIsOfWords}
 use Rattle.pv_cli.specs.declared.request.Settings.{Settings}
 use Rattle.pv_cli.specs.declared.request.Effort.{Effort}
 use Rattle.pv_cli.specs.declared.request.Request.{Request}
-use Rattle.pv_cli.specs.declared.request.Request.TheVariants.{Check, Run, Resume, Merge, Audit}
+use Rattle.pv_cli.specs.declared.request.Request.TheVariants.{Check, Run, Resume, Merge, Audit, Svg}
 use Rattle.pv_cli.specs.declared.refusal.Refusal.{Refusal}
 use Rattle.pv_cli.specs.declared.refusal.Refusal.TheVariants.{Usage, System, Contract, NoFile, ReadFault, Paving, NotStored, NotPrinted, Memory, TreeLimit, Disagree, Differs}
 use Rattle.pv_cli.specs.declared.status.Status.{Status}
@@ -117,6 +117,7 @@ whole_of before (Run system settings effort out) p h done = full_run before _ se
 whole_of before (Resume system pavings settings effort out) p h done = full_resume before _ _ settings _ p h done
 whole_of before (Merge system pavings settings out) p h done = closed_join before _ _ settings p h done
 whole_of before (Audit system paving settings) p h done = h
+whole_of before (Svg system paving settings view) p h done = h
 
 pub done_is_whole : DoneIsWhole
 done_is_whole words before after (inl d) = record {
@@ -187,6 +188,7 @@ part_of before (Run system settings effort out) p h left = part_run before _ set
 part_of before (Resume system pavings settings effort out) p h left = part_resume before _ _ settings _ p h left
 part_of before (Merge system pavings settings out) p h left = open_join before _ _ settings p h left
 part_of before (Audit system paving settings) p h left = no_text p _ h.is left
+part_of before (Svg system paving settings view) p h left = no_text p _ h.is left
 
 pub open_left_is_part : OpenLeftIsPart
 open_left_is_part words before after (inl d) = record {
@@ -207,21 +209,6 @@ module _ (before after : Files) where
   no_files rule r memory one (n ∷ names) (inl h) = one n h
   no_files rule r memory one (n ∷ names) (inr h) = no_files rule r memory one names h.2
 
-  usage_or_memory : Usage ≡ Memory → ⊥
-  usage_or_memory e = cc
-
-  no_work_usage : (q : Request) → RefusesWork before after q Usage → ⊥
-  no_work_usage (Check system) h = h
-  no_work_usage (Run system settings effort out) h = h
-  no_work_usage (Resume system pavings settings effort out) (inl h) = h
-  no_work_usage (Resume system pavings settings effort out) (inr (inl h)) = no_files h.rule Usage usage_or_memory (λ n k. k) (names_in pavings.items) h.refused
-  no_work_usage (Resume system pavings settings effort out) (inr (inr h)) = h.refused
-  no_work_usage (Merge system pavings settings out) (inl h) = h
-  no_work_usage (Merge system pavings settings out) (inr (inl h)) = no_files h.rule Usage usage_or_memory (λ n k. k) (names_in pavings.items) h.refused
-  no_work_usage (Merge system pavings settings out) (inr (inr h)) = h.refused
-  no_work_usage (Audit system paving settings) (inl h) = h
-  no_work_usage (Audit system paving settings) (inr h) = no_files h.rule Usage usage_or_memory (λ n k. k) (paving.now ∷ []) h.refused
-
   stored_or_memory : (n : Bor Text) → NotStored n ≡ Memory → ⊥
   stored_or_memory n e = cc
 
@@ -236,6 +223,8 @@ module _ (before after : Files) where
   no_work_stored (Merge system pavings settings out) m (inr (inr h)) = h.refused
   no_work_stored (Audit system paving settings) m (inl h) = h
   no_work_stored (Audit system paving settings) m (inr h) = no_files h.rule (NotStored m) (stored_or_memory m) (λ n k. k) (paving.now ∷ []) h.refused
+  no_work_stored (Svg system paving settings view) m (inl h) = h
+  no_work_stored (Svg system paving settings view) m (inr h) = h.refused
 
   printed_or_memory : NotPrinted ≡ Memory → ⊥
   printed_or_memory e = cc
@@ -251,6 +240,8 @@ module _ (before after : Files) where
   no_work_printed (Merge system pavings settings out) (inr (inr h)) = h.refused
   no_work_printed (Audit system paving settings) (inl h) = h
   no_work_printed (Audit system paving settings) (inr h) = no_files h.rule NotPrinted printed_or_memory (λ n k. k) (paving.now ∷ []) h.refused
+  no_work_printed (Svg system paving settings view) (inl h) = h
+  no_work_printed (Svg system paving settings view) (inr h) = h.refused
 
   no_delivery : (out : Option Text) (p : Product) (x y : Stream) (r : Refusal) → IsEarly (status_of r) → RefusesDelivery out p before after x y r → ⊥
   no_delivery out p x y Usage early h = h
@@ -462,24 +453,35 @@ asked_is_good command rows (Check system) h (in_run e b) = one_name command (cod
 asked_is_good command rows (Check system) h (in_resume e b) = one_name command (codes "check") (codes "resume") refl h.0 e
 asked_is_good command rows (Check system) h (in_merge e b) = one_name command (codes "check") (codes "merge") refl h.0 e
 asked_is_good command rows (Check system) h (in_audit e b) = one_name command (codes "check") (codes "audit") refl h.0 e
+asked_is_good command rows (Check system) h (in_svg e b) = one_name command (codes "check") (codes "svg") refl h.0 e
 asked_is_good command rows (Run system settings effort out) h (in_run e b) = work_is_good rows settings effort h.2 h.3 b
 asked_is_good command rows (Run system settings effort out) h (in_resume e b) = one_name command (codes "run") (codes "resume") refl h.0 e
 asked_is_good command rows (Run system settings effort out) h (in_merge e b) = one_name command (codes "run") (codes "merge") refl h.0 e
 asked_is_good command rows (Run system settings effort out) h (in_audit e b) = one_name command (codes "run") (codes "audit") refl h.0 e
+asked_is_good command rows (Run system settings effort out) h (in_svg e b) = one_name command (codes "run") (codes "svg") refl h.0 e
 asked_is_good command rows (Resume system pavings settings effort out) h (in_resume e (inl b)) = pavings_are_few rows pavings.items h.2 b
 asked_is_good command rows (Resume system pavings settings effort out) h (in_resume e (inr b)) = work_is_good rows settings effort h.3 h.4 b
 asked_is_good command rows (Resume system pavings settings effort out) h (in_run e b) = one_name command (codes "resume") (codes "run") refl h.0 e
 asked_is_good command rows (Resume system pavings settings effort out) h (in_merge e b) = one_name command (codes "resume") (codes "merge") refl h.0 e
 asked_is_good command rows (Resume system pavings settings effort out) h (in_audit e b) = one_name command (codes "resume") (codes "audit") refl h.0 e
+asked_is_good command rows (Resume system pavings settings effort out) h (in_svg e b) = one_name command (codes "resume") (codes "svg") refl h.0 e
 asked_is_good command rows (Merge system pavings settings out) h (in_merge e (inl b)) = pavings_are_few rows pavings.items h.2 b
 asked_is_good command rows (Merge system pavings settings out) h (in_merge e (inr b)) = settings_are_good rows settings h.3 b
 asked_is_good command rows (Merge system pavings settings out) h (in_run e b) = one_name command (codes "merge") (codes "run") refl h.0 e
 asked_is_good command rows (Merge system pavings settings out) h (in_resume e b) = one_name command (codes "merge") (codes "resume") refl h.0 e
 asked_is_good command rows (Merge system pavings settings out) h (in_audit e b) = one_name command (codes "merge") (codes "audit") refl h.0 e
+asked_is_good command rows (Merge system pavings settings out) h (in_svg e b) = one_name command (codes "merge") (codes "svg") refl h.0 e
 asked_is_good command rows (Audit system paving settings) h (in_audit e b) = settings_are_good rows settings h.3 b
 asked_is_good command rows (Audit system paving settings) h (in_run e b) = one_name command (codes "audit") (codes "run") refl h.0 e
 asked_is_good command rows (Audit system paving settings) h (in_resume e b) = one_name command (codes "audit") (codes "resume") refl h.0 e
 asked_is_good command rows (Audit system paving settings) h (in_merge e b) = one_name command (codes "audit") (codes "merge") refl h.0 e
+asked_is_good command rows (Audit system paving settings) h (in_svg e b) = one_name command (codes "audit") (codes "svg") refl h.0 e
+asked_is_good command rows (Svg system paving settings view) h (in_svg e (inl b)) = b view.at.items h.4.at
+asked_is_good command rows (Svg system paving settings view) h (in_svg e (inr b)) = settings_are_good rows settings h.3 b
+asked_is_good command rows (Svg system paving settings view) h (in_run e b) = one_name command (codes "svg") (codes "run") refl h.0 e
+asked_is_good command rows (Svg system paving settings view) h (in_resume e b) = one_name command (codes "svg") (codes "resume") refl h.0 e
+asked_is_good command rows (Svg system paving settings view) h (in_merge e b) = one_name command (codes "svg") (codes "merge") refl h.0 e
+asked_is_good command rows (Svg system paving settings view) h (in_audit e b) = one_name command (codes "svg") (codes "audit") refl h.0 e
 
 found_is_good : (found : Option (Text × List Row)) (q : Request) → IsAsked found q → HasBadValueIn found → ⊥
 found_is_good None q h b = h
@@ -532,12 +534,12 @@ IsUsage status.KeeperFault = ⊥
 IsUsage status.NoFile = ⊥
 
 usage_so : (words : List Text) (before after : Outside) (r : Refusal) → IsUsage (status_of r) → IsRefusedSo words before after r
-    → AreRefused words ⊎ HasBadContract words before.files after.files
+    → AreRefused words ⊎ (HasBadContract words before.files after.files ⊎ HasBadPlane words before.files after.files)
 usage_so words before after Usage u (in_words h same) = inl h
-usage_so words before after Usage u (in_request q asks (inl work)) = absurd (no_work_usage before.files after.files q work.0)
+usage_so words before after Usage u (in_request q asks (inl work)) = inr (inr (record { request = q; asks = asks; refused = work.0 }))
 usage_so words before after Usage u (in_request q asks (inr f)) = absurd f.refused
 usage_so words before after (Contract byte) u (in_words h same) = absurd h
-usage_so words before after (Contract byte) u (in_request q asks (inl work)) = inr (record { request = q; asks = asks; byte = byte; refused = work.0 })
+usage_so words before after (Contract byte) u (in_request q asks (inl work)) = inr (inl (record { request = q; asks = asks; byte = byte; refused = work.0 }))
 usage_so words before after (Contract byte) u (in_request q asks (inr f)) = absurd f.refused
 usage_so words before after (System line column byte cause) u so = absurd u
 usage_so words before after (NoFile n) u so = absurd u
@@ -551,7 +553,7 @@ usage_so words before after (Disagree p a b) u so = absurd u
 usage_so words before after (Differs p a b) u so = absurd u
 
 usage_told : (words : List Text) (before after : Outside) (r : Refusal) → IsRefusedSo words before after r → Tells r status.Usage before.err after.err
-    → AreRefused words ⊎ HasBadContract words before.files after.files
+    → AreRefused words ⊎ (HasBadContract words before.files after.files ⊎ HasBadPlane words before.files after.files)
 usage_told words before after r so (inl told) = usage_so words before after r (subst IsUsage told.0 tt) so
 usage_told words before after r so (inr memory) = absurd (subst IsUsage memory.0 tt)
 

@@ -22,6 +22,13 @@ words_rule name = record (new_rule name) {
 abbrev pub option_rule : Text → Rule
 option_rule name = record (new_rule name) { long = Some name; action = Some Set }
 
+-- the same, where it has to be there
+abbrev pub axis_rule : Text → Rule
+axis_rule name = record (new_rule name) { required = true; long = Some name; action = Some Set }
+
+abbrev pub with_axis : Text → App → App
+with_axis name a = with_rule a (axis_rule name)
+
 abbrev pub with_option : Text → App → App
 with_option name a = with_rule a (option_rule name)
 
@@ -65,7 +72,10 @@ merge_app = with_out (with_settings (pavings_app (codes "merge")))
 abbrev pub audit_app : App
 audit_app = with_settings (paving_app (codes "audit"))
 
+abbrev pub svg_app : App
+svg_app = with_option (codes "at") (with_axis (codes "y") (with_axis (codes "x") (with_settings (paving_app (codes "svg")))))
+
 unfoldable pub paver_app : App
 paver_app =
-    with_subcommand (with_subcommand (with_subcommand (with_subcommand (with_subcommand top_app check_app.top) run_app.top)
-    resume_app.top) merge_app.top) audit_app.top
+    with_subcommand (with_subcommand (with_subcommand (with_subcommand (with_subcommand (with_subcommand top_app check_app.top)
+    run_app.top) resume_app.top) merge_app.top) audit_app.top) svg_app.top

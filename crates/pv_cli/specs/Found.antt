@@ -1,8 +1,9 @@
 -- What clap found for the words, as the reader of requests sees it on its way.
-use Rattle.std.specs.Prelude.{◌≢◌, ◌⊎◌, List, Option, Some, None, codes}
+use Rattle.std.specs.Prelude.{◌≡◌, ◌≢◌, ◌⊎◌, ◌++◌, List, [], ◌∷◌, Option, Some, None, codes}
 use Rattle.clap.specs.Words.{Row, Text, found_of, rows_of}
 use Rattle.clap.specs.declared.parser.matches.ArgMatches.{ArgMatches}
-use Rattle.pv_cli.specs.Requests.{HasBadValue}
+use Rattle.pv_num.specs.Extended.{Extended}
+use Rattle.pv_cli.specs.Requests.{IsLevel, HasBadValue}
 use Rattle.pv_cli.specs.declared.refusal.Refusal.{Refusal}
 use Rattle.pv_cli.specs.declared.refusal.Refusal.TheVariants.{Usage, Memory}
 
@@ -18,6 +19,7 @@ RefusesValues bad _ = ⊥
 abbrev pub IsNoCommand : Text → Type 0
 IsNoCommand name =
     (name ≢ codes "check") × (name ≢ codes "run") × (name ≢ codes "resume") × (name ≢ codes "merge") × (name ≢ codes "audit")
+    × (name ≢ codes "svg")
 
 abbrev pub RefusesCommand : Text → List Row → Refusal → Type 0
 RefusesCommand name rows Usage = IsNoCommand name ⊎ HasBadValue name rows
@@ -28,3 +30,9 @@ abbrev pub RefusesFound : Option (Text × List Row) → Refusal → Type 0
 RefusesFound None Usage = Unit {0}
 RefusesFound None _ = ⊥
 RefusesFound (Some p) r = RefusesCommand p.0 p.1 r
+
+-- the number of a word was added behind others
+pub record EndsWithLevel (word : Text) (before after : List Extended) : Type 0 where
+  pub number : Extended
+  pub is : IsLevel word number
+  pub added : after ≡ before ++ number ∷ []

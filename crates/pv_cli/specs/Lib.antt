@@ -6,11 +6,13 @@ pub mod Refusals
 pub mod Systems
 pub mod Files
 pub mod Pavings
+pub mod Views
 pub mod Products
 pub mod Made
 pub mod Ends
 pub mod Reads
 pub mod Printing
+pub mod Scenes
 pub mod Turns
 pub mod Telling
 pub mod Resumed

@@ -18,12 +18,17 @@ use Rattle.pv_file.specs.declared.version.Version.TheVariants.{One, Two}
 use Rattle.pv_cli.specs.Requests.{names_in}
 use Rattle.pv_cli.specs.Systems.{Files, HasSystem, HasRule, RefusesSystem, RefusesRule, search_box}
 use Rattle.pv_cli.specs.Pavings.{IsPaved, HoldInside, settled_in}
-use Rattle.pv_cli.specs.Files.{HasPaving, AllTrees, HasOpening, HasBadFile, RefusesOpening}
+use Rattle.pv_svg.specs.Planes.{Plane}
+use Rattle.pv_svg.specs.Rectangles.{picture_of}
+use Rattle.pv_svg.specs.Texts.{picture_text}
+use Rattle.pv_cli.specs.Views.{IsPlaneOf, HasNoPlane, IsSoundFor}
+use Rattle.pv_cli.specs.Files.{HasPaving, RefusesPaving, AllTrees, HasOpening, HasBadFile, RefusesOpening}
 use Rattle.pv_cli.specs.declared.request.Settings.{Settings}
+use Rattle.pv_cli.specs.declared.request.View.{View}
 use Rattle.pv_cli.specs.declared.request.Request.{Request}
-use Rattle.pv_cli.specs.declared.request.Request.TheVariants.{Check, Run, Resume, Merge, Audit}
+use Rattle.pv_cli.specs.declared.request.Request.TheVariants.{Check, Run, Resume, Merge, Audit, Svg}
 use Rattle.pv_cli.specs.declared.refusal.Refusal.{Refusal}
-use Rattle.pv_cli.specs.declared.refusal.Refusal.TheVariants.{TreeLimit, Differs}
+use Rattle.pv_cli.specs.declared.refusal.Refusal.TheVariants.{Usage, TreeLimit, Differs}
 use Rattle.pv_cli.specs.declared.status.Status.{Status}
 use Rattle.pv_cli.specs.declared.status.Status.TheVariants.{Done, OpenLeft}
 
@@ -114,6 +119,18 @@ pub record ComesOfAudit (before : Files) (system name : Text) (s : Settings) (p 
   pub honest : IsHonest s rule tree
   pub is : p ≡ text (codes "honest" ++ 10 ∷ [])
 
+-- `svg` gives the picture of the file's paving on a plane. Where the paving is a stage of the open search box, the
+-- picture is sound for the set that the program speaks of.
+pub record ComesOfSvg (before : Files) (system name : Text) (s : Settings) (v : View) (p : Product) : Type 0 where
+  pub rule : SettlerParts
+  pub read : HasRule before system s rule
+  pub plane : Plane
+  pub shown : IsPlaneOf rule.system v.x.now v.y.now v.at.items plane
+  pub tree : Tree
+  pub held : HasPaving before rule name tree
+  pub sound : IsStage (settle_by rule) rule.depth (search_box rule) leaf tree → IsSoundFor (is_member rule) plane (search_box rule) tree
+  pub is : p ≡ text (picture_text (picture_of plane (search_box rule) tree))
+
 -- what comes of a request
 abbrev pub ComesOf : Files → Request → Product → Type 0
 ComesOf before (Check system) p = ComesOfCheck before system.now p
@@ -122,6 +139,7 @@ ComesOf before (Resume system pavings settings effort out) p =
     ComesOfResume before system.now (names_in pavings.items) settings effort.boxes p
 ComesOf before (Merge system pavings settings out) p = ComesOfMerge before system.now (names_in pavings.items) settings p
 ComesOf before (Audit system paving settings) p = ComesOfAudit before system.now paving.now settings p
+ComesOf before (Svg system paving settings view) p = ComesOfSvg before system.now paving.now settings view p
 
 -- ---- Why nothing comes of them
 
@@ -154,6 +172,25 @@ abbrev pub RefusesAudit : Files → Files → Text → Text → Settings → Ref
 RefusesAudit before after system name s (Differs path file due) = HasDifference before system name s path file.items due.items
 RefusesAudit before after system name s r = RefusesRule before after system s r ⊎ HasBadFile before after system (name ∷ []) s r
 
+-- the system has no such plane
+pub record HasNoPlaneIn (before : Files) (system : Text) (s : Settings) (v : View) : Type 0 where
+  pub rule : SettlerParts
+  pub read : HasRule before system s rule
+  pub none : HasNoPlane rule.system v.x.now v.y.now v.at.items
+
+-- it has the plane, and the file is refused
+pub record HasNoPicture (before after : Files) (system name : Text) (s : Settings) (v : View) (r : Refusal) : Type 0 where
+  pub rule : SettlerParts
+  pub read : HasRule before system s rule
+  pub plane : Plane
+  pub shown : IsPlaneOf rule.system v.x.now v.y.now v.at.items plane
+  pub refused : RefusesPaving before after rule name r
+
+-- why there is no picture: the first refusal of the system, of its settings, of the plane and of the file
+abbrev pub RefusesSvg : Files → Files → Text → Text → Settings → View → Refusal → Type 0
+RefusesSvg before after system name s v Usage = HasNoPlaneIn before system s v
+RefusesSvg before after system name s v r = RefusesRule before after system s r ⊎ HasNoPicture before after system name s v r
+
 abbrev pub RefusesWork : Files → Files → Request → Refusal → Type 0
 RefusesWork before after (Check system) r = RefusesSystem before after system.now r
 RefusesWork before after (Run system settings effort out) r = RefusesRule before after system.now settings r
@@ -162,3 +199,4 @@ RefusesWork before after (Resume system pavings settings effort out) r =
 RefusesWork before after (Merge system pavings settings out) r =
     RefusesJoined before after system.now (names_in pavings.items) settings 0 r
 RefusesWork before after (Audit system paving settings) r = RefusesAudit before after system.now paving.now settings r
+RefusesWork before after (Svg system paving settings view) r = RefusesSvg before after system.now paving.now settings view r

@@ -1,5 +1,5 @@
 -- What the words of a command ask for.
-use Rattle.std.specs.Prelude.{◌≡◌, ◌≢◌, ◌⊎◌, ℕ, ◌<◌, ◌≤◌, ℤ, List, [], Option, Some, None, codes, length, map, option_map, unwrap_or}
+use Rattle.std.specs.Prelude.{◌≡◌, ◌≢◌, ◌⊎◌, ℕ, ◌<◌, ◌≤◌, ◌==◌, ℤ, neg_ℤ, Bool, if◌then◌else◌, List, [], ◌∷◌, Option, Some, None, codes, drop, length, map, option_map, slice_index, slice_split, unwrap_or}
 use Rattle.std.specs.Str.Parse.{digits_value, AllDigits}
 use Rattle.clap.specs.Words.{Row, Text, first_of, all_of, fault_of, subcommand_of}
 use Rattle.std.specs.Borrow.{Bor}
@@ -12,8 +12,9 @@ use Rattle.pv_tokens.specs.Numbers.{IsRead}
 use Rattle.pv_cli.specs.Commands.{paver_app}
 use Rattle.pv_cli.specs.declared.request.Settings.{Settings}
 use Rattle.pv_cli.specs.declared.request.Effort.{Effort}
+use Rattle.pv_cli.specs.declared.request.View.{View}
 use Rattle.pv_cli.specs.declared.request.Request.{Request}
-use Rattle.pv_cli.specs.declared.request.Request.TheVariants.{Check, Run, Resume, Merge, Audit}
+use Rattle.pv_cli.specs.declared.request.Request.TheVariants.{Check, Run, Resume, Merge, Audit, Svg}
 
 -- one to ten digits, and the number that they write
 pub record IsDigits (t : Text) (n : ℕ) : Type 0 where
@@ -33,6 +34,33 @@ pub record IsWidth (t : Text) (n : Extended) : Type 0 where
   pub ratio : ℤ × ℕ
   pub read : IsRead t ratio
   pub rounded : n ≡ ratio_of Down ratio.0 ratio.1
+
+-- a minus before a number, and what stands behind it
+abbrev pub has_minus : Text → Bool
+has_minus t = slice_index t 0 == 45
+
+abbrev pub behind_minus : Text → Text
+behind_minus t = if has_minus t then drop 1 t else t
+
+abbrev pub with_minus : Bool → ℤ → ℤ
+with_minus minus p = if minus then neg_ℤ p else p
+
+-- an unsigned number with or without a minus before it, rounded down
+pub record IsLevel (t : Text) (n : Extended) : Type 0 where
+  pub ratio : ℤ × ℕ
+  pub read : IsRead (behind_minus t) ratio
+  pub rounded : n ≡ ratio_of Down (with_minus (has_minus t) ratio.0) ratio.1
+
+-- the words between commas
+abbrev pub words_between : Text → List Text
+words_between t = slice_split (λ c. c == 44) t
+
+-- such a number for each word
+abbrev pub AreLevels : List Text → List Extended → Type 0
+AreLevels [] [] = Unit {0}
+AreLevels [] (n ∷ ns) = ⊥
+AreLevels (t ∷ ts) [] = ⊥
+AreLevels (t ∷ ts) (n ∷ ns) = IsLevel t n × AreLevels ts ns
 
 abbrev pub bisector_name : Bisector → Text
 bisector_name Largest = codes "largest"
@@ -91,6 +119,24 @@ pub record ArePavings (rows : List Row) (names : List (Bor Text)) : Type 0 where
 abbrev pub IsOut : List Row → Option (Bor Text) → Type 0
 IsOut rows out = option_map (λ name. name.now) out ≡ first_of (codes "out") rows
 
+-- the numbers of `--at`; none where it isn't given
+abbrev pub AreLevelsIn : Option Text → List Extended → Type 0
+AreLevelsIn None ns = ns ≡ []
+AreLevelsIn (Some t) ns = AreLevels (words_between t) ns
+
+abbrev pub AreGiven : List Row → List Extended → Type 0
+AreGiven rows ns = AreLevelsIn (first_of (codes "at") rows) ns
+
+-- the plane that the options give
+pub record IsView (rows : List Row) (v : View) : Type 0 where
+  pub x : v.x.now ≡ value_of (codes "x") [] rows
+  pub y : v.y.now ≡ value_of (codes "y") [] rows
+  pub at : AreGiven rows v.at.items
+
+-- a number of `--at` has another spelling
+abbrev pub HasBadLevels : List Row → Type 0
+HasBadLevels rows = (ns : List Extended) → AreGiven rows ns → ⊥
+
 -- a setting has another spelling, or is outside its range
 pub data HasBadSetting (rows : List Row) : Type 0 where
   bad_eps : ((n : Extended) → IsWidth (eps_text rows) n → ⊥) → HasBadSetting rows
@@ -112,6 +158,7 @@ pub data HasBadValue (command : Text) (rows : List Row) : Type 0 where
   in_resume : command ≡ codes "resume" → HasManyPavings rows ⊎ (HasBadSetting rows ⊎ HasBadEffort rows) → HasBadValue command rows
   in_merge : command ≡ codes "merge" → HasManyPavings rows ⊎ HasBadSetting rows → HasBadValue command rows
   in_audit : command ≡ codes "audit" → HasBadSetting rows → HasBadValue command rows
+  in_svg : command ≡ codes "svg" → HasBadLevels rows ⊎ HasBadSetting rows → HasBadValue command rows
 
 -- the command of this name, with what was found for its words and options, asks for this
 abbrev pub IsAskedBy : Text → List Row → Request → Type 0
@@ -127,6 +174,9 @@ IsAskedBy command rows (Merge system pavings settings out) =
 IsAskedBy command rows (Audit system paving settings) =
     (command ≡ codes "audit") × (system.now ≡ system_name rows) × (paving.now ≡ value_of (codes "PAVING") [] rows)
     × AreSettings rows settings
+IsAskedBy command rows (Svg system paving settings view) =
+    (command ≡ codes "svg") × (system.now ≡ system_name rows) × (paving.now ≡ value_of (codes "PAVING") [] rows)
+    × AreSettings rows settings × IsView rows view
 
 abbrev pub IsAsked : Option (Text × List Row) → Request → Type 0
 IsAsked None q = ⊥
@@ -151,3 +201,4 @@ out_of (Run system settings effort out) = option_map (λ name. name.now) out
 out_of (Resume system pavings settings effort out) = option_map (λ name. name.now) out
 out_of (Merge system pavings settings out) = option_map (λ name. name.now) out
 out_of (Audit system paving settings) = None
+out_of (Svg system paving settings view) = None

@@ -12,11 +12,11 @@ use Rattle.pv_cli.specs.Refusals.{status_of, line_of}
 use Rattle.pv_cli.specs.Systems.{Files, HasRule, search_box}
 use Rattle.pv_cli.specs.Pavings.{IsPaved, FullFits, settled_in}
 use Rattle.pv_cli.specs.Files.{HasOpening}
-use Rattle.pv_cli.specs.Products.{Product, paved, IsHonest, AreStages, ComesOf, ComesOfCheck, ComesOfAudit, RefusesWork}
+use Rattle.pv_cli.specs.Products.{Product, paved, IsHonest, AreStages, ComesOf, ComesOfCheck, ComesOfAudit, ComesOfSvg, RefusesWork}
 use Rattle.pv_cli.specs.Ends.{Outside, AreUntouched, IsDelivered, IsCutOff, IsLost, IsTold, IsEnd}
 use Rattle.pv_cli.specs.declared.request.Settings.{Settings}
 use Rattle.pv_cli.specs.declared.request.Request.{Request}
-use Rattle.pv_cli.specs.declared.request.Request.TheVariants.{Check, Run, Resume, Merge, Audit}
+use Rattle.pv_cli.specs.declared.request.Request.TheVariants.{Check, Run, Resume, Merge, Audit, Svg}
 use Rattle.pv_cli.specs.declared.refusal.Refusal.{Refusal}
 use Rattle.pv_cli.specs.declared.refusal.Refusal.TheVariants as refusal
 use Rattle.pv_cli.specs.declared.status.Status.{Status}
@@ -60,6 +60,7 @@ IsWhole before (Run system settings effort out) p = IsFullRun before system.now 
 IsWhole before (Resume system pavings settings effort out) p = IsFullResume before system.now (names_in pavings.items) settings p
 IsWhole before (Merge system pavings settings out) p = IsClosedJoin before system.now (names_in pavings.items) settings p
 IsWhole before (Audit system paving settings) p = ComesOfAudit before system.now paving.now settings p
+IsWhole before (Svg system paving settings view) p = ComesOfSvg before system.now paving.now settings view p
 
 -- what was asked for came to this, was stored and printed, and nothing was told
 pub record IsDelivery (says : Files → Request → Product → Type 0) (words : List Text) (before after : Outside) : Type 0 where
@@ -116,6 +117,7 @@ IsPart before (Resume system pavings settings effort out) p =
     IsPartResume before system.now (names_in pavings.items) settings effort.boxes p
 IsPart before (Merge system pavings settings out) p = IsOpenJoin before system.now (names_in pavings.items) settings p
 IsPart before (Audit system paving settings) p = ⊥
+IsPart before (Svg system paving settings view) p = ⊥
 
 abbrev pub OpenLeftIsPart : Type 0
 OpenLeftIsPart = (words : List Text) (before after : Outside) → IsEnd words before after OpenLeft → IsDelivery IsPart words before after
@@ -223,8 +225,14 @@ pub record HasBadContract (words : List Text) (before after : Files) : Type 0 wh
   pub byte : ℕ
   pub refused : RefusesWork before after request (refusal.Contract byte)
 
--- status 2 comes of words that are refused, or of the text of the contractor program
+-- the system has no plane as the words ask for
+pub record HasBadPlane (words : List Text) (before after : Files) : Type 0 where
+  pub request : Request
+  pub asks : Asks words request
+  pub refused : RefusesWork before after request refusal.Usage
+
+-- status 2 comes of words that are refused, of the text of the contractor program, or of the plane of a picture
 abbrev pub UsageIsOfWords : Type 0
 UsageIsOfWords =
     (words : List Text) (before after : Outside) → IsEnd words before after Usage
-    → AreRefused words ⊎ HasBadContract words before.files after.files
+    → AreRefused words ⊎ (HasBadContract words before.files after.files ⊎ HasBadPlane words before.files after.files)

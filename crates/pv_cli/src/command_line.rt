@@ -11,6 +11,7 @@ ghost use Rattle.pv_cli.specs.Commands.{
   paving_app,
   pavings_app,
   with_option,
+  with_axis,
   with_settings,
   with_effort,
   with_out,
@@ -19,6 +20,7 @@ ghost use Rattle.pv_cli.specs.Commands.{
   resume_app,
   merge_app,
   audit_app,
+  svg_app,
   paver_app,
 };
 
@@ -34,7 +36,8 @@ pub(crate) fn paver<'a>(alloc: Global) -> Result<Command<'a>, AllocError>
         .subcommand(run(alloc)?)?
         .subcommand(resume(alloc)?)?
         .subcommand(merge(alloc)?)?
-        .subcommand(audit(alloc)?)
+        .subcommand(audit(alloc)?)?
+        .subcommand(svg(alloc)?)
 }
 
 // The program, without its commands.
@@ -75,6 +78,15 @@ fn audit<'a>(alloc: Global) -> Result<Command<'a>, AllocError>
     ensures local { IfOk result (λ c. (out-Command c).has_globals ≡ false) }
 {
     with_settings(paving(alloc, "audit")?, alloc)
+}
+
+fn svg<'a>(alloc: Global) -> Result<Command<'a>, AllocError>
+    ensures app { IfOk result (λ c. app_of c ≡ svg_app) }
+    ensures local { IfOk result (λ c. (out-Command c).has_globals ≡ false) }
+{
+    let command = with_settings(paving(alloc, "svg")?, alloc)?;
+    let command = with_axis(with_axis(command, alloc, "x")?, alloc, "y")?;
+    with_option(command, alloc, "at")
 }
 
 // A command that has nothing.
@@ -176,4 +188,21 @@ fn with_option<'a>(
 {
     let option = Arg::new(alloc, name).long(name).action(ArgAction::Set);
     command.arg(option)
+}
+
+// The command with an option that has to be there and takes the name of a variable.
+fn with_axis<'a>(
+    command: Command<'a>,
+    alloc: Global,
+    name: &'a str,
+) -> Result<Command<'a>, AllocError>
+    requires { (out-Command command).has_globals ≡ false }
+    ensures app { IfOk result (λ c. app_of c ≡ with_axis name.entry.now (app_of command.entry)) }
+    ensures local { IfOk result (λ c. (out-Command c).has_globals ≡ false) }
+{
+    let axis = Arg::new(alloc, name)
+        .long(name)
+        .required(true)
+        .action(ArgAction::Set);
+    command.arg(axis)
 }

@@ -4,6 +4,7 @@ ghost use Rattle.pv_tree.specs.Trees.{opens, counts_of};
 ghost use Rattle.pv_io.specs.Outside.{appended};
 ghost use Rattle.pv_file.specs.Lines.{lines_of};
 ghost use Rattle.pv_file.specs.Texts.{file_text};
+ghost use Rattle.pv_svg.specs.Texts.{picture_text};
 ghost use Rattle.pv_file.specs.declared.version.Version.TheVariants as version;
 ghost use Rattle.pv_cli.specs.Systems.{files};
 ghost use Rattle.pv_cli.specs.Products.{summary_of, HasStatus};
@@ -17,6 +18,7 @@ use crate::{Refusal, Status};
 use pv_file::{FileWriteRefused, write, write_lines};
 use pv_io::{Folder, PlainSink, Sink, StoreRefused, WriteRefused};
 use pv_num::Memory;
+use pv_svg::Picture;
 use pv_tree::Paving;
 use std::alloc::Global;
 
@@ -45,6 +47,10 @@ pub(crate) fn deliver<'a, F: Folder, K: Sink>(
     match (product, file) {
         (Product::Text(text), _) => {
             print(out, text)?;
+            Ok(Status::Done)
+        }
+        (Product::Picture(picture), _) => {
+            print_picture(alloc, out, picture)?;
             Ok(Status::Done)
         }
         (Product::Paved { paving, .. }, None) => {
@@ -129,6 +135,24 @@ fn print_paving<'a, K: Sink>(alloc: Global, out: &mut K, paving: &Paving) -> Res
         Ok(()) => Ok(()),
         Err(FileWriteRefused::WriteFailed) => Err(Refusal::NotPrinted),
         Err(FileWriteRefused::Memory) => Err(Refusal::Memory),
+    }
+}
+
+fn print_picture<'a, K: Sink>(
+    alloc: Global,
+    out: &mut K,
+    picture: &Picture,
+) -> Result<(), Refusal<'a>>
+    ensures whole { OnOk result
+        (K.written out.new ≡ appended (K.written out.old) (picture_text picture.now)) }
+    ensures refused { IfErr result
+        (RefusesPrint (stream (K.written out.old) (K.faults out.old))
+        (stream (K.written out.new) (K.faults out.new)) (picture_text picture.now)) }
+{
+    match picture.write(alloc, out) {
+        Ok(()) => Ok(()),
+        Err(pv_svg::FileWriteRefused::WriteFailed) => Err(Refusal::NotPrinted),
+        Err(pv_svg::FileWriteRefused::Memory) => Err(Refusal::Memory),
     }
 }
 

@@ -23,6 +23,7 @@ mod resume;
 mod run;
 mod status;
 mod summary;
+mod svg;
 mod system;
 mod telling;
 mod values;

@@ -16,6 +16,7 @@ use crate::reading::read;
 use crate::request::Request;
 use crate::resume::resume;
 use crate::run::run;
+use crate::svg::svg;
 use crate::telling::tell;
 use crate::{Gate, Refusal, Status};
 use pv_io::{Folder, Sink};
@@ -83,7 +84,7 @@ fn file_of<'a>(request: &Request<'a>) -> Option<&'a str>
     ensures { option_map (λ name. name.now) result ≡ out_of request.now }
 {
     match request {
-        Request::Check { .. } | Request::Audit { .. } => None,
+        Request::Check { .. } | Request::Audit { .. } | Request::Svg { .. } => None,
         Request::Run { out, .. } => *out,
         Request::Resume { out, .. } => *out,
         Request::Merge { out, .. } => *out,
@@ -134,5 +135,11 @@ fn work<'a, F: Folder, G: Gate>(
             paving,
             settings,
         } => audit(alloc, folder, *system, *paving, settings),
+        Request::Svg {
+            system,
+            paving,
+            settings,
+            view,
+        } => svg(alloc, folder, *system, *paving, settings, view),
     }
 }

@@ -1,4 +1,5 @@
 //! What comes of a command's work.
+use pv_svg::Picture;
 use pv_tree::Paving;
 
 /// What comes of a command's work, before it is stored or printed.
@@ -8,4 +9,6 @@ pub(crate) enum Product {
     Text(Vec<u8>),
     /// A paving of the system and settings that the identity names.
     Paved { identity: [u8; 32], paving: Paving },
+    /// A picture of a paving.
+    Picture(Picture),
 }

@@ -1,16 +1,17 @@
 //! From the words of a command to what they ask for.
 ghost use Rattle.std.specs.Prelude.{◌≡◌, ◌≢◌, ◌⊎◌, List, codes, map, option_map, MatchOption, MatchResult, string_bytes, IfOk, IfErr, unwrap_or};
 ghost use Rattle.clap.specs.Words.{all_of, subcommand_rows_of};
-ghost use Rattle.pv_cli.specs.Requests.{value_of, system_name, paving_names, names_in, AreSettings, IsEffort, ArePavings, IsOut, HasBadSetting, HasBadEffort, HasManyPavings, HasBadValue, IsAskedBy, IsAsked, Asks};
+ghost use Rattle.pv_cli.specs.Requests.{value_of, system_name, paving_names, names_in, AreSettings, IsEffort, ArePavings, IsOut, HasBadSetting, HasBadEffort, IsView, AreGiven, HasManyPavings, HasBadLevels, HasBadValue, IsAskedBy, IsAsked, Asks};
 ghost use Rattle.pv_cli.specs.Found.{rows_in, RefusesValues, RefusesCommand, RefusesFound};
 ghost use Rattle.pv_cli.specs.Ends.{RefusesWords};
 
 use crate::Refusal;
 use crate::command_line::paver;
-use crate::request::{Effort, Request, Settings};
-use crate::values::{bisector_of, count_of, width_of};
+use crate::request::{Effort, Request, Settings, View};
+use crate::values::{bisector_of, count_of, levels_of, width_of};
 use clap::ArgMatches;
 use clap::error::ErrorKind;
+use pv_num::Num;
 use std::alloc::Global;
 
 /// Reads the words of a command, of which the first is the program's name.
@@ -59,6 +60,7 @@ fn command_in<'a>(
         "resume" => resume_in(alloc, found),
         "merge" => merge_in(alloc, found),
         "audit" => audit_in(found),
+        "svg" => svg_in(alloc, found),
         _ => Err(Refusal::Usage),
     }
 }
@@ -144,6 +146,50 @@ fn audit_in<'a>(found: &ArgMatches<'a>) -> Result<Request<'a>, Refusal<'a>>
             settings,
         }),
         None => Err(Refusal::Usage),
+    }
+}
+
+fn svg_in<'a>(alloc: Global, found: &ArgMatches<'a>) -> Result<Request<'a>, Refusal<'a>>
+    ensures { MatchResult result (IsAskedBy (codes "svg") (rows_in found.now))
+        (RefusesValues (HasBadValue (codes "svg") (rows_in found.now))) }
+{
+    let view = match view_in(alloc, found) {
+        Ok(view) => view,
+        Err(refusal) => return Err(refusal),
+    };
+    match settings_in(found) {
+        Some(settings) => Ok(Request::Svg {
+            system: text_in(found, "SYSTEM", ""),
+            paving: text_in(found, "PAVING", ""),
+            settings,
+            view,
+        }),
+        None => Err(Refusal::Usage),
+    }
+}
+
+fn view_in<'a>(alloc: Global, found: &ArgMatches<'a>) -> Result<View<'a>, Refusal<'a>>
+    ensures { MatchResult result (IsView (rows_in found.now))
+        (RefusesValues (HasBadLevels (rows_in found.now))) }
+{
+    match levels_in(alloc, found) {
+        Ok(at) => Ok(View {
+            x: text_in(found, "x", ""),
+            y: text_in(found, "y", ""),
+            at,
+        }),
+        Err(refusal) => Err(refusal),
+    }
+}
+
+#[tactic(auto, using(crate::proofs::Rows::first_is))]
+fn levels_in<'a>(alloc: Global, found: &ArgMatches<'a>) -> Result<Vec<Num>, Refusal<'a>>
+    ensures { MatchResult result (λ at. AreGiven (rows_in found.now) at.items)
+        (RefusesValues (HasBadLevels (rows_in found.now))) }
+{
+    match found.get_str("at") {
+        Some(text) => levels_of(alloc, text),
+        None => Ok(Vec::new(alloc)),
     }
 }
 

@@ -28,6 +28,17 @@ pub struct Effort {
     ghost boxes_fit: { (1 ≤ boxes) × (boxes ≤ 100000) },
 }
 
+/// Which plane of a paving a picture shows.
+#[derive(Drop)]
+pub struct View<'a> {
+    /// The name of the variable that goes to the right.
+    pub x: &'a str,
+    /// The name of the variable that goes up.
+    pub y: &'a str,
+    /// The numbers of the other variables, in their order.
+    pub at: Vec<Num>,
+}
+
 /// What the words of a command ask for.
 #[derive(Drop)]
 pub enum Request<'a> {
@@ -62,5 +73,12 @@ pub enum Request<'a> {
         system: &'a str,
         paving: &'a str,
         settings: Settings<'a>,
+    },
+    /// Draw a plane of a paving file.
+    Svg {
+        system: &'a str,
+        paving: &'a str,
+        settings: Settings<'a>,
+        view: View<'a>,
     },
 }

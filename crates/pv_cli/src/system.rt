@@ -76,7 +76,8 @@ pub(crate) fn settler_in<'a, F: Folder>(
     }
 }
 
-fn settler_for<'a>(
+/// The settler of a system, by the settings.
+pub(crate) fn settler_for<'a>(
     alloc: Global,
     system: System,
     settings: &Settings<'a>,

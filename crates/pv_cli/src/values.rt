@@ -1,12 +1,15 @@
 //! The values of options.
-ghost use Rattle.std.specs.Prelude.{◌≡◌, ◌≢◌, ◌==◌, ℕ, pos, IsTrue, MatchOption, IfSome, slice_index};
+ghost use Rattle.std.specs.Prelude.{◌≡◌, ◌≢◌, ◌<◌, ◌==◌, ℕ, List, pos, true, IsTrue, MatchOption, MatchResult, IfSome, IfErr, IfOk, OnOk, length, slice_index, ◌∷◌, []};
 ghost use Rattle.pv_num.specs.Extended.{Extended, Fin, PosInf};
 ghost use Rattle.pv_num.specs.Order.{le};
-ghost use Rattle.pv_cli.specs.Requests.{IsDigits, IsCount, IsWidth, bisector_name};
+ghost use Rattle.pv_cli.specs.Requests.{IsDigits, IsCount, IsWidth, IsLevel, AreLevels, words_between, bisector_name};
+ghost use Rattle.pv_cli.specs.Found.{RefusesValues, EndsWithLevel};
 
+use crate::Refusal;
 use pv_box::Bisector;
 use pv_num::{End, Num};
 use pv_parse::read_number;
+use std::alloc::Global;
 
 /// The number of one to ten digits, where it is from `low` to `high`.
 pub(crate) fn count_of(text: &str, low: u64, high: u64) -> Option<u64>
@@ -25,7 +28,7 @@ fn number_of(text: &str) -> Option<u64>
     if text.len() > 10 {
         return None;
     }
-    if begins_with_plus(text.as_bytes()) {
+    if begins_with(text.as_bytes(), b'+') {
         return None;
     }
     match text.parse::<u64>() {
@@ -34,10 +37,11 @@ fn number_of(text: &str) -> Option<u64>
     }
 }
 
-fn begins_with_plus(bytes: &[u8]) -> bool
-    ensures { result ≡ (slice_index bytes.now 0 == 43) }
+fn begins_with(bytes: &[u8], mark: u8) -> bool
+    requires { 0 < mark }
+    ensures { result ≡ (slice_index bytes.now 0 == mark) }
 {
-    !bytes.is_empty() && bytes[0] == b'+'
+    !bytes.is_empty() && bytes[0] == mark
 }
 
 /// An unsigned number, rounded down.
@@ -49,6 +53,72 @@ pub(crate) fn width_of(text: &str) -> Option<Num>
 {
     let (p, q) = read_number(text.as_bytes())?;
     Some(Num::from_ratio(p, q, End::Down))
+}
+
+/// The numbers between commas. Each may have a minus before it, and is rounded down.
+pub(crate) fn levels_of<'a>(alloc: Global, text: &str) -> Result<Vec<Num>, Refusal<'a>>
+    ensures { MatchResult result (λ ns. AreLevels (words_between text.now) ns.items)
+        (RefusesValues ((ns : List Extended) → AreLevels (words_between text.now) ns → ⊥)) }
+{
+    let mut numbers = Vec::new(alloc);
+    let mut rest = text;
+    while let Some((word, behind)) = first_word(rest) {
+        if let Err(refusal) = push_level(&mut numbers, word) {
+            return Err(refusal);
+        }
+        rest = behind;
+    }
+    match push_level(&mut numbers, rest) {
+        Ok(()) => Ok(numbers),
+        Err(refusal) => Err(refusal),
+    }
+}
+
+// The word before the first comma, and what stands behind that.
+fn first_word(text: &str) -> Option<(&str, &str)>
+    ensures { MatchOption result (words_between text.now ≡ text.now ∷ [])
+        (λ r. (words_between text.now ≡ r.0.now ∷ words_between r.1.now)
+        × (length r.1.now < length text.now)) }
+{
+    text.split_once(',')
+}
+
+fn push_level<'a>(numbers: &mut Vec<Num>, word: &str) -> Result<(), Refusal<'a>>
+    ensures pushed { OnOk result
+        (EndsWithLevel word.now numbers.old.items numbers.new.items) }
+    ensures refused { IfErr result
+        (RefusesValues ((n : Extended) → IsLevel word.now n → ⊥)) }
+{
+    match level_of(word) {
+        Some(number) => {
+            numbers.push(number)?;
+            Ok(())
+        }
+        None => Err(Refusal::Usage),
+    }
+}
+
+// A number that may have a minus before it, rounded down.
+fn level_of(word: &str) -> Option<Num>
+    ensures { MatchOption result ((n : Extended) → IsLevel word.now n → ⊥)
+        (λ n. IsLevel word.now n) }
+{
+    if begins_with(word.as_bytes(), b'-') {
+        below_zero(word.as_bytes())
+    } else {
+        width_of(word)
+    }
+}
+
+// The number behind a minus.
+fn below_zero(word: &[u8]) -> Option<Num>
+    requires { (slice_index word.now 0 == 45) ≡ true }
+    ensures { MatchOption result ((n : Extended) → IsLevel word.now n → ⊥)
+        (λ n. IsLevel word.now n) }
+{
+    let (_, digits) = word.split_first()?;
+    let (p, q) = read_number(digits)?;
+    Some(Num::from_ratio(-p, q, End::Down))
 }
 
 /// The bisector of a name.

@@ -13,14 +13,14 @@ pub(crate) struct Named {
     pub text: &'static str,
 }
 
-// One call, what comes of it, and what a file holds then.
-struct Step {
-    words: &'static str,
-    status: u8,
-    out: &'static str,
-    err: &'static str,
-    file: &'static str,
-    holds: &'static str,
+/// One call, what comes of it, and what a file holds then.
+pub(crate) struct Step {
+    pub words: &'static str,
+    pub status: u8,
+    pub out: &'static str,
+    pub err: &'static str,
+    pub file: &'static str,
+    pub holds: &'static str,
 }
 
 pub(crate) const SYSTEM: &str = "Variables x in [0,1]; Constraints 1/x >= 0; end\n";
@@ -133,7 +133,7 @@ pub(crate) fn shelf(alloc: Global, files: &[Named], fails: &[u64]) -> Result<Mem
     Ok(MemFolder::new(alloc, map, fails.to_vec(alloc)?))
 }
 
-fn follow(
+pub(crate) fn follow(
     rt: &impl Abort,
     alloc: Global,
     folder: &mut MemFolder,

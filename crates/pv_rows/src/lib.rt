@@ -10,6 +10,8 @@ mod files;
 #[cfg(test)]
 mod numbers;
 #[cfg(test)]
+mod pictures;
+#[cfg(test)]
 mod settings;
 #[cfg(test)]
 mod table;

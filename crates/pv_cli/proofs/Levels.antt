@@ -1,0 +1,95 @@
+-- Numbers between commas.
+use Rattle.std.proofs.Common.{◌≡◌, ℕ, ◌<◌, ◌==◌, ◌++◌, Bool, true, false, List, [], ◌∷◌, length, drop, sym, ◌∙◌, ap, ap₂, subst, arith, if◌then◌else◌}
+use Rattle.std.specs.Prelude.{Option, Some, None, MatchOption, slice_split}
+use Rattle.std.specs.List.{position_or_len, before_first, after_first}
+use Rattle.std.specs.Borrow.{Bor}
+use Rattle.std.proofs.lemmas.Str.Pattern.{IsSplitOnceResult, split_once_first, split_parts}
+use Rattle.std.proofs.lemmas.List.Splits.{slice_split_none, slice_split_first}
+use Rattle.std.proofs.lemmas.List.Sums.{fails_before_first}
+use Rattle.std.proofs.lemmas.List.{length-++, ++-assoc}
+use Rattle.clap.specs.Words.{Text}
+use Rattle.pv_num.specs.Extended.{Extended}
+use Rattle.pv_num.specs.Arithmetic.{ratio_of}
+use Rattle.pv_num.specs.declared.num.End.TheVariants.{Down}
+use Rattle.pv_tokens.specs.Numbers.{IsRead}
+use Rattle.pv_cli.specs.Requests.{IsLevel, IsWidth, AreLevels, words_between, has_minus, behind_minus, with_minus}
+use Rattle.pv_cli.specs.Found.{RefusesValues, EndsWithLevel}
+use Rattle.pv_cli.specs.declared.refusal.Refusal.{Refusal}
+use Rattle.pv_cli.specs.declared.refusal.Refusal.TheVariants.{Usage, System, Contract, NoFile, ReadFault, Paving, NotStored, NotPrinted, Memory, TreeLimit, Disagree, Differs}
+
+-- ---- The words
+
+one_word : (bs : List ℕ) → position_or_len (λ c. c == 44) bs ≡ length bs → words_between bs ≡ bs ∷ []
+one_word bs e =
+    slice_split_none (λ (c : ℕ). c == 44) bs
+    (λ k d l. fails_before_first (λ (c : ℕ). c == 44) bs k d (let same : position_or_len (λ (c : ℕ). c == 44) bs ≡ length bs = e in omega arith))
+
+pub split_words : (bs : List ℕ) (r : Option (Bor (List ℕ) × Bor (List ℕ))) → IsSplitOnceResult 44 bs r
+    → MatchOption r (words_between bs ≡ bs ∷ []) (λ x. (words_between bs ≡ x.0.now ∷ words_between x.1.now) × (length x.1.now < length bs))
+split_words bs None h = one_word bs (split_once_first 44 bs None h (omega arith))
+split_words bs (Some x) h =
+    let first = split_once_first 44 bs (Some x) h (omega arith) in
+    let parts = split_parts 44 bs (Some x) h (omega arith) in
+    let count : length bs ≡ length x.0.now + length (44 ∷ x.1.now) = ap length parts.0 ∙ length-++ x.0.now (44 ∷ x.1.now) in
+    (
+      slice_split_first (λ (c : ℕ). c == 44) bs 0 first.0 ∙ ap₂ (λ (a b : List ℕ). a ∷ words_between b) (sym first.1) (sym first.2),
+      omega arith,
+    )
+
+-- ---- One number
+
+pub plain_level : (t : Text) (n : Extended) → has_minus t ≡ false → IsWidth t n → IsLevel t n
+plain_level t n plain h = record {
+  ratio = h.ratio;
+  read = subst (λ (b : Bool). IsRead (if b then drop 1 t else t) h.ratio) (sym plain) h.read;
+  rounded = h.rounded ∙ ap (λ (b : Bool). ratio_of Down (with_minus b h.ratio.0) h.ratio.1) (sym plain);
+}
+
+pub plain_width : (t : Text) (n : Extended) → has_minus t ≡ false → IsLevel t n → IsWidth t n
+plain_width t n plain h = record {
+  ratio = h.ratio;
+  read = subst (λ (b : Bool). IsRead (if b then drop 1 t else t) h.ratio) plain h.read;
+  rounded = h.rounded ∙ ap (λ (b : Bool). ratio_of Down (with_minus b h.ratio.0) h.ratio.1) plain;
+}
+
+-- ---- Several numbers
+
+module _ (words : List Text) where
+  abbrev pub Fills : List Text → List Extended → Type 0
+  Fills rest numbers = (ms : List Extended) → AreLevels rest ms → AreLevels words (numbers ++ ms)
+
+  abbrev pub HasRest : List Text → Type 0
+  HasRest rest = (ns : List Extended) → AreLevels words ns → (ms : List Extended) × AreLevels rest ms
+
+  pub fills_on : (word : Text) (rest : List Text) (before after : List Extended) → EndsWithLevel word before after → Fills (word ∷ rest) before → Fills rest after
+  fills_on word rest before after added fills = λ ms h.
+      subst (AreLevels words) (sym (ap (λ (x : List Extended). x ++ ms) added.added ∙ ++-assoc before (added.number ∷ []) ms)) (fills (added.number ∷ ms) (added.is, h))
+
+  pub rest_on : (word : Text) (rest : List Text) → HasRest (word ∷ rest) → HasRest rest
+  rest_on word rest has = λ ns h. by (has ns h).0 (has ns h).1
+    where
+      by : (ms : List Extended) → AreLevels (word ∷ rest) ms → (ms : List Extended) × AreLevels rest ms
+      by [] h = absurd h
+      by (m ∷ ms) h = (ms, h.1)
+
+  none_at : (word : Text) (rest : List Text) → HasRest (word ∷ rest) → ((n : Extended) → IsLevel word n → ⊥) → (ns : List Extended) → AreLevels words ns → ⊥
+  none_at word rest has none ns h = by (has ns h).0 (has ns h).1
+    where
+      by : (ms : List Extended) → AreLevels (word ∷ rest) ms → ⊥
+      by [] h = h
+      by (m ∷ ms) h = none m h.0
+
+  pub refused_at : (word : Text) (rest : List Text) (r : Refusal) → HasRest (word ∷ rest) → RefusesValues ((n : Extended) → IsLevel word n → ⊥) r
+      → RefusesValues ((ns : List Extended) → AreLevels words ns → ⊥) r
+  refused_at word rest Usage has h = none_at word rest has h
+  refused_at word rest Memory has h = tt
+  refused_at word rest (System line column byte cause) has h = h
+  refused_at word rest (Contract byte) has h = h
+  refused_at word rest (NoFile n) has h = h
+  refused_at word rest (ReadFault n) has h = h
+  refused_at word rest (Paving n f) has h = h
+  refused_at word rest (NotStored n) has h = h
+  refused_at word rest NotPrinted has h = h
+  refused_at word rest (TreeLimit n) has h = h
+  refused_at word rest (Disagree p a b) has h = h
+  refused_at word rest (Differs p a b) has h = h
