@@ -4,13 +4,13 @@ _paver() {
     local settings="--eps --depth --bisect --contract"
     COMPREPLY=()
     if [ "$COMP_CWORD" -eq 1 ]; then
-        mapfile -t COMPREPLY < <(compgen -W "check run resume merge audit" -- "$word")
+        mapfile -t COMPREPLY < <(compgen -W "check run resume merge audit svg" -- "$word")
         return
     fi
     case $before in
         --bisect) mapfile -t COMPREPLY < <(compgen -W "largest round" -- "$word"); return ;;
         --contract) mapfile -t COMPREPLY < <(compgen -W "prop(8) hc4( compose( union( qinter( fix( prop(" -- "$word"); return ;;
-        --eps|--depth|--boxes|--workers) return ;;
+        --eps|--depth|--boxes|--workers|--x|--y|--at) return ;;
         --out) mapfile -t COMPREPLY < <(compgen -f -- "$word"); return ;;
     esac
     if [[ $word == -* ]]; then
@@ -18,6 +18,7 @@ _paver() {
             run|resume) mapfile -t COMPREPLY < <(compgen -W "$settings --boxes --workers --out" -- "$word") ;;
             merge) mapfile -t COMPREPLY < <(compgen -W "$settings --out" -- "$word") ;;
             audit) mapfile -t COMPREPLY < <(compgen -W "$settings" -- "$word") ;;
+            svg) mapfile -t COMPREPLY < <(compgen -W "$settings --x --y --at" -- "$word") ;;
         esac
         return
     fi

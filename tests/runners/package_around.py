@@ -14,8 +14,11 @@ import paver
 from package_checks import Skipped
 
 TOP = Path(__file__).resolve().parents[2]
-COMMANDS = ["check", "run", "resume", "merge", "audit"]
-OPTIONS = ["eps", "depth", "bisect", "contract", "boxes", "workers", "out"]
+COMMANDS = ["check", "run", "resume", "merge", "audit", "svg"]
+SETTINGS = ["eps", "depth", "bisect", "contract"]
+RUN_OPTIONS = [*SETTINGS, "boxes", "workers", "out"]
+SVG_OPTIONS = [*SETTINGS, "x", "y", "at"]
+OPTIONS = [*RUN_OPTIONS, "x", "y", "at"]
 STATUSES = ["0", "1", "2", "3", "4", "5", "6", "7", "8", "9", "11"]
 LINES = ["usage: paver COMMAND SYSTEM [OPTIONS] [PAVING..]", "contract: refused at byte B",
          "system: line L column C byte B: CAUSE", "paving NAME: too long", "paving NAME: wrong identity",
@@ -61,7 +64,8 @@ def completed(*words):
 def check_completions():
     assert completed("paver", "") == COMMANDS
     assert completed("paver", "re") == ["resume"]
-    assert sorted(completed("paver", "run", "--")) == sorted(f"--{name}" for name in OPTIONS)
+    assert sorted(completed("paver", "run", "--")) == sorted(f"--{name}" for name in RUN_OPTIONS)
+    assert sorted(completed("paver", "svg", "--")) == sorted(f"--{name}" for name in SVG_OPTIONS)
     assert sorted(completed("paver", "audit", "--")) == ["--bisect", "--contract", "--depth", "--eps"]
     assert "--boxes" not in completed("paver", "merge", "s", "--")
     assert completed("paver", "run", "s", "--bisect", "") == ["largest", "round"]
@@ -80,7 +84,8 @@ def fish_offers(line):
 def check_fish():
     needs_tool("fish")
     assert sorted(fish_offers("paver ")) == sorted(COMMANDS)
-    assert sorted(fish_offers("paver run s --")) == sorted(f"--{name}" for name in OPTIONS)
+    assert sorted(fish_offers("paver run s --")) == sorted(f"--{name}" for name in RUN_OPTIONS)
+    assert sorted(fish_offers("paver svg s --")) == sorted(f"--{name}" for name in SVG_OPTIONS)
     assert sorted(fish_offers("paver audit s --")) == ["--bisect", "--contract", "--depth", "--eps"]
     assert fish_offers("paver run s --bisect r") == ["round"]
 

@@ -281,6 +281,45 @@ def order_of_refusals(f):
     f.run(["resume", "s", "A", *QUARTER, "--boxes", "100001"], 2, err=USAGE)
 
 
+def rect(x, y, width, height, fill):
+    return f'<rect x="{x}" y="{y}" width="{width}" height="{height}" fill="{fill}"/>'
+
+
+def picture(*rects):
+    return lines('<svg xmlns="http://www.w3.org/2000/svg" width="1000" height="1000" viewBox="0 0 1000 1000">', *rects, "</svg>")
+
+
+def drawn_files(f):
+    one = b"settled 1 cut 0 removed 0 inner 1 small 0 open 0\n"
+    half = picture(rect(0, 0, 1000, 1000, "#cfd8dc"), rect(0, 0, 500, 1000, "#43a047"))
+    f.put("s", system("x in [0,2], y in [0,2]", "x <= 1"))
+    f.run(["run", "s", "--out", "p"], 0, one, changed="p")
+    f.run(["svg", "s", "p", "--x", "x", "--y", "y"], 0, half)
+    f.run(["svg", "--y", "x", "s", "--x=y", "p"], 0,
+          picture(rect(0, 0, 1000, 1000, "#cfd8dc"), rect(0, 500, 1000, 500, "#43a047")))
+    f.put("e", system("x in [0,1], y in [0,1]", "x < 0"))
+    f.run(["run", "e", "--out", "q"], 0, b"settled 1 cut 0 removed 1 inner 0 small 0 open 0\n", changed="q")
+    f.run(["svg", "e", "q", "--x", "x", "--y", "y"], 0, picture(rect(0, 0, 1000, 1000, "#cfd8dc")))
+    f.put("c", system("x in [0,2], y in [0,2], z in [-1,4]", "x <= 1"))
+    f.run(["run", "c", "--out", "r"], 0, one, changed="r")
+    for at in ("-1", "4", "1e-3"):
+        f.run(["svg", "c", "r", "--x", "x", "--y", "y", f"--at={at}"], 0, half)
+    f.run(["svg", "c", "r", "--x", "x", "--y", "y", "--at=-1.01"], 0, picture())
+    f.run(["svg", "c", "r", "--x", "x", "--y", "y", "--at=-.5"], 2, err=USAGE)
+    f.put("t", RECIPROCAL)
+    f.put("b", file_of(2, WHOLE))
+    for words in (["t", "b", "--x", "x", "--y", "x", *QUARTER], ["s", "p", "--x", "x", "--y", "z"], ["s", "p", "--x", "x"],
+                  ["s", "p", "--x", "x", "--y", "y", "--at", "1"], ["c", "r", "--x", "x", "--y", "y"],
+                  ["no", "p", "--x", "x", "--y", "y", "--at", "1,"], ["s", "no", "--x", "x", "--y", "w"]):
+        f.run(["svg", *words], 2, err=USAGE)
+    f.run(["svg", "no", "p", "--x", "w", "--y", "w", "--at", "1,2"], 11, err=b"no file: no\n")
+    f.run(["svg", "s", "no", "--x", "x", "--y", "y"], 11, err=b"no file: no\n")
+    f.run(["svg", "s", "p", "--x", "w", "--y", "w", "--contract", "x"], 2, err=b"contract: refused at byte 0\n")
+    f.run(["svg", "s", "p", "--x", "x", "--y", "y", *QUARTER], 4, err=b"paving p: wrong identity\n")
+    with open("/dev/full", "wb") as full:
+        f.run(["svg", "s", "p", "--x", "x", "--y", "y"], 6, None, err=b"write fault: standard output\n", stdout=full)
+
+
 def words_that_are_no_text(f):
     f.put("s", HALF_LINE)
     f.run([b"run", b"\xff"], 2, err=USAGE)
@@ -298,8 +337,8 @@ def settings_of_others(f):
 
 
 CHECKS = [stored_runs, resumed_runs, merged_files, audited_files, workers_store_the_same, bad_files, cut_anywhere,
-          each_byte_replaced, big_trees, names_folders_and_disks, order_of_refusals, words_that_are_no_text,
-          settings_of_others]
+          each_byte_replaced, big_trees, names_folders_and_disks, order_of_refusals, drawn_files,
+          words_that_are_no_text, settings_of_others]
 
 
 def main():

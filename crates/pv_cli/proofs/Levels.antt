@@ -1,12 +1,11 @@
 -- Numbers between commas.
-use Rattle.std.proofs.Common.{◌≡◌, ℕ, ◌<◌, ◌==◌, ◌++◌, Bool, true, false, List, [], ◌∷◌, length, drop, sym, ◌∙◌, ap, ap₂, subst, arith, if◌then◌else◌}
+use Rattle.std.proofs.Common.{length-append, append_assoc, ◌≡◌, ℕ, ℤ, ◌<◌, ◌==◌, ◌++◌, Bool, true, false, List, [], ◌∷◌, length, drop, sym, ◌∙◌, ap, ap₂, subst, arith, if◌then◌else◌}
 use Rattle.std.specs.Prelude.{Option, Some, None, MatchOption, slice_split}
 use Rattle.std.specs.List.{position_or_len, before_first, after_first}
 use Rattle.std.specs.Borrow.{Bor}
 use Rattle.std.proofs.lemmas.Str.Pattern.{IsSplitOnceResult, split_once_first, split_parts}
 use Rattle.std.proofs.lemmas.List.Splits.{slice_split_none, slice_split_first}
 use Rattle.std.proofs.lemmas.List.Sums.{fails_before_first}
-use Rattle.std.proofs.lemmas.List.{length-++, ++-assoc}
 use Rattle.clap.specs.Words.{Text}
 use Rattle.pv_num.specs.Extended.{Extended}
 use Rattle.pv_num.specs.Arithmetic.{ratio_of}
@@ -30,7 +29,7 @@ split_words bs None h = one_word bs (split_once_first 44 bs None h (omega arith)
 split_words bs (Some x) h =
     let first = split_once_first 44 bs (Some x) h (omega arith) in
     let parts = split_parts 44 bs (Some x) h (omega arith) in
-    let count : length bs ≡ length x.0.now + length (44 ∷ x.1.now) = ap length parts.0 ∙ length-++ x.0.now (44 ∷ x.1.now) in
+    let count : length bs ≡ length x.0.now + length (44 ∷ x.1.now) = ap length parts.0 ∙ length-append x.0.now (44 ∷ x.1.now) in
     (
       slice_split_first (λ (c : ℕ). c == 44) bs 0 first.0 ∙ ap₂ (λ (a b : List ℕ). a ∷ words_between b) (sym first.1) (sym first.2),
       omega arith,
@@ -63,7 +62,7 @@ module _ (words : List Text) where
 
   pub fills_on : (word : Text) (rest : List Text) (before after : List Extended) → EndsWithLevel word before after → Fills (word ∷ rest) before → Fills rest after
   fills_on word rest before after added fills = λ ms h.
-      subst (AreLevels words) (sym (ap (λ (x : List Extended). x ++ ms) added.added ∙ ++-assoc before (added.number ∷ []) ms)) (fills (added.number ∷ ms) (added.is, h))
+      subst (AreLevels words) (sym (ap (λ (x : List Extended). x ++ ms) added.added ∙ append_assoc before (added.number ∷ []) ms)) (fills (added.number ∷ ms) (added.is, h))
 
   pub rest_on : (word : Text) (rest : List Text) → HasRest (word ∷ rest) → HasRest rest
   rest_on word rest has = λ ns h. by (has ns h).0 (has ns h).1

@@ -14,5 +14,5 @@ pub mod Earlier
 pub mod Refused
 pub mod Merges
 pub mod StatusLaws
-mod Levels
-mod Drawn
+pub mod Levels
+pub mod Drawn
