@@ -16,3 +16,4 @@ pub mod Merges
 pub mod StatusLaws
 pub mod Levels
 pub mod Drawn
+pub mod Planes

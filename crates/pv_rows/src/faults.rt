@@ -1,6 +1,7 @@
 //! Commands whose outside fails: each call of the folder and of the standard output in turn, and the first of
 //! the standard error.
 use crate::files::{FILES, SUMMARY, WHOLE, shelf};
+use crate::pictures::HALF;
 use crate::tests::words_of;
 use pv_cli::{NoGate, Status, paver_main};
 use pv_io::{FetchRefused, Folder, MemFolder, MemSink};
@@ -22,7 +23,7 @@ struct Case {
 const NODES: &str =
     "settled 5 cut 2 removed 0 inner 2 small 1 open 0\nC 0 1:-1 0:0 1:0\nC 0 1:-2 0:0 1:-1\nS 0:0 1:-2\nI 1:-2 1:-1\nI 1:-1 1:0\n";
 
-const CASES: [Case; 8] = [
+const CASES: [Case; 9] = [
     Case {
         words: "check s",
         status: 0,
@@ -94,6 +95,14 @@ const CASES: [Case; 8] = [
         status: 9,
         out: "",
         lines: &["read fault: s\n", "read fault: F\n"],
+        file: "",
+        holds: "",
+    },
+    Case {
+        words: "svg square left --x x --y y",
+        status: 0,
+        out: HALF,
+        lines: &["read fault: square\n", "read fault: left\n"],
         file: "",
         holds: "",
     },

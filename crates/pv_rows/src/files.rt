@@ -73,7 +73,12 @@ const SYSTEMS: [Named; 2] = [
     },
 ];
 
-pub(crate) const FILES: [Named; 12] = [
+pub(crate) const SQUARE: &str = "Variables x in [0,2], y in [0,2]; Constraints x <= 1; end\n";
+
+const LEFT: &str =
+    "paving 2\nidentity b0b09d61d9bebc71e63ae8395df214f28293e9685df30a870190c3bf95a2a52b\nI = 1:0 = =\n";
+
+pub(crate) const FILES: [Named; 14] = [
     Named {
         name: "s",
         text: SYSTEM,
@@ -121,6 +126,14 @@ pub(crate) const FILES: [Named; 12] = [
     Named {
         name: "plus",
         text: "Variables x in [0,4]; Constraints x + <= 1; end\n",
+    },
+    Named {
+        name: "square",
+        text: SQUARE,
+    },
+    Named {
+        name: "left",
+        text: LEFT,
     },
 ];
 

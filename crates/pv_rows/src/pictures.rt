@@ -1,11 +1,11 @@
 //! Worked examples of pictures: what is drawn of stored runs, and what is refused in which order.
-use crate::files::{Named, SYSTEM, Step, WHOLE, follow, shelf};
+use crate::files::{Named, SQUARE, SYSTEM, Step, WHOLE, follow, shelf};
 use std::test::Fail;
 
 const USAGE: &str = "usage: paver COMMAND SYSTEM [OPTIONS] [PAVING..]\n";
 
-// The left half of a square is inner.
-const HALF: &str =
+/// The left half of a square is inner.
+pub(crate) const HALF: &str =
     "<svg xmlns=\"http://www.w3.org/2000/svg\" width=\"1000\" height=\"1000\" viewBox=\"0 0 1000 1000\">\n<rect x=\"0\" y=\"0\" width=\"1000\" height=\"1000\" fill=\"#cfd8dc\"/>\n<rect x=\"0\" y=\"0\" width=\"500\" height=\"1000\" fill=\"#43a047\"/>\n</svg>\n";
 
 const FILES: [Named; 8] = [
@@ -23,7 +23,7 @@ const FILES: [Named; 8] = [
     },
     Named {
         name: "square",
-        text: "Variables x in [0,2], y in [0,2]; Constraints x <= 1; end\n",
+        text: SQUARE,
     },
     Named {
         name: "empty",
