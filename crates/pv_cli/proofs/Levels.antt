@@ -1,17 +1,18 @@
 -- Numbers between commas.
-use Rattle.std.proofs.Common.{length-append, append_assoc, ◌≡◌, ℕ, ℤ, ◌<◌, ◌==◌, ◌++◌, Bool, true, false, List, [], ◌∷◌, length, drop, sym, ◌∙◌, ap, ap₂, subst, arith, if◌then◌else◌}
-use Rattle.std.specs.Prelude.{Option, Some, None, MatchOption, slice_split}
-use Rattle.std.specs.List.{position_or_len, before_first, after_first}
+use Rattle.std.proofs.Common.{length-append, append_assoc, ◌≡◌, ℕ, ℤ, ◌+◌, ◌<◌, ◌==◌, ◌++◌, Bool, true, false, List, [], ◌∷◌, length, drop, sym, ◌∙◌, ap, ap₂, subst, arith, if◌then◌else◌}
+use Rattle.std.specs.Prelude.{neg_ℤ, Option, Some, None, Result, MatchOption, MatchResult, codes}
+use Rattle.std.specs.List.{slice_split, position_or_len, before_first, after_first}
 use Rattle.std.specs.Borrow.{Bor}
 use Rattle.std.proofs.lemmas.Str.Pattern.{IsSplitOnceResult, split_once_first, split_parts}
 use Rattle.std.proofs.lemmas.List.Splits.{slice_split_none, slice_split_first}
 use Rattle.std.proofs.lemmas.List.Sums.{fails_before_first}
-use Rattle.clap.specs.Words.{Text}
+use Rattle.clap.specs.Words.{Row, Text, first_of}
 use Rattle.pv_num.specs.Extended.{Extended}
 use Rattle.pv_num.specs.Arithmetic.{ratio_of}
 use Rattle.pv_num.specs.declared.num.End.TheVariants.{Down}
-use Rattle.pv_tokens.specs.Numbers.{IsRead}
-use Rattle.pv_cli.specs.Requests.{IsLevel, IsWidth, AreLevels, words_between, has_minus, behind_minus, with_minus}
+use Rattle.pv_tokens.specs.Numbers.{IsRead, IsNumeral, TooWide}
+use Rattle.pv_tokens.specs.declared.number.Decimal.{Decimal}
+use Rattle.pv_cli.specs.Requests.{IsLevel, IsWidth, AreLevels, AreLevelsIn, AreGiven, HasBadLevels, words_between, has_minus, behind_minus, with_minus}
 use Rattle.pv_cli.specs.Found.{RefusesValues, EndsWithLevel}
 use Rattle.pv_cli.specs.declared.refusal.Refusal.{Refusal}
 use Rattle.pv_cli.specs.declared.refusal.Refusal.TheVariants.{Usage, System, Contract, NoFile, ReadFault, Paving, NotStored, NotPrinted, Memory, TreeLimit, Disagree, Differs}
@@ -50,6 +51,11 @@ plain_width t n plain h = record {
   read = subst (λ (b : Bool). IsRead (if b then drop 1 t else t) h.ratio) plain h.read;
   rounded = h.rounded ∙ ap (λ (b : Bool). ratio_of Down (with_minus b h.ratio.0) h.ratio.1) plain;
 }
+
+pub plain_by : (t : Text) (r : Option Extended) → has_minus t ≡ false → MatchOption r ((n : Extended) → IsWidth t n → ⊥) (λ n. IsWidth t n)
+    → MatchOption r ((n : Extended) → IsLevel t n → ⊥) (λ n. IsLevel t n)
+plain_by t None plain h = λ n level. h n (plain_width t n plain level)
+plain_by t (Some n) plain h = plain_level t n plain h
 
 -- ---- Several numbers
 
@@ -92,3 +98,31 @@ module _ (words : List Text) where
   refused_at word rest (TreeLimit n) has h = h
   refused_at word rest (Disagree p a b) has h = h
   refused_at word rest (Differs p a b) has h = h
+
+-- what is said of the numbers of an option, by its text
+pub given_is : {A : Type 0} (items : A → List Extended) (r : Result A Refusal) (rows : List Row) (text : Option Text) → text ≡ first_of (codes "at") rows
+    → MatchResult r (λ a. AreLevelsIn text (items a)) (RefusesValues ((ns : List Extended) → AreLevelsIn text ns → ⊥))
+    → MatchResult r (λ a. AreGiven rows (items a)) (RefusesValues (HasBadLevels rows))
+given_is {A} items r rows text e h =
+    subst (λ (o : Option Text). MatchResult r (λ a. AreLevelsIn o (items a)) (RefusesValues ((ns : List Extended) → AreLevelsIn o ns → ⊥))) e h
+
+-- ---- A number behind a minus
+
+pub no_minus : (t : Text) → t ≡ [] → has_minus t ≡ true → ⊥
+no_minus [] e h = absurd (cc)
+no_minus (c ∷ cs) e h = absurd (cc)
+
+pub digits_are : (t digits : Text) (c : ℕ) → t ≡ c ∷ digits → has_minus t ≡ true → behind_minus t ≡ digits
+digits_are t digits c e h = ap (λ (b : Bool). if b then drop 1 t else t) h ∙ ap (drop 1) e
+
+pub unread : (t digits : Text) → behind_minus t ≡ digits → ((d : Decimal) → IsNumeral digits d → TooWide d) → (n : Extended) → IsLevel t n → ⊥
+unread t digits e none n h =
+    let read = subst (λ (u : Text). IsRead u h.ratio) e h.read in
+    read.narrow (none read.decimal read.numeral)
+
+pub minus_level : (t digits : Text) (v : ℤ × ℕ) (n : Extended) → behind_minus t ≡ digits → has_minus t ≡ true → IsRead digits v → n ≡ ratio_of Down (neg_ℤ v.0) v.1 → IsLevel t n
+minus_level t digits v n e h read is = record {
+  ratio = v;
+  read = subst (λ (u : Text). IsRead u v) (sym e) read;
+  rounded = is ∙ ap (λ (b : Bool). ratio_of Down (with_minus b v.0) v.1) (sym h);
+}

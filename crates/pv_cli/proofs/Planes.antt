@@ -1,12 +1,14 @@
 -- Axes and planes of a system, and the picture of a paving on one.
 use Rattle.std.proofs.Common.{◌≡◌, ℕ, ◌<◌, ◌+◌, List, length, map, sym, ◌∙◌, ap, subst}
 use Rattle.std.specs.Prelude.{◌≢◌, Some, slice_get}
+use Rattle.std.proofs.lemmas.List.{length-map}
 use Rattle.std.proofs.lemmas.Option.{slice_get_within, get_or_from_slice_get}
 use Rattle.clap.specs.Words.{Text}
 use Rattle.pv_num.specs.Extended.{Extended}
 use Rattle.pv_interval.specs.Bounds.{Bounds, everything}
 use Rattle.pv_expr.specs.Searches.{search_bounds}
 use Rattle.pv_expr.specs.Systems.{Parts}
+use Rattle.pv_parse.specs.Declarations.{variables_in, name_of, domain_in}
 use Rattle.pv_settle.specs.Rules.{SettlerParts, dims_of}
 use Rattle.pv_settle.specs.Settlers.{rule_of}
 use Rattle.pv_settle.specs.Settling.{settle_by, is_member}
@@ -78,6 +80,15 @@ no_plane_in before system s v parts rule read is none = record {
 }
 
 -- ---- Pictures
+
+-- a system that was read has a domain for each name
+pub dims_from : (before : Files) (system : Text) (s : Settings) (rule : SettlerParts) → HasRule before system s rule → length (search_box rule) ≡ dims_of rule
+dims_from before system s rule h =
+    let means = h.read.means in
+    let variables = variables_in means.text.reading.marks in
+    let same : length h.system.domains ≡ length h.system.names =
+    ap length means.domains ∙ (length-map variables domain_in ∙ (sym (length-map variables name_of) ∙ sym (ap length means.names))) in
+    length-map rule.system.domains search_bounds ∙ subst (λ (p : Parts). length p.domains ≡ length p.names) (sym h.is.system_is) same
 
 pub fits_root : (rule : SettlerParts) (x y : Text) (at : List Extended) (plane : Plane) (root : List Bounds) → length root ≡ dims_of rule
     → IsPlaneOf rule.system x y at plane → IsPlane plane (length root)

@@ -1,5 +1,6 @@
 -- What the words of a command ask for.
-use Rattle.std.specs.Prelude.{◌≡◌, ◌≢◌, ◌⊎◌, ℕ, ◌<◌, ◌≤◌, ◌==◌, ℤ, neg_ℤ, Bool, if◌then◌else◌, List, [], ◌∷◌, Option, Some, None, codes, drop, length, map, option_map, slice_index, slice_split, unwrap_or}
+use Rattle.std.specs.Prelude.{◌≡◌, ◌≢◌, ◌⊎◌, ℕ, ◌<◌, ◌≤◌, ◌==◌, ℤ, neg_ℤ, Bool, if◌then◌else◌, List, [], ◌∷◌, Option, Some, None, codes, drop, length, map, option_map, slice_index, unwrap_or}
+use Rattle.std.specs.List.{slice_split}
 use Rattle.std.specs.Str.Parse.{digits_value, AllDigits}
 use Rattle.clap.specs.Words.{Row, Text, first_of, all_of, fault_of, subcommand_of}
 use Rattle.std.specs.Borrow.{Bor}

@@ -65,15 +65,16 @@ pub(crate) fn svg<'a, F: Folder>(
         Ok(scene) => scene,
         Err(refusal) => return Err(refusal),
     };
-    let key = Key::of(alloc, &scene.settler)?;
+    let Scene { settler, axes } = scene;
+    let key = Key::of(alloc, &settler)?;
     let paving = match paving_in(alloc, folder, &key, name) {
         Ok(paving) => paving,
         Err(refusal) => return Err(refusal),
     };
-    learn_honest(&paving, &scene.settler);
-    pictures_are_sound(&scene.settler);
-    let Axes { x, y } = scene.axes;
-    Ok(Product::Picture(slice(alloc, &paving, x, y, &view.at)?))
+    learn_honest(&paving, &settler);
+    pictures_are_sound(&settler);
+    let picture = slice(alloc, &paving, axes.x, axes.y, &view.at)?;
+    Ok(Product::Picture(picture))
 }
 
 // The settler of the system in a file, and the axes of a view of its pavings.

@@ -1,0 +1,50 @@
+use Rattle.std.proofs.Common.{length, ◌∙◌, ap}
+use Rattle.pv_svg.specs.Texts.{picture_text}
+use Rattle.pv_settle.specs.Settlers.{rule_of}
+use Rattle.pv_cli.specs.Systems.{files}
+use Rattle.pv_cli.specs.Products.{text}
+use Rattle.pv_cli.specs.Scenes.{plane_of}
+use Rattle.pv_cli.proofs.Earlier.{only_read_on, paving_before, refused_before}
+use Rattle.pv_cli.proofs.Drawn.{scene_refused, picture_refused}
+use Rattle.pv_cli.proofs.Planes.{svg_comes, dims_from}
+use Rattle.pv_cli.proofs.svg.svg.Goals as goal
+
+pub returns-in-Err-clause-refused : goal.returns-in-Err-clause-refused
+returns-in-Err-clause-refused g c =
+    let before = (files (g.F.Folder.content c.args.folder.now) (g.F.Folder.fetch_faults c.args.folder.now) (g.F.Folder.store_faults c.args.folder.now)) in
+    let after = (files (g.F.Folder.content c.scene_in.new.folder) (g.F.Folder.fetch_faults c.scene_in.new.folder) (g.F.Folder.store_faults c.scene_in.new.folder)) in
+    scene_refused before after c.args.system.now c.args.settings.now c.args.view.now c.args.name.now c.in-Err.refusal c.in-Err.ensures.refused
+
+pub returns-in-Err-paving_in-clause-refused : goal.returns-in-Err-paving_in-clause-refused
+returns-in-Err-paving_in-clause-refused g c =
+    let before = (files (g.F.Folder.content c.args.folder.now) (g.F.Folder.fetch_faults c.args.folder.now) (g.F.Folder.store_faults c.args.folder.now)) in
+    let mid = (files (g.F.Folder.content c.scene_in.new.folder) (g.F.Folder.fetch_faults c.scene_in.new.folder) (g.F.Folder.store_faults c.scene_in.new.folder)) in
+    let after = (files (g.F.Folder.content c.paving_in.new.folder) (g.F.Folder.fetch_faults c.paving_in.new.folder) (g.F.Folder.store_faults c.paving_in.new.folder)) in
+    let rule = rule_of c.in-Ok.scene.settler in
+    let seen = c.in-Ok.ensures.scene in
+    picture_refused before after c.args.system.now c.args.settings.now c.args.view.now c.args.name.now c.in-Err-paving_in.refusal
+    (record {
+      rule = rule;
+      read = seen.read;
+      plane = plane_of c.in-Ok.scene.axes c.args.view.now.at.items;
+      shown = seen.plane;
+      refused = refused_before before mid c.in-Ok.ensures.read after rule c.args.name.now c.in-Err-paving_in.refusal (c.in-Err-paving_in.ensures.refused rule c.in_ok-key.ensures);
+    })
+
+pub returns-clause-read : goal.returns-clause-read
+returns-clause-read g c = only_read_on _ _ _ c.in-Ok.ensures.read c.in-Ok-paving_in.ensures.read
+
+pub returns-clause-comes : goal.returns-clause-comes
+returns-clause-comes g c =
+    let before = (files (g.F.Folder.content c.args.folder.now) (g.F.Folder.fetch_faults c.args.folder.now) (g.F.Folder.store_faults c.args.folder.now)) in
+    let mid = (files (g.F.Folder.content c.scene_in.new.folder) (g.F.Folder.fetch_faults c.scene_in.new.folder) (g.F.Folder.store_faults c.scene_in.new.folder)) in
+    let rule = rule_of c.in-Ok.scene.settler in
+    let seen = c.in-Ok.ensures.scene in
+    let t = c.in-Ok-paving_in.paving.tree in
+    let root = c.in-Ok-paving_in.ensures.root ∙ c.in_ok-key.ensures.root in
+    svg_comes before c.args.system.now c.args.name.now c.args.settings.now c.args.view.now c.in-Ok.scene c.in-Ok-paving_in.paving.root t _ seen
+    (paving_before before mid c.in-Ok.ensures.read rule c.args.name.now t (c.in-Ok-paving_in.ensures.paving rule c.in_ok-key.ensures))
+    root (ap length root ∙ dims_from before c.args.system.now c.args.settings.now rule seen.read)
+    (c.learn_honest.ensures.honest seen.read.system c.args.settings.now seen.read.is)
+    c.pictures_are_sound.ensures
+    (ap (λ d. text (picture_text d)) c.in_ok-picture.ensures)
