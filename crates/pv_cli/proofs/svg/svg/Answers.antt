@@ -1,4 +1,5 @@
-use Rattle.std.proofs.Common.{length, ◌∙◌, ap}
+use Rattle.std.proofs.Common.{◌≡◌, rules, length, ◌∙◌, ap}
+use Rattle.pv_svg.specs.Rectangles.{picture_of}
 use Rattle.pv_svg.specs.Texts.{picture_text}
 use Rattle.pv_settle.specs.Settlers.{rule_of}
 use Rattle.pv_cli.specs.Systems.{files}
@@ -42,9 +43,36 @@ returns-clause-comes g c =
     let seen = c.in-Ok.ensures.scene in
     let t = c.in-Ok-paving_in.paving.tree in
     let root = c.in-Ok-paving_in.ensures.root ∙ c.in_ok-key.ensures.root in
+    let same : c.deref.result.now ≡ c.args.view.now.at.items = search rules in
     svg_comes before c.args.system.now c.args.name.now c.args.settings.now c.args.view.now c.in-Ok.scene c.in-Ok-paving_in.paving.root t _ seen
     (paving_before before mid c.in-Ok.ensures.read rule c.args.name.now t (c.in-Ok-paving_in.ensures.paving rule c.in_ok-key.ensures))
     root (ap length root ∙ dims_from before c.args.system.now c.args.settings.now rule seen.read)
     (c.learn_honest.ensures.honest seen.read.system c.args.settings.now seen.read.is)
     c.pictures_are_sound.ensures
-    (ap (λ d. text (picture_text d)) c.in_ok-picture.ensures)
+    (ap (λ d. text (picture_text d)) (c.in_ok-picture.ensures ∙ ap (λ at. picture_of (plane_of c.in-Ok.scene.axes at) c.in-Ok-paving_in.paving.root t) same))
+
+pub invariant_of-settler-in_err-picture : goal.invariant_of-settler-in_err-picture
+invariant_of-settler-in_err-picture g c =
+    let s = c.in-Ok.scene.settler in
+    record {
+      names_some = s.names_some;
+      names_few = s.names_few;
+      depth_some = s.depth_some;
+      depth_few = s.depth_few;
+      dims = s.dims;
+      over = s.over;
+      program_fits = s.program_fits;
+    }
+
+pub invariant_of-settler-2 : goal.invariant_of-settler-2
+invariant_of-settler-2 g c =
+    let s = c.in-Ok.scene.settler in
+    record {
+      names_some = s.names_some;
+      names_few = s.names_few;
+      depth_some = s.depth_some;
+      depth_few = s.depth_few;
+      dims = s.dims;
+      over = s.over;
+      program_fits = s.program_fits;
+    }
