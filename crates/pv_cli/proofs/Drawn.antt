@@ -11,34 +11,6 @@ use Rattle.pv_cli.specs.declared.refusal.Refusal.{Refusal}
 use Rattle.pv_cli.specs.declared.refusal.Refusal.TheVariants.{Usage, System, Contract, NoFile, ReadFault, Paving, NotStored, NotPrinted, Memory, TreeLimit, Disagree, Differs}
 
 module _ (before after : Files) (system : Text) (s : Settings) (v : View) where
-  pub system_refused : (r : Refusal) → RefusesSystem before after system r → RefusesScene before after system s v r
-  system_refused Usage h = absurd h
-  system_refused (System line column byte cause) h = h
-  system_refused (Contract byte) h = absurd h
-  system_refused (NoFile n) h = h
-  system_refused (ReadFault n) h = h
-  system_refused (Paving n f) h = h
-  system_refused (NotStored n) h = h
-  system_refused NotPrinted h = h
-  system_refused Memory h = h
-  system_refused (TreeLimit n) h = h
-  system_refused (Disagree p a b) h = h
-  system_refused (Differs p a b) h = h
-
-  pub settings_refused : (parts : Parts) (r : Refusal) → HasSystem before system parts → RefusesSettings parts s r → RefusesScene before after system s v r
-  settings_refused parts (Contract byte) read h = record { system = parts; read = read; refused = h }
-  settings_refused parts Memory read h = tt
-  settings_refused parts Usage read h = absurd h
-  settings_refused parts (System line column byte cause) read h = absurd h
-  settings_refused parts (NoFile n) read h = absurd h
-  settings_refused parts (ReadFault n) read h = absurd h
-  settings_refused parts (Paving n f) read h = absurd h
-  settings_refused parts (NotStored n) read h = absurd h
-  settings_refused parts NotPrinted read h = absurd h
-  settings_refused parts (TreeLimit n) read h = absurd h
-  settings_refused parts (Disagree p a b) read h = absurd h
-  settings_refused parts (Differs p a b) read h = absurd h
-
   pub scene_refused : (name : Text) (r : Refusal) → RefusesScene before after system s v r → RefusesSvg before after system name s v r
   scene_refused name Usage h = h
   scene_refused name (System line column byte cause) h = inl h

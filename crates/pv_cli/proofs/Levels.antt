@@ -99,26 +99,10 @@ module _ (words : List Text) where
   refused_at word rest (Disagree p a b) has h = h
   refused_at word rest (Differs p a b) has h = h
 
--- what is said of the numbers of an option, by its text
-pub given_is : {A : Type 0} (items : A → List Extended) (r : Result A Refusal) (rows : List Row) (text : Option Text) → text ≡ first_of (codes "at") rows
-    → MatchResult r (λ a. AreLevelsIn text (items a)) (RefusesValues ((ns : List Extended) → AreLevelsIn text ns → ⊥))
-    → MatchResult r (λ a. AreGiven rows (items a)) (RefusesValues (HasBadLevels rows))
-given_is {A} items r rows text e h =
-    subst (λ (o : Option Text). MatchResult r (λ a. AreLevelsIn o (items a)) (RefusesValues ((ns : List Extended) → AreLevelsIn o ns → ⊥))) e h
-
 -- ---- A number behind a minus
-
-pub no_minus : (t : Text) → t ≡ [] → has_minus t ≡ true → ⊥
-no_minus [] e h = absurd (cc)
-no_minus (c ∷ cs) e h = absurd (cc)
 
 pub digits_are : (t digits : Text) (c : ℕ) → t ≡ c ∷ digits → has_minus t ≡ true → behind_minus t ≡ digits
 digits_are t digits c e h = ap (λ (b : Bool). if b then drop 1 t else t) h ∙ ap (drop 1) e
-
-pub unread : (t digits : Text) → behind_minus t ≡ digits → ((d : Decimal) → IsNumeral digits d → TooWide d) → (n : Extended) → IsLevel t n → ⊥
-unread t digits e none n h =
-    let read = subst (λ (u : Text). IsRead u h.ratio) e h.read in
-    read.narrow (none read.decimal read.numeral)
 
 pub minus_level : (t digits : Text) (v : ℤ × ℕ) (n : Extended) → behind_minus t ≡ digits → has_minus t ≡ true → IsRead digits v → n ≡ ratio_of Down (neg_ℤ v.0) v.1 → IsLevel t n
 minus_level t digits v n e h read is = record {

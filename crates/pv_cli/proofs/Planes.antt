@@ -33,43 +33,11 @@ use Rattle.pv_cli.specs.declared.request.View.{View}
 place_is : (b : List Bounds) (i : ℕ) (part : Bounds) → slice_get b i ≡ Some part → place b i ≡ part
 place_is b i part e = get_or_from_slice_get b i part everything e
 
-pub axis_is : (system : Parts) (name : Text) (i : ℕ) (part : Bounds) → slice_get system.names i ≡ Some name → slice_get (map search_bounds system.domains) i ≡ Some part
-    → IsFinite part → IsAxis system name i
-axis_is system name i part named there finite = record { named = named; bounded = subst IsFinite (sym (place_is _ i part there)) finite }
-
 pub no_axis : (system : Parts) (name : Text) (i : ℕ) (part : Bounds) → slice_get system.names i ≡ Some name → slice_get (map search_bounds system.domains) i ≡ Some part
     → (IsFinite part → ⊥) → HasNoAxis system name
 no_axis system name i part named there infinite = unbounded i named (λ finite. infinite (subst IsFinite (place_is _ i part there) finite))
 
-some_same : (a b : Text) → Some a ≡ Some b → a ≡ b
-some_same a b e = cc
-
--- one variable has one name
-pub one_axis : (system : Parts) (x y : Text) (i j : ℕ) → IsAxis system x i → IsAxis system y j → i ≡ j → x ≡ y
-one_axis system x y i j one other same = some_same x y (sym one.named ∙ (ap (slice_get system.names) same ∙ other.named))
-
-pub plane_is : (system : Parts) (x y : Text) (at : List Extended) (plane : Plane) → IsAxis system x plane.x → IsAxis system y plane.y → plane.at ≡ at → plane.x ≢ plane.y
-    → length at + 2 ≡ length system.names → IsPlaneOf system x y at plane
-plane_is system x y at plane one other same two count = record {
-  x_is = one;
-  y_is = other;
-  at_is = same;
-  fits = record {
-    x = slice_get_within system.names plane.x x one.named;
-    y = slice_get_within system.names plane.y y other.named;
-    two = two;
-    others = ap (λ (xs : List Extended). length xs + 2) same ∙ count;
-  };
-}
-
--- ---- Scenes
-
-pub scene_is : (before : Files) (system : Text) (s : Settings) (v : View) (parts : Parts) (scene : Scene) → HasSystem before system parts → IsRuleFor parts s (rule_of scene.settler)
-    → IsPlaneOf parts v.x.now v.y.now v.at.items (plane_of scene.axes v.at.items) → IsScene before system s v scene
-scene_is before system s v parts scene read rule plane = record {
-  read = record { system = parts; read = read; is = rule };
-  plane = subst (λ (p : Parts). IsPlaneOf p v.x.now v.y.now v.at.items (plane_of scene.axes v.at.items)) (sym rule.system_is) plane;
-}
+-- ---- Planes
 
 pub no_plane_in : (before : Files) (system : Text) (s : Settings) (v : View) (parts : Parts) (rule : SettlerParts) → HasSystem before system parts → IsRuleFor parts s rule
     → HasNoPlane parts v.x.now v.y.now v.at.items → HasNoPlaneIn before system s v
@@ -93,9 +61,6 @@ dims_from before system s rule h =
 pub fits_root : (rule : SettlerParts) (x y : Text) (at : List Extended) (plane : Plane) (root : List Bounds) → length root ≡ dims_of rule
     → IsPlaneOf rule.system x y at plane → IsPlane plane (length root)
 fits_root rule x y at plane root count h = subst (IsPlane plane) (sym count) h.fits
-
-pub finite_in : (rule : SettlerParts) (name : Text) (i : ℕ) (root : List Bounds) → root ≡ search_box rule → IsAxis rule.system name i → IsFinite (place root i)
-finite_in rule name i root is h = subst (λ (b : List Bounds). IsFinite (place b i)) (sym is) h.bounded
 
 pub svg_comes : (before : Files) (system name : Text) (s : Settings) (v : View) (scene : Scene) (root : List Bounds) (t : Tree) (p : Product) → IsScene before system s v scene
     → HasPaving before (rule_of scene.settler) name t → root ≡ search_box (rule_of scene.settler) → length root ≡ dims_of (rule_of scene.settler)

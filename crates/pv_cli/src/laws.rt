@@ -52,7 +52,8 @@ pub fn others_stay()
     ensures { OthersStay }
 {}
 
-/// Words are refused exactly where clap's meaning refuses them or a value that their command takes.
+/// Words are refused exactly where clap's meaning refuses them or a value that their command takes. Status 2 comes
+/// of them, of the contractor program or of the plane of a picture.
 pub fn words()
     ensures asked { AskingIsNotRefused }
     ensures refused { RefusedWordsEnd }

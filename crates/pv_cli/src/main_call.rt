@@ -25,8 +25,8 @@ use std::alloc::Global;
 /// Runs the command that the words give, of which word 0 is the program's name.
 ///
 /// With status 0 or 1 the words ask for something, and what comes of it over the folder was printed. Else the
-/// refusal is the first in this order: words and values, system, contractor program, work, printing; and its
-/// line is told on the standard error.
+/// refusal is the first in this order: words and values, system, contractor program, plane, paving files, work,
+/// printing; and its line is told on the standard error.
 pub fn paver_main<F: Folder, K: Sink, E: Sink, G: Gate>(
     alloc: Global,
     words: &[String],

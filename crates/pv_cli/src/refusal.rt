@@ -13,7 +13,7 @@ use std::alloc::{AllocError, AllocFailed, Global};
 /// What ends a command before all its work is done and printed.
 #[derive(Drop)]
 pub enum Refusal<'a> {
-    /// The words are no command, or a value in them is refused.
+    /// The words are no command, a value in them is refused, or the system has no such plane.
     Usage,
     /// The text of the system has a fault. Lines and columns are counted from 1, bytes from 0.
     System {

@@ -8,7 +8,7 @@ pub enum Status {
     Done,
     /// The budget ended the work with leaves still open.
     OpenLeft,
-    /// The words, a value in them or the contractor program is refused.
+    /// The words, a value in them, the contractor program or the plane of a picture is refused.
     Usage,
     /// The text of the system is refused.
     SystemRefused,
