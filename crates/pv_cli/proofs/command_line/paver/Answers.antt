@@ -1,7 +1,7 @@
 use Rattle.std.proofs.Common.{◌≡◌, ◌∙◌, ap, ap₂}
 use Rattle.std.proofs.lemmas.Result.{IfOk-weaker}
 use Rattle.clap.specs.Words.{App, app_of, with_subcommand}
-use Rattle.pv_cli.specs.Commands.{top_app, check_app, run_app, resume_app, merge_app, audit_app, svg_app, paver_app}
+use Rattle.pv_cli.specs.Commands.{top_app, check_app, run_app, resume_app, merge_app, audit_app, paver_app}
 use Rattle.pv_cli.proofs.command_line.paver.Goals as goal
 
 pub returns : goal.returns

@@ -1,4 +1,4 @@
-use Rattle.std.proofs.Common.{◌≡◌, rules, [], List, ℕ, subst}
+use Rattle.std.proofs.Common.{rules, [], List, ℕ, subst}
 use Rattle.pv_cli.specs.Requests.{words_between}
 use Rattle.pv_cli.proofs.Levels.{Fills, HasRest, fills_on, rest_on, refused_at}
 use Rattle.pv_cli.proofs.values.levels_of.Goals as goal
