@@ -15,6 +15,7 @@ use crate::narrow::narrow;
 use crate::node::Node;
 use crate::relate::related;
 use crate::revise::{copied, is_same, restore};
+use crate::revised::Revised;
 use crate::total::{decides, is_total};
 use pv_box::IBox;
 use pv_expr::Relation;
@@ -32,6 +33,20 @@ pub enum Judged {
     Changed(Marks),
     /// No point of the box satisfies it.
     Empty,
+}
+
+impl Judged {
+    /// What the revision did to the box.
+    #[inline]
+    pub fn revised(self) -> Revised
+        ensures { result ≡ revised_by self }
+    {
+        match self {
+            Judged::Sure | Judged::Kept => Revised::Kept,
+            Judged::Changed(_) => Revised::Changed,
+            Judged::Empty => Revised::Empty,
+        }
+    }
 }
 
 impl Graph {
