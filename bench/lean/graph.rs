@@ -156,13 +156,17 @@ impl Graph {
         }
     }
 
-    pub fn down(&self, at: usize, z: Interval, values: &[Interval], bx: &mut Box_) -> Option<()> {
+    /// Where no divisor holds 0, a target that is the node's own interval narrows nothing.
+    pub fn down(&self, at: usize, z: Interval, values: &[Interval], total: bool, bx: &mut Box_) -> Option<()> {
+        if total && z == values[at] {
+            return Some(());
+        }
         match self.nodes[at] {
             Node::Const(_) => {}
             Node::Var(i) => bx[i] = bx[i].meet(z)?,
-            Node::Neg(e) => self.down(e, values[e].meet(z.neg())?, values, bx)?,
-            Node::Abs(e) => self.down(e, back_abs(z, values[e])?, values, bx)?,
-            Node::Pow(e, n) => self.down(e, back_pow(z, values[e], n)?, values, bx)?,
+            Node::Neg(e) => self.down(e, values[e].meet(z.neg())?, values, total, bx)?,
+            Node::Abs(e) => self.down(e, back_abs(z, values[e])?, values, total, bx)?,
+            Node::Pow(e, n) => self.down(e, back_pow(z, values[e], n)?, values, total, bx)?,
             Node::Two(o, e, f) => {
                 let (x, y) = (values[e], values[f]);
                 let (x1, y1) = match o {
@@ -173,8 +177,8 @@ impl Graph {
                     Max => back_max(z, x, y)?,
                     Div => back_div(z, x, y)?,
                 };
-                self.down(e, x1, values, bx)?;
-                self.down(f, y1, values, bx)?;
+                self.down(e, x1, values, total, bx)?;
+                self.down(f, y1, values, total, bx)?;
             }
         }
         Some(())

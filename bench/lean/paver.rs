@@ -4,7 +4,8 @@
 //!
 //! It takes the same short cuts as paver. A constraint that is sure on a box is sure on every part of it, and is neither
 //! revised nor tested there again. One that was kept is clean, and passed over until a place of one of its variables
-//! changes, by a contraction or a cut. Both facts go with a box to its halves. Leaves wait on a stack, and a node is
+//! changes, by a contraction or a cut. Both facts go with a box to its halves. A pass down stops where a
+//! target is the node's own interval. Leaves wait on a stack, and a node is
 //! printed when it is settled.
 mod graph;
 mod interval;
@@ -115,8 +116,8 @@ impl Paver {
         }
         let (l, r) = g.related(l, r)?;
         let before = *bx;
-        g.down(g.left, l, &self.values, bx)?;
-        g.down(g.right, r, &self.values, bx)?;
+        g.down(g.left, l, &self.values, total, bx)?;
+        g.down(g.right, r, &self.values, total, bx)?;
         let mut touched = 0;
         for k in 0..self.dims {
             if bx[k] != before[k] {
@@ -173,11 +174,22 @@ impl Paver {
     }
 }
 
-/// From the least lower end to the greatest upper one that lie in at least q of the intervals.
+/// From the least lower end to the greatest upper one that lie in at least q of the intervals. An end is only counted
+/// where it is better than the best so far.
 fn q_hull(q: usize, i: usize, found: &[Box_]) -> Option<Interval> {
-    let enough = |n: &Num| found.iter().filter(|b| b[i].lo <= *n && *n <= b[i].hi).count() >= q;
-    let lo = found.iter().map(|b| b[i].lo).filter(|n| enough(n)).min()?;
-    let hi = found.iter().map(|b| b[i].hi).filter(|n| enough(n)).max()?;
+    let enough = |n: Num| found.iter().filter(|b| b[i].lo <= n && n <= b[i].hi).count() >= q;
+    let mut low: Option<Num> = None;
+    let mut high: Option<Num> = None;
+    for b in found {
+        let Interval { lo, hi } = b[i];
+        if low.is_none_or(|best| lo < best) && enough(lo) {
+            low = Some(lo);
+        }
+        if high.is_none_or(|best| best < hi) && enough(hi) {
+            high = Some(hi);
+        }
+    }
+    let (lo, hi) = (low?, high?);
     (lo <= hi).then_some(Interval { lo, hi })
 }
 

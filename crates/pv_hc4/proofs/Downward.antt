@@ -66,7 +66,7 @@ term_read ns d k n e o h n_is = term_step ns k h (o.reads k h) ∙ ap (node_term
 pub below_is : (ns : List Node) (d k : ℕ) (n e : Node) → AreOrdered ns d → k < length ns → get_or ns k e ≡ n → ReadsBelow k n
 below_is ns d k n e o h n_is = subst (ReadsBelow k) (sym (node_default ns k e h) ∙ n_is) (o.reads k h)
 
-value_read : (b : List Bounds) (ns : List Node) (vs : List Bounds) (a : ℕ) (v : Bounds) → AreValues b ns vs → a < length ns → v ≡ get_or vs a v → forward_of b (term_at (terms ns) a) ≡ Some v
+pub value_read : (b : List Bounds) (ns : List Node) (vs : List Bounds) (a : ℕ) (v : Bounds) → AreValues b ns vs → a < length ns → v ≡ get_or vs a v → forward_of b (term_at (terms ns) a) ≡ Some v
 value_read b ns vs a v av h v_is =
     let inside : a < length vs = omega (arith, av.same) in
     av.each a h ∙ ap Some (sym (get_or_read vs a v inside v_is everything))

@@ -19,3 +19,4 @@ pub mod Whole
 pub mod Inherited
 pub mod Masks
 pub mod Judging
+pub mod Resting

@@ -259,7 +259,7 @@ two_fine k None p h i = tt
 two_fine k (Some x) None h i = tt
 two_fine k (Some x) (Some y) h i = binary_fine k x y h i
 
-at_fine : (b : List Bounds) (i : ℕ) → All IsInterval b → IsInterval (at b i)
+pub at_fine : (b : List Bounds) (i : ℕ) → All IsInterval b → IsInterval (at b i)
 at_fine b i h = by_length b i h
   where
     by_length : (b : List Bounds) (i : ℕ) → All IsInterval b → IsInterval (at b i)

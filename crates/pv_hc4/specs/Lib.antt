@@ -1,5 +1,6 @@
 pub mod Chain
 pub mod Forward
+pub mod Resting
 pub mod Revise
 pub mod Nodes
 pub mod Graphs

@@ -12,7 +12,6 @@ ghost use Rattle.pv_hc4.specs.Members.{AreOver, AreWithin, HoldsOn, LosesNoPoint
 use crate::builder::Builder;
 use crate::forward::forward_all;
 use crate::node::Node;
-use crate::revise::revise_values;
 use crate::revised::Revised;
 use crate::steps::Steps;
 use crate::total::{decides, is_total};
@@ -135,15 +134,8 @@ impl Graph {
         ensures answer { IfOk result (λ r. IsAnswer (revised (sides_of self.now) bx.old) r bx.old bx.new) }
         ensures unchanged { OnErr result (bx.new ≡ bx.old) }
     {
-        fill(&mut scratch.values, &self.ready)?;
-        Ok(revise_values(
-            &self.nodes,
-            self.left,
-            self.relation,
-            self.right,
-            &mut scratch.values,
-            bx,
-        ))
+        let judged = self.judge_in(scratch, bx)?;
+        Ok(judged.revised())
     }
 
     /// As `revise`; the steps rise by one.

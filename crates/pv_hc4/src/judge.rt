@@ -4,6 +4,7 @@ ghost use Rattle.std.specs.Prelude.{◌≡◌, ◌↔◌, IsTrue, ℕ, ◌<◌, 
 ghost use Rattle.pv_hc4.specs.Graphs.{AreValues, AreReady, IsAnswer, IsGraph, sides_of};
 ghost use Rattle.pv_hc4.specs.Nodes.{AreOrdered, terms, term_at};
 ghost use Rattle.pv_hc4.specs.Revise.{revised, narrowed_of};
+ghost use Rattle.pv_hc4.specs.Resting.{MayRest};
 ghost use Rattle.pv_hc4.specs.Totality.{sure_of};
 ghost use Rattle.pv_hc4.specs.Judging.{revised_by, is_sure_by, MarksChanged, AreChanged};
 
@@ -14,6 +15,7 @@ use crate::narrow::narrow;
 use crate::node::Node;
 use crate::relate::related;
 use crate::revise::{copied, is_same, restore};
+use crate::revised::Revised;
 use crate::total::{decides, is_total};
 use pv_box::IBox;
 use pv_expr::Relation;
@@ -31,6 +33,20 @@ pub enum Judged {
     Changed(Marks),
     /// No point of the box satisfies it.
     Empty,
+}
+
+impl Judged {
+    /// What the revision did to the box.
+    #[inline]
+    pub fn revised(self) -> Revised
+        ensures { result ≡ revised_by self }
+    {
+        match self {
+            Judged::Sure | Judged::Kept => Revised::Kept,
+            Judged::Changed(_) => Revised::Changed,
+            Judged::Empty => Revised::Empty,
+        }
+    }
 }
 
 impl Graph {
@@ -82,8 +98,10 @@ fn judge_sides(
     left: usize,
     right: usize,
     both: (Interval, Interval),
+    rests: bool,
     bx: &mut IBox,
 ) -> Judged
+    requires rest { MayRest rests bx.old bx.old nodes.now }
     requires ordered { AreOrdered nodes.now (length bx.old) }
     requires left_in { left < length nodes.now }
     requires right_in { right < length nodes.now }
@@ -94,8 +112,8 @@ fn judge_sides(
 {
     let saved = copied(bx);
     let entry = &saved[..bx.dims() as usize];
-    if narrow(nodes, values, left, both.0, entry, bx)
-        && narrow(nodes, values, right, both.1, entry, bx)
+    if narrow(nodes, values, rests, left, both.0, entry, bx)
+        && narrow(nodes, values, rests, right, both.1, entry, bx)
     {
         if is_same(entry, bx) {
             Judged::Kept
@@ -125,6 +143,23 @@ fn is_sure(
     decides(relation, values[left], values[right]) && is_total(nodes, values, bx)
 }
 
+// Whether a target that is a node's own interval may be left alone: where no divisor contains 0.
+fn may_rest(
+    nodes: &[Node],
+    values: &[Interval],
+    left: usize,
+    relation: Relation,
+    right: usize,
+    bx: &IBox,
+) -> bool
+    requires graph { IsGraph (record { nodes = nodes.now; left = left; relation = relation; right = right; dims = length bx.now }) }
+    requires valued { AreValues bx.now nodes.now values.now }
+    ensures { MayRest result bx.now bx.now nodes.now }
+{
+    let _dims = bx.dims();
+    is_total(nodes, values, bx)
+}
+
 // Revises the box by the constraint between two nodes. At the entry the values have the constants'.
 pub fn judge_values(
     nodes: &[Node],
@@ -148,7 +183,10 @@ pub fn judge_values(
         return Judged::Sure;
     }
     match related(relation, values[left], values[right]) {
-        Some(both) => judge_sides(nodes, values, left, right, both, bx),
+        Some(both) => {
+            let rests = may_rest(nodes, values, left, relation, right, bx);
+            judge_sides(nodes, values, left, right, both, rests, bx)
+        }
         None => Judged::Empty,
     }
 }

@@ -1,10 +1,11 @@
 //! The downward pass.
 
-ghost use Rattle.std.specs.Prelude.{◌≡◌, ℕ, ◌+◌, ◌<◌, ◌≤◌, length, Some, [], ◌∷◌};
+ghost use Rattle.std.specs.Prelude.{◌≡◌, IsTrue, ℕ, ◌+◌, ◌<◌, ◌≤◌, length, Some, [], ◌∷◌};
 ghost use Rattle.pv_hc4.specs.Chain.{Gives};
 ghost use Rattle.pv_hc4.specs.Revise.{back_1, back_2, went, applied};
 ghost use Rattle.pv_hc4.specs.Nodes.{unary_named, binary_named, IsPower, AreOrdered, terms, term_at};
 ghost use Rattle.pv_hc4.specs.Graphs.{AreValues};
+ghost use Rattle.pv_hc4.specs.Resting.{MayRest};
 
 use crate::node::{BinaryOp, Node, UnaryOp};
 use pv_box::IBox;
@@ -57,11 +58,21 @@ fn narrow_place(bx: &mut IBox, place: u8, target: Interval) -> bool
     }
 }
 
+// Whether a target is left alone: it is the node's own interval, and such ones rest.
+#[inline]
+fn is_left(rests: bool, target: Interval, own: Interval) -> bool
+    ensures { IsTrue result → IsTrue rests × (target ≡ own) }
+{
+    rests && target == own
+}
+
 // Narrows the box by all occurrences below a node; false where a step is empty, and then the box is
 // somewhere between. `entry` is the box that the values were made for.
+// A target that is the node's own interval narrows nothing, and is left alone where `rests` says so.
 pub(crate) fn narrow(
     nodes: &[Node],
     values: &[Interval],
+    rests: bool,
     at: usize,
     target: Interval,
     entry: &[Interval],
@@ -70,21 +81,26 @@ pub(crate) fn narrow(
     requires inside { at < length nodes.now }
     requires ordered { AreOrdered nodes.now (length bx.old) }
     requires valued { AreValues entry.now nodes.now values.now }
+    requires rest { MayRest rests entry.now bx.old nodes.now }
     ensures dims { length bx.new ≡ length bx.old }
     ensures narrowed { Gives result bx.new (went entry.now bx.old (term_at (terms nodes.now) at) target) }
 {
+    if is_left(rests, target, values[at]) {
+        let _places = bx.dims();
+        return true;
+    }
     match nodes[at] {
         Node::Constant { .. } => true,
         Node::Place(i) => narrow_place(bx, i, target),
         Node::One(op, a) => match back_unary(op, target, values[a]) {
-            Some(x) => narrow(nodes, values, a, x, entry, bx),
+            Some(x) => narrow(nodes, values, rests, a, x, entry, bx),
             None => false,
         },
         Node::Two(op, a, b) => {
             match back_binary(op, target, values[a], values[b]) {
                 Some(both) => {
-                    narrow(nodes, values, a, both.0, entry, bx)
-                        && narrow(nodes, values, b, both.1, entry, bx)
+                    narrow(nodes, values, rests, a, both.0, entry, bx)
+                        && narrow(nodes, values, rests, b, both.1, entry, bx)
                 }
                 None => false,
             }

@@ -1,6 +1,9 @@
-use Rattle.std.proofs.Common.{rules, ◌≡◌, take, refl, ap, ◌∙◌, subst}
+use Rattle.std.proofs.Common.{rules, ◌≡◌, take, refl, ap, sym, ◌∙◌, subst}
 use Rattle.pv_hc4.specs.Judging.{AreChanged}
 use Rattle.pv_hc4.specs.Nodes.{terms, term_at}
+use Rattle.pv_hc4.specs.Resting.{MayRest}
+use Rattle.pv_hc4.specs.Revise.{went}
+use Rattle.pv_hc4.proofs.Resting.{gives_true, rest_after}
 use Rattle.pv_hc4.proofs.Answering.{is_kept, is_changed, is_empty_first, is_empty_second}
 use Rattle.pv_hc4.proofs.judge.judge_sides.Goals as goal
 use Rattle.pv_hc4.proofs.judge.judge_sides.Goals.{else-narrow-via-then-narrow+else-narrow-2, else-narrow-via-else-narrow}
@@ -27,3 +30,10 @@ returns-else-narrow c =
       unsure = refl;
       changed = tt;
     }
+
+pub narrow-requires-then-narrow-clause-rest : goal.narrow-requires-then-narrow-clause-rest
+narrow-requires-then-narrow-clause-rest c =
+    let e : take c.dims.result c.copied-saved.result ≡ c.args.bx.now = ap (λ n. take n c.copied-saved.result) c.dims.ensures.dims ∙ c.copied-saved.ensures in
+    let first = gives_true c.narrow.result c.narrow.new.bx (went (take c.dims.result c.copied-saved.result) c.args.bx.now (term_at (terms c.args.nodes.now) c.args.left) c.args.both.0) c.if-narrow.true c.narrow.ensures.narrowed in
+    rest_after c.args.rests (take c.dims.result c.copied-saved.result) c.args.bx.now c.narrow.new.bx c.args.nodes.now (term_at (terms c.args.nodes.now) c.args.left) c.args.both.0
+    (subst (λ x. MayRest c.args.rests x c.args.bx.now c.args.nodes.now) (sym e) c.requires.rest) first

@@ -1,8 +1,10 @@
-use Rattle.std.proofs.Common.{◌∙◌, sym, ap, subst}
+use Rattle.std.proofs.Common.{rules, ◌∙◌, sym, ap, subst}
 use Rattle.pv_hc4.specs.Chain.{Gives, chain}
 use Rattle.pv_hc4.specs.Revise.{went}
-use Rattle.pv_hc4.specs.Nodes.{terms, term_at}
-use Rattle.pv_hc4.proofs.Downward.{term_read, one_read, two_read, second_gives, first_fails}
+use Rattle.pv_hc4.specs.Nodes.{terms, term_at, AreOrdered}
+use Rattle.pv_hc4.specs.declared.node.Node.TheVariants.{One, Two}
+use Rattle.pv_hc4.proofs.Resting.{rest_gives, rest_after, rest_is, gives_true}
+use Rattle.pv_hc4.proofs.Downward.{below_is, term_read, one_read, two_read, second_gives, first_fails}
 use Rattle.pv_hc4.proofs.narrow.+narrow.Goals as goal
 
 pub returns-in-Constant-clause-narrowed : goal.returns-in-Constant-clause-narrowed
@@ -45,3 +47,41 @@ returns-then-narrow-clause-narrowed t c =
     subst (Gives c.narrow-then-narrow.result c.narrow-then-narrow.new.bx) (sym f)
     (second_gives c.narrow-in-Some-back_binary.result c.narrow-then-narrow.result c.narrow-in-Some-back_binary.new.bx c.narrow-then-narrow.new.bx (went c.args.entry.now c.args.bx.now (term_at (terms c.args.nodes.now) c.in-Two.a) c.in-Some-back_binary.both.0)
     (λ r. went c.args.entry.now r (term_at (terms c.args.nodes.now) c.in-Two.b) c.in-Some-back_binary.both.1) c.if-narrow.true c.narrow-in-Some-back_binary.ensures.narrowed c.narrow-then-narrow.ensures.narrowed)
+
+pub returns-then-is_left-clause-narrowed : goal.returns-then-is_left-clause-narrowed
+returns-then-is_left-clause-narrowed t c =
+    let q = c.if-is_left.ensures (search rules) in
+    rest_gives c.args.entry.now c.args.bx.now c.args.nodes.now c.args.values.now c.args.at c.args.target c.index-values-at.result
+    (rest_is c.args.rests c.args.entry.now c.args.bx.now c.args.nodes.now q.0 c.requires.rest) c.requires.valued c.dims-places.ensures.is_box.intervals c.requires.inside c.index-values-at.is q.1
+
+pub offset_bounds-values-a : goal.offset_bounds-values-a
+offset_bounds-values-a t c =
+    let u = below_is c.args.nodes.now _ c.args.at (One c.in-One.op c.in-One.a) _ c.requires.ordered c.requires.inside c.in-One.is in
+    search (rules, u)
+
+pub offset_bounds-values-a-in-Two : goal.offset_bounds-values-a-in-Two
+offset_bounds-values-a-in-Two t c =
+    let u = below_is c.args.nodes.now _ c.args.at (Two c.in-Two.op c.in-Two.a c.in-Two.b) _ c.requires.ordered c.requires.inside c.in-Two.is in
+    search (rules, u.0)
+
+pub offset_bounds-values-b : goal.offset_bounds-values-b
+offset_bounds-values-b t c =
+    let u = below_is c.args.nodes.now _ c.args.at (Two c.in-Two.op c.in-Two.a c.in-Two.b) _ c.requires.ordered c.requires.inside c.in-Two.is in
+    search (rules, u.1)
+
+pub narrow-requires-then-narrow : goal.narrow-requires-then-narrow
+narrow-requires-then-narrow t c =
+    let u = below_is c.args.nodes.now _ c.args.at (Two c.in-Two.op c.in-Two.a c.in-Two.b) _ c.requires.ordered c.requires.inside c.in-Two.is in
+    let e = gives_true c.narrow-in-Some-back_binary.result c.narrow-in-Some-back_binary.new.bx (went c.args.entry.now c.args.bx.now (term_at (terms c.args.nodes.now) c.in-Two.a) c.in-Some-back_binary.both.0) c.if-narrow.true c.narrow-in-Some-back_binary.ensures.narrowed in (
+      search (rules, u.1),
+      (
+        search (rules, u.1),
+        (
+          subst (AreOrdered c.args.nodes.now) (sym c.narrow-in-Some-back_binary.ensures.dims) c.requires.ordered,
+          (
+            c.requires.valued,
+            rest_after c.args.rests c.args.entry.now c.args.bx.now c.narrow-in-Some-back_binary.new.bx c.args.nodes.now (term_at (terms c.args.nodes.now) c.in-Two.a) c.in-Some-back_binary.both.0 c.requires.rest e,
+          ),
+        ),
+      ),
+    )
