@@ -1,5 +1,5 @@
 //! Jobs that cost next to nothing, so that the pool is what is measured.
-ghost use Rattle.std.specs.Prelude.{◌≡◌, ℕ, ◌<◌, ◌≤◌, ◌^◌, ◌×◌, [], length, get_or, vec_len, IfOk};
+ghost use Rattle.std.specs.Prelude.{◌≡◌, ℕ, ◌<◌, ◌≤◌, ◌^◌, [], length, get_or, vec_len, IfOk};
 ghost use Rattle.pv_pool.specs.Counting.{AreBelow, after_work, after_return, after_job, after_look, after_end};
 ghost use Rattle.pv_pool.specs.Idling.{MatchIdle};
 
