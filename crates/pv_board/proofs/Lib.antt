@@ -9,3 +9,5 @@ pub mod Settling
 pub mod Piling
 pub mod Openings
 pub mod Dealing
+pub mod Filling
+pub mod Absorbed

@@ -6,3 +6,4 @@ pub mod Leaves
 pub mod Piles
 pub mod Openings
 pub mod Tallies
+pub mod Absorbing

@@ -1,21 +1,25 @@
 //! The board's calls, each of them one event.
-ghost use Rattle.std.specs.Prelude.{◌≡◌, ◌+◌, ◌-◌, ◌%◌, ◌^◌, ◌<◌, ◌≤◌, [], ◌∷◌, ◌++◌, true, false, IsTrue, is_some, IfOk, IfErr, OnOk, IfSome, IfNone, IsSome, ℕ, suc, length, min, ◌↔◌, if◌then◌else◌, nat_eq, option_to_list, List, Bool};
+ghost use Rattle.std.specs.Prelude.{◌≡◌, ◌+◌, ◌-◌, ◌%◌, ◌^◌, ◌<◌, ◌≤◌, [], ◌∷◌, ◌++◌, true, false, IsTrue, is_some, IfOk, IfErr, OnOk, OnErr, IfSome, IfNone, IsSome, ℕ, suc, length, min, ◌↔◌, if◌then◌else◌, nat_eq, option_to_list, List, Bool};
 ghost use Rattle.pv_tree.specs.Trees.{Tree, Seen, leaf, subtree, graft, settled, box_of, counts_of, Fits};
 ghost use Rattle.pv_tree.specs.Stages.{full_of, IsStage};
 ghost use Rattle.pv_board.specs.Marks.{issued, granted, holds};
 ghost use Rattle.pv_board.specs.Rules.{IsFitting, IsStageBelow, settled_in};
 ghost use Rattle.pv_board.specs.Core.{Core, IsCore, IsOpening};
 ghost use Rattle.pv_board.specs.Events.{is_current, may_issue, next_step, IsDry, IsOver, IsTake, IsExtend, IsSettling, IsGiveBack, IsRecall, IsLook, HasRisen, fresh};
+ghost use Rattle.pv_board.specs.Absorbing.{IsAbsorbed, IsAbsorbRefusal};
 ghost use Rattle.pv_tree.specs.Arena.{is_a_cut};
 ghost use Rattle.pv_tree.specs.declared.outcome.Shape.TheVariants.{Absent};
 ghost use Rattle.pv_board.specs.Leaves.{IsBoard, seen};
 
+use crate::absorbing::{AbsorbRefused, fill_all, leaves_below};
 use crate::deal::deal;
 use crate::leaves::Leaves;
 use crate::naming::Naming;
+use crate::opening::MOST_SETTLED;
 use crate::ticket::{Look, Settled, Ticket};
 use pv_box::IBox;
 use pv_tree::{Batch, Counts, Outcome, Path, Paving, Shape};
+use std::alloc::Global;
 use std::marker::{Model, PhantomData};
 
 /// A paving that is being settled: which of its open leaves are issued, and what is left of the budget.
@@ -268,6 +272,31 @@ impl<N: Naming> Board<N> {
         Look::Same
     }
 
+    /// Takes in what a stage of the opening has settled: the paving becomes its join with the stage, except that issued leaves stay open
+    /// with nothing below them. Answers how many settled nodes were added. A refusal changes nothing.
+    pub fn absorb(&mut self, alloc: Global, stage: &Paving) -> Result<u64, AbsorbRefused>
+        requires root { stage.now.root ≡ N.root }
+        requires stage { IsStage N.rule N.depth N.root N.opening stage.now.tree }
+        ensures absorbed { IfOk result (λ added. IsAbsorbed self.old self.new stage.now.tree added) }
+        ensures refused { IfErr result (λ e. IsAbsorbRefusal self.old stage.now.tree e) }
+        ensures same { OnErr result (self.new ≡ self.old) }
+        ensures over { IsOver self.old → IsOver self.new }
+    {
+        let mut joined = self.paving.clone_of(alloc)?;
+        fill_all(alloc, &mut joined, stage, &self.leaves.free)?;
+        let settled = joined.counts().settled();
+        let unused = self.leaves.unused();
+        if settled + unused > MOST_SETTLED {
+            return Err(AbsorbRefused::TreeLimit { settled });
+        }
+        joined.reserve(unused)?;
+        let free = leaves_below(alloc, &joined, &self.leaves.free)?;
+        let added = settled - self.paving.counts().settled();
+        self.leaves.free = free;
+        self.paving = joined;
+        Ok(added)
+    }
+
     /// The paving.
     pub fn into_paving(self) -> Paving
         requires { issued self.marks ≡ 0 }
@@ -290,7 +319,7 @@ fn is_cut(outcome: &Outcome) -> bool
 }
 
 /// Whether a shape is of no node.
-fn is_absent(shape: Shape) -> bool
+pub(crate) fn is_absent(shape: Shape) -> bool
     ensures { IsTrue result ↔ (shape ≡ Absent) }
 {
     match shape {

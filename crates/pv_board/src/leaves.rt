@@ -25,7 +25,7 @@ pub(crate) struct Leaves {
 }
 
 /// There is room for so many free leaves: one more than a tree has settled nodes.
-const MOST_LEAVES: usize = 100_001;
+pub(crate) const MOST_LEAVES: usize = 100_001;
 
 impl Leaves {
     /// The open leaves of a paving, all of them free.
@@ -47,6 +47,15 @@ impl Leaves {
             left,
             stopped: false,
         })
+    }
+
+    /// How many units are not used: those of the issued leaves with their grants, and those that are left.
+    pub(crate) fn unused(&self) -> u64
+        requires { HasRoom self.now }
+        ensures { result ≡ issued (marks_of self.now) + granted (marks_of self.now) + self.now.left }
+    {
+        let _room = self.marks.room();
+        self.marks.len() + self.marks.granted() + self.left
     }
 
     /// Frees every issued leaf.

@@ -1,6 +1,7 @@
 //! The board: one paving that several workers settle, which of its leaves are issued to whom, and what is left of a budget.
 #![tactic(auto)]
 
+mod absorbing;
 mod board;
 mod deal;
 mod desk;
@@ -16,10 +17,13 @@ mod rows;
 mod seeded;
 mod shared;
 #[cfg(test)]
+mod stages;
+#[cfg(test)]
 mod tests;
 mod ticket;
 mod told;
 
+pub use absorbing::AbsorbRefused;
 pub use board::Board;
 pub use naming::{Endings, Naming, Settlings};
 pub use opening::OpenRefused;

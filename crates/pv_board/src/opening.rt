@@ -12,7 +12,7 @@ use pv_tree::Paving;
 use std::alloc::Global;
 
 /// The most nodes of a tree that are settled.
-const MOST_SETTLED: u64 = 100_000;
+pub(crate) const MOST_SETTLED: u64 = 100_000;
 
 /// Why no board was opened. The opening is handed back.
 #[derive(Drop)]

@@ -9,5 +9,5 @@ mod tests;
 mod verdict;
 
 pub use check::audit;
-pub use merge::{JoinRefused, join};
+pub use merge::{JoinRefused, join, overlay};
 pub use verdict::Audit;

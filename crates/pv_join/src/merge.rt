@@ -66,8 +66,14 @@ fn settle_as(
     }
 }
 
-/// Lays a paving over another from a path down. The node that is open takes the other side's outcome.
-fn overlay(alloc: Global, into: &mut Paving, over: &Paving, path: Path) -> Result<(), JoinRefused>
+/// Lays a paving over another from a path down: each node that is open there takes the other's outcome.
+/// A refusal leaves what was laid so far.
+pub fn overlay(
+    alloc: Global,
+    into: &mut Paving,
+    over: &Paving,
+    path: Path,
+) -> Result<(), JoinRefused>
     requires { IsReady into.old over.now path }
     ensures root { into.new.root ≡ into.old.root }
     ensures ok { OnOk result (IsOverlaid into.old.tree over.now.tree into.new.tree path) }

@@ -3,6 +3,8 @@
 
 mod bench;
 mod deque;
+#[cfg(test)]
+mod edges;
 mod gate;
 mod pool;
 mod seat;

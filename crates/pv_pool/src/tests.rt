@@ -15,11 +15,11 @@ use std::time::{Clock, Duration};
 
 // What a worker keeps of what it did.
 #[derive(Drop)]
-struct Counted {
-    given: u128,
-    back: u128,
-    looks: u128,
-    ends: u64,
+pub(crate) struct Counted {
+    pub(crate) given: u128,
+    pub(crate) back: u128,
+    pub(crate) looks: u128,
+    pub(crate) ends: u64,
 }
 
 // What all workers share: whether job 0 was handed out, the jobs that are not handed in yet, the
@@ -151,7 +151,7 @@ impl<'a, C: Clock> Work for Doubling<'a, C> {
 }
 
 // New accounts.
-fn accounts(alloc: Global, count: usize) -> Result<Vec<Counted>, AllocError>
+pub(crate) fn accounts(alloc: Global, count: usize) -> Result<Vec<Counted>, AllocError>
     ensures count { IfOk result (λ v. vec_len v ≡ count) }
     ensures fresh { IfOk result (λ v. (i : ℕ) (t : Counted) → i < count → ((get_or v.items i t).given ≡ 0) × ((get_or v.items i t).back ≡ 0) × ((get_or v.items i t).looks ≡ 0)) }
 {
@@ -168,7 +168,7 @@ fn accounts(alloc: Global, count: usize) -> Result<Vec<Counted>, AllocError>
 }
 
 // How many jobs were given and handed in.
-fn sums(told: &[Counted]) -> (u128, u128) {
+pub(crate) fn sums(told: &[Counted]) -> (u128, u128) {
     let (mut given, mut back) = (0u128, 0u128);
     for t in told {
         given = given.wrapping_add(t.given);
