@@ -54,7 +54,7 @@ error_refuses a words e k r is kinds same (inl memory) = subst (RefusesWords wor
 error_refuses a words e k r is kinds same (inr usage) = subst (RefusesWords words) (sym usage.0) (fails a words e is kinds (λ m. usage.1 (same ∙ m)))
 
 -- no command but these is met where clap takes the words
-bad_value : (name : Text) (rows : List Row) → IsACommand name → IsNoCommand name ⊎ HasBadValue rows → HasBadValue rows
+bad_value : (name : Text) (rows : List Row) → IsACommand name → IsNoCommand name ⊎ HasBadValue name rows → HasBadValue name rows
 bad_value name rows (inl c) (inl none) = absurd (none.0 c)
 bad_value name rows (inr (inl c)) (inl none) = absurd (none.1 c)
 bad_value name rows (inr (inr (inl c))) (inl none) = absurd (none.2 c)

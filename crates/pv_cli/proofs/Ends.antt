@@ -118,7 +118,7 @@ rest_same x y a b e = cc
 both_same : (x y : ℕ) (a b : List ℕ) → x ≡ y → a ≡ b → x ∷ a ≡ y ∷ b
 both_same x y a b e f = cc
 
-same_or_other : (a b : List ℕ) → (a ≡ b) ⊎ (a ≡ b → ⊥)
+pub same_or_other : (a b : List ℕ) → (a ≡ b) ⊎ (a ≡ b → ⊥)
 same_or_other [] [] = inl refl
 same_or_other [] (y ∷ b) = inr (none_more y b)
 same_or_other (x ∷ a) [] = inr (λ e. none_more x a (sym e))

@@ -26,12 +26,12 @@ all_as : (P Q : Tree → Type 0) (ts : List Tree) → ((t : Tree) → P t → Q 
 all_as P Q [] f h = tt
 all_as P Q (t ∷ ts) f h = (f t h.0, all_as P Q ts f h.1)
 
-any_left : (P : Tree → Type 0) (ts us : List Tree) → AnyTree P ts → AnyTree P (ts ++ us)
+pub any_left : (P : Tree → Type 0) (ts us : List Tree) → AnyTree P ts → AnyTree P (ts ++ us)
 any_left P [] us h = absurd h
 any_left P (t ∷ ts) us (inl h) = inl h
 any_left P (t ∷ ts) us (inr h) = inr (any_left P ts us h)
 
-any_right : (P : Tree → Type 0) (ts us : List Tree) → AnyTree P us → AnyTree P (ts ++ us)
+pub any_right : (P : Tree → Type 0) (ts us : List Tree) → AnyTree P us → AnyTree P (ts ++ us)
 any_right P [] us h = h
 any_right P (t ∷ ts) us h = inr (any_right P ts us h)
 

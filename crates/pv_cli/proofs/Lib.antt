@@ -12,3 +12,5 @@ pub mod Inside
 pub mod Joined
 pub mod Earlier
 pub mod Refused
+pub mod Merges
+pub mod StatusLaws

@@ -9,18 +9,18 @@ use Rattle.pv_cli.specs.declared.refusal.Refusal.TheVariants.{Usage, Memory}
 abbrev pub rows_in : ArgMatches → List Row
 rows_in m = rows_of (found_of m)
 
--- a value is bad, or memory was wanting
-abbrev pub RefusesValues : List Row → Refusal → Type 0
-RefusesValues rows Usage = HasBadValue rows
-RefusesValues rows Memory = Unit {0}
-RefusesValues rows _ = ⊥
+-- this is said of values that are refused, or memory was wanting
+abbrev pub RefusesValues : Type 0 → Refusal → Type 0
+RefusesValues bad Usage = bad
+RefusesValues bad Memory = Unit {0}
+RefusesValues bad _ = ⊥
 
 abbrev pub IsNoCommand : Text → Type 0
 IsNoCommand name =
     (name ≢ codes "check") × (name ≢ codes "run") × (name ≢ codes "resume") × (name ≢ codes "merge") × (name ≢ codes "audit")
 
 abbrev pub RefusesCommand : Text → List Row → Refusal → Type 0
-RefusesCommand name rows Usage = IsNoCommand name ⊎ HasBadValue rows
+RefusesCommand name rows Usage = IsNoCommand name ⊎ HasBadValue name rows
 RefusesCommand name rows Memory = Unit {0}
 RefusesCommand name rows _ = ⊥
 

@@ -14,3 +14,5 @@ pub mod Printing
 pub mod Turns
 pub mod Telling
 pub mod Resumed
+pub mod Merges
+pub mod StatusLaws

@@ -91,14 +91,27 @@ pub record ArePavings (rows : List Row) (names : List (Bor Text)) : Type 0 where
 abbrev pub IsOut : List Row → Option (Bor Text) → Type 0
 IsOut rows out = option_map (λ name. name.now) out ≡ first_of (codes "out") rows
 
--- the value of an option has another spelling or is outside its range, or there are more than eight paving files
-pub data HasBadValue (rows : List Row) : Type 0 where
-  bad_eps : ((n : Extended) → IsWidth (eps_text rows) n → ⊥) → HasBadValue rows
-  bad_depth : ((n : ℕ) → IsCount 1 200 (depth_text rows) n → ⊥) → HasBadValue rows
-  bad_bisector : ((b : Bisector) → bisect_text rows ≡ bisector_name b → ⊥) → HasBadValue rows
-  bad_workers : ((n : ℕ) → IsCount 1 16 (workers_text rows) n → ⊥) → HasBadValue rows
-  bad_boxes : ((n : ℕ) → IsCount 1 100000 (boxes_text rows) n → ⊥) → HasBadValue rows
-  bad_pavings : 8 < length (paving_names rows) → HasBadValue rows
+-- a setting has another spelling, or is outside its range
+pub data HasBadSetting (rows : List Row) : Type 0 where
+  bad_eps : ((n : Extended) → IsWidth (eps_text rows) n → ⊥) → HasBadSetting rows
+  bad_depth : ((n : ℕ) → IsCount 1 200 (depth_text rows) n → ⊥) → HasBadSetting rows
+  bad_bisector : ((b : Bisector) → bisect_text rows ≡ bisector_name b → ⊥) → HasBadSetting rows
+
+-- so is the number of threads, or the budget
+pub data HasBadEffort (rows : List Row) : Type 0 where
+  bad_workers : ((n : ℕ) → IsCount 1 16 (workers_text rows) n → ⊥) → HasBadEffort rows
+  bad_boxes : ((n : ℕ) → IsCount 1 100000 (boxes_text rows) n → ⊥) → HasBadEffort rows
+
+-- there are more than eight paving files
+abbrev pub HasManyPavings : List Row → Type 0
+HasManyPavings rows = 8 < length (paving_names rows)
+
+-- a value is refused that the command of this name takes
+pub data HasBadValue (command : Text) (rows : List Row) : Type 0 where
+  in_run : command ≡ codes "run" → HasBadSetting rows ⊎ HasBadEffort rows → HasBadValue command rows
+  in_resume : command ≡ codes "resume" → HasManyPavings rows ⊎ (HasBadSetting rows ⊎ HasBadEffort rows) → HasBadValue command rows
+  in_merge : command ≡ codes "merge" → HasManyPavings rows ⊎ HasBadSetting rows → HasBadValue command rows
+  in_audit : command ≡ codes "audit" → HasBadSetting rows → HasBadValue command rows
 
 -- the command of this name, with what was found for its words and options, asks for this
 abbrev pub IsAskedBy : Text → List Row → Request → Type 0
@@ -125,7 +138,7 @@ Asks words q = (fault_of paver_app words ≡ []) × IsAsked (subcommand_of paver
 
 abbrev pub HasBadValueIn : Option (Text × List Row) → Type 0
 HasBadValueIn None = ⊥
-HasBadValueIn (Some p) = HasBadValue p.1
+HasBadValueIn (Some p) = HasBadValue p.0 p.1
 
 -- clap refuses the words, or a value is bad
 abbrev pub AreRefused : List Text → Type 0

@@ -29,9 +29,18 @@ pub(crate) fn audit<'a, F: Folder>(
     name: &'a str,
     settings: &Settings<'a>,
 ) -> Result<Product, Refusal<'a>>
-    ensures read { AreOnlyRead (files (F.content folder.old) (F.fetch_faults folder.old) (F.store_faults folder.old)) (files (F.content folder.new) (F.fetch_faults folder.new) (F.store_faults folder.new)) }
-    ensures comes { IfOk result (λ p. ComesOfAudit (files (F.content folder.old) (F.fetch_faults folder.old) (F.store_faults folder.old)) system.now name.now settings.now (made p)) }
-    ensures refused { IfErr result (RefusesAudit (files (F.content folder.old) (F.fetch_faults folder.old) (F.store_faults folder.old)) (files (F.content folder.new) (F.fetch_faults folder.new) (F.store_faults folder.new)) system.now name.now settings.now) }
+    ensures read { AreOnlyRead
+        (files (F.content folder.old) (F.fetch_faults folder.old) (F.store_faults folder.old))
+        (files (F.content folder.new) (F.fetch_faults folder.new) (F.store_faults folder.new)) }
+    ensures comes { IfOk result
+        (λ p. ComesOfAudit
+        (files (F.content folder.old) (F.fetch_faults folder.old) (F.store_faults folder.old))
+        system.now name.now settings.now (made p)) }
+    ensures refused { IfErr result
+        (RefusesAudit (files (F.content folder.old) (F.fetch_faults folder.old)
+        (F.store_faults folder.old))
+        (files (F.content folder.new) (F.fetch_faults folder.new) (F.store_faults folder.new))
+        system.now name.now settings.now) }
 {
     let settler = match settler_in(alloc, folder, system, settings) {
         Ok(settler) => settler,

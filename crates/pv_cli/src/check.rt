@@ -16,9 +16,18 @@ pub(crate) fn check<'a, F: Folder>(
     folder: &mut F,
     system: &'a str,
 ) -> Result<Product, Refusal<'a>>
-    ensures read { AreOnlyRead (files (F.content folder.old) (F.fetch_faults folder.old) (F.store_faults folder.old)) (files (F.content folder.new) (F.fetch_faults folder.new) (F.store_faults folder.new)) }
-    ensures comes { IfOk result (λ p. ComesOfCheck (files (F.content folder.old) (F.fetch_faults folder.old) (F.store_faults folder.old)) system.now (made p)) }
-    ensures refused { IfErr result (RefusesSystem (files (F.content folder.old) (F.fetch_faults folder.old) (F.store_faults folder.old)) (files (F.content folder.new) (F.fetch_faults folder.new) (F.store_faults folder.new)) system.now) }
+    ensures read { AreOnlyRead
+        (files (F.content folder.old) (F.fetch_faults folder.old) (F.store_faults folder.old))
+        (files (F.content folder.new) (F.fetch_faults folder.new) (F.store_faults folder.new)) }
+    ensures comes { IfOk result
+        (λ p. ComesOfCheck
+        (files (F.content folder.old) (F.fetch_faults folder.old) (F.store_faults folder.old))
+        system.now (made p)) }
+    ensures refused { IfErr result
+        (RefusesSystem
+        (files (F.content folder.old) (F.fetch_faults folder.old) (F.store_faults folder.old))
+        (files (F.content folder.new) (F.fetch_faults folder.new) (F.store_faults folder.new))
+        system.now) }
 {
     match system_in(alloc, folder, system) {
         Ok(system) => Ok(Product::Text(system.canonical_text(alloc)?)),

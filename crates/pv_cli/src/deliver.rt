@@ -29,8 +29,18 @@ pub(crate) fn deliver<'a, F: Folder, K: Sink>(
     file: Option<&'a str>,
 ) -> Result<Status, Refusal<'a>>
     ensures status { IfOk result (HasStatus (made product.now)) }
-    ensures delivered { OnOk result (IsDelivered (option_map (λ name. name.now) file.entry) (made product.now) (files (F.content folder.old) (F.fetch_faults folder.old) (F.store_faults folder.old)) (files (F.content folder.new) (F.fetch_faults folder.new) (F.store_faults folder.new)) (stream (K.written out.old) (K.faults out.old)) (stream (K.written out.new) (K.faults out.new))) }
-    ensures refused { IfErr result (RefusesDelivery (option_map (λ name. name.now) file.entry) (made product.now) (files (F.content folder.old) (F.fetch_faults folder.old) (F.store_faults folder.old)) (files (F.content folder.new) (F.fetch_faults folder.new) (F.store_faults folder.new)) (stream (K.written out.old) (K.faults out.old)) (stream (K.written out.new) (K.faults out.new))) }
+    ensures delivered { OnOk result
+        (IsDelivered (option_map (λ name. name.now) file.entry) (made product.now)
+        (files (F.content folder.old) (F.fetch_faults folder.old) (F.store_faults folder.old))
+        (files (F.content folder.new) (F.fetch_faults folder.new) (F.store_faults folder.new))
+        (stream (K.written out.old) (K.faults out.old))
+        (stream (K.written out.new) (K.faults out.new))) }
+    ensures refused { IfErr result
+        (RefusesDelivery (option_map (λ name. name.now) file.entry) (made product.now)
+        (files (F.content folder.old) (F.fetch_faults folder.old) (F.store_faults folder.old))
+        (files (F.content folder.new) (F.fetch_faults folder.new) (F.store_faults folder.new))
+        (stream (K.written out.old) (K.faults out.old))
+        (stream (K.written out.new) (K.faults out.new))) }
 {
     match (product, file) {
         (Product::Text(text), _) => {
@@ -50,7 +60,8 @@ pub(crate) fn deliver<'a, F: Folder, K: Sink>(
 }
 
 fn status_of(paving: &Paving) -> Status
-    ensures { ((result ≡ Status.Done) × (opens paving.now.tree ≡ [])) ⊎ ((result ≡ Status.OpenLeft) × (opens paving.now.tree ≢ [])) }
+    ensures { ((result ≡ Status.Done) × (opens paving.now.tree ≡ []))
+        ⊎ ((result ≡ Status.OpenLeft) × (opens paving.now.tree ≢ [])) }
 {
     match paving.first_open() {
         None => Status::Done,
@@ -66,8 +77,14 @@ fn store<'a, F: Folder>(
     identity: [u8; 32],
     paving: &Paving,
 ) -> Result<(), Refusal<'a>>
-    ensures stored { OnOk result (IsStored name.now (file_text version.Two identity paving.now.root paving.now.tree) (files (F.content folder.old) (F.fetch_faults folder.old) (F.store_faults folder.old)) (files (F.content folder.new) (F.fetch_faults folder.new) (F.store_faults folder.new))) }
-    ensures refused { IfErr result (RefusesStore name.now (files (F.content folder.old) (F.fetch_faults folder.old) (F.store_faults folder.old)) (files (F.content folder.new) (F.fetch_faults folder.new) (F.store_faults folder.new))) }
+    ensures stored { OnOk result
+        (IsStored name.now (file_text version.Two identity paving.now.root paving.now.tree)
+        (files (F.content folder.old) (F.fetch_faults folder.old) (F.store_faults folder.old))
+        (files (F.content folder.new) (F.fetch_faults folder.new) (F.store_faults folder.new))) }
+    ensures refused { IfErr result
+        (RefusesStore name.now
+        (files (F.content folder.old) (F.fetch_faults folder.old) (F.store_faults folder.old))
+        (files (F.content folder.new) (F.fetch_faults folder.new) (F.store_faults folder.new))) }
 {
     let mut text = PlainSink::new(alloc);
     match write(alloc, paving, identity, &mut text) {
@@ -78,8 +95,14 @@ fn store<'a, F: Folder>(
 
 // Stores bytes under a name.
 fn keep<'a, F: Folder>(folder: &mut F, name: &'a str, bytes: &[u8]) -> Result<(), Refusal<'a>>
-    ensures stored { OnOk result (IsStored name.now bytes.now (files (F.content folder.old) (F.fetch_faults folder.old) (F.store_faults folder.old)) (files (F.content folder.new) (F.fetch_faults folder.new) (F.store_faults folder.new))) }
-    ensures refused { IfErr result (RefusesStore name.now (files (F.content folder.old) (F.fetch_faults folder.old) (F.store_faults folder.old)) (files (F.content folder.new) (F.fetch_faults folder.new) (F.store_faults folder.new))) }
+    ensures stored { OnOk result
+        (IsStored name.now bytes.now
+        (files (F.content folder.old) (F.fetch_faults folder.old) (F.store_faults folder.old))
+        (files (F.content folder.new) (F.fetch_faults folder.new) (F.store_faults folder.new))) }
+    ensures refused { IfErr result
+        (RefusesStore name.now
+        (files (F.content folder.old) (F.fetch_faults folder.old) (F.store_faults folder.old))
+        (files (F.content folder.new) (F.fetch_faults folder.new) (F.store_faults folder.new))) }
 {
     match folder.store(name, bytes) {
         Ok(()) => Ok(()),
@@ -90,8 +113,16 @@ fn keep<'a, F: Folder>(folder: &mut F, name: &'a str, bytes: &[u8]) -> Result<()
 
 // Prints the summary of a paving, and the lines of its nodes.
 fn print_paving<'a, K: Sink>(alloc: Global, out: &mut K, paving: &Paving) -> Result<(), Refusal<'a>>
-    ensures whole { OnOk result (K.written out.new ≡ appended (K.written out.old) (summary_of (counts_of paving.now.tree) ++ lines_of version.One paving.now.root paving.now.tree)) }
-    ensures refused { IfErr result (RefusesPrint (stream (K.written out.old) (K.faults out.old)) (stream (K.written out.new) (K.faults out.new)) (summary_of (counts_of paving.now.tree) ++ lines_of version.One paving.now.root paving.now.tree)) }
+    ensures whole { OnOk result
+        (K.written out.new
+        ≡ appended (K.written out.old)
+        (summary_of (counts_of paving.now.tree)
+        ++ lines_of version.One paving.now.root paving.now.tree)) }
+    ensures refused { IfErr result
+        (RefusesPrint (stream (K.written out.old) (K.faults out.old))
+        (stream (K.written out.new) (K.faults out.new))
+        (summary_of (counts_of paving.now.tree)
+        ++ lines_of version.One paving.now.root paving.now.tree)) }
 {
     print_summary(alloc, out, paving)?;
     match write_lines(alloc, paving, out) {
@@ -106,8 +137,12 @@ fn print_summary<'a, K: Sink>(
     out: &mut K,
     paving: &Paving,
 ) -> Result<(), Refusal<'a>>
-    ensures whole { OnOk result (K.written out.new ≡ appended (K.written out.old) (summary_of (counts_of paving.now.tree))) }
-    ensures refused { IfErr result (RefusesPrint (stream (K.written out.old) (K.faults out.old)) (stream (K.written out.new) (K.faults out.new)) (summary_of (counts_of paving.now.tree))) }
+    ensures whole { OnOk result
+        (K.written out.new
+        ≡ appended (K.written out.old) (summary_of (counts_of paving.now.tree))) }
+    ensures refused { IfErr result
+        (RefusesPrint (stream (K.written out.old) (K.faults out.old))
+        (stream (K.written out.new) (K.faults out.new)) (summary_of (counts_of paving.now.tree))) }
     ensures counts_on { K.faults out.old ≤ K.faults out.new }
 {
     let line = summary(alloc, paving)?;
@@ -116,7 +151,9 @@ fn print_summary<'a, K: Sink>(
 
 fn print<'a, K: Sink>(out: &mut K, text: &[u8]) -> Result<(), Refusal<'a>>
     ensures whole { OnOk result (K.written out.new ≡ appended (K.written out.old) text.now) }
-    ensures refused { IfErr result (RefusesPrint (stream (K.written out.old) (K.faults out.old)) (stream (K.written out.new) (K.faults out.new)) text.now) }
+    ensures refused { IfErr result
+        (RefusesPrint (stream (K.written out.old) (K.faults out.old))
+        (stream (K.written out.new) (K.faults out.new)) text.now) }
     ensures counts_on { K.faults out.old ≤ K.faults out.new }
 {
     match out.write(text) {

@@ -27,7 +27,8 @@ pub(crate) fn grow<S: KnowingSettler, G: Gate>(
 ) -> Result<Paving, Memory>
     requires { length root ≡ S.dims settler.now }
     ensures root { IfOk result (λ p. p.root ≡ root) }
-    ensures paved { IfOk result (λ p. IsPaved (S.settle_of settler.now) (S.depth_of settler.now) root leaf budget p.tree) }
+    ensures paved { IfOk result
+        (λ p. IsPaved (S.settle_of settler.now) (S.depth_of settler.now) root leaf budget p.tree) }
 {
     let mut scratch = root.clone_of(alloc)?;
     let mut room = settler.room(alloc);
@@ -65,7 +66,12 @@ fn grow_all<S: KnowingSettler, G: Gate>(
     requires scratch { length scratch.old ≡ length growth.old.root }
     requires open { AreOpen growth.old }
     ensures root { growth.new.root ≡ growth.old.root }
-    ensures stage { OnOk result ((opening : Tree) → Paves growth.old.root opening → IsStage (S.settle_of settler.now) (S.depth_of settler.now) growth.old.root opening growth.old.tree → IsStage (S.settle_of settler.now) (S.depth_of settler.now) growth.new.root opening growth.new.tree) }
+    ensures stage { OnOk result
+        ((opening : Tree) → Paves growth.old.root opening
+        → IsStage (S.settle_of settler.now)
+        (S.depth_of settler.now) growth.old.root opening growth.old.tree
+        → IsStage (S.settle_of settler.now)
+        (S.depth_of settler.now) growth.new.root opening growth.new.tree) }
     ensures spent { OnOk result (IsSpent budget growth.old.tree growth.new.tree) }
 {
     for _step in 0..budget {
@@ -94,8 +100,14 @@ fn grow_one<S: KnowingSettler, G: Gate>(
     ensures scratch { length scratch.new ≡ length scratch.old }
     ensures facts { AreKnown (S.knows settler.now) (reverse facts.new.items) growth.new.holes }
     ensures open { OnOk result (AreOpen growth.new) }
-    ensures stage { OnOk result ((opening : Tree) → Paves growth.old.root opening → IsStage (S.settle_of settler.now) (S.depth_of settler.now) growth.old.root opening growth.old.tree → IsStage (S.settle_of settler.now) (S.depth_of settler.now) growth.new.root opening growth.new.tree) }
-    ensures count { IfOk result (λ more. settled_in growth.new.tree ≡ settled_in growth.old.tree + one_if more) }
+    ensures stage { OnOk result
+        ((opening : Tree) → Paves growth.old.root opening
+        → IsStage (S.settle_of settler.now)
+        (S.depth_of settler.now) growth.old.root opening growth.old.tree
+        → IsStage (S.settle_of settler.now)
+        (S.depth_of settler.now) growth.new.root opening growth.new.tree) }
+    ensures count { IfOk result
+        (λ more. settled_in growth.new.tree ≡ settled_in growth.old.tree + one_if more) }
     ensures none { IfOk result (λ more. more ≡ false → opens growth.new.tree ≡ []) }
 {
     match growth.next_leaf() {

@@ -19,7 +19,10 @@ pub(crate) fn learn_honest(paving: &Paving, settler: &SystemSettler)
     requires root { paving.now.root ≡ search_box (rule_of settler.now) }
     requires dims { length paving.now.root ≡ dims_of (rule_of settler.now) }
     ensures paving { IsPaving paving.now.root paving.now.tree }
-    ensures honest { (system : Parts) (s : Settings) → IsRuleFor system s (rule_of settler.now) → IsStage (settle_by (rule_of settler.now)) (rule_of settler.now).depth (search_box (rule_of settler.now)) leaf paving.now.tree → IsHonest s (rule_of settler.now) paving.now.tree }
+    ensures honest { (system : Parts) (s : Settings) → IsRuleFor system s (rule_of settler.now)
+        → IsStage (settle_by (rule_of settler.now)) (rule_of settler.now).depth
+        (search_box (rule_of settler.now)) leaf paving.now.tree
+        → IsHonest s (rule_of settler.now) paving.now.tree }
 {
     let _places = paving.dims();
     paving.learn_stages(settler);

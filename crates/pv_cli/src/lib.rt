@@ -9,6 +9,7 @@ mod deliver;
 mod gate;
 mod growing;
 mod honest;
+pub mod laws;
 mod main_call;
 mod merge;
 mod opening;

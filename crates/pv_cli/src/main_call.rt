@@ -35,9 +35,12 @@ pub fn paver_main<F: Folder, K: Sink, E: Sink, G: Gate>(
     gate: &G,
 ) -> Status
     ensures end { IsEnd (map string_bytes words.now)
-        (outside (files (F.content folder.old) (F.fetch_faults folder.old) (F.store_faults folder.old)) (stream (K.written out.old) (K.faults out.old)) (stream (E.written err.old) (E.faults err.old)))
-        (outside (files (F.content folder.new) (F.fetch_faults folder.new) (F.store_faults folder.new)) (stream (K.written out.new) (K.faults out.new)) (stream (E.written err.new) (E.faults err.new)))
-        result }
+        (outside (files (F.content folder.old) (F.fetch_faults folder.old)
+        (F.store_faults folder.old)) (stream (K.written out.old) (K.faults out.old))
+        (stream (E.written err.old) (E.faults err.old)))
+        (outside (files (F.content folder.new) (F.fetch_faults folder.new)
+        (F.store_faults folder.new)) (stream (K.written out.new) (K.faults out.new))
+        (stream (E.written err.new) (E.faults err.new))) result }
 {
     let request = match read(alloc, words) {
         Ok(request) => request,
@@ -56,12 +59,18 @@ fn answer<'a, F: Folder, K: Sink, G: Gate>(
     out: &mut K,
     gate: &G,
 ) -> Result<Status, Refusal<'a>>
-    ensures answered { IfOk result (IsAnswered request.now
-        (files (F.content folder.old) (F.fetch_faults folder.old) (F.store_faults folder.old)) (files (F.content folder.new) (F.fetch_faults folder.new) (F.store_faults folder.new))
-        (stream (K.written out.old) (K.faults out.old)) (stream (K.written out.new) (K.faults out.new))) }
-    ensures refused { IfErr result (RefusesRequest request.now
-        (files (F.content folder.old) (F.fetch_faults folder.old) (F.store_faults folder.old)) (files (F.content folder.new) (F.fetch_faults folder.new) (F.store_faults folder.new))
-        (stream (K.written out.old) (K.faults out.old)) (stream (K.written out.new) (K.faults out.new))) }
+    ensures answered { IfOk result
+        (IsAnswered request.now
+        (files (F.content folder.old) (F.fetch_faults folder.old) (F.store_faults folder.old))
+        (files (F.content folder.new) (F.fetch_faults folder.new) (F.store_faults folder.new))
+        (stream (K.written out.old) (K.faults out.old))
+        (stream (K.written out.new) (K.faults out.new))) }
+    ensures refused { IfErr result
+        (RefusesRequest request.now
+        (files (F.content folder.old) (F.fetch_faults folder.old) (F.store_faults folder.old))
+        (files (F.content folder.new) (F.fetch_faults folder.new) (F.store_faults folder.new))
+        (stream (K.written out.old) (K.faults out.old))
+        (stream (K.written out.new) (K.faults out.new))) }
 {
     match work(alloc, request, folder, gate) {
         Ok(product) => deliver(alloc, folder, out, &product, file_of(request)),
@@ -87,9 +96,17 @@ fn work<'a, F: Folder, G: Gate>(
     folder: &mut F,
     gate: &G,
 ) -> Result<Product, Refusal<'a>>
-    ensures read { AreOnlyRead (files (F.content folder.old) (F.fetch_faults folder.old) (F.store_faults folder.old)) (files (F.content folder.new) (F.fetch_faults folder.new) (F.store_faults folder.new)) }
-    ensures comes { IfOk result (λ p. ComesOf (files (F.content folder.old) (F.fetch_faults folder.old) (F.store_faults folder.old)) request.now (made p)) }
-    ensures refused { IfErr result (RefusesWork (files (F.content folder.old) (F.fetch_faults folder.old) (F.store_faults folder.old)) (files (F.content folder.new) (F.fetch_faults folder.new) (F.store_faults folder.new)) request.now) }
+    ensures read { AreOnlyRead
+        (files (F.content folder.old) (F.fetch_faults folder.old) (F.store_faults folder.old))
+        (files (F.content folder.new) (F.fetch_faults folder.new) (F.store_faults folder.new)) }
+    ensures comes { IfOk result
+        (λ p. ComesOf (files (F.content folder.old) (F.fetch_faults folder.old)
+        (F.store_faults folder.old)) request.now (made p)) }
+    ensures refused { IfErr result
+        (RefusesWork (files (F.content folder.old) (F.fetch_faults folder.old)
+        (F.store_faults folder.old))
+        (files (F.content folder.new) (F.fetch_faults folder.new) (F.store_faults folder.new))
+        request.now) }
 {
     match request {
         Request::Check { system } => check(alloc, folder, *system),

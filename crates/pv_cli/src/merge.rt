@@ -21,9 +21,18 @@ pub(crate) fn merge<'a, F: Folder>(
     names: &[&'a str],
     settings: &Settings<'a>,
 ) -> Result<Product, Refusal<'a>>
-    ensures read { AreOnlyRead (files (F.content folder.old) (F.fetch_faults folder.old) (F.store_faults folder.old)) (files (F.content folder.new) (F.fetch_faults folder.new) (F.store_faults folder.new)) }
-    ensures comes { IfOk result (λ p. ComesOfMerge (files (F.content folder.old) (F.fetch_faults folder.old) (F.store_faults folder.old)) system.now (names_in names.now) settings.now (made p)) }
-    ensures refused { IfErr result (RefusesJoined (files (F.content folder.old) (F.fetch_faults folder.old) (F.store_faults folder.old)) (files (F.content folder.new) (F.fetch_faults folder.new) (F.store_faults folder.new)) system.now (names_in names.now) settings.now 0) }
+    ensures read { AreOnlyRead
+        (files (F.content folder.old) (F.fetch_faults folder.old) (F.store_faults folder.old))
+        (files (F.content folder.new) (F.fetch_faults folder.new) (F.store_faults folder.new)) }
+    ensures comes { IfOk result
+        (λ p. ComesOfMerge
+        (files (F.content folder.old) (F.fetch_faults folder.old) (F.store_faults folder.old))
+        system.now (names_in names.now) settings.now (made p)) }
+    ensures refused { IfErr result
+        (RefusesJoined
+        (files (F.content folder.old) (F.fetch_faults folder.old) (F.store_faults folder.old))
+        (files (F.content folder.new) (F.fetch_faults folder.new) (F.store_faults folder.new))
+        system.now (names_in names.now) settings.now 0) }
 {
     let opening = match opening_in(alloc, folder, system, names, settings) {
         Ok(opening) => opening,

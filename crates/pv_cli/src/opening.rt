@@ -42,9 +42,17 @@ pub(crate) fn opening_in<'a, F: Folder>(
     names: &[&'a str],
     settings: &Settings<'a>,
 ) -> Result<Opening, Refusal<'a>>
-    ensures read { AreOnlyRead (files (F.content folder.old) (F.fetch_faults folder.old) (F.store_faults folder.old)) (files (F.content folder.new) (F.fetch_faults folder.new) (F.store_faults folder.new)) }
-    ensures opened { IfOk result (IsOpened (files (F.content folder.old) (F.fetch_faults folder.old) (F.store_faults folder.old)) system.now (names_in names.now) settings.now) }
-    ensures refused { IfErr result (RefusesOpening (files (F.content folder.old) (F.fetch_faults folder.old) (F.store_faults folder.old)) (files (F.content folder.new) (F.fetch_faults folder.new) (F.store_faults folder.new)) system.now (names_in names.now) settings.now) }
+    ensures read { AreOnlyRead
+        (files (F.content folder.old) (F.fetch_faults folder.old) (F.store_faults folder.old))
+        (files (F.content folder.new) (F.fetch_faults folder.new) (F.store_faults folder.new)) }
+    ensures opened { IfOk result
+        (IsOpened (files (F.content folder.old) (F.fetch_faults folder.old)
+        (F.store_faults folder.old)) system.now (names_in names.now) settings.now) }
+    ensures refused { IfErr result
+        (RefusesOpening
+        (files (F.content folder.old) (F.fetch_faults folder.old) (F.store_faults folder.old))
+        (files (F.content folder.new) (F.fetch_faults folder.new) (F.store_faults folder.new))
+        system.now (names_in names.now) settings.now) }
 {
     let settler = match settler_in(alloc, folder, system, settings) {
         Ok(settler) => settler,
@@ -81,8 +89,12 @@ fn join_all<'a>(alloc: Global, root: IBox, pavings: Vec<Paving>) -> Result<Pavin
 fn join_on<'a>(alloc: Global, earlier: Paving, later: &[Paving]) -> Result<Paving, Refusal<'a>>
     requires { AreOver earlier.root later.now }
     ensures root { IfOk result (λ p. p.root ≡ earlier.root) }
-    ensures join { IfOk result (λ p. (ts : List Tree) → IsJoinOf ts earlier.tree → IsJoinOf (ts ++ trees_of later.now) p.tree) }
-    ensures refused { IfErr result (λ r. (ts : List Tree) → IsJoinOf ts earlier.tree → RefusesJoin (ts ++ trees_of later.now) r) }
+    ensures join { IfOk result
+        (λ p. (ts : List Tree) → IsJoinOf ts earlier.tree
+        → IsJoinOf (ts ++ trees_of later.now) p.tree) }
+    ensures refused { IfErr result
+        (λ r. (ts : List Tree) → IsJoinOf ts earlier.tree
+        → RefusesJoin (ts ++ trees_of later.now) r) }
 {
     let Some((next, later)) = later.split_first() else {
         return Ok(earlier);
@@ -98,7 +110,9 @@ fn join_two<'a>(alloc: Global, earlier: &Paving, next: &Paving) -> Result<Paving
     requires { next.now.root ≡ earlier.now.root }
     ensures root { IfOk result (λ p. p.root ≡ earlier.now.root) }
     ensures join { IfOk result (λ p. IsJoin earlier.now.tree next.now.tree p.tree) }
-    ensures refused { IfErr result (λ r. (ts us : List Tree) → IsJoinOf ts earlier.now.tree → RefusesJoin (ts ++ next.now.tree ∷ us) r) }
+    ensures refused { IfErr result
+        (λ r. (ts us : List Tree) → IsJoinOf ts earlier.now.tree
+        → RefusesJoin (ts ++ next.now.tree ∷ us) r) }
 {
     match join(alloc, earlier, next) {
         Ok(joined) => Ok(joined),
@@ -109,7 +123,8 @@ fn join_two<'a>(alloc: Global, earlier: &Paving, next: &Paving) -> Result<Paving
 // The refusal for two pavings that have no join.
 fn no_join<'a>(alloc: Global, earlier: &Paving, next: &Paving, refused: JoinRefused) -> Refusal<'a>
     requires { IsJoinRefusal earlier.now.tree next.now.tree refused }
-    ensures { (ts us : List Tree) → IsJoinOf ts earlier.now.tree → RefusesJoin (ts ++ next.now.tree ∷ us) result }
+    ensures { (ts us : List Tree) → IsJoinOf ts earlier.now.tree
+        → RefusesJoin (ts ++ next.now.tree ∷ us) result }
 {
     match refused {
         JoinRefused::Memory => Refusal::Memory,

@@ -27,8 +27,14 @@ pub fn pave<S: Settler, G: Gate>(
 ) -> Result<Paving, Memory>
     requires { length opening.root ≡ S.dims settler.now }
     ensures root { IfOk result (λ p. p.root ≡ opening.root) }
-    ensures stages { IfOk result (λ p. (earlier : Tree) → Paves opening.root earlier → IsStage (S.settle_of settler.now) (S.depth_of settler.now) opening.root earlier opening.tree → IsStage (S.settle_of settler.now) (S.depth_of settler.now) opening.root earlier p.tree) }
-    ensures paved { IfOk result (λ p. IsPaved (S.settle_of settler.now) (S.depth_of settler.now) opening.root opening.tree budget p.tree) }
+    ensures stages { IfOk result
+        (λ p. (earlier : Tree) → Paves opening.root earlier
+        → IsStage (S.settle_of settler.now)
+        (S.depth_of settler.now) opening.root earlier opening.tree
+        → IsStage (S.settle_of settler.now) (S.depth_of settler.now) opening.root earlier p.tree) }
+    ensures paved { IfOk result
+        (λ p. IsPaved (S.settle_of settler.now)
+        (S.depth_of settler.now) opening.root opening.tree budget p.tree) }
 {
     let mut paving = opening;
     let mut scratch = blank(alloc, paving.dims())?;
@@ -62,7 +68,12 @@ fn settle_all<S: Settler, G: Gate>(
     requires dims { length paving.old.root ≡ S.dims settler.now }
     requires scratch { length scratch.old ≡ length paving.old.root }
     ensures root { paving.new.root ≡ paving.old.root }
-    ensures stage { OnOk result ((opening : Tree) → Paves paving.old.root opening → IsStage (S.settle_of settler.now) (S.depth_of settler.now) paving.old.root opening paving.old.tree → IsStage (S.settle_of settler.now) (S.depth_of settler.now) paving.new.root opening paving.new.tree) }
+    ensures stage { OnOk result
+        ((opening : Tree) → Paves paving.old.root opening
+        → IsStage (S.settle_of settler.now)
+        (S.depth_of settler.now) paving.old.root opening paving.old.tree
+        → IsStage (S.settle_of settler.now)
+        (S.depth_of settler.now) paving.new.root opening paving.new.tree) }
     ensures spent { OnOk result (IsSpent budget paving.old.tree paving.new.tree) }
 {
     for _step in 0..budget {
@@ -85,8 +96,14 @@ fn settle_first<S: Settler, G: Gate>(
     requires scratch { length scratch.old ≡ length paving.old.root }
     ensures root { paving.new.root ≡ paving.old.root }
     ensures scratch { length scratch.new ≡ length scratch.old }
-    ensures stage { OnOk result ((opening : Tree) → Paves paving.old.root opening → IsStage (S.settle_of settler.now) (S.depth_of settler.now) paving.old.root opening paving.old.tree → IsStage (S.settle_of settler.now) (S.depth_of settler.now) paving.new.root opening paving.new.tree) }
-    ensures count { IfOk result (λ more. settled_in paving.new.tree ≡ settled_in paving.old.tree + one_if more) }
+    ensures stage { OnOk result
+        ((opening : Tree) → Paves paving.old.root opening
+        → IsStage (S.settle_of settler.now)
+        (S.depth_of settler.now) paving.old.root opening paving.old.tree
+        → IsStage (S.settle_of settler.now)
+        (S.depth_of settler.now) paving.new.root opening paving.new.tree) }
+    ensures count { IfOk result
+        (λ more. settled_in paving.new.tree ≡ settled_in paving.old.tree + one_if more) }
     ensures none { IfOk result (λ more. more ≡ false → opens paving.new.tree ≡ []) }
 {
     match paving.first_open() {

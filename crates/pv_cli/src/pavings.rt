@@ -46,9 +46,19 @@ pub(crate) fn pavings_in<'a, F: Folder>(
     key: &Key,
     names: &[&'a str],
 ) -> Result<Vec<Paving>, Refusal<'a>>
-    ensures read { AreOnlyRead (files (F.content folder.old) (F.fetch_faults folder.old) (F.store_faults folder.old)) (files (F.content folder.new) (F.fetch_faults folder.new) (F.store_faults folder.new)) }
-    ensures pavings { IfOk result (λ ps. (rule : SettlerParts) → IsKeyOf rule key.now → AreRead (files (F.content folder.old) (F.fetch_faults folder.old) (F.store_faults folder.old)) rule (names_in names.now) ps.items) }
-    ensures refused { IfErr result (λ r. (rule : SettlerParts) → IsKeyOf rule key.now → RefusesPavings (files (F.content folder.old) (F.fetch_faults folder.old) (F.store_faults folder.old)) (files (F.content folder.new) (F.fetch_faults folder.new) (F.store_faults folder.new)) rule (names_in names.now) r) }
+    ensures read { AreOnlyRead
+        (files (F.content folder.old) (F.fetch_faults folder.old) (F.store_faults folder.old))
+        (files (F.content folder.new) (F.fetch_faults folder.new) (F.store_faults folder.new)) }
+    ensures pavings { IfOk result
+        (λ ps. (rule : SettlerParts) → IsKeyOf rule key.now
+        → AreRead (files (F.content folder.old) (F.fetch_faults folder.old)
+        (F.store_faults folder.old)) rule (names_in names.now) ps.items) }
+    ensures refused { IfErr result
+        (λ r. (rule : SettlerParts) → IsKeyOf rule key.now
+        → RefusesPavings
+        (files (F.content folder.old) (F.fetch_faults folder.old) (F.store_faults folder.old))
+        (files (F.content folder.new) (F.fetch_faults folder.new) (F.store_faults folder.new)) rule
+        (names_in names.now) r) }
 {
     let Some((name, rest)) = names.split_first() else {
         return Ok(Vec::new(alloc));
@@ -78,10 +88,20 @@ pub(crate) fn paving_in<'a, F: Folder>(
     key: &Key,
     name: &'a str,
 ) -> Result<Paving, Refusal<'a>>
-    ensures read { AreOnlyRead (files (F.content folder.old) (F.fetch_faults folder.old) (F.store_faults folder.old)) (files (F.content folder.new) (F.fetch_faults folder.new) (F.store_faults folder.new)) }
+    ensures read { AreOnlyRead
+        (files (F.content folder.old) (F.fetch_faults folder.old) (F.store_faults folder.old))
+        (files (F.content folder.new) (F.fetch_faults folder.new) (F.store_faults folder.new)) }
     ensures root { IfOk result (λ p. p.root ≡ key.now.root) }
-    ensures paving { IfOk result (λ p. (rule : SettlerParts) → IsKeyOf rule key.now → HasPaving (files (F.content folder.old) (F.fetch_faults folder.old) (F.store_faults folder.old)) rule name.now p.tree) }
-    ensures refused { IfErr result (λ r. (rule : SettlerParts) → IsKeyOf rule key.now → RefusesPaving (files (F.content folder.old) (F.fetch_faults folder.old) (F.store_faults folder.old)) (files (F.content folder.new) (F.fetch_faults folder.new) (F.store_faults folder.new)) rule name.now r) }
+    ensures paving { IfOk result
+        (λ p. (rule : SettlerParts) → IsKeyOf rule key.now
+        → HasPaving (files (F.content folder.old) (F.fetch_faults folder.old)
+        (F.store_faults folder.old)) rule name.now p.tree) }
+    ensures refused { IfErr result
+        (λ r. (rule : SettlerParts) → IsKeyOf rule key.now
+        → RefusesPaving
+        (files (F.content folder.old) (F.fetch_faults folder.old) (F.store_faults folder.old))
+        (files (F.content folder.new) (F.fetch_faults folder.new) (F.store_faults folder.new)) rule
+        name.now r) }
 {
     let mut bytes = Vec::new(alloc);
     match folder.fetch(name, PAVING_LIMIT, &mut bytes) {

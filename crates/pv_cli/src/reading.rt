@@ -1,7 +1,7 @@
 //! From the words of a command to what they ask for.
 ghost use Rattle.std.specs.Prelude.{◌≡◌, ◌≢◌, ◌⊎◌, List, codes, map, option_map, MatchOption, MatchResult, string_bytes, IfOk, IfErr, unwrap_or};
 ghost use Rattle.clap.specs.Words.{all_of, subcommand_rows_of};
-ghost use Rattle.pv_cli.specs.Requests.{value_of, system_name, paving_names, names_in, AreSettings, IsEffort, ArePavings, IsOut, HasBadValue, IsAskedBy, IsAsked, Asks};
+ghost use Rattle.pv_cli.specs.Requests.{value_of, system_name, paving_names, names_in, AreSettings, IsEffort, ArePavings, IsOut, HasBadSetting, HasBadEffort, HasManyPavings, HasBadValue, IsAskedBy, IsAsked, Asks};
 ghost use Rattle.pv_cli.specs.Found.{rows_in, RefusesValues, RefusesCommand, RefusesFound};
 ghost use Rattle.pv_cli.specs.Ends.{RefusesWords};
 
@@ -15,7 +15,8 @@ use std::alloc::Global;
 
 /// Reads the words of a command, of which the first is the program's name.
 pub(crate) fn read<'a>(alloc: Global, words: &'a [String]) -> Result<Request<'a>, Refusal<'a>>
-    ensures { MatchResult result (Asks (map string_bytes words.entry.now)) (RefusesWords (map string_bytes words.entry.now)) }
+    ensures { MatchResult result (Asks (map string_bytes words.entry.now))
+        (RefusesWords (map string_bytes words.entry.now)) }
 {
     let matches = match paver(alloc)?.try_get_matches_from(words) {
         Ok(matches) => matches,
@@ -25,7 +26,8 @@ pub(crate) fn read<'a>(alloc: Global, words: &'a [String]) -> Result<Request<'a>
 }
 
 fn refusal_by<'a>(kind: ErrorKind) -> Refusal<'a>
-    ensures { (result ≡ Refusal.Memory) ⊎ ((result ≡ Refusal.Usage) × (kind ≢ ErrorKind.OutOfMemory)) }
+    ensures { (result ≡ Refusal.Memory)
+        ⊎ ((result ≡ Refusal.Usage) × (kind ≢ ErrorKind.OutOfMemory)) }
 {
     match kind {
         ErrorKind::OutOfMemory => Refusal::Memory,
@@ -34,7 +36,8 @@ fn refusal_by<'a>(kind: ErrorKind) -> Refusal<'a>
 }
 
 fn request_of<'a>(alloc: Global, matches: &ArgMatches<'a>) -> Result<Request<'a>, Refusal<'a>>
-    ensures { MatchResult result (IsAsked (subcommand_rows_of matches.now)) (RefusesFound (subcommand_rows_of matches.now)) }
+    ensures { MatchResult result (IsAsked (subcommand_rows_of matches.now))
+        (RefusesFound (subcommand_rows_of matches.now)) }
 {
     match matches.subcommand() {
         Some((command, found)) => command_in(alloc, command, found),
@@ -47,7 +50,8 @@ fn command_in<'a>(
     command: &str,
     found: &ArgMatches<'a>,
 ) -> Result<Request<'a>, Refusal<'a>>
-    ensures { MatchResult result (IsAskedBy command.now (rows_in found.now)) (RefusesCommand command.now (rows_in found.now)) }
+    ensures { MatchResult result (IsAskedBy command.now (rows_in found.now))
+        (RefusesCommand command.now (rows_in found.now)) }
 {
     match command {
         "check" => Ok(check_in(found)),
@@ -68,7 +72,8 @@ fn check_in<'a>(found: &ArgMatches<'a>) -> Request<'a>
 }
 
 fn run_in<'a>(found: &ArgMatches<'a>) -> Result<Request<'a>, Refusal<'a>>
-    ensures { MatchResult result (IsAskedBy (codes "run") (rows_in found.now)) (RefusesValues (rows_in found.now)) }
+    ensures { MatchResult result (IsAskedBy (codes "run") (rows_in found.now))
+        (RefusesValues (HasBadValue (codes "run") (rows_in found.now))) }
 {
     let settings = match settings_in(found) {
         Some(settings) => settings,
@@ -86,7 +91,8 @@ fn run_in<'a>(found: &ArgMatches<'a>) -> Result<Request<'a>, Refusal<'a>>
 }
 
 fn resume_in<'a>(alloc: Global, found: &ArgMatches<'a>) -> Result<Request<'a>, Refusal<'a>>
-    ensures { MatchResult result (IsAskedBy (codes "resume") (rows_in found.now)) (RefusesValues (rows_in found.now)) }
+    ensures { MatchResult result (IsAskedBy (codes "resume") (rows_in found.now))
+        (RefusesValues (HasBadValue (codes "resume") (rows_in found.now))) }
 {
     let pavings = match pavings_in(alloc, found) {
         Ok(pavings) => pavings,
@@ -109,7 +115,8 @@ fn resume_in<'a>(alloc: Global, found: &ArgMatches<'a>) -> Result<Request<'a>, R
 }
 
 fn merge_in<'a>(alloc: Global, found: &ArgMatches<'a>) -> Result<Request<'a>, Refusal<'a>>
-    ensures { MatchResult result (IsAskedBy (codes "merge") (rows_in found.now)) (RefusesValues (rows_in found.now)) }
+    ensures { MatchResult result (IsAskedBy (codes "merge") (rows_in found.now))
+        (RefusesValues (HasBadValue (codes "merge") (rows_in found.now))) }
 {
     let pavings = match pavings_in(alloc, found) {
         Ok(pavings) => pavings,
@@ -127,7 +134,8 @@ fn merge_in<'a>(alloc: Global, found: &ArgMatches<'a>) -> Result<Request<'a>, Re
 }
 
 fn audit_in<'a>(found: &ArgMatches<'a>) -> Result<Request<'a>, Refusal<'a>>
-    ensures { MatchResult result (IsAskedBy (codes "audit") (rows_in found.now)) (RefusesValues (rows_in found.now)) }
+    ensures { MatchResult result (IsAskedBy (codes "audit") (rows_in found.now))
+        (RefusesValues (HasBadValue (codes "audit") (rows_in found.now))) }
 {
     match settings_in(found) {
         Some(settings) => Ok(Request::Audit {
@@ -140,7 +148,8 @@ fn audit_in<'a>(found: &ArgMatches<'a>) -> Result<Request<'a>, Refusal<'a>>
 }
 
 fn settings_in<'a>(found: &ArgMatches<'a>) -> Option<Settings<'a>>
-    ensures { MatchOption result (HasBadValue (rows_in found.now)) (AreSettings (rows_in found.now)) }
+    ensures { MatchOption result (HasBadSetting (rows_in found.now))
+        (AreSettings (rows_in found.now)) }
 {
     let eps = width_of(text_in(found, "eps", "0.125"))?;
     let depth = count_of(text_in(found, "depth", "60"), 1, 200)? as u32;
@@ -155,7 +164,7 @@ fn settings_in<'a>(found: &ArgMatches<'a>) -> Option<Settings<'a>>
 }
 
 fn effort_in(found: &ArgMatches<'_>) -> Option<Effort>
-    ensures { MatchOption result (HasBadValue (rows_in found.now)) (IsEffort (rows_in found.now)) }
+    ensures { MatchOption result (HasBadEffort (rows_in found.now)) (IsEffort (rows_in found.now)) }
 {
     let workers = count_of(text_in(found, "workers", "4"), 1, 16)? as u32;
     let boxes = count_of(text_in(found, "boxes", "20000"), 1, 100_000)?;
@@ -163,7 +172,8 @@ fn effort_in(found: &ArgMatches<'_>) -> Option<Effort>
 }
 
 fn pavings_in<'a>(alloc: Global, found: &ArgMatches<'a>) -> Result<Vec<&'a str>, Refusal<'a>>
-    ensures { MatchResult result (λ names. ArePavings (rows_in found.now) names.items) (RefusesValues (rows_in found.now)) }
+    ensures { MatchResult result (λ names. ArePavings (rows_in found.now) names.items)
+        (RefusesValues (HasManyPavings (rows_in found.now))) }
 {
     let names = match raw_names(alloc, found) {
         Ok(names) => names,

@@ -177,7 +177,9 @@ impl<'a> Refusal<'a> {
 
 impl FileFault {
     fn words(self, alloc: Global, name: &str) -> Result<Vec<u8>, Memory>
-        ensures { IfOk result (λ words. words.items ≡ codes "paving " ++ (name.now ++ (codes ": " ++ fault_words self))) }
+        ensures { IfOk result
+            (λ words. words.items ≡ codes "paving "
+            ++ (name.now ++ (codes ": " ++ fault_words self))) }
     {
         let mut words = Vec::from_slice(alloc, b"paving ")?;
         words.extend_from_slice(name.as_bytes())?;
@@ -217,7 +219,9 @@ fn apart(
     one: &[u8],
     other: &[u8],
 ) -> Result<Vec<u8>, Memory>
-    ensures { IfOk result (λ words. words.items ≡ front.now ++ (path_text path ++ (codes ": " ++ (one.now ++ (codes " | " ++ other.now))))) }
+    ensures { IfOk result
+        (λ words. words.items ≡ front.now
+        ++ (path_text path ++ (codes ": " ++ (one.now ++ (codes " | " ++ other.now))))) }
 {
     let mut words = Vec::from_slice(alloc, front)?;
     path.write_text(&mut words)?;
@@ -243,7 +247,8 @@ fn system_words(
     byte: u32,
     cause: Cause,
 ) -> Result<Vec<u8>, Memory>
-    ensures { IfOk result (λ words. words.items ≡ words_of (Refusal.System line column byte cause)) }
+    ensures { IfOk result
+        (λ words. words.items ≡ words_of (Refusal.System line column byte cause)) }
 {
     let mut words = Vec::from_slice(alloc, b"system: line ")?;
     push_decimal(&mut words, u64::from(line))?;

@@ -30,9 +30,18 @@ pub(crate) fn resume<'a, F: Folder, G: Gate>(
     effort: &Effort,
     gate: &G,
 ) -> Result<Product, Refusal<'a>>
-    ensures read { AreOnlyRead (files (F.content folder.old) (F.fetch_faults folder.old) (F.store_faults folder.old)) (files (F.content folder.new) (F.fetch_faults folder.new) (F.store_faults folder.new)) }
-    ensures comes { IfOk result (λ p. ComesOfResume (files (F.content folder.old) (F.fetch_faults folder.old) (F.store_faults folder.old)) system.now (names_in names.now) settings.now effort.now.boxes (made p)) }
-    ensures refused { IfErr result (RefusesJoined (files (F.content folder.old) (F.fetch_faults folder.old) (F.store_faults folder.old)) (files (F.content folder.new) (F.fetch_faults folder.new) (F.store_faults folder.new)) system.now (names_in names.now) settings.now effort.now.boxes) }
+    ensures read { AreOnlyRead
+        (files (F.content folder.old) (F.fetch_faults folder.old) (F.store_faults folder.old))
+        (files (F.content folder.new) (F.fetch_faults folder.new) (F.store_faults folder.new)) }
+    ensures comes { IfOk result
+        (λ p. ComesOfResume
+        (files (F.content folder.old) (F.fetch_faults folder.old) (F.store_faults folder.old))
+        system.now (names_in names.now) settings.now effort.now.boxes (made p)) }
+    ensures refused { IfErr result
+        (RefusesJoined
+        (files (F.content folder.old) (F.fetch_faults folder.old) (F.store_faults folder.old))
+        (files (F.content folder.new) (F.fetch_faults folder.new) (F.store_faults folder.new))
+        system.now (names_in names.now) settings.now effort.now.boxes) }
 {
     let opening = match opening_in(alloc, folder, system, names, settings) {
         Ok(opening) => opening,
@@ -53,7 +62,8 @@ fn resumed<G: Gate>(
 ) -> Result<Product, Memory>
     requires root { opening.paving.root ≡ search_box (rule_of opening.settler) }
     requires dims { length opening.paving.root ≡ dims_of (rule_of opening.settler) }
-    ensures { IfOk result (λ p. GivesResumed (rule_of opening.settler) opening.paving.tree budget (made p)) }
+    ensures { IfOk result
+        (λ p. GivesResumed (rule_of opening.settler) opening.paving.tree budget (made p)) }
 {
     let Opening { settler, paving } = opening;
     let identity = settler.identity(alloc)?;
@@ -71,7 +81,8 @@ fn go_on<G: Gate>(
     requires root { opening.root ≡ search_box (rule_of settler.now) }
     requires dims { length opening.root ≡ dims_of (rule_of settler.now) }
     ensures root { IfOk result (λ p. p.root ≡ search_box (rule_of settler.now)) }
-    ensures resumed { IfOk result (λ p. IsResumed (rule_of settler.now) opening.tree budget p.tree) }
+    ensures resumed { IfOk result
+        (λ p. IsResumed (rule_of settler.now) opening.tree budget p.tree) }
 {
     let paving = pave(alloc, settler, opening, budget, gate)?;
     learn_honest(&paving, settler);

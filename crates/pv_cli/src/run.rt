@@ -30,9 +30,18 @@ pub(crate) fn run<'a, F: Folder, G: Gate>(
     effort: &Effort,
     gate: &G,
 ) -> Result<Product, Refusal<'a>>
-    ensures read { AreOnlyRead (files (F.content folder.old) (F.fetch_faults folder.old) (F.store_faults folder.old)) (files (F.content folder.new) (F.fetch_faults folder.new) (F.store_faults folder.new)) }
-    ensures comes { IfOk result (λ p. ComesOfRun (files (F.content folder.old) (F.fetch_faults folder.old) (F.store_faults folder.old)) system.now settings.now effort.now.boxes (made p)) }
-    ensures refused { IfErr result (RefusesRule (files (F.content folder.old) (F.fetch_faults folder.old) (F.store_faults folder.old)) (files (F.content folder.new) (F.fetch_faults folder.new) (F.store_faults folder.new)) system.now settings.now) }
+    ensures read { AreOnlyRead
+        (files (F.content folder.old) (F.fetch_faults folder.old) (F.store_faults folder.old))
+        (files (F.content folder.new) (F.fetch_faults folder.new) (F.store_faults folder.new)) }
+    ensures comes { IfOk result
+        (λ p. ComesOfRun
+        (files (F.content folder.old) (F.fetch_faults folder.old) (F.store_faults folder.old))
+        system.now settings.now effort.now.boxes (made p)) }
+    ensures refused { IfErr result
+        (RefusesRule (files (F.content folder.old) (F.fetch_faults folder.old)
+        (F.store_faults folder.old))
+        (files (F.content folder.new) (F.fetch_faults folder.new) (F.store_faults folder.new))
+        system.now settings.now) }
 {
     let settler = match settler_in(alloc, folder, system, settings) {
         Ok(settler) => settler,
@@ -51,7 +60,9 @@ fn paved<G: Gate>(
     gate: &G,
 ) -> Result<Paving, Memory>
     ensures root { IfOk result (λ p. p.root ≡ search_box (rule_of settler.now)) }
-    ensures paved { IfOk result (λ p. IsPaved (settle_by (rule_of settler.now)) (rule_of settler.now).depth (search_box (rule_of settler.now)) leaf budget p.tree) }
+    ensures paved { IfOk result
+        (λ p. IsPaved (settle_by (rule_of settler.now)) (rule_of settler.now).depth
+        (search_box (rule_of settler.now)) leaf budget p.tree) }
     ensures dims { IfOk result (λ p. length p.root ≡ dims_of (rule_of settler.now)) }
 {
     let root = settler.search_box(alloc)?;

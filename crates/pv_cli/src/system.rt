@@ -58,9 +58,17 @@ pub(crate) fn settler_in<'a, F: Folder>(
     name: &'a str,
     settings: &Settings<'a>,
 ) -> Result<SystemSettler, Refusal<'a>>
-    ensures read { AreOnlyRead (files (F.content folder.old) (F.fetch_faults folder.old) (F.store_faults folder.old)) (files (F.content folder.new) (F.fetch_faults folder.new) (F.store_faults folder.new)) }
-    ensures rule { IfOk result (λ s. HasRule (files (F.content folder.old) (F.fetch_faults folder.old) (F.store_faults folder.old)) name.now settings.now (rule_of s)) }
-    ensures refused { IfErr result (RefusesRule (files (F.content folder.old) (F.fetch_faults folder.old) (F.store_faults folder.old)) (files (F.content folder.new) (F.fetch_faults folder.new) (F.store_faults folder.new)) name.now settings.now) }
+    ensures read { AreOnlyRead
+        (files (F.content folder.old) (F.fetch_faults folder.old) (F.store_faults folder.old))
+        (files (F.content folder.new) (F.fetch_faults folder.new) (F.store_faults folder.new)) }
+    ensures rule { IfOk result
+        (λ s. HasRule (files (F.content folder.old) (F.fetch_faults folder.old)
+        (F.store_faults folder.old)) name.now settings.now (rule_of s)) }
+    ensures refused { IfErr result
+        (RefusesRule (files (F.content folder.old) (F.fetch_faults folder.old)
+        (F.store_faults folder.old))
+        (files (F.content folder.new) (F.fetch_faults folder.new) (F.store_faults folder.new))
+        name.now settings.now) }
 {
     match system_in(alloc, folder, name) {
         Ok(system) => settler_for(alloc, system, settings),
@@ -95,9 +103,18 @@ pub(crate) fn system_in<'a, F: Folder>(
     folder: &mut F,
     name: &'a str,
 ) -> Result<System, Refusal<'a>>
-    ensures read { AreOnlyRead (files (F.content folder.old) (F.fetch_faults folder.old) (F.store_faults folder.old)) (files (F.content folder.new) (F.fetch_faults folder.new) (F.store_faults folder.new)) }
-    ensures system { IfOk result (λ s. HasSystem (files (F.content folder.old) (F.fetch_faults folder.old) (F.store_faults folder.old)) name.now s) }
-    ensures refused { IfErr result (RefusesSystem (files (F.content folder.old) (F.fetch_faults folder.old) (F.store_faults folder.old)) (files (F.content folder.new) (F.fetch_faults folder.new) (F.store_faults folder.new)) name.now) }
+    ensures read { AreOnlyRead
+        (files (F.content folder.old) (F.fetch_faults folder.old) (F.store_faults folder.old))
+        (files (F.content folder.new) (F.fetch_faults folder.new) (F.store_faults folder.new)) }
+    ensures system { IfOk result
+        (λ s. HasSystem
+        (files (F.content folder.old) (F.fetch_faults folder.old) (F.store_faults folder.old))
+        name.now s) }
+    ensures refused { IfErr result
+        (RefusesSystem
+        (files (F.content folder.old) (F.fetch_faults folder.old) (F.store_faults folder.old))
+        (files (F.content folder.new) (F.fetch_faults folder.new) (F.store_faults folder.new))
+        name.now) }
 {
     match text_in(alloc, folder, name) {
         Ok(text) => Ok(parse(alloc, &text)?),
@@ -112,9 +129,15 @@ fn text_in<'a, F: Folder>(
     folder: &mut F,
     name: &'a str,
 ) -> Result<Vec<u8>, Refusal<'a>>
-    ensures read { AreOnlyRead (files (F.content folder.old) (F.fetch_faults folder.old) (F.store_faults folder.old)) (files (F.content folder.new) (F.fetch_faults folder.new) (F.store_faults folder.new)) }
+    ensures read { AreOnlyRead
+        (files (F.content folder.old) (F.fetch_faults folder.old) (F.store_faults folder.old))
+        (files (F.content folder.new) (F.fetch_faults folder.new) (F.store_faults folder.new)) }
     ensures text { IfOk result (λ text. IsFetched (F.content folder.old name.now) text.items) }
-    ensures refused { IfErr result (RefusesFetch (files (F.content folder.old) (F.fetch_faults folder.old) (F.store_faults folder.old)) (files (F.content folder.new) (F.fetch_faults folder.new) (F.store_faults folder.new)) name.now) }
+    ensures refused { IfErr result
+        (RefusesFetch (files (F.content folder.old) (F.fetch_faults folder.old)
+        (F.store_faults folder.old))
+        (files (F.content folder.new) (F.fetch_faults folder.new) (F.store_faults folder.new))
+        name.now) }
 {
     let mut text = Vec::new(alloc);
     match folder.fetch(name, SYSTEM_LIMIT, &mut text) {

@@ -21,7 +21,8 @@ pub enum Unread {
 /// Tells that the words of a command line can't be read, and answers the status with which the program ends.
 /// It takes no memory.
 pub fn tell_unread<E: Sink>(err: &mut E, why: Unread) -> Status
-    ensures { Tells (refusal_for why) result (stream (E.written err.old) (E.faults err.old)) (stream (E.written err.new) (E.faults err.new)) }
+    ensures { Tells (refusal_for why) result (stream (E.written err.old) (E.faults err.old))
+        (stream (E.written err.new) (E.faults err.new)) }
 {
     match why {
         Unread::NoText => tell_line(
@@ -36,7 +37,8 @@ pub fn tell_unread<E: Sink>(err: &mut E, why: Unread) -> Status
 /// Writes the line of a refusal, and answers the status with which the command ends. A failed write
 /// changes no status.
 pub(crate) fn tell<E: Sink>(alloc: Global, err: &mut E, refusal: &Refusal<'_>) -> Status
-    ensures { Tells refusal.now result (stream (E.written err.old) (E.faults err.old)) (stream (E.written err.new) (E.faults err.new)) }
+    ensures { Tells refusal.now result (stream (E.written err.old) (E.faults err.old))
+        (stream (E.written err.new) (E.faults err.new)) }
 {
     let Ok(line) = refusal.line(alloc) else {
         return tell_memory(err);
@@ -45,7 +47,8 @@ pub(crate) fn tell<E: Sink>(alloc: Global, err: &mut E, refusal: &Refusal<'_>) -
 }
 
 fn tell_line<E: Sink>(err: &mut E, line: &[u8], status: Status) -> Status
-    ensures { TellsLine line.now status result (stream (E.written err.old) (E.faults err.old)) (stream (E.written err.new) (E.faults err.new)) }
+    ensures { TellsLine line.now status result (stream (E.written err.old) (E.faults err.old))
+        (stream (E.written err.new) (E.faults err.new)) }
 {
     match err.write(line) {
         Err(WriteRefused::Memory) => Status::WantOfMemory,

@@ -10,7 +10,8 @@ use pv_parse::read_number;
 
 /// The number of one to ten digits, where it is from `low` to `high`.
 pub(crate) fn count_of(text: &str, low: u64, high: u64) -> Option<u64>
-    ensures { MatchOption result ((n : ℕ) → IsCount low high text.now n → ⊥) (λ n. IsCount low high text.now n) }
+    ensures { MatchOption result ((n : ℕ) → IsCount low high text.now n → ⊥)
+        (λ n. IsCount low high text.now n) }
 {
     let n = number_of(text)?;
     if low <= n && n <= high { Some(n) } else { None }
@@ -41,7 +42,8 @@ fn begins_with_plus(bytes: &[u8]) -> bool
 
 /// An unsigned number, rounded down.
 pub(crate) fn width_of(text: &str) -> Option<Num>
-    ensures width { MatchOption result ((n : Extended) → IsWidth text.now n → ⊥) (λ n. IsWidth text.now n) }
+    ensures width { MatchOption result ((n : Extended) → IsWidth text.now n → ⊥)
+        (λ n. IsWidth text.now n) }
     ensures from { IfSome result (λ n. IsTrue (le (Fin (pos 0)) n)) }
     ensures finite { IfSome result (λ n. n ≢ PosInf) }
 {
@@ -51,7 +53,8 @@ pub(crate) fn width_of(text: &str) -> Option<Num>
 
 /// The bisector of a name.
 pub(crate) fn bisector_of(text: &str) -> Option<Bisector>
-    ensures { MatchOption result ((b : Bisector) → text.now ≡ bisector_name b → ⊥) (λ b. text.now ≡ bisector_name b) }
+    ensures { MatchOption result ((b : Bisector) → text.now ≡ bisector_name b → ⊥)
+        (λ b. text.now ≡ bisector_name b) }
 {
     match text {
         "largest" => Some(Bisector::Largest),

@@ -12,7 +12,8 @@ pub(crate) fn push_header(
     identity: &[u8; 32],
     out: &mut Vec<u8>,
 ) -> Result<(), Memory>
-    ensures header { OnOk result (out.new.items ≡ out.old.items ++ header_text version identity.now) }
+    ensures header { OnOk result
+        (out.new.items ≡ out.old.items ++ header_text version identity.now) }
 {
     out.extend_from_slice(version_name(version))?;
     out.extend_from_slice(b"\nidentity ")?;
@@ -65,7 +66,8 @@ pub(crate) enum IdentityLine {
 pub(crate) fn read_identity(line: &[u8], identity: &[u8; 32]) -> IdentityLine
     ensures same { result ≡ IdentityLine.Same → line.now ≡ identity_text identity.now }
     ensures other { result ≡ IdentityLine.Other → NamesOther line.now identity.now }
-    ensures complete { (d : List ℕ) → IsDigest d → line.now ≡ identity_text d → result ≢ IdentityLine.Bad }
+    ensures complete { (d : List ℕ) → IsDigest d → line.now ≡ identity_text d
+        → result ≢ IdentityLine.Bad }
     ensures is_same { line.now ≡ identity_text identity.now → result ≡ IdentityLine.Same }
 {
     let Some(digits) = line.strip_prefix(b"identity ") else {

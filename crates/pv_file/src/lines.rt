@@ -18,7 +18,8 @@ use std::alloc::Global;
 /// text is as before.
 pub fn write_node(alloc: Global, p: &Paving, path: Path, out: &mut Vec<u8>) -> Result<(), Memory>
     requires there { IsSome (subtree p.now.tree path) }
-    ensures line { OnOk result (AppendsNodeLine out.old.items out.new.items (subtree p.now.tree path)) }
+    ensures line { OnOk result
+        (AppendsNodeLine out.old.items out.new.items (subtree p.now.tree path)) }
     ensures unchanged { OnErr result (out.new.items ≡ out.old.items) }
 {
     let before = out.len();
@@ -31,7 +32,8 @@ pub fn write_node(alloc: Global, p: &Paving, path: Path, out: &mut Vec<u8>) -> R
 
 fn push_node(alloc: Global, p: &Paving, path: Path, out: &mut Vec<u8>) -> Result<(), Memory>
     requires there { IsSome (subtree p.now.tree path) }
-    ensures line { OnOk result (AppendsNodeLine out.old.items out.new.items (subtree p.now.tree path)) }
+    ensures line { OnOk result
+        (AppendsNodeLine out.old.items out.new.items (subtree p.now.tree path)) }
     ensures grown { StartsWith out.new.items out.old.items }
 {
     let mut to = scratch_box(alloc, p.dims())?;
@@ -89,7 +91,8 @@ pub(crate) fn push_shape(
     out: &mut Vec<u8>,
 ) -> Result<(), Memory>
     requires dims { length bx.now ≡ length to.now }
-    ensures line { OnOk result (out.new.items ≡ out.old.items ++ shape_line version bx.now shape.now to.now) }
+    ensures line { OnOk result
+        (out.new.items ≡ out.old.items ++ shape_line version bx.now shape.now to.now) }
     ensures grown { StartsWith out.new.items out.old.items }
 {
     match shape {
@@ -131,7 +134,8 @@ fn push_box(
     out: &mut Vec<u8>,
 ) -> Result<(), Memory>
     requires dims { length bx.now ≡ length to.now }
-    ensures line { OnOk result (out.new.items ≡ out.old.items ++ letter ∷ kept_text version bx.now to.now) }
+    ensures line { OnOk result
+        (out.new.items ≡ out.old.items ++ letter ∷ kept_text version bx.now to.now) }
     ensures grown { StartsWith out.new.items out.old.items }
 {
     out.push(letter)?;
@@ -179,7 +183,8 @@ fn push_ends(to: &IBox, i: u8, out: &mut Vec<u8>) -> Result<(), Memory>
 fn push_changes(bx: &IBox, to: &IBox, i: u8, out: &mut Vec<u8>) -> Result<(), Memory>
     requires within { i ≤ length to.now }
     requires dims { length bx.now ≡ length to.now }
-    ensures ends { OnOk result (out.new.items ≡ out.old.items ++ changes_text (drop i bx.now) (drop i to.now)) }
+    ensures ends { OnOk result
+        (out.new.items ≡ out.old.items ++ changes_text (drop i bx.now) (drop i to.now)) }
     ensures grown { StartsWith out.new.items out.old.items }
 {
     if i == to.dims() {

@@ -24,7 +24,8 @@ use std::alloc::Global;
 pub fn read_outcome(alloc: Global, line: &[u8], bx: &IBox) -> Result<Option<Outcome>, Memory>
     ensures sound { IfOk result (λ r. IfSome r (λ o. line.now ≡ outcome_line o)) }
     ensures right { IfOk result (λ r. IfSome r (λ o. IsRightFor bx.now o)) }
-    ensures complete { (o : Outcome) → IsRightFor bx.now o → line.now ≡ outcome_line o → IfOk result (λ r. r ≡ Some o) }
+    ensures complete { (o : Outcome) → IsRightFor bx.now o → line.now ≡ outcome_line o
+        → IfOk result (λ r. r ≡ Some o) }
 {
     read_line(alloc, Version::One, line, bx)
 }
@@ -37,9 +38,11 @@ pub(crate) fn read_line(
     line: &[u8],
     bx: &IBox,
 ) -> Result<Option<Outcome>, Memory>
-    ensures sound { IfOk result (λ r. IfSome r (λ o. line.now ≡ line_with (kept_text version bx.now) o)) }
+    ensures sound { IfOk result
+        (λ r. IfSome r (λ o. line.now ≡ line_with (kept_text version bx.now) o)) }
     ensures right { IfOk result (λ r. IfSome r (λ o. IsRightFor bx.now o)) }
-    ensures complete { (o : Outcome) → IsRightFor bx.now o → line.now ≡ line_with (kept_text version bx.now) o → IfOk result (λ r. r ≡ Some o) }
+    ensures complete { (o : Outcome) → IsRightFor bx.now o
+        → line.now ≡ line_with (kept_text version bx.now) o → IfOk result (λ r. r ≡ Some o) }
 {
     let Some((letter, rest)) = line.split_first() else {
         return Ok(None);
@@ -69,8 +72,8 @@ fn read_kept(
     ensures sound { IfOk result (λ r. IfSome r (λ to. rest.now ≡ kept_text version bx.now to)) }
     ensures kept { IfOk result (λ r. IfSome r (λ to. IsKeptOf bx.now to)) }
     ensures is_box { IfOk result (λ r. IfSome r (λ to. IsBox to)) }
-    ensures complete { (to : List Bounds) → IsKeptOf bx.now to → rest.now ≡ kept_text version bx.now to
-        → IfOk result (λ r. r ≡ Some to) }
+    ensures complete { (to : List Bounds) → IsKeptOf bx.now to
+        → rest.now ≡ kept_text version bx.now to → IfOk result (λ r. r ≡ Some to) }
 {
     let mut parts = Vec::with_capacity(alloc, bx.dims() as usize)?;
     if read_ends(version, bx, 0, rest, &mut parts)? {
@@ -89,8 +92,11 @@ fn read_ends(
     parts: &mut Vec<Interval>,
 ) -> Result<bool, Memory>
     requires { i ≤ length bx.now }
-    ensures sound { IfOk result (λ good. IsTrue good → PutsEnds version (drop i bx.now) rest.now parts.old.items parts.new.items) }
-    ensures complete { (to : List Bounds) → IsKeptOf (drop i bx.now) to → rest.now ≡ kept_text version (drop i bx.now) to
+    ensures sound { IfOk result
+        (λ good. IsTrue good
+        → PutsEnds version (drop i bx.now) rest.now parts.old.items parts.new.items) }
+    ensures complete { (to : List Bounds) → IsKeptOf (drop i bx.now) to
+        → rest.now ≡ kept_text version (drop i bx.now) to
         → IfOk result (λ good. IsTrue good × (parts.new.items ≡ parts.old.items ++ to)) }
 {
     if i == bx.dims() {
@@ -117,7 +123,8 @@ fn read_part(version: Version, old: Interval, bytes: &[u8]) -> Option<PartRead<'
     ensures sound { IfSome result (λ r. bytes.now ≡ part_text version old r.part ++ r.rest.now) }
     ensures part { IfSome result (λ r. IsPartOf old r.part) }
     ensures ends { IfSome result (λ r. EndsAWord r.rest.now) }
-    ensures complete { (x : Bounds) (more : List ℕ) → IsPartOf old x → EndsAWord more → bytes.now ≡ part_text version old x ++ more
+    ensures complete { (x : Bounds) (more : List ℕ) → IsPartOf old x → EndsAWord more
+        → bytes.now ≡ part_text version old x ++ more
         → MatchOption result ⊥ (λ r. (r.part ≡ x) × (r.rest.now ≡ more)) }
 {
     match version {
@@ -131,10 +138,12 @@ fn read_part(version: Version, old: Interval, bytes: &[u8]) -> Option<PartRead<'
 
 // The given interval, where neither end moved. Most places of most nodes are so, so this comes first.
 fn read_kept_part(old: Interval, bytes: &[u8]) -> Option<PartRead<'_>>
-    ensures sound { IfSome result (λ r. bytes.now ≡ part_text Version.Two old r.part ++ r.rest.now) }
+    ensures sound { IfSome result
+        (λ r. bytes.now ≡ part_text Version.Two old r.part ++ r.rest.now) }
     ensures part { IfSome result (λ r. IsPartOf old r.part) }
     ensures ends { IfSome result (λ r. EndsAWord r.rest.now) }
-    ensures only { (x : Bounds) (more : List ℕ) → IsPartOf old x → EndsAWord more → bytes.now ≡ part_text Version.Two old x ++ more
+    ensures only { (x : Bounds) (more : List ℕ) → IsPartOf old x → EndsAWord more
+        → bytes.now ≡ part_text Version.Two old x ++ more
         → IfSome result (λ r. (r.part ≡ x) × (r.rest.now ≡ more)) }
 {
     let rest = behind_marks(bytes)?;
@@ -160,7 +169,8 @@ fn read_moved(version: Version, old: Interval, bytes: &[u8]) -> Option<PartRead<
     ensures sound { IfSome result (λ r. bytes.now ≡ part_text version old r.part ++ r.rest.now) }
     ensures part { IfSome result (λ r. IsPartOf old r.part) }
     ensures ends { IfSome result (λ r. EndsAWord r.rest.now) }
-    ensures complete { (x : Bounds) (more : List ℕ) → IsPartOf old x → EndsAWord more → bytes.now ≡ part_text version old x ++ more
+    ensures complete { (x : Bounds) (more : List ℕ) → IsPartOf old x → EndsAWord more
+        → bytes.now ≡ part_text version old x ++ more
         → MatchOption result ⊥ (λ r. (r.part ≡ x) × (r.rest.now ≡ more)) }
 {
     let words = cut_words(bytes)?;
@@ -176,8 +186,8 @@ fn read_interval(version: Version, old: Interval, lower: &[u8], upper: &[u8]) ->
     ensures lower { IfSome result (λ x. lower.now ≡ end_text version old.lo x.lo) }
     ensures upper { IfSome result (λ x. upper.now ≡ end_text version old.hi x.hi) }
     ensures part { IfSome result (λ x. IsPartOf old x) }
-    ensures complete { (x : Bounds) → IsPartOf old x → lower.now ≡ end_text version old.lo x.lo → upper.now ≡ end_text version old.hi x.hi
-        → result ≡ Some x }
+    ensures complete { (x : Bounds) → IsPartOf old x → lower.now ≡ end_text version old.lo x.lo
+        → upper.now ≡ end_text version old.hi x.hi → result ≡ Some x }
 {
     let lo = read_end(version, old.lo(), lower)?;
     let hi = read_end(version, old.hi(), upper)?;
@@ -194,7 +204,8 @@ fn read_interval(version: Version, old: Interval, lower: &[u8], upper: &[u8]) ->
 fn read_end(version: Version, old: Num, word: &[u8]) -> Option<Num>
     ensures sound { IfSome result (λ n. word.now ≡ end_text version old n) }
     ensures number { IfSome result (λ n. IsNumber n) }
-    ensures complete { (n : Extended) → IsNumber n → word.now ≡ end_text version old n → result ≡ Some n }
+    ensures complete { (n : Extended) → IsNumber n → word.now ≡ end_text version old n
+        → result ≡ Some n }
 {
     match version {
         Version::One => read_number(word),
@@ -216,7 +227,8 @@ fn read_number(word: &[u8]) -> Option<Num>
 fn read_change(old: Num, word: &[u8]) -> Option<Num>
     ensures sound { IfSome result (λ n. word.now ≡ change_text old n) }
     ensures number { IfSome result (λ n. IsNumber n) }
-    ensures complete { (n : Extended) → IsNumber n → word.now ≡ change_text old n → result ≡ Some n }
+    ensures complete { (n : Extended) → IsNumber n → word.now ≡ change_text old n
+        → result ≡ Some n }
 {
     if is_same_mark(word) {
         is_number(old);
@@ -239,9 +251,11 @@ fn read_cut(
     rest: &[u8],
     bx: &IBox,
 ) -> Result<Option<Outcome>, Memory>
-    ensures sound { IfOk result (λ r. IfSome r (λ o. 67 ∷ rest.now ≡ line_with (kept_text version bx.now) o)) }
+    ensures sound { IfOk result
+        (λ r. IfSome r (λ o. 67 ∷ rest.now ≡ line_with (kept_text version bx.now) o)) }
     ensures right { IfOk result (λ r. IfSome r (λ o. IsRightFor bx.now o)) }
-    ensures complete { (to : List Bounds) (var : ℕ) (at : Extended) → IsRightFor bx.now (Outcome.Cut to var at)
+    ensures complete { (to : List Bounds) (var : ℕ) (at : Extended)
+        → IsRightFor bx.now (Outcome.Cut to var at)
         → 67 ∷ rest.now ≡ line_with (kept_text version bx.now) (Outcome.Cut to var at)
         → IfOk result (λ r. r ≡ Some (Outcome.Cut to var at)) }
 {
@@ -291,8 +305,8 @@ fn is_between(at: Num, part: Interval) -> bool
 fn read_cut_place(bytes: &[u8]) -> Option<CutPlace<'_>>
     ensures sound { IfSome result (λ c. 67 ∷ bytes.now ≡ cut_text c.var c.at ++ c.rest.now) }
     ensures number { IfSome result (λ c. IsNumber c.at) }
-    ensures complete { (var : ℕ) (at : Extended) (more : List ℕ) → var < 12 → IsNumber at → EndsAWord more
-        → 67 ∷ bytes.now ≡ cut_text var at ++ more
+    ensures complete { (var : ℕ) (at : Extended) (more : List ℕ) → var < 12 → IsNumber at
+        → EndsAWord more → 67 ∷ bytes.now ≡ cut_text var at ++ more
         → MatchOption result ⊥ (λ c. (c.var ≡ var) × (c.at ≡ at) × (c.rest.now ≡ more)) }
 {
     let words = cut_words(bytes)?;
@@ -347,11 +361,13 @@ struct WordPair<'a> {
 
 // The two words that come first, each after a space.
 fn cut_words(bytes: &[u8]) -> Option<WordPair<'_>>
-    ensures sound { IfSome result (λ r. bytes.now ≡ pair_text r.first.now r.second.now ++ r.rest.now) }
+    ensures sound { IfSome result
+        (λ r. bytes.now ≡ pair_text r.first.now r.second.now ++ r.rest.now) }
     ensures ends { IfSome result (λ r. EndsAWord r.rest.now) }
-    ensures complete { (first second more : List ℕ) → IsPlain first → IsPlain second → EndsAWord more
-        → bytes.now ≡ pair_text first second ++ more
-        → MatchOption result ⊥ (λ r. (r.first.now ≡ first) × (r.second.now ≡ second) × (r.rest.now ≡ more)) }
+    ensures complete { (first second more : List ℕ) → IsPlain first → IsPlain second
+        → EndsAWord more → bytes.now ≡ pair_text first second ++ more
+        → MatchOption result ⊥
+        (λ r. (r.first.now ≡ first) × (r.second.now ≡ second) × (r.rest.now ≡ more)) }
 {
     let one = cut_word(bytes)?;
     let two = cut_word(one.rest)?;
@@ -373,7 +389,8 @@ struct WordCut<'a> {
 fn cut_word(bytes: &[u8]) -> Option<WordCut<'_>>
     ensures sound { IfSome result (λ r. bytes.now ≡ 32 ∷ (r.word.now ++ r.rest.now)) }
     ensures ends { IfSome result (λ r. EndsAWord r.rest.now) }
-    ensures complete { (word more : List ℕ) → IsPlain word → EndsAWord more → bytes.now ≡ 32 ∷ (word ++ more)
+    ensures complete { (word more : List ℕ) → IsPlain word → EndsAWord more
+        → bytes.now ≡ 32 ∷ (word ++ more)
         → MatchOption result ⊥ (λ r. (r.word.now ≡ word) × (r.rest.now ≡ more)) }
 {
     let (first, text) = bytes.split_first()?;

@@ -8,7 +8,7 @@ ghost use Rattle.pv_file.specs.Texts.{header_text, version_text, identity_text};
 ghost use Rattle.pv_file.specs.Readings.{IsFree, IsTextOf, IsPavingInFormat, settled_count, HasOtherIdentity, IsFirstBadLine, IsOneTooMany};
 ghost use Rattle.pv_file.specs.Reading.{IsBadHeader, HasOtherHeader, HasOtherSecond, HasNoIdentity, IsRightNode, node_of, SaysNode, StandsAt, TakesNode, IsPut, IsMany, IsStep, IsStuck, IsFull, IsBadBody, IsManyBody};
 
-use crate::cut::end_at;
+use crate::cut::line_end;
 use crate::header::{IdentityLine, learn_digest, read_identity, read_version};
 use crate::outcome_line::read_line;
 use crate::refusal::FileRefused;
@@ -38,10 +38,14 @@ pub fn read(
     ensures numbers { IfOk result (λ p. IsPavingInFormat root.now p.tree) }
     ensures few { IfOk result (λ p. settled_count p.tree ≤ 100000) }
     ensures complete { (t : Tree) → IsPavingInFormat root.now t → settled_count t ≤ 100000
-        → IsTextOf bytes.now identity root.now t → MatchResult result (λ p. p.tree ≡ t) (λ e. e ≡ FileRefused.Memory) }
-    ensures wrong_identity { result ≡ Err FileRefused.WrongIdentity → HasOtherIdentity bytes.now identity root.now }
-    ensures bad_line { (n : ℕ) → result ≡ Err (FileRefused.BadLine n) → IsFirstBadLine n bytes.now identity root.now }
-    ensures too_many { (n : ℕ) → result ≡ Err (FileRefused.TooManyNodes n) → IsOneTooMany n bytes.now identity root.now }
+        → IsTextOf bytes.now identity root.now t
+        → MatchResult result (λ p. p.tree ≡ t) (λ e. e ≡ FileRefused.Memory) }
+    ensures wrong_identity { result ≡ Err FileRefused.WrongIdentity
+        → HasOtherIdentity bytes.now identity root.now }
+    ensures bad_line { (n : ℕ) → result ≡ Err (FileRefused.BadLine n)
+        → IsFirstBadLine n bytes.now identity root.now }
+    ensures too_many { (n : ℕ) → result ≡ Err (FileRefused.TooManyNodes n)
+        → IsOneTooMany n bytes.now identity root.now }
 {
     let _places = root.dims();
     learn_digest(&identity);
@@ -73,10 +77,13 @@ fn read_header<'a>(bytes: &'a [u8], identity: &[u8; 32]) -> Result<Header<'a>, F
 
 // The second line, after the first one.
 fn read_second<'a>(first: Header<'a>, identity: &[u8; 32]) -> Result<Header<'a>, FileRefused>
-    ensures text { IfOk result (λ h. first.entry.rest.now ≡ identity_text identity.now ++ 10 ∷ h.rest.now) }
+    ensures text { IfOk result
+        (λ h. first.entry.rest.now ≡ identity_text identity.now ++ 10 ∷ h.rest.now) }
     ensures version { IfOk result (λ h. h.version ≡ first.entry.version) }
-    ensures other { result ≡ Err FileRefused.WrongIdentity → HasOtherSecond first.entry.rest.now identity.now }
-    ensures bad { (n : ℕ) → result ≡ Err (FileRefused.BadLine n) → (n ≡ 2) × HasNoIdentity first.entry.rest.now }
+    ensures other { result ≡ Err FileRefused.WrongIdentity
+        → HasOtherSecond first.entry.rest.now identity.now }
+    ensures bad { (n : ℕ) → result ≡ Err (FileRefused.BadLine n)
+        → (n ≡ 2) × HasNoIdentity first.entry.rest.now }
     ensures not_many { (n : ℕ) → result ≢ Err (FileRefused.TooManyNodes n) }
     ensures not_memory { result ≢ Err FileRefused.Memory }
 {
@@ -95,7 +102,8 @@ fn read_second<'a>(first: Header<'a>, identity: &[u8; 32]) -> Result<Header<'a>,
 
 fn cut_version(bytes: &[u8]) -> Option<Header<'_>>
     ensures sound { IfSome result (λ h. bytes.now ≡ version_text h.version ++ 10 ∷ h.rest.now) }
-    ensures complete { result ≡ None → (v : Version) (rest : List ℕ) → bytes.now ≡ version_text v ++ 10 ∷ rest → ⊥ }
+    ensures complete { result ≡ None → (v : Version) (rest : List ℕ)
+        → bytes.now ≡ version_text v ++ 10 ∷ rest → ⊥ }
 {
     let first = cut_line(bytes)?;
     match read_version(first.line) {
@@ -120,7 +128,7 @@ fn cut_line(bytes: &[u8]) -> Option<LineCut<'_>>
     ensures free { IfSome result (λ r. IsFree 10 r.line.now) }
     ensures none { result ≡ None → IsFree 10 bytes.now }
 {
-    let (line, rest) = bytes.split_at(end_at(bytes, b'\n'));
+    let (line, rest) = bytes.split_at(line_end(bytes));
     let (_, rest) = rest.split_first()?;
     Some(LineCut { line, rest })
 }
@@ -144,7 +152,8 @@ fn read_node(
     bx: &IBox,
 ) -> Result<NodeLine, Memory>
     ensures sound { IfOk result (λ n. SaysNode version path bx.now line.now n) }
-    ensures complete { (q : Option Outcome) → IsRightNode path bx.now q → line.now ≡ node_line_with (kept_text version bx.now) q
+    ensures complete { (q : Option Outcome) → IsRightNode path bx.now q
+        → line.now ≡ node_line_with (kept_text version bx.now) q
         → IfOk result (λ n. n ≡ node_of q) }
 {
     if is_open_line(line) {
@@ -201,10 +210,13 @@ fn take_node<'a>(
     requires next { IsNext growth.old at.path }
     requires bx { IsFirstBox growth.old.holes bx.now }
     requires settled { at.settled ≤ 100000 }
-    ensures step { IfOk result (λ t. IsStep version growth.old growth.new rest.now t.rest.now at.settled t.settled) }
+    ensures step { IfOk result
+        (λ t. IsStep version growth.old growth.new rest.now t.rest.now at.settled t.settled) }
     ensures few { IfOk result (λ t. t.settled ≤ 100000) }
-    ensures bad { (n : ℕ) → result ≡ Err (FileRefused.BadLine n) → (n ≡ at.line) × IsStuck version growth.old rest.now }
-    ensures full { (n : ℕ) → result ≡ Err (FileRefused.TooManyNodes n) → (n ≡ at.line) × IsFull version growth.old rest.now at.settled }
+    ensures bad { (n : ℕ) → result ≡ Err (FileRefused.BadLine n)
+        → (n ≡ at.line) × IsStuck version growth.old rest.now }
+    ensures full { (n : ℕ) → result ≡ Err (FileRefused.TooManyNodes n)
+        → (n ≡ at.line) × IsFull version growth.old rest.now at.settled }
     ensures not_other { result ≢ Err FileRefused.WrongIdentity }
 {
     match cut_line(rest) {
@@ -236,8 +248,10 @@ fn put_node(growth: &mut Growth, node: NodeLine, at: Place) -> Result<u64, FileR
     requires few { at.settled ≤ 100000 }
     ensures put { IfOk result (λ total. IsPut growth.old growth.new at.settled total node) }
     ensures few { IfOk result (λ total. total ≤ 100000) }
-    ensures bad { (n : ℕ) → result ≡ Err (FileRefused.BadLine n) → (n ≡ at.line) × (node ≡ NodeLine.Bad) }
-    ensures many { (n : ℕ) → result ≡ Err (FileRefused.TooManyNodes n) → IsMany node n at.line at.settled }
+    ensures bad { (n : ℕ) → result ≡ Err (FileRefused.BadLine n)
+        → (n ≡ at.line) × (node ≡ NodeLine.Bad) }
+    ensures many { (n : ℕ) → result ≡ Err (FileRefused.TooManyNodes n)
+        → IsMany node n at.line at.settled }
     ensures not_other { result ≢ Err FileRefused.WrongIdentity }
 {
     match node {
@@ -268,10 +282,13 @@ fn read_nodes(
     ensures numbers { IfOk result (λ p. IsPavingInFormat root.now p.tree) }
     ensures few { IfOk result (λ p. settled_count p.tree ≤ 100000) }
     ensures complete { (t : Tree) → IsPavingInFormat root.now t → settled_count t ≤ 100000
-        → body.now ≡ lines_of version root.now t → MatchResult result (λ p. p.tree ≡ t) (λ e. e ≡ FileRefused.Memory) }
+        → body.now ≡ lines_of version root.now t
+        → MatchResult result (λ p. p.tree ≡ t) (λ e. e ≡ FileRefused.Memory) }
     ensures not_other { result ≢ Err FileRefused.WrongIdentity }
-    ensures bad { (n : ℕ) → result ≡ Err (FileRefused.BadLine n) → IsBadBody version root.now body.now n }
-    ensures many { (n : ℕ) → result ≡ Err (FileRefused.TooManyNodes n) → IsManyBody version root.now body.now n }
+    ensures bad { (n : ℕ) → result ≡ Err (FileRefused.BadLine n)
+        → IsBadBody version root.now body.now n }
+    ensures many { (n : ℕ) → result ≡ Err (FileRefused.TooManyNodes n)
+        → IsManyBody version root.now body.now n }
 {
     let _places = root.dims();
     let mut growth = Growth::open(alloc, root.clone_of(alloc)?)?;

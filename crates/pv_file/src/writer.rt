@@ -32,10 +32,13 @@ pub fn write<K: Sink>(
     sink: &mut K,
 ) -> Result<(), FileWriteRefused>
     ensures whole { OnOk result
-        (K.written sink.new ≡ appended (K.written sink.old) (file_text Version.Two identity p.now.root p.now.tree)) }
+        (K.written sink.new
+        ≡ appended (K.written sink.old) (file_text Version.Two identity p.now.root p.now.tree)) }
     ensures front { OnErr result
-        (AppendsFront (K.written sink.old) (K.written sink.new) (file_text Version.Two identity p.now.root p.now.tree)) }
-    ensures cause { IsErrOf result FileWriteRefused.WriteFailed → Rose (K.faults sink.old) (K.faults sink.new) }
+        (AppendsFront (K.written sink.old) (K.written sink.new)
+        (file_text Version.Two identity p.now.root p.now.tree)) }
+    ensures cause { IsErrOf result FileWriteRefused.WriteFailed
+        → Rose (K.faults sink.old) (K.faults sink.new) }
     ensures counts_on { K.faults sink.old ≤ K.faults sink.new }
 {
     let mut held = Vec::with_capacity(alloc, PIECE + LONGEST_LINE)?;
@@ -46,10 +49,13 @@ pub fn write<K: Sink>(
 /// Hands the version 1 lines of a paving's nodes to a sink, each with its line feed.
 pub fn write_lines<K: Sink>(alloc: Global, p: &Paving, sink: &mut K) -> Result<(), FileWriteRefused>
     ensures whole { OnOk result
-        (K.written sink.new ≡ appended (K.written sink.old) (lines_of Version.One p.now.root p.now.tree)) }
+        (K.written sink.new
+        ≡ appended (K.written sink.old) (lines_of Version.One p.now.root p.now.tree)) }
     ensures front { OnErr result
-        (AppendsFront (K.written sink.old) (K.written sink.new) (lines_of Version.One p.now.root p.now.tree)) }
-    ensures cause { IsErrOf result FileWriteRefused.WriteFailed → Rose (K.faults sink.old) (K.faults sink.new) }
+        (AppendsFront (K.written sink.old) (K.written sink.new)
+        (lines_of Version.One p.now.root p.now.tree)) }
+    ensures cause { IsErrOf result FileWriteRefused.WriteFailed
+        → Rose (K.faults sink.old) (K.faults sink.new) }
     ensures counts_on { K.faults sink.old ≤ K.faults sink.new }
 {
     let held = Vec::with_capacity(alloc, PIECE + LONGEST_LINE)?;
@@ -65,10 +71,13 @@ fn write_nodes<K: Sink>(
     sink: &mut K,
 ) -> Result<(), FileWriteRefused>
     ensures whole { OnOk result
-        (K.written sink.new ≡ appended (K.written sink.old) (held.items ++ lines_of version p.now.root p.now.tree)) }
+        (K.written sink.new
+        ≡ appended (K.written sink.old) (held.items ++ lines_of version p.now.root p.now.tree)) }
     ensures front { OnErr result
-        (AppendsFront (K.written sink.old) (K.written sink.new) (held.items ++ lines_of version p.now.root p.now.tree)) }
-    ensures cause { IsErrOf result FileWriteRefused.WriteFailed → Rose (K.faults sink.old) (K.faults sink.new) }
+        (AppendsFront (K.written sink.old) (K.written sink.new)
+        (held.items ++ lines_of version p.now.root p.now.tree)) }
+    ensures cause { IsErrOf result FileWriteRefused.WriteFailed
+        → Rose (K.faults sink.old) (K.faults sink.new) }
     ensures counts_on { K.faults sink.old ≤ K.faults sink.new }
 {
     let mut held = held;
@@ -98,7 +107,8 @@ fn push_visited(
     ensures bx { length bx.new ≡ length bx.old }
     ensures to { length to.new ≡ length to.old }
     ensures line { OnOk result
-        (out.new.items ≡ out.old.items ++ (top_line version walk.now.here.box walk.now.here.tree ++ 10 ∷ [])) }
+        (out.new.items ≡ out.old.items
+        ++ (top_line version walk.now.here.box walk.now.here.tree ++ 10 ∷ [])) }
 {
     write_boxes(walk, &shape, bx, to);
     push_shape(version, &shape, bx, to, out)?;
@@ -125,9 +135,12 @@ fn write_boxes(walk: &Walk<'_>, shape: &Shape, bx: &mut IBox, to: &mut IBox)
 
 // Hands over the bytes that are held, once they are a piece.
 fn hand_over_piece<K: Sink>(held: &mut Vec<u8>, sink: &mut K) -> Result<(), FileWriteRefused>
-    ensures part { OnOk result (HandsOver (K.written sink.old) (K.written sink.new) held.old.items held.new.items) }
-    ensures front { OnErr result (AppendsFront (K.written sink.old) (K.written sink.new) held.old.items) }
-    ensures cause { IsErrOf result FileWriteRefused.WriteFailed → Rose (K.faults sink.old) (K.faults sink.new) }
+    ensures part { OnOk result
+        (HandsOver (K.written sink.old) (K.written sink.new) held.old.items held.new.items) }
+    ensures front { OnErr result
+        (AppendsFront (K.written sink.old) (K.written sink.new) held.old.items) }
+    ensures cause { IsErrOf result FileWriteRefused.WriteFailed
+        → Rose (K.faults sink.old) (K.faults sink.new) }
     ensures counts_on { K.faults sink.old ≤ K.faults sink.new }
 {
     if held.len() < PIECE {
@@ -137,10 +150,13 @@ fn hand_over_piece<K: Sink>(held: &mut Vec<u8>, sink: &mut K) -> Result<(), File
 }
 
 fn hand_over<K: Sink>(held: &mut Vec<u8>, sink: &mut K) -> Result<(), FileWriteRefused>
-    ensures whole { OnOk result (K.written sink.new ≡ appended (K.written sink.old) held.old.items) }
+    ensures whole { OnOk result
+        (K.written sink.new ≡ appended (K.written sink.old) held.old.items) }
     ensures empty { OnOk result (held.new.items ≡ []) }
-    ensures front { OnErr result (AppendsFront (K.written sink.old) (K.written sink.new) held.old.items) }
-    ensures cause { IsErrOf result FileWriteRefused.WriteFailed → Rose (K.faults sink.old) (K.faults sink.new) }
+    ensures front { OnErr result
+        (AppendsFront (K.written sink.old) (K.written sink.new) held.old.items) }
+    ensures cause { IsErrOf result FileWriteRefused.WriteFailed
+        → Rose (K.faults sink.old) (K.faults sink.new) }
     ensures counts_on { K.faults sink.old ≤ K.faults sink.new }
 {
     match sink.write(held) {

@@ -7,10 +7,10 @@ use std::collections::BTreeMap;
 use std::process::Abort;
 use std::test::Fail;
 
-// A file and its content.
-struct Named {
-    name: &'static str,
-    text: &'static str,
+/// A file and its content.
+pub(crate) struct Named {
+    pub name: &'static str,
+    pub text: &'static str,
 }
 
 // One call, what comes of it, and what a file holds then.
@@ -23,14 +23,14 @@ struct Step {
     holds: &'static str,
 }
 
-const SYSTEM: &str = "Variables x in [0,1]; Constraints 1/x >= 0; end\n";
+pub(crate) const SYSTEM: &str = "Variables x in [0,1]; Constraints 1/x >= 0; end\n";
 
 const HALF_LINE: &str = "Variables x in [0,4]; Constraints x <= 1; end\n";
 
-const WHOLE: &str =
+pub(crate) const WHOLE: &str =
     "paving 2\nidentity be80eb05bcbc91b70b7ad422c002b378eff58622ab1c9a053f3fcbdf6852f81a\nC 0 1:-1 = =\nC 0 1:-2 = =\nS = =\nI = =\nI = =\n";
 
-const WHOLE_1: &str =
+pub(crate) const WHOLE_1: &str =
     "paving 1\nidentity be80eb05bcbc91b70b7ad422c002b378eff58622ab1c9a053f3fcbdf6852f81a\nC 0 1:-1 0:0 1:0\nC 0 1:-2 0:0 1:-1\nS 0:0 1:-2\nI 1:-2 1:-1\nI 1:-1 1:0\n";
 
 const PART: &str =
@@ -60,7 +60,7 @@ const CUT_AT_AN_END: &str =
 const CUT_OFF: &str =
     "paving 2\nidentity be80eb05bcbc91b70b7ad422c002b378eff58622ab1c9a053f3fcbdf6852f81a\nC 0 1:-1 = =\nC 0 1:-2 = =\nS =";
 
-const SUMMARY: &str = "settled 5 cut 2 removed 0 inner 2 small 1 open 0\n";
+pub(crate) const SUMMARY: &str = "settled 5 cut 2 removed 0 inner 2 small 1 open 0\n";
 
 const SYSTEMS: [Named; 2] = [
     Named {
@@ -73,7 +73,7 @@ const SYSTEMS: [Named; 2] = [
     },
 ];
 
-const FILES: [Named; 9] = [
+pub(crate) const FILES: [Named; 12] = [
     Named {
         name: "s",
         text: SYSTEM,
@@ -110,9 +110,21 @@ const FILES: [Named; 9] = [
         name: "b",
         text: CUT_OFF,
     },
+    Named {
+        name: "whole",
+        text: WHOLE,
+    },
+    Named {
+        name: "part",
+        text: PART,
+    },
+    Named {
+        name: "plus",
+        text: "Variables x in [0,4]; Constraints x + <= 1; end\n",
+    },
 ];
 
-fn shelf(alloc: Global, files: &[Named], fails: &[u64]) -> Result<MemFolder, Fail> {
+pub(crate) fn shelf(alloc: Global, files: &[Named], fails: &[u64]) -> Result<MemFolder, Fail> {
     let mut map = BTreeMap::new(alloc);
     for file in files {
         let name = String::from_str(alloc, file.name)?;

@@ -1,0 +1,560 @@
+-- What each status says, by the cases of how a command ends.
+use Rattle.std.proofs.Common.{◌≡◌, ◌⊎◌, inl, inr, ℕ, ◌==◌, true, false, ◌<◌, ◌≤◌, Bool, List, [], ◌∷◌, map, length, refl, sym, ◌∙◌, ap, subst, arith}
+use Rattle.std.specs.Prelude.{◌≢◌, Option, Some, None, codes, slice_index}
+use Rattle.std.specs.Borrow.{Bor}
+use Rattle.std.proofs.lemmas.List.{length-map}
+use Rattle.std.proofs.lemmas.Bool.Decides.{eqb_tells}
+use Rattle.clap.specs.Words.{Row, Text, fault_of, subcommand_of}
+use Rattle.pv_tree.specs.Trees.{Tree, leaf, opens}
+use Rattle.pv_settle.specs.Rules.{SettlerParts}
+use Rattle.pv_settle.specs.Spelling.{identity_of}
+use Rattle.pv_cli.specs.Commands.{paver_app}
+use Rattle.pv_cli.specs.Requests.{names_in, out_of, paving_names, AreSettings, IsEffort, ArePavings, HasBadSetting, bad_eps, bad_depth, bad_bisector, HasBadEffort, bad_workers, bad_boxes, HasManyPavings, HasBadValue, in_run, in_resume, in_merge, in_audit, IsAskedBy, IsAsked, Asks, HasBadValueIn, AreRefused}
+use Rattle.pv_cli.specs.Refusals.{status_of, line_of}
+use Rattle.pv_cli.specs.Systems.{Files, HasRule, search_box}
+use Rattle.pv_cli.specs.Files.{RefusesPaving, RefusesPavings}
+use Rattle.pv_cli.specs.Products.{Product, text, paved, HasStatus, IsHonest, AreStages, ComesOf, ComesOfRun, ComesOfResume, ComesOfMerge, RefusesWork}
+use Rattle.pv_cli.specs.Ends.{Stream, Outside, AreUntouched, IsKept, RefusesDelivery, RefusesWords, IsRefusedSo, in_words, in_request, IsTold, Tells}
+use Rattle.pv_cli.specs.StatusLaws.{full_by, IsFullRun, IsFullResume, IsClosedJoin, IsWhole, DoneIsWhole, IsPartRun, IsPartResume, IsOpenJoin, IsPart, OpenLeftIsPart, IsEarly, IsCause, IsRefusedEarly, EarlyIsUntouched, IsUnstored, IsUnprinted, IsUnwritten, WriteFaultIsUnwritten, IsCutOffText, MemoryLeaves, OthersStay, AskingIsNotRefused, IsWordsRefused, RefusedWordsEnd, HasBadContract, UsageIsOfWords}
+use Rattle.pv_cli.specs.declared.request.Settings.{Settings}
+use Rattle.pv_cli.specs.declared.request.Effort.{Effort}
+use Rattle.pv_cli.specs.declared.request.Request.{Request}
+use Rattle.pv_cli.specs.declared.request.Request.TheVariants.{Check, Run, Resume, Merge, Audit}
+use Rattle.pv_cli.specs.declared.refusal.Refusal.{Refusal}
+use Rattle.pv_cli.specs.declared.refusal.Refusal.TheVariants.{Usage, System, Contract, NoFile, ReadFault, Paving, NotStored, NotPrinted, Memory, TreeLimit, Disagree, Differs}
+use Rattle.pv_cli.specs.declared.status.Status.{Status}
+use Rattle.pv_cli.specs.declared.status.Status.TheVariants as status
+
+-- ---- Which statuses are those of a refusal
+
+abbrev IsAnswer : Status → Type 0
+IsAnswer status.Done = Unit {0}
+IsAnswer status.OpenLeft = Unit {0}
+IsAnswer status.Usage = ⊥
+IsAnswer status.SystemRefused = ⊥
+IsAnswer status.PavingRefused = ⊥
+IsAnswer status.ReadFault = ⊥
+IsAnswer status.WriteFault = ⊥
+IsAnswer status.WantOfMemory = ⊥
+IsAnswer status.TreeLimit = ⊥
+IsAnswer status.Disagree = ⊥
+IsAnswer status.KeeperFault = ⊥
+IsAnswer status.NoFile = ⊥
+
+no_answer : (r : Refusal) → IsAnswer (status_of r) → ⊥
+no_answer Usage h = h
+no_answer (System line column byte cause) h = h
+no_answer (Contract byte) h = h
+no_answer (NoFile n) h = h
+no_answer (ReadFault n) h = h
+no_answer (Paving n f) h = h
+no_answer (NotStored n) h = h
+no_answer NotPrinted h = h
+no_answer Memory h = h
+no_answer (TreeLimit n) h = h
+no_answer (Disagree p a b) h = h
+no_answer (Differs p a b) h = h
+
+not_told : (r : Refusal) (s : Status) (before after : Stream) → IsAnswer s → Tells r s before after → ⊥
+not_told r s before after h (inl told) = no_answer r (subst IsAnswer told.0 h)
+not_told r s before after h (inr memory) = subst IsAnswer memory.0 h
+
+-- what was delivered has an answer's status
+is_answer : (p : Product) (s : Status) → HasStatus p s → IsAnswer s
+is_answer (text t) s h = subst IsAnswer (sym h) tt
+is_answer (paved identity b t) s (inl h) = subst IsAnswer (sym h.0) tt
+is_answer (paved identity b t) s (inr h) = subst IsAnswer (sym h.0) tt
+
+-- ---- Status 0
+
+not_open : status.Done ≡ status.OpenLeft → ⊥
+not_open e = cc
+
+closed_at : (t : Tree) → ((status.Done ≡ status.Done) × (opens t ≡ [])) ⊎ ((status.Done ≡ status.OpenLeft) × (opens t ≢ [])) → opens t ≡ []
+closed_at t (inl h) = h.1
+closed_at t (inr h) = absurd (not_open h.0)
+
+full_run : (before : Files) (system : Text) (s : Settings) (budget : ℕ) (p : Product) → ComesOfRun before system s budget p → HasStatus p status.Done → IsFullRun before system s p
+full_run before system s budget p h done =
+    let closed : opens h.tree ≡ [] = closed_at h.tree (subst (λ (x : Product). HasStatus x status.Done) h.is done) in
+    let full : h.tree ≡ full_by h.rule leaf = h.run.full closed in
+    record {
+      rule = h.rule;
+      read = h.read;
+      honest = subst (IsHonest s h.rule) full h.honest;
+      is = h.is ∙ ap (paved (identity_of h.rule) (search_box h.rule)) full;
+    }
+
+full_resume : (before : Files) (system : Text) (names : List Text) (s : Settings) (budget : ℕ) (p : Product) → ComesOfResume before system names s budget p → HasStatus p status.Done
+    → IsFullResume before system names s p
+full_resume before system names s budget p h done =
+    let closed : opens h.tree ≡ [] = closed_at h.tree (subst (λ (x : Product). HasStatus x status.Done) h.is done) in
+    let full : h.tree ≡ full_by h.rule h.opening = h.run.full closed in
+    record {
+      rule = h.rule;
+      trees = h.trees;
+      opening = h.opening;
+      opened = h.opened;
+      honest = λ stages. subst (IsHonest s h.rule) full (h.honest stages);
+      is = h.is ∙ ap (paved (identity_of h.rule) (search_box h.rule)) full;
+    }
+
+closed_join : (before : Files) (system : Text) (names : List Text) (s : Settings) (p : Product) → ComesOfMerge before system names s p → HasStatus p status.Done
+    → IsClosedJoin before system names s p
+closed_join before system names s p h done = record {
+  rule = h.rule;
+  trees = h.trees;
+  tree = h.tree;
+  opened = h.opened;
+  closed = closed_at h.tree (subst (λ (x : Product). HasStatus x status.Done) h.is done);
+  honest = h.honest;
+  is = h.is;
+}
+
+whole_of : (before : Files) (q : Request) (p : Product) → ComesOf before q p → HasStatus p status.Done → IsWhole before q p
+whole_of before (Check system) p h done = h
+whole_of before (Run system settings effort out) p h done = full_run before _ settings _ p h done
+whole_of before (Resume system pavings settings effort out) p h done = full_resume before _ _ settings _ p h done
+whole_of before (Merge system pavings settings out) p h done = closed_join before _ _ settings p h done
+whole_of before (Audit system paving settings) p h done = h
+
+pub done_is_whole : DoneIsWhole
+done_is_whole words before after (inl d) = record {
+  request = d.request;
+  asks = d.asks;
+  product = d.answered.product;
+  says_so = whole_of before.files d.request d.answered.product d.answered.comes d.answered.is;
+  delivered = d.answered.delivered;
+  quiet = d.quiet;
+}
+done_is_whole words before after (inr r) = absurd (not_told r.refusal status.Done before.err after.err tt r.told)
+
+-- ---- Status 1
+
+not_done : status.OpenLeft ≡ status.Done → ⊥
+not_done e = cc
+
+open_at : (t : Tree) → ((status.OpenLeft ≡ status.Done) × (opens t ≡ [])) ⊎ ((status.OpenLeft ≡ status.OpenLeft) × (opens t ≢ [])) → opens t ≢ []
+open_at t (inl h) = absurd (not_done h.0)
+open_at t (inr h) = h.1
+
+no_text : (p : Product) (t : List ℕ) → p ≡ text t → HasStatus p status.OpenLeft → ⊥
+no_text p t e h = not_done (subst (λ (x : Product). HasStatus x status.OpenLeft) e h)
+
+part_run : (before : Files) (system : Text) (s : Settings) (budget : ℕ) (p : Product) → ComesOfRun before system s budget p → HasStatus p status.OpenLeft
+    → IsPartRun before system s budget p
+part_run before system s budget p h left =
+    let open_left : opens h.tree ≢ [] = open_at h.tree (subst (λ (x : Product). HasStatus x status.OpenLeft) h.is left) in
+    record {
+      rule = h.rule;
+      read = h.read;
+      tree = h.tree;
+      part = record { open_left = open_left; spent = h.run.spent open_left; short = λ fits. open_left (h.run.fits.1 fits) };
+      honest = h.honest;
+      is = h.is;
+    }
+
+part_resume : (before : Files) (system : Text) (names : List Text) (s : Settings) (budget : ℕ) (p : Product) → ComesOfResume before system names s budget p
+    → HasStatus p status.OpenLeft → IsPartResume before system names s budget p
+part_resume before system names s budget p h left =
+    let open_left : opens h.tree ≢ [] = open_at h.tree (subst (λ (x : Product). HasStatus x status.OpenLeft) h.is left) in
+    record {
+      rule = h.rule;
+      trees = h.trees;
+      opening = h.opening;
+      opened = h.opened;
+      tree = h.tree;
+      part = record { open_left = open_left; spent = h.run.spent open_left; short = λ fits. open_left (h.run.fits.1 fits) };
+      honest = h.honest;
+      is = h.is;
+    }
+
+open_join : (before : Files) (system : Text) (names : List Text) (s : Settings) (p : Product) → ComesOfMerge before system names s p → HasStatus p status.OpenLeft
+    → IsOpenJoin before system names s p
+open_join before system names s p h left = record {
+  rule = h.rule;
+  trees = h.trees;
+  tree = h.tree;
+  opened = h.opened;
+  open_left = open_at h.tree (subst (λ (x : Product). HasStatus x status.OpenLeft) h.is left);
+  honest = h.honest;
+  is = h.is;
+}
+
+part_of : (before : Files) (q : Request) (p : Product) → ComesOf before q p → HasStatus p status.OpenLeft → IsPart before q p
+part_of before (Check system) p h left = no_text p _ h.is left
+part_of before (Run system settings effort out) p h left = part_run before _ settings _ p h left
+part_of before (Resume system pavings settings effort out) p h left = part_resume before _ _ settings _ p h left
+part_of before (Merge system pavings settings out) p h left = open_join before _ _ settings p h left
+part_of before (Audit system paving settings) p h left = no_text p _ h.is left
+
+pub open_left_is_part : OpenLeftIsPart
+open_left_is_part words before after (inl d) = record {
+  request = d.request;
+  asks = d.asks;
+  product = d.answered.product;
+  says_so = part_of before.files d.request d.answered.product d.answered.comes d.answered.is;
+  delivered = d.answered.delivered;
+  quiet = d.quiet;
+}
+open_left_is_part words before after (inr r) = absurd (not_told r.refusal status.OpenLeft before.err after.err tt r.told)
+
+-- ---- What refuses no work, and what refuses no delivery
+
+module _ (before after : Files) where
+  pub no_files : (rule : SettlerParts) (r : Refusal) → (r ≡ Memory → ⊥) → ((n : Text) → RefusesPaving before after rule n r → ⊥) → (names : List Text) → RefusesPavings before after rule names r → ⊥
+  no_files rule r memory one [] h = memory h
+  no_files rule r memory one (n ∷ names) (inl h) = one n h
+  no_files rule r memory one (n ∷ names) (inr h) = no_files rule r memory one names h.2
+
+  usage_or_memory : Usage ≡ Memory → ⊥
+  usage_or_memory e = cc
+
+  no_work_usage : (q : Request) → RefusesWork before after q Usage → ⊥
+  no_work_usage (Check system) h = h
+  no_work_usage (Run system settings effort out) h = h
+  no_work_usage (Resume system pavings settings effort out) (inl h) = h
+  no_work_usage (Resume system pavings settings effort out) (inr (inl h)) = no_files h.rule Usage usage_or_memory (λ n k. k) (names_in pavings.items) h.refused
+  no_work_usage (Resume system pavings settings effort out) (inr (inr h)) = h.refused
+  no_work_usage (Merge system pavings settings out) (inl h) = h
+  no_work_usage (Merge system pavings settings out) (inr (inl h)) = no_files h.rule Usage usage_or_memory (λ n k. k) (names_in pavings.items) h.refused
+  no_work_usage (Merge system pavings settings out) (inr (inr h)) = h.refused
+  no_work_usage (Audit system paving settings) (inl h) = h
+  no_work_usage (Audit system paving settings) (inr h) = no_files h.rule Usage usage_or_memory (λ n k. k) (paving.now ∷ []) h.refused
+
+  stored_or_memory : (n : Bor Text) → NotStored n ≡ Memory → ⊥
+  stored_or_memory n e = cc
+
+  no_work_stored : (q : Request) (m : Bor Text) → RefusesWork before after q (NotStored m) → ⊥
+  no_work_stored (Check system) m h = h
+  no_work_stored (Run system settings effort out) m h = h
+  no_work_stored (Resume system pavings settings effort out) m (inl h) = h
+  no_work_stored (Resume system pavings settings effort out) m (inr (inl h)) = no_files h.rule (NotStored m) (stored_or_memory m) (λ n k. k) (names_in pavings.items) h.refused
+  no_work_stored (Resume system pavings settings effort out) m (inr (inr h)) = h.refused
+  no_work_stored (Merge system pavings settings out) m (inl h) = h
+  no_work_stored (Merge system pavings settings out) m (inr (inl h)) = no_files h.rule (NotStored m) (stored_or_memory m) (λ n k. k) (names_in pavings.items) h.refused
+  no_work_stored (Merge system pavings settings out) m (inr (inr h)) = h.refused
+  no_work_stored (Audit system paving settings) m (inl h) = h
+  no_work_stored (Audit system paving settings) m (inr h) = no_files h.rule (NotStored m) (stored_or_memory m) (λ n k. k) (paving.now ∷ []) h.refused
+
+  printed_or_memory : NotPrinted ≡ Memory → ⊥
+  printed_or_memory e = cc
+
+  no_work_printed : (q : Request) → RefusesWork before after q NotPrinted → ⊥
+  no_work_printed (Check system) h = h
+  no_work_printed (Run system settings effort out) h = h
+  no_work_printed (Resume system pavings settings effort out) (inl h) = h
+  no_work_printed (Resume system pavings settings effort out) (inr (inl h)) = no_files h.rule NotPrinted printed_or_memory (λ n k. k) (names_in pavings.items) h.refused
+  no_work_printed (Resume system pavings settings effort out) (inr (inr h)) = h.refused
+  no_work_printed (Merge system pavings settings out) (inl h) = h
+  no_work_printed (Merge system pavings settings out) (inr (inl h)) = no_files h.rule NotPrinted printed_or_memory (λ n k. k) (names_in pavings.items) h.refused
+  no_work_printed (Merge system pavings settings out) (inr (inr h)) = h.refused
+  no_work_printed (Audit system paving settings) (inl h) = h
+  no_work_printed (Audit system paving settings) (inr h) = no_files h.rule NotPrinted printed_or_memory (λ n k. k) (paving.now ∷ []) h.refused
+
+  no_delivery : (out : Option Text) (p : Product) (x y : Stream) (r : Refusal) → IsEarly (status_of r) → RefusesDelivery out p before after x y r → ⊥
+  no_delivery out p x y Usage early h = h
+  no_delivery out p x y (System line column byte cause) early h = h
+  no_delivery out p x y (Contract byte) early h = h
+  no_delivery out p x y (NoFile n) early h = h
+  no_delivery out p x y (ReadFault n) early h = h
+  no_delivery out p x y (Paving n f) early h = h
+  no_delivery out p x y (NotStored n) early h = early
+  no_delivery out p x y NotPrinted early h = early
+  no_delivery out p x y Memory early h = early
+  no_delivery out p x y (TreeLimit n) early h = h
+  no_delivery out p x y (Disagree path a b) early h = h
+  no_delivery out p x y (Differs path a b) early h = h
+
+-- ---- Statuses 2 to 5, 8, 9 and 11
+
+no_early : (s : Status) → IsEarly s → IsAnswer s → ⊥
+no_early status.Done early h = early
+no_early status.OpenLeft early h = early
+no_early status.Usage early h = h
+no_early status.SystemRefused early h = h
+no_early status.PavingRefused early h = h
+no_early status.ReadFault early h = h
+no_early status.WriteFault early h = h
+no_early status.WantOfMemory early h = h
+no_early status.TreeLimit early h = h
+no_early status.Disagree early h = h
+no_early status.KeeperFault early h = h
+no_early status.NoFile early h = h
+
+words_cause : (words : List Text) (before after : Files) (r : Refusal) → IsEarly (status_of r) → RefusesWords words r → IsCause words before after r
+words_cause words before after Usage early h = inl (refl, h)
+words_cause words before after Memory early h = absurd early
+words_cause words before after (System line column byte cause) early h = absurd h
+words_cause words before after (Contract byte) early h = absurd h
+words_cause words before after (NoFile n) early h = absurd h
+words_cause words before after (ReadFault n) early h = absurd h
+words_cause words before after (Paving n f) early h = absurd h
+words_cause words before after (NotStored n) early h = absurd h
+words_cause words before after NotPrinted early h = absurd h
+words_cause words before after (TreeLimit n) early h = absurd h
+words_cause words before after (Disagree p a b) early h = absurd h
+words_cause words before after (Differs p a b) early h = absurd h
+
+early_so : (words : List Text) (before after : Outside) (r : Refusal) → IsEarly (status_of r) → IsRefusedSo words before after r
+    → AreUntouched before.files after.files before.out after.out × IsCause words before.files after.files r
+early_so words before after r early (in_words h same) = (same, words_cause words before.files after.files r early h)
+early_so words before after r early (in_request q asks (inl work)) = (work.1, inr (q, (asks, work.0)))
+early_so words before after r early (in_request q asks (inr f)) = absurd (no_delivery before.files after.files (out_of q) f.product before.out after.out r early f.refused)
+
+early_told : (words : List Text) (before after : Outside) (r : Refusal) (s : Status) → IsEarly s → IsRefusedSo words before after r → Tells r s before.err after.err
+    → IsRefusedEarly words before after s
+early_told words before after r s early so (inl told) =
+    let both = early_so words before after r (subst IsEarly told.0 early) so in
+    record { untouched = both.0; refusal = r; cause = both.1; status_is = told.0; told = told.1 }
+early_told words before after r s early so (inr memory) = absurd (subst IsEarly memory.0 early)
+
+pub early_is_untouched : EarlyIsUntouched
+early_is_untouched words before after s early (inl d) = absurd (no_early s early (is_answer d.answered.product s d.answered.is))
+early_is_untouched words before after s early (inr r) = early_told words before after r.refusal s early r.so r.told
+
+-- ---- Statuses 6 and 7
+
+abbrev IsWrite : Status → Type 0
+IsWrite status.Done = ⊥
+IsWrite status.OpenLeft = ⊥
+IsWrite status.Usage = ⊥
+IsWrite status.SystemRefused = ⊥
+IsWrite status.PavingRefused = ⊥
+IsWrite status.ReadFault = ⊥
+IsWrite status.WriteFault = Unit {0}
+IsWrite status.WantOfMemory = ⊥
+IsWrite status.TreeLimit = ⊥
+IsWrite status.Disagree = ⊥
+IsWrite status.KeeperFault = ⊥
+IsWrite status.NoFile = ⊥
+
+unwritten : (words : List Text) (before after : Outside) (r : Refusal) → IsWrite (status_of r) → IsRefusedSo words before after r → IsUnwritten words before after
+unwritten words before after (NotStored n) w (in_words h same) = absurd h
+unwritten words before after (NotStored n) w (in_request q asks (inl work)) = absurd (no_work_stored before.files after.files q n work.0)
+unwritten words before after (NotStored n) w (in_request q asks (inr f)) = record {
+  request = q;
+  asks = asks;
+  product = f.product;
+  comes = f.comes;
+  not_written = inl (record { name = n.now; lost = f.refused });
+}
+unwritten words before after NotPrinted w (in_words h same) = absurd h
+unwritten words before after NotPrinted w (in_request q asks (inl work)) = absurd (no_work_printed before.files after.files q work.0)
+unwritten words before after NotPrinted w (in_request q asks (inr f)) = record {
+  request = q;
+  asks = asks;
+  product = f.product;
+  comes = f.comes;
+  not_written = inr (record { cut = f.refused.0; rose = f.refused.1 });
+}
+unwritten words before after Usage w so = absurd w
+unwritten words before after (System line column byte cause) w so = absurd w
+unwritten words before after (Contract byte) w so = absurd w
+unwritten words before after (NoFile n) w so = absurd w
+unwritten words before after (ReadFault n) w so = absurd w
+unwritten words before after (Paving n f) w so = absurd w
+unwritten words before after Memory w so = absurd w
+unwritten words before after (TreeLimit n) w so = absurd w
+unwritten words before after (Disagree p a b) w so = absurd w
+unwritten words before after (Differs p a b) w so = absurd w
+
+write_told : (words : List Text) (before after : Outside) (r : Refusal) → IsRefusedSo words before after r → Tells r status.WriteFault before.err after.err → IsUnwritten words before after
+write_told words before after r so (inl told) = unwritten words before after r (subst IsWrite told.0 tt) so
+write_told words before after r so (inr memory) = absurd (subst IsWrite memory.0 tt)
+
+pub write_fault_is_unwritten : WriteFaultIsUnwritten
+write_fault_is_unwritten words before after (inl d) = absurd (is_answer d.answered.product status.WriteFault d.answered.is)
+write_fault_is_unwritten words before after (inr r) = write_told words before after r.refusal r.so r.told
+
+abbrev Leaves : List Text → Outside → Outside → Type 0
+Leaves words before after =
+    AreUntouched before.files after.files before.out after.out ⊎ (IsCutOffText words before after ⊎ IsUnwritten words before after)
+
+undelivered : (words : List Text) (before after : Outside) (q : Request) (p : Product) (r : Refusal) → Asks words q → ComesOf before.files q p
+    → RefusesDelivery (out_of q) p before.files after.files before.out after.out r → Leaves words before after
+undelivered words before after q p (NotStored n) asks comes h =
+    inr (inr (record { request = q; asks = asks; product = p; comes = comes; not_written = inl (record { name = n.now; lost = h }) }))
+undelivered words before after q p NotPrinted asks comes h =
+    inr (inr (record { request = q; asks = asks; product = p; comes = comes; not_written = inr (record { cut = h.0; rose = h.1 }) }))
+undelivered words before after q p Memory asks comes (inl same) = inl same
+undelivered words before after q p Memory asks comes (inr cut) = inr (inl (record { request = q; asks = asks; product = p; comes = comes; cut = cut }))
+undelivered words before after q p Usage asks comes h = absurd h
+undelivered words before after q p (System line column byte cause) asks comes h = absurd h
+undelivered words before after q p (Contract byte) asks comes h = absurd h
+undelivered words before after q p (NoFile n) asks comes h = absurd h
+undelivered words before after q p (ReadFault n) asks comes h = absurd h
+undelivered words before after q p (Paving n f) asks comes h = absurd h
+undelivered words before after q p (TreeLimit n) asks comes h = absurd h
+undelivered words before after q p (Disagree path a b) asks comes h = absurd h
+undelivered words before after q p (Differs path a b) asks comes h = absurd h
+
+leaves : (words : List Text) (before after : Outside) (r : Refusal) → IsRefusedSo words before after r → Leaves words before after
+leaves words before after r (in_words h same) = inl same
+leaves words before after r (in_request q asks (inl work)) = inl work.1
+leaves words before after r (in_request q asks (inr f)) = undelivered words before after q f.product r asks f.comes f.refused
+
+pub memory_leaves : MemoryLeaves
+memory_leaves words before after (inl d) = absurd (is_answer d.answered.product status.WantOfMemory d.answered.is)
+memory_leaves words before after (inr r) = leaves words before after r.refusal r.so
+
+-- ---- Every status
+
+kept_others : (out : Option Text) (p : Product) (before after : Files) (name : Text) → IsKept out p before after → out ≢ Some name → after.content name ≡ before.content name
+kept_others None p before after name h other = h.content name
+kept_others (Some m) (text t) before after name h other = h.content name
+kept_others (Some m) (paved identity b t) before after name h other = h.kept.others name (λ e. other (ap Some (sym e)))
+
+unwritten_others : (before after : Outside) (q : Request) (p : Product) (name : Text) → out_of q ≢ Some name → IsUnstored q p before after ⊎ IsUnprinted q p before after
+    → after.files.content name ≡ before.files.content name
+unwritten_others before after q p name other (inl h) = h.lost.files.others name (λ e. other (h.lost.asked ∙ ap Some (sym e)))
+unwritten_others before after q p name other (inr h) = kept_others (out_of q) p before.files after.files name h.cut.files other
+
+left_others : (words : List Text) (before after : Outside) (name : Text) → ((q : Request) → Asks words q → out_of q ≢ Some name) → Leaves words before after
+    → after.files.content name ≡ before.files.content name
+left_others words before after name other (inl same) = same.files.content name
+left_others words before after name other (inr (inl h)) = kept_others (out_of h.request) h.product before.files after.files name h.cut.files (other h.request h.asks)
+left_others words before after name other (inr (inr h)) = unwritten_others before after h.request h.product name (other h.request h.asks) h.not_written
+
+pub others_stay : OthersStay
+others_stay words before after s (inl d) name other =
+    kept_others (out_of d.request) d.answered.product before.files after.files name d.answered.delivered.files (other d.request d.asks)
+others_stay words before after s (inr r) name other = left_others words before after name other (leaves words before after r.refusal r.so)
+
+-- ---- The words
+
+settings_are_good : (rows : List Row) (s : Settings) → AreSettings rows s → HasBadSetting rows → ⊥
+settings_are_good rows s h (bad_eps none) = none s.eps h.eps
+settings_are_good rows s h (bad_depth none) = none s.depth h.depth
+settings_are_good rows s h (bad_bisector none) = none s.bisector h.bisector
+
+effort_is_good : (rows : List Row) (e : Effort) → IsEffort rows e → HasBadEffort rows → ⊥
+effort_is_good rows e h (bad_workers none) = none e.workers h.workers
+effort_is_good rows e h (bad_boxes none) = none e.boxes h.boxes
+
+work_is_good : (rows : List Row) (s : Settings) (e : Effort) → AreSettings rows s → IsEffort rows e → HasBadSetting rows ⊎ HasBadEffort rows → ⊥
+work_is_good rows s e h k (inl b) = settings_are_good rows s h b
+work_is_good rows s e h k (inr b) = effort_is_good rows e k b
+
+pavings_are_few : (rows : List Row) (names : List (Bor Text)) → ArePavings rows names → HasManyPavings rows → ⊥
+pavings_are_few rows names h many =
+    let same : length (names_in names) ≡ length (paving_names rows) = ap length h.are in
+    let count : length (names_in names) ≡ length names = length-map names (λ name. name.now) in
+    let few = h.few in
+    omega arith
+
+not_same : (m n : ℕ) → (m == n) ≡ false → m ≡ n → ⊥
+not_same m n other same = by (eqb_tells m n)
+  where
+    both : (m == n) ≡ true → ⊥
+    both e = cc
+
+    by : (((m == n) ≡ true) × (m ≡ n)) ⊎ (((m == n) ≡ false) × (m ≡ n → ⊥)) → ⊥
+    by (inl h) = both h.0
+    by (inr h) = h.1 same
+
+-- a command has one name: the third letters of the names differ
+one_name : (command a b : Text) → (slice_index a 2 == slice_index b 2) ≡ false → command ≡ a → command ≡ b → ⊥
+one_name command a b other e f = not_same (slice_index a 2) (slice_index b 2) other (ap (λ (t : Text). slice_index t 2) (sym e ∙ f))
+
+asked_is_good : (command : Text) (rows : List Row) (q : Request) → IsAskedBy command rows q → HasBadValue command rows → ⊥
+asked_is_good command rows (Check system) h (in_run e b) = one_name command (codes "check") (codes "run") refl h.0 e
+asked_is_good command rows (Check system) h (in_resume e b) = one_name command (codes "check") (codes "resume") refl h.0 e
+asked_is_good command rows (Check system) h (in_merge e b) = one_name command (codes "check") (codes "merge") refl h.0 e
+asked_is_good command rows (Check system) h (in_audit e b) = one_name command (codes "check") (codes "audit") refl h.0 e
+asked_is_good command rows (Run system settings effort out) h (in_run e b) = work_is_good rows settings effort h.2 h.3 b
+asked_is_good command rows (Run system settings effort out) h (in_resume e b) = one_name command (codes "run") (codes "resume") refl h.0 e
+asked_is_good command rows (Run system settings effort out) h (in_merge e b) = one_name command (codes "run") (codes "merge") refl h.0 e
+asked_is_good command rows (Run system settings effort out) h (in_audit e b) = one_name command (codes "run") (codes "audit") refl h.0 e
+asked_is_good command rows (Resume system pavings settings effort out) h (in_resume e (inl b)) = pavings_are_few rows pavings.items h.2 b
+asked_is_good command rows (Resume system pavings settings effort out) h (in_resume e (inr b)) = work_is_good rows settings effort h.3 h.4 b
+asked_is_good command rows (Resume system pavings settings effort out) h (in_run e b) = one_name command (codes "resume") (codes "run") refl h.0 e
+asked_is_good command rows (Resume system pavings settings effort out) h (in_merge e b) = one_name command (codes "resume") (codes "merge") refl h.0 e
+asked_is_good command rows (Resume system pavings settings effort out) h (in_audit e b) = one_name command (codes "resume") (codes "audit") refl h.0 e
+asked_is_good command rows (Merge system pavings settings out) h (in_merge e (inl b)) = pavings_are_few rows pavings.items h.2 b
+asked_is_good command rows (Merge system pavings settings out) h (in_merge e (inr b)) = settings_are_good rows settings h.3 b
+asked_is_good command rows (Merge system pavings settings out) h (in_run e b) = one_name command (codes "merge") (codes "run") refl h.0 e
+asked_is_good command rows (Merge system pavings settings out) h (in_resume e b) = one_name command (codes "merge") (codes "resume") refl h.0 e
+asked_is_good command rows (Merge system pavings settings out) h (in_audit e b) = one_name command (codes "merge") (codes "audit") refl h.0 e
+asked_is_good command rows (Audit system paving settings) h (in_audit e b) = settings_are_good rows settings h.3 b
+asked_is_good command rows (Audit system paving settings) h (in_run e b) = one_name command (codes "audit") (codes "run") refl h.0 e
+asked_is_good command rows (Audit system paving settings) h (in_resume e b) = one_name command (codes "audit") (codes "resume") refl h.0 e
+asked_is_good command rows (Audit system paving settings) h (in_merge e b) = one_name command (codes "audit") (codes "merge") refl h.0 e
+
+found_is_good : (found : Option (Text × List Row)) (q : Request) → IsAsked found q → HasBadValueIn found → ⊥
+found_is_good None q h b = h
+found_is_good (Some p) q h b = asked_is_good p.0 p.1 q h b
+
+pub asking_is_not_refused : AskingIsNotRefused
+asking_is_not_refused words q asks (inl fault) = fault asks.0
+asking_is_not_refused words q asks (inr bad) = found_is_good (subcommand_of paver_app words) q asks.1 bad
+
+words_status : (words : List Text) (r : Refusal) → RefusesWords words r → (status_of r ≡ status.Usage) ⊎ (status_of r ≡ status.WantOfMemory)
+words_status words Usage h = inl refl
+words_status words Memory h = inr refl
+words_status words (System line column byte cause) h = absurd h
+words_status words (Contract byte) h = absurd h
+words_status words (NoFile n) h = absurd h
+words_status words (ReadFault n) h = absurd h
+words_status words (Paving n f) h = absurd h
+words_status words (NotStored n) h = absurd h
+words_status words NotPrinted h = absurd h
+words_status words (TreeLimit n) h = absurd h
+words_status words (Disagree p a b) h = absurd h
+words_status words (Differs p a b) h = absurd h
+
+told_status : (words : List Text) (r : Refusal) (s : Status) (before after : Stream) → RefusesWords words r → Tells r s before after
+    → (s ≡ status.Usage) ⊎ (s ≡ status.WantOfMemory)
+told_status words r s before after h (inl told) = subst (λ (x : Status). (x ≡ status.Usage) ⊎ (x ≡ status.WantOfMemory)) (sym told.0) (words_status words r h)
+told_status words r s before after h (inr memory) = inr memory.0
+
+refused_end : (words : List Text) (before after : Outside) (r : Refusal) (s : Status) → AreRefused words → IsRefusedSo words before after r → Tells r s before.err after.err
+    → IsWordsRefused before after s
+refused_end words before after r s bad (in_words h same) told = record { status_is = told_status words r s before.err after.err h told; untouched = same }
+refused_end words before after r s bad (in_request q asks h) told = absurd (asking_is_not_refused words q asks bad)
+
+pub refused_words_end : RefusedWordsEnd
+refused_words_end words before after s bad (inl d) = absurd (asking_is_not_refused words d.request d.asks bad)
+refused_words_end words before after s bad (inr r) = refused_end words before after r.refusal s bad r.so r.told
+
+abbrev IsUsage : Status → Type 0
+IsUsage status.Done = ⊥
+IsUsage status.OpenLeft = ⊥
+IsUsage status.Usage = Unit {0}
+IsUsage status.SystemRefused = ⊥
+IsUsage status.PavingRefused = ⊥
+IsUsage status.ReadFault = ⊥
+IsUsage status.WriteFault = ⊥
+IsUsage status.WantOfMemory = ⊥
+IsUsage status.TreeLimit = ⊥
+IsUsage status.Disagree = ⊥
+IsUsage status.KeeperFault = ⊥
+IsUsage status.NoFile = ⊥
+
+usage_so : (words : List Text) (before after : Outside) (r : Refusal) → IsUsage (status_of r) → IsRefusedSo words before after r
+    → AreRefused words ⊎ HasBadContract words before.files after.files
+usage_so words before after Usage u (in_words h same) = inl h
+usage_so words before after Usage u (in_request q asks (inl work)) = absurd (no_work_usage before.files after.files q work.0)
+usage_so words before after Usage u (in_request q asks (inr f)) = absurd f.refused
+usage_so words before after (Contract byte) u (in_words h same) = absurd h
+usage_so words before after (Contract byte) u (in_request q asks (inl work)) = inr (record { request = q; asks = asks; byte = byte; refused = work.0 })
+usage_so words before after (Contract byte) u (in_request q asks (inr f)) = absurd f.refused
+usage_so words before after (System line column byte cause) u so = absurd u
+usage_so words before after (NoFile n) u so = absurd u
+usage_so words before after (ReadFault n) u so = absurd u
+usage_so words before after (Paving n f) u so = absurd u
+usage_so words before after (NotStored n) u so = absurd u
+usage_so words before after NotPrinted u so = absurd u
+usage_so words before after Memory u so = absurd u
+usage_so words before after (TreeLimit n) u so = absurd u
+usage_so words before after (Disagree p a b) u so = absurd u
+usage_so words before after (Differs p a b) u so = absurd u
+
+usage_told : (words : List Text) (before after : Outside) (r : Refusal) → IsRefusedSo words before after r → Tells r status.Usage before.err after.err
+    → AreRefused words ⊎ HasBadContract words before.files after.files
+usage_told words before after r so (inl told) = usage_so words before after r (subst IsUsage told.0 tt) so
+usage_told words before after r so (inr memory) = absurd (subst IsUsage memory.0 tt)
+
+pub usage_is_of_words : UsageIsOfWords
+usage_is_of_words words before after (inl d) = absurd (is_answer d.answered.product status.Usage d.answered.is)
+usage_is_of_words words before after (inr r) = usage_told words before after r.refusal r.so r.told

@@ -1,0 +1,230 @@
+-- What each status says, of what was asked for, of the files and of what was printed.
+use Rattle.std.specs.Prelude.{◌≡◌, ◌≢◌, ◌⊎◌, ◌+◌, ℕ, List, [], Some}
+use Rattle.clap.specs.Words.{Text}
+use Rattle.pv_tree.specs.Trees.{Tree, leaf, opens}
+use Rattle.pv_tree.specs.Stages.{full_of}
+use Rattle.pv_settle.specs.Rules.{SettlerParts}
+use Rattle.pv_settle.specs.Settling.{settle_by}
+use Rattle.pv_settle.specs.Spelling.{identity_of}
+use Rattle.pv_io.specs.Outside.{Rose, AppendsFront}
+use Rattle.pv_cli.specs.Requests.{names_in, out_of, Asks, AreRefused}
+use Rattle.pv_cli.specs.Refusals.{status_of, line_of}
+use Rattle.pv_cli.specs.Systems.{Files, HasRule, search_box}
+use Rattle.pv_cli.specs.Pavings.{IsPaved, FullFits, settled_in}
+use Rattle.pv_cli.specs.Files.{HasOpening}
+use Rattle.pv_cli.specs.Products.{Product, paved, IsHonest, AreStages, ComesOf, ComesOfCheck, ComesOfAudit, RefusesWork}
+use Rattle.pv_cli.specs.Ends.{Outside, AreUntouched, IsDelivered, IsCutOff, IsLost, IsTold, IsEnd}
+use Rattle.pv_cli.specs.declared.request.Settings.{Settings}
+use Rattle.pv_cli.specs.declared.request.Request.{Request}
+use Rattle.pv_cli.specs.declared.request.Request.TheVariants.{Check, Run, Resume, Merge, Audit}
+use Rattle.pv_cli.specs.declared.refusal.Refusal.{Refusal}
+use Rattle.pv_cli.specs.declared.refusal.Refusal.TheVariants as refusal
+use Rattle.pv_cli.specs.declared.status.Status.{Status}
+use Rattle.pv_cli.specs.declared.status.Status.TheVariants.{Done, OpenLeft, Usage, SystemRefused, PavingRefused, ReadFault, WriteFault, WantOfMemory, TreeLimit, Disagree, KeeperFault, NoFile}
+
+-- ---- Status 0: no leaf is open
+
+-- the full tree of what a rule begins with
+abbrev pub full_by : SettlerParts → Tree → Tree
+full_by rule opening = full_of (settle_by rule) rule.depth (search_box rule) opening 0
+
+-- the full tree of the open search box
+pub record IsFullRun (before : Files) (system : Text) (s : Settings) (p : Product) : Type 0 where
+  pub rule : SettlerParts
+  pub read : HasRule before system s rule
+  pub honest : IsHonest s rule (full_by rule leaf)
+  pub is : p ≡ paved (identity_of rule) (search_box rule) (full_by rule leaf)
+
+-- the full tree of the join of the files
+pub record IsFullResume (before : Files) (system : Text) (names : List Text) (s : Settings) (p : Product) : Type 0 where
+  pub rule : SettlerParts
+  pub trees : List Tree
+  pub opening : Tree
+  pub opened : HasOpening before system names s rule trees opening
+  pub honest : AreStages rule trees → IsHonest s rule (full_by rule opening)
+  pub is : p ≡ paved (identity_of rule) (search_box rule) (full_by rule opening)
+
+-- the join of the files, without an open leaf
+pub record IsClosedJoin (before : Files) (system : Text) (names : List Text) (s : Settings) (p : Product) : Type 0 where
+  pub rule : SettlerParts
+  pub trees : List Tree
+  pub tree : Tree
+  pub opened : HasOpening before system names s rule trees tree
+  pub closed : opens tree ≡ []
+  pub honest : AreStages rule trees → IsHonest s rule tree
+  pub is : p ≡ paved (identity_of rule) (search_box rule) tree
+
+abbrev pub IsWhole : Files → Request → Product → Type 0
+IsWhole before (Check system) p = ComesOfCheck before system.now p
+IsWhole before (Run system settings effort out) p = IsFullRun before system.now settings p
+IsWhole before (Resume system pavings settings effort out) p = IsFullResume before system.now (names_in pavings.items) settings p
+IsWhole before (Merge system pavings settings out) p = IsClosedJoin before system.now (names_in pavings.items) settings p
+IsWhole before (Audit system paving settings) p = ComesOfAudit before system.now paving.now settings p
+
+-- what was asked for came to this, was stored and printed, and nothing was told
+pub record IsDelivery (says : Files → Request → Product → Type 0) (words : List Text) (before after : Outside) : Type 0 where
+  pub request : Request
+  pub asks : Asks words request
+  pub product : Product
+  pub says_so : says before.files request product
+  pub delivered : IsDelivered (out_of request) product before.files after.files before.out after.out
+  pub quiet : after.err.written ≡ before.err.written
+
+abbrev pub DoneIsWhole : Type 0
+DoneIsWhole = (words : List Text) (before after : Outside) → IsEnd words before after Done → IsDelivery IsWhole words before after
+
+-- ---- Status 1: a leaf is open
+
+-- exactly the budget was settled of what the work began with, and that is not enough
+pub record IsCutShort (rule : SettlerParts) (opening : Tree) (budget : ℕ) (t : Tree) : Type 0 where
+  pub open_left : opens t ≢ []
+  pub spent : settled_in t ≡ settled_in opening + budget
+  pub short : FullFits (settle_by rule) rule.depth (search_box rule) opening budget → ⊥
+
+pub record IsPartRun (before : Files) (system : Text) (s : Settings) (budget : ℕ) (p : Product) : Type 0 where
+  pub rule : SettlerParts
+  pub read : HasRule before system s rule
+  pub tree : Tree
+  pub part : IsCutShort rule leaf budget tree
+  pub honest : IsHonest s rule tree
+  pub is : p ≡ paved (identity_of rule) (search_box rule) tree
+
+pub record IsPartResume (before : Files) (system : Text) (names : List Text) (s : Settings) (budget : ℕ) (p : Product) : Type 0 where
+  pub rule : SettlerParts
+  pub trees : List Tree
+  pub opening : Tree
+  pub opened : HasOpening before system names s rule trees opening
+  pub tree : Tree
+  pub part : IsCutShort rule opening budget tree
+  pub honest : AreStages rule trees → IsHonest s rule tree
+  pub is : p ≡ paved (identity_of rule) (search_box rule) tree
+
+-- the join of the files, with an open leaf
+pub record IsOpenJoin (before : Files) (system : Text) (names : List Text) (s : Settings) (p : Product) : Type 0 where
+  pub rule : SettlerParts
+  pub trees : List Tree
+  pub tree : Tree
+  pub opened : HasOpening before system names s rule trees tree
+  pub open_left : opens tree ≢ []
+  pub honest : AreStages rule trees → IsHonest s rule tree
+  pub is : p ≡ paved (identity_of rule) (search_box rule) tree
+
+abbrev pub IsPart : Files → Request → Product → Type 0
+IsPart before (Check system) p = ⊥
+IsPart before (Run system settings effort out) p = IsPartRun before system.now settings effort.boxes p
+IsPart before (Resume system pavings settings effort out) p =
+    IsPartResume before system.now (names_in pavings.items) settings effort.boxes p
+IsPart before (Merge system pavings settings out) p = IsOpenJoin before system.now (names_in pavings.items) settings p
+IsPart before (Audit system paving settings) p = ⊥
+
+abbrev pub OpenLeftIsPart : Type 0
+OpenLeftIsPart = (words : List Text) (before after : Outside) → IsEnd words before after OpenLeft → IsDelivery IsPart words before after
+
+-- ---- Statuses 2 to 5, 8, 9 and 11: a refusal before anything is stored or printed
+
+abbrev pub IsEarly : Status → Type 0
+IsEarly Done = ⊥
+IsEarly OpenLeft = ⊥
+IsEarly Usage = Unit {0}
+IsEarly SystemRefused = Unit {0}
+IsEarly PavingRefused = Unit {0}
+IsEarly ReadFault = Unit {0}
+IsEarly WriteFault = ⊥
+IsEarly WantOfMemory = ⊥
+IsEarly TreeLimit = Unit {0}
+IsEarly Disagree = Unit {0}
+IsEarly KeeperFault = ⊥
+IsEarly NoFile = Unit {0}
+
+-- the words were refused, or what they ask for
+abbrev pub IsCause : List Text → Files → Files → Refusal → Type 0
+IsCause words before after r = ((r ≡ refusal.Usage) × AreRefused words) ⊎ ((q : Request) × (Asks words q × RefusesWork before after q r))
+
+-- nothing was stored or printed; the cause was told with its line
+pub record IsRefusedEarly (words : List Text) (before after : Outside) (status : Status) : Type 0 where
+  pub untouched : AreUntouched before.files after.files before.out after.out
+  pub refusal : Refusal
+  pub cause : IsCause words before.files after.files refusal
+  pub status_is : status ≡ status_of refusal
+  pub told : IsTold before.err after.err (line_of refusal)
+
+abbrev pub EarlyIsUntouched : Type 0
+EarlyIsUntouched =
+    (words : List Text) (before after : Outside) (status : Status) → IsEarly status → IsEnd words before after status
+    → IsRefusedEarly words before after status
+
+-- ---- Status 6: a store or a write failed
+
+-- the file was not stored: nothing is said of it, and nothing was printed
+pub record IsUnstored (q : Request) (p : Product) (before after : Outside) : Type 0 where
+  pub name : Text
+  pub lost : IsLost (out_of q) name before.files after.files before.out after.out
+
+-- the file that is asked for was stored, a front of the text was printed, and a write of it failed
+pub record IsUnprinted (q : Request) (p : Product) (before after : Outside) : Type 0 where
+  pub cut : IsCutOff (out_of q) p before.files after.files before.out after.out
+  pub rose : Rose before.out.faults after.out.faults
+
+-- what came of the words was not stored, or not printed to the end
+pub record IsUnwritten (words : List Text) (before after : Outside) : Type 0 where
+  pub request : Request
+  pub asks : Asks words request
+  pub product : Product
+  pub comes : ComesOf before.files request product
+  pub not_written : IsUnstored request product before after ⊎ IsUnprinted request product before after
+
+abbrev pub WriteFaultIsUnwritten : Type 0
+WriteFaultIsUnwritten = (words : List Text) (before after : Outside) → IsEnd words before after WriteFault → IsUnwritten words before after
+
+-- ---- Status 7: there was no memory
+
+-- a front of the command's own text was printed, behind its file
+pub record IsCutOffText (words : List Text) (before after : Outside) : Type 0 where
+  pub request : Request
+  pub asks : Asks words request
+  pub product : Product
+  pub comes : ComesOf before.files request product
+  pub cut : IsCutOff (out_of request) product before.files after.files before.out after.out
+
+-- nothing was stored or printed, or a front was printed, or the file was not stored
+abbrev pub MemoryLeaves : Type 0
+MemoryLeaves =
+    (words : List Text) (before after : Outside) → IsEnd words before after WantOfMemory
+    → AreUntouched before.files after.files before.out after.out ⊎ (IsCutOffText words before after ⊎ IsUnwritten words before after)
+
+-- ---- Every status
+
+-- no file is changed but that of the name that is asked for
+abbrev pub OthersStay : Type 0
+OthersStay =
+    (words : List Text) (before after : Outside) (status : Status) → IsEnd words before after status
+    → (name : Text) → ((q : Request) → Asks words q → out_of q ≢ Some name) → after.files.content name ≡ before.files.content name
+
+-- ---- The words
+
+-- words that ask for something are not refused
+abbrev pub AskingIsNotRefused : Type 0
+AskingIsNotRefused = (words : List Text) (q : Request) → Asks words q → AreRefused words → ⊥
+
+-- words that are refused end with status 2, or for want of memory, and nothing is stored or printed
+pub record IsWordsRefused (before after : Outside) (status : Status) : Type 0 where
+  pub status_is : (status ≡ Usage) ⊎ (status ≡ WantOfMemory)
+  pub untouched : AreUntouched before.files after.files before.out after.out
+
+abbrev pub RefusedWordsEnd : Type 0
+RefusedWordsEnd =
+    (words : List Text) (before after : Outside) (status : Status) → AreRefused words → IsEnd words before after status
+    → IsWordsRefused before after status
+
+-- the text of the contractor program is refused
+pub record HasBadContract (words : List Text) (before after : Files) : Type 0 where
+  pub request : Request
+  pub asks : Asks words request
+  pub byte : ℕ
+  pub refused : RefusesWork before after request (refusal.Contract byte)
+
+-- status 2 comes of words that are refused, or of the text of the contractor program
+abbrev pub UsageIsOfWords : Type 0
+UsageIsOfWords =
+    (words : List Text) (before after : Outside) → IsEnd words before after Usage
+    → AreRefused words ⊎ HasBadContract words before.files after.files

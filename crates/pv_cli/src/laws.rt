@@ -1,0 +1,60 @@
+//! What follows from how commands end, as contracts. Each holds by its contract alone, and the calls do
+//! nothing.
+ghost use Rattle.pv_cli.specs.Merges.{JoinAlike, MergesEndAlike, MergesAreTakenAlike};
+ghost use Rattle.pv_cli.specs.StatusLaws.{
+  DoneIsWhole,
+  OpenLeftIsPart,
+  EarlyIsUntouched,
+  WriteFaultIsUnwritten,
+  MemoryLeaves,
+  OthersStay,
+  AskingIsNotRefused,
+  RefusedWordsEnd,
+  UsageIsOfWords,
+};
+
+/// What `merge` makes of files depends neither on their order nor on repeats: over the same files two
+/// commands for the same join print and store the same bytes, and end with the same status.
+pub fn merges_alike()
+    ensures joins { JoinAlike }
+    ensures ends { MergesEndAlike }
+    ensures taken { MergesAreTakenAlike }
+{}
+
+/// With status 0 no leaf is open: what was printed and stored is of the full tree.
+pub fn done()
+    ensures { DoneIsWhole }
+{}
+
+/// With status 1 a leaf is open, and `run` and `resume` settled exactly their budget, which is not enough.
+pub fn open_left()
+    ensures { OpenLeftIsPart }
+{}
+
+/// With status 2, 3, 4, 5, 8, 9 or 11 nothing was printed and no file changed, and the cause was told.
+pub fn refused()
+    ensures { EarlyIsUntouched }
+{}
+
+/// With status 6 the file that is asked for was not stored and nothing was printed; or it was stored, and a
+/// front of the command's own text was printed.
+pub fn not_written()
+    ensures { WriteFaultIsUnwritten }
+{}
+
+/// With status 7 nothing was stored or printed, or it is as with status 6.
+pub fn no_memory()
+    ensures { MemoryLeaves }
+{}
+
+/// With every status no file is changed but that of the name that is asked for.
+pub fn others_stay()
+    ensures { OthersStay }
+{}
+
+/// Words are refused exactly where clap's meaning refuses them or a value that their command takes.
+pub fn words()
+    ensures asked { AskingIsNotRefused }
+    ensures refused { RefusedWordsEnd }
+    ensures usage { UsageIsOfWords }
+{}

@@ -1,0 +1,140 @@
+//! Paving files that are damaged or too large, as commands meet them.
+use crate::files::{SYSTEM, WHOLE, WHOLE_1};
+use crate::tests::words_of;
+use pv_cli::{NoGate, Status, paver_main};
+use pv_io::{FetchRefused, Folder, MemFolder, MemSink};
+use std::alloc::Global;
+use std::collections::BTreeMap;
+use std::process::Abort;
+use std::test::Fail;
+
+// What a call over the system and these files came to.
+#[derive(Drop)]
+struct Answer {
+    status: Status,
+    folder: MemFolder,
+    out: MemSink,
+    err: MemSink,
+}
+
+fn call(alloc: Global, words: &str, p: &[u8], q: &[u8]) -> Result<Answer, Fail> {
+    let list = words_of(alloc, words)?;
+    let mut files = BTreeMap::new(alloc);
+    files.insert(
+        String::from_str(alloc, "s")?,
+        SYSTEM.as_bytes().to_vec(alloc)?,
+    )?;
+    files.insert(String::from_str(alloc, "p")?, p.to_vec(alloc)?)?;
+    files.insert(String::from_str(alloc, "q")?, q.to_vec(alloc)?)?;
+    let mut folder = MemFolder::new(alloc, files, Vec::new(alloc));
+    let mut out = MemSink::new(alloc, Vec::new(alloc));
+    let mut err = MemSink::new(alloc, Vec::new(alloc));
+    let status = paver_main(alloc, &list, &mut folder, &mut out, &mut err, &NoGate);
+    Ok(Answer {
+        status,
+        folder,
+        out,
+        err,
+    })
+}
+
+const RESUME: &str = "resume s p --eps 0.25 --boxes 4 --out m";
+
+// Going on from the file is refused with status 4 and this line; nothing is printed or stored.
+fn refused(rt: &impl Abort, alloc: Global, file: &[u8], line: &[u8]) -> Result<(), Fail> {
+    let mut answer = call(alloc, RESUME, file, b"")?;
+    assert_eq!(rt; answer.status.code(), 4);
+    assert_eq!(rt; answer.err.bytes(), line);
+    assert_eq!(rt; answer.out.bytes(), "".as_bytes());
+    let mut held = Vec::new(alloc);
+    let found = answer.folder.fetch("m", 1000, &mut held);
+    assert!(rt; matches!(found, Err(FetchRefused::Absent)));
+    Ok(())
+}
+
+// The line of a bad line, from the number of line feeds before it.
+fn bad_line(alloc: Global, before: &[u8]) -> Result<String, Fail> {
+    let feeds = before.iter().filter(|b| **b == b'\n').count() as u64;
+    Ok(format!(in alloc; "paving p: bad line {}\n", feeds + 1)?)
+}
+
+fn each_cut(rt: &impl Abort, alloc: Global, file: &[u8]) -> Result<(), Fail> {
+    for end in 0..file.len() {
+        let front = &file[..end];
+        let line = bad_line(alloc, front)?;
+        refused(rt, alloc, front, line.as_bytes())?;
+    }
+    Ok(())
+}
+
+#[test]
+fn a_file_that_is_cut(rt: HostRuntime) -> Result<(), Fail> {
+    each_cut(&rt, rt.alloc(), WHOLE.as_bytes())?;
+    each_cut(&rt, rt.alloc(), WHOLE_1.as_bytes())
+}
+
+fn each_byte(rt: &impl Abort, alloc: Global, file: &[u8]) -> Result<(), Fail> {
+    for place in 0..file.len() {
+        let mut other = file.to_vec(alloc)?;
+        other[place] = b'#';
+        let line = bad_line(alloc, &file[..place])?;
+        refused(rt, alloc, &other, line.as_bytes())?;
+    }
+    Ok(())
+}
+
+#[test]
+fn a_file_with_another_byte(rt: HostRuntime) -> Result<(), Fail> {
+    each_byte(&rt, rt.alloc(), WHOLE.as_bytes())?;
+    each_byte(&rt, rt.alloc(), WHOLE_1.as_bytes())
+}
+
+// How many of the 32,768 leaves of a half lie below a node that is 1, 2, .. cuts below the root.
+const LEAVES_BELOW: [u64; 15] = [
+    32768, 16384, 8192, 4096, 2048, 1024, 512, 256, 128, 64, 32, 16, 8, 4, 2,
+];
+
+// The cuts of a half of [0, 1] that come right before a leaf of the half, each in the middle.
+fn push_cuts(alloc: Global, out: &mut Vec<u8>, first: u64, leaf: u64) -> Result<(), Fail> {
+    for (above, below) in LEAVES_BELOW.iter().enumerate() {
+        if leaf % *below == 0 {
+            let place = (first + leaf) / *below;
+            let line = format!(in alloc; "C 0 {}:-{} = =\n", 2 * place + 1, above + 2)?;
+            out.extend_from_slice(line.as_bytes())?;
+        }
+    }
+    Ok(())
+}
+
+// The lines of a half of [0, 1] that is cut on 15 levels, all leaves removed; its first leaf has this number.
+fn push_half(alloc: Global, out: &mut Vec<u8>, first: u64) -> Result<(), Fail> {
+    for leaf in 0..32768u64 {
+        push_cuts(alloc, out, first, leaf)?;
+        out.extend_from_slice(b"X\n")?;
+    }
+    Ok(())
+}
+
+const HEAD: &[u8] =
+    b"paving 2\nidentity be80eb05bcbc91b70b7ad422c002b378eff58622ab1c9a053f3fcbdf6852f81a\nC 0 1:-1 = =\n";
+
+// Each file has 65,536 settled nodes, and the join 131,071.
+#[test]
+fn a_join_that_is_too_large(rt: HostRuntime) -> Result<(), Fail> {
+    let alloc = rt.alloc();
+    let mut low = HEAD.to_vec(alloc)?;
+    push_half(alloc, &mut low, 0)?;
+    low.extend_from_slice(b"O\n")?;
+    let mut high = HEAD.to_vec(alloc)?;
+    high.extend_from_slice(b"O\n")?;
+    push_half(alloc, &mut high, 32768)?;
+    let mut answer = call(alloc, "merge s p q --eps 0.25 --out m", &low, &high)?;
+    assert_eq!(rt; answer.status.code(), 8);
+    let line = b"tree limit: 131071 settled\n";
+    assert_eq!(rt; answer.err.bytes(), line.as_slice());
+    assert_eq!(rt; answer.out.bytes(), "".as_bytes());
+    let mut held = Vec::new(alloc);
+    let found = answer.folder.fetch("m", 1000, &mut held);
+    assert!(rt; matches!(found, Err(FetchRefused::Absent)));
+    Ok(())
+}
