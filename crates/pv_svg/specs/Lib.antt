@@ -1,0 +1,6 @@
+pub mod Planes
+pub mod Pixels
+pub mod Rectangles
+pub mod Texts
+pub mod Pieces
+pub mod Paints

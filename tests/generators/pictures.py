@@ -1,0 +1,198 @@
+#!/usr/bin/env python3
+"""Cases of pictures: pavings, slices of them, and their SVG texts, worked out on exact fractions straight from what a
+slice, a rectangle and a pixel are. Of tests/reference only the rounding of fractions and the lines of pavings serve;
+nothing is shared with the program.
+
+Writes crates/pv_pictures/src/table.rt. A number is written as a mantissa and an exponent.
+"""
+import os
+import random
+import sys
+from fractions import Fraction
+from math import floor
+from pathlib import Path
+
+import case_table
+
+sys.path.insert(0, str(Path(__file__).resolve().parents[1]))
+from reference import files  # noqa: E402
+from reference.numbers import DOWN, SCALE, TOP, UP, as_fraction, from_fraction, is_finite  # noqa: E402
+from reference.paver import halves  # noqa: E402
+
+FILLS = {"X": "#cfd8dc", "I": "#43a047", "S": "#fdd835", "O": "#ffffff"}
+HEAD = '<svg xmlns="http://www.w3.org/2000/svg" width="1000" height="1000" viewBox="0 0 1000 1000">\n'
+
+
+def rounded(value, side):
+    """A fraction rounded to a number, as a fraction again; None for an infinite end."""
+    number = from_fraction(value, side)
+    return as_fraction(number) if is_finite(number) else None
+
+
+def pixel(axis, v):
+    lo, hi, v = as_fraction(axis[0]), as_fraction(axis[1]), as_fraction(v)
+    if lo == hi:
+        return 0
+    length = rounded(hi - lo, UP)
+    share = Fraction(0) if length is None else rounded(rounded(v - lo, DOWN) / length, DOWN)
+    return floor(rounded(share * 1000, DOWN))
+
+
+def rectangles(tree, box, x, y, at):
+    """Pairs of a box and a class, by recursion on the tree."""
+    def is_seen(b):
+        others = [b[i] for i in range(len(b)) if i not in (x, y)]
+        return all(lo <= n <= hi for (lo, hi), n in zip(others, at, strict=True))
+
+    kind = tree[0]
+    if not is_seen(box):
+        return
+    if kind in "OX":
+        yield box, kind
+        return
+    to = tree[1]
+    if not is_seen(to) or to[x] != box[x] or to[y] != box[y]:
+        yield box, "X"
+    if kind == "C":
+        for child, half in zip(tree[4:], halves(*tree[1:4])):
+            yield from rectangles(child, half, x, y, at)
+    elif is_seen(to):
+        yield to, kind
+
+
+def picture(tree, root, x, y, at):
+    text = HEAD
+    for box, kind in rectangles(tree, root, x, y, at):
+        left, right = (pixel(root[x], end) for end in box[x])
+        bottom, top = (pixel(root[y], end) for end in box[y])
+        text += f'<rect x="{left}" y="{1000 - top}" width="{right - left}" height="{top - bottom}" fill="{FILLS[kind]}"/>\n'
+    return text + "</svg>\n"
+
+
+def end(value):
+    return from_fraction(Fraction(value), DOWN)
+
+
+def boxed(*ends):
+    return [(end(lo), end(hi)) for lo, hi in ends]
+
+
+def part_of(chance, interval):
+    """The interval, or a part of it with ends on a grid of sevenths of its length."""
+    lo, hi = interval
+    if chance.random() < 0.6:
+        return interval
+    cuts = sorted(chance.sample(range(8), 2))
+    return tuple(min(max(from_fraction(as_fraction(lo + (hi - lo) * k // 7), DOWN), lo), hi) for k in cuts)
+
+
+def grown(chance, box, cuts):
+    """A tree over a box with at most so many cuts on a path."""
+    kind = chance.choice("OXISCCCC" if cuts else "OXIS")
+    if kind in "OX":
+        return (kind,)
+    to = [part_of(chance, x) for x in box]
+    wide = [i for i, (lo, hi) in enumerate(to) if lo < end_between(lo, hi) < hi]
+    if kind != "C" or not wide:
+        return ("I" if kind == "C" else kind, to)
+    variable = chance.choice(wide)
+    at = end_between(*to[variable])
+    low, high = halves(to, variable, at)
+    return ("C", to, variable, at, grown(chance, low, cuts - 1), grown(chance, high, cuts - 1))
+
+
+def end_between(lo, hi):
+    return from_fraction(as_fraction(lo) / 3 + 2 * as_fraction(hi) / 3, DOWN)
+
+
+def cut_numbers(tree, place):
+    if tree[0] != "C":
+        return []
+    here = [tree[3]] if tree[2] == place else []
+    return here + cut_numbers(tree[4], place) + cut_numbers(tree[5], place)
+
+
+def on_faces(chance, tree, root, x, y):
+    """A number for each other place: where it is cut there, or an end, or some number between."""
+    for i, (lo, hi) in enumerate(root):
+        if i not in (x, y):
+            yield chance.choice(cut_numbers(tree, i) or [lo, hi, end_between(lo, hi)])
+
+
+def by_chance(seed, root, x, y, cuts):
+    """A case with some five to ten nodes and at least three rectangles."""
+    chance = random.Random(seed)
+    while True:
+        tree = grown(chance, root, cuts)
+        at = list(on_faces(chance, tree, root, x, y))
+        if 5 <= len(list(files.lines(tree, root, 1))) <= 10 and len(list(rectangles(tree, root, x, y, at))) >= 3:
+            return root, tree, x, y, at
+
+
+SQUARE = boxed((0, 2), (0, 2))
+THIRD = [(0, from_fraction(Fraction(1, 3), DOWN)), (from_fraction(Fraction(-1, 7), DOWN), from_fraction(Fraction(2, 3), UP))]
+POINTS = boxed((3, 3), (-1, -1))
+FLAT = boxed((Fraction(1, 2), Fraction(1, 2)), (-3, 5))
+NEGATIVE = boxed((-1000, -10), (-7, Fraction(-1, 1024)))
+HUGE = [(-TOP, TOP), (TOP // 2 + 1 - (TOP // 2 + 1) % (1 << 962), TOP)]
+TINY = [(-1, 1), (1, 8)]
+CUBE = boxed((0, 1), (-1, 1), (Fraction(-3, 4), 5))
+TWELVE = boxed(*[(-k, 2 * k + 1) for k in range(12)])
+
+GROUPS = {
+    "PLAIN": [
+        (SQUARE, ("I", boxed((0, 1), (0, 2))), 0, 1, []),
+        (SQUARE, ("I", boxed((0, 1), (0, 2))), 1, 0, []),
+        (boxed((0, 1), (0, 1)), ("X",), 0, 1, []),
+        (boxed((0, 1), (0, 1)), ("O",), 0, 1, []),
+        (SQUARE, ("S", SQUARE), 0, 1, []),
+        (SQUARE, ("C", SQUARE, 1, end(1), ("S", boxed((0, 1), (0, 1))), ("O",)), 0, 1, []),
+        (CUBE, ("X",), 0, 2, [end(2)]),
+        (CUBE, ("X",), 2, 0, [end(1)]),
+        (CUBE, ("I", boxed((0, 1), (-1, 1), (1, 2))), 0, 1, [end(3)]),
+        (CUBE, ("S", boxed((0, Fraction(1, 2)), (-1, 1), (1, 2))), 0, 1, [end(2)]),
+    ],
+    "AXES": [
+        (POINTS, ("S", POINTS), 0, 1, []), (HUGE, ("O",), 0, 1, []), by_chance(1, THIRD, 0, 1, 3),
+        by_chance(2, THIRD, 1, 0, 4), by_chance(3, FLAT, 0, 1, 4), by_chance(4, FLAT, 1, 0, 4),
+        by_chance(5, NEGATIVE, 0, 1, 4), by_chance(6, HUGE, 0, 1, 4), by_chance(7, HUGE, 1, 0, 4),
+        by_chance(8, TINY, 0, 1, 3),
+    ],
+    "SLICES": [
+        by_chance(9, CUBE, 0, 1, 4), by_chance(10, CUBE, 2, 0, 4), by_chance(11, CUBE, 1, 2, 5),
+        by_chance(12, CUBE, 2, 1, 5), by_chance(13, TWELVE, 3, 11, 4), by_chance(14, TWELVE, 11, 1, 4),
+        by_chance(15, TWELVE, 5, 4, 4),
+    ],
+}
+
+
+def parts(n):
+    """A number's mantissa and exponent."""
+    if n == 0:
+        return "(0, 0)"
+    trailing = (n & -n).bit_length() - 1
+    return f"({n >> trailing}, {trailing - SCALE})"
+
+
+def ends(box):
+    return ", ".join(f"({parts(lo)}, {parts(hi)})" for lo, hi in box)
+
+
+def text(value):
+    return '"' + value.replace('"', '\\"').replace("\n", "\\n") + '"'
+
+
+def row(root, tree, x, y, at):
+    lines = "".join(line + "\n" for line in files.lines(tree, root, 1))
+    body = picture(tree, root, x, y, at).removeprefix(HEAD).removesuffix("</svg>\n")
+    return (f"Case {{ root: &[{ends(root)}], lines: {text(lines)}, x: {x}, y: {y}, "
+            f"at: &[{', '.join(map(parts, at))}], rectangles: {text(body)} }},")
+
+
+HEADING = """//! Cases of slices and their pictures. Written by tests/generators/pictures.py: change them there.
+use crate::pictures::Case;
+"""
+
+if __name__ == "__main__":
+    os.chdir(Path(__file__).resolve().parents[2])
+    case_table.write("crates/pv_pictures/src/table.rt", HEADING, GROUPS, row)
