@@ -6,6 +6,7 @@ ghost use Rattle.pv_board.specs.Marks.{issued};
 ghost use Rattle.pv_board.specs.Rules.{IsStageBelow, settled_in};
 ghost use Rattle.pv_board.specs.Core.{Core};
 ghost use Rattle.pv_board.specs.Events.{IsOver};
+ghost use Rattle.pv_board.specs.declared.ticket.Look.TheVariants.{Done};
 ghost use Rattle.pv_board.specs.Tallies.{Tally, tally_of, handed_in, given_more, told_of, one_if, tickets_in, IsLow};
 
 use crate::board::Board;
@@ -163,7 +164,8 @@ impl<N: Naming> Desk<N> {
 
     pub(crate) fn look(&mut self, seen: u64, told: &mut Told<N>) -> Look
         requires { IsLow told.old }
-        ensures { told.new ≡ told_of told.old result }
+        ensures told { told.new ≡ told_of told.old result }
+        ensures rises { result ≡ Done → told.new.ended ≡ told.old.ended + 1 }
     {
         match self.board.look(seen) {
             Look::Work(ticket) => {

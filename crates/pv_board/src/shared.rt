@@ -6,7 +6,7 @@ ghost use Rattle.pv_board.specs.Marks.{issued};
 ghost use Rattle.pv_board.specs.Rules.{IsStageBelow, settled_in};
 ghost use Rattle.pv_board.specs.Events.{IsOver};
 ghost use Rattle.pv_board.specs.Tallies.{tally_of, handed_in, given_more, told_of, one_if, tickets_in, IsLow};
-ghost use Rattle.pv_board.specs.declared.ticket.Look.TheVariants.{Same};
+ghost use Rattle.pv_board.specs.declared.ticket.Look.TheVariants.{Done, Same};
 
 use crate::board::Board;
 use crate::desk::Desk;
@@ -141,6 +141,7 @@ impl<N: Naming> Shared<N> {
     pub fn idle<R: Wait>(&self, rt: &R, seen: u64, told: &mut Told<N>) -> Look
         requires { IsLow told.old }
         ensures told { told.new ≡ told_of told.old result }
+        ensures rises { result ≡ Done → told.new.ended ≡ told.old.ended + 1 }
         ensures news { result ≢ Same }
     {
         let mut desk = self.desk.lock(rt);

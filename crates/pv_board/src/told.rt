@@ -144,11 +144,13 @@ impl<N: Naming> Told<N> {
         self.given += u128::from(tickets);
     }
 
-    /// Books an ending.
+    /// Books an ending. The count stands still only where as many endings are booked.
     pub(crate) fn end(&mut self, book: &mut Book<Endings<N>>)
         ensures told { self.new ≡ ended_more self.old }
         ensures book { book.new.total ≡ book.old.total + 1 }
+        ensures below { self.old.ended ≤ book.old.total }
     {
+        book.audit(&mut self.endings);
         book.add(&mut self.endings, 1);
         self.ended = self.ended.saturating_add(1);
     }

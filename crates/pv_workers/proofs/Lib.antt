@@ -1,0 +1,6 @@
+pub mod Budgets
+pub mod Rests
+pub mod Below
+pub mod Counts
+pub mod Laws
+pub mod Earlier

@@ -1,0 +1,3 @@
+pub mod Pavings
+pub mod Accounts
+pub mod Boards

@@ -1,0 +1,13 @@
+//! Paving by several workers: each settles leaves of one shared board until nothing is left to settle.
+#![tactic(auto)]
+
+mod account;
+mod crew;
+mod paving;
+mod rest;
+mod ruled;
+mod stage;
+#[cfg(test)]
+mod tests;
+
+pub use paving::{Paved, pave};

@@ -1,0 +1,194 @@
+//! Paving on a budget by several workers.
+ghost use Rattle.std.specs.Prelude.{◌≡◌, ◌+◌, ◌*◌, ◌^◌, ◌<◌, ◌≤◌, ℕ, length, IfOk};
+ghost use Rattle.pv_tree.specs.Trees.{Tree, Paves};
+ghost use Rattle.pv_tree.specs.Stages.{IsStage};
+ghost use Rattle.pv_board.specs.Marks.{issued};
+ghost use Rattle.pv_board.specs.Rules.{IsFitting, settled_in};
+ghost use Rattle.pv_workers.specs.Pavings.{IsPaved, IsSpent};
+
+use crate::account::{blank, joined, split};
+use crate::crew::Crew;
+use crate::rest::{close, settle_rest};
+use crate::ruled::Ruled;
+use pv_board::{Board, Naming, OpenRefused, Shared};
+use pv_num::Memory;
+use pv_pool::{Gate, run_workers};
+use pv_tree::{Paving, Settler};
+use std::alloc::Global;
+use std::marker::Brand;
+use std::sync::Wait;
+use std::sync::ledger::Blank;
+use std::thread::Threads;
+
+/// A paving, and what it took.
+#[derive(Drop)]
+pub struct Paved {
+    pub paving: Paving,
+    /// How many tickets were handed in for it, those of the caller's own settlings included.
+    pub spent: u128,
+}
+
+/// Settles open leaves of an opening by 1 to 16 workers, until none is left or the budget of 1 to 100,000 settlings is spent.
+/// The gate is entered with the number of the worker and the path of the leaf before each settling. It joins its workers, and may
+/// wait for them.
+///
+/// Where the budget is enough the paving is the full tree of the opening, whatever the number of workers and their order. Else it is a
+/// stage of it with so many more settled nodes.
+///
+/// # Errors
+///
+/// Want of memory.
+pub fn pave<S: Settler + Sync, G: Gate + Sync, R: Threads + Wait + Sync>(
+    rt: &R,
+    alloc: Global,
+    settler: &S,
+    opening: Paving,
+    budget: u64,
+    workers: u32,
+    gate: &G,
+) -> Result<Paved, Memory>
+    requires dims { length opening.root ≡ S.dims settler.now }
+    requires some { 1 ≤ budget }
+    requires few { budget ≤ 100000 }
+    requires limit { settled_in opening.tree + budget ≤ 100000 }
+    requires one { 1 ≤ workers }
+    requires sixteen { workers ≤ 16 }
+    ensures root { IfOk result (λ p. p.paving.root ≡ opening.root) }
+    ensures stages { IfOk result (λ p. (earlier : Tree) → Paves opening.root earlier → IsStage (S.settle_of settler.now) (S.depth_of settler.now) opening.root earlier opening.tree → IsStage (S.settle_of settler.now) (S.depth_of settler.now) opening.root earlier p.paving.tree) }
+    ensures paved { IfOk result (λ p. IsPaved (S.settle_of settler.now) (S.depth_of settler.now) opening.root opening.tree budget p.paving.tree) }
+    ensures spent { IfOk result (λ p. settled_in p.paving.tree ≤ settled_in opening.tree + 16 * p.spent) }
+{
+    let _places = opening.dims();
+    let paved = pave_named::<Brand, S, G, R>(
+        rt,
+        alloc,
+        settler,
+        opening,
+        budget,
+        workers,
+        gate,
+        Blank::new(32),
+        Blank::new(32),
+    )?;
+    learn_paved(&paved.paving, settler);
+    Ok(paved)
+}
+
+// Does nothing. Its contract is what a stage is that spent a budget or has no open leaf, and that a stage of a stage is one.
+fn learn_paved<S: Settler>(paving: &Paving, settler: &S)
+    requires { length paving.now.root ≡ S.dims settler.now }
+    ensures stages { (earlier opening : Tree) → Paves paving.now.root earlier → IsStage (S.settle_of settler.now) (S.depth_of settler.now) paving.now.root earlier opening → IsStage (S.settle_of settler.now) (S.depth_of settler.now) paving.now.root opening paving.now.tree → IsStage (S.settle_of settler.now) (S.depth_of settler.now) paving.now.root earlier paving.now.tree }
+    ensures paved { (opening : Tree) (budget : ℕ) → Paves paving.now.root opening → IsStage (S.settle_of settler.now) (S.depth_of settler.now) paving.now.root opening paving.now.tree → IsSpent budget opening paving.now.tree → IsPaved (S.settle_of settler.now) (S.depth_of settler.now) paving.now.root opening budget paving.now.tree }
+{
+    let _places = paving.dims();
+    let _depth = settler.depth();
+}
+
+// The same under a name for the board and its ledgers.
+fn pave_named<N: Naming + Send + Sync, S: Settler + Sync, G: Gate + Sync, R: Threads + Wait + Sync>(
+    rt: &R,
+    alloc: Global,
+    settler: &S,
+    opening: Paving,
+    budget: u64,
+    workers: u32,
+    gate: &G,
+    settlings: Blank,
+    endings: Blank,
+) -> Result<Paved, Memory>
+    requires rule { N.rule ≡ S.settle_of settler.now }
+    requires depth { N.depth ≡ S.depth_of settler.now }
+    requires dims { N.dims ≡ S.dims settler.now }
+    requires fits { IsFitting N.rule N.depth N.dims }
+    requires root { opening.root ≡ N.root }
+    requires tree { opening.tree ≡ N.opening }
+    requires places { length N.root ≡ N.dims }
+    requires budget { budget ≡ N.budget }
+    requires some { 1 ≤ budget }
+    requires few { budget ≤ 100000 }
+    requires limit { settled_in N.opening + budget ≤ 100000 }
+    requires one { 1 ≤ workers }
+    requires sixteen { workers ≤ 16 }
+    requires settlings { (settlings.name ≡ N.settlings) × (settlings.parts ≡ 32) }
+    requires endings { (endings.name ≡ N.endings) × (endings.parts ≡ 32) }
+    ensures root { IfOk result (λ p. p.paving.root ≡ N.root) }
+    ensures stage { IfOk result (λ p. IsStage N.rule N.depth N.root N.opening p.paving.tree) }
+    ensures paved { IfOk result (λ p. IsSpent N.budget N.opening p.paving.tree) }
+    ensures spent { IfOk result (λ p. settled_in p.paving.tree ≤ settled_in N.opening + 16 * p.spent) }
+{
+    let places = opening.dims();
+    let ruled: Ruled<N, S> = Ruled::of(settler);
+    let mut scratch = blank(alloc, places)?;
+    let board = opened(alloc, opening, budget)?;
+    let (mut board, spent) = worked(
+        rt, alloc, &ruled, board, places, workers, gate, settlings, endings,
+    )?;
+    let own = settle_rest(alloc, &ruled, gate, &mut board, &mut scratch)?;
+    let paving = close(board)?;
+    Ok(Paved {
+        paving,
+        spent: spent + u128::from(own),
+    })
+}
+
+// A board on an opening.
+fn opened<N: Naming>(alloc: Global, opening: Paving, budget: u64) -> Result<Board<N>, Memory>
+    requires fits { IsFitting N.rule N.depth N.dims }
+    requires root { opening.root ≡ N.root }
+    requires tree { opening.tree ≡ N.opening }
+    requires places { length N.root ≡ N.dims }
+    requires budget { budget ≡ N.budget }
+    requires some { 1 ≤ budget }
+    requires few { budget ≤ 100000 }
+    requires limit { settled_in N.opening + budget ≤ 100000 }
+    ensures issued { IfOk result (λ b. issued b.marks ≡ 0) }
+    ensures used { IfOk result (λ b. b.used ≡ 0) }
+    ensures tree { IfOk result (λ b. b.tree ≡ N.opening) }
+{
+    match Board::open(alloc, opening, budget) {
+        Ok(board) => Ok(board),
+        Err(OpenRefused::Memory(_)) => Err(Memory),
+        Err(OpenRefused::TreeLimit { .. }) => unreachable!(),
+    }
+}
+
+// Lets the workers settle, and answers how many tickets they handed in.
+fn worked<N: Naming + Send + Sync, S: Settler + Sync, G: Gate + Sync, R: Threads + Wait + Sync>(
+    rt: &R,
+    alloc: Global,
+    ruled: &Ruled<N, S>,
+    board: Board<N>,
+    places: u8,
+    workers: u32,
+    gate: &G,
+    settlings: Blank,
+    endings: Blank,
+) -> Result<(Board<N>, u128), Memory>
+    requires issued { issued board.marks ≡ 0 }
+    requires used { board.used ≡ 0 }
+    requires tree { board.tree ≡ N.opening }
+    requires places { (1 ≤ places) × (places ≤ 12) × (places ≡ N.dims) }
+    requires one { 1 ≤ workers }
+    requires sixteen { workers ≤ 16 }
+    requires settlings { (settlings.name ≡ N.settlings) × (settlings.parts ≡ 32) }
+    requires endings { (endings.name ≡ N.endings) × (endings.parts ≡ 32) }
+    ensures settled { IfOk result (λ r. settled_in r.0.tree ≡ settled_in N.opening + r.0.used) }
+    ensures few { IfOk result (λ r. r.0.used ≤ 16 * r.1) }
+    ensures low { IfOk result (λ r. r.1 < 2 ^ 75) }
+{
+    let (shared, told) = Shared::new(board, settlings, endings);
+    let accounts = split(alloc, told, workers, places)?;
+    let crew = Crew {
+        alloc,
+        shared: &shared,
+        ruled,
+        gate,
+    };
+    let Ok(accounts) = run_workers(rt, alloc, &crew, accounts) else {
+        return Err(Memory);
+    };
+    let told = joined(accounts);
+    let _settled = told.settled();
+    let spent = told.spent();
+    Ok((shared.into_board(told), spent))
+}
