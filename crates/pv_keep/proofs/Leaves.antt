@@ -1,14 +1,19 @@
 -- Leaves to come, in preorder, and the open leaves of a tree.
-use Rattle.std.proofs.Common.{◌≡◌, ◌≢◌, Bool, true, false, List, [], ◌∷◌, ◌++◌, Option, Some, None, refl, sym, ◌∙◌, ap, subst, inl, inr, ◌⊎◌, append_assoc}
-use Rattle.std.specs.Prelude.{IsTrue}
+use Rattle.std.proofs.lemmas.List.{drop_more, take-append-drop, length-take-le}
+use Rattle.std.proofs.Common.{◌≡◌, ◌≢◌, ℕ, zero, suc, ◌+◌, ◌<◌, ◌≤◌, length, take, drop, add-one, arith, Bool, true, false, List, [], ◌∷◌, ◌++◌, Option, Some, None, refl, sym, ◌∙◌, ap, subst, inl, inr, ◌⊎◌, append_assoc}
+use Rattle.std.specs.Prelude.{IsTrue, slice_index_or, Result, Ok, Err}
+use Rattle.pv_keep.specs.declared.refusal.CampaignRefused.{CampaignRefused}
+use Rattle.pv_keep.specs.declared.refusal.CampaignRefused.TheVariants as refused
+use Rattle.pv_interval.specs.Bounds.{Bounds}
 use Rattle.pv_tree.specs.Trees.{Tree, leaf, removed, inner, small, cut, subtree, graft, settled, precedes}
-use Rattle.pv_tree.specs.Holes.{Hole, holes_below}
+use Rattle.pv_tree.specs.Holes.{Hole, Growing, growth_over, holes_below}
 use Rattle.pv_tree.specs.declared.outcome.Outcome.{Outcome}
 use Rattle.pv_tree.specs.declared.outcome.Outcome.TheVariants.{Removed, Inner, Small, Cut}
 use Rattle.pv_keep.specs.declared.row.Row.{Row}
 use Rattle.pv_keep.specs.Rows.{AllBehind, InPreorder}
-use Rattle.pv_keep.specs.Rebuilding.{IsToCome}
-use Rattle.pv_keep.proofs.Orders.{precedes_trans}
+use Rattle.pv_keep.specs.Rebuilding.{IsToCome, IsPassed, IsPut, IsPutOrBad, IsBadRow, IsGoodRow, Make, IsFirstBad}
+use Rattle.pv_keep.proofs.Making.{make_more}
+use Rattle.pv_keep.proofs.Orders.{precedes_trans, itself_not}
 
 -- One path goes low where the other goes high: all below the one stands before all below the other.
 abbrev pub IsLeftOf : List Bool → List Bool → Type 0
@@ -177,3 +182,114 @@ pub open_after : (t : Tree) (passed : List Hole) (hole : Hole) (others : List Ho
     → subtree t row.path ≡ Some leaf → AreInOrder (passed ++ hole ∷ others) → AreOpen t (passed ++ hole ∷ others) (row ∷ rows) → AllBehind row.path rows
     → AreOpen (graft t row.path (settled o)) (holes_below hole o ++ others) rows
 open_after t passed hole others row rows o e is_leaf h a b = λ p s. open_case t passed hole others row rows o p e h a b (open_behind t row.path p o is_leaf s)
+
+-- ---- Leaves that are passed
+
+pub pass_more : (old mid new : List Hole) → IsPassed old mid → (hole : Hole) (rest : List Hole) → mid ≡ hole ∷ rest → new ≡ rest → IsPassed old new
+pass_more old mid new p hole rest e f = (
+  p.0 ++ hole ∷ [],
+  p.1 ∙ ap (λ (hs : List Hole). p.0 ++ hs) e ∙ sym (append_assoc p.0 (hole ∷ []) rest) ∙ ap (λ (hs : List Hole). (p.0 ++ hole ∷ []) ++ hs) (sym f),
+)
+
+pub pass_none : (path next : List Bool) (mid new : List Hole) (hole : Hole) (rest : List Hole) → mid ≡ hole ∷ rest → new ≡ rest → next ≡ hole.path → (next ≡ path → ⊥)
+    → IsToCome path mid → IsToCome path new
+pass_none path next mid new hole rest e f g n k =
+    subst (IsToCome path) (sym f) (elim (subst (IsToCome path) e k) [ inl h ↦ absurd (n (g ∙ sym h)) | inr h ↦ h ])
+
+-- ---- Rows one by one
+
+pub take_next : (rows : List Row) (i : ℕ) (d : Row) → i < length rows → take (i + 1) rows ≡ take i rows ++ slice_index_or rows i d ∷ []
+take_next rows i d l = ap (λ (k : ℕ). take k rows) (add-one i) ∙ take_one rows i d l
+  where
+    take_one : (rows : List Row) (i : ℕ) (d : Row) → i < length rows → take (suc i) rows ≡ take i rows ++ slice_index_or rows i d ∷ []
+    take_one [] i d l = absurd (omega (arith, l))
+    take_one (x ∷ xs) zero d l = refl
+    take_one (x ∷ xs) (suc i) d l = ap (λ (ws : List Row). x ∷ ws) (take_one xs i d (omega (arith, l)))
+
+pub take_whole : (rows : List Row) (i : ℕ) → length rows ≤ i → take i rows ≡ rows
+take_whole [] zero l = refl
+take_whole [] (suc i) l = refl
+take_whole (x ∷ xs) zero l = absurd (omega (arith, l))
+take_whole (x ∷ xs) (suc i) l = ap (λ (ws : List Row). x ∷ ws) (take_whole xs i (omega (arith, l)))
+
+pub open_begun : (b : List Bounds) (g : Growing) (rows : List Row) → g ≡ growth_over b → AreOpen g.tree g.holes rows
+open_begun b g rows e = subst (λ (h : Growing). AreOpen h.tree h.holes rows) (sym e) (λ p s. root_open p s)
+  where
+    root_open : (p : List Bool) → subtree leaf p ≡ Some leaf → IsToCome p (growth_over b).holes ⊎ AllBehind p rows
+    root_open [] s = inl (inl refl)
+    root_open (c ∷ p) s = cc
+
+pub order_begun : (b : List Bounds) (g : Growing) → g ≡ growth_over b → AreInOrder g.holes
+order_begun b g e = subst (λ (h : Growing). AreInOrder h.holes) (sym e) (tt, tt)
+
+pub was_put : (old new : Growing) (row : Row) (b : Bool) → IsPutOrBad old new row b → b ≡ true → IsPut old new row
+was_put old new row true p e = p
+was_put old new row false p e = cc
+
+was_bad : (old new : Growing) (row : Row) (b : Bool) → IsPutOrBad old new row b → b ≡ false → (subtree old.tree row.path ≡ Some leaf → IsToCome row.path old.holes) → IsBadRow old.root old.tree row
+was_bad old new row true p e = cc
+was_bad old new row false p e = p
+
+-- What holds of a growth behind some of the rows.
+pub record IsGrown (b : List Bounds) (rows : List Row) (i : ℕ) (g : Growing) : Type 0 where
+  pub root : g.root ≡ b
+  pub made : Make b leaf (take i rows) g.tree
+  pub order : AreInOrder g.holes
+  pub leaves : InPreorder rows → AreOpen g.tree g.holes (drop i rows)
+
+ordered_drop : (rows : List Row) (i : ℕ) → InPreorder rows → InPreorder (drop i rows)
+ordered_drop [] zero o = tt
+ordered_drop [] (suc i) o = tt
+ordered_drop (x ∷ xs) zero o = o
+ordered_drop (x ∷ xs) (suc i) o = ordered_drop xs i o.1
+
+pub grown_on : (b : List Bounds) (rows : List Row) (i : ℕ) (old new : Growing) (row : Row) → IsGrown b rows i old → i < length rows → row ≡ slice_index_or rows i row → IsPut old new row
+    → IsGrown b rows (i + 1) new
+grown_on b rows i old new row g l e p =
+    let left : drop i rows ≡ row ∷ drop (i + 1) rows = drop_more rows i row l ∙ ap (λ (r : Row). r ∷ drop (i + 1) rows) (sym e) in
+    let done : take (i + 1) rows ≡ take i rows ++ row ∷ [] = take_next rows i row l ∙ ap (λ (r : Row). take i rows ++ r ∷ []) (sym e) in
+    let good : IsGoodRow b old.tree row p.outcome = subst (λ (c : List Bounds). IsGoodRow c old.tree row p.outcome) g.root p.good in
+    let order : AreInOrder (p.passed ++ p.hole ∷ p.others) = subst AreInOrder p.was g.order in
+    record {
+      root = p.root ∙ g.root;
+      made = subst (λ (ws : List Row). Make b leaf ws new.tree) (sym done)
+          (subst (λ (t : Tree). Make b leaf (take i rows ++ row ∷ []) t) (sym p.tree) (make_more b leaf (take i rows) old.tree row p.outcome g.made good));
+      order = subst AreInOrder (sym p.holes) (order_after p.passed p.hole p.others p.outcome order);
+      leaves = λ o.
+          let whole : InPreorder (row ∷ drop (i + 1) rows) = subst InPreorder left (ordered_drop rows i o) in
+          let were : AreOpen old.tree (p.passed ++ p.hole ∷ p.others) (row ∷ drop (i + 1) rows) =
+          subst (λ (hs : List Hole). AreOpen old.tree hs (row ∷ drop (i + 1) rows)) p.was (subst (λ (ws : List Row). AreOpen old.tree old.holes ws) left (g.leaves o)) in
+          subst (λ (hs : List Hole). AreOpen new.tree hs (drop (i + 1) rows)) (sym p.holes)
+          (subst (λ (t : Tree). AreOpen t (holes_below p.hole p.outcome ++ p.others) (drop (i + 1) rows)) (sym p.tree)
+          (open_after old.tree p.passed p.hole p.others row (drop (i + 1) rows) p.outcome p.path p.good.is_leaf order were whole.0));
+    }
+
+pub first_bad : (b : List Bounds) (rows : List Row) (i : ℕ) (old new : Growing) (row : Row) (ok : Bool) → IsGrown b rows i old → i < length rows → row ≡ slice_index_or rows i row
+    → IsPutOrBad old new row ok → ok ≡ false → InPreorder rows → IsFirstBad b rows i
+first_bad b rows i old new row ok g l e p f o =
+    let left : drop i rows ≡ row ∷ drop (i + 1) rows = drop_more rows i row l ∙ ap (λ (r : Row). r ∷ drop (i + 1) rows) (sym e) in
+    let bad : IsBadRow old.root old.tree row = was_bad old new row ok p f
+    (λ s. elim (subst (λ (ws : List Row). AreOpen old.tree old.holes ws) left (g.leaves o) row.path s) [
+      | inl k ↦ k
+      | inr k ↦ let z : precedes row.path row.path ≡ true = k.0 in let y : precedes row.path row.path ≡ false = itself_not row.path in cc
+    ]) in record {
+      front = take i rows;
+      row = row;
+      rest = drop (i + 1) rows;
+      are = sym (take-append-drop i rows) ∙ ap (λ (ws : List Row). take i rows ++ ws) left;
+      number = length-take-le i rows (omega (arith, l));
+      tree = old.tree;
+      made = g.made;
+      bad = subst (λ (c : List Bounds). IsBadRow c old.tree row) g.root bad;
+    }
+
+abbrev row_in : {T : Type 0} → Result T CampaignRefused → ℕ → ℕ
+row_in (Ok t) d = d
+row_in (Err refused.Memory) d = d
+row_in (Err refused.Failed) d = d
+row_in (Err (refused.OtherIdentity kept)) d = d
+row_in (Err refused.TooMany) d = d
+row_in (Err (refused.BadRow n)) d = n
+
+pub same_bad_row : {T : Type 0} (m n : ℕ) → ◌≡◌ {A = Result T CampaignRefused} (Err (refused.BadRow m)) (Err (refused.BadRow n)) → m ≡ n
+same_bad_row {T} m n e = ap {B = ℕ} (λ (r : Result T CampaignRefused). row_in r m) e

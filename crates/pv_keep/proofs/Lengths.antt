@@ -1,5 +1,5 @@
 -- No line of a settled node has more than 660 bytes.
-use Rattle.std.proofs.Common.{◌≡◌, ℕ, zero, suc, ◌+◌, ◌-◌, ◌*◌, ◌^◌, ◌<◌, ◌≤◌, List, [], ◌∷◌, ◌++◌, length, codes, decimal, ℤ, pos, negsuc, neg_ℤ, ◌-ℤ◌, ◌+ℤ◌, unsigned_abs, refl, sym, ◌∙◌, ap, subst, inl, inr, arith, length-append}
+use Rattle.std.proofs.Common.{◌≡◌, ℕ, zero, suc, ◌+◌, ◌-◌, ◌*◌, ◌%◌, ◌^◌, ◌<◌, ◌≤◌, List, [], ◌∷◌, ◌++◌, length, codes, decimal, ℤ, pos, negsuc, neg_ℤ, ◌-ℤ◌, ◌+ℤ◌, unsigned_abs, refl, sym, ◌∙◌, ap, subst, inl, inr, arith, length-append}
 use Rattle.std.specs.Fmt.{signed_decimal}
 use Rattle.std.proofs.lemmas.Fmt.{length_signed_le, length-decimal-le}
 use Rattle.std.proofs.lemmas.Int.{ints}
@@ -55,11 +55,15 @@ small_parts n p g = record {
 
 -- ---- Their text is short
 
+near : (z : ℤ) (t : ℕ) → z ≡ pos t -ℤ pos 512 → t < 1024 → mag z < 600
+near (pos n) t e l = omega (arith, ints, e, l)
+near (negsuc n) t e l = omega (arith, ints, e, l)
+
 exponent_near : (t : ℕ) → t < 1024 → mag (pos t -ℤ pos 512) + 1 < 10 ^ 3
-exponent_near t l = omega (arith, ints, l)
+exponent_near t l = let n : mag (pos t -ℤ pos 512) < 600 = near (pos t -ℤ pos 512) t refl l in omega (arith, n)
 
 exponent_word : (t : ℕ) → t < 1024 → mag (pos t -ℤ pos 512) < 2 ^ 63
-exponent_word t l = omega (arith, ints, l)
+exponent_word t l = let n : mag (pos t -ℤ pos 512) < 600 = near (pos t -ℤ pos 512) t refl l in omega (arith, n)
 
 joined : (m e : List ℕ) → length m ≤ 20 → length e ≤ 4 → length (m ++ 58 ∷ e) ≤ 25
 joined m e a b = omega (arith, length-append m (58 ∷ e), a, b)
@@ -73,11 +77,17 @@ mag_neg : (n b : ℕ) → n < b → mag (neg_ℤ (pos n)) < b
 mag_neg zero b l = l
 mag_neg (suc n) b l = omega (arith, l)
 
+few : (xs : List ℕ) (n : ℕ) → length xs ≡ n → n ≤ 25 → length xs ≤ 25
+few xs n e l = omega (arith, e, l)
+
+nought : length (parts_text (FinParts (pos 0) (pos 0))) ≤ 25
+nought = joined (signed_decimal (pos 0)) (signed_decimal (pos 0)) (length_signed_le 19 (pos 0) (omega arith) (omega arith)) (length_signed_le 3 (pos 0) (omega arith) (omega arith))
+
 pub short_number : (x : Extended) → IsNumber x → length (number_text x) ≤ 25
 unfolding number_text
-short_number NegInf h = omega arith
-short_number PosInf h = omega arith
-short_number (Fin (pos zero)) h = omega arith
+short_number NegInf h = few (codes "-oo") 3 refl (omega arith)
+short_number PosInf h = few (codes "+oo") 3 refl (omega arith)
+short_number (Fin (pos zero)) h = nought
 short_number (Fin (pos (suc n))) h = let s : AreSmall (suc n) = small_parts (suc n) (omega arith) h in two_parts (pos (odd_of (suc n))) (twos (suc n)) s.odd s.twos
 short_number (Fin (negsuc n)) h =
     let s : AreSmall (suc n) = small_parts (suc n) (omega arith) h in

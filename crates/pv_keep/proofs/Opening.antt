@@ -1,11 +1,16 @@
 -- What an opening found and left, from what its calls found and left.
-use Rattle.std.proofs.Common.{◌≡◌, ℕ, ◌+◌, ◌<◌, ◌≤◌, List, [], ◌∷◌, ◌++◌, length, refl, sym, ◌∙◌, ap, subst, inl, inr, arith}
+use Rattle.std.specs.Prelude.{Result, Ok, Err}
+use Rattle.pv_tree.specs.Stages.{Grows}
+use Rattle.pv_tree.specs.Trees.{removed, inner, small, cut}
+use Rattle.pv_join.specs.Joins.{IsJoin}
+use Rattle.pv_join.proofs.JoinFacts.{side_left}
+use Rattle.std.proofs.Common.{◌≡◌, Bool, true, false, length-append, ℕ, ◌+◌, ◌<◌, ◌≤◌, List, [], ◌∷◌, ◌++◌, length, refl, sym, ◌∙◌, ap, subst, inl, inr, arith}
 use Rattle.pv_interval.specs.Bounds.{Bounds}
 use Rattle.pv_io.specs.Outside.{Rose}
 use Rattle.pv_tree.specs.Trees.{Tree, leaf}
 use Rattle.pv_file.specs.Readings.{settled_count}
 use Rattle.pv_keep.specs.declared.row.Row.{Row}
-use Rattle.pv_keep.specs.Rows.{rows_of, InPreorder, IsShuffle, AreDistinct}
+use Rattle.pv_keep.specs.Rows.{rows_of, rows_below, InPreorder, IsShuffle, AreDistinct}
 use Rattle.pv_keep.specs.Keeping.{Kept, untold, absent, holds, IsBegun, IsOrdered, AreAll, AreTooMany, MayBeThere, MayBeNew, with_rows}
 use Rattle.pv_keep.specs.Rebuilding.{Make, IsFirstBad}
 use Rattle.pv_keep.specs.Campaigns.{IsOpened, IsLeft, HasTooMany, HasBadRow, KeepsTree, IsSaved}
@@ -93,3 +98,31 @@ saved_now absent k1 t u rows h s e = absurd h
 saved_now (holds identity kept) k1 t u rows h s e =
     let all : IsShuffle kept rows (rows_of u) = subst (λ (xs : List Row). IsShuffle xs rows (rows_of u)) (sym h) s in
     e ∙ ap (holds identity) (all_placed_shuffle kept rows (rows_of u) all (ordered_rows u))
+
+pub joined_grows : (a b t : Tree) → IsJoin a b t → Grows a t
+joined_grows a b t j = λ p o e. j.takes p ∙ side_left _ _ o e
+
+abbrev error_or : {T E : Type 0} → E → Result T E → E
+error_or d (Ok t) = d
+error_or d (Err e) = e
+
+pub same_refusal : {T E : Type 0} (a b : E) → ◌≡◌ {A = Result T E} (Err a) (Err b) → a ≡ b
+same_refusal a b e = ap (error_or a) e
+
+-- ---- So many rows as settled nodes
+
+row_count : (p : List Bool) (t : Tree) → length (rows_below p t) ≡ settled_count t
+row_count p leaf = refl
+row_count p removed = refl
+row_count p (inner to) = refl
+row_count p (small to) = refl
+row_count p (cut to var at low high) =
+    omega (arith, length-append (rows_below (p ++ false ∷ []) low) (rows_below (p ++ true ∷ []) high), row_count (p ++ false ∷ []) low, row_count (p ++ true ∷ []) high)
+
+shuffle_count : (xs ys zs : List Row) → IsShuffle xs ys zs → length zs ≡ length xs + length ys
+shuffle_count xs ys [] s = let e : length xs ≡ 0 = ap length s.0 in let f : length ys ≡ 0 = ap length s.1 in omega (arith, e, f)
+shuffle_count xs ys (z ∷ zs) (inl s) = let e : length xs ≡ length (z ∷ s.0) = ap length s.1 in omega (arith, e, shuffle_count s.0 ys zs s.2)
+shuffle_count xs ys (z ∷ zs) (inr s) = let e : length ys ≡ length (z ∷ s.0) = ap length s.1 in omega (arith, e, shuffle_count xs s.0 zs s.2)
+
+pub new_count : (s u : Tree) (rows : List Row) → IsShuffle (rows_of s) rows (rows_of u) → settled_count u ≡ settled_count s + length rows
+new_count s u rows h = omega (arith, shuffle_count (rows_of s) rows (rows_of u) h, row_count [] s, row_count [] u)

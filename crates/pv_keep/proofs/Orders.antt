@@ -1,5 +1,5 @@
 -- Preorder is a strict total order of paths.
-use Rattle.std.proofs.Common.{◌≡◌, ◌≢◌, Bool, true, false, List, [], ◌∷◌, ◌++◌, refl, ap, ⊥}
+use Rattle.std.proofs.Common.{◌≡◌, ◌≢◌, Bool, true, false, List, [], ◌∷◌, ◌++◌, refl, ap}
 use Rattle.std.specs.Prelude.{IsTrue}
 use Rattle.pv_tree.specs.Trees.{precedes}
 

@@ -1,7 +1,10 @@
 -- Walks over two trees side by side, one of which grew from the other, give the rows that are new.
 use Rattle.std.proofs.Common.{◌≡◌, ℕ, zero, suc, ◌+◌, ◌-◌, ◌<◌, ◌≤◌, ◌^◌, Bool, true, false, List, [], ◌∷◌, ◌++◌, length, Option, Some, None, refl, sym, ◌∙◌, ap, subst, inl, inr, arith, append_assoc, append-nil}
 use Rattle.pv_interval.specs.Bounds.{Bounds}
-use Rattle.pv_tree.specs.Trees.{Tree, leaf, removed, inner, small, cut, top, outcome_at, shape_of, counts_of, settled_of}
+use Rattle.pv_tree.specs.Trees.{Tree, leaf, removed, inner, small, cut, top, outcome_at, shape_of, counts_of, settled_of, to_at, Paves}
+use Rattle.pv_tree.specs.declared.outcome.Shape.TheVariants as shape
+use Rattle.pv_num.specs.Extended.{Extended}
+use Rattle.pv_file.proofs.Places.{strictly_there}
 use Rattle.pv_tree.specs.Stages.{Grows}
 use Rattle.pv_tree.specs.Pieces.{Piece, Walked, IsVisit, walk_from, root_piece, children_of, to_come, all_nodes}
 use Rattle.pv_tree.specs.declared.outcome.Outcome.{Outcome}
@@ -9,7 +12,7 @@ use Rattle.pv_tree.specs.declared.outcome.Outcome.TheVariants.{Removed, Inner, S
 use Rattle.pv_tree.specs.declared.outcome.Shape.{Shape}
 use Rattle.pv_keep.specs.declared.row.Row.{Row}
 use Rattle.pv_keep.specs.Rows.{rows_below, rows_of, row_at, row_of, IsShuffle}
-use Rattle.pv_keep.specs.Beside.{is_leaf, kids_of_shape, Passes}
+use Rattle.pv_keep.specs.Beside.{is_leaf, with_kids, Passes}
 use Rattle.pv_keep.proofs.Shuffles.{shuffle_append}
 
 abbrev pub pending_rows : List Piece → List Row
@@ -92,11 +95,11 @@ rows_split p (cut to var at low high) box others =
     ap (λ (ws : List Row). row_at p (Cut to var at) ∷ ws) (append_assoc (rows_below (p ++ false ∷ []) low) (rows_below (p ++ true ∷ []) high) (pending_rows others))
 
 kids_beside : (n : ℕ) (piece : Piece) (news olds : List Piece) → AreBeside n news olds
-    → AreBeside (kids_of_shape (shape_of (Some piece.tree)) + n) (children_of piece ++ news) olds
+    → AreBeside (with_kids (shape_of (Some piece.tree)) n) (children_of piece ++ news) olds
 kids_beside n piece news olds h = kids_of piece.path piece.box piece.tree n news olds h
   where
     kids_of : (p : List Bool) (box : List Bounds) (t : Tree) (n : ℕ) (news olds : List Piece) → AreBeside n news olds
-        → AreBeside (kids_of_shape (shape_of (Some t)) + n) (children_of (record { path = p; box = box; tree = t }) ++ news) olds
+        → AreBeside (with_kids (shape_of (Some t)) n) (children_of (record { path = p; box = box; tree = t }) ++ news) olds
     kids_of p box leaf n news olds h = h
     kids_of p box removed n news olds h = h
     kids_of p box (inner to) n news olds h = h
@@ -118,7 +121,7 @@ old_row earlier later so_far xs zs p (Some o) h rest s = h rest (inl (xs, refl, 
 
 -- A node below an open leaf is new.
 pub deeper : (earlier later so_far : List Row) (n : ℕ) (piece : Piece) (news olds : List Piece) → IsBeside earlier later so_far (suc n) (piece ∷ news) olds
-    → IsBeside earlier later (so_far ++ row_of piece.path (top piece.tree)) (kids_of_shape (shape_of (Some piece.tree)) + n) (children_of piece ++ news) olds
+    → IsBeside earlier later (so_far ++ row_of piece.path (top piece.tree)) (with_kids (shape_of (Some piece.tree)) n) (children_of piece ++ news) olds
 deeper earlier later so_far n piece news olds h = record {
   beside = kids_beside n piece news olds h.beside;
   told = new_row earlier later so_far (pending_rows olds) (pending_rows (children_of piece ++ news)) piece.path (top piece.tree)
@@ -138,12 +141,12 @@ no_kids old olds e = leaf_kids old.path old.box old.tree olds e
     leaf_kids p box (cut to var at low high) olds e = cc
 
 pub opened : (earlier later so_far : List Row) (piece old : Piece) (news olds : List Piece) → IsBeside earlier later so_far 0 (piece ∷ news) (old ∷ olds) → is_leaf old.tree ≡ true
-    → IsBeside earlier later (so_far ++ row_of piece.path (top piece.tree)) (kids_of_shape (shape_of (Some piece.tree))) (children_of piece ++ news) (children_of old ++ olds)
+    → IsBeside earlier later (so_far ++ row_of piece.path (top piece.tree)) (with_kids (shape_of (Some piece.tree)) 0) (children_of piece ++ news) (children_of old ++ olds)
 opened earlier later so_far piece old news olds h e =
     let none = no_kids old olds e in
-    subst (λ (os : List Piece). IsBeside earlier later (so_far ++ row_of piece.path (top piece.tree)) (kids_of_shape (shape_of (Some piece.tree))) (children_of piece ++ news) os) (sym none.0)
+    subst (λ (os : List Piece). IsBeside earlier later (so_far ++ row_of piece.path (top piece.tree)) (with_kids (shape_of (Some piece.tree)) 0) (children_of piece ++ news) os) (sym none.0)
     (record {
-      beside = subst (λ (k : ℕ). AreBeside k (children_of piece ++ news) olds) (omega arith) (kids_beside 0 piece news olds h.beside.1);
+      beside = kids_beside 0 piece news olds h.beside.1;
       told = new_row earlier later so_far (pending_rows olds) (pending_rows (children_of piece ++ news)) piece.path (top piece.tree)
           (λ rest s. h.told rest
           (subst (λ (xs : List Row). IsShuffle (xs ++ pending_rows olds) rest (rows_below piece.path piece.tree ++ pending_rows news)) (sym none.1)
@@ -180,8 +183,7 @@ known_cut p q c d (inner to') to var at low high news olds e g h = let w : Some 
 known_cut p q c d (small to') to var at low high news olds e g h = let w : Some (Small to') ≡ Some (Cut to var at) = g [] (Cut to var at) refl in cc
 known_cut p q c d (cut to' var' at' low' high') to var at low high news olds e g h = (
   record { path = ap (λ (r : List Bool). r ++ false ∷ []) e; grows = λ r o f. g (false ∷ r) o f },
-  record { path = ap (λ (r : List Bool). r ++ true ∷ []) e; grows = λ r o f. g (true ∷ r) o f },
-  h,
+  (record { path = ap (λ (r : List Bool). r ++ true ∷ []) e; grows = λ r o f. g (true ∷ r) o f }, h),
 )
 
 known : (p q : List Bool) (c d : List Bounds) (t s : Tree) (news olds : List Piece) → p ≡ q → Grows s t → is_leaf s ≡ false → AreBeside 0 news olds
@@ -217,3 +219,88 @@ passed earlier later so_far piece old news olds h e =
           (subst (λ (zs : List Row). IsShuffle (row_of old.path (top old.tree) ++ pending_rows (children_of old ++ olds)) rest zs)
           (sym (rows_split piece.path piece.tree piece.box news ∙ ap (λ (ws : List Row). ws ++ pending_rows (children_of piece ++ news)) own)) s)));
     }
+
+-- ---- Both walks take their step
+
+new_from : (earlier later so_far : List Row) (n : ℕ) (piece : Piece) (news olds olds' : List Piece) → IsBeside earlier later so_far n (piece ∷ news) olds
+    → ((old : Piece) (rest : List Piece) → n ≡ 0 → olds ≡ old ∷ rest → (olds' ≡ children_of old ++ rest) × (true ≡ is_leaf old.tree))
+    → ((m : ℕ) → n ≡ suc m → olds' ≡ olds)
+    → IsBeside earlier later (so_far ++ row_of piece.path (top piece.tree)) (with_kids (shape_of (Some piece.tree)) (n - 1)) (children_of piece ++ news) olds'
+new_from earlier later so_far zero piece news [] olds' h zeros sucs = absurd h.beside
+new_from earlier later so_far zero piece news (old ∷ olds) olds' h zeros sucs =
+    let z = zeros old olds refl refl in
+    let none : zero - 1 ≡ 0 = omega arith in
+    subst (λ (os : List Piece). IsBeside earlier later (so_far ++ row_of piece.path (top piece.tree)) (with_kids (shape_of (Some piece.tree)) (zero - 1)) (children_of piece ++ news) os) (sym z.0)
+    (subst (λ (k : ℕ). IsBeside earlier later (so_far ++ row_of piece.path (top piece.tree)) (with_kids (shape_of (Some piece.tree)) k) (children_of piece ++ news) (children_of old ++ olds)) (sym none)
+    (opened earlier later so_far piece old news olds h (sym z.1)))
+new_from earlier later so_far (suc m) piece news olds olds' h zeros sucs =
+    let one : suc m - 1 ≡ m = omega arith in
+    subst (λ (os : List Piece). IsBeside earlier later (so_far ++ row_of piece.path (top piece.tree)) (with_kids (shape_of (Some piece.tree)) (suc m - 1)) (children_of piece ++ news) os) (sym (sucs m refl))
+    (subst (λ (k : ℕ). IsBeside earlier later (so_far ++ row_of piece.path (top piece.tree)) (with_kids (shape_of (Some piece.tree)) k) (children_of piece ++ news) olds) (sym one)
+    (deeper earlier later so_far m piece news olds h))
+
+old_from : (earlier later so_far : List Row) (n : ℕ) (piece : Piece) (news olds olds' : List Piece) → IsBeside earlier later so_far n (piece ∷ news) olds
+    → ((old : Piece) (rest : List Piece) → n ≡ 0 → olds ≡ old ∷ rest → (olds' ≡ children_of old ++ rest) × (false ≡ is_leaf old.tree))
+    → ((m : ℕ) → n ≡ suc m → ⊥)
+    → IsBeside earlier later so_far n (children_of piece ++ news) olds'
+old_from earlier later so_far zero piece news [] olds' h zeros sucs = absurd h.beside
+old_from earlier later so_far zero piece news (old ∷ olds) olds' h zeros sucs =
+    let z = zeros old olds refl refl in
+    subst (λ (os : List Piece). IsBeside earlier later so_far 0 (children_of piece ++ news) os) (sym z.0) (passed earlier later so_far piece old news olds h (sym z.1))
+old_from earlier later so_far (suc m) piece news olds olds' h zeros sucs = absurd (sucs m refl)
+
+zeros_of : (n : ℕ) (old new : Walked) (b : Bool) → Passes n old new b → (piece : Piece) (rest : List Piece) → n ≡ 0 → old.pending ≡ piece ∷ rest
+    → (new.pending ≡ children_of piece ++ rest) × (b ≡ is_leaf piece.tree)
+zeros_of zero old new b h piece rest e f = h piece rest f
+zeros_of (suc n) old new b h piece rest e f = absurd (omega (arith, e))
+
+stays_of : (n : ℕ) (old new : Walked) (b : Bool) → Passes n old new b → (m : ℕ) → n ≡ suc m → new.pending ≡ old.pending
+stays_of zero old new b h m e = absurd (omega (arith, e))
+stays_of (suc n) old new b h m e = ap (λ (w : Walked). w.pending) h.0
+
+never_old : (n : ℕ) (old new : Walked) → Passes n old new false → (m : ℕ) → n ≡ suc m → ⊥
+never_old zero old new h m e = absurd (omega (arith, e))
+never_old (suc n) old new h m e = cc
+
+pub grown_new : (earlier later so_far after : List Row) (n k l : ℕ) (new new' : Walked) (seen : Shape) (old old' : Walked) (b : Bool) → (v : IsVisit new new' seen)
+    → IsBeside earlier later so_far n new.pending old.pending → Passes n old old' b → b ≡ true → k ≡ n - 1 → l ≡ with_kids seen k
+    → after ≡ so_far ++ row_of new'.here.path (top new'.here.tree) → IsBeside earlier later after l new'.pending old'.pending
+grown_new earlier later so_far after n k l new new' seen old old' b v h p t e f a =
+    let p' : Passes n old old' true = subst (Passes n old old') t p in
+    let here : IsBeside earlier later so_far n (new'.here ∷ v.rest) old.pending = subst (λ (ns : List Piece). IsBeside earlier later so_far n ns old.pending) v.was h in
+    let step = new_from earlier later so_far n new'.here v.rest old.pending old'.pending here (zeros_of n old old' true p') (stays_of n old old' true p') in
+    let count : with_kids (shape_of (Some new'.here.tree)) (n - 1) ≡ l = sym (f ∙ (λ i. with_kids (v.shape i) (e i))) in
+    subst (λ (ws : List Row). IsBeside earlier later ws l new'.pending old'.pending) (sym a)
+    (subst (λ (ns : List Piece). IsBeside earlier later (so_far ++ row_of new'.here.path (top new'.here.tree)) l ns old'.pending) (sym v.pending)
+    (subst (λ (c : ℕ). IsBeside earlier later (so_far ++ row_of new'.here.path (top new'.here.tree)) c (children_of new'.here ++ v.rest) old'.pending) count step))
+
+pub grown_old : (earlier later so_far : List Row) (n : ℕ) (new new' : Walked) (seen : Shape) (old old' : Walked) (b : Bool) → (v : IsVisit new new' seen)
+    → IsBeside earlier later so_far n new.pending old.pending → Passes n old old' b → b ≡ false → IsBeside earlier later so_far n new'.pending old'.pending
+grown_old earlier later so_far n new new' seen old old' b v h p t =
+    let p' : Passes n old old' false = subst (Passes n old old') t p in
+    let here : IsBeside earlier later so_far n (new'.here ∷ v.rest) old.pending = subst (λ (ns : List Piece). IsBeside earlier later so_far n ns old.pending) v.was h in
+    subst (λ (ns : List Piece). IsBeside earlier later so_far n ns old'.pending) (sym v.pending)
+    (old_from earlier later so_far n new'.here v.rest old.pending old'.pending here (zeros_of n old old' false p') (never_old n old old' p'))
+
+pub cut_var : (b : List Bounds) (t : Tree) (var : ℕ) (at : Extended) (to : List Bounds) → Paves b t → shape.Cut var at ≡ shape_of (Some t) → to_at t [] ≡ Some to → length to ≤ 12 → var < 12
+cut_var b leaf var at to h e f l = cc
+cut_var b removed var at to h e f l = cc
+cut_var b (inner to') var at to h e f l = cc
+cut_var b (small to') var at to h e f l = cc
+cut_var b (cut to' var' at' low high) var at to h e f l =
+    let below : var' < length to' = strictly_there at' var' to' h.2 in
+    let same : var ≡ var' = ap var_or e in
+    let kept : length to' ≡ length to = ap length_or f in
+    omega (arith, below, same, kept, l)
+  where
+    var_or : Shape → ℕ
+    var_or shape.Absent = 0
+    var_or shape.OpenLeaf = 0
+    var_or shape.Removed = 0
+    var_or shape.Inner = 0
+    var_or shape.Small = 0
+    var_or (shape.Cut v a) = v
+
+    length_or : Option (List Bounds) → ℕ
+    length_or None = 0
+    length_or (Some bs) = length bs

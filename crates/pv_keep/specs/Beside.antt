@@ -12,13 +12,14 @@ is_leaf (inner to) = false
 is_leaf (small to) = false
 is_leaf (cut to var at low high) = false
 
-abbrev pub kids_of_shape : Shape → ℕ
-kids_of_shape Absent = 0
-kids_of_shape OpenLeaf = 0
-kids_of_shape Removed = 0
-kids_of_shape Inner = 0
-kids_of_shape Small = 0
-kids_of_shape (Cut var at) = 2
+-- so many nodes, and the children of one
+abbrev pub with_kids : Shape → ℕ → ℕ
+with_kids Absent n = n
+with_kids OpenLeaf n = n
+with_kids Removed n = n
+with_kids Inner n = n
+with_kids Small n = n
+with_kids (Cut var at) n = suc (suc n)
 
 -- With nodes to come that stand below open leaves the walk over the earlier tree stays; else it goes on, and says whether its node is open.
 abbrev pub Passes : ℕ → Walked → Walked → Bool → Type 0

@@ -2,7 +2,7 @@
 ghost use Rattle.std.specs.Prelude.{◌≡◌, ◌≢◌, ◌+◌, ◌≤◌, ℕ, List, Some, Err, IsSome, IfOk, OnOk, OnErr, IsErrOf};
 ghost use Rattle.pv_io.specs.Outside.{Rose};
 ghost use Rattle.pv_tree.specs.Trees.{Tree};
-ghost use Rattle.pv_tree.specs.Stages.{Rule, IsStage};
+ghost use Rattle.pv_tree.specs.Stages.{Grows, Rule, IsStage};
 ghost use Rattle.pv_file.specs.Readings.{settled_count};
 ghost use Rattle.pv_join.specs.Joins.{IsJoin};
 ghost use Rattle.pv_keep.specs.Keeping.{HasOther};
@@ -75,7 +75,10 @@ impl Campaign {
         keeper.begin(name, identity)?;
         let mut rows = Rows::new(alloc);
         keeper.load(MOST_ROWS, &mut rows)?;
-        let paving = rebuild(alloc, &rows, root)?;
+        let paving = match rebuild(alloc, &rows, root) {
+            Ok(paving) => paving,
+            Err(refused) => return Err(refused),
+        };
         Ok(Campaign { paving })
     }
 
@@ -107,12 +110,13 @@ impl Campaign {
         ensures unchanged { OnErr result (self.new ≡ self.old) }
         ensures stage { (rule : Rule) (depth : ℕ) (opening : Tree) → IsStage rule depth self.old.root opening self.old.tree
             → IsStage rule depth self.old.root opening stage.now.tree
-            → IsStage rule depth self.new.root opening self.new.tree }
+            → IsStage rule depth self.old.root opening self.new.tree }
         ensures saved { (name : List ℕ) → P.begun keeper.old ≡ Some name
             → OnOk result (IsSaved (P.kept keeper.old name) (P.kept keeper.new name) self.new.tree) }
         ensures kept { (name : List ℕ) → P.begun keeper.old ≡ Some name
             → KeepsTree (P.kept keeper.new name) self.new.tree }
-        ensures kept_on { (name : List ℕ) → OnErr result (P.kept keeper.new name ≡ P.kept keeper.old name) }
+        ensures kept_on { (name : List ℕ) → P.begun keeper.old ≡ Some name
+            → OnErr result (P.kept keeper.new name ≡ P.kept keeper.old name) }
         ensures others { (name other : List ℕ) → P.begun keeper.old ≡ Some name
             → other ≢ name → P.kept keeper.new other ≡ P.kept keeper.old other }
         ensures begun { P.begun keeper.new ≡ P.begun keeper.old }
@@ -120,18 +124,25 @@ impl Campaign {
             → Rose (P.faults keeper.old) (P.faults keeper.new) }
         ensures counts_on { P.faults keeper.old ≤ P.faults keeper.new }
     {
-        let joined = self.join_with(alloc, stage)?;
-        let rows = new_rows(alloc, &self.paving, &joined)?;
-        keeper.save(&rows)?;
+        let joined = match self.join_with(alloc, stage) {
+            Ok(joined) => joined,
+            Err(refused) => return Err(refused),
+        };
+        let count = match keep_new(alloc, keeper, &self.paving, &joined) {
+            Ok(count) => count,
+            Err(refused) => return Err(refused),
+        };
         self.paving = joined;
-        Ok(rows.len())
+        Ok(count)
     }
 
+    #[tactic(auto, using(crate::proofs::Opening::joined_grows))]
     fn join_with(&self, alloc: Global, stage: &Paving) -> Result<Paving, SaveRefused>
         requires root { stage.now.root ≡ self.now.root }
         requires stages { AreStages self.now.root self.now.tree stage.now.tree }
         ensures root { IfOk result (λ p. p.root ≡ self.now.root) }
         ensures joined { IfOk result (λ p. IsJoin self.now.tree stage.now.tree p.tree) }
+        ensures grows { IfOk result (λ p. Grows self.now.tree p.tree) }
         ensures stage { (rule : Rule) (depth : ℕ) (opening : Tree) → IsStage rule depth self.now.root opening self.now.tree
             → IsStage rule depth self.now.root opening stage.now.tree
             → IfOk result (λ p. IsStage rule depth self.now.root opening p.tree) }
@@ -143,4 +154,35 @@ impl Campaign {
             Err(JoinRefused::Disagree { .. }) => unreachable!(),
         }
     }
+}
+
+// Keeps the rows of the nodes that are settled in a paving and were open in an earlier stage of it, and
+// answers their number.
+fn keep_new<P: Keeper>(
+    alloc: Global,
+    keeper: &mut P,
+    earlier: &Paving,
+    later: &Paving,
+) -> Result<u64, SaveRefused>
+    requires grows { Grows earlier.now.tree later.now.tree }
+    requires begun { IsSome (P.begun keeper.old) }
+    requires kept { (name : List ℕ) → P.begun keeper.old ≡ Some name
+        → KeepsTree (P.kept keeper.old name) earlier.now.tree }
+    ensures count { IfOk result (λ n. settled_count later.now.tree ≡ settled_count earlier.now.tree + n) }
+    ensures saved { (name : List ℕ) → P.begun keeper.old ≡ Some name
+        → OnOk result (IsSaved (P.kept keeper.old name) (P.kept keeper.new name) later.now.tree) }
+    ensures kept { (name : List ℕ) → P.begun keeper.old ≡ Some name
+        → OnOk result (KeepsTree (P.kept keeper.new name) later.now.tree) }
+    ensures unchanged { (name : List ℕ) → P.begun keeper.old ≡ Some name
+        → OnErr result (P.kept keeper.new name ≡ P.kept keeper.old name) }
+    ensures others { (name other : List ℕ) → P.begun keeper.old ≡ Some name
+        → other ≢ name → P.kept keeper.new other ≡ P.kept keeper.old other }
+    ensures begun { P.begun keeper.new ≡ P.begun keeper.old }
+    ensures cause { IsErrOf result SaveRefused.Failed
+        → Rose (P.faults keeper.old) (P.faults keeper.new) }
+    ensures counts_on { P.faults keeper.old ≤ P.faults keeper.new }
+{
+    let rows = new_rows(alloc, earlier, later)?;
+    keeper.save(&rows)?;
+    Ok(rows.len())
 }

@@ -115,7 +115,8 @@ pub trait Keeper {
             → OnOk result (AreAll (kept self.old name) limit into.new) }
         ensures too_many { (name : List ℕ) → begun self.old ≡ Some name
             → IsErrOf result LoadRefused.TooMany → AreTooMany (kept self.old name) limit into.new }
-        ensures ordered { (name : List ℕ) → begun self.old ≡ Some name → IsOrdered (kept self.old name) }
+        ensures ordered { (name : List ℕ) → begun self.old ≡ Some name
+            → OnOk result (IsOrdered (kept self.old name)) }
         ensures empty_failed { IsErrOf result LoadRefused.Failed → into.new ≡ [] }
         ensures empty_memory { IsErrOf result LoadRefused.Memory → into.new ≡ [] }
         ensures begun { begun self.new ≡ begun self.old }
@@ -132,7 +133,8 @@ pub trait Keeper {
         requires new { (name : List ℕ) → begun self.old ≡ Some name → MayBeNew (kept self.old name) rows.now }
         ensures saved { (name : List ℕ) → begun self.old ≡ Some name
             → OnOk result (kept self.new name ≡ with_rows (kept self.old name) rows.now) }
-        ensures unchanged { (name : List ℕ) → OnErr result (kept self.new name ≡ kept self.old name) }
+        ensures unchanged { (name : List ℕ) → begun self.old ≡ Some name
+            → OnErr result (kept self.new name ≡ kept self.old name) }
         ensures others { (name other : List ℕ) → begun self.old ≡ Some name
             → other ≢ name → kept self.new other ≡ kept self.old other }
         ensures begun { begun self.new ≡ begun self.old }

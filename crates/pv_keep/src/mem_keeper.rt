@@ -81,6 +81,37 @@ fn find_or_add(
     Ok(())
 }
 
+fn shelf_of<'a>(shelves: &'a BTreeMap<String, Shelf>, name: &str) -> &'a Shelf
+    requires { MayBeThere (content_of shelves.now name.now) }
+    ensures { content_of shelves.now name.now ≡ holds result.now.identity result.now.rows }
+{
+    match shelves.get(name) {
+        Some(shelf) => shelf,
+        None => unreachable!(),
+    }
+}
+
+// Puts further rows on the shelf under a name.
+fn add_rows(
+    alloc: Global,
+    shelves: &mut BTreeMap<String, Shelf>,
+    name: &str,
+    rows: &Rows,
+) -> Result<(), Memory>
+    requires there { MayBeThere (content_of shelves.old name.now) }
+    requires distinct { AreDistinct rows.now }
+    requires new { MayBeNew (content_of shelves.old name.now) rows.now }
+    ensures added { OnOk result (content_of shelves.new name.now ≡ with_rows (content_of shelves.old name.now) rows.now) }
+    ensures refused { OnErr result (content_of shelves.new name.now ≡ content_of shelves.old name.now) }
+    ensures others { (other : List ℕ)
+        → other ≢ name.now → content_of shelves.new other ≡ content_of shelves.old other }
+{
+    match shelves.get_mut(name) {
+        Some(shelf) => shelf.rows.add(alloc, rows),
+        None => unreachable!(),
+    }
+}
+
 impl MemKeeper {
     /// A keeper that keeps nothing. Its calls are numbered from 0, and those in the list fail.
     pub fn new(alloc: Global, fail: Vec<u64>) -> MemKeeper
@@ -104,6 +135,8 @@ impl MemKeeper {
         ensures begun { begun_in self.new ≡ begun_in self.old }
         ensures turns { turns_of self.new ≡ advanced (turns_of self.old) }
         ensures faults { faults_of self.new ≡ one_more (faults_of self.old) }
+        ensures rose { Rose (faults_of self.old) (faults_of self.new) }
+        ensures counts_on { faults_of self.old ≤ faults_of self.new }
     {
         self.script.advance();
         self.faults = self.faults.saturating_add(1);
@@ -177,7 +210,8 @@ impl Keeper for MemKeeper {
             → OnOk result (AreAll (kept_in self.old name) limit into.new) }
         ensures too_many { (name : List ℕ) → begun_in self.old ≡ Some name
             → IsErrOf result LoadRefused.TooMany → AreTooMany (kept_in self.old name) limit into.new }
-        ensures ordered { (name : List ℕ) → begun_in self.old ≡ Some name → IsOrdered (kept_in self.old name) }
+        ensures ordered { (name : List ℕ) → begun_in self.old ≡ Some name
+            → OnOk result (IsOrdered (kept_in self.old name)) }
         ensures empty_failed { IsErrOf result LoadRefused.Failed → into.new ≡ [] }
         ensures empty_memory { IsErrOf result LoadRefused.Memory → into.new ≡ [] }
         ensures begun { begun_in self.new ≡ begun_in self.old }
@@ -199,9 +233,7 @@ impl Keeper for MemKeeper {
         let Some(name) = &self.begun else {
             unreachable!()
         };
-        let Some(shelf) = self.shelves.get(name.as_str()) else {
-            unreachable!()
-        };
+        let shelf = shelf_of(&self.shelves, name.as_str());
         let answer = shelf.rows.load(self.alloc, limit, into);
         if answer != Err(LoadRefused::Memory) {
             self.script.advance();
@@ -216,7 +248,8 @@ impl Keeper for MemKeeper {
         requires new { (name : List ℕ) → begun_in self.old ≡ Some name → MayBeNew (kept_in self.old name) rows.now }
         ensures saved { (name : List ℕ) → begun_in self.old ≡ Some name
             → OnOk result (kept_in self.new name ≡ with_rows (kept_in self.old name) rows.now) }
-        ensures unchanged { (name : List ℕ) → OnErr result (kept_in self.new name ≡ kept_in self.old name) }
+        ensures unchanged { (name : List ℕ) → begun_in self.old ≡ Some name
+            → OnErr result (kept_in self.new name ≡ kept_in self.old name) }
         ensures others { (name other : List ℕ) → begun_in self.old ≡ Some name
             → other ≢ name → kept_in self.new other ≡ kept_in self.old other }
         ensures begun { begun_in self.new ≡ begun_in self.old }
@@ -237,10 +270,7 @@ impl Keeper for MemKeeper {
         let Some(name) = &self.begun else {
             unreachable!()
         };
-        let Some(shelf) = self.shelves.get_mut(name.as_str()) else {
-            unreachable!()
-        };
-        shelf.rows.add(self.alloc, rows)?;
+        add_rows(self.alloc, &mut self.shelves, name.as_str(), rows)?;
         self.script.advance();
         Ok(())
     }

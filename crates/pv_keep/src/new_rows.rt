@@ -1,12 +1,12 @@
 //! The rows of nodes that a round settled.
-ghost use Rattle.std.specs.Prelude.{◌≡◌, ◌+◌, ◌<◌, ◌≤◌, ◌++◌, [], IfOk, IfSome, IsSome, OnOk, Some, length, drop};
+ghost use Rattle.std.specs.Prelude.{◌≡◌, ◌+◌, ◌^◌, ◌<◌, ◌≤◌, ◌++◌, [], IfOk, IfSome, IsSome, OnOk, Some, length, drop};
 ghost use Rattle.pv_tree.specs.Trees.{top, to_at, shape_of};
 ghost use Rattle.pv_tree.specs.Pieces.{IsPiece};
 ghost use Rattle.pv_tree.specs.Stages.{Grows};
 ghost use Rattle.pv_file.specs.Lines.{outcome_line};
 ghost use Rattle.pv_file.specs.Readings.{HaveNumberEnds};
 ghost use Rattle.pv_keep.specs.Rows.{IsShuffle, rows_of, row_of};
-ghost use Rattle.pv_keep.specs.Beside.{Passes, kids_of_shape};
+ghost use Rattle.pv_keep.specs.Beside.{Passes, with_kids};
 
 use crate::line::Line;
 use crate::row::{Row, Rows};
@@ -24,7 +24,8 @@ pub(crate) fn new_rows(alloc: Global, earlier: &Paving, later: &Paving) -> Resul
     requires { Grows earlier.now.tree later.now.tree }
     ensures { IfOk result (λ rows. IsShuffle (rows_of earlier.now.tree) rows (rows_of later.now.tree)) }
 {
-    let (dims, _counts) = (later.dims(), later.counts());
+    let dims = later.dims();
+    let _counts = later.counts();
     let mut rows = Rows::new(alloc);
     let mut old = Walk::of(alloc, earlier)?;
     let mut new = Walk::of(alloc, later)?;
@@ -32,7 +33,7 @@ pub(crate) fn new_rows(alloc: Global, earlier: &Paving, later: &Paving) -> Resul
     let mut below = 0u64;
     while let Some(shape) = new.next() {
         if pass_old(&mut old, below) {
-            below = below.saturating_sub(1) + children_of(shape);
+            below = with_children(&shape, below.saturating_sub(1));
             push_settled(alloc, &new, shape, dims, &mut rows)?;
         }
     }
@@ -50,12 +51,14 @@ fn pass_old(old: &mut Walk<'_>, below: u64) -> bool
     matches!(old.next(), Some(Shape::OpenLeaf))
 }
 
-fn children_of(shape: Shape) -> u64
-    ensures { result ≡ kids_of_shape shape }
+// So many nodes, and the children of one.
+fn with_children(shape: &Shape, count: u64) -> u64
+    requires { count + 2 < 2 ^ 64 }
+    ensures { result ≡ with_kids shape.now count }
 {
     match shape {
-        Shape::Cut { .. } => 2,
-        Shape::Absent | Shape::OpenLeaf | Shape::Removed | Shape::Inner | Shape::Small => 0,
+        Shape::Cut { .. } => count + 2,
+        Shape::Absent | Shape::OpenLeaf | Shape::Removed | Shape::Inner | Shape::Small => count,
     }
 }
 
@@ -70,6 +73,8 @@ fn push_settled(
     requires shape { shape ≡ shape_of (Some walk.now.here.tree) }
     requires piece { IsPiece walk.now.root walk.now.tree walk.now.here }
     requires dims { dims ≡ length walk.now.root }
+    requires some { 0 < dims }
+    requires few { dims ≤ 12 }
     ensures { OnOk result (rows.new ≡ rows.old ++ row_of walk.now.here.path (top walk.now.here.tree)) }
 {
     let Some(outcome) = outcome_here(alloc, walk, shape, dims)? else {
@@ -107,6 +112,8 @@ fn outcome_here(
     requires shape { shape ≡ shape_of (Some walk.now.here.tree) }
     requires piece { IsPiece walk.now.root walk.now.tree walk.now.here }
     requires dims { dims ≡ length walk.now.root }
+    requires some { 0 < dims }
+    requires few { dims ≤ 12 }
     ensures top { IfOk result (λ found. found ≡ top walk.now.here.tree) }
     ensures short { IfOk result (λ found. IfSome found (λ o. length (outcome_line o) ≤ 660)) }
 {
@@ -133,6 +140,8 @@ fn outcome_here(
 fn kept_here(alloc: Global, walk: &Walk<'_>, dims: u8) -> Result<IBox, Memory>
     requires there { IsSome (to_at walk.now.here.tree []) }
     requires dims { dims ≡ length walk.now.root }
+    requires some { 0 < dims }
+    requires few { dims ≤ 12 }
     ensures is { IfOk result (λ to. to_at walk.now.here.tree [] ≡ Some to) }
     ensures few { IfOk result (λ to. length to ≤ 12) }
     ensures numbers { IfOk result (λ to. HaveNumberEnds to) }
