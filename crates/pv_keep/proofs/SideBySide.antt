@@ -1,10 +1,9 @@
 -- Walks over two trees side by side, one of which grew from the other, give the rows that are new.
 use Rattle.std.proofs.Common.{◌≡◌, ℕ, zero, suc, ◌+◌, ◌-◌, ◌<◌, ◌≤◌, ◌^◌, Bool, true, false, List, [], ◌∷◌, ◌++◌, length, Option, Some, None, refl, sym, ◌∙◌, ap, subst, inl, inr, arith, append_assoc, append-nil}
 use Rattle.pv_interval.specs.Bounds.{Bounds}
-use Rattle.pv_tree.specs.Trees.{Tree, leaf, removed, inner, small, cut, top, outcome_at, shape_of, counts_of, settled_of, to_at, Paves}
+use Rattle.pv_tree.specs.Trees.{Tree, leaf, removed, inner, small, cut, top, outcome_at, shape_of, counts_of, settled_of, to_at, Paves, IsStrictlyInside}
 use Rattle.pv_tree.specs.declared.outcome.Shape.TheVariants as shape
 use Rattle.pv_num.specs.Extended.{Extended}
-use Rattle.pv_file.proofs.Places.{strictly_there}
 use Rattle.pv_tree.specs.Stages.{Grows}
 use Rattle.pv_tree.specs.Pieces.{Piece, Walked, IsVisit, walk_from, root_piece, children_of, to_come, all_nodes}
 use Rattle.pv_tree.specs.declared.outcome.Outcome.{Outcome}
@@ -281,6 +280,11 @@ grown_old earlier later so_far n new new' seen old old' b v h p t =
     let here : IsBeside earlier later so_far n (new'.here ∷ v.rest) old.pending = subst (λ (ns : List Piece). IsBeside earlier later so_far n ns old.pending) v.was h in
     subst (λ (ns : List Piece). IsBeside earlier later so_far n ns old'.pending) (sym v.pending)
     (old_from earlier later so_far n new'.here v.rest old.pending old'.pending here (zeros_of n old old' false p') (never_old n old old' p'))
+
+strictly_there : (a : Extended) (v : ℕ) (b : List Bounds) → IsStrictlyInside a v b → v < length b
+strictly_there a v [] h = absurd h
+strictly_there a zero (x ∷ xs) h = omega arith
+strictly_there a (suc v) (x ∷ xs) h = omega (arith, strictly_there a v xs h)
 
 pub cut_var : (b : List Bounds) (t : Tree) (var : ℕ) (at : Extended) (to : List Bounds) → Paves b t → shape.Cut var at ≡ shape_of (Some t) → to_at t [] ≡ Some to → length to ≤ 12 → var < 12
 cut_var b leaf var at to h e f l = cc
