@@ -47,13 +47,21 @@ settled_shuffle p removed (b ∷ q) o h = cc
 settled_shuffle p (inner to) (b ∷ q) o h = cc
 settled_shuffle p (small to) (b ∷ q) o h = cc
 settled_shuffle p (cut to var at low high) (false ∷ q) o h =
-    inl (_, refl, shuffle_append (rows_below (p ++ false ∷ []) low) (row_at (p ++ false ∷ q) o ∷ []) (rows_below (p ++ false ∷ []) (graft low q (settled o)))
-    (rows_below (p ++ true ∷ []) high) [] (rows_below (p ++ true ∷ []) high)
-    (moved p false q o _ _ (settled_shuffle (p ++ false ∷ []) low q o h)) (shuffle_first (rows_below (p ++ true ∷ []) high)))
+    inl (
+      _,
+      refl,
+      shuffle_append (rows_below (p ++ false ∷ []) low) (row_at (p ++ false ∷ q) o ∷ []) (rows_below (p ++ false ∷ []) (graft low q (settled o)))
+          (rows_below (p ++ true ∷ []) high) [] (rows_below (p ++ true ∷ []) high)
+          (moved p false q o _ _ (settled_shuffle (p ++ false ∷ []) low q o h)) (shuffle_first (rows_below (p ++ true ∷ []) high)),
+    )
 settled_shuffle p (cut to var at low high) (true ∷ q) o h =
-    inl (_, refl, shuffle_append (rows_below (p ++ false ∷ []) low) [] (rows_below (p ++ false ∷ []) low)
-    (rows_below (p ++ true ∷ []) high) (row_at (p ++ true ∷ q) o ∷ []) (rows_below (p ++ true ∷ []) (graft high q (settled o)))
-    (shuffle_first (rows_below (p ++ false ∷ []) low)) (moved p true q o _ _ (settled_shuffle (p ++ true ∷ []) high q o h)))
+    inl (
+      _,
+      refl,
+      shuffle_append (rows_below (p ++ false ∷ []) low) [] (rows_below (p ++ false ∷ []) low)
+          (rows_below (p ++ true ∷ []) high) (row_at (p ++ true ∷ q) o ∷ []) (rows_below (p ++ true ∷ []) (graft high q (settled o)))
+          (shuffle_first (rows_below (p ++ false ∷ []) low)) (moved p true q o _ _ (settled_shuffle (p ++ true ∷ []) high q o h)),
+    )
 
 same_row : (row : Row) (o : Outcome) → row.line ≡ outcome_line o → row_at row.path o ≡ row
 same_row row o e = λ i. record { path = row.path; line = sym e i }

@@ -76,7 +76,7 @@ ordered_below p (small to) = (tt, tt)
 ordered_below p (cut to var at low high) = (
   behind_append p _ _ (behind_below p (p ++ false ∷ []) low (below_here p false)) (behind_below p (p ++ true ∷ []) high (below_here p true)),
   ordered_append _ _ (ordered_below (p ++ false ∷ []) low) (ordered_below (p ++ true ∷ []) high)
-  (across_below (p ++ false ∷ []) low _ (λ u. behind_below ((p ++ false ∷ []) ++ u) (p ++ true ∷ []) high (low_high p u))),
+      (across_below (p ++ false ∷ []) low _ (λ u. behind_below ((p ++ false ∷ []) ++ u) (p ++ true ∷ []) high (low_high p u))),
 )
 
 pub ordered_rows : (t : Tree) → InPreorder (rows_of t)

@@ -119,12 +119,7 @@ impl KeptRows {
     }
 
     /// Puts all rows into an empty list, or the first `limit + 1` where there are more than the limit.
-    pub(crate) fn load(
-        &self,
-        alloc: Global,
-        limit: u64,
-        into: &mut Rows,
-    ) -> Result<(), LoadRefused>
+    pub(crate) fn load(&self, alloc: Global, limit: u64, into: &mut Rows) -> Result<(), LoadRefused>
         requires { into.old ≡ [] }
         ensures all { OnOk result ((into.new ≡ self.now) × (length self.now ≤ limit)) }
         ensures too_many { IsErrOf result LoadRefused.TooMany

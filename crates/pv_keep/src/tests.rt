@@ -9,6 +9,7 @@ use std::alloc::Global;
 use std::test::Fail;
 
 const IDENTITY: [u8; 32] = [7; 32];
+
 const OTHER: [u8; 32] = [8; 32];
 
 // The paths as digits, and the lines, of all settled nodes in preorder.
@@ -31,7 +32,11 @@ fn path_of(digits: &str) -> Path {
     let mut path = Path::ROOT;
     for digit in digits.as_bytes() {
         if path.len() < 200 {
-            path = if *digit == b'1' { path.high() } else { path.low() };
+            path = if *digit == b'1' {
+                path.high()
+            } else {
+                path.low()
+            };
         }
     }
     path
@@ -87,10 +92,7 @@ fn holds_rows(
     Ok(true)
 }
 
-fn open(
-    alloc: Global,
-    keeper: &mut MemKeeper,
-) -> Result<Result<Campaign, CampaignRefused>, Fail> {
+fn open(alloc: Global, keeper: &mut MemKeeper) -> Result<Result<Campaign, CampaignRefused>, Fail> {
     Ok(Campaign::open(alloc, keeper, "k", IDENTITY, unit_box(alloc)?))
 }
 
