@@ -119,7 +119,8 @@ impl Graph {
     /// narrowed by the constraint. After `Empty`, and after want of memory, the box is as before.
     pub fn revise(&self, alloc: Global, bx: &mut IBox) -> Result<Revised, Memory>
         requires { length bx.old ≡ self.now.dims }
-        ensures answer { IfOk result (λ r. IsAnswer (revised (sides_of self.now) bx.old) r bx.old bx.new) }
+        ensures answer { IfOk result (λ r.
+            IsAnswer (revised (sides_of self.now) bx.old) r bx.old bx.new) }
         ensures unchanged { OnErr result (bx.new ≡ bx.old) }
         ensures within { AreWithin bx.new bx.old }
         ensures points { IfOk result (λ r. LosesNoPoint (sides_of self.now) r bx.old bx.new) }
@@ -131,7 +132,8 @@ impl Graph {
     /// As `revise`, with room that is kept.
     pub fn revise_in(&self, scratch: &mut Scratch, bx: &mut IBox) -> Result<Revised, Memory>
         requires { length bx.old ≡ self.now.dims }
-        ensures answer { IfOk result (λ r. IsAnswer (revised (sides_of self.now) bx.old) r bx.old bx.new) }
+        ensures answer { IfOk result (λ r.
+            IsAnswer (revised (sides_of self.now) bx.old) r bx.old bx.new) }
         ensures unchanged { OnErr result (bx.new ≡ bx.old) }
     {
         let judged = self.judge_in(scratch, bx)?;
@@ -146,7 +148,8 @@ impl Graph {
         steps: &mut Steps<L>,
     ) -> Result<Revised, Memory>
         requires { length bx.old ≡ self.now.dims }
-        ensures answer { IfOk result (λ r. IsAnswer (revised (sides_of self.now) bx.old) r bx.old bx.new) }
+        ensures answer { IfOk result (λ r.
+            IsAnswer (revised (sides_of self.now) bx.old) r bx.old bx.new) }
         ensures unchanged { OnErr result (bx.new ≡ bx.old) }
         ensures counted { steps.new ≡ steps.old + 1 }
     {
@@ -161,7 +164,8 @@ impl Graph {
         steps: &mut Steps<L>,
     ) -> Result<Revised, Memory>
         requires { length bx.old ≡ self.now.dims }
-        ensures answer { IfOk result (λ r. IsAnswer (revised (sides_of self.now) bx.old) r bx.old bx.new) }
+        ensures answer { IfOk result (λ r.
+            IsAnswer (revised (sides_of self.now) bx.old) r bx.old bx.new) }
         ensures unchanged { OnErr result (bx.new ≡ bx.old) }
         ensures counted { steps.new ≡ steps.old + 1 }
     {

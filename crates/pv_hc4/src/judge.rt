@@ -54,7 +54,8 @@ impl Graph {
     /// became narrower.
     pub fn judge_in(&self, scratch: &mut Scratch, bx: &mut IBox) -> Result<Judged, Memory>
         requires { length bx.old ≡ self.now.dims }
-        ensures answer { IfOk result (λ r. IsAnswer (revised (sides_of self.now) bx.old) (revised_by r) bx.old bx.new) }
+        ensures answer { IfOk result (λ r.
+            IsAnswer (revised (sides_of self.now) bx.old) (revised_by r) bx.old bx.new) }
         ensures sure { IfOk result (λ r. is_sure_by r ≡ sure_of (sides_of self.now) bx.old) }
         ensures changed { IfOk result (λ r. MarksChanged r bx.old bx.new) }
         ensures unchanged { OnErr result (bx.new ≡ bx.old) }
@@ -106,7 +107,8 @@ fn judge_sides(
     requires left_in { left < length nodes.now }
     requires right_in { right < length nodes.now }
     requires valued { AreValues bx.old nodes.now values.now }
-    ensures answer { IsAnswer (narrowed_of bx.old (term_at (terms nodes.now) left) (term_at (terms nodes.now) right) both) (revised_by result) bx.old bx.new }
+    ensures answer { IsAnswer (narrowed_of bx.old (term_at (terms nodes.now) left)
+        (term_at (terms nodes.now) right) both) (revised_by result) bx.old bx.new }
     ensures unsure { is_sure_by result ≡ false }
     ensures changed { MarksChanged result bx.old bx.new }
 {

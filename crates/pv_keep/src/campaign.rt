@@ -65,7 +65,8 @@ impl Campaign {
             → HasTooMany (P.kept keeper.old name.now) identity }
         ensures bad_row { (n : ℕ) → result ≡ Err (CampaignRefused.BadRow n)
             → HasBadRow (P.kept keeper.old name.now) identity root n }
-        ensures left { OnErr result (IsLeft (P.kept keeper.old name.now) (P.kept keeper.new name.now) identity) }
+        ensures left { OnErr result
+            (IsLeft (P.kept keeper.old name.now) (P.kept keeper.new name.now) identity) }
         ensures others { (other : List ℕ)
             → other ≢ name.now → P.kept keeper.new other ≡ P.kept keeper.old other }
         ensures cause { IsErrOf result CampaignRefused.Failed
@@ -100,13 +101,15 @@ impl Campaign {
     ) -> Result<u64, SaveRefused>
         requires root { stage.now.root ≡ self.old.root }
         requires stages { AreStages self.old.root self.old.tree stage.now.tree }
-        requires few { (t : Tree) → IsJoin self.old.tree stage.now.tree t → settled_count t ≤ 100000 }
+        requires few { (t : Tree) → IsJoin self.old.tree stage.now.tree t →
+            settled_count t ≤ 100000 }
         requires begun { IsSome (P.begun keeper.old) }
         requires kept { (name : List ℕ) → P.begun keeper.old ≡ Some name
             → KeepsTree (P.kept keeper.old name) self.old.tree }
         ensures root { self.new.root ≡ self.old.root }
         ensures joined { OnOk result (IsJoin self.old.tree stage.now.tree self.new.tree) }
-        ensures count { IfOk result (λ n. settled_count self.new.tree ≡ settled_count self.old.tree + n) }
+        ensures count { IfOk result (λ n. settled_count self.new.tree ≡
+            settled_count self.old.tree + n) }
         ensures unchanged { OnErr result (self.new ≡ self.old) }
         ensures stage { (rule : Rule) (depth : ℕ) (opening : Tree) → IsStage rule depth self.old.root opening self.old.tree
             → IsStage rule depth self.old.root opening stage.now.tree
@@ -168,7 +171,8 @@ fn keep_new<P: Keeper>(
     requires begun { IsSome (P.begun keeper.old) }
     requires kept { (name : List ℕ) → P.begun keeper.old ≡ Some name
         → KeepsTree (P.kept keeper.old name) earlier.now.tree }
-    ensures count { IfOk result (λ n. settled_count later.now.tree ≡ settled_count earlier.now.tree + n) }
+    ensures count { IfOk result (λ n. settled_count later.now.tree ≡
+        settled_count earlier.now.tree + n) }
     ensures saved { (name : List ℕ) → P.begun keeper.old ≡ Some name
         → OnOk result (IsSaved (P.kept keeper.old name) (P.kept keeper.new name) later.now.tree) }
     ensures kept { (name : List ℕ) → P.begun keeper.old ≡ Some name

@@ -94,14 +94,16 @@ pub trait Keeper {
     /// and no rows. After a refusal no name is begun.
     fn begin(&mut self, name: &str, identity: [u8; 32]) -> Result<(), BeginRefused>
         ensures begun { OnOk result (begun self.new ≡ Some name.now) }
-        ensures there { OnOk result (IsBegun (kept self.old name.now) (kept self.new name.now) identity) }
+        ensures there { OnOk result
+            (IsBegun (kept self.old name.now) (kept self.new name.now) identity) }
         ensures other { (found : List ℕ) → result ≡ Err (BeginRefused.OtherIdentity found)
             → HasOther (kept self.old name.now) identity found }
         ensures none { OnErr result (begun self.new ≡ None) }
         ensures unchanged { OnErr result (kept self.new name.now ≡ kept self.old name.now) }
         ensures others { (other : List ℕ)
             → other ≢ name.now → kept self.new other ≡ kept self.old other }
-        ensures cause { IsErrOf result BeginRefused.Failed → Rose (faults self.old) (faults self.new) }
+        ensures cause { IsErrOf result BeginRefused.Failed →
+            Rose (faults self.old) (faults self.new) }
         ensures no_fault { IsErrOf result BeginRefused.Memory → faults self.new ≡ faults self.old }
         ensures counts_on { faults self.old ≤ faults self.new };
 
@@ -109,7 +111,8 @@ pub trait Keeper {
     /// there are more, the first `limit + 1` are put there, and every other refusal leaves the list empty.
     fn load(&mut self, limit: u64, into: &mut Rows) -> Result<(), LoadRefused>
         requires begun { IsSome (begun self.old) }
-        requires there { (name : List ℕ) → begun self.old ≡ Some name → MayBeThere (kept self.old name) }
+        requires there { (name : List ℕ) → begun self.old ≡ Some name →
+            MayBeThere (kept self.old name) }
         requires empty { into.old ≡ [] }
         ensures all { (name : List ℕ) → begun self.old ≡ Some name
             → OnOk result (AreAll (kept self.old name) limit into.new) }
@@ -121,16 +124,19 @@ pub trait Keeper {
         ensures empty_memory { IsErrOf result LoadRefused.Memory → into.new ≡ [] }
         ensures begun { begun self.new ≡ begun self.old }
         ensures unchanged { (name : List ℕ) → kept self.new name ≡ kept self.old name }
-        ensures cause { IsErrOf result LoadRefused.Failed → Rose (faults self.old) (faults self.new) }
+        ensures cause { IsErrOf result LoadRefused.Failed →
+            Rose (faults self.old) (faults self.new) }
         ensures no_fault { IsErrOf result LoadRefused.Memory → faults self.new ≡ faults self.old }
         ensures counts_on { faults self.old ≤ faults self.new };
 
     /// Keeps further rows of the name that is begun. After a refusal all rows are as before.
     fn save(&mut self, rows: &Rows) -> Result<(), KeepRefused>
         requires begun { IsSome (begun self.old) }
-        requires there { (name : List ℕ) → begun self.old ≡ Some name → MayBeThere (kept self.old name) }
+        requires there { (name : List ℕ) → begun self.old ≡ Some name →
+            MayBeThere (kept self.old name) }
         requires distinct { AreDistinct rows.now }
-        requires new { (name : List ℕ) → begun self.old ≡ Some name → MayBeNew (kept self.old name) rows.now }
+        requires new { (name : List ℕ) → begun self.old ≡ Some name →
+            MayBeNew (kept self.old name) rows.now }
         ensures saved { (name : List ℕ) → begun self.old ≡ Some name
             → OnOk result (kept self.new name ≡ with_rows (kept self.old name) rows.now) }
         ensures unchanged { (name : List ℕ) → begun self.old ≡ Some name
@@ -138,7 +144,8 @@ pub trait Keeper {
         ensures others { (name other : List ℕ) → begun self.old ≡ Some name
             → other ≢ name → kept self.new other ≡ kept self.old other }
         ensures begun { begun self.new ≡ begun self.old }
-        ensures cause { IsErrOf result KeepRefused.Failed → Rose (faults self.old) (faults self.new) }
+        ensures cause { IsErrOf result KeepRefused.Failed →
+            Rose (faults self.old) (faults self.new) }
         ensures no_fault { IsErrOf result KeepRefused.Memory → faults self.new ≡ faults self.old }
         ensures counts_on { faults self.old ≤ faults self.new };
 }

@@ -60,11 +60,13 @@ fn find_or_add(
     name: &str,
     identity: [u8; 32],
 ) -> Result<(), BeginRefused>
-    ensures there { OnOk result (IsBegun (content_of shelves.old name.now) (content_of shelves.new name.now) identity) }
+    ensures there { OnOk result (IsBegun (content_of shelves.old name.now)
+        (content_of shelves.new name.now) identity) }
     ensures other { (found : List ℕ) → result ≡ Err (BeginRefused.OtherIdentity found)
         → HasOther (content_of shelves.old name.now) identity found }
     ensures not_failed { result ≢ Err BeginRefused.Failed }
-    ensures unchanged { OnErr result (content_of shelves.new name.now ≡ content_of shelves.old name.now) }
+    ensures unchanged { OnErr result (content_of shelves.new name.now ≡
+        content_of shelves.old name.now) }
     ensures others { (other : List ℕ)
         → other ≢ name.now → content_of shelves.new other ≡ content_of shelves.old other }
 {
@@ -101,8 +103,10 @@ fn add_rows(
     requires there { MayBeThere (content_of shelves.old name.now) }
     requires distinct { AreDistinct rows.now }
     requires new { MayBeNew (content_of shelves.old name.now) rows.now }
-    ensures added { OnOk result (content_of shelves.new name.now ≡ with_rows (content_of shelves.old name.now) rows.now) }
-    ensures refused { OnErr result (content_of shelves.new name.now ≡ content_of shelves.old name.now) }
+    ensures added { OnOk result (content_of shelves.new name.now ≡
+        with_rows (content_of shelves.old name.now) rows.now) }
+    ensures refused { OnErr result (content_of shelves.new name.now ≡
+        content_of shelves.old name.now) }
     ensures others { (other : List ℕ)
         → other ≢ name.now → content_of shelves.new other ≡ content_of shelves.old other }
 {
@@ -145,7 +149,8 @@ impl MemKeeper {
     // Begins a name in a call that does not fail.
     fn begin_name(&mut self, name: &str, identity: [u8; 32]) -> Result<(), BeginRefused>
         ensures begun { OnOk result (begun_in self.new ≡ Some name.now) }
-        ensures there { OnOk result (IsBegun (kept_in self.old name.now) (kept_in self.new name.now) identity) }
+        ensures there { OnOk result
+            (IsBegun (kept_in self.old name.now) (kept_in self.new name.now) identity) }
         ensures other { (found : List ℕ) → result ≡ Err (BeginRefused.OtherIdentity found)
             → HasOther (kept_in self.old name.now) identity found }
         ensures not_failed { result ≢ Err BeginRefused.Failed }
@@ -173,15 +178,18 @@ impl Keeper for MemKeeper {
 
     fn begin(&mut self, name: &str, identity: [u8; 32]) -> Result<(), BeginRefused>
         ensures begun { OnOk result (begun_in self.new ≡ Some name.now) }
-        ensures there { OnOk result (IsBegun (kept_in self.old name.now) (kept_in self.new name.now) identity) }
+        ensures there { OnOk result
+            (IsBegun (kept_in self.old name.now) (kept_in self.new name.now) identity) }
         ensures other { (found : List ℕ) → result ≡ Err (BeginRefused.OtherIdentity found)
             → HasOther (kept_in self.old name.now) identity found }
         ensures none { OnErr result (begun_in self.new ≡ None) }
         ensures unchanged { OnErr result (kept_in self.new name.now ≡ kept_in self.old name.now) }
         ensures others { (other : List ℕ)
             → other ≢ name.now → kept_in self.new other ≡ kept_in self.old other }
-        ensures cause { IsErrOf result BeginRefused.Failed → Rose (faults_of self.old) (faults_of self.new) }
-        ensures no_fault { IsErrOf result BeginRefused.Memory → faults_of self.new ≡ faults_of self.old }
+        ensures cause { IsErrOf result BeginRefused.Failed →
+            Rose (faults_of self.old) (faults_of self.new) }
+        ensures no_fault { IsErrOf result BeginRefused.Memory → faults_of self.new ≡
+            faults_of self.old }
         ensures counts_on { faults_of self.old ≤ faults_of self.new }
 
         // Beyond what every keeper says: which calls fail, and what is counted.
@@ -204,7 +212,8 @@ impl Keeper for MemKeeper {
 
     fn load(&mut self, limit: u64, into: &mut Rows) -> Result<(), LoadRefused>
         requires begun { IsSome (begun_in self.old) }
-        requires there { (name : List ℕ) → begun_in self.old ≡ Some name → MayBeThere (kept_in self.old name) }
+        requires there { (name : List ℕ) → begun_in self.old ≡ Some name →
+            MayBeThere (kept_in self.old name) }
         requires empty { into.old ≡ [] }
         ensures all { (name : List ℕ) → begun_in self.old ≡ Some name
             → OnOk result (AreAll (kept_in self.old name) limit into.new) }
@@ -216,8 +225,10 @@ impl Keeper for MemKeeper {
         ensures empty_memory { IsErrOf result LoadRefused.Memory → into.new ≡ [] }
         ensures begun { begun_in self.new ≡ begun_in self.old }
         ensures unchanged { (name : List ℕ) → kept_in self.new name ≡ kept_in self.old name }
-        ensures cause { IsErrOf result LoadRefused.Failed → Rose (faults_of self.old) (faults_of self.new) }
-        ensures no_fault { IsErrOf result LoadRefused.Memory → faults_of self.new ≡ faults_of self.old }
+        ensures cause { IsErrOf result LoadRefused.Failed →
+            Rose (faults_of self.old) (faults_of self.new) }
+        ensures no_fault { IsErrOf result LoadRefused.Memory → faults_of self.new ≡
+            faults_of self.old }
         ensures counts_on { faults_of self.old ≤ faults_of self.new }
 
         // Beyond what every keeper says: which calls fail, and what is counted.
@@ -243,9 +254,11 @@ impl Keeper for MemKeeper {
 
     fn save(&mut self, rows: &Rows) -> Result<(), KeepRefused>
         requires begun { IsSome (begun_in self.old) }
-        requires there { (name : List ℕ) → begun_in self.old ≡ Some name → MayBeThere (kept_in self.old name) }
+        requires there { (name : List ℕ) → begun_in self.old ≡ Some name →
+            MayBeThere (kept_in self.old name) }
         requires distinct { AreDistinct rows.now }
-        requires new { (name : List ℕ) → begun_in self.old ≡ Some name → MayBeNew (kept_in self.old name) rows.now }
+        requires new { (name : List ℕ) → begun_in self.old ≡ Some name →
+            MayBeNew (kept_in self.old name) rows.now }
         ensures saved { (name : List ℕ) → begun_in self.old ≡ Some name
             → OnOk result (kept_in self.new name ≡ with_rows (kept_in self.old name) rows.now) }
         ensures unchanged { (name : List ℕ) → begun_in self.old ≡ Some name
@@ -253,8 +266,10 @@ impl Keeper for MemKeeper {
         ensures others { (name other : List ℕ) → begun_in self.old ≡ Some name
             → other ≢ name → kept_in self.new other ≡ kept_in self.old other }
         ensures begun { begun_in self.new ≡ begun_in self.old }
-        ensures cause { IsErrOf result KeepRefused.Failed → Rose (faults_of self.old) (faults_of self.new) }
-        ensures no_fault { IsErrOf result KeepRefused.Memory → faults_of self.new ≡ faults_of self.old }
+        ensures cause { IsErrOf result KeepRefused.Failed →
+            Rose (faults_of self.old) (faults_of self.new) }
+        ensures no_fault { IsErrOf result KeepRefused.Memory → faults_of self.new ≡
+            faults_of self.old }
         ensures counts_on { faults_of self.old ≤ faults_of self.new }
 
         // Beyond what every keeper says: which calls fail, and what is counted.

@@ -22,7 +22,8 @@ use std::alloc::Global;
 /// walked over once, side by side.
 pub(crate) fn new_rows(alloc: Global, earlier: &Paving, later: &Paving) -> Result<Rows, Memory>
     requires { Grows earlier.now.tree later.now.tree }
-    ensures { IfOk result (λ rows. IsShuffle (rows_of earlier.now.tree) rows (rows_of later.now.tree)) }
+    ensures { IfOk result (λ rows.
+        IsShuffle (rows_of earlier.now.tree) rows (rows_of later.now.tree)) }
 {
     let dims = later.dims();
     let _counts = later.counts();
@@ -75,7 +76,8 @@ fn push_settled(
     requires dims { dims ≡ length walk.now.root }
     requires some { 0 < dims }
     requires few { dims ≤ 12 }
-    ensures { OnOk result (rows.new ≡ rows.old ++ row_of walk.now.here.path (top walk.now.here.tree)) }
+    ensures { OnOk result (rows.new ≡
+        rows.old ++ row_of walk.now.here.path (top walk.now.here.tree)) }
 {
     let Some(outcome) = outcome_here(alloc, walk, shape, dims)? else {
         return Ok(());

@@ -21,7 +21,8 @@ pub(crate) fn rebuild(alloc: Global, rows: &Rows, root: IBox) -> Result<Paving, 
     ensures made { IfOk result (λ p. Make root leaf rows.now p.tree) }
     ensures rows { InPreorder rows.now → IfOk result (λ p. rows.now ≡ rows_of p.tree) }
     ensures count { IfOk result (λ p. settled_count p.tree ≡ length rows.now) }
-    ensures bad { InPreorder rows.now → (n : _) → result ≡ Err (CampaignRefused.BadRow n) → IsFirstBad root rows.now n }
+    ensures bad { InPreorder rows.now → (n : _) → result ≡ Err (CampaignRefused.BadRow n) →
+        IsFirstBad root rows.now n }
     ensures not_failed { result ≢ Err CampaignRefused.Failed }
     ensures not_many { result ≢ Err CampaignRefused.TooMany }
     ensures not_other { (kept : _) → result ≢ Err (CampaignRefused.OtherIdentity kept) }

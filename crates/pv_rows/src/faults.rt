@@ -197,7 +197,11 @@ fn out_fails(rt: &impl Abort, alloc: Global, case: &Case, number: u64) -> Result
     are_kept(rt, alloc, words, &mut answer.folder)?;
     is_written(rt, alloc, case, &mut answer.folder, true)?;
     if answer.status.code() == case.status {
-        assert_eq!(rt; answer.out.bytes(), case.out.as_bytes(), "{words}: {number}");
+        assert_eq!(rt;
+            answer.out.bytes(),
+            case.out.as_bytes(),
+            "{words}: {number}"
+        );
         return Ok(false);
     }
     assert_eq!(rt; answer.status.code(), 6, "{words}: {number}");
