@@ -204,9 +204,22 @@ fn forward_values(
     values: &mut [Interval],
     bx: &IBox,
 ) -> Option<Forward>
-    requires graph { IsGraph (record { nodes = nodes.now; left = left; relation = relation; right = right; dims = length bx.now }) }
+    requires graph { IsGraph (record {
+      nodes = nodes.now;
+      left = left;
+      relation = relation;
+      right = right;
+      dims = length bx.now;
+    }) }
     requires ready { AreReady nodes.now values.old }
-    ensures { result ≡ forward_sides (sides_of (record { nodes = nodes.now; left = left; relation = relation; right = right; dims = length bx.now })) bx.now }
+    ensures { result ≡ forward_sides
+        (sides_of (record {
+          nodes = nodes.now;
+          left = left;
+          relation = relation;
+          right = right;
+          dims = length bx.now;
+        })) bx.now }
 {
     if !forward_all(nodes, bx, values) {
         return None;

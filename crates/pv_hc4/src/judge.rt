@@ -137,9 +137,22 @@ fn is_sure(
     right: usize,
     bx: &IBox,
 ) -> bool
-    requires graph { IsGraph (record { nodes = nodes.now; left = left; relation = relation; right = right; dims = length bx.now }) }
+    requires graph { IsGraph (record {
+      nodes = nodes.now;
+      left = left;
+      relation = relation;
+      right = right;
+      dims = length bx.now;
+    }) }
     requires valued { AreValues bx.now nodes.now values.now }
-    ensures { result ≡ sure_of (sides_of (record { nodes = nodes.now; left = left; relation = relation; right = right; dims = length bx.now })) bx.now }
+    ensures { result ≡ sure_of (sides_of
+        (record {
+          nodes = nodes.now;
+          left = left;
+          relation = relation;
+          right = right;
+          dims = length bx.now;
+        })) bx.now }
 {
     let _dims = bx.dims();
     decides(relation, values[left], values[right]) && is_total(nodes, values, bx)
@@ -154,7 +167,13 @@ fn may_rest(
     right: usize,
     bx: &IBox,
 ) -> bool
-    requires graph { IsGraph (record { nodes = nodes.now; left = left; relation = relation; right = right; dims = length bx.now }) }
+    requires graph { IsGraph (record {
+      nodes = nodes.now;
+      left = left;
+      relation = relation;
+      right = right;
+      dims = length bx.now;
+    }) }
     requires valued { AreValues bx.now nodes.now values.now }
     ensures { MayRest result bx.now bx.now nodes.now }
 {
@@ -171,10 +190,30 @@ pub fn judge_values(
     values: &mut [Interval],
     bx: &mut IBox,
 ) -> Judged
-    requires graph { IsGraph (record { nodes = nodes.now; left = left; relation = relation; right = right; dims = length bx.old }) }
+    requires graph { IsGraph (record {
+      nodes = nodes.now;
+      left = left;
+      relation = relation;
+      right = right;
+      dims = length bx.old;
+    }) }
     requires ready { AreReady nodes.now values.old }
-    ensures answer { IsAnswer (revised (sides_of (record { nodes = nodes.now; left = left; relation = relation; right = right; dims = length bx.old })) bx.old) (revised_by result) bx.old bx.new }
-    ensures sure { is_sure_by result ≡ sure_of (sides_of (record { nodes = nodes.now; left = left; relation = relation; right = right; dims = length bx.old })) bx.old }
+    ensures answer { IsAnswer (revised
+        (sides_of (record {
+          nodes = nodes.now;
+          left = left;
+          relation = relation;
+          right = right;
+          dims = length bx.old;
+        })) bx.old) (revised_by result) bx.old bx.new }
+    ensures sure { is_sure_by result ≡
+        sure_of (sides_of (record {
+          nodes = nodes.now;
+          left = left;
+          relation = relation;
+          right = right;
+          dims = length bx.old;
+        })) bx.old }
     ensures changed { MarksChanged result bx.old bx.new }
 {
     let _dims = bx.dims();
