@@ -1,5 +1,5 @@
 -- What is a stage of a stage of an opening is a stage of that opening.
-use Rattle.std.proofs.Common.{◌≡◌, ℕ, suc, ◌-◌, true, false, Some, None, List, [], length, refl, sym, ◌∙◌, ap, subst}
+use Rattle.std.proofs.Common.{◌≡◌, ℕ, suc, ◌-◌, true, false, Some, None, List, [], length, refl, sym, ◌∙◌, subst}
 use Rattle.pv_num.specs.Extended.{Extended}
 use Rattle.pv_interval.specs.Bounds.{Bounds}
 use Rattle.pv_interval.specs.Points.{Point}
@@ -7,7 +7,6 @@ use Rattle.pv_box.specs.Boxes.{IsBox, lower_half, upper_half}
 use Rattle.pv_tree.specs.Trees.{Tree, leaf, removed, inner, small, cut, Paves, Fits, KeepsBox}
 use Rattle.pv_tree.specs.Stages.{Rule, full_of, Grows, IsStage}
 use Rattle.pv_tree.specs.Laws.{IsLawful}
-use Rattle.pv_tree.specs.declared.outcome.Outcome.{Outcome}
 use Rattle.pv_tree.specs.declared.outcome.Outcome.TheVariants.{Removed, Inner, Small, Cut}
 use Rattle.pv_tree.proofs.Wholes.{half_length, within_length}
 use Rattle.pv_tree.proofs.StageLaws.{top_removed, top_inner, top_small, grows_low, grows_high, grows_leaf, grows_cut, grows_on, half_box, leaf_cut, top_leaf, full_of_cut}

@@ -1,5 +1,5 @@
 use Rattle.std.proofs.Common.{sym, subst}
-use Rattle.pv_tree.specs.Trees.{Tree, Paves}
+use Rattle.pv_tree.specs.Trees.{Paves}
 use Rattle.pv_tree.specs.Stages.{IsStage}
 use Rattle.pv_workers.specs.Pavings.{IsPaved}
 use Rattle.pv_workers.proofs.paving.pave.Goals as goal
