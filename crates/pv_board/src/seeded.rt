@@ -439,12 +439,7 @@ impl<N: Naming> Table<N> {
     }
 
     /// One random event.
-    fn event<S: Settler>(
-        &mut self,
-        alloc: Global,
-        settler: &S,
-        root: &IBox,
-    ) -> Result<bool, Memory>
+    fn event<S: Settler>(&mut self, alloc: Global, settler: &S, root: &IBox) -> Result<bool, Memory>
         requires rule { N.rule ≡ S.settle_of settler.now }
         requires depth { N.depth ≡ S.depth_of settler.now }
         requires dims { N.dims ≡ S.dims settler.now }
