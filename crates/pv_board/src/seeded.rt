@@ -1,15 +1,17 @@
 //! Random events on a board beside a plain list of leaves: all numbers are compared after each.
-ghost use Rattle.std.specs.Prelude.{◌≡◌, ◌+◌, ◌≤◌, length, IfOk};
+ghost use Rattle.std.specs.Prelude.{◌≡◌, ◌+◌, ◌≤◌, length, IfOk, IfSome, Some};
+ghost use Rattle.pv_tree.specs.Trees.{leaf, subtree};
 ghost use Rattle.pv_board.specs.Rules.{IsFitting};
 
 use crate::board::Board;
 use crate::naming::Naming;
+use crate::stages::{Absorbed, absorb_audited};
 use crate::ticket::{Look, Settled, Ticket};
 use pv_box::IBox;
 use pv_interval::Interval;
 use pv_num::{Memory, Num};
 use pv_sample::Above;
-use pv_tree::{Outcome, Path, Paving, Settler};
+use pv_tree::{Outcome, Path, Paving, Settler, Shape};
 use std::alloc::Global;
 use std::marker::Brand;
 use std::test::Fail;
@@ -26,6 +28,7 @@ struct PlainLeaf {
 struct Plain {
     leaves: Vec<PlainLeaf>,
     used: u64,
+    added: u64,
     left: u64,
     stopped: bool,
     steps: u64,
@@ -45,6 +48,43 @@ fn next(seed: u64) -> u64 {
     let a = seed ^ (seed << 13);
     let b = a ^ (a >> 7);
     b ^ (b << 17)
+}
+
+/// The open leaf that so many come in front of in preorder, or the last one.
+fn some_open(paving: &Paving, place: u64) -> Option<Path>
+    ensures { IfSome result (λ p. subtree paving.now.tree p ≡ Some leaf) }
+{
+    let mut path = paving.first_open()?;
+    for _ in 0..place {
+        match paving.next_open(path) {
+            Some(next) => path = next,
+            None => return Some(path),
+        }
+    }
+    Some(path)
+}
+
+/// A stage of an open box: random open leaves were settled.
+fn random_stage<S: Settler>(
+    alloc: Global,
+    settler: &S,
+    root: &IBox,
+    seed: u64,
+) -> Result<Paving, Memory>
+    requires dims { length root.now ≡ S.dims settler.now }
+    ensures root { IfOk result (λ p. p.root ≡ root.now) }
+{
+    let mut seed = seed;
+    let mut scratch = root.clone_of(alloc)?;
+    let mut stage = Paving::open(alloc, root.clone_of(alloc)?)?;
+    for _ in 0..40 {
+        seed = next(seed);
+        match some_open(&stage, seed % 16) {
+            Some(path) => stage.settle_leaf(alloc, settler, path, &mut scratch)?,
+            None => return Ok(stage),
+        }
+    }
+    Ok(stage)
 }
 
 /// The box [0,1] x [0,1].
@@ -152,6 +192,49 @@ impl Plain {
         }
     }
 
+    /// Adds the open leaves at and below a node of a stage, all of them free. Answers how many nodes are settled there.
+    fn add_below(&mut self, stage: &Paving, path: Path) -> Result<u64, Memory> {
+        match stage.shape_at(path) {
+            Shape::Absent => Ok(0),
+            Shape::OpenLeaf => {
+                self.leaves.push(PlainLeaf { path, issued: None })?;
+                Ok(0)
+            }
+            Shape::Removed | Shape::Inner | Shape::Small => Ok(1),
+            Shape::Cut { .. } => {
+                if path.len() >= 200 {
+                    return Ok(1);
+                }
+                let low = self.add_below(stage, path.low())?;
+                let high = self.add_below(stage, path.high())?;
+                Ok(low.wrapping_add(high).wrapping_add(1))
+            }
+        }
+    }
+
+    /// Puts what a stage has at a free leaf in the leaf's place. Answers how many nodes that settles.
+    fn absorb_at(&mut self, stage: &Paving, leaf: PlainLeaf) -> Result<u64, Memory> {
+        if leaf.issued.is_some() {
+            return Ok(0);
+        }
+        if let Shape::Absent = stage.shape_at(leaf.path) {
+            return Ok(0);
+        }
+        self.remove(leaf.path);
+        self.add_below(stage, leaf.path)
+    }
+
+    /// Puts what a stage has at the free leaves in their places. Answers how many nodes that settles.
+    fn absorb(&mut self, alloc: Global, stage: &Paving) -> Result<u64, Memory> {
+        let leaves = Vec::from_slice(alloc, self.leaves.as_slice())?;
+        let mut added = 0u64;
+        for i in 0..leaves.len() {
+            added = added.wrapping_add(self.absorb_at(stage, leaves[i])?);
+        }
+        self.added = self.added.wrapping_add(added);
+        Ok(added)
+    }
+
     /// Frees all leaves.
     fn recall(&mut self) {
         let (count, grants) = self.issued();
@@ -180,7 +263,7 @@ impl<N: Naming> Table<N> {
             && self.board.left() == self.plain.left
             && self.board.issued() == issued
             && units == BUDGET
-            && counts.settled() == self.plain.used
+            && counts.settled() == self.plain.used.wrapping_add(self.plain.added)
             && counts.open_leaves == self.plain.leaves.len() as u64
     }
 
@@ -334,12 +417,36 @@ impl<N: Naming> Table<N> {
         Ok(self.split(path, low, high)? && fresh)
     }
 
+    /// Absorbs a stage.
+    fn absorb<S: Settler>(
+        &mut self,
+        alloc: Global,
+        settler: &S,
+        root: &IBox,
+    ) -> Result<bool, Memory>
+        requires rule { N.rule ≡ S.settle_of settler.now }
+        requires depth { N.depth ≡ S.depth_of settler.now }
+        requires dims { N.dims ≡ S.dims settler.now }
+        requires opening { N.opening ≡ leaf }
+        requires root { root.now ≡ N.root }
+        requires places { length N.root ≡ N.dims }
+    {
+        self.seed = next(self.seed);
+        let stage = random_stage(alloc, settler, root, self.seed)?;
+        let added = self.plain.absorb(alloc, &stage)?;
+        let absorbed = absorb_audited(alloc, settler, &mut self.board, &stage)?;
+        Ok(absorbed == Absorbed::Added(added))
+    }
+
     /// One random event.
-    fn event<S: Settler>(&mut self, alloc: Global, settler: &S) -> Result<bool, Memory>
+    fn event<S: Settler>(&mut self, alloc: Global, settler: &S, root: &IBox) -> Result<bool, Memory>
         requires rule { N.rule ≡ S.settle_of settler.now }
         requires depth { N.depth ≡ S.depth_of settler.now }
         requires dims { N.dims ≡ S.dims settler.now }
         requires places { N.dims ≡ 2 }
+        requires opening { N.opening ≡ leaf }
+        requires root { root.now ≡ N.root }
+        requires root_places { length N.root ≡ N.dims }
     {
         self.seed = next(self.seed);
         match self.seed % 256 {
@@ -353,19 +460,29 @@ impl<N: Naming> Table<N> {
                 self.plain.steps = self.plain.steps.wrapping_add(1);
                 Ok(true)
             }
+            156..=158 => self.absorb(alloc, settler, root),
             _ => self.settle(alloc, settler),
         }
     }
 
     /// So many random events. Answers whether board and list agreed after each.
-    fn events<S: Settler>(&mut self, alloc: Global, settler: &S, n: u32) -> Result<bool, Memory>
+    fn events<S: Settler>(
+        &mut self,
+        alloc: Global,
+        settler: &S,
+        root: &IBox,
+        n: u32,
+    ) -> Result<bool, Memory>
         requires rule { N.rule ≡ S.settle_of settler.now }
         requires depth { N.depth ≡ S.depth_of settler.now }
         requires dims { N.dims ≡ S.dims settler.now }
         requires places { N.dims ≡ 2 }
+        requires opening { N.opening ≡ leaf }
+        requires root { root.now ≡ N.root }
+        requires root_places { length N.root ≡ N.dims }
     {
         for _ in 0..n {
-            if !self.event(alloc, settler)? || !self.agrees() {
+            if !self.event(alloc, settler, root)? || !self.agrees() {
                 return Ok(false);
             }
         }
@@ -390,9 +507,13 @@ fn plays<N: Naming, S: Settler>(
     requires fits { IsFitting N.rule N.depth N.dims }
     requires root { opening.root ≡ N.root }
     requires tree { opening.tree ≡ N.opening }
+    requires is_open { opening.tree ≡ leaf }
     requires budget { N.budget ≡ 3000 }
     requires places { length N.root ≡ N.dims }
 {
+    let _places = opening.dims();
+    let mut root = square(alloc)?;
+    opening.box_at(Path::root(), &mut root);
     let board = match Board::<N>::open(alloc, opening, BUDGET) {
         Ok(board) => board,
         Err(_) => return Ok(false),
@@ -405,6 +526,7 @@ fn plays<N: Naming, S: Settler>(
     let plain = Plain {
         leaves,
         used: 0,
+        added: 0,
         left: BUDGET,
         stopped: false,
         steps: 0,
@@ -415,10 +537,10 @@ fn plays<N: Naming, S: Settler>(
         tickets: Vec::new(alloc),
         seed: 88172645463325252,
     };
-    let first = table.events(alloc, settler, n)?;
+    let first = table.events(alloc, settler, &root, n)?;
     table.board.stop();
     table.plain.stopped = true;
-    Ok(table.events(alloc, settler, 200)? && first)
+    Ok(table.events(alloc, settler, &root, 200)? && first && table.plain.added > 0)
 }
 
 /// The same with the settler's own rule.
@@ -429,6 +551,7 @@ fn plays_with<S: Settler>(
     n: u32,
 ) -> Result<bool, Memory>
     requires root { length opening.root ≡ S.dims settler.now }
+    requires is_open { opening.tree ≡ leaf }
     requires dims { S.dims settler.now ≡ 2 }
 {
     plays::<Brand, S>(alloc, settler, opening, n)
