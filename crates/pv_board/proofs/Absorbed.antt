@@ -115,7 +115,7 @@ module _ (rule : Rule) (depth dims : ℕ) (root : List Bounds) (opening : Tree) 
       added_is = grows_settled p.tree t (subst (Grows p.tree) (sym e) (filled_grows p.tree with))
 
       module _ (q : Seen) (new : Leaves) (q_root : q.root ≡ p.root) (q_tree : q.tree ≡ t) (same_marks : marks_of new ≡ marks_of l) (same_left : new.left ≡ l.left) (same_stopped : new.stopped ≡ l.stopped)
-        (free : (f : List Bool → ℕ) → weigh f new.free.items ≡ weigh (λ x. weigh (λ q. f (x ++ q)) (opens (part_at t x))) l.free.items) where
+          (free : (f : List Bool → ℕ) → weigh f new.free.items ≡ weigh (λ x. weigh (λ q. f (x ++ q)) (opens (part_at t x))) l.free.items) where
         are_open : AreOpen new q.tree
         are_open f =
             let a = sums f in let b = free f in let c = ap (weigh (λ (m : Mark). f m.path)) same_marks in

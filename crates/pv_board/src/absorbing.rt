@@ -35,9 +35,11 @@ impl From<Memory> for AbsorbRefused {
 /// Puts what a stage has at an open leaf in the leaf's place.
 fn fill(alloc: Global, joined: &mut Paving, stage: &Paving, path: Path) -> Result<(), Memory>
     requires open { subtree joined.old.tree path ≡ Some leaf }
-    requires one_box { IsSome (subtree stage.now.tree path) → box_of joined.old.root joined.old.tree path ≡ box_of stage.now.root stage.now.tree path }
+    requires one_box { IsSome (subtree stage.now.tree path) →
+        box_of joined.old.root joined.old.tree path ≡ box_of stage.now.root stage.now.tree path }
     ensures root { joined.new.root ≡ joined.old.root }
-    ensures tree { OnOk result (joined.new.tree ≡ graft joined.old.tree path (part_at stage.now.tree path)) }
+    ensures tree { OnOk result (joined.new.tree ≡
+        graft joined.old.tree path (part_at stage.now.tree path)) }
 {
     if is_absent(stage.shape_at(path)) {
         return Ok(());
@@ -58,7 +60,8 @@ pub(crate) fn fill_all(
 ) -> Result<(), Memory>
     requires { CanFill joined.old stage.now free.now }
     ensures root { joined.new.root ≡ joined.old.root }
-    ensures tree { OnOk result (joined.new.tree ≡ filled joined.old.tree (filling stage.now.tree free.now)) }
+    ensures tree { OnOk result (joined.new.tree ≡
+        filled joined.old.tree (filling stage.now.tree free.now)) }
 {
     for i in 0..free.len() {
         fill(alloc, joined, stage, free[i])?;
@@ -73,7 +76,8 @@ pub(crate) fn leaves_below(
     nodes: &[Path],
 ) -> Result<Vec<Path>, Memory>
     requires { CanPileAll paving.now.tree nodes.now 100001 }
-    ensures leaves { IfOk result (λ v. (f : List Bool → ℕ) → weigh f v.items ≡ weigh (λ p. weigh (λ q. f (p ++ q)) (opens (part_at paving.now.tree p))) nodes.now) }
+    ensures leaves { IfOk result (λ v. (f : List Bool → ℕ) → weigh f v.items ≡
+        weigh (λ p. weigh (λ q. f (p ++ q)) (opens (part_at paving.now.tree p))) nodes.now) }
     ensures room { IfOk result (λ v. 100001 ≤ vec_capacity v) }
 {
     let _places = paving.dims();

@@ -48,7 +48,8 @@ impl<N: Naming> Model for Board<N> {
 impl<N: Naming> Board<N> {
     /// A board of a paving and its open leaves, with nothing used.
     pub(crate) fn of_parts(paving: Paving, leaves: Leaves) -> Board<N>
-        requires { IsBoard N.rule N.depth N.dims N.root N.opening N.budget (seen paving leaves 0 0) leaves }
+        requires { IsBoard N.rule N.depth N.dims N.root N.opening N.budget
+            (seen paving leaves 0 0) leaves }
         ensures { result ≡ seen paving leaves 0 0 }
     {
         Board {
@@ -127,12 +128,17 @@ impl<N: Naming> Board<N> {
     /// is issued if one more may be, and then the high child. It takes no memory.
     pub fn settle(&mut self, ticket: Ticket, outcome: Outcome) -> Settled
         requires there { IsSome (subtree (full_of N.rule N.depth N.root N.opening 0) ticket.path) }
-        requires due { outcome ≡ N.rule (box_of N.root (full_of N.rule N.depth N.root N.opening 0) ticket.path) (N.depth - length ticket.path) (length ticket.path) }
+        requires due { outcome ≡ N.rule
+            (box_of N.root (full_of N.rule N.depth N.root N.opening 0) ticket.path)
+            (N.depth - length ticket.path) (length ticket.path) }
         ensures fresh { result.fresh ≡ is_current self.old ticket }
-        ensures settled { IsTrue result.fresh → IsSettling self.old self.new ticket (settled outcome) (option_to_list result.low ++ option_to_list result.high) }
+        ensures settled { IsTrue result.fresh →
+            IsSettling self.old self.new ticket (settled outcome)
+            (option_to_list result.low ++ option_to_list result.high) }
         ensures low { IfSome result.low (λ t. t ≡ fresh (ticket.path ++ false ∷ [])) }
         ensures high { IfSome result.high (λ t. t ≡ fresh (ticket.path ++ true ∷ [])) }
-        ensures stale { result.fresh ≡ false → (self.new ≡ self.old) × (option_to_list result.low ++ option_to_list result.high ≡ []) }
+        ensures stale { result.fresh ≡ false → (self.new ≡ self.old) ×
+            (option_to_list result.low ++ option_to_list result.high ≡ []) }
         ensures rose { HasRisen self.old self.new (if result.fresh then 1 else 0) }
         ensures over { IsOver self.old → IsOver self.new }
     {
@@ -164,15 +170,19 @@ impl<N: Naming> Board<N> {
         children: &mut Batch<Ticket>,
     ) -> bool
         requires there { IsSome (subtree (full_of N.rule N.depth N.root N.opening 0) ticket.path) }
-        requires root { stage.now.root ≡ box_of N.root (full_of N.rule N.depth N.root N.opening 0) ticket.path }
-        requires stage { IsStageBelow N.rule N.depth stage.now.root (length ticket.path) stage.now.tree }
+        requires root { stage.now.root ≡
+            box_of N.root (full_of N.rule N.depth N.root N.opening 0) ticket.path }
+        requires stage { IsStageBelow N.rule N.depth stage.now.root
+            (length ticket.path) stage.now.tree }
         requires some { 1 ≤ settled_in stage.now.tree }
         requires few { settled_in stage.now.tree ≤ 1 + ticket.grant }
         requires empty { children.old ≡ [] }
         ensures current { result ≡ is_current self.old ticket }
-        ensures settled { IsTrue result → IsSettling self.old self.new ticket stage.now.tree children.new }
+        ensures settled { IsTrue result →
+            IsSettling self.old self.new ticket stage.now.tree children.new }
         ensures stale { result ≡ false → (self.new ≡ self.old) × (children.new ≡ []) }
-        ensures rose { HasRisen self.old self.new (if result then settled_in stage.now.tree else 0) }
+        ensures rose { HasRisen self.old self.new
+            (if result then settled_in stage.now.tree else 0) }
         ensures over { IsOver self.old → IsOver self.new }
     {
         let Some(slot) = self.leaves.find(&ticket) else {
@@ -209,9 +219,12 @@ impl<N: Naming> Board<N> {
     /// Moves units from what is left to a current ticket's grant: as many as are wanted and left, and none where the board was stopped.
     pub fn extend(&mut self, ticket: &mut Ticket, want: u64) -> u64
         requires { ticket.old.grant + want ≤ 15 }
-        ensures units { result ≡ (if is_current self.old ticket.old then min want (may_issue self.old) else 0) }
-        ensures extended { IsTrue (is_current self.old ticket.old) → IsExtend self.old self.new ticket.old ticket.new result }
-        ensures stale { is_current self.old ticket.old ≡ false → (self.new ≡ self.old) × (ticket.new ≡ ticket.old) }
+        ensures units { result ≡ (if is_current self.old ticket.old then min want
+            (may_issue self.old) else 0) }
+        ensures extended { IsTrue (is_current self.old ticket.old) →
+            IsExtend self.old self.new ticket.old ticket.new result }
+        ensures stale { is_current self.old ticket.old ≡ false → (self.new ≡ self.old) ×
+            (ticket.new ≡ ticket.old) }
         ensures rose { HasRisen self.old self.new 0 }
         ensures over { IsOver self.old → IsOver self.new }
     {
@@ -240,8 +253,10 @@ impl<N: Naming> Board<N> {
     pub fn box_of(&self, ticket: &Ticket, into: &mut IBox) -> bool
         requires dims { length into.old ≡ length self.now.root }
         ensures there { IsTrue result ↔ IsSome (subtree self.now.tree ticket.now.path) }
-        ensures is { IsTrue result → into.new ≡ box_of N.root (full_of N.rule N.depth N.root N.opening 0) ticket.now.path }
-        ensures in_full { IsTrue result → IsSome (subtree (full_of N.rule N.depth N.root N.opening 0) ticket.now.path) }
+        ensures is { IsTrue result → into.new ≡
+            box_of N.root (full_of N.rule N.depth N.root N.opening 0) ticket.now.path }
+        ensures in_full { IsTrue result →
+            IsSome (subtree (full_of N.rule N.depth N.root N.opening 0) ticket.now.path) }
         ensures same { result ≡ false → into.new ≡ into.old }
         ensures places { length into.new ≡ length into.old }
     {
@@ -277,7 +292,8 @@ impl<N: Naming> Board<N> {
     pub fn absorb(&mut self, alloc: Global, stage: &Paving) -> Result<u64, AbsorbRefused>
         requires root { stage.now.root ≡ N.root }
         requires stage { IsStage N.rule N.depth N.root N.opening stage.now.tree }
-        ensures absorbed { IfOk result (λ added. IsAbsorbed self.old self.new stage.now.tree added) }
+        ensures absorbed { IfOk result (λ added.
+            IsAbsorbed self.old self.new stage.now.tree added) }
         ensures refused { IfErr result (λ e. IsAbsorbRefusal self.old stage.now.tree e) }
         ensures same { OnErr result (self.new ≡ self.old) }
         ensures over { IsOver self.old → IsOver self.new }

@@ -16,7 +16,8 @@ fn deal_one(leaves: &mut Leaves, at: Path, children: &mut Batch<Ticket>)
     requires room { HasRoom leaves.old }
     requires batch { length children.old < 17 }
     ensures offered { AreOffered leaves.old leaves.new (at ∷ []) }
-    ensures tickets { children.new ≡ children.old ++ map fresh (take (free_units leaves.old.stopped leaves.old.left) (at ∷ [])) }
+    ensures tickets { children.new ≡
+        children.old ++ map fresh (take (free_units leaves.old.stopped leaves.old.left) (at ∷ [])) }
 {
     if let Some(ticket) = leaves.offer(at) {
         children.push(ticket);
@@ -32,10 +33,14 @@ pub(crate) fn deal(
     children: &mut Batch<Ticket>,
 )
     requires free { CanPile stage.now.tree path at (vec_len leaves.old.free) 100001 }
-    requires batch { (s : Tree) → subtree stage.now.tree path ≡ Some s → length children.old + length (opens s) ≤ 17 }
+    requires batch { (s : Tree) → subtree stage.now.tree path ≡ Some s →
+        length children.old + length (opens s) ≤ 17 }
     requires room { HasRoom leaves.old }
-    ensures offered { (s : Tree) → subtree stage.now.tree path ≡ Some s → AreOffered leaves.old leaves.new (listed at s) }
-    ensures tickets { (s : Tree) → subtree stage.now.tree path ≡ Some s → children.new ≡ children.old ++ map fresh (take (free_units leaves.old.stopped leaves.old.left) (listed at s)) }
+    ensures offered { (s : Tree) → subtree stage.now.tree path ≡ Some s →
+        AreOffered leaves.old leaves.new (listed at s) }
+    ensures tickets { (s : Tree) → subtree stage.now.tree path ≡ Some s → children.new ≡
+        children.old ++ map fresh (take (free_units leaves.old.stopped leaves.old.left)
+        (listed at s)) }
 {
     let _places = stage.dims();
     let shape = stage.shape_at(path);

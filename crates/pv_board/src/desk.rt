@@ -94,7 +94,9 @@ impl<N: Naming> Desk<N> {
     pub(crate) fn settle(&mut self, ticket: Ticket, outcome: Outcome, told: &mut Told<N>) -> Settled
         requires low { IsLow told.old }
         requires there { IsSome (subtree (full_of N.rule N.depth N.root N.opening 0) ticket.path) }
-        requires due { outcome ≡ N.rule (box_of N.root (full_of N.rule N.depth N.root N.opening 0) ticket.path) (N.depth - length ticket.path) (length ticket.path) }
+        requires due { outcome ≡ N.rule
+            (box_of N.root (full_of N.rule N.depth N.root N.opening 0) ticket.path)
+            (N.depth - length ticket.path) (length ticket.path) }
         ensures { told.new ≡ handed_in told.old (one_if result.fresh) (tickets_in result) }
     {
         let settled = self.board.settle(ticket, outcome);
@@ -111,12 +113,15 @@ impl<N: Naming> Desk<N> {
     ) -> bool
         requires low { IsLow told.old }
         requires there { IsSome (subtree (full_of N.rule N.depth N.root N.opening 0) ticket.path) }
-        requires root { stage.now.root ≡ box_of N.root (full_of N.rule N.depth N.root N.opening 0) ticket.path }
-        requires stage { IsStageBelow N.rule N.depth stage.now.root (length ticket.path) stage.now.tree }
+        requires root { stage.now.root ≡
+            box_of N.root (full_of N.rule N.depth N.root N.opening 0) ticket.path }
+        requires stage { IsStageBelow N.rule N.depth stage.now.root
+            (length ticket.path) stage.now.tree }
         requires some { 1 ≤ settled_in stage.now.tree }
         requires few { settled_in stage.now.tree ≤ 1 + ticket.grant }
         requires empty { children.old ≡ [] }
-        ensures { told.new ≡ handed_in told.old (if result then settled_in stage.now.tree else 0) (length children.new) }
+        ensures { told.new ≡ handed_in told.old (if result then settled_in stage.now.tree else 0)
+            (length children.new) }
     {
         let _grant = ticket.grant();
         let settled = stage.counts().settled();
@@ -145,8 +150,10 @@ impl<N: Naming> Desk<N> {
 
     pub(crate) fn box_of(&self, ticket: &Ticket, into: &mut IBox) -> bool
         requires dims { length into.old ≡ N.dims }
-        ensures is { IsTrue result → into.new ≡ box_of N.root (full_of N.rule N.depth N.root N.opening 0) ticket.now.path }
-        ensures in_full { IsTrue result → IsSome (subtree (full_of N.rule N.depth N.root N.opening 0) ticket.now.path) }
+        ensures is { IsTrue result → into.new ≡
+            box_of N.root (full_of N.rule N.depth N.root N.opening 0) ticket.now.path }
+        ensures in_full { IsTrue result →
+            IsSome (subtree (full_of N.rule N.depth N.root N.opening 0) ticket.now.path) }
         ensures same { result ≡ false → into.new ≡ into.old }
         ensures places { length into.new ≡ length into.old }
     {

@@ -52,7 +52,8 @@ impl Leaves {
     /// How many units are not used: those of the issued leaves with their grants, and those that are left.
     pub(crate) fn unused(&self) -> u64
         requires { HasRoom self.now }
-        ensures { result ≡ issued (marks_of self.now) + granted (marks_of self.now) + self.now.left }
+        ensures { result ≡ issued (marks_of self.now) + granted
+            (marks_of self.now) + self.now.left }
     {
         let _room = self.marks.room();
         self.marks.len() + self.marks.granted() + self.left
@@ -64,7 +65,8 @@ impl Leaves {
         requires room { HasRoom self.old }
         ensures leaves { AreOpen self.new paving.now.tree }
         ensures none { marks_of self.new ≡ [] }
-        ensures left { self.new.left ≡ self.old.left + issued (marks_of self.old) + granted (marks_of self.old) }
+        ensures left { self.new.left ≡
+            self.old.left + issued (marks_of self.old) + granted (marks_of self.old) }
         ensures stopped { self.new.stopped ≡ self.old.stopped }
         ensures room { HasRoom self.new }
     {
@@ -119,7 +121,8 @@ impl Leaves {
     pub(crate) fn take(&mut self) -> Option<Ticket>
         requires { HasRoom self.old }
         ensures issued { IfSome result (λ t. IsIssued self.old self.new t) }
-        ensures none { IfNone result (0 < free_units self.old.stopped self.old.left → self.old.free.items ≡ []) }
+        ensures none { IfNone result (0 < free_units self.old.stopped self.old.left →
+            self.old.free.items ≡ []) }
         ensures same { IfNone result (self.new ≡ self.old) }
     {
         if self.free.is_empty() || !self.may_issue() {
@@ -132,7 +135,8 @@ impl Leaves {
     /// The slot of a ticket's mark, where the ticket is current.
     pub(crate) fn find(&self, ticket: &Ticket) -> Option<usize>
         requires { (q : List Bool) → marked (marks_of self.now) q ≤ 1 }
-        ensures current { is_some result ≡ nat_eq (holds (marks_of self.now) ticket.now.path) (suc ticket.now.grant) }
+        ensures current { is_some result ≡
+            nat_eq (holds (marks_of self.now) ticket.now.path) (suc ticket.now.grant) }
         ensures found { IfSome result (λ k. get self.now.marks.slots k ≡ Some ticket.now) }
     {
         self.marks
@@ -163,7 +167,8 @@ impl Leaves {
         requires few { vec_len self.old.free + 2 ≤ 100001 }
         requires room { HasRoom self.old }
         ensures offered { AreOffered self.old self.new (children_of path cuts) }
-        ensures tickets { option_to_list result.0 ++ option_to_list result.1 ≡ map fresh (take (free_units self.old.stopped self.old.left) (children_of path cuts)) }
+        ensures tickets { option_to_list result.0 ++ option_to_list result.1 ≡
+            map fresh (take (free_units self.old.stopped self.old.left) (children_of path cuts)) }
         ensures low { IfSome result.0 (λ t. t ≡ fresh (path ++ false ∷ [])) }
         ensures high { IfSome result.1 (λ t. t ≡ fresh (path ++ true ∷ [])) }
     {
@@ -200,7 +205,8 @@ impl Leaves {
         requires room { HasRoom self.old }
         requires there { ContainsKey self.old.marks.slots slot }
         requires left { units ≤ self.old.left }
-        ensures { (m : Mark) → get self.old.marks.slots slot ≡ Some m → IsRaised self.old self.new m (record { path = m.path; grant = m.grant + units }) units }
+        ensures { (m : Mark) → get self.old.marks.slots slot ≡ Some m →
+            IsRaised self.old self.new m (record { path = m.path; grant = m.grant + units }) units }
     {
         let _room = self.marks.room();
         let mark = self.marks.close(slot);

@@ -67,7 +67,8 @@ impl Marks {
     pub(crate) fn issue(&mut self, path: Path, grant: u64) -> usize
         requires room { issued (values self.old.slots) + 1 ≤ self.old.slots.capacity }
         requires small { granted (values self.old.slots) + grant < 2 ^ 64 }
-        ensures more { HasMore (values self.old.slots) (record { path = path; grant = grant }) (values self.new.slots) }
+        ensures more { HasMore (values self.old.slots) (record { path = path; grant = grant })
+            (values self.new.slots) }
         ensures room { self.new.slots.capacity ≡ self.old.slots.capacity }
     {
         let slot = self.slots.insert_reserved(Mark { path, grant });
@@ -98,7 +99,8 @@ impl Marks {
 
     /// Whether a slot has this mark.
     fn is_at(&self, slot: usize, path: Path, grant: u64) -> bool
-        ensures { IsTrue result ↔ (get self.now.slots slot ≡ Some (record { path = path; grant = grant })) }
+        ensures { IsTrue result ↔ (get self.now.slots slot ≡
+            Some (record { path = path; grant = grant })) }
     {
         match self.slots.get(slot) {
             Some(mark) => is_mark(mark, path, grant),
@@ -108,8 +110,10 @@ impl Marks {
 
     /// The slot of a mark: the one given, where the mark is there, or else any.
     pub(crate) fn find(&self, slot: usize, path: Path, grant: u64) -> Option<usize>
-        ensures found { IfSome result (λ k. get self.now.slots k ≡ Some (record { path = path; grant = grant })) }
-        ensures none { IfNone result ((k : ℕ) → get self.now.slots k ≡ Some (record { path = path; grant = grant }) → ⊥) }
+        ensures found { IfSome result (λ k. get self.now.slots k ≡
+            Some (record { path = path; grant = grant })) }
+        ensures none { IfNone result ((k : ℕ) → get self.now.slots k ≡
+            Some (record { path = path; grant = grant }) → ⊥) }
     {
         if self.is_at(slot, path, grant) {
             return Some(slot);
@@ -119,8 +123,10 @@ impl Marks {
 
     /// The slot of a mark, sought among all.
     fn search(&self, path: Path, grant: u64) -> Option<usize>
-        ensures found { IfSome result (λ k. get self.now.slots k ≡ Some (record { path = path; grant = grant })) }
-        ensures none { IfNone result ((k : ℕ) → get self.now.slots k ≡ Some (record { path = path; grant = grant }) → ⊥) }
+        ensures found { IfSome result (λ k. get self.now.slots k ≡
+            Some (record { path = path; grant = grant })) }
+        ensures none { IfNone result ((k : ℕ) → get self.now.slots k ≡
+            Some (record { path = path; grant = grant }) → ⊥) }
     {
         for slot in 0..self.slots.capacity() {
             if self.is_at(slot, path, grant) {

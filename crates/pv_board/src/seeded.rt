@@ -34,11 +34,10 @@ struct Plain {
     steps: u64,
 }
 
-/// A board, its opening's root box, a plain board beside it, the tickets that are out, and a source of random numbers.
+/// A board, a plain one beside it, the tickets that are out, and a source of random numbers.
 #[derive(Drop)]
 struct Table<N: Naming> {
     board: Board<N>,
-    root: IBox,
     plain: Plain,
     tickets: Vec<Ticket>,
     seed: u64,
@@ -63,6 +62,29 @@ fn some_open(paving: &Paving, place: u64) -> Option<Path>
         }
     }
     Some(path)
+}
+
+/// A stage of an open box: random open leaves were settled.
+fn random_stage<S: Settler>(
+    alloc: Global,
+    settler: &S,
+    root: &IBox,
+    seed: u64,
+) -> Result<Paving, Memory>
+    requires dims { length root.now ≡ S.dims settler.now }
+    ensures root { IfOk result (λ p. p.root ≡ root.now) }
+{
+    let mut seed = seed;
+    let mut scratch = root.clone_of(alloc)?;
+    let mut stage = Paving::open(alloc, root.clone_of(alloc)?)?;
+    for _ in 0..40 {
+        seed = next(seed);
+        match some_open(&stage, seed % 16) {
+            Some(path) => stage.settle_leaf(alloc, settler, path, &mut scratch)?,
+            None => return Ok(stage),
+        }
+    }
+    Ok(stage)
 }
 
 /// The box [0,1] x [0,1].
@@ -395,51 +417,36 @@ impl<N: Naming> Table<N> {
         Ok(self.split(path, low, high)? && fresh)
     }
 
-    /// A stage of the opening: random open leaves were settled.
-    fn stage<S: Settler>(&mut self, alloc: Global, settler: &S) -> Result<Paving, Memory>
-        requires dims { length self.old.root ≡ S.dims settler.now }
-        ensures root { IfOk result (λ p. p.root ≡ self.old.root) }
-        ensures same { (self.new.root ≡ self.old.root) × (self.new.board ≡ self.old.board) }
-    {
-        let _places = self.root.dims();
-        let mut scratch = self.root.clone_of(alloc)?;
-        let mut stage = Paving::open(alloc, self.root.clone_of(alloc)?)?;
-        for _ in 0..40 {
-            self.seed = next(self.seed);
-            match some_open(&stage, self.seed % 16) {
-                Some(path) => stage.settle_leaf(alloc, settler, path, &mut scratch)?,
-                None => return Ok(stage),
-            }
-        }
-        Ok(stage)
-    }
-
     /// Absorbs a stage.
-    fn absorb<S: Settler>(&mut self, alloc: Global, settler: &S) -> Result<bool, Memory>
+    fn absorb<S: Settler>(
+        &mut self,
+        alloc: Global,
+        settler: &S,
+        root: &IBox,
+    ) -> Result<bool, Memory>
         requires rule { N.rule ≡ S.settle_of settler.now }
         requires depth { N.depth ≡ S.depth_of settler.now }
         requires dims { N.dims ≡ S.dims settler.now }
         requires opening { N.opening ≡ leaf }
-        requires root { self.old.root ≡ N.root }
+        requires root { root.now ≡ N.root }
         requires places { length N.root ≡ N.dims }
-        ensures { self.new.root ≡ self.old.root }
     {
-        let stage = self.stage(alloc, settler)?;
+        self.seed = next(self.seed);
+        let stage = random_stage(alloc, settler, root, self.seed)?;
         let added = self.plain.absorb(alloc, &stage)?;
         let absorbed = absorb_audited(alloc, settler, &mut self.board, &stage)?;
         Ok(absorbed == Absorbed::Added(added))
     }
 
     /// One random event.
-    fn event<S: Settler>(&mut self, alloc: Global, settler: &S) -> Result<bool, Memory>
+    fn event<S: Settler>(&mut self, alloc: Global, settler: &S, root: &IBox) -> Result<bool, Memory>
         requires rule { N.rule ≡ S.settle_of settler.now }
         requires depth { N.depth ≡ S.depth_of settler.now }
         requires dims { N.dims ≡ S.dims settler.now }
         requires places { N.dims ≡ 2 }
         requires opening { N.opening ≡ leaf }
-        requires root { self.old.root ≡ N.root }
+        requires root { root.now ≡ N.root }
         requires root_places { length N.root ≡ N.dims }
-        ensures { self.new.root ≡ self.old.root }
     {
         self.seed = next(self.seed);
         match self.seed % 256 {
@@ -453,24 +460,29 @@ impl<N: Naming> Table<N> {
                 self.plain.steps = self.plain.steps.wrapping_add(1);
                 Ok(true)
             }
-            156..=158 => self.absorb(alloc, settler),
+            156..=158 => self.absorb(alloc, settler, root),
             _ => self.settle(alloc, settler),
         }
     }
 
     /// So many random events. Answers whether board and list agreed after each.
-    fn events<S: Settler>(&mut self, alloc: Global, settler: &S, n: u32) -> Result<bool, Memory>
+    fn events<S: Settler>(
+        &mut self,
+        alloc: Global,
+        settler: &S,
+        root: &IBox,
+        n: u32,
+    ) -> Result<bool, Memory>
         requires rule { N.rule ≡ S.settle_of settler.now }
         requires depth { N.depth ≡ S.depth_of settler.now }
         requires dims { N.dims ≡ S.dims settler.now }
         requires places { N.dims ≡ 2 }
         requires opening { N.opening ≡ leaf }
-        requires root { self.old.root ≡ N.root }
+        requires root { root.now ≡ N.root }
         requires root_places { length N.root ≡ N.dims }
-        ensures { self.new.root ≡ self.old.root }
     {
         for _ in 0..n {
-            if !self.event(alloc, settler)? || !self.agrees() {
+            if !self.event(alloc, settler, root)? || !self.agrees() {
                 return Ok(false);
             }
         }
@@ -521,15 +533,14 @@ fn plays<N: Naming, S: Settler>(
     };
     let mut table = Table {
         board,
-        root,
         plain,
         tickets: Vec::new(alloc),
         seed: 88172645463325252,
     };
-    let first = table.events(alloc, settler, n)?;
+    let first = table.events(alloc, settler, &root, n)?;
     table.board.stop();
     table.plain.stopped = true;
-    Ok(table.events(alloc, settler, 200)? && first)
+    Ok(table.events(alloc, settler, &root, 200)? && first && table.plain.added > 0)
 }
 
 /// The same with the settler's own rule.

@@ -116,7 +116,11 @@ fn absorbs_low<N: Naming, S: Settler>(
     let Some(root) = board.take() else {
         return Ok(false);
     };
-    let Settled { fresh: _, low, high } = settle_by(alloc, settler, board, root, scratch)?;
+    let Settled {
+        fresh: _,
+        low,
+        high,
+    } = settle_by(alloc, settler, board, root, scratch)?;
     let Some(low) = low else {
         return Ok(false);
     };

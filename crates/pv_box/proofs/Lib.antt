@@ -10,3 +10,4 @@ pub mod QHullKept
 pub mod QHullThere
 pub mod Kept
 pub mod Chosen
+pub mod Staying

@@ -1,6 +1,6 @@
 //! The q-hull of boxes (Chabert and Jaulin, 2009): what may lie in at least q of them, place by
 //! place.
-ghost use Rattle.std.specs.Prelude.{[], slice_index_or, ◌≡◌, ◌<◌, ◌≤◌, All, length, drop, IfOk, Some, ◌+◌};
+ghost use Rattle.std.specs.Prelude.{[], IsTrue, Bool, slice_index_or, ◌≡◌, ◌<◌, ◌≤◌, All, length, drop, IfOk, Some, ◌+◌};
 ghost use Rattle.pv_interval.specs.Bounds.{Bounds, everything};
 ghost use Rattle.pv_box.specs.QHull.{q_hull_of, place_hull_of, column, least_end, greatest_end, count_holding as count_of, is_in_enough, lower_of, upper_of};
 
@@ -52,7 +52,7 @@ fn least_lower_end(q: u32, i: u8, boxes: &[IBox], at: usize) -> Option<Num>
     }
     let end = boxes[at].get(i).lo();
     let best = least_lower_end(q, i, boxes, at + 1);
-    lower(lies_in_enough(q, i, boxes, end), end, best)
+    lowered(q, i, boxes, end, best)
 }
 
 // The greatest upper end, of the boxes from number `at` on, that lies in enough of all.
@@ -66,7 +66,49 @@ fn greatest_upper_end(q: u32, i: u8, boxes: &[IBox], at: usize) -> Option<Num>
     }
     let end = boxes[at].get(i).hi();
     let best = greatest_upper_end(q, i, boxes, at + 1);
+    raised(q, i, boxes, end, best)
+}
+
+// The lesser of this end, where it lies in enough, and the best so far. It is not counted where it can't matter.
+fn lowered(q: u32, i: u8, boxes: &[IBox], end: Num, best: Option<Num>) -> Option<Num>
+    requires { All (λ b. i < length b) boxes.now }
+    ensures { result ≡ lower_of (is_in_enough q (column i boxes.now) end) end best }
+{
+    if is_at_most(&best, end) {
+        return best;
+    }
+    lower(lies_in_enough(q, i, boxes, end), end, best)
+}
+
+fn raised(q: u32, i: u8, boxes: &[IBox], end: Num, best: Option<Num>) -> Option<Num>
+    requires { All (λ b. i < length b) boxes.now }
+    ensures { result ≡ upper_of (is_in_enough q (column i boxes.now) end) end best }
+{
+    if is_at_least(&best, end) {
+        return best;
+    }
     upper(lies_in_enough(q, i, boxes, end), end, best)
+}
+
+// Whether the best so far is at most an end: then it stays.
+#[tactic(auto, using(crate::proofs::Staying::stays_low))]
+fn is_at_most(best: &Option<Num>, end: Num) -> bool
+    ensures { IsTrue result → (counts : Bool) → lower_of counts end best.now ≡ best.now }
+{
+    match best {
+        Some(other) => *other <= end,
+        None => false,
+    }
+}
+
+#[tactic(auto, using(crate::proofs::Staying::stays_high))]
+fn is_at_least(best: &Option<Num>, end: Num) -> bool
+    ensures { IsTrue result → (counts : Bool) → upper_of counts end best.now ≡ best.now }
+{
+    match best {
+        Some(other) => end <= *other,
+        None => false,
+    }
 }
 
 // The lesser of this end, where it counts, and the best so far.

@@ -125,9 +125,9 @@ same_canonical s other h =
     ∙ (λ i. text_by (h.names i) (map search_bounds (h.domains i)) (h.constraints i))
     ∙ sym (canonical_by other)
 
-settings_by : Extended → ℕ → Bisector → List ℕ → List ℕ
-settings_by eps depth bisector text =
-    codes "eps " ++ number_text eps ++ codes "\ndepth " ++ decimal depth ++ bisector_text bisector ++ text ++ codes "\n"
+abbrev settings_by : Extended → ℕ → Bisector → List ℕ → List ℕ
+settings_by eps depth bisector program =
+    codes "eps " ++ number_text eps ++ codes "\ndepth " ++ decimal depth ++ bisector_text bisector ++ program ++ codes "\n"
 
 same_settings : (r q : SettlerParts) → r.eps ≡ q.eps → r.depth ≡ q.depth → r.bisector ≡ q.bisector → program_text (plan_of r.program) ≡ program_text (plan_of q.program)
     → settings_text r ≡ settings_text q
@@ -167,17 +167,19 @@ same_whole untold limit x y told h k = absurd (told refl)
 same_whole absent limit x y told h k = absurd h
 same_whole (holds whole) limit x y told h k = h.0 ∙ sym k.0
 
+not_same : (m n : ℕ) → m ≡ n → m ≡ 49 → n ≡ 50 → ⊥
+not_same m n e one two = omega (arith, e, one, two)
+
+-- the version's digit differs
+other_version : (identity : List ℕ) (b : List Bounds) (s t : Tree) → file_text One identity b s ≡ file_text Two identity b t → ⊥
+other_version identity b s t e =
+    not_same (slice_index (file_text One identity b s) 7) (slice_index (file_text Two identity b t) 7) (ap (λ (l : List ℕ). slice_index l 7) e) refl refl
+
 same_text : (v w : Version) (identity : List ℕ) (b : List Bounds) (s t : Tree) → IsPavingInFormat b s → IsPavingInFormat b t → file_text v identity b s ≡ file_text w identity b t → s ≡ t
 same_text One One identity b s t h k e = texts-differ One identity b s t h k e
 same_text Two Two identity b s t h k e = texts-differ Two identity b s t h k e
-same_text One Two identity b s t h k e = absurd (no_two e)
-  where
-    no_two : file_text One identity b s ≡ file_text Two identity b t → ⊥
-    no_two e = let d : 49 ≡ 50 = ap (λ (l : List ℕ). slice_index l 7) e in omega arith
-same_text Two One identity b s t h k e = absurd (no_one e)
-  where
-    no_one : file_text Two identity b s ≡ file_text One identity b t → ⊥
-    no_one e = let d : 50 ≡ 49 = ap (λ (l : List ℕ). slice_index l 7) e in omega arith
+same_text One Two identity b s t h k e = absurd (other_version identity b s t e)
+same_text Two One identity b s t h k e = absurd (other_version identity b t s (sym e))
 
 same_held : (before : Files) (r q : SettlerParts) (name : Text) (s t : Tree) → AreTold before → AreSameRules r q → HasPaving before r name s → HasPaving before q name t → s ≡ t
 same_held before r q name s t told same h k =

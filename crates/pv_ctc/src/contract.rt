@@ -30,10 +30,12 @@ impl Program {
     ) -> Result<Option<IBox>, Memory>
         requires program { IsFor (length graphs.now.graphs) (plan_of self.now) }
         requires dims { length bx.now ≡ graphs.now.dims }
-        ensures left { IfOk result (λ o. o ≡ contract_of (sides_in graphs.now) (plan_of self.now) bx.now) }
+        ensures left { IfOk result (λ o. o ≡
+            contract_of (sides_in graphs.now) (plan_of self.now) bx.now) }
         ensures dims { IfOk result (λ o. IfSome o (λ b. length b ≡ length bx.now)) }
         ensures within { IfOk result (λ o. IfSome o (λ b. IsWithin b bx.now)) }
-        ensures members { IfOk result (MembersStay (sides_in graphs.now) (plan_of self.now) bx.now) }
+        ensures members { IfOk result
+            (MembersStay (sides_in graphs.now) (plan_of self.now) bx.now) }
     {
         self.contract_by(alloc, graphs, bx, &mut Uncounted)
     }
@@ -49,10 +51,12 @@ impl Program {
     ) -> Result<Option<IBox>, Memory>
         requires program { IsFor (length graphs.now.graphs) (plan_of self.now) }
         requires dims { length bx.now ≡ graphs.now.dims }
-        ensures left { IfOk result (λ o. o ≡ contract_of (sides_in graphs.now) (plan_of self.now) bx.now) }
+        ensures left { IfOk result (λ o. o ≡
+            contract_of (sides_in graphs.now) (plan_of self.now) bx.now) }
         ensures dims { IfOk result (λ o. IfSome o (λ b. length b ≡ length bx.now)) }
         ensures within { IfOk result (λ o. IfSome o (λ b. IsWithin b bx.now)) }
-        ensures members { IfOk result (MembersStay (sides_in graphs.now) (plan_of self.now) bx.now) }
+        ensures members { IfOk result
+            (MembersStay (sides_in graphs.now) (plan_of self.now) bx.now) }
         ensures counted { OnOk result (steps.new ≡
             steps.old + revisions (sides_in graphs.now) (plan_of self.now) bx.now) }
         ensures at_most { OnErr result (steps.new ≤ steps.old + revisions (sides_in graphs.now)
@@ -73,10 +77,12 @@ impl Program {
     ) -> Result<Option<IBox>, Memory>
         requires program { IsFor (length graphs.now.graphs) (plan_of self.now) }
         requires dims { length bx.now ≡ graphs.now.dims }
-        ensures left { IfOk result (λ o. o ≡ contract_of (sides_in graphs.now) (plan_of self.now) bx.now) }
+        ensures left { IfOk result (λ o. o ≡
+            contract_of (sides_in graphs.now) (plan_of self.now) bx.now) }
         ensures dims { IfOk result (λ o. IfSome o (λ b. length b ≡ length bx.now)) }
         ensures within { IfOk result (λ o. IfSome o (λ b. IsWithin b bx.now)) }
-        ensures members { IfOk result (MembersStay (sides_in graphs.now) (plan_of self.now) bx.now) }
+        ensures members { IfOk result
+            (MembersStay (sides_in graphs.now) (plan_of self.now) bx.now) }
         ensures counted { OnOk result (C.told counter.new ≡
             raised (C.told counter.old)
             (revisions (sides_in graphs.now) (plan_of self.now) bx.now)) }
@@ -97,7 +103,8 @@ impl Program {
     ) -> Result<Option<IBox>, Memory>
         requires program { IsFor (length graphs.now.graphs) (plan_of self.now) }
         requires dims { length bx.now ≡ graphs.now.dims }
-        ensures left { IfOk result (λ o. o ≡ contract_of (sides_in graphs.now) (plan_of self.now) bx.now) }
+        ensures left { IfOk result (λ o. o ≡
+            contract_of (sides_in graphs.now) (plan_of self.now) bx.now) }
         ensures dims { IfOk result (λ o. IfSome o (λ b. length b ≡ length bx.now)) }
         ensures counted { OnOk result (C.told counter.new ≡
             raised (C.told counter.old)

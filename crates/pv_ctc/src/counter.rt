@@ -23,7 +23,8 @@ pub trait Counter {
         bx: &mut IBox,
     ) -> Result<Revised, Memory>
         requires { length bx.old ≡ graph.now.dims }
-        ensures answer { IfOk result (λ r. IsAnswer (revised (sides_of graph.now) bx.old) r bx.old bx.new) }
+        ensures answer { IfOk result (λ r.
+            IsAnswer (revised (sides_of graph.now) bx.old) r bx.old bx.new) }
         ensures unchanged { OnErr result (bx.new ≡ bx.old) }
         ensures counted { told self.new ≡ raised (told self.old) 1 };
 }

@@ -41,7 +41,8 @@ impl Model for Graphs {
 impl Graphs {
     /// Makes the graph of each constraint.
     pub fn of(alloc: Global, system: &System) -> Result<Graphs, Memory>
-        ensures sides { IfOk result (λ g. map sides_of g.graphs ≡ map sides_named system.now.constraints) }
+        ensures sides { IfOk result (λ g. map sides_of g.graphs ≡
+            map sides_named system.now.constraints) }
         ensures dims { IfOk result (λ g. g.dims ≡ length system.now.names) }
     {
         let dims = system.variable_count();

@@ -34,8 +34,10 @@ impl Program {
         requires dims { length bx.old ≡ graphs.now.dims }
         requires known { Knows (sides_in graphs.now) known.old bx.old }
         ensures dims { length bx.new ≡ length bx.old }
-        ensures step { IfOk result (λ r. IsStep (contract_of (sides_in graphs.now) (plan_of self.now) bx.old) r bx.old bx.new) }
-        ensures known { IfOk result (λ r. (r ≡ Empty) ⊎ Knows (sides_in graphs.now) known.new bx.new) }
+        ensures step { IfOk result (λ r.
+            IsStep (contract_of (sides_in graphs.now) (plan_of self.now) bx.old) r bx.old bx.new) }
+        ensures known { IfOk result (λ r. (r ≡ Empty) ⊎
+            Knows (sides_in graphs.now) known.new bx.new) }
     {
         narrow(alloc, self, graphs, scratch, bx, known)
     }
@@ -73,7 +75,8 @@ fn revise(
     requires dims { length bx.old ≡ graphs.now.dims }
     requires known { Knows (sides_in graphs.now) known.old bx.old }
     ensures dims { length bx.new ≡ length bx.old }
-    ensures step { IfOk result (λ r. IsStep (revised (side_at (sides_in graphs.now) i) bx.old) r bx.old bx.new) }
+    ensures step { IfOk result (λ r.
+        IsStep (revised (side_at (sides_in graphs.now) i) bx.old) r bx.old bx.new) }
     ensures known { IfOk result (λ r. (r ≡ Empty) ⊎ Knows (sides_in graphs.now) known.new bx.new) }
 {
     graphs.learn();
@@ -99,7 +102,8 @@ fn turn(
     requires dims { length bx.old ≡ graphs.now.dims }
     requires known { Knows (sides_in graphs.now) known.old bx.old }
     ensures dims { length bx.new ≡ length bx.old }
-    ensures step { IfOk result (λ r. IsStep (all_revised (sides_in graphs.now) bx.old) r bx.old bx.new) }
+    ensures step { IfOk result (λ r.
+        IsStep (all_revised (sides_in graphs.now) bx.old) r bx.old bx.new) }
     ensures known { IfOk result (λ r. (r ≡ Empty) ⊎ Knows (sides_in graphs.now) known.new bx.new) }
 {
     let mut answer = Revised::Kept;
@@ -124,7 +128,8 @@ fn propagate(
     requires dims { length bx.old ≡ graphs.now.dims }
     requires known { Knows (sides_in graphs.now) known.old bx.old }
     ensures dims { length bx.new ≡ length bx.old }
-    ensures step { IfOk result (λ r. IsStep (turns_of turns (all_revised (sides_in graphs.now)) bx.old) r bx.old bx.new) }
+    ensures step { IfOk result (λ r.
+        IsStep (turns_of turns (all_revised (sides_in graphs.now)) bx.old) r bx.old bx.new) }
     ensures known { IfOk result (λ r. (r ≡ Empty) ⊎ Knows (sides_in graphs.now) known.new bx.new) }
 {
     let mut answer = Revised::Kept;
@@ -154,7 +159,8 @@ fn narrow(
     requires dims { length bx.old ≡ graphs.now.dims }
     requires known { Knows (sides_in graphs.now) known.old bx.old }
     ensures dims { length bx.new ≡ length bx.old }
-    ensures step { IfOk result (λ r. IsStep (contract_of (sides_in graphs.now) (plan_of program.now) bx.old) r bx.old bx.new) }
+    ensures step { IfOk result (λ r.
+        IsStep (contract_of (sides_in graphs.now) (plan_of program.now) bx.old) r bx.old bx.new) }
     ensures known { IfOk result (λ r. (r ≡ Empty) ⊎ Knows (sides_in graphs.now) known.new bx.new) }
 {
     match program {
@@ -183,7 +189,9 @@ fn narrow_in_order(
     requires dims { length bx.old ≡ graphs.now.dims }
     requires known { Knows (sides_in graphs.now) known.old bx.old }
     ensures dims { length bx.new ≡ length bx.old }
-    ensures step { IfOk result (λ r. IsStep (in_order (effects (sides_in graphs.now) (plans_of parts.now)) bx.old) r bx.old bx.new) }
+    ensures step { IfOk result (λ r.
+        IsStep (in_order (effects (sides_in graphs.now)
+        (plans_of parts.now)) bx.old) r bx.old bx.new) }
     ensures known { IfOk result (λ r. (r ≡ Empty) ⊎ Knows (sides_in graphs.now) known.new bx.new) }
 {
     let mut answer = Revised::Kept;
@@ -212,7 +220,9 @@ fn narrow_in_turns(
     requires dims { length bx.old ≡ graphs.now.dims }
     requires known { Knows (sides_in graphs.now) known.old bx.old }
     ensures dims { length bx.new ≡ length bx.old }
-    ensures step { IfOk result (λ r. IsStep (turns_of turns (contract_of (sides_in graphs.now) (plan_of part.now)) bx.old) r bx.old bx.new) }
+    ensures step { IfOk result (λ r.
+        IsStep (turns_of turns (contract_of (sides_in graphs.now)
+        (plan_of part.now)) bx.old) r bx.old bx.new) }
     ensures known { IfOk result (λ r. (r ≡ Empty) ⊎ Knows (sides_in graphs.now) known.new bx.new) }
 {
     let mut answer = Revised::Kept;
@@ -242,7 +252,9 @@ fn narrow_to_hull(
     requires dims { length bx.old ≡ graphs.now.dims }
     requires known { Knows (sides_in graphs.now) known.old bx.old }
     ensures dims { length bx.new ≡ length bx.old }
-    ensures step { IfOk result (λ r. IsStep (hull_all (results (effects (sides_in graphs.now) (plans_of parts.now)) bx.old)) r bx.old bx.new) }
+    ensures step { IfOk result (λ r.
+        IsStep (hull_all (results (effects (sides_in graphs.now)
+        (plans_of parts.now)) bx.old)) r bx.old bx.new) }
     ensures known { IfOk result (λ r. (r ≡ Empty) ⊎ Knows (sides_in graphs.now) known.new bx.new) }
 {
     let found = left_by_each(alloc, parts, graphs, scratch, bx, *known)?;
@@ -267,7 +279,9 @@ fn narrow_to_q_hull(
     requires dims { length bx.old ≡ graphs.now.dims }
     requires known { Knows (sides_in graphs.now) known.old bx.old }
     ensures dims { length bx.new ≡ length bx.old }
-    ensures step { IfOk result (λ r. IsStep (q_hull_all q (results (effects (sides_in graphs.now) (plans_of parts.now)) bx.old)) r bx.old bx.new) }
+    ensures step { IfOk result (λ r.
+        IsStep (q_hull_all q (results
+        (effects (sides_in graphs.now) (plans_of parts.now)) bx.old)) r bx.old bx.new) }
     ensures known { IfOk result (λ r. (r ≡ Empty) ⊎ Knows (sides_in graphs.now) known.new bx.new) }
 {
     let found = left_by_each(alloc, parts, graphs, scratch, bx, *known)?;
@@ -291,7 +305,8 @@ fn left_by_each(
     requires dims { length bx.now ≡ graphs.now.dims }
     requires known { Knows (sides_in graphs.now) known bx.now }
     ensures dims { IfOk result (λ v. All (λ b. length b ≡ length bx.now) v.items) }
-    ensures found { IfOk result (λ v. v.items ≡ results (effects (sides_in graphs.now) (plans_of parts.now)) bx.now) }
+    ensures found { IfOk result (λ v. v.items ≡
+        results (effects (sides_in graphs.now) (plans_of parts.now)) bx.now) }
 {
     let mut found: Vec<IBox> = Vec::new(alloc);
     for part in parts {

@@ -27,7 +27,8 @@ impl Program {
         requires program { IsFor (length graphs.now.graphs) (plan_of self.now) }
         requires dims { length bx.now ≡ graphs.now.dims }
         requires known { Knows (sides_in graphs.now) known.old bx.now }
-        ensures answer { IfOk result (λ t. t ≡ program_sure (sides_in graphs.now) (plan_of self.now) bx.now) }
+        ensures answer { IfOk result (λ t. t ≡
+            program_sure (sides_in graphs.now) (plan_of self.now) bx.now) }
         ensures known { Knows (sides_in graphs.now) known.new bx.now }
     {
         is_sure(self, graphs, scratch, bx, known)
@@ -45,7 +46,8 @@ fn is_sure(
     requires program { IsFor (length graphs.now.graphs) (plan_of program.now) }
     requires dims { length bx.now ≡ graphs.now.dims }
     requires known { Knows (sides_in graphs.now) known.old bx.now }
-    ensures answer { IfOk result (λ t. t ≡ program_sure (sides_in graphs.now) (plan_of program.now) bx.now) }
+    ensures answer { IfOk result (λ t. t ≡
+        program_sure (sides_in graphs.now) (plan_of program.now) bx.now) }
     ensures known { Knows (sides_in graphs.now) known.new bx.now }
 {
     match program {
@@ -94,7 +96,8 @@ fn constraints_are_sure(
 ) -> Result<bool, Memory>
     requires dims { length bx.now ≡ graphs.now.dims }
     requires known { Knows (sides_in graphs.now) known.old bx.now }
-    ensures answer { IfOk result (λ t. t ≡ all_true (constraints_sure (sides_in graphs.now) bx.now)) }
+    ensures answer { IfOk result (λ t. t ≡
+        all_true (constraints_sure (sides_in graphs.now) bx.now)) }
     ensures known { Knows (sides_in graphs.now) known.new bx.now }
 {
     for i in 0..graphs.graphs.len() {
@@ -116,7 +119,8 @@ fn all_are_sure(
     requires programs { AreFor (length graphs.now.graphs) (plans_of parts.now) }
     requires dims { length bx.now ≡ graphs.now.dims }
     requires known { Knows (sides_in graphs.now) known.old bx.now }
-    ensures answer { IfOk result (λ t. t ≡ all_true (parts_sure (sides_in graphs.now) (plans_of parts.now) bx.now)) }
+    ensures answer { IfOk result (λ t. t ≡
+        all_true (parts_sure (sides_in graphs.now) (plans_of parts.now) bx.now)) }
     ensures known { Knows (sides_in graphs.now) known.new bx.now }
 {
     for part in parts {
@@ -140,7 +144,8 @@ fn so_many_are_sure(
     requires programs { AreFor (length graphs.now.graphs) (plans_of parts.now) }
     requires dims { length bx.now ≡ graphs.now.dims }
     requires known { Knows (sides_in graphs.now) known.old bx.now }
-    ensures answer { IfOk result (λ t. t ≡ nat_le q (count_true (parts_sure (sides_in graphs.now) (plans_of parts.now) bx.now))) }
+    ensures answer { IfOk result (λ t. t ≡
+        nat_le q (count_true (parts_sure (sides_in graphs.now) (plans_of parts.now) bx.now))) }
     ensures known { Knows (sides_in graphs.now) known.new bx.now }
 {
     let mut missing = q;

@@ -29,7 +29,8 @@ pub(crate) fn revise<C: Counter>(
     requires constraint { i < length graphs.now.graphs }
     requires dims { length bx.old ≡ graphs.now.dims }
     ensures dims { length bx.new ≡ length bx.old }
-    ensures step { IfOk result (λ r. IsStep (revised (side_at (sides_in graphs.now) i) bx.old) r bx.old bx.new) }
+    ensures step { IfOk result (λ r.
+        IsStep (revised (side_at (sides_in graphs.now) i) bx.old) r bx.old bx.new) }
     ensures counted { C.told counter.new ≡ raised (C.told counter.old) 1 }
 {
     counter.revise(&graphs.graphs[i], scratch, bx)
@@ -45,9 +46,13 @@ pub(crate) fn propagate<C: Counter>(
 ) -> Result<Revised, Memory>
     requires dims { length bx.old ≡ graphs.now.dims }
     ensures dims { length bx.new ≡ length bx.old }
-    ensures step { IfOk result (λ r. IsStep (turns_of turns (all_revised (sides_in graphs.now)) bx.old) r bx.old bx.new) }
-    ensures counted { OnOk result (C.told counter.new ≡ raised (C.told counter.old) (length (passage turns (sides_in graphs.now) [] bx.old).made)) }
-    ensures at_most { OnErr result (RoseAtMost (length (passage turns (sides_in graphs.now) [] bx.old).made) (C.told counter.old) (C.told counter.new)) }
+    ensures step { IfOk result (λ r.
+        IsStep (turns_of turns (all_revised (sides_in graphs.now)) bx.old) r bx.old bx.new) }
+    ensures counted { OnOk result (C.told counter.new ≡
+        raised (C.told counter.old) (length (passage turns (sides_in graphs.now) [] bx.old).made)) }
+    ensures at_most { OnErr result
+        (RoseAtMost (length (passage turns (sides_in graphs.now) [] bx.old).made)
+        (C.told counter.old) (C.told counter.new)) }
 {
     let mut answer = Revised::Kept;
     let mut clean = [false; 64];
@@ -74,10 +79,21 @@ fn propagate_once<C: Counter>(
     requires dims { length bx.old ≡ graphs.now.dims }
     requires marks { AreClean (sides_in graphs.now) clean.old bx.old }
     ensures dims { length bx.new ≡ length bx.old }
-    ensures step { IfOk result (λ r. IsStep (all_revised (sides_in graphs.now) bx.old) r bx.old bx.new) }
-    ensures marks { IfOk result (λ r. (r ≡ Empty) ⊎ AreClean (sides_in graphs.now) clean.new bx.new) }
-    ensures turn { IfOk result (λ r. (start : Option ℕ) (made : List Revision) → AreMarks (sides_in graphs.now) made clean.old → C.told counter.old ≡ raised start (length made) → IsTurn (sides_in graphs.now) start (whole_turn (sides_in graphs.now) made bx.old) r bx.old bx.new clean.new (C.told counter.new)) }
-    ensures at_most { OnErr result ((start : Option ℕ) (made : List Revision) → AreMarks (sides_in graphs.now) made clean.old → C.told counter.old ≡ raised start (length made) → RoseAtMost (length (whole_turn (sides_in graphs.now) made bx.old).made) start (C.told counter.new)) }
+    ensures step { IfOk result (λ r.
+        IsStep (all_revised (sides_in graphs.now) bx.old) r bx.old bx.new) }
+    ensures marks { IfOk result (λ r. (r ≡ Empty) ⊎
+        AreClean (sides_in graphs.now) clean.new bx.new) }
+    ensures turn { IfOk result (λ r. (start : Option ℕ) (made : List Revision) →
+        AreMarks (sides_in graphs.now) made clean.old → C.told counter.old ≡
+        raised start (length made) →
+        IsTurn (sides_in graphs.now) start
+        (whole_turn (sides_in graphs.now) made bx.old) r bx.old bx.new clean.new
+        (C.told counter.new)) }
+    ensures at_most { OnErr result ((start : Option ℕ) (made : List Revision) →
+        AreMarks (sides_in graphs.now) made clean.old → C.told counter.old ≡
+        raised start (length made) →
+        RoseAtMost (length (whole_turn (sides_in graphs.now) made bx.old).made) start
+        (C.told counter.new)) }
 {
     let mut answer = Revised::Kept;
     for i in 0..graphs.graphs.len() {
@@ -100,7 +116,9 @@ fn propagate_once<C: Counter>(
 // Takes the marks from the constraints that have a variable whose place is not as it was.
 fn unmark(graphs: &Graphs, clean: &mut [bool; 64], entry: &[Interval; 12], bx: &IBox)
     requires dims { length (take (length bx.now) entry.now) ≡ length bx.now }
-    ensures { (k : ℕ) → k < length (sides_in graphs.now) → slice_index_or clean.new k false ≡ (slice_index_or clean.old k false && same_places 0 (side_at (sides_in graphs.now) k) (take (length bx.now) entry.now) bx.now) }
+    ensures { (k : ℕ) → k < length (sides_in graphs.now) → slice_index_or clean.new k false ≡
+        (slice_index_or clean.old k false && same_places 0 (side_at (sides_in graphs.now) k)
+        (take (length bx.now) entry.now) bx.now) }
 {
     let _places = bx.dims();
     for i in 0..graphs.graphs.len() {

@@ -102,9 +102,15 @@ impl<'a> Reader<'a> {
         ensures named { self.new.named ≡ self.old.named }
         ensures count { self.new.count ≡ self.old.count }
         ensures text { self.new.text.now ≡ self.old.text.now }
-        ensures stood { OnOk result (StandsBefore token (drop self.old.at self.old.text.now) (drop self.new.at self.new.text.now)) }
-        ensures took { OnOk result (Took self.old.count (exactly token ∷ []) self.old.named (tokens_at self.old.text.now self.old.at) ([]) self.new.named (behind token (tokens_at self.new.text.now self.new.at))) }
-        ensures stopped { IfErr result (Stopped self.old.count (exactly token ∷ []) self.old.named (tokens_at self.old.text.now self.old.at)) }
+        ensures stood { OnOk result
+            (StandsBefore token (drop self.old.at self.old.text.now)
+            (drop self.new.at self.new.text.now)) }
+        ensures took { OnOk result (Took self.old.count (exactly token ∷ []) self.old.named
+            (tokens_at self.old.text.now self.old.at) ([]) self.new.named
+            (behind token (tokens_at self.new.text.now self.new.at))) }
+        ensures stopped { IfErr result
+            (Stopped self.old.count (exactly token ∷ []) self.old.named
+            (tokens_at self.old.text.now self.old.at)) }
     {
         let (found, end) = token_at(self.text, self.at);
         if found != token {
@@ -120,9 +126,15 @@ impl<'a> Reader<'a> {
         ensures count { self.new.count ≡ self.old.count }
         ensures range { IfOk result (λ n. (low ≤ n) × (n < limit)) }
         ensures text { self.new.text.now ≡ self.old.text.now }
-        ensures stood { IfOk result (λ n. drop self.old.at self.old.text.now ≡ decimal n ++ drop self.new.at self.new.text.now) }
-        ensures took { IfOk result (λ n. (c : Counted) → Took self.old.count (a_number low limit c ∷ []) self.old.named (tokens_at self.old.text.now self.old.at) (counted_due c n) self.new.named (tokens_at self.new.text.now self.new.at)) }
-        ensures stopped { IfErr result (λ e. (c : Counted) → Stopped self.old.count (a_number low limit c ∷ []) self.old.named (tokens_at self.old.text.now self.old.at) e) }
+        ensures stood { IfOk result (λ n. drop self.old.at self.old.text.now ≡
+            decimal n ++ drop self.new.at self.new.text.now) }
+        ensures took { IfOk result (λ n. (c : Counted) →
+            Took self.old.count (a_number low limit c ∷ []) self.old.named
+            (tokens_at self.old.text.now self.old.at) (counted_due c n) self.new.named
+            (tokens_at self.new.text.now self.new.at)) }
+        ensures stopped { IfErr result (λ e. (c : Counted) →
+            Stopped self.old.count (a_number low limit c ∷ []) self.old.named
+            (tokens_at self.old.text.now self.old.at) e) }
     {
         let (found, end) = token_at(self.text, self.at);
         match found {
@@ -139,9 +151,16 @@ impl<'a> Reader<'a> {
         ensures named { IfOk result (λ _. self.new.named ≡ self.old.named + 1) }
         ensures count { self.new.count ≡ self.old.count }
         ensures text { self.new.text.now ≡ self.old.text.now }
-        ensures stood { IfOk result (λ w. drop self.old.at self.old.text.now ≡ word_text w ++ drop self.new.at self.new.text.now) }
-        ensures took { IfOk result (λ w. Took self.old.count (a_program ∷ []) self.old.named (tokens_at self.old.text.now self.old.at) (exactly Token.Open ∷ arguments_due self.old.count w) self.new.named (tokens_at self.new.text.now self.new.at)) }
-        ensures stopped { IfErr result (Stopped self.old.count (a_program ∷ []) self.old.named (tokens_at self.old.text.now self.old.at)) }
+        ensures stood { IfOk result (λ w. drop self.old.at self.old.text.now ≡
+            word_text w ++ drop self.new.at self.new.text.now) }
+        ensures took { IfOk result (λ w.
+            Took self.old.count (a_program ∷ []) self.old.named
+            (tokens_at self.old.text.now self.old.at)
+            (exactly Token.Open ∷ arguments_due self.old.count w) self.new.named
+            (tokens_at self.new.text.now self.new.at)) }
+        ensures stopped { IfErr result
+            (Stopped self.old.count (a_program ∷ []) self.old.named
+            (tokens_at self.old.text.now self.old.at)) }
     {
         let (found, end) = token_at(self.text, self.at);
         match found {
@@ -159,10 +178,16 @@ impl<'a> Reader<'a> {
         ensures named { self.new.named ≡ self.old.named }
         ensures count { self.new.count ≡ self.old.count }
         ensures text { self.new.text.now ≡ self.old.text.now }
-        ensures stood { IsTrue result → drop self.old.at self.old.text.now ≡ codes "," ++ drop self.new.at self.new.text.now }
+        ensures stood { IsTrue result → drop self.old.at self.old.text.now ≡
+            codes "," ++ drop self.new.at self.new.text.now }
         ensures stayed { IsFalse result → self.new.at ≡ self.old.at }
-        ensures took { IsTrue result → (k : ℕ) → Took self.old.count (more_programs k ∷ []) self.old.named (tokens_at self.old.text.now self.old.at) (a_program ∷ more_programs (k - 1) ∷ []) self.new.named (tokens_at self.new.text.now self.new.at) }
-        ensures ended { IsFalse result → NoComma self.old.at (tokens_at self.old.text.now self.old.at) }
+        ensures took { IsTrue result → (k : ℕ) →
+            Took self.old.count (more_programs k ∷ []) self.old.named
+            (tokens_at self.old.text.now self.old.at)
+            (a_program ∷ more_programs (k - 1) ∷ []) self.new.named
+            (tokens_at self.new.text.now self.new.at) }
+        ensures ended { IsFalse result →
+            NoComma self.old.at (tokens_at self.old.text.now self.old.at) }
     {
         let (found, end) = token_at(self.text, self.at);
         if found == Token::Comma {
@@ -178,10 +203,17 @@ impl<'a> Reader<'a> {
         ensures count { self.new.count ≡ self.old.count }
         ensures fits { IfOk result (λ p. IsFor self.old.count (plan_of p)) }
         ensures text { self.new.text.now ≡ self.old.text.now }
-        ensures stood { IfOk result (λ p. drop self.old.at self.old.text.now ≡ program_text (plan_of p) ++ drop self.new.at self.new.text.now) }
-        ensures nodes { IfOk result (λ p. self.new.named ≡ self.old.named + node_count (plan_of p)) }
-        ensures took { IfOk result (λ p. Took self.old.count (a_program ∷ []) self.old.named (tokens_at self.old.text.now self.old.at) ([]) self.new.named (tokens_at self.new.text.now self.new.at)) }
-        ensures stopped { IfErr result (Stopped self.old.count (a_program ∷ []) self.old.named (tokens_at self.old.text.now self.old.at)) }
+        ensures stood { IfOk result (λ p. drop self.old.at self.old.text.now ≡
+            program_text (plan_of p) ++ drop self.new.at self.new.text.now) }
+        ensures nodes { IfOk result (λ p. self.new.named ≡
+            self.old.named + node_count (plan_of p)) }
+        ensures took { IfOk result (λ p.
+            Took self.old.count (a_program ∷ []) self.old.named
+            (tokens_at self.old.text.now self.old.at) ([]) self.new.named
+            (tokens_at self.new.text.now self.new.at)) }
+        ensures stopped { IfErr result
+            (Stopped self.old.count (a_program ∷ []) self.old.named
+            (tokens_at self.old.text.now self.old.at)) }
     {
         let word = self.word()?;
         self.want(Token::Open)?;
@@ -197,10 +229,18 @@ impl<'a> Reader<'a> {
         ensures count { self.new.count ≡ self.old.count }
         ensures fits { IfOk result (λ p. IsFor self.old.count (plan_of p)) }
         ensures text { self.new.text.now ≡ self.old.text.now }
-        ensures stood { IfOk result (λ p. word_text word ++ codes "(" ++ drop self.old.at self.old.text.now ≡ open_text (plan_of p) ++ drop self.new.at self.new.text.now) }
-        ensures nodes { IfOk result (λ p. self.new.named + 1 ≡ self.old.named + node_count (plan_of p)) }
-        ensures took { IfOk result (λ p. Took self.old.count (arguments_due self.old.count word) self.old.named (tokens_at self.old.text.now self.old.at) (exactly Token.Close ∷ []) self.new.named (tokens_at self.new.text.now self.new.at)) }
-        ensures stopped { IfErr result (Stopped self.old.count (arguments_due self.old.count word) self.old.named (tokens_at self.old.text.now self.old.at)) }
+        ensures stood { IfOk result (λ p.
+            word_text word ++ codes "(" ++ drop self.old.at self.old.text.now ≡
+            open_text (plan_of p) ++ drop self.new.at self.new.text.now) }
+        ensures nodes { IfOk result (λ p. self.new.named + 1 ≡
+            self.old.named + node_count (plan_of p)) }
+        ensures took { IfOk result (λ p.
+            Took self.old.count (arguments_due self.old.count word) self.old.named
+            (tokens_at self.old.text.now self.old.at) (exactly Token.Close ∷ []) self.new.named
+            (tokens_at self.new.text.now self.new.at)) }
+        ensures stopped { IfErr result
+            (Stopped self.old.count (arguments_due self.old.count word) self.old.named
+            (tokens_at self.old.text.now self.old.at)) }
     {
         match word {
             Word::Hc4 => Ok(Program::Hc4(self.number(0, self.count)?)),
@@ -233,11 +273,20 @@ impl<'a> Reader<'a> {
         ensures some { IfOk result (λ ps. 1 ≤ length ps.items) }
         ensures fits { IfOk result (λ ps. AreFor self.old.count (plans_of ps.items)) }
         ensures text { self.new.text.now ≡ self.old.text.now }
-        ensures stood { IfOk result (λ ps. drop self.old.at self.old.text.now ≡ parts_text 0 (plans_of ps.items) ++ drop self.new.at self.new.text.now) }
-        ensures nodes { IfOk result (λ ps. self.new.named ≡ self.old.named + nodes_in (plans_of ps.items)) }
-        ensures took { IfOk result (λ ps. (k : ℕ) → Took self.old.count (a_program ∷ more_programs k ∷ []) self.old.named (tokens_at self.old.text.now self.old.at) (more_programs (k + 1 - length ps.items) ∷ []) self.new.named (tokens_at self.new.text.now self.new.at)) }
-        ensures ended { OnOk result (NoComma self.new.at (tokens_at self.new.text.now self.new.at)) }
-        ensures stopped { IfErr result (λ e. (k : ℕ) → Stopped self.old.count (a_program ∷ more_programs k ∷ []) self.old.named (tokens_at self.old.text.now self.old.at) e) }
+        ensures stood { IfOk result (λ ps. drop self.old.at self.old.text.now ≡
+            parts_text 0 (plans_of ps.items) ++ drop self.new.at self.new.text.now) }
+        ensures nodes { IfOk result (λ ps. self.new.named ≡
+            self.old.named + nodes_in (plans_of ps.items)) }
+        ensures took { IfOk result (λ ps. (k : ℕ) →
+            Took self.old.count (a_program ∷ more_programs k ∷ []) self.old.named
+            (tokens_at self.old.text.now self.old.at)
+            (more_programs (k + 1 - length ps.items) ∷ []) self.new.named
+            (tokens_at self.new.text.now self.new.at)) }
+        ensures ended { OnOk result
+            (NoComma self.new.at (tokens_at self.new.text.now self.new.at)) }
+        ensures stopped { IfErr result (λ e. (k : ℕ) →
+            Stopped self.old.count (a_program ∷ more_programs k ∷ []) self.old.named
+            (tokens_at self.old.text.now self.old.at) e) }
     {
         let mut parts = Vec::new(alloc);
         parts.push(self.program(alloc)?)?;

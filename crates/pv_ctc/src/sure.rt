@@ -20,8 +20,10 @@ impl Program {
     pub fn sure(&self, alloc: Global, graphs: &Graphs, bx: &IBox) -> Result<bool, Memory>
         requires program { IsFor (length graphs.now.graphs) (plan_of self.now) }
         requires dims { length bx.now ≡ graphs.now.dims }
-        ensures answer { IfOk result (λ t. t ≡ program_sure (sides_in graphs.now) (plan_of self.now) bx.now) }
-        ensures members { IfOk result (λ t. IsTrue t → AreMembers (sides_in graphs.now) (plan_of self.now) bx.now) }
+        ensures answer { IfOk result (λ t. t ≡
+            program_sure (sides_in graphs.now) (plan_of self.now) bx.now) }
+        ensures members { IfOk result (λ t. IsTrue t →
+            AreMembers (sides_in graphs.now) (plan_of self.now) bx.now) }
     {
         graphs.learn();
         let mut scratch = Scratch::new(alloc);
@@ -38,7 +40,8 @@ fn is_sure(
 ) -> Result<bool, Memory>
     requires program { IsFor (length graphs.now.graphs) (plan_of program.now) }
     requires dims { length bx.now ≡ graphs.now.dims }
-    ensures { IfOk result (λ t. t ≡ program_sure (sides_in graphs.now) (plan_of program.now) bx.now) }
+    ensures { IfOk result (λ t. t ≡
+        program_sure (sides_in graphs.now) (plan_of program.now) bx.now) }
 {
     match program {
         Program::Hc4(i) => constraint_is_sure(graphs, *i as usize, scratch, bx),
@@ -84,7 +87,8 @@ fn all_are_sure(
 ) -> Result<bool, Memory>
     requires programs { AreFor (length graphs.now.graphs) (plans_of parts.now) }
     requires dims { length bx.now ≡ graphs.now.dims }
-    ensures { IfOk result (λ t. t ≡ all_true (parts_sure (sides_in graphs.now) (plans_of parts.now) bx.now)) }
+    ensures { IfOk result (λ t. t ≡
+        all_true (parts_sure (sides_in graphs.now) (plans_of parts.now) bx.now)) }
 {
     for part in parts {
         if !is_sure(part, graphs, scratch, bx)? {
@@ -105,7 +109,8 @@ fn so_many_are_sure(
 ) -> Result<bool, Memory>
     requires programs { AreFor (length graphs.now.graphs) (plans_of parts.now) }
     requires dims { length bx.now ≡ graphs.now.dims }
-    ensures { IfOk result (λ t. t ≡ nat_le q (count_true (parts_sure (sides_in graphs.now) (plans_of parts.now) bx.now))) }
+    ensures { IfOk result (λ t. t ≡
+        nat_le q (count_true (parts_sure (sides_in graphs.now) (plans_of parts.now) bx.now))) }
 {
     let mut missing = q;
     for part in parts {

@@ -38,7 +38,8 @@ pub fn token_at(text: &[u8], at: usize) -> (Token, usize)
     ensures within { result.1 ≤ length text.now }
     ensures onward { at ≤ result.1 }
     ensures stands { StandsBefore result.0 (drop at text.now) (drop result.1 text.now) }
-    ensures first { tokens_at text.now at ≡ record { place = at; token = result.0 } ∷ behind result.0 (tokens_at text.now result.1) }
+    ensures first { tokens_at text.now at ≡
+        record { place = at; token = result.0 } ∷ behind result.0 (tokens_at text.now result.1) }
 {
     if at == text.len() {
         return (Token::End, at);

@@ -21,7 +21,8 @@ pub fn users_of(uses: &[[bool; 12]]) -> [Marks; 12]
 // Adds a constraint to the users of each of its variables.
 fn add_user(users: &mut [Marks; 12], number: u8, uses: &[bool; 12])
     requires { number < 64 }
-    ensures { (v k : ℕ) → v < 12 → has_user users.new v k ≡ ((nat_eq number k && slice_index_or uses.now v false) || has_user users.old v k) }
+    ensures { (v k : ℕ) → v < 12 → has_user users.new v k ≡
+        ((nat_eq number k && slice_index_or uses.now v false) || has_user users.old v k) }
 {
     for v in 0..12usize {
         if uses[v] {

@@ -19,7 +19,8 @@ pub(crate) fn uses_of(constraint: &Constraint) -> [bool; 12]
 // Marks the variables of an expression.
 #[cycle(marking)]
 fn mark(e: &Expr, uses: &mut [bool; 12])
-    ensures { (i : ℕ) → i < 12 → slice_index_or uses.new i false ≡ (slice_index_or uses.old i false || has_place i (term_of e.now)) }
+    ensures { (i : ℕ) → i < 12 → slice_index_or uses.new i false ≡
+        (slice_index_or uses.old i false || has_place i (term_of e.now)) }
 {
     match e {
         Expr::Const { .. } => {}
@@ -39,14 +40,17 @@ fn mark(e: &Expr, uses: &mut [bool; 12])
 #[cycle(marking)]
 #[tactic(auto, using(crate::proofs::Locality::or_assoc))]
 fn mark_both(a: &Expr, b: &Expr, uses: &mut [bool; 12])
-    ensures { (i : ℕ) → i < 12 → slice_index_or uses.new i false ≡ (slice_index_or uses.old i false || (has_place i (term_of a.now) || has_place i (term_of b.now))) }
+    ensures { (i : ℕ) → i < 12 → slice_index_or uses.new i false ≡
+        (slice_index_or uses.old i false ||
+        (has_place i (term_of a.now) || has_place i (term_of b.now))) }
 {
     mark(a, uses);
     mark(b, uses);
 }
 
 fn mark_one(var: u8, uses: &mut [bool; 12])
-    ensures { (i : ℕ) → i < 12 → slice_index_or uses.new i false ≡ (slice_index_or uses.old i false || nat_eq var i) }
+    ensures { (i : ℕ) → i < 12 → slice_index_or uses.new i false ≡
+        (slice_index_or uses.old i false || nat_eq var i) }
 {
     if usize::from(var) < 12 {
         uses[usize::from(var)] = true;

@@ -45,7 +45,8 @@ fn write_program(out: &mut Vec<u8>, program: &Program) -> Result<(), Memory>
 // What stands in front of some programs, and then these, with commas between them.
 #[cycle(writing)]
 fn write_list(out: &mut Vec<u8>, head: &[u8], parts: &[Program]) -> Result<(), Memory>
-    ensures { OnOk result (out.new.items ≡ out.old.items ++ (head.now ++ parts_text 0 (plans_of parts.now) ++ codes ")")) }
+    ensures { OnOk result (out.new.items ≡
+        out.old.items ++ (head.now ++ parts_text 0 (plans_of parts.now) ++ codes ")")) }
 {
     put(out, head)?;
     write_parts(out, parts)?;

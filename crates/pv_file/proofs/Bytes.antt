@@ -1,8 +1,10 @@
 -- Texts up to a mark, as words up to a space and lines up to a line feed.
-use Rattle.std.proofs.Common.{◌≡◌, ℕ, suc, ◌+◌, ◌<◌, ◌≤◌, ◌==◌, nat_lt, Bool, true, false, not, cond, List, [], ◌∷◌, ◌++◌, take, drop, length, get_or, Some, None, refl, sym, ◌∙◌, ap, subst, arith, append_assoc}
+use Rattle.std.proofs.Common.{◌≡◌, ◌⊎◌, inl, inr, ℕ, zero, suc, ◌+◌, ◌<◌, ◌≤◌, ◌==◌, nat_lt, Bool, true, false, not, cond, List, [], ◌∷◌, ◌++◌, take, drop, length, get_or, Some, None, refl, sym, ◌∙◌, ap, subst, arith, append_assoc}
 use Rattle.std.specs.Prelude.{◌≢◌, unwrap_or}
 use Rattle.std.specs.List.{position, position_or_len}
 use Rattle.std.proofs.lemmas.Bool.{eqb-true, eqb-false, ltb-false}
+use Rattle.std.proofs.lemmas.Bool.Decides.{eqb_tells}
+use Rattle.memchr.specs.Find.{IsFirstByte, is_byte}
 use Rattle.std.proofs.lemmas.List.Sums.{prefix_len-le-length}
 use Rattle.std.proofs.lemmas.List.{take-append-drop}
 use Rattle.pv_file.specs.Readings.{IsFree}
@@ -113,3 +115,46 @@ same_words a b c d r s pa pb pc pd er es e =
     let one = split_once 32 a c (32 ∷ (b ++ r)) (32 ∷ (d ++ s)) (plain_free 32 a (omega arith) pa) (plain_free 32 c (omega arith) pc) refl refl whole in
     let two = split_once 32 b d r s (plain_free 32 b (omega arith) pb) (plain_free 32 d (omega arith) pd) er es (tails_same 32 32 (b ++ r) (d ++ s) one.1) in
     (one.0, two.0, two.1)
+
+-- ---- The first mark by its place
+
+-- the byte at each place in front of an end is no mark
+free_below : (mark n : ℕ) (xs : List ℕ) → ((k : ℕ) → k < n → get_or xs k 0 ≢ mark) → IsFree mark (take n xs)
+free_below mark zero xs h = tt
+free_below mark (suc n) [] h = tt
+free_below mark (suc n) (c ∷ cs) h =
+    let first : 0 < suc n = omega arith in
+    (h 0 first, free_below mark n cs (λ k below. h (suc k) (omega (arith, below))))
+
+marked : (mark c : ℕ) → c ≡ mark → (c == mark) ≡ true
+marked mark c e = by (eqb_tells c mark)
+  where
+    by : (((c == mark) ≡ true) × (c ≡ mark)) ⊎ (((c == mark) ≡ false) × (c ≡ mark → ⊥)) → (c == mark) ≡ true
+    by (inl h) = h.0
+    by (inr h) = absurd (h.1 e)
+
+ends_there : (mark n : ℕ) (xs : List ℕ) → get_or xs n 0 ≡ mark → n < length xs → EndsAt mark (drop n xs)
+ends_there mark n [] e h = absurd (omega arith)
+ends_there mark zero (c ∷ cs) e h = e
+ends_there mark (suc n) (c ∷ cs) e h = ends_there mark n cs e (omega (arith, h))
+
+ends_after : (mark : ℕ) (xs : List ℕ) → EndsAt mark (drop (length xs) xs)
+ends_after mark [] = tt
+ends_after mark (c ∷ cs) = ends_after mark cs
+
+-- a first mark was found
+pub found_free : (mark at : ℕ) (xs : List ℕ) → IsFirstByte (is_byte mark) xs (Some at) → IsFree mark (take at xs)
+found_free mark at xs h = free_below mark at xs (λ k below e. h.0.before k (omega arith) below (marked mark (get_or xs k 0) e))
+
+pub found_ends : (mark at : ℕ) (xs : List ℕ) → IsFirstByte (is_byte mark) xs (Some at) → EndsAt mark (drop at xs)
+found_ends mark at xs h = ends_there mark at xs (eqb-true (get_or xs at 0) mark h.1) h.0.high
+
+pub found_within : (mark at : ℕ) (xs : List ℕ) → IsFirstByte (is_byte mark) xs (Some at) → at ≤ length xs
+found_within mark at xs h = let high = h.0.high in omega arith
+
+-- none was found
+pub none_free : (mark : ℕ) (xs : List ℕ) → IsFirstByte (is_byte mark) xs None → IsFree mark (take (length xs) xs)
+none_free mark xs h = free_below mark (length xs) xs (λ k below e. h k (omega arith) below (marked mark (get_or xs k 0) e))
+
+pub none_ends : (mark : ℕ) (xs : List ℕ) → IsFirstByte (is_byte mark) xs None → EndsAt mark (drop (length xs) xs)
+none_ends mark xs h = ends_after mark xs

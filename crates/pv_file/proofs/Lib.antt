@@ -12,4 +12,4 @@ mod Headers
 mod Fits
 mod Reached
 mod Wholes
-mod Different
+pub mod Different

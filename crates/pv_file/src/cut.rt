@@ -4,6 +4,8 @@ ghost use Rattle.std.specs.List.{position};
 ghost use Rattle.pv_file.specs.Readings.{IsFree};
 ghost use Rattle.pv_file.specs.Words.{EndsAt};
 
+use memchr::memchr;
+
 /// Where the first byte is that is the mark, or the text's end.
 pub(crate) fn end_at(text: &[u8], mark: u8) -> usize
     ensures within { result ≤ length text.now }
@@ -11,6 +13,18 @@ pub(crate) fn end_at(text: &[u8], mark: u8) -> usize
     ensures ends { EndsAt mark (drop result text.now) }
 {
     match mark_in(text, mark) {
+        Some(at) => at,
+        None => text.len(),
+    }
+}
+
+/// Where the first line feed is, or the text's end. A line is longer than a word, so it is searched by vectors.
+pub(crate) fn line_end(text: &[u8]) -> usize
+    ensures within { result ≤ length text.now }
+    ensures free { IsFree 10 (take result text.now) }
+    ensures ends { EndsAt 10 (drop result text.now) }
+{
+    match memchr(b'\n', text) {
         Some(at) => at,
         None => text.len(),
     }

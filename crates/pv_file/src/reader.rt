@@ -8,7 +8,7 @@ ghost use Rattle.pv_file.specs.Texts.{header_text, version_text, identity_text};
 ghost use Rattle.pv_file.specs.Readings.{IsFree, IsTextOf, IsPavingInFormat, settled_count, HasOtherIdentity, IsFirstBadLine, IsOneTooMany};
 ghost use Rattle.pv_file.specs.Reading.{IsBadHeader, HasOtherHeader, HasOtherSecond, HasNoIdentity, IsRightNode, node_of, SaysNode, StandsAt, TakesNode, IsPut, IsMany, IsStep, IsStuck, IsFull, IsBadBody, IsManyBody};
 
-use crate::cut::end_at;
+use crate::cut::line_end;
 use crate::header::{IdentityLine, learn_digest, read_identity, read_version};
 use crate::outcome_line::read_line;
 use crate::refusal::FileRefused;
@@ -128,7 +128,7 @@ fn cut_line(bytes: &[u8]) -> Option<LineCut<'_>>
     ensures free { IfSome result (λ r. IsFree 10 r.line.now) }
     ensures none { result ≡ None → IsFree 10 bytes.now }
 {
-    let (line, rest) = bytes.split_at(end_at(bytes, b'\n'));
+    let (line, rest) = bytes.split_at(line_end(bytes));
     let (_, rest) = rest.split_first()?;
     Some(LineCut { line, rest })
 }

@@ -1,13 +1,13 @@
 -- What a revision that tells what it saw says of the constraint.
-use Rattle.std.proofs.Common.{◌≡◌, ◌≢◌, ℕ, ◌+◌, ◌<◌, ◌≤◌, List, length, refl, ap, sym, ◌∙◌, subst, arith, get_or, inl, inr}
-use Rattle.std.specs.Prelude.{Option, Some, None, Bool, true, false, ◌&&◌, All}
+use Rattle.std.proofs.Common.{◌≡◌, List, refl, ap, sym, ◌∙◌, get_or}
+use Rattle.std.specs.Prelude.{Some, Bool, true, false, ◌&&◌, All}
 use Rattle.pv_interval.specs.Bounds.{Bounds, IsInterval}
-use Rattle.pv_hc4.specs.Chain.{chain, at}
+use Rattle.pv_hc4.specs.Chain.{chain}
 use Rattle.pv_hc4.specs.Forward.{forward_of}
 use Rattle.pv_hc4.specs.Graphs.{AreValues, IsGraph, IsAnswer, Parts, sides_of}
 use Rattle.pv_hc4.specs.Revise.{revised}
 use Rattle.pv_hc4.specs.declared.revised.Revised.TheVariants.{Kept}
-use Rattle.pv_hc4.specs.Totality.{total_of, ends_decide, decided, forward_sides, sure_of}
+use Rattle.pv_hc4.specs.Totality.{total_of, ends_decide, decided, sure_of}
 use Rattle.pv_hc4.specs.Pass.{IsTotality, IsEmptyPass}
 use Rattle.pv_hc4.proofs.Revising.{side_value}
 use Rattle.pv_hc4.proofs.Whole.{sure-keeps, kept_whole}

@@ -1,8 +1,7 @@
 -- A target that is a node's own interval narrows nothing, also where the box has become narrower since the pass up.
-use Rattle.std.proofs.Common.{◌≡◌, ◌⊎◌, inl, inr, ℕ, zero, suc, ◌<◌, List, [], ◌∷◌, length, refl, ap, sym, ◌∙◌, subst, arith, get_or}
+use Rattle.std.proofs.Common.{◌≡◌, inl, inr, ℕ, zero, suc, ◌<◌, List, [], ◌∷◌, length, refl, ap, sym, ◌∙◌, subst, get_or}
 use Rattle.std.specs.Prelude.{IsTrue, Option, Some, None, Bool, true, false, All, slice_set}
-use Rattle.pv_num.specs.Extended.{Extended}
-use Rattle.pv_num.specs.Order.{le, lesser, greater}
+use Rattle.pv_num.specs.Order.{le, lesser}
 use Rattle.pv_num.proofs.Orders.{le-refl, le-trans}
 use Rattle.pv_interval.specs.Bounds.{Bounds, IsInterval, between, everything}
 use Rattle.pv_interval.specs.Tables.{meet_of}
@@ -13,14 +12,14 @@ use Rattle.pv_expr.specs.Terms.{Term, constant, place, one, two}
 use Rattle.pv_hc4.specs.declared.node.Node.{Node}
 use Rattle.pv_hc4.specs.Building.{IsPart}
 use Rattle.pv_hc4.specs.Chain.{chain, at, Gives}
-use Rattle.pv_hc4.specs.Graphs.{AreValues, IsGraph, Parts, sides_of}
+use Rattle.pv_hc4.specs.Graphs.{AreValues, IsGraph, Parts}
 use Rattle.pv_hc4.specs.Members.{AreWithin}
 use Rattle.pv_hc4.specs.Nodes.{terms, term_at}
 use Rattle.pv_hc4.specs.Pass.{IsTotality}
 use Rattle.pv_hc4.specs.Resting.{IsRest, MayRest}
 use Rattle.pv_hc4.specs.Revise.{Target, targets_of, applied, went}
 use Rattle.pv_hc4.proofs.Downward.{value_read}
-use Rattle.pv_hc4.proofs.Revising.{Came, came}
+use Rattle.pv_hc4.proofs.Revising.{came}
 use Rattle.pv_hc4.proofs.Whole.{AllOwn, OwnTargets, targets_whole}
 use Rattle.pv_hc4.proofs.Within.{Inside, meet_inside, at_fine}
 

@@ -1,5 +1,5 @@
 -- A constraint that is sure on a box narrows nothing.
-use Rattle.std.proofs.Common.{◌≡◌, ℕ, suc, ◌+◌, ◌%◌, List, [], ◌∷◌, ◌++◌, refl, ap, sym, ◌∙◌, subst, arith, eqb, eqb-true, get_or}
+use Rattle.std.proofs.Common.{◌≡◌, ℕ, suc, ◌+◌, ◌%◌, List, [], ◌∷◌, ◌++◌, refl, ap, sym, ◌∙◌, subst, arith, eqb, eqb-true}
 use Rattle.std.specs.Prelude.{IsTrue, Option, Some, None, Bool, true, false, ◌&&◌, cond, nat_eq, All, ℤ, pos, ◌*ℤ◌, ◌≤ℤ◌, ◌-ℤ◌, ◌+ℤ◌, if◌then◌else◌}
 use Rattle.std.proofs.lemmas.Int.{ints}
 use Rattle.pv_num.specs.Extended.{Extended, NegInf, Fin, PosInf}
@@ -30,10 +30,9 @@ use Rattle.pv_hc4.specs.Totality.{divides_well, total_of, same_number, ends_deci
 use Rattle.pv_hc4.proofs.Comparing.{same_end}
 use Rattle.pv_hc4.proofs.Keeping.{unary_back, binary_back}
 use Rattle.pv_hc4.proofs.Lying.{InSome, unary_lies, binary_lies}
-use Rattle.pv_hc4.specs.Graphs.{Parts, IsGraph, AreValues, IsAnswer, sides_of}
-use Rattle.pv_hc4.specs.Pass.{IsTotality}
+use Rattle.pv_hc4.specs.Graphs.{IsAnswer}
 use Rattle.pv_hc4.specs.declared.revised.Revised.TheVariants.{Kept}
-use Rattle.pv_hc4.proofs.Revising.{came, revised_from, side_value}
+use Rattle.pv_hc4.proofs.Revising.{came, revised_from}
 use Rattle.pv_hc4.proofs.Sureness.{left_true, right_true, binary_defined}
 use Rattle.pv_hc4.proofs.Within.{Inside, meet_inside, Fine, FinePair, unary_back_fine, binary_back_fine, unary_fine, forward_fine}
 
@@ -390,13 +389,6 @@ sure-keeps s n b o p h e =
     let q = is_sure s.relation (forward_of b s.left) (forward_of b s.right) (total_of b s.left && total_of b s.right) e in
     decided-keeps s n b q.left q.right o p h q.left_is q.right_is
     (left_true (total_of b s.left) (total_of b s.right) q.total) (right_true (total_of b s.left) (total_of b s.right) q.total) q.decides
-
--- the same from a pass over a graph's nodes
-pub nothing_narrowed : (g : Parts) (b vs : List Bounds) (x y : Bounds) → IsGraph g → All IsInterval b → AreValues b g.nodes vs
-    → x ≡ get_or vs g.left x → y ≡ get_or vs g.right y → IsTotality b g.nodes true → ends_decide g.relation x y ≡ true → revised (sides_of g) b ≡ Some b
-nothing_narrowed g b vs x y h k av xe ye t d =
-    decided-keeps (sides_of g) g.dims b x y h.left_over h.right_over k (side_value b g.nodes vs g.left x av h.left_in xe) (side_value b g.nodes vs g.right y av h.right_in ye)
-    (t g.left h.left_in) (t g.right h.right_in) d
 
 pub kept_whole : (o : Option (List Bounds)) (b : List Bounds) → o ≡ Some b → IsAnswer o Kept b b
 kept_whole o b e = subst (λ p. IsAnswer p Kept b b) (sym e) (refl, refl)

@@ -1,5 +1,5 @@
 -- What holds of a box and of its parts: forward intervals, totality and the sure test are inclusion monotone.
-use Rattle.std.specs.Prelude.{◌≡◌, ℕ, IsTrue, List, Option, Some}
+use Rattle.std.specs.Prelude.{ℕ, IsTrue, List}
 use Rattle.pv_interval.specs.Bounds.{Bounds}
 use Rattle.pv_interval.specs.Subsets.{IsSubsetSome}
 use Rattle.pv_box.specs.Boxes.{IsBox}

@@ -41,8 +41,10 @@ impl Builder {
     // The number of a node that is there already.
     fn find(&self, node: Node) -> Option<usize>
         requires { AreNumbered self.now.nodes.items self.now.numbers }
-        ensures found { IfSome result (λ i. (i < length self.now.nodes.items) × (node_at self.now.nodes.items i ≡ node)) }
-        ensures missing { IfNone result ((k : ℕ) → k < length self.now.nodes.items → node_at self.now.nodes.items k ≢ node) }
+        ensures found { IfSome result (λ i. (i < length self.now.nodes.items) ×
+            (node_at self.now.nodes.items i ≡ node)) }
+        ensures missing { IfNone result ((k : ℕ) → k < length self.now.nodes.items →
+            node_at self.now.nodes.items k ≢ node) }
     {
         let number = number_in(&self.numbers, node)?;
         if *self.nodes.get(number)? == node {
@@ -81,7 +83,8 @@ impl Builder {
         requires ready { AreReady self.old.nodes.items self.old.ready.items }
         requires numbered { AreNumbered self.old.nodes.items self.old.numbers }
         requires over { IsOver dims (term_of e.now) }
-        ensures grows { IfOk result (λ i. Grows self.old.nodes.items self.new.nodes.items i (term_of e.now)) }
+        ensures grows { IfOk result (λ i.
+            Grows self.old.nodes.items self.new.nodes.items i (term_of e.now)) }
         ensures ordered { OnOk result (AreOrdered self.new.nodes.items dims) }
         ensures ready { OnOk result (AreReady self.new.nodes.items self.new.ready.items) }
         ensures numbered { OnOk result (AreNumbered self.new.nodes.items self.new.numbers) }
@@ -110,7 +113,9 @@ impl Builder {
         requires numbered { AreNumbered self.old.nodes.items self.old.numbers }
         requires power { IsPower op }
         requires over { IsOver dims (term_of a.now) }
-        ensures grows { IfOk result (λ i. Grows self.old.nodes.items self.new.nodes.items i (one (unary_named op) (term_of a.now))) }
+        ensures grows { IfOk result (λ i.
+            Grows self.old.nodes.items self.new.nodes.items i
+            (one (unary_named op) (term_of a.now))) }
         ensures ordered { OnOk result (AreOrdered self.new.nodes.items dims) }
         ensures ready { OnOk result (AreReady self.new.nodes.items self.new.ready.items) }
         ensures numbered { OnOk result (AreNumbered self.new.nodes.items self.new.numbers) }
@@ -126,7 +131,9 @@ impl Builder {
         requires numbered { AreNumbered self.old.nodes.items self.old.numbers }
         requires over_a { IsOver dims (term_of a.now) }
         requires over_b { IsOver dims (term_of b.now) }
-        ensures grows { IfOk result (λ i. Grows self.old.nodes.items self.new.nodes.items i (two (binary_named op) (term_of a.now) (term_of b.now))) }
+        ensures grows { IfOk result (λ i.
+            Grows self.old.nodes.items self.new.nodes.items i
+            (two (binary_named op) (term_of a.now) (term_of b.now))) }
         ensures ordered { OnOk result (AreOrdered self.new.nodes.items dims) }
         ensures ready { OnOk result (AreReady self.new.nodes.items self.new.ready.items) }
         ensures numbered { OnOk result (AreNumbered self.new.nodes.items self.new.numbers) }
@@ -144,7 +151,8 @@ fn number_in(numbers: &HashMap<Node, usize>, node: Node) -> Option<usize>
 }
 
 fn put_number(numbers: &mut HashMap<Node, usize>, node: Node, number: usize) -> Result<(), Memory>
-    ensures { OnOk result ((q : Node) → get same_node numbers.new q ≡ (if same_node node q then Some number else get same_node numbers.old q)) }
+    ensures { OnOk result ((q : Node) → get same_node numbers.new q ≡
+        (if same_node node q then Some number else get same_node numbers.old q)) }
 {
     numbers.insert(node, number)?;
     Ok(())

@@ -12,7 +12,6 @@ ghost use Rattle.pv_hc4.specs.Members.{AreOver, AreWithin, HoldsOn, LosesNoPoint
 use crate::builder::Builder;
 use crate::forward::forward_all;
 use crate::node::Node;
-use crate::revise::revise_values;
 use crate::revised::Revised;
 use crate::steps::Steps;
 use crate::total::{decides, is_total};
@@ -120,7 +119,8 @@ impl Graph {
     /// narrowed by the constraint. After `Empty`, and after want of memory, the box is as before.
     pub fn revise(&self, alloc: Global, bx: &mut IBox) -> Result<Revised, Memory>
         requires { length bx.old ≡ self.now.dims }
-        ensures answer { IfOk result (λ r. IsAnswer (revised (sides_of self.now) bx.old) r bx.old bx.new) }
+        ensures answer { IfOk result (λ r.
+            IsAnswer (revised (sides_of self.now) bx.old) r bx.old bx.new) }
         ensures unchanged { OnErr result (bx.new ≡ bx.old) }
         ensures within { AreWithin bx.new bx.old }
         ensures points { IfOk result (λ r. LosesNoPoint (sides_of self.now) r bx.old bx.new) }
@@ -132,18 +132,12 @@ impl Graph {
     /// As `revise`, with room that is kept.
     pub fn revise_in(&self, scratch: &mut Scratch, bx: &mut IBox) -> Result<Revised, Memory>
         requires { length bx.old ≡ self.now.dims }
-        ensures answer { IfOk result (λ r. IsAnswer (revised (sides_of self.now) bx.old) r bx.old bx.new) }
+        ensures answer { IfOk result (λ r.
+            IsAnswer (revised (sides_of self.now) bx.old) r bx.old bx.new) }
         ensures unchanged { OnErr result (bx.new ≡ bx.old) }
     {
-        fill(&mut scratch.values, &self.ready)?;
-        Ok(revise_values(
-            &self.nodes,
-            self.left,
-            self.relation,
-            self.right,
-            &mut scratch.values,
-            bx,
-        ))
+        let judged = self.judge_in(scratch, bx)?;
+        Ok(judged.revised())
     }
 
     /// As `revise`; the steps rise by one.
@@ -154,7 +148,8 @@ impl Graph {
         steps: &mut Steps<L>,
     ) -> Result<Revised, Memory>
         requires { length bx.old ≡ self.now.dims }
-        ensures answer { IfOk result (λ r. IsAnswer (revised (sides_of self.now) bx.old) r bx.old bx.new) }
+        ensures answer { IfOk result (λ r.
+            IsAnswer (revised (sides_of self.now) bx.old) r bx.old bx.new) }
         ensures unchanged { OnErr result (bx.new ≡ bx.old) }
         ensures counted { steps.new ≡ steps.old + 1 }
     {
@@ -169,7 +164,8 @@ impl Graph {
         steps: &mut Steps<L>,
     ) -> Result<Revised, Memory>
         requires { length bx.old ≡ self.now.dims }
-        ensures answer { IfOk result (λ r. IsAnswer (revised (sides_of self.now) bx.old) r bx.old bx.new) }
+        ensures answer { IfOk result (λ r.
+            IsAnswer (revised (sides_of self.now) bx.old) r bx.old bx.new) }
         ensures unchanged { OnErr result (bx.new ≡ bx.old) }
         ensures counted { steps.new ≡ steps.old + 1 }
     {
@@ -208,9 +204,22 @@ fn forward_values(
     values: &mut [Interval],
     bx: &IBox,
 ) -> Option<Forward>
-    requires graph { IsGraph (record { nodes = nodes.now; left = left; relation = relation; right = right; dims = length bx.now }) }
+    requires graph { IsGraph (record {
+      nodes = nodes.now;
+      left = left;
+      relation = relation;
+      right = right;
+      dims = length bx.now;
+    }) }
     requires ready { AreReady nodes.now values.old }
-    ensures { result ≡ forward_sides (sides_of (record { nodes = nodes.now; left = left; relation = relation; right = right; dims = length bx.now })) bx.now }
+    ensures { result ≡ forward_sides
+        (sides_of (record {
+          nodes = nodes.now;
+          left = left;
+          relation = relation;
+          right = right;
+          dims = length bx.now;
+        })) bx.now }
 {
     if !forward_all(nodes, bx, values) {
         return None;

@@ -15,6 +15,7 @@ use crate::narrow::narrow;
 use crate::node::Node;
 use crate::relate::related;
 use crate::revise::{copied, is_same, restore};
+use crate::revised::Revised;
 use crate::total::{decides, is_total};
 use pv_box::IBox;
 use pv_expr::Relation;
@@ -34,12 +35,27 @@ pub enum Judged {
     Empty,
 }
 
+impl Judged {
+    /// What the revision did to the box.
+    #[inline]
+    pub fn revised(self) -> Revised
+        ensures { result ≡ revised_by self }
+    {
+        match self {
+            Judged::Sure | Judged::Kept => Revised::Kept,
+            Judged::Changed(_) => Revised::Changed,
+            Judged::Empty => Revised::Empty,
+        }
+    }
+}
+
 impl Graph {
     /// As `revise_in`, and it says whether the constraint is sure on the box, and which places
     /// became narrower.
     pub fn judge_in(&self, scratch: &mut Scratch, bx: &mut IBox) -> Result<Judged, Memory>
         requires { length bx.old ≡ self.now.dims }
-        ensures answer { IfOk result (λ r. IsAnswer (revised (sides_of self.now) bx.old) (revised_by r) bx.old bx.new) }
+        ensures answer { IfOk result (λ r.
+            IsAnswer (revised (sides_of self.now) bx.old) (revised_by r) bx.old bx.new) }
         ensures sure { IfOk result (λ r. is_sure_by r ≡ sure_of (sides_of self.now) bx.old) }
         ensures changed { IfOk result (λ r. MarksChanged r bx.old bx.new) }
         ensures unchanged { OnErr result (bx.new ≡ bx.old) }
@@ -91,7 +107,8 @@ fn judge_sides(
     requires left_in { left < length nodes.now }
     requires right_in { right < length nodes.now }
     requires valued { AreValues bx.old nodes.now values.now }
-    ensures answer { IsAnswer (narrowed_of bx.old (term_at (terms nodes.now) left) (term_at (terms nodes.now) right) both) (revised_by result) bx.old bx.new }
+    ensures answer { IsAnswer (narrowed_of bx.old (term_at (terms nodes.now) left)
+        (term_at (terms nodes.now) right) both) (revised_by result) bx.old bx.new }
     ensures unsure { is_sure_by result ≡ false }
     ensures changed { MarksChanged result bx.old bx.new }
 {
@@ -120,9 +137,22 @@ fn is_sure(
     right: usize,
     bx: &IBox,
 ) -> bool
-    requires graph { IsGraph (record { nodes = nodes.now; left = left; relation = relation; right = right; dims = length bx.now }) }
+    requires graph { IsGraph (record {
+      nodes = nodes.now;
+      left = left;
+      relation = relation;
+      right = right;
+      dims = length bx.now;
+    }) }
     requires valued { AreValues bx.now nodes.now values.now }
-    ensures { result ≡ sure_of (sides_of (record { nodes = nodes.now; left = left; relation = relation; right = right; dims = length bx.now })) bx.now }
+    ensures { result ≡ sure_of (sides_of
+        (record {
+          nodes = nodes.now;
+          left = left;
+          relation = relation;
+          right = right;
+          dims = length bx.now;
+        })) bx.now }
 {
     let _dims = bx.dims();
     decides(relation, values[left], values[right]) && is_total(nodes, values, bx)
@@ -137,7 +167,13 @@ fn may_rest(
     right: usize,
     bx: &IBox,
 ) -> bool
-    requires graph { IsGraph (record { nodes = nodes.now; left = left; relation = relation; right = right; dims = length bx.now }) }
+    requires graph { IsGraph (record {
+      nodes = nodes.now;
+      left = left;
+      relation = relation;
+      right = right;
+      dims = length bx.now;
+    }) }
     requires valued { AreValues bx.now nodes.now values.now }
     ensures { MayRest result bx.now bx.now nodes.now }
 {
@@ -154,10 +190,30 @@ pub fn judge_values(
     values: &mut [Interval],
     bx: &mut IBox,
 ) -> Judged
-    requires graph { IsGraph (record { nodes = nodes.now; left = left; relation = relation; right = right; dims = length bx.old }) }
+    requires graph { IsGraph (record {
+      nodes = nodes.now;
+      left = left;
+      relation = relation;
+      right = right;
+      dims = length bx.old;
+    }) }
     requires ready { AreReady nodes.now values.old }
-    ensures answer { IsAnswer (revised (sides_of (record { nodes = nodes.now; left = left; relation = relation; right = right; dims = length bx.old })) bx.old) (revised_by result) bx.old bx.new }
-    ensures sure { is_sure_by result ≡ sure_of (sides_of (record { nodes = nodes.now; left = left; relation = relation; right = right; dims = length bx.old })) bx.old }
+    ensures answer { IsAnswer (revised
+        (sides_of (record {
+          nodes = nodes.now;
+          left = left;
+          relation = relation;
+          right = right;
+          dims = length bx.old;
+        })) bx.old) (revised_by result) bx.old bx.new }
+    ensures sure { is_sure_by result ≡
+        sure_of (sides_of (record {
+          nodes = nodes.now;
+          left = left;
+          relation = relation;
+          right = right;
+          dims = length bx.old;
+        })) bx.old }
     ensures changed { MarksChanged result bx.old bx.new }
 {
     let _dims = bx.dims();

@@ -47,7 +47,8 @@ fn back_binary(
 fn narrow_place(bx: &mut IBox, place: u8, target: Interval) -> bool
     requires { place < length bx.old }
     ensures dims { length bx.new ≡ length bx.old }
-    ensures narrowed { Gives result bx.new (applied bx.old (record { var = place; within = target } ∷ [])) }
+    ensures narrowed { Gives result bx.new
+        (applied bx.old (record { var = place; within = target } ∷ [])) }
 {
     match crate::forward::place(bx, place).meet(target) {
         Some(x) => {
@@ -83,7 +84,8 @@ pub(crate) fn narrow(
     requires valued { AreValues entry.now nodes.now values.now }
     requires rest { MayRest rests entry.now bx.old nodes.now }
     ensures dims { length bx.new ≡ length bx.old }
-    ensures narrowed { Gives result bx.new (went entry.now bx.old (term_at (terms nodes.now) at) target) }
+    ensures narrowed { Gives result bx.new
+        (went entry.now bx.old (term_at (terms nodes.now) at) target) }
 {
     if is_left(rests, target, values[at]) {
         let _places = bx.dims();

@@ -24,4 +24,5 @@ pub use plain_folder::PlainFolder;
 pub use plain_sink::PlainSink;
 pub use real_folder::RealFolder;
 pub use real_sink::RealSink;
+pub use script::Script;
 pub use sink::{Sink, WriteRefused};

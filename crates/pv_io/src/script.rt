@@ -6,7 +6,7 @@ use std::marker::Model;
 
 /// The numbers of the calls that fail, and the number of the next call.
 #[derive(Drop)]
-pub(crate) struct Script {
+pub struct Script {
     failing: Vec<u64>,
     next: u64,
 }
@@ -21,21 +21,21 @@ impl Model for Script {
 
 impl Script {
     /// Calls are numbered from 0.
-    pub(crate) fn new(failing: Vec<u64>) -> Self
+    pub fn new(failing: Vec<u64>) -> Self
         ensures { result ≡ record { failing = failing.items; next = 0 } }
     {
         Script { failing, next: 0 }
     }
 
     /// Whether the next call fails.
-    pub(crate) fn fails(&self) -> bool
+    pub fn fails(&self) -> bool
         ensures { IsTrue result ↔ Contains self.now.failing self.now.next }
     {
         self.failing.contains(&self.next)
     }
 
     /// Goes on to the call behind the next one.
-    pub(crate) fn advance(&mut self)
+    pub fn advance(&mut self)
         ensures { self.new ≡ record self.old { next = one_more self.old.next } }
     {
         self.next = self.next.saturating_add(1);

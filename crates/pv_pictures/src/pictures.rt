@@ -31,7 +31,8 @@ const IDENTITY: [u8; 32] = [0; 32];
 const HEADER: &str =
     "paving 1\nidentity 0000000000000000000000000000000000000000000000000000000000000000\n";
 
-const HEAD: &str = "<svg xmlns=\"http://www.w3.org/2000/svg\" width=\"1000\" height=\"1000\" viewBox=\"0 0 1000 1000\">\n";
+const HEAD: &str =
+    "<svg xmlns=\"http://www.w3.org/2000/svg\" width=\"1000\" height=\"1000\" viewBox=\"0 0 1000 1000\">\n";
 
 fn number((mantissa, exponent): Spelled) -> Option<Num> {
     Num::fin(mantissa, exponent)
@@ -48,9 +49,7 @@ fn numbers(alloc: Global, spelled: &[Spelled]) -> Option<Vec<Num>> {
 fn root_box(alloc: Global, case: &Case) -> Option<IBox> {
     let mut parts = Vec::new(alloc);
     for (lo, hi) in case.root {
-        parts
-            .push(Interval::new(number(*lo)?, number(*hi)?)?)
-            .ok()?;
+        parts.push(Interval::new(number(*lo)?, number(*hi)?)?).ok()?;
     }
     if parts.is_empty() || parts.len() > 12 {
         return None;

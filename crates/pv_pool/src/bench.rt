@@ -61,9 +61,11 @@ fn introduce<J: Drop>(benches: &mut [Bench<J>], number: usize) -> Result<(), Mem
     requires ready { AreReady (length benches.old) benches.old }
     requires few { length benches.old ≤ 16 }
     requires there { number < length benches.old }
-    requires whole { (k : ℕ) (d : Bench J) → number ≤ k → k < length benches.old → (own (get_or benches.old k d).owner).parts ≡ 16 }
+    requires whole { (k : ℕ) (d : Bench J) → number ≤ k → k < length benches.old →
+        (own (get_or benches.old k d).owner).parts ≡ 16 }
     ensures ready { OnOk result (AreReady (length benches.old) benches.new) }
-    ensures whole { OnOk result ((k : ℕ) (d : Bench J) → number < k → k < length benches.old → (own (get_or benches.new k d).owner).parts ≡ 16) }
+    ensures whole { OnOk result ((k : ℕ) (d : Bench J) → number < k → k < length benches.old →
+        (own (get_or benches.new k d).owner).parts ≡ 16) }
 {
     for other in 0..benches.len() {
         if other != number {
@@ -81,8 +83,11 @@ fn link<J: Drop>(benches: &mut [Bench<J>], number: usize, other: usize) -> Resul
     requires apart { other ≢ number }
     requires parts { (d : Bench J) → 1 < (own (get_or benches.old number d).owner).parts }
     ensures ready { OnOk result (AreReady (length benches.old) benches.new) }
-    ensures parts { OnOk result ((d : Bench J) → (own (get_or benches.new number d).owner).parts + 1 ≡ (own (get_or benches.old number d).owner).parts) }
-    ensures same { OnOk result ((k : ℕ) (d : Bench J) → k ≢ number → (own (get_or benches.new k d).owner).parts ≡ (own (get_or benches.old k d).owner).parts) }
+    ensures parts { OnOk result ((d : Bench J) →
+        (own (get_or benches.new number d).owner).parts + 1 ≡
+        (own (get_or benches.old number d).owner).parts) }
+    ensures same { OnOk result ((k : ℕ) (d : Bench J) → k ≢ number →
+        (own (get_or benches.new k d).owner).parts ≡ (own (get_or benches.old k d).owner).parts) }
 {
     let thief = cut(benches, number)?;
     place(benches, other, thief)
@@ -91,15 +96,20 @@ fn link<J: Drop>(benches: &mut [Bench<J>], number: usize, other: usize) -> Resul
 // Cuts the pass of an owner: a way to its deque, which stands at no bench yet.
 fn cut<J: Drop>(benches: &mut [Bench<J>], number: usize) -> Result<Thief<J>, Memory>
     requires links { Links benches.old [] }
-    requires fresh { (i : ℕ) (d : Bench J) → i < length benches.old → IsFresh (get_or benches.old i d) }
+    requires fresh { (i : ℕ) (d : Bench J) → i < length benches.old →
+        IsFresh (get_or benches.old i d) }
     requires there { number < length benches.old }
     requires parts { (d : Bench J) → 1 < (own (get_or benches.old number d).owner).parts }
     ensures count { length benches.new ≡ length benches.old }
     ensures links { IfOk result (λ t. Links benches.new (t ∷ [])) }
     ensures taken { IfOk result (λ t. (reach t).taken ≡ []) }
-    ensures fresh { OnOk result ((i : ℕ) (d : Bench J) → i < length benches.old → IsFresh (get_or benches.new i d)) }
-    ensures parts { OnOk result ((d : Bench J) → (own (get_or benches.new number d).owner).parts + 1 ≡ (own (get_or benches.old number d).owner).parts) }
-    ensures same { OnOk result ((k : ℕ) (d : Bench J) → k ≢ number → (own (get_or benches.new k d).owner).parts ≡ (own (get_or benches.old k d).owner).parts) }
+    ensures fresh { OnOk result ((i : ℕ) (d : Bench J) → i < length benches.old →
+        IsFresh (get_or benches.new i d)) }
+    ensures parts { OnOk result ((d : Bench J) →
+        (own (get_or benches.new number d).owner).parts + 1 ≡
+        (own (get_or benches.old number d).owner).parts) }
+    ensures same { OnOk result ((k : ℕ) (d : Bench J) → k ≢ number →
+        (own (get_or benches.new k d).owner).parts ≡ (own (get_or benches.old k d).owner).parts) }
 {
     Ok(benches[number].owner.share(number)?)
 }
@@ -108,12 +118,15 @@ fn cut<J: Drop>(benches: &mut [Bench<J>], number: usize) -> Result<Thief<J>, Mem
 fn place<J: Drop>(benches: &mut [Bench<J>], other: usize, thief: Thief<J>) -> Result<(), Memory>
     requires links { Links benches.old (thief ∷ []) }
     requires taken { (reach thief).taken ≡ [] }
-    requires fresh { (i : ℕ) (d : Bench J) → i < length benches.old → IsFresh (get_or benches.old i d) }
+    requires fresh { (i : ℕ) (d : Bench J) → i < length benches.old →
+        IsFresh (get_or benches.old i d) }
     requires other { other < length benches.old }
     ensures count { length benches.new ≡ length benches.old }
     ensures links { OnOk result (Links benches.new []) }
-    ensures fresh { OnOk result ((i : ℕ) (d : Bench J) → i < length benches.old → IsFresh (get_or benches.new i d)) }
-    ensures same { OnOk result ((k : ℕ) (d : Bench J) → (own (get_or benches.new k d).owner).parts ≡ (own (get_or benches.old k d).owner).parts) }
+    ensures fresh { OnOk result ((i : ℕ) (d : Bench J) → i < length benches.old →
+        IsFresh (get_or benches.new i d)) }
+    ensures same { OnOk result ((k : ℕ) (d : Bench J) →
+        (own (get_or benches.new k d).owner).parts ≡ (own (get_or benches.old k d).owner).parts) }
 {
     benches[other].thieves.push(thief)?;
     Ok(())
@@ -123,7 +136,8 @@ fn place<J: Drop>(benches: &mut [Bench<J>], other: usize, thief: Thief<J>) -> Re
 pub fn steal_once_round<J: Drop>(thieves: &mut [Thief<J>]) -> Option<J>
     requires { MaySteal thieves.old }
     ensures same { SameThieves thieves.old thieves.new }
-    ensures stolen { sum_by stolen_by thieves.new ≡ sum_by stolen_by thieves.old + length (option_to_list result) }
+    ensures stolen { sum_by stolen_by thieves.new ≡
+        sum_by stolen_by thieves.old + length (option_to_list result) }
 {
     for i in 0..thieves.len() {
         if let Some(job) = thieves[i].steal() {

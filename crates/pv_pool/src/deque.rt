@@ -122,7 +122,9 @@ impl<J: Drop> Owner<J> {
         ensures popped { MatchOption result
             ((worker_view self.new.worker ≡ worker_view self.old.worker) × ((worker_view self.old.worker).parts ≡ 16 → SameBag (worker_view self.old.worker).pushed (worker_view self.old.worker).taken))
             (λ x. worker_view self.new.worker ≡ hand (worker_view self.old.worker).parts (worker_view self.old.worker).pushed ((worker_view self.old.worker).taken ++ x ∷ [])) }
-        ensures within { IfSome result (λ _. (worker_view self.old.worker).parts ≡ 16 → length (worker_view self.new.worker).taken ≤ length (worker_view self.new.worker).pushed) }
+        ensures within { IfSome result (λ _. (worker_view self.old.worker).parts ≡ 16 →
+            length (worker_view self.new.worker).taken ≤ length
+            (worker_view self.new.worker).pushed) }
     {
         self.worker.pop_as::<Popping>()
     }
@@ -136,7 +138,9 @@ impl<J: Drop> Owner<J> {
         ensures number { IfOk result (λ t. t.deque ≡ number) }
         ensures deque { IfOk result (λ t. stealer_deque t.stealer ≡ worker_deque self.new.worker) }
         ensures cut { IfOk result (λ t. view t.pass ≡ hand 1 [] []) }
-        ensures left { IfOk result (λ t. worker_view self.new.worker ≡ hand ((worker_view self.old.worker).parts - 1) (worker_view self.old.worker).pushed (worker_view self.old.worker).taken) }
+        ensures left { IfOk result (λ t. worker_view self.new.worker ≡
+            hand ((worker_view self.old.worker).parts - 1) (worker_view self.old.worker).pushed
+            (worker_view self.old.worker).taken) }
     {
         let stealer = self.worker.stealer()?;
         let pass = self.worker.another::<Cut>();
@@ -152,7 +156,10 @@ impl<J: Drop> Owner<J> {
         requires part { 0 < (worker_view self.old.worker).parts }
         requires deque { stealer_deque thief.stealer ≡ worker_deque self.old.worker }
         ensures same { worker_deque self.new.worker ≡ worker_deque self.old.worker }
-        ensures both { worker_view self.new.worker ≡ hand ((worker_view self.old.worker).parts + (view thief.pass).parts) ((worker_view self.old.worker).pushed ++ (view thief.pass).pushed) ((worker_view self.old.worker).taken ++ (view thief.pass).taken) }
+        ensures both { worker_view self.new.worker ≡
+            hand ((worker_view self.old.worker).parts + (view thief.pass).parts)
+            ((worker_view self.old.worker).pushed ++ (view thief.pass).pushed)
+            ((worker_view self.old.worker).taken ++ (view thief.pass).taken) }
     {
         self.worker.absorb::<Cut>(thief.pass);
     }

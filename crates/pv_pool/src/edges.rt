@@ -181,9 +181,7 @@ fn ends_at_once<R: Threads + Wait + Sync>(
         Ok(told) => told,
         Err(refused) => return Ok(refused.told.len() == workers),
     };
-    let once = told
-        .iter()
-        .all(|t| t.ends == 1 && t.given == 0 && t.back == 0 && t.looks == 0);
+    let once = told.iter().all(|t| t.ends == 1 && t.given == 0 && t.back == 0 && t.looks == 0);
     Ok(once && work.calls.load(Ordering::SeqCst) == 0)
 }
 

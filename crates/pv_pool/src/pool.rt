@@ -37,12 +37,18 @@ pub fn run_workers<W: Work + Sync, R: Threads + Wait + Sync>(
 ) -> Result<Vec<W::Told>, PoolRefused<W::Told>>
     requires some { 1 ≤ vec_len told }
     requires few { vec_len told ≤ 16 }
-    requires room { (i : ℕ) (t : W.Told) → i < vec_len told → AreBelow (2 ^ 90) (W.numbers (get_or told.items i t)) }
+    requires room { (i : ℕ) (t : W.Told) → i < vec_len told →
+        AreBelow (2 ^ 90) (W.numbers (get_or told.items i t)) }
     ensures refused { IfErr result (λ e. e.told.items ≡ told.items) }
     ensures count { IfOk result (λ after. vec_len after ≡ vec_len told) }
-    ensures sums { IfOk result (λ after. sum_by (λ t. (W.numbers t).given) after.items + sum_by (λ t. (W.numbers t).back) told.items ≡ sum_by (λ t. (W.numbers t).given) told.items + sum_by (λ t. (W.numbers t).back) after.items) }
+    ensures sums { IfOk result (λ after.
+        sum_by (λ t. (W.numbers t).given) after.items + sum_by (λ t.
+        (W.numbers t).back) told.items ≡
+        sum_by (λ t. (W.numbers t).given) told.items + sum_by (λ t.
+        (W.numbers t).back) after.items) }
     ensures accounts { IfOk result (λ after. HaveAccounts W.Job W.numbers told.items after.items) }
-    ensures served { IfOk result (λ after. (i : ℕ) (t : W.Told) → i < vec_len told → HasServed (W.numbers (get_or told.items i t)) (W.numbers (get_or after.items i t))) }
+    ensures served { IfOk result (λ after. (i : ℕ) (t : W.Told) → i < vec_len told →
+        HasServed (W.numbers (get_or told.items i t)) (W.numbers (get_or after.items i t))) }
 {
     let count = told.len();
     let Ok(benches) = furnish(alloc, count) else {
@@ -65,7 +71,8 @@ fn work_all<W: Work + Sync, R: Threads + Wait + Sync>(
     room: Room<W::Job, W::Told>,
 ) -> (Vec<W::Told>, Vec<Bench<W::Job>>)
     requires some { 1 ≤ vec_len told }
-    requires below { (i : ℕ) (t : W.Told) → i < vec_len told → AreBelow (2 ^ 90) (W.numbers (get_or told.items i t)) }
+    requires below { (i : ℕ) (t : W.Told) → i < vec_len told →
+        AreBelow (2 ^ 90) (W.numbers (get_or told.items i t)) }
     requires ready { AreReady (vec_len told) benches.items }
     requires seats { (room.seats.items ≡ []) × (vec_len told ≤ vec_capacity room.seats) }
     requires after { (room.told.items ≡ []) × (vec_len told ≤ vec_capacity room.told) }
@@ -90,9 +97,11 @@ fn run_all<W: Work + Sync, R: Threads + Wait + Sync>(
     seats: &mut [Seat<W::Job, W::Told>],
 )
     requires some { 0 < length seats.old }
-    requires seated { (i : ℕ) (d : Seat W.Job W.Told) → i < length seats.old → IsSeated W.numbers (get_or seats.old i d) }
+    requires seated { (i : ℕ) (d : Seat W.Job W.Told) → i < length seats.old →
+        IsSeated W.numbers (get_or seats.old i d) }
     ensures count { length seats.new ≡ length seats.old }
-    ensures run { (i : ℕ) (d : Seat W.Job W.Told) → i < length seats.old → HasRun W.numbers (get_or seats.old i d) (get_or seats.new i d) }
+    ensures run { (i : ℕ) (d : Seat W.Job W.Told) → i < length seats.old →
+        HasRun W.numbers (get_or seats.old i d) (get_or seats.new i d) }
 {
     let count = seats.len();
     // The last worker sits first.

@@ -25,7 +25,8 @@ impl<J: Drop, T: Drop> Room<J, T> {
     pub fn new(alloc: Global, count: usize) -> Result<Room<J, T>, AllocError>
         ensures seats { IfOk result (λ r. (r.seats.items ≡ []) × (count ≤ vec_capacity r.seats)) }
         ensures told { IfOk result (λ r. (r.told.items ≡ []) × (count ≤ vec_capacity r.told)) }
-        ensures benches { IfOk result (λ r. (r.benches.items ≡ []) × (count ≤ vec_capacity r.benches)) }
+        ensures benches { IfOk result (λ r. (r.benches.items ≡ []) ×
+            (count ≤ vec_capacity r.benches)) }
     {
         Ok(Room {
             seats: Vec::with_capacity(alloc, count)?,

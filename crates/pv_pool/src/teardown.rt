@@ -24,10 +24,14 @@ pub fn close<W: Work, R: Wait>(
 )
     requires same { length told.old ≡ length benches.old }
     requires links { Links benches.old [] }
-    requires few { (i : ℕ) (d : Bench W.Job) → i < length benches.old → length (own (get_or benches.old i d).owner).pushed < 2 ^ 98 }
-    requires room { (i : ℕ) (t : W.Told) → i < length told.old → AreBelow (2 ^ 99) (W.numbers (get_or told.old i t)) }
+    requires few { (i : ℕ) (d : Bench W.Job) → i < length benches.old →
+        length (own (get_or benches.old i d).owner).pushed < 2 ^ 98 }
+    requires room { (i : ℕ) (t : W.Told) → i < length told.old →
+        AreBelow (2 ^ 99) (W.numbers (get_or told.old i t)) }
     ensures count { length told.new ≡ length told.old }
-    ensures closed { (i : ℕ) (d : Bench W.Job) (t : W.Told) → i < length told.old → IsClosed i benches.old d (W.numbers (get_or told.old i t)) (W.numbers (get_or told.new i t)) }
+    ensures closed { (i : ℕ) (d : Bench W.Job) (t : W.Told) → i < length told.old →
+        IsClosed i benches.old d (W.numbers (get_or told.old i t))
+        (W.numbers (get_or told.new i t)) }
 {
     gather(alloc, benches);
     drain_all(rt, work, benches, told);
@@ -63,11 +67,16 @@ fn drain_all<W: Work, R: Wait>(
     told: &mut [W::Told],
 )
     requires same { length told.old ≡ length benches.old }
-    requires whole { (i : ℕ) (d : Bench W.Job) → i < length benches.old → (own (get_or benches.old i d).owner).parts ≡ 16 }
-    requires few { (i : ℕ) (d : Bench W.Job) → i < length benches.old → length (own (get_or benches.old i d).owner).pushed < 2 ^ 98 }
-    requires room { (i : ℕ) (t : W.Told) → i < length told.old → AreBelow (2 ^ 99) (W.numbers (get_or told.old i t)) }
+    requires whole { (i : ℕ) (d : Bench W.Job) → i < length benches.old →
+        (own (get_or benches.old i d).owner).parts ≡ 16 }
+    requires few { (i : ℕ) (d : Bench W.Job) → i < length benches.old →
+        length (own (get_or benches.old i d).owner).pushed < 2 ^ 98 }
+    requires room { (i : ℕ) (t : W.Told) → i < length told.old →
+        AreBelow (2 ^ 99) (W.numbers (get_or told.old i t)) }
     ensures count { length told.new ≡ length told.old }
-    ensures drained { (i : ℕ) (d : Bench W.Job) (t : W.Told) → i < length told.old → IsDrained (W.numbers (get_or told.old i t)) (W.numbers (get_or told.new i t)) (own (get_or benches.old i d).owner) }
+    ensures drained { (i : ℕ) (d : Bench W.Job) (t : W.Told) → i < length told.old →
+        IsDrained (W.numbers (get_or told.old i t)) (W.numbers (get_or told.new i t))
+        (own (get_or benches.old i d).owner) }
 {
     for i in 0..benches.len() {
         drain(rt, work, &mut benches[i].owner, &mut told[i]);

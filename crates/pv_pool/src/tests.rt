@@ -153,7 +153,9 @@ impl<'a, C: Clock> Work for Doubling<'a, C> {
 // New accounts.
 pub(crate) fn accounts(alloc: Global, count: usize) -> Result<Vec<Counted>, AllocError>
     ensures count { IfOk result (λ v. vec_len v ≡ count) }
-    ensures fresh { IfOk result (λ v. (i : ℕ) (t : Counted) → i < count → ((get_or v.items i t).given ≡ 0) × ((get_or v.items i t).back ≡ 0) × ((get_or v.items i t).looks ≡ 0)) }
+    ensures fresh { IfOk result (λ v. (i : ℕ) (t : Counted) → i < count →
+        ((get_or v.items i t).given ≡ 0) × ((get_or v.items i t).back ≡ 0) ×
+        ((get_or v.items i t).looks ≡ 0)) }
 {
     let mut told = Vec::with_capacity(alloc, count)?;
     for _ in 0..count {

@@ -25,7 +25,8 @@ pub fn run<W: Work, R: Wait>(
     requires work { MayWork bench.old }
     requires room { AreBelow (2 ^ 90) (W.numbers told.old) }
     ensures same { SameBench bench.old bench.new }
-    ensures ended { Ended (W.numbers told.old) (W.numbers told.new) (drawn bench.old) (drawn bench.new) (put bench.old) (put bench.new) }
+    ensures ended { Ended (W.numbers told.old) (W.numbers told.new) (drawn bench.old)
+        (drawn bench.new) (put bench.old) (put bench.new) }
 {
     let mut seen = 0;
     let mut rounds: u64 = 0;
@@ -82,7 +83,8 @@ fn work_one<W: Work, R: Wait>(
     requires room { AreBelow (2 ^ 99) (W.numbers told.old) }
     ensures same { SameBench bench.old bench.new }
     ensures drawn { drawn bench.new ≡ drawn bench.old }
-    ensures worked { Worked (W.numbers told.old) (W.numbers told.new) (put bench.old) (put bench.new) }
+    ensures worked { Worked (W.numbers told.old) (W.numbers told.new) (put bench.old)
+        (put bench.new) }
 {
     work.work(rt, number, job, told, &mut bench.children);
     let _count = bench.children.len();
@@ -105,7 +107,8 @@ fn offer_all<W: Work, R: Wait>(
     ensures deque { worker_deque owner.new.worker ≡ worker_deque owner.old.worker }
     ensures parts { (own owner.new).parts ≡ (own owner.old).parts }
     ensures taken { (own owner.new).taken ≡ (own owner.old).taken }
-    ensures offered { Offered (length children.old) (W.numbers told.old) (W.numbers told.new) (length (own owner.old).pushed) (length (own owner.new).pushed) }
+    ensures offered { Offered (length children.old) (W.numbers told.old) (W.numbers told.new)
+        (length (own owner.old).pushed) (length (own owner.new).pushed) }
 {
     while let Some(job) = children.pop() {
         offer(rt, work, job, owner, told);
@@ -125,7 +128,8 @@ fn offer<W: Work, R: Wait>(
     ensures deque { worker_deque owner.new.worker ≡ worker_deque owner.old.worker }
     ensures parts { (own owner.new).parts ≡ (own owner.old).parts }
     ensures taken { (own owner.new).taken ≡ (own owner.old).taken }
-    ensures offered { Offered 1 (W.numbers told.old) (W.numbers told.new) (length (own owner.old).pushed) (length (own owner.new).pushed) }
+    ensures offered { Offered 1 (W.numbers told.old) (W.numbers told.new)
+        (length (own owner.old).pushed) (length (own owner.new).pushed) }
 {
     match owner.push(job) {
         Ok(()) => {}

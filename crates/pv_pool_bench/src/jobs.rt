@@ -1,5 +1,5 @@
 //! Jobs that cost next to nothing, so that the pool is what is measured.
-ghost use Rattle.std.specs.Prelude.{◌≡◌, ℕ, ◌<◌, ◌≤◌, ◌^◌, ◌×◌, [], length, get_or, vec_len, IfOk};
+ghost use Rattle.std.specs.Prelude.{◌≡◌, ℕ, ◌<◌, ◌≤◌, ◌^◌, [], length, get_or, vec_len, IfOk};
 ghost use Rattle.pv_pool.specs.Counting.{AreBelow, after_work, after_return, after_job, after_look, after_end};
 ghost use Rattle.pv_pool.specs.Idling.{MatchIdle};
 
@@ -123,7 +123,9 @@ impl Work for Doubling {
 /// New accounts.
 fn accounts(alloc: Global, count: usize) -> Result<Vec<Counted>, Memory>
     ensures count { IfOk result (λ v. vec_len v ≡ count) }
-    ensures fresh { IfOk result (λ v. (i : ℕ) (t : Counted) → i < count → ((get_or v.items i t).given ≡ 0) × ((get_or v.items i t).back ≡ 0) × ((get_or v.items i t).looks ≡ 0)) }
+    ensures fresh { IfOk result (λ v. (i : ℕ) (t : Counted) → i < count →
+        ((get_or v.items i t).given ≡ 0) × ((get_or v.items i t).back ≡ 0) ×
+        ((get_or v.items i t).looks ≡ 0)) }
 {
     let mut told = Vec::with_capacity(alloc, count)?;
     for _ in 0..count {

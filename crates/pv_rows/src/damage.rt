@@ -55,12 +55,13 @@ fn refused(rt: &impl Abort, alloc: Global, file: &[u8], line: &[u8]) -> Result<(
 // The line of a bad line, from the number of line feeds before it.
 fn bad_line(alloc: Global, before: &[u8]) -> Result<String, Fail> {
     let feeds = before.iter().filter(|b| **b == b'\n').count() as u64;
-    Ok(format!(in alloc; "paving p: bad line {}\n", feeds + 1)?)
+    let line = feeds.saturating_add(1);
+    Ok(format!(in alloc; "paving p: bad line {line}\n")?)
 }
 
 fn each_cut(rt: &impl Abort, alloc: Global, file: &[u8]) -> Result<(), Fail> {
     for end in 0..file.len() {
-        let front = &file[..end];
+        let front = file.get(..end).unwrap_or(&[]);
         let line = bad_line(alloc, front)?;
         refused(rt, alloc, front, line.as_bytes())?;
     }
@@ -76,8 +77,10 @@ fn a_file_that_is_cut(rt: HostRuntime) -> Result<(), Fail> {
 fn each_byte(rt: &impl Abort, alloc: Global, file: &[u8]) -> Result<(), Fail> {
     for place in 0..file.len() {
         let mut other = file.to_vec(alloc)?;
-        other[place] = b'#';
-        let line = bad_line(alloc, &file[..place])?;
+        if let Some(byte) = other.get_mut(place) {
+            *byte = b'#';
+        }
+        let line = bad_line(alloc, file.get(..place).unwrap_or(&[]))?;
         refused(rt, alloc, &other, line.as_bytes())?;
     }
     Ok(())
@@ -89,45 +92,38 @@ fn a_file_with_another_byte(rt: HostRuntime) -> Result<(), Fail> {
     each_byte(&rt, rt.alloc(), WHOLE_1.as_bytes())
 }
 
-// How many of the 32,768 leaves of a half lie below a node that is 1, 2, .. cuts below the root.
-const LEAVES_BELOW: [u64; 15] = [
-    32768, 16384, 8192, 4096, 2048, 1024, 512, 256, 128, 64, 32, 16, 8, 4, 2,
-];
-
-// The cuts of a half of [0, 1] that come right before a leaf of the half, each in the middle.
-fn push_cuts(alloc: Global, out: &mut Vec<u8>, first: u64, leaf: u64) -> Result<(), Fail> {
-    for (above, below) in LEAVES_BELOW.iter().enumerate() {
-        if leaf % *below == 0 {
-            let place = (first + leaf) / *below;
-            let line = format!(in alloc; "C 0 {}:-{} = =\n", 2 * place + 1, above + 2)?;
-            out.extend_from_slice(line.as_bytes())?;
-        }
+// Of the tree over [0, 1] that is cut in the middle on 16 levels: the cuts that come right before a leaf, and the leaf.
+fn push_leaf(alloc: Global, leaf: u32, out: &mut Vec<u8>) -> Result<(), Fail> {
+    let first = 16u32.saturating_sub(leaf.trailing_zeros());
+    for level in first..16 {
+        let place = ((leaf >> (16 - level)) << 1) | 1;
+        let line = format!(in alloc; "C 0 {}:-{} = =\n", place, level + 1)?;
+        out.extend_from_slice(line.as_bytes())?;
     }
+    out.extend_from_slice(b"X\n")?;
     Ok(())
 }
 
-// The lines of a half of [0, 1] that is cut on 15 levels, all leaves removed; its first leaf has this number.
-fn push_half(alloc: Global, out: &mut Vec<u8>, first: u64) -> Result<(), Fail> {
-    for leaf in 0..32768u64 {
-        push_cuts(alloc, out, first, leaf)?;
-        out.extend_from_slice(b"X\n")?;
+fn push_leaves(alloc: Global, from: u32, to: u32, out: &mut Vec<u8>) -> Result<(), Fail> {
+    for leaf in from..to {
+        push_leaf(alloc, leaf, out)?;
     }
     Ok(())
 }
 
 const HEAD: &[u8] =
-    b"paving 2\nidentity be80eb05bcbc91b70b7ad422c002b378eff58622ab1c9a053f3fcbdf6852f81a\nC 0 1:-1 = =\n";
+    b"paving 2\nidentity be80eb05bcbc91b70b7ad422c002b378eff58622ab1c9a053f3fcbdf6852f81a\n";
 
 // Each file has 65,536 settled nodes, and the join 131,071.
 #[test]
 fn a_join_that_is_too_large(rt: HostRuntime) -> Result<(), Fail> {
     let alloc = rt.alloc();
     let mut low = HEAD.to_vec(alloc)?;
-    push_half(alloc, &mut low, 0)?;
+    push_leaves(alloc, 0, 32_768, &mut low)?;
     low.extend_from_slice(b"O\n")?;
     let mut high = HEAD.to_vec(alloc)?;
-    high.extend_from_slice(b"O\n")?;
-    push_half(alloc, &mut high, 32768)?;
+    high.extend_from_slice(b"C 0 1:-1 = =\nO\n")?;
+    push_leaves(alloc, 32_768, 65_536, &mut high)?;
     let mut answer = call(alloc, "merge s p q --eps 0.25 --out m", &low, &high)?;
     assert_eq!(rt; answer.status.code(), 8);
     let line = b"tree limit: 131071 settled\n";

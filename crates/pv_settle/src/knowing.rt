@@ -31,8 +31,10 @@ impl SystemSettler {
     ) -> Result<Settled<Known>, Memory>
         requires dims { length bx.now ≡ dims_of (rule_of self.now) }
         requires known { Knows (sides_in self.now.graphs) known bx.now }
-        ensures outcome { IfOk result (λ s. s.outcome ≡ settle_by (rule_of self.now) bx.now depth_left path_len) }
-        ensures known { IfOk result (λ s. HoldsOfHalves (Knows (sides_in self.now.graphs) s.known) s.outcome) }
+        ensures outcome { IfOk result (λ s. s.outcome ≡
+            settle_by (rule_of self.now) bx.now depth_left path_len) }
+        ensures known { IfOk result (λ s.
+            HoldsOfHalves (Knows (sides_in self.now.graphs) s.known) s.outcome) }
     {
         let mut known = known;
         let mut to = bx.clone_of(alloc)?;
@@ -61,8 +63,10 @@ impl SystemSettler {
     ) -> Result<Settled<Known>, Memory>
         requires dims { length to ≡ dims_of (rule_of self.now) }
         requires known { Knows (sides_in self.now.graphs) known to }
-        ensures outcome { IfOk result (λ s. s.outcome ≡ settle_left (rule_of self.now) to depth_left path_len) }
-        ensures known { IfOk result (λ s. HoldsOfHalves (Knows (sides_in self.now.graphs) s.known) s.outcome) }
+        ensures outcome { IfOk result (λ s. s.outcome ≡
+            settle_left (rule_of self.now) to depth_left path_len) }
+        ensures known { IfOk result (λ s.
+            HoldsOfHalves (Knows (sides_in self.now.graphs) s.known) s.outcome) }
     {
         let _places = to.dims();
         let mut known = known;

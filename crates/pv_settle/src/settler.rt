@@ -57,7 +57,8 @@ impl SystemSettler {
         ensures eps { IfOk result (λ s. (rule_of s).eps ≡ settings.eps) }
         ensures depth { IfOk result (λ s. (rule_of s).depth ≡ settings.depth) }
         ensures bisector { IfOk result (λ s. (rule_of s).bisector ≡ settings.bisector) }
-        ensures sides { IfOk result (λ s. sides_in (rule_of s).graphs ≡ map sides_named system.constraints) }
+        ensures sides { IfOk result (λ s. sides_in (rule_of s).graphs ≡
+            map sides_named system.constraints) }
     {
         let graphs = Graphs::of(alloc, &system)?;
         let _constraints = system.constraint_count();
@@ -104,7 +105,8 @@ impl SystemSettler {
 
     /// The search box: the system's search intervals in order.
     pub fn search_box(&self, alloc: Global) -> Result<IBox, Memory>
-        ensures intervals { IfOk result (λ b. b ≡ map search_bounds (rule_of self.now).system.domains) }
+        ensures intervals { IfOk result (λ b. b ≡
+            map search_bounds (rule_of self.now).system.domains) }
         ensures dims { IfOk result (λ b. length b ≡ dims_of (rule_of self.now)) }
     {
         let mut parts = Vec::new(alloc);

@@ -1,5 +1,5 @@
 -- The pixel of a number on a finite axis.
-use Rattle.std.proofs.Common.{◌≡◌, ◌≢◌, inl, inr, ℕ, ◌*◌, ◌/◌, ◌<◌, ◌≤◌, IsTrue, Bool, true, false, cond, arith, refl, sym, ◌∙◌, ap, subst, ℤ, pos, negsuc, neg_ℤ, ◌+ℤ◌, ◌≤ℤ◌}
+use Rattle.std.proofs.Common.{◌≡◌, ◌≢◌, inl, inr, ℕ, ◌*◌, ◌/◌, ◌<◌, ◌≤◌, IsTrue, Bool, true, false, arith, refl, sym, ◌∙◌, ap, subst, ℤ, pos, negsuc, neg_ℤ, ◌+ℤ◌, ◌≤ℤ◌}
 use Rattle.std.specs.Ordering.{eq_by_cmp}
 use Rattle.std.proofs.lemmas.Int.{ints}
 use Rattle.std.proofs.lemmas.Bool.{true≢false, and_parts, and_from, cond-true, cond-false, cases_Bool, cases_lt, both_ways}
@@ -17,7 +17,7 @@ use Rattle.pv_num.proofs.Monotone.{rounded-grid}
 use Rattle.pv_interval.specs.Bounds.{Bounds, IsInterval}
 use Rattle.pv_interval.specs.Tables.{holds, width_of}
 use Rattle.pv_svg.specs.Pixels.{IsFinite, share_of, thousand, pixel_of}
-use Rattle.pv_svg.proofs.Shares.{share_nat, scaled_nat, IsScaled, scaled_there, scaled_grows, part_few, part_grows, up_above}
+use Rattle.pv_svg.proofs.Shares.{share_nat, IsScaled, scaled_there, scaled_grows, part_few, part_grows, up_above}
 use Rattle.pv_svg.specs.Rectangles.{LiesWithin}
 
 -- ---- A finite axis and a number on it, as whole numbers

@@ -1,13 +1,13 @@
 -- The lines of rectangles, and texts that go to a sink piece by piece.
-use Rattle.std.proofs.Common.{◌≡◌, ℕ, suc, ◌+◌, ◌-◌, ◌<◌, ◌≤◌, List, [], ◌∷◌, ◌++◌, length, take, drop, get_or, Option, Some, None, refl, sym, ◌∙◌, ap, arith, append_assoc, append-nil, add-one, inl, inr}
+use Rattle.std.proofs.Common.{◌≡◌, ℕ, suc, ◌+◌, ◌-◌, ◌<◌, ◌≤◌, List, [], ◌++◌, length, take, drop, get_or, Option, Some, None, refl, sym, ◌∙◌, ap, append_assoc, append-nil, add-one}
 use Rattle.std.specs.Prelude.{Result, Ok, Err, OnErr}
 use Rattle.std.proofs.Math.Seq.{take-append_seam, drop-cons}
 use Rattle.std.proofs.lemmas.List.{take-append-drop, drop_all}
-use Rattle.pv_io.specs.Outside.{Rose, appended, AppendsFront}
+use Rattle.pv_io.specs.Outside.{appended, AppendsFront}
 use Rattle.pv_num.specs.Extended.{Extended}
 use Rattle.pv_interval.specs.Bounds.{Bounds}
 use Rattle.pv_svg.specs.Pixels.{pixel_of}
-use Rattle.pv_svg.specs.Texts.{head_text, foot_text, element_text, rectangle_text, rectangles_text, picture_text}
+use Rattle.pv_svg.specs.Texts.{foot_text, element_text, rectangle_text, rectangles_text}
 use Rattle.pv_svg.specs.Rectangles.{Drawn}
 use Rattle.pv_svg.specs.declared.rectangle.Rectangle.{Rectangle}
 

@@ -1,5 +1,5 @@
 -- A plane that meets a part of a box meets the box.
-use Rattle.std.proofs.Common.{◌≡◌, inl, inr, ℕ, suc, IsTrue, Bool, true, false, List, [], ◌∷◌, refl, sym, ◌∙◌}
+use Rattle.std.proofs.Common.{◌≡◌, inl, inr, ℕ, suc, IsTrue, true, false, List, [], ◌∷◌, refl, sym, ◌∙◌}
 use Rattle.std.specs.Prelude.{◌==◌, ◌||◌}
 use Rattle.std.proofs.lemmas.Bool.{and_parts, and_from, or_cases, or_left, or_right, false_from_ne_true, true≢false}
 use Rattle.pv_num.specs.Order.{le}

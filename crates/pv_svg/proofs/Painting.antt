@@ -1,7 +1,6 @@
 -- Paint on lists of rectangles.
-use Rattle.std.proofs.Common.{◌≡◌, ℕ, IsTrue, Bool, true, false, cond, Option, Some, None, List, [], ◌∷◌, ◌++◌, refl, sym, ◌∙◌, ap, subst}
-use Rattle.std.specs.Prelude.{All}
-use Rattle.std.proofs.lemmas.Bool.{true≢false, cond-true, cond-false, cases_Bool}
+use Rattle.std.proofs.Common.{◌≡◌, IsTrue, Bool, true, false, cond, Option, Some, None, List, [], ◌∷◌, ◌++◌, refl, sym, ◌∙◌, ap}
+use Rattle.std.proofs.lemmas.Bool.{true≢false, cond-true, cond-false}
 use Rattle.std.proofs.lemmas.List.Elements.{All-nil, All-cons, All-head, All-tail}
 use Rattle.pv_svg.specs.Paints.{Spot, contains, over, paint_of, NoneContains, IsLast, PaintIsLast, LastIsPaint, BareIsUnpainted, IsOffEdges}
 use Rattle.pv_svg.specs.declared.rectangle.Class.{Class}

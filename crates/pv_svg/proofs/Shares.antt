@@ -1,9 +1,8 @@
 -- The steps to a pixel on whole numbers: the share of an axis lies between 0 and 1, and grows with the number.
-use Rattle.std.proofs.Common.{◌≡◌, ◌⊎◌, inl, inr, ℕ, suc, ◌+◌, ◌*◌, ◌/◌, ◌%◌, ◌<◌, ◌≤◌, IsTrue, Option, Some, None, arith, refl, sym, ◌∙◌, ap, subst, ℤ, pos, ◌*ℤ◌, ◌≤ℤ◌}
-use Rattle.std.proofs.lemmas.Int.{ints}
+use Rattle.std.proofs.Common.{◌≡◌, ◌⊎◌, inl, inr, ℕ, ◌+◌, ◌*◌, ◌/◌, ◌%◌, ◌<◌, ◌≤◌, IsTrue, Option, Some, None, arith, refl, sym, ◌∙◌, ap, subst, pos}
 use Rattle.std.proofs.lemmas.Nat.{le-div, div-add-mod', div_below}
 use Rattle.std.proofs.Math.Nat.{mul-le-mul, le_of_mul-le-mul_right}
-use Rattle.pv_num.specs.Extended.{Extended, NegInf, Fin, PosInf}
+use Rattle.pv_num.specs.Extended.{Extended, Fin, PosInf}
 use Rattle.pv_num.specs.Grid.{unit}
 use Rattle.pv_num.specs.Order.{le}
 use Rattle.pv_num.specs.Rounding.{rounded, at_least_plus, IsDown, IsUp}

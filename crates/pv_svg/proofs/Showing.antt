@@ -16,7 +16,7 @@ use Rattle.pv_tree.specs.Trees.{Tree, leaf, removed, inner, small, cut, Paves, I
 use Rattle.pv_tree.specs.Pieces.{Piece, pieces_below, children_of, root_piece}
 use Rattle.pv_svg.specs.Planes.{Plane, place, meets}
 use Rattle.pv_svg.specs.Pixels.{IsFinite}
-use Rattle.pv_svg.specs.Rectangles.{rectangle_of, fills, cast_off, kept, shown, seen, rectangles_of, LiesWithin, IsOnAxes, Drawn, IsPicture, picture_of}
+use Rattle.pv_svg.specs.Rectangles.{rectangle_of, fills, cast_off, kept, seen, rectangles_of, LiesWithin, IsOnAxes, IsPicture, picture_of}
 use Rattle.pv_svg.specs.Pieces.{still_to_show}
 use Rattle.pv_svg.specs.declared.rectangle.Class.{Class}
 use Rattle.pv_svg.specs.declared.rectangle.Class.TheVariants.{Removed, Inner, Small, OpenLeaf}

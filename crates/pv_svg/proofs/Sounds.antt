@@ -1,5 +1,5 @@
 -- The picture of a sound paving is sound.
-use Rattle.std.proofs.Common.{◌≡◌, inl, inr, ℕ, ◌<◌, IsTrue, Bool, true, false, cond, Option, Some, None, List, [], ◌∷◌, ◌++◌, length, get_or, refl, sym, ◌∙◌, ap, subst, arith, pos}
+use Rattle.std.proofs.Common.{◌≡◌, inl, inr, ℕ, ◌<◌, true, cond, Option, Some, None, List, [], ◌∷◌, ◌++◌, length, refl, sym, ◌∙◌, ap, subst, arith}
 use Rattle.std.specs.Ordering.{eq_by_cmp}
 use Rattle.std.proofs.lemmas.Int.{ints}
 use Rattle.std.proofs.lemmas.Bool.{and_parts, cond-true, cond-false, cond_both, cases_Bool}
@@ -13,14 +13,14 @@ use Rattle.pv_tree.specs.Trees.{Tree, leaf, removed, inner, small, cut, Paves}
 use Rattle.pv_tree.specs.Sets.{IsSound, LosesNone}
 use Rattle.pv_tree.proofs.Wholes.{within_length}
 use Rattle.pv_svg.specs.Planes.{Plane, IsPlane, place, meets}
-use Rattle.pv_svg.specs.Rectangles.{rectangle_of, same_bounds, fills, cast_off, kept, shown, seen, rectangles_of}
+use Rattle.pv_svg.specs.Rectangles.{rectangle_of, same_bounds, fills, cast_off, kept, rectangles_of}
 use Rattle.pv_svg.specs.Paints.{Spot, contains, over, paint_of, IsPointOf, spot_of, IsOffEdges, Says, PicturesAreSound}
 use Rattle.pv_svg.specs.declared.rectangle.Class.{Class}
 use Rattle.pv_svg.specs.declared.rectangle.Class.TheVariants.{Removed, Inner, Small, OpenLeaf}
 use Rattle.pv_svg.specs.declared.rectangle.Rectangle.{Rectangle}
 use Rattle.pv_svg.proofs.Painting.{paint-append, none_parts, off_parts, not_bare}
 use Rattle.pv_svg.proofs.Places.{contained, point_met, point_on, point_in}
-use Rattle.pv_svg.proofs.Showing.{hidden, low_child, high_child}
+use Rattle.pv_svg.proofs.Showing.{low_child, high_child}
 
 -- ---- What says what
 

@@ -1,5 +1,5 @@
 -- The rectangles that a paving shows on a plane.
-use Rattle.std.specs.Prelude.{ℕ, Bool, ◌&&◌, if◌then◌else◌, IsTrue, List, [], ◌∷◌, ◌++◌, All}
+use Rattle.std.specs.Prelude.{Bool, ◌&&◌, if◌then◌else◌, IsTrue, List, [], ◌∷◌, ◌++◌, All}
 use Rattle.std.specs.Ordering.{eq_by_cmp}
 use Rattle.pv_num.specs.Order.{order_of, le}
 use Rattle.pv_interval.specs.Bounds.{Bounds}

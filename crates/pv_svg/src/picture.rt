@@ -40,7 +40,8 @@ impl Picture {
             (K.written sink.new ≡ appended (K.written sink.old) (picture_text self.now)) }
         ensures front { OnErr result
             (AppendsFront (K.written sink.old) (K.written sink.new) (picture_text self.now)) }
-        ensures cause { IsErrOf result FileWriteRefused.WriteFailed → Rose (K.faults sink.old) (K.faults sink.new) }
+        ensures cause { IsErrOf result FileWriteRefused.WriteFailed →
+            Rose (K.faults sink.old) (K.faults sink.new) }
         ensures counts_on { K.faults sink.old ≤ K.faults sink.new }
     {
         let mut held = Vec::with_capacity(alloc, PIECE + LONGEST_LINE)?;
@@ -56,9 +57,12 @@ impl Picture {
 
 // Hands over the bytes that are held, once they are a piece.
 fn hand_over_piece<K: Sink>(held: &mut Vec<u8>, sink: &mut K) -> Result<(), FileWriteRefused>
-    ensures part { OnOk result (HandsOver (K.written sink.old) (K.written sink.new) held.old.items held.new.items) }
-    ensures front { OnErr result (AppendsFront (K.written sink.old) (K.written sink.new) held.old.items) }
-    ensures cause { IsErrOf result FileWriteRefused.WriteFailed → Rose (K.faults sink.old) (K.faults sink.new) }
+    ensures part { OnOk result (HandsOver (K.written sink.old)
+        (K.written sink.new) held.old.items held.new.items) }
+    ensures front { OnErr result
+        (AppendsFront (K.written sink.old) (K.written sink.new) held.old.items) }
+    ensures cause { IsErrOf result FileWriteRefused.WriteFailed →
+        Rose (K.faults sink.old) (K.faults sink.new) }
     ensures counts_on { K.faults sink.old ≤ K.faults sink.new }
 {
     if held.len() < PIECE {
@@ -68,10 +72,13 @@ fn hand_over_piece<K: Sink>(held: &mut Vec<u8>, sink: &mut K) -> Result<(), File
 }
 
 fn hand_over<K: Sink>(held: &mut Vec<u8>, sink: &mut K) -> Result<(), FileWriteRefused>
-    ensures whole { OnOk result (K.written sink.new ≡ appended (K.written sink.old) held.old.items) }
+    ensures whole { OnOk result (K.written sink.new ≡
+        appended (K.written sink.old) held.old.items) }
     ensures empty { OnOk result (held.new.items ≡ []) }
-    ensures front { OnErr result (AppendsFront (K.written sink.old) (K.written sink.new) held.old.items) }
-    ensures cause { IsErrOf result FileWriteRefused.WriteFailed → Rose (K.faults sink.old) (K.faults sink.new) }
+    ensures front { OnErr result
+        (AppendsFront (K.written sink.old) (K.written sink.new) held.old.items) }
+    ensures cause { IsErrOf result FileWriteRefused.WriteFailed →
+        Rose (K.faults sink.old) (K.faults sink.new) }
     ensures counts_on { K.faults sink.old ≤ K.faults sink.new }
 {
     match sink.write(held) {

@@ -30,7 +30,8 @@ pub(crate) fn push_rectangle(
     requires x { IsFinite x.now }
     requires y { IsFinite y.now }
     requires on_axes { IsOnAxes x.now y.now rectangle.now }
-    ensures { OnOk result (out.new.items ≡ out.old.items ++ rectangle_text x.now y.now rectangle.now) }
+    ensures { OnOk result (out.new.items ≡
+        out.old.items ++ rectangle_text x.now y.now rectangle.now) }
 {
     let left = pixel(x, rectangle.x.lo());
     let right = pixel(x, rectangle.x.hi());

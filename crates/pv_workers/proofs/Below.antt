@@ -1,8 +1,8 @@
 -- Settling a stage of a leaf's box, whose path has some steps.
-use Rattle.std.proofs.Common.{◌≡◌, ℕ, ◌+◌, ◌-◌, ◌<◌, ◌≤◌, Bool, Some, List, ◌++◌, length, length-append, refl, sym, ◌∙◌, ap, arith, subst}
+use Rattle.std.proofs.Common.{◌≡◌, ℕ, ◌+◌, ◌-◌, ◌≤◌, Bool, Some, List, ◌++◌, length, length-append, sym, ◌∙◌, ap, arith}
 use Rattle.pv_interval.specs.Bounds.{Bounds}
 use Rattle.pv_box.specs.Boxes.{IsBox}
-use Rattle.pv_tree.specs.Trees.{Tree, leaf, subtree, graft, settled, box_of, height, top, Fits, CutsAbove, HasDepth}
+use Rattle.pv_tree.specs.Trees.{Tree, leaf, subtree, graft, settled, box_of, top, CutsAbove, HasDepth}
 use Rattle.pv_tree.specs.Stages.{Rule, full_of, Grows}
 use Rattle.pv_tree.specs.declared.outcome.Outcome.{Outcome}
 use Rattle.pv_tree.proofs.StageLaws.{grows_leaf, settled_grows, depth_from}

@@ -1,7 +1,7 @@
 -- The counts of several workers.
-use Rattle.std.proofs.Common.{◌≡◌, ℕ, zero, suc, ◌+◌, ◌-◌, ◌*◌, ◌^◌, ◌<◌, ◌≤◌, List, [], ◌∷◌, ◌++◌, length, length-append, get_or, refl, sym, ◌∙◌, ap, arith, subst}
+use Rattle.std.proofs.Common.{◌≡◌, ℕ, zero, suc, ◌+◌, ◌-◌, ◌^◌, ◌<◌, ◌≤◌, List, [], ◌∷◌, ◌++◌, length, length-append, get_or, refl, sym, ◌∙◌, ap, arith, subst}
 use Rattle.pv_board.specs.Tallies.{Tally, tally_of, joined}
-use Rattle.pv_pool.specs.Counting.{Numbers, AreBelow, HasServed}
+use Rattle.pv_pool.specs.Counting.{AreBelow, HasServed}
 use Rattle.pv_workers.specs.Accounts.{numbers_of, parts_in, AllBelow, HasRoom}
 
 pub parts_push : (ts : List Tally) (t : Tally) → parts_in (ts ++ t ∷ []) ≡ parts_in ts + t.parts

@@ -3,3 +3,4 @@ pub mod Rests
 pub mod Below
 pub mod Counts
 pub mod Laws
+pub mod Earlier

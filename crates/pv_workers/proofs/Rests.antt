@@ -1,15 +1,14 @@
 -- What the caller finds on a board.
-use Rattle.std.proofs.Common.{◌≡◌, inl, inr, ◌⊎◌, ℕ, zero, suc, ◌+◌, ◌<◌, ◌≤◌, Bool, true, false, Some, List, [], ◌∷◌, refl, sym, ◌∙◌, ap, arith, subst}
+use Rattle.std.proofs.Common.{◌≡◌, inl, inr, ℕ, suc, ◌+◌, ◌<◌, ◌≤◌, Bool, true, false, Some, List, [], ◌∷◌, refl, sym, ◌∙◌, ap, arith, subst}
 use Rattle.std.specs.Prelude.{nat_eq}
 use Rattle.std.proofs.lemmas.Bool.Decides.{eqb_tells}
 use Rattle.pv_interval.specs.Bounds.{Bounds}
 use Rattle.pv_tree.specs.Trees.{Tree, leaf, subtree, opens}
 use Rattle.pv_tree.specs.Stages.{Rule}
 use Rattle.pv_board.specs.declared.mark.Mark.{Mark}
-use Rattle.pv_board.specs.Marks.{weigh, at, holds, issued, granted}
-use Rattle.pv_board.specs.Rules.{settled_in}
+use Rattle.pv_board.specs.Marks.{at, holds, issued, granted}
 use Rattle.pv_board.specs.Core.{Core, IsCore}
-use Rattle.pv_board.specs.Events.{is_current, may_issue, free_units, IsDry, IsOver, IsTake}
+use Rattle.pv_board.specs.Events.{is_current, free_units, IsOver, IsTake}
 use Rattle.pv_board.proofs.Paths.{at_self}
 use Rattle.pv_workers.specs.Pavings.{IsSpent}
 use Rattle.pv_workers.specs.Boards.{IsRecalled}

@@ -1,5 +1,5 @@
 -- What a board has come to, where nothing was absorbed.
-use Rattle.std.specs.Prelude.{◌≡◌, ℕ, ◌+◌, ◌<◌, ◌≤◌, Bool, if◌then◌else◌}
+use Rattle.std.specs.Prelude.{◌≡◌, ◌+◌}
 use Rattle.pv_tree.specs.Trees.{Tree}
 use Rattle.pv_board.specs.Rules.{settled_in}
 use Rattle.pv_board.specs.Core.{Core}

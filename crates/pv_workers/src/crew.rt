@@ -94,7 +94,8 @@ impl<'a, N: Naming, S: Settler, G: Gate> Crew<'a, N, S, G> {
         requires low { IsLow told.old }
         requires places { length leaf.now ≡ N.dims }
         requires there { IsSome (subtree (full_of N.rule N.depth N.root N.opening 0) ticket.path) }
-        requires leaf { leaf.now ≡ box_of N.root (full_of N.rule N.depth N.root N.opening 0) ticket.path }
+        requires leaf { leaf.now ≡ box_of N.root
+            (full_of N.rule N.depth N.root N.opening 0) ticket.path }
         requires none { children.old ≡ [] }
         ensures { numbers_of told.new ≡ after_work (length children.new) (numbers_of told.old) }
     {
@@ -120,9 +121,11 @@ impl<'a, N: Naming, S: Settler, G: Gate> Crew<'a, N, S, G> {
         requires low { IsLow told.old }
         requires places { length leaf.old ≡ N.dims }
         requires there { IsSome (subtree (full_of N.rule N.depth N.root N.opening 0) ticket.path) }
-        requires leaf { leaf.old ≡ box_of N.root (full_of N.rule N.depth N.root N.opening 0) ticket.path }
+        requires leaf { leaf.old ≡ box_of N.root
+            (full_of N.rule N.depth N.root N.opening 0) ticket.path }
         requires none { children.old ≡ [] }
-        ensures told { numbers_of told.new ≡ after_work (length children.new) (numbers_of told.old) }
+        ensures told { numbers_of told.new ≡
+            after_work (length children.new) (numbers_of told.old) }
         ensures places { length leaf.new ≡ N.dims }
     {
         let mut ticket = ticket;
@@ -150,7 +153,9 @@ fn hand_in<N: Naming, R: Wait>(
 )
     requires low { IsLow told.old }
     requires there { IsSome (subtree (full_of N.rule N.depth N.root N.opening 0) ticket.path) }
-    requires due { outcome ≡ N.rule (box_of N.root (full_of N.rule N.depth N.root N.opening 0) ticket.path) (N.depth - length ticket.path) (length ticket.path) }
+    requires due { outcome ≡ N.rule
+        (box_of N.root (full_of N.rule N.depth N.root N.opening 0) ticket.path)
+        (N.depth - length ticket.path) (length ticket.path) }
     requires none { children.old ≡ [] }
     ensures { numbers_of told.new ≡ after_work (length children.new) (numbers_of told.old) }
 {

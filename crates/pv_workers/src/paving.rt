@@ -54,8 +54,16 @@ pub fn pave<S: Settler + Sync, G: Gate + Sync, R: Threads + Wait + Sync>(
     requires one { 1 ≤ workers }
     requires sixteen { workers ≤ 16 }
     ensures root { IfOk result (λ p. p.paving.root ≡ opening.root) }
-    ensures paved { IfOk result (λ p. IsPaved (S.settle_of settler.now) (S.depth_of settler.now) opening.root opening.tree budget p.paving.tree) }
-    ensures spent { IfOk result (λ p. settled_in p.paving.tree ≤ settled_in opening.tree + 16 * p.spent) }
+    ensures stages { IfOk result (λ p. (earlier : Tree) → Paves opening.root earlier →
+        IsStage (S.settle_of settler.now)
+        (S.depth_of settler.now) opening.root earlier opening.tree →
+        IsStage (S.settle_of settler.now)
+        (S.depth_of settler.now) opening.root earlier p.paving.tree) }
+    ensures paved { IfOk result (λ p.
+        IsPaved (S.settle_of settler.now)
+        (S.depth_of settler.now) opening.root opening.tree budget p.paving.tree) }
+    ensures spent { IfOk result (λ p.
+        settled_in p.paving.tree ≤ settled_in opening.tree + 16 * p.spent) }
 {
     let _places = opening.dims();
     let paved = pave_named::<Brand, S, G, R>(
@@ -73,10 +81,22 @@ pub fn pave<S: Settler + Sync, G: Gate + Sync, R: Threads + Wait + Sync>(
     Ok(paved)
 }
 
-// Does nothing. Its contract is what a stage is that spent a budget, or closed before.
+// Does nothing. Its contract is what a stage is that spent a budget or has no open leaf, and that a stage of a stage is one.
 fn learn_paved<S: Settler>(paving: &Paving, settler: &S)
     requires { length paving.now.root ≡ S.dims settler.now }
-    ensures { (opening : Tree) (budget : ℕ) → Paves paving.now.root opening → IsStage (S.settle_of settler.now) (S.depth_of settler.now) paving.now.root opening paving.now.tree → IsSpent budget opening paving.now.tree → IsPaved (S.settle_of settler.now) (S.depth_of settler.now) paving.now.root opening budget paving.now.tree }
+    ensures stages { (earlier opening : Tree) → Paves paving.now.root earlier →
+        IsStage (S.settle_of settler.now)
+        (S.depth_of settler.now) paving.now.root earlier opening →
+        IsStage (S.settle_of settler.now)
+        (S.depth_of settler.now) paving.now.root opening paving.now.tree →
+        IsStage (S.settle_of settler.now)
+        (S.depth_of settler.now) paving.now.root earlier paving.now.tree }
+    ensures paved { (opening : Tree) (budget : ℕ) → Paves paving.now.root opening →
+        IsStage (S.settle_of settler.now)
+        (S.depth_of settler.now) paving.now.root opening paving.now.tree →
+        IsSpent budget opening paving.now.tree →
+        IsPaved (S.settle_of settler.now)
+        (S.depth_of settler.now) paving.now.root opening budget paving.now.tree }
 {
     let _places = paving.dims();
     let _depth = settler.depth();
@@ -112,7 +132,8 @@ fn pave_named<N: Naming + Send + Sync, S: Settler + Sync, G: Gate + Sync, R: Thr
     ensures root { IfOk result (λ p. p.paving.root ≡ N.root) }
     ensures stage { IfOk result (λ p. IsStage N.rule N.depth N.root N.opening p.paving.tree) }
     ensures paved { IfOk result (λ p. IsSpent N.budget N.opening p.paving.tree) }
-    ensures spent { IfOk result (λ p. settled_in p.paving.tree ≤ settled_in N.opening + 16 * p.spent) }
+    ensures spent { IfOk result (λ p.
+        settled_in p.paving.tree ≤ settled_in N.opening + 16 * p.spent) }
 {
     let places = opening.dims();
     let ruled: Ruled<N, S> = Ruled::of(settler);

@@ -72,7 +72,8 @@ fn settle_next<N: Naming, S: Settler, G: Gate>(
     requires room { 1 ≤ stage.old.spare }
     requires places { length scratch.old ≡ N.dims }
     ensures root { stage.new.root ≡ stage.old.root }
-    ensures stage { OnOk result (IsStageBelow N.rule N.depth stage.new.root (length at) stage.new.tree) }
+    ensures stage { OnOk result (IsStageBelow N.rule N.depth stage.new.root
+        (length at) stage.new.tree) }
     ensures more { OnOk result (settled_in stage.new.tree ≡ settled_in stage.old.tree + 1) }
     ensures room { OnOk result (stage.old.spare ≤ stage.new.spare + 1) }
     ensures places { length scratch.new ≡ N.dims }

@@ -112,19 +112,19 @@ impl<'a, C: Clock> Gate for Meeting<'a, C> {
 
 // A settler whose boxes in the two halves of a line wait for each other.
 #[derive(Drop)]
-struct Halves<'a, C> {
-    settler: Above,
+struct Halves<'a, S, C> {
+    settler: S,
     meeting: Meeting<'a, C>,
 }
 
-impl<'a, C: Clock> Settler for Halves<'a, C> {
-    ghost dims = { λ s. Above.dims s.settler };
+impl<'a, S: Settler, C: Clock> Settler for Halves<'a, S, C> {
+    ghost dims = { λ s. S.dims s.settler };
 
-    ghost depth_of = { λ s. Above.depth_of s.settler };
+    ghost depth_of = { λ s. S.depth_of s.settler };
 
-    ghost settle_of = { λ s. Above.settle_of s.settler };
+    ghost settle_of = { λ s. S.settle_of s.settler };
 
-    ghost inside = { λ s. Above.inside s.settler };
+    ghost inside = { λ s. S.inside s.settler };
 
     fn depth(&self) -> u32 {
         self.settler.depth()
@@ -149,27 +149,90 @@ impl<'a, C: Clock> Settler for Halves<'a, C> {
         self.settler.settle(alloc, bx, depth_left, path_len)
     }
 
-    ghost dims_fit = { λ s. Above.dims_fit s.settler };
+    ghost dims_fit = { λ s. S.dims_fit s.settler };
 
-    ghost depth_fits = { λ s. Above.depth_fits s.settler };
+    ghost depth_fits = { λ s. S.depth_fits s.settler };
 
-    ghost fits = { λ s. Above.fits s.settler };
+    ghost fits = { λ s. S.fits s.settler };
 
-    ghost keeps_box = { λ s. Above.keeps_box s.settler };
+    ghost keeps_box = { λ s. S.keeps_box s.settler };
 
-    ghost ends = { λ s. Above.ends s.settler };
+    ghost ends = { λ s. S.ends s.settler };
 
-    ghost sound = { λ s. Above.sound s.settler };
+    ghost sound = { λ s. S.sound s.settler };
+}
+
+// A settler that finds no memory for a box in the lower half of place 0.
+#[derive(Drop)]
+struct Poor<S> {
+    settler: S,
+}
+
+impl<S: Settler> Settler for Poor<S> {
+    ghost dims = { λ s. S.dims s.settler };
+
+    ghost depth_of = { λ s. S.depth_of s.settler };
+
+    ghost settle_of = { λ s. S.settle_of s.settler };
+
+    ghost inside = { λ s. S.inside s.settler };
+
+    fn depth(&self) -> u32 {
+        self.settler.depth()
+    }
+
+    fn settle(
+        &self,
+        alloc: Global,
+        bx: &IBox,
+        depth_left: u32,
+        path_len: u32,
+    ) -> Result<Outcome, Memory> {
+        let _places = bx.dims();
+        if bx.get(0).hi() <= Num::fin(1, -1).unwrap_or(Num::ZERO) {
+            return Err(Memory);
+        }
+        self.settler.settle(alloc, bx, depth_left, path_len)
+    }
+
+    ghost dims_fit = { λ s. S.dims_fit s.settler };
+
+    ghost depth_fits = { λ s. S.depth_fits s.settler };
+
+    ghost fits = { λ s. S.fits s.settler };
+
+    ghost keeps_box = { λ s. S.keeps_box s.settler };
+
+    ghost ends = { λ s. S.ends s.settler };
+
+    ghost sound = { λ s. S.sound s.settler };
 }
 
 #[test]
 fn a_full_tree_by_one_two_eight_and_sixteen(rt: HostRuntime) -> Result<(), Fail> {
     let alloc = rt.alloc();
     let settler = third();
-    let first = pave(&rt, alloc, &settler, square(alloc)?, 543, 1, &NoGate)?;
+    let opening = square(alloc)?;
+    let first = pave(
+        &rt,
+        alloc,
+        &settler,
+        opening.clone_of(alloc)?,
+        543,
+        1,
+        &NoGate,
+    )?;
     assert!(rt; has(&first.paving, 271, 128, 128, 16, 0));
     for workers in [2u32, 8, 16] {
-        let other = pave(&rt, alloc, &settler, square(alloc)?, 1000, workers, &NoGate)?;
+        let other = pave(
+            &rt,
+            alloc,
+            &settler,
+            opening.clone_of(alloc)?,
+            1000,
+            workers,
+            &NoGate,
+        )?;
         assert!(rt; has(&other.paving, 271, 128, 128, 16, 0));
         assert!(rt; join(alloc, &first.paving, &other.paving).is_ok());
     }
@@ -185,6 +248,43 @@ fn a_budget_is_spent_to_the_last(rt: HostRuntime) -> Result<(), Fail> {
         let counts = paved.paving.counts();
         assert_eq!(rt; counts.settled(), 100);
         assert!(rt; counts.open_leaves > 0);
+    }
+    Ok(())
+}
+
+#[test]
+fn one_worker_hands_stages_in(rt: HostRuntime) -> Result<(), Fail> {
+    let alloc = rt.alloc();
+    let settler = third();
+    let paved = pave(&rt, alloc, &settler, square(alloc)?, 543, 1, &NoGate)?;
+    assert!(rt; paved.spent < 543);
+    assert!(rt; 543 <= 16 * paved.spent);
+    Ok(())
+}
+
+#[test]
+fn what_is_left_is_paved_later(rt: HostRuntime) -> Result<(), Fail> {
+    let alloc = rt.alloc();
+    let settler = third();
+    let part = pave(&rt, alloc, &settler, square(alloc)?, 100, 4, &NoGate)?;
+    let opening = part.paving;
+    let settled = opening.counts().settled();
+    assert_eq!(rt; settled, 100);
+    if settled != 100 {
+        return Ok(());
+    }
+    let whole = pave(&rt, alloc, &settler, opening, 443, 4, &NoGate)?;
+    assert!(rt; has(&whole.paving, 271, 128, 128, 16, 0));
+    Ok(())
+}
+
+#[test]
+fn want_of_memory_ends_all(rt: HostRuntime) -> Result<(), Fail> {
+    let alloc = rt.alloc();
+    let settler = Poor { settler: third() };
+    for workers in [1u32, 8] {
+        let paved = pave(&rt, alloc, &settler, square(alloc)?, 543, workers, &NoGate);
+        assert!(rt; paved.is_err());
     }
     Ok(())
 }

@@ -1,10 +1,8 @@
-use Rattle.std.proofs.Common.{rules, arith, refl, length, ◌<◌, ◌≤◌, ◌≡◌, ◌∙◌, sym, ap, subst}
-use Rattle.std.specs.Prelude.{IsTrue, Some}
+use Rattle.std.proofs.Common.{rules, ◌∙◌, sym, ap, subst}
 use Rattle.pv_hc4.specs.Chain.{Gives, chain}
 use Rattle.pv_hc4.specs.Revise.{went}
 use Rattle.pv_hc4.specs.Nodes.{terms, term_at, AreOrdered}
 use Rattle.pv_hc4.specs.declared.node.Node.TheVariants.{One, Two}
-use Rattle.pv_hc4.specs.Resting.{MayRest, IsRest}
 use Rattle.pv_hc4.proofs.Resting.{rest_gives, rest_after, rest_is, gives_true}
 use Rattle.pv_hc4.proofs.Downward.{below_is, term_read, one_read, two_read, second_gives, first_fails}
 use Rattle.pv_hc4.proofs.narrow.+narrow.Goals as goal

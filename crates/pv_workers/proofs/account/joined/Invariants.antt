@@ -1,4 +1,4 @@
-use Rattle.std.proofs.Common.{◌≡◌, ◌+◌, ◌^◌, ◌≤◌, length}
+use Rattle.std.proofs.Common.{◌≡◌, ◌+◌, ◌^◌, length}
 use Rattle.pv_workers.specs.Accounts.{parts_in, AllBelow, HasRoom}
 use Rattle.pv_workers.proofs.account.joined.Given as goal
 

@@ -1,10 +1,19 @@
 use Rattle.pv_tree.specs.Laws.{IsLawful}
 use Rattle.pv_tree.proofs.StageLaws.{whole_stage}
 use Rattle.pv_workers.proofs.Budgets.{fits_of, spent_of}
+use Rattle.pv_workers.proofs.Earlier.{stage_on}
 use Rattle.pv_workers.proofs.paving.learn_paved.Goals as goal
 
-pub returns : goal.returns
-returns g c = λ opening budget paves stage spent.
+pub returns-clause-stages : goal.returns-clause-stages
+returns-clause-stages g c = λ earlier opening paves before stage.
+    let s = c.args.settler.now in let m = g.met.S.Settler in
+    let rule = g.S.Settler.settle_of s in let depth = g.S.Settler.depth_of s in
+    let dims = g.S.Settler.dims s in let inside = g.S.Settler.inside s in
+    let laws : IsLawful rule depth dims inside = record { deep = (m.depth_fits s).1; fits = m.fits s; keeps_box = m.keeps_box s; ends = m.ends s; sound = m.sound s } in
+    stage_on rule depth dims inside laws c.args.paving.now.root earlier opening c.args.paving.now.tree c.dims-places.ensures.paving.box c.requires paves before stage
+
+pub returns-clause-paved : goal.returns-clause-paved
+returns-clause-paved g c = λ opening budget paves stage spent.
     let s = c.args.settler.now in let m = g.met.S.Settler in
     let rule = g.S.Settler.settle_of s in let depth = g.S.Settler.depth_of s in
     let dims = g.S.Settler.dims s in let inside = g.S.Settler.inside s in

@@ -1,4 +1,4 @@
-use Rattle.std.proofs.Common.{◌≡◌, ◌<◌, length, sym, ◌∙◌, subst}
+use Rattle.std.proofs.Common.{◌<◌, sym, ◌∙◌, subst}
 use Rattle.pv_workers.proofs.Counts.{Served, served, each_below}
 use Rattle.pv_workers.proofs.paving.worked.Goals as goal
 

@@ -1,8 +1,6 @@
-use Rattle.std.proofs.Common.{◌≡◌, ◌+◌, ◌-◌, ◌++◌, length, sym, ◌∙◌, ap, arith, subst}
-use Rattle.pv_interval.specs.Bounds.{Bounds}
-use Rattle.pv_tree.specs.Trees.{Tree, graft, settled, box_of, CutsAbove, leaf}
+use Rattle.std.proofs.Common.{◌≡◌, ◌-◌, ◌++◌, length, sym, ◌∙◌, ap, subst}
+use Rattle.pv_tree.specs.Trees.{graft, settled, box_of, CutsAbove, leaf}
 use Rattle.pv_tree.specs.Stages.{Grows, full_of}
-use Rattle.pv_tree.specs.declared.outcome.Outcome.{Outcome}
 use Rattle.pv_tree.proofs.TreeFacts.{settled_more}
 use Rattle.pv_board.specs.Rules.{IsFitting, settled_in}
 use Rattle.pv_workers.proofs.Laws.{fitting_of}

@@ -1,0 +1,11 @@
+mod Orders
+mod Stepping
+mod RowOrder
+mod Shuffles
+mod Placing
+mod Leaves
+mod Making
+mod Lengths
+mod SideBySide
+mod Opening
+mod Rounding

@@ -1,0 +1,56 @@
+-- Two paths from the same place on.
+use Rattle.std.proofs.Common.{◌≡◌, ◌≢◌, ℕ, zero, suc, ◌<◌, ◌≤◌, min, Bool, true, false, List, [], ◌∷◌, length, drop, ltb, lt-ltb, le-ltb, refl, sym, ◌∙◌, ap, inl, inr, ◌⊎◌, arith}
+use Rattle.std.proofs.lemmas.Bool.{cases_lt}
+use Rattle.std.specs.Prelude.{slice_index_or}
+use Rattle.pv_tree.specs.Trees.{precedes}
+
+pub step_same : (a b : List Bool) (i : ℕ) → i < length a → i < length b → slice_index_or a i false ≡ slice_index_or b i false
+    → precedes (drop i a) (drop i b) ≡ precedes (drop (suc i) a) (drop (suc i) b)
+step_same [] b i l k e = absurd (omega (arith, l))
+step_same (x ∷ a) [] i l k e = absurd (omega (arith, k))
+step_same (false ∷ a) (false ∷ b) zero l k e = refl
+step_same (true ∷ a) (true ∷ b) zero l k e = refl
+step_same (false ∷ a) (true ∷ b) zero l k e = cc
+step_same (true ∷ a) (false ∷ b) zero l k e = cc
+step_same (x ∷ a) (y ∷ b) (suc i) l k e = step_same a b i (omega (arith, l)) (omega (arith, k)) e
+
+pub step_differs : (a b : List Bool) (i : ℕ) → i < length a → i < length b → slice_index_or a i false ≢ slice_index_or b i false
+    → precedes (drop i a) (drop i b) ≡ slice_index_or b i false
+step_differs [] b i l k e = absurd (omega (arith, l))
+step_differs (x ∷ a) [] i l k e = absurd (omega (arith, k))
+step_differs (false ∷ a) (false ∷ b) zero l k e = absurd (e refl)
+step_differs (true ∷ a) (true ∷ b) zero l k e = absurd (e refl)
+step_differs (false ∷ a) (true ∷ b) zero l k e = refl
+step_differs (true ∷ a) (false ∷ b) zero l k e = refl
+step_differs (x ∷ a) (y ∷ b) (suc i) l k e = step_differs a b i (omega (arith, l)) (omega (arith, k)) e
+
+-- At the end of one of the paths the shorter one stands first.
+pub ends_less : (a b : List Bool) (m : ℕ) → m ≤ length a → length a ≤ m → length a < length b → precedes (drop m a) (drop m b) ≡ true
+ends_less [] [] m l k s = absurd (omega (arith, s))
+ends_less [] (y ∷ b) zero l k s = refl
+ends_less [] (y ∷ b) (suc m) l k s = absurd (omega (arith, l))
+ends_less (x ∷ a) b zero l k s = absurd (omega (arith, k))
+ends_less (x ∷ a) [] (suc m) l k s = absurd (omega (arith, s))
+ends_less (x ∷ a) (y ∷ b) (suc m) l k s = ends_less a b m (omega (arith, l)) (omega (arith, k)) (omega (arith, s))
+
+pub ends_more : (a b : List Bool) (m : ℕ) → m ≤ length b → length b ≤ m → length b ≤ length a → precedes (drop m a) (drop m b) ≡ false
+ends_more [] [] zero l k s = refl
+ends_more (x ∷ a) [] zero l k s = refl
+ends_more a [] (suc m) l k s = absurd (omega (arith, l))
+ends_more a (y ∷ b) zero l k s = absurd (omega (arith, k))
+ends_more [] (y ∷ b) (suc m) l k s = absurd (omega (arith, s))
+ends_more (x ∷ a) (y ∷ b) (suc m) l k s = ends_more a b m (omega (arith, l)) (omega (arith, k)) (omega (arith, s))
+
+pub one_ends : (a b : List Bool) (m : ℕ) → m ≤ length a → m ≤ length b → (length a ≤ m) ⊎ (length b ≤ m) → ltb (length a) (length b) ≡ precedes (drop m a) (drop m b)
+one_ends a b m l k e = elim (cases_lt (length a) (length b)) [
+  | inl s ↦ lt-ltb (length a) (length b) s ∙ sym (ends_less a b m l (shorter e s) s)
+  | inr s ↦ le-ltb (length a) (length b) s ∙ sym (ends_more a b m k (longer e s) s)
+]
+  where
+    shorter : (length a ≤ m) ⊎ (length b ≤ m) → length a < length b → length a ≤ m
+    shorter (inl h) s = h
+    shorter (inr h) s = omega (arith, h, s)
+
+    longer : (length a ≤ m) ⊎ (length b ≤ m) → length b ≤ length a → length b ≤ m
+    longer (inl h) s = omega (arith, h, s)
+    longer (inr h) s = h

@@ -1,0 +1,53 @@
+-- What opening a campaign and saving a round leave of a name.
+use Rattle.std.specs.Prelude.{◌≡◌, ◌⊎◌, ℕ, ◌<◌, ◌≤◌, List, [], length}
+use Rattle.pv_interval.specs.Bounds.{Bounds}
+use Rattle.pv_tree.specs.Trees.{Tree, leaf}
+use Rattle.pv_tree.specs.Stages.{Rule, IsStage}
+use Rattle.pv_keep.specs.Rows.{rows_of}
+use Rattle.pv_keep.specs.Keeping.{Kept, untold, absent, holds}
+use Rattle.pv_keep.specs.Rebuilding.{Make, IsFirstBad}
+
+-- A campaign was opened: an absent name is there with no rows and its tree is an open leaf, or the tree is that of the rows.
+abbrev pub IsOpened : Kept → Kept → List ℕ → List Bounds → Tree → Type 0
+IsOpened untold after identity b t = after ≡ untold
+IsOpened absent after identity b t = (after ≡ holds identity []) × (t ≡ leaf)
+IsOpened (holds kept rows) after identity b t =
+    (kept ≡ identity) × ((after ≡ holds kept rows) × ((rows ≡ rows_of t) × (Make b leaf rows t × (length rows ≤ 100000))))
+
+-- What a refused opening leaves: all as before, or an absent name that is there now with no rows.
+abbrev pub IsLeft : Kept → Kept → List ℕ → Type 0
+IsLeft untold after identity = after ≡ untold
+IsLeft absent after identity = (after ≡ absent) ⊎ (after ≡ holds identity [])
+IsLeft (holds kept rows) after identity = after ≡ holds kept rows
+
+-- a name has this identity and more than 100,000 rows
+abbrev pub HasTooMany : Kept → List ℕ → Type 0
+HasTooMany untold identity = Unit {0}
+HasTooMany absent identity = ⊥
+HasTooMany (holds kept rows) identity = (kept ≡ identity) × (100000 < length rows)
+
+-- a name has this identity and at most 100,000 rows, of which row n is the first bad one
+abbrev pub HasBadRow : Kept → List ℕ → List Bounds → ℕ → Type 0
+HasBadRow untold identity b n = Unit {0}
+HasBadRow absent identity b n = ⊥
+HasBadRow (holds kept rows) identity b n = (kept ≡ identity) × ((length rows ≤ 100000) × IsFirstBad b rows n)
+
+-- the rows that are told are those of a tree
+abbrev pub KeepsTree : Kept → Tree → Type 0
+KeepsTree untold t = Unit {0}
+KeepsTree absent t = ⊥
+KeepsTree (holds identity rows) t = rows ≡ rows_of t
+
+-- the rows became those of a tree
+abbrev pub IsSaved : Kept → Kept → Tree → Type 0
+IsSaved untold after t = after ≡ untold
+IsSaved absent after t = ⊥
+IsSaved (holds identity rows) after t = after ≡ holds identity (rows_of t)
+
+-- Two trees are stages of one opening, by one rule.
+pub record AreStages (b : List Bounds) (s t : Tree) : Type 0 where
+  pub rule : Rule
+  pub depth : ℕ
+  pub opening : Tree
+  pub first : IsStage rule depth b opening s
+  pub second : IsStage rule depth b opening t

@@ -1,0 +1,192 @@
+//! Campaigns.
+ghost use Rattle.std.specs.Prelude.{◌≡◌, ◌≢◌, ◌+◌, ◌≤◌, ℕ, List, Some, Err, IsSome, IfOk, OnOk, OnErr, IsErrOf};
+ghost use Rattle.pv_io.specs.Outside.{Rose};
+ghost use Rattle.pv_tree.specs.Trees.{Tree};
+ghost use Rattle.pv_tree.specs.Stages.{Grows, Rule, IsStage};
+ghost use Rattle.pv_file.specs.Readings.{settled_count};
+ghost use Rattle.pv_join.specs.Joins.{IsJoin};
+ghost use Rattle.pv_keep.specs.Keeping.{HasOther};
+ghost use Rattle.pv_keep.specs.Campaigns.{IsOpened, IsLeft, HasTooMany, HasBadRow, KeepsTree, IsSaved, AreStages};
+
+use crate::keeper::Keeper;
+use crate::new_rows::new_rows;
+use crate::rebuild::rebuild;
+use crate::refusal::{CampaignRefused, SaveRefused};
+use crate::row::Rows;
+use pv_box::IBox;
+use pv_join::{JoinRefused, join};
+use pv_tree::Paving;
+use std::alloc::Global;
+use std::marker::Model;
+
+/// The most rows that a campaign has.
+const MOST_ROWS: u64 = 100_000;
+
+/// A paving that is kept between rounds under a name. It has at most 100,000 settled nodes.
+#[derive(Drop)]
+pub struct Campaign {
+    paving: Paving,
+}
+
+impl Model for Campaign {
+    ghost use Rattle.std.specs.Prelude.{◌≤◌};
+    ghost use Rattle.pv_tree.specs.Trees.{Seen};
+    ghost use Rattle.pv_tree.specs.Codes.{coded_seen};
+    ghost use Rattle.pv_file.specs.Readings.{settled_count};
+
+    ghost Value = { Seen };
+
+    ghost coded = { coded_seen };
+
+    ghost view = { λ c. c.paving };
+
+    ghost invariant = { λ c. settled_count c.paving.tree ≤ 100000 };
+}
+
+impl Campaign {
+    /// Begins a name and opens what is kept of it: the paving over a root box whose settled nodes the
+    /// rows are. An absent name is there from then on, with this identity and no rows, also after some
+    /// refusals; all else that is kept stays.
+    pub fn open<P: Keeper>(
+        alloc: Global,
+        keeper: &mut P,
+        name: &str,
+        identity: [u8; 32],
+        root: IBox,
+    ) -> Result<Campaign, CampaignRefused>
+        ensures root { IfOk result (λ c. c.root ≡ root) }
+        ensures few { IfOk result (λ c. settled_count c.tree ≤ 100000) }
+        ensures opened { IfOk result (λ c.
+            IsOpened (P.kept keeper.old name.now) (P.kept keeper.new name.now) identity root c.tree) }
+        ensures begun { OnOk result (P.begun keeper.new ≡ Some name.now) }
+        ensures other_identity { (found : List ℕ) → result ≡ Err (CampaignRefused.OtherIdentity found)
+            → HasOther (P.kept keeper.old name.now) identity found }
+        ensures too_many { IsErrOf result CampaignRefused.TooMany
+            → HasTooMany (P.kept keeper.old name.now) identity }
+        ensures bad_row { (n : ℕ) → result ≡ Err (CampaignRefused.BadRow n)
+            → HasBadRow (P.kept keeper.old name.now) identity root n }
+        ensures left { OnErr result
+            (IsLeft (P.kept keeper.old name.now) (P.kept keeper.new name.now) identity) }
+        ensures others { (other : List ℕ)
+            → other ≢ name.now → P.kept keeper.new other ≡ P.kept keeper.old other }
+        ensures cause { IsErrOf result CampaignRefused.Failed
+            → Rose (P.faults keeper.old) (P.faults keeper.new) }
+        ensures counts_on { P.faults keeper.old ≤ P.faults keeper.new }
+    {
+        keeper.begin(name, identity)?;
+        let mut rows = Rows::new(alloc);
+        keeper.load(MOST_ROWS, &mut rows)?;
+        let paving = match rebuild(alloc, &rows, root) {
+            Ok(paving) => paving,
+            Err(refused) => return Err(refused),
+        };
+        Ok(Campaign { paving })
+    }
+
+    /// The paving.
+    pub fn paving(&self) -> &Paving
+        ensures is { result.now ≡ self.now }
+        ensures few { settled_count result.now.tree ≤ 100000 }
+    {
+        &self.paving
+    }
+
+    /// Joins a stage to the paving and keeps the rows of the nodes that are settled in it and were open,
+    /// and answers their number. After a refusal the campaign and the kept rows are as before.
+    pub fn save_round<P: Keeper>(
+        &mut self,
+        alloc: Global,
+        keeper: &mut P,
+        stage: &Paving,
+    ) -> Result<u64, SaveRefused>
+        requires root { stage.now.root ≡ self.old.root }
+        requires stages { AreStages self.old.root self.old.tree stage.now.tree }
+        requires few { (t : Tree) → IsJoin self.old.tree stage.now.tree t →
+            settled_count t ≤ 100000 }
+        requires begun { IsSome (P.begun keeper.old) }
+        requires kept { (name : List ℕ) → P.begun keeper.old ≡ Some name
+            → KeepsTree (P.kept keeper.old name) self.old.tree }
+        ensures root { self.new.root ≡ self.old.root }
+        ensures joined { OnOk result (IsJoin self.old.tree stage.now.tree self.new.tree) }
+        ensures count { IfOk result (λ n. settled_count self.new.tree ≡
+            settled_count self.old.tree + n) }
+        ensures unchanged { OnErr result (self.new ≡ self.old) }
+        ensures stage { (rule : Rule) (depth : ℕ) (opening : Tree) → IsStage rule depth self.old.root opening self.old.tree
+            → IsStage rule depth self.old.root opening stage.now.tree
+            → IsStage rule depth self.old.root opening self.new.tree }
+        ensures saved { (name : List ℕ) → P.begun keeper.old ≡ Some name
+            → OnOk result (IsSaved (P.kept keeper.old name) (P.kept keeper.new name) self.new.tree) }
+        ensures kept { (name : List ℕ) → P.begun keeper.old ≡ Some name
+            → KeepsTree (P.kept keeper.new name) self.new.tree }
+        ensures kept_on { (name : List ℕ) → P.begun keeper.old ≡ Some name
+            → OnErr result (P.kept keeper.new name ≡ P.kept keeper.old name) }
+        ensures others { (name other : List ℕ) → P.begun keeper.old ≡ Some name
+            → other ≢ name → P.kept keeper.new other ≡ P.kept keeper.old other }
+        ensures begun { P.begun keeper.new ≡ P.begun keeper.old }
+        ensures cause { IsErrOf result SaveRefused.Failed
+            → Rose (P.faults keeper.old) (P.faults keeper.new) }
+        ensures counts_on { P.faults keeper.old ≤ P.faults keeper.new }
+    {
+        let joined = match self.join_with(alloc, stage) {
+            Ok(joined) => joined,
+            Err(refused) => return Err(refused),
+        };
+        let count = match keep_new(alloc, keeper, &self.paving, &joined) {
+            Ok(count) => count,
+            Err(refused) => return Err(refused),
+        };
+        self.paving = joined;
+        Ok(count)
+    }
+
+    #[tactic(auto, using(crate::proofs::Opening::joined_grows))]
+    fn join_with(&self, alloc: Global, stage: &Paving) -> Result<Paving, SaveRefused>
+        requires root { stage.now.root ≡ self.now.root }
+        requires stages { AreStages self.now.root self.now.tree stage.now.tree }
+        ensures root { IfOk result (λ p. p.root ≡ self.now.root) }
+        ensures joined { IfOk result (λ p. IsJoin self.now.tree stage.now.tree p.tree) }
+        ensures grows { IfOk result (λ p. Grows self.now.tree p.tree) }
+        ensures stage { (rule : Rule) (depth : ℕ) (opening : Tree) → IsStage rule depth self.now.root opening self.now.tree
+            → IsStage rule depth self.now.root opening stage.now.tree
+            → IfOk result (λ p. IsStage rule depth self.now.root opening p.tree) }
+        ensures not_failed { result ≢ Err SaveRefused.Failed }
+    {
+        match join(alloc, &self.paving, stage) {
+            Ok(joined) => Ok(joined),
+            Err(JoinRefused::Memory) => Err(SaveRefused::Memory),
+            Err(JoinRefused::Disagree { .. }) => unreachable!(),
+        }
+    }
+}
+
+// Keeps the rows of the nodes that are settled in a paving and were open in an earlier stage of it, and
+// answers their number.
+fn keep_new<P: Keeper>(
+    alloc: Global,
+    keeper: &mut P,
+    earlier: &Paving,
+    later: &Paving,
+) -> Result<u64, SaveRefused>
+    requires grows { Grows earlier.now.tree later.now.tree }
+    requires begun { IsSome (P.begun keeper.old) }
+    requires kept { (name : List ℕ) → P.begun keeper.old ≡ Some name
+        → KeepsTree (P.kept keeper.old name) earlier.now.tree }
+    ensures count { IfOk result (λ n. settled_count later.now.tree ≡
+        settled_count earlier.now.tree + n) }
+    ensures saved { (name : List ℕ) → P.begun keeper.old ≡ Some name
+        → OnOk result (IsSaved (P.kept keeper.old name) (P.kept keeper.new name) later.now.tree) }
+    ensures kept { (name : List ℕ) → P.begun keeper.old ≡ Some name
+        → OnOk result (KeepsTree (P.kept keeper.new name) later.now.tree) }
+    ensures unchanged { (name : List ℕ) → P.begun keeper.old ≡ Some name
+        → OnErr result (P.kept keeper.new name ≡ P.kept keeper.old name) }
+    ensures others { (name other : List ℕ) → P.begun keeper.old ≡ Some name
+        → other ≢ name → P.kept keeper.new other ≡ P.kept keeper.old other }
+    ensures begun { P.begun keeper.new ≡ P.begun keeper.old }
+    ensures cause { IsErrOf result SaveRefused.Failed
+        → Rose (P.faults keeper.old) (P.faults keeper.new) }
+    ensures counts_on { P.faults keeper.old ≤ P.faults keeper.new }
+{
+    let rows = new_rows(alloc, earlier, later)?;
+    keeper.save(&rows)?;
+    Ok(rows.len())
+}

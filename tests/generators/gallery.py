@@ -1,0 +1,68 @@
+#!/usr/bin/env python3
+"""Writes docs/GALLERY.md: each example's question, command, summary and picture.
+
+    python3 tests/generators/gallery.py
+
+The summaries are those of tests/data/summaries.txt, which the plain paver worked out; the pictures are drawn by
+examples/pictures.sh.
+"""
+import sys
+from itertools import takewhile
+from pathlib import Path
+
+TOP = Path(__file__).resolve().parents[2]
+sys.path.insert(0, str(TOP / "tests"))
+from data.examples import EXAMPLES  # noqa: E402
+
+HEAD = """# Gallery
+
+Each example of `examples/`, with its question, the command that answers it and the first line of the answer. Green boxes are inner: every rational point of them is in the set. Grey parts are removed: no rational point of them is. Yellow boxes are undecided. Of three variables and more a picture is a slice, or the projection on two variables; some are drawn with a smaller eps than that of the command. `examples/pictures.sh` draws them, `tests/generators/gallery.py` writes this page.
+"""
+
+
+TITLES = {"pi_gains": "PI gains", "robust_pid": "Robust PID", "three_rpr": "3-RPR platform"}
+
+
+def title_of(name):
+    return TITLES.get(name, name.replace("_", " ").capitalize())
+
+
+def question_of(name):
+    """The comment at the head of the file without its command, quoted line by line."""
+    text = (TOP / "examples" / f"{name}.mbx").read_text()
+    if text.startswith("/*"):
+        lines = text[2:text.index("*/")].strip().splitlines()
+    else:
+        lines = [line[2:] for line in takewhile(lambda line: line.startswith("//"), text.splitlines())]
+    return "\n".join(f"> {line.strip()}  " for line in lines if "paver run" not in line)
+
+
+def summaries():
+    rows = (line.split(" ", 2) for line in (TOP / "tests" / "data" / "summaries.txt").read_text().splitlines())
+    return {name: summary for name, _, summary in rows}
+
+
+def entry(name, words, summary):
+    command = " ".join(f"'{word}'" if "(" in word else word for word in ["paver", "run", f"examples/{name}.mbx", *words])
+    return f"""
+## {title_of(name)}
+
+{question_of(name)}
+
+```
+$ {command}
+{summary}
+```
+
+![{title_of(name)}](pictures/{name}.svg)
+"""
+
+
+def main():
+    found = summaries()
+    text = HEAD + "".join(entry(name, words, found[name]) for name, words in EXAMPLES)
+    (TOP / "docs" / "GALLERY.md").write_text(text)
+
+
+if __name__ == "__main__":
+    main()
