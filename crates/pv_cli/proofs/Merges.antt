@@ -3,7 +3,6 @@ use Rattle.std.proofs.Common.{◌≡◌, ◌⊎◌, inl, inr, ℕ, Bool, List, [
 use Rattle.std.specs.Prelude.{◌≢◌, Option, Some, None, codes, decimal, slice_index}
 use Rattle.std.proofs.lemmas.List.{length-map}
 use Rattle.clap.specs.Words.{Text}
-use Rattle.sha2.specs.Sha256.{sha256}
 use Rattle.pv_num.specs.Extended.{Extended}
 use Rattle.pv_num.specs.Parts.{number_text}
 use Rattle.pv_interval.specs.Bounds.{Bounds}
@@ -133,6 +132,9 @@ same_settings : (r q : SettlerParts) → r.eps ≡ q.eps → r.depth ≡ q.depth
     → settings_text r ≡ settings_text q
 same_settings r q e d b p = λ i. settings_by (e i) (d i) (b i) (p i)
 
+same_identity : (r q : SettlerParts) → canonical_text r.system ≡ canonical_text q.system → settings_text r ≡ settings_text q → identity_of r ≡ identity_of q
+same_identity r q canonical settings = cc
+
 -- the rules of two systems that are alike, by the same settings, have one identity and one box
 pub record AreSameRules (r q : SettlerParts) : Type 0 where
   pub identity : identity_of r ≡ identity_of q
@@ -145,7 +147,7 @@ same_rules s other x y r q alike same h k =
     same_settings r q (h.eps ∙ same.eps ∙ sym k.eps) (h.depth ∙ same.depth ∙ sym k.depth) (h.bisector ∙ same.bisector ∙ sym k.bisector)
     (sym h.program.spelled ∙ same.contract ∙ k.program.spelled) in
     record {
-      identity = λ i. sha256 (canonical i ++ text i);
+      identity = same_identity r q canonical text;
       box = ap (λ (p : Parts). map search_bounds p.domains) h.system_is ∙ ap (map search_bounds) alike.domains ∙ sym (ap (λ (p : Parts). map search_bounds p.domains) k.system_is);
     }
 
