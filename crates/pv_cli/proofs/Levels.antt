@@ -30,8 +30,7 @@ split_words bs None h = one_word bs (split_once_first 44 bs None h (omega arith)
 split_words bs (Some x) h =
     let first = split_once_first 44 bs (Some x) h (omega arith) in
     let parts = split_parts 44 bs (Some x) h (omega arith) in
-    let count : length bs ≡ length x.0.now + length (44 ∷ x.1.now) = ap length parts.0 ∙ length-append x.0.now (44 ∷ x.1.now) in
-    (
+    let count : length bs ≡ length x.0.now + length (44 ∷ x.1.now) = ap length parts.0 ∙ length-append x.0.now (44 ∷ x.1.now) in (
       slice_split_first (λ (c : ℕ). c == 44) bs 0 first.0 ∙ ap₂ (λ (a b : List ℕ). a ∷ words_between b) (sym first.1) (sym first.2),
       omega arith,
     )

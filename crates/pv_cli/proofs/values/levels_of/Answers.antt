@@ -11,11 +11,10 @@ returns-in-Err c =
 
 pub loop-word-preserved : goal.loop-word-preserved
 loop-word-preserved c =
-    let words = words_between c.args.text.now in
-    (
+    let words = words_between c.args.text.now in (
       search rules,
       fills_on words c.in-Some.word.now (words_between c.in-Some.behind.now) c.loop-word.numbers.items c.push_level.new.numbers.items c.in_default-push_level.ensures.pushed
-      (subst (λ (ws : List (List ℕ)). Fills words ws c.loop-word.numbers.items) c.in-Some.ensures.0 c.loop-word.invariant.1),
+          (subst (λ (ws : List (List ℕ)). Fills words ws c.loop-word.numbers.items) c.in-Some.ensures.0 c.loop-word.invariant.1),
       rest_on words c.in-Some.word.now (words_between c.in-Some.behind.now) (subst (λ (ws : List (List ℕ)). HasRest words ws) c.in-Some.ensures.0 c.loop-word.invariant.2),
     )
 
