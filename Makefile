@@ -3,6 +3,7 @@
 # make demo     the same on JOBS processors; paves an example and leaves its picture as demo/ring.svg
 # make test     the whole test command: the gate and the end-to-end tests
 # make fuzz     COUNT made texts and files, and each allocation of each command refused in turn
+# make pictures draws each example into docs/pictures, and writes docs/GALLERY.md
 # make bench    measures beside a lean Rust program, where there is a rustc
 # make install PREFIX=/usr/local      the program, its man page and completions; make uninstall takes them away
 PREFIX ?= /usr/local
@@ -26,12 +27,20 @@ bench: paver
 	cd crates/pv_tree_bench && rt run -- none 0 >/dev/null 2>&1
 	python3 bench/run.py
 
+define DRAW_TRY
+import sys, paver
+text = open(sys.argv[1]).read()
+root = [(-3, 3), (-3, 3)]
+print(paver.svg(paver.Paving.from_text(text, root=root, names=["x", "y"])))
+endef
+export DRAW_TRY
+
 # Nothing is proved here, and not every slip would stop the run.
 try:
 	mkdir -p demo
 	cd crates/paver && rt try --data ring.mbx=../../examples/ring.mbx -- run ring.mbx --eps 0.5 >../../demo/try.log
 	sed -n '/^settled /,$$p' demo/try.log > demo/try.txt
-	python3 examples/picture.py demo/try.txt "-3,3,-3,3" > demo/try.svg
+	PYTHONPATH=python python3 -c "$$DRAW_TRY" demo/try.txt > demo/try.svg
 	head -n 1 demo/try.txt
 	@echo "NOT PROVED: this run took the program as it is written, with no proof. make demo proves it first."
 	@echo "the picture is in demo/try.svg"
@@ -40,13 +49,16 @@ try:
 demo: PROVE_FIRST = rt all check --jobs $(JOBS)
 demo: paver
 	mkdir -p demo
-	./paver run examples/ring.mbx > demo/ring.txt
-	python3 examples/picture.py demo/ring.txt "-3,3,-3,3" > demo/ring.svg
-	head -n 1 demo/ring.txt
+	./paver run examples/ring.mbx --out demo/ring.paving
+	./paver svg examples/ring.mbx demo/ring.paving --x x --y y > demo/ring.svg
 	@echo "the picture is in demo/ring.svg"
 
 test:
 	.ci/run
+
+pictures: paver
+	examples/pictures.sh ./paver
+	python3 tests/generators/gallery.py
 
 fuzz: paver
 	python3 tests/runners/fuzz_reader.py ./paver $(COUNT)
@@ -69,4 +81,4 @@ uninstall:
 clean:
 	rm -rf paver demo crates/*/out
 
-.PHONY: all try demo test fuzz bench install uninstall clean
+.PHONY: all try demo test pictures fuzz bench install uninstall clean
