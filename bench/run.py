@@ -7,6 +7,7 @@
     python3 bench/run.py paving             settled nodes a second of fourteen kinds of systems, beside bench/lean
     python3 bench/run.py printing           the share of instructions that printing takes, where there is valgrind
     python3 bench/run.py growth             how the time grows as --eps is halved
+    python3 bench/run.py files              a large paving file: stored, joined with itself and in eight parts, audited
     python3 bench/run.py trees              milliseconds for settling, counting, copying, joining and auditing a large tree
 
 Each figure is the best of five runs or more. Needs rustc for the yardstick; without it only paver's own figures are printed.
@@ -145,6 +146,28 @@ def growth(_):
         print(f"{name:6} eps {eps:.6f} {settled:7} nodes {spent:7.3f} s {spent / settled * 1e6:6.2f} us a node")
 
 
+def files(folder):
+    """A file of 100,000 settled nodes in 4 variables, and eight stages of it."""
+    paver, system, eps = TOP / "paver", EXAMPLES / "planar_arm.mbx", ["--eps", "0.0625"]
+    names = []
+    for part in range(1, 9):
+        names.append(Path(folder) / f"part{part}")
+        subprocess.run([paver, "run", system, *eps, "--boxes", str(12_500 * part), "--out", names[-1]], check=False,
+                       stdout=subprocess.DEVNULL)
+    whole, joined = names[-1], Path(folder) / "joined"
+    size = whole.stat().st_size / 1e6
+    works = {
+        "run with --out": ["run", system, *eps, "--boxes", "100000", "--out", joined],
+        "run, printing": ["run", system, *eps, "--boxes", "100000"],
+        "merge of one (read and write)": ["merge", system, whole, *eps, "--out", joined],
+        "merge of eight": ["merge", system, *names, *eps, "--out", joined],
+        "audit": ["audit", system, whole, *eps],
+    }
+    print(f"a file of {size:.2f} MB; eight parts of {sum(name.stat().st_size for name in names) / 1e6:.2f} MB")
+    for work, words in works.items():
+        print(f"{work:30} {seconds([paver, *words])[0] * 1000:8.1f} ms")
+
+
 def trees(_):
     program = TOP / "crates/pv_tree_bench/out/pv_tree_bench"
     built, _ = seconds([program, "none", 0])
@@ -154,7 +177,8 @@ def trees(_):
 
 
 def main():
-    parts = {"numbers": numbers, "calls": calls, "paving": paving, "printing": printing, "growth": growth, "trees": trees}
+    parts = {"numbers": numbers, "calls": calls, "paving": paving, "printing": printing, "growth": growth, "files": files,
+             "trees": trees}
     with tempfile.TemporaryDirectory() as folder:
         for part in sys.argv[1:] or parts:
             parts[part](folder)
