@@ -4,13 +4,13 @@ _paver() {
     local settings="--eps --depth --bisect --contract"
     COMPREPLY=()
     if [ "$COMP_CWORD" -eq 1 ]; then
-        mapfile -t COMPREPLY < <(compgen -W "check run resume merge audit svg" -- "$word")
+        mapfile -t COMPREPLY < <(compgen -W "check run resume merge audit svg sample" -- "$word")
         return
     fi
     case $before in
         --bisect) mapfile -t COMPREPLY < <(compgen -W "largest round" -- "$word"); return ;;
         --contract) mapfile -t COMPREPLY < <(compgen -W "prop(8) hc4( compose( union( qinter( fix( prop(" -- "$word"); return ;;
-        --eps|--depth|--boxes|--workers|--x|--y|--at) return ;;
+        --eps|--depth|--boxes|--workers|--x|--y|--at|--seed|--count) return ;;
         --out) mapfile -t COMPREPLY < <(compgen -f -- "$word"); return ;;
     esac
     if [[ $word == -* ]]; then
@@ -19,6 +19,7 @@ _paver() {
             merge) mapfile -t COMPREPLY < <(compgen -W "$settings --out" -- "$word") ;;
             audit) mapfile -t COMPREPLY < <(compgen -W "$settings" -- "$word") ;;
             svg) mapfile -t COMPREPLY < <(compgen -W "$settings --x --y --at" -- "$word") ;;
+            sample) mapfile -t COMPREPLY < <(compgen -W "--seed --count" -- "$word") ;;
         esac
         return
     fi

@@ -1,5 +1,5 @@
 # Completion of paver's words for fish.
-set -l commands check run resume merge audit svg
+set -l commands check run resume merge audit svg sample
 complete -c paver -n "not __fish_seen_subcommand_from $commands" -f
 complete -c paver -n "not __fish_seen_subcommand_from $commands" -a check -d 'Print the system as it was understood'
 complete -c paver -n "not __fish_seen_subcommand_from $commands" -a run -d 'Pave a system'
@@ -7,6 +7,7 @@ complete -c paver -n "not __fish_seen_subcommand_from $commands" -a resume -d 'G
 complete -c paver -n "not __fish_seen_subcommand_from $commands" -a merge -d 'Join stored pavings'
 complete -c paver -n "not __fish_seen_subcommand_from $commands" -a audit -d 'Recompute every settled node'
 complete -c paver -n "not __fish_seen_subcommand_from $commands" -a svg -d 'Draw a plane of a stored paving'
+complete -c paver -n "not __fish_seen_subcommand_from $commands" -a sample -d 'Pave a made system'
 set -l settled run resume merge audit svg
 complete -c paver -n "__fish_seen_subcommand_from $settled" -l eps -x -d 'A box with no greater width is small'
 complete -c paver -n "__fish_seen_subcommand_from $settled" -l depth -x -d 'Cuts on a way down, 1 to 200'
@@ -18,3 +19,5 @@ complete -c paver -n "__fish_seen_subcommand_from run resume merge" -l out -r -d
 complete -c paver -n "__fish_seen_subcommand_from svg" -l x -x -d 'The variable that goes to the right'
 complete -c paver -n "__fish_seen_subcommand_from svg" -l y -x -d 'The variable that goes up'
 complete -c paver -n "__fish_seen_subcommand_from svg" -l at -x -d 'The numbers of the other variables'
+complete -c paver -n "__fish_seen_subcommand_from sample" -f -l seed -x -d 'The number that makes the system'
+complete -c paver -n "__fish_seen_subcommand_from sample" -f -l count -x -d 'Its circles, 1 to 16'

@@ -17,7 +17,7 @@ from .errors import (ContractRefused, Disagree, NoFile, NotInProgram, PaverError
 from .paving import Parts, Paving
 from .picture import svg
 from .plots import plot, plot_projection
-from .program import Answer, audit, check, check_text, find, merge, resume, run
+from .program import Answer, audit, check, check_text, draw, find, merge, resume, run, sample
 from .roots import find_roots
 from .split import gather, split
 
@@ -25,6 +25,6 @@ __all__ = [
     "Answer", "Box", "Cluster", "ContractRefused", "Disagree", "NoFile", "NotInProgram", "Parts", "Paving",
     "PaverError", "PavingError", "PavingRefused", "ProgramFault", "ProgramMissing", "ReadFault", "System",
     "SystemRefused", "TreeLimit", "UsageError", "WantOfMemory", "WriteFault", "audit", "check", "check_text",
-    "depth_that_suffices", "find", "find_roots", "gather", "merge", "plot", "plot_projection", "resume", "run",
-    "split", "svg", "warnings_of",
+    "depth_that_suffices", "draw", "find", "find_roots", "gather", "merge", "plot", "plot_projection", "resume", "run",
+    "sample", "split", "svg", "warnings_of",
 ]

@@ -130,7 +130,8 @@ def asked(words, program, timeout):
 def has(command, program=None):
     """Whether the program has a command, or `run --out`: with it, a system that is not there is no file."""
     words = {"run --out": ["run", "--out=none"]}.get(command, [command])
-    pavings = ["none"] if command in ("resume", "merge", "audit") else []
+    pavings = ["none"] if command in ("resume", "merge", "audit", "svg") else []
+    words += ["--x=x", "--y=y"] if command == "svg" else []
     return call([*words, "--", "/no such folder/no such system", *pavings], program)[0] == 11
 
 
@@ -176,6 +177,30 @@ def audit(system, paving, *, program=None, timeout=None, **settings):
     if text != "honest\n":
         raise errors.ProgramFault(0, f"audit answered {text!r}")
     return True
+
+
+def draw(system, paving, x, y, *, at=None, program=None, timeout=None, **settings):
+    """The picture of a stored paving on the plane of two variables, as the program draws it: SVG text. `at` has the
+    numbers of the other variables in their order."""
+    words = ["svg", *option_words(settings, SETTINGS), f"--x={x}", f"--y={y}"]
+    words += [f"--at={','.join(level(n) for n in at)}"] if at else []
+    return asked([*words, "--", system, paving], program, timeout)[1]
+
+
+def level(number):
+    """A number of `--at` in words."""
+    if isinstance(number, str):
+        return number
+    exact = Fraction(Decimal(number)) if isinstance(number, float) else Fraction(number)
+    text = numbers.minibex(abs(exact))
+    if text is None:
+        raise ValueError(f"{number} can't be written as a Minibex number: give a text")
+    return f"-{text}" if exact < 0 else text
+
+
+def sample(seed, count, *, program=None, timeout=None):
+    """The three lines that the program prints of the system that a number makes."""
+    return asked(["sample", f"--seed={seed}", f"--count={count}"], program, timeout)[1]
 
 
 def listed(pavings):

@@ -85,8 +85,6 @@ CASES = [
          lines("vars 1", "x 0:0 1:2", "ctrs 1", "<= (^ v0 2) 4/1")),
     Case("a system with a function", ["run", "s"], 0, {"s": FUNCTION},
          lines("settled 1 cut 0 removed 0 inner 1 small 0 open 0", "I 0:0 1:1")),
-    Case("a command that has a name and no body yet", ["svg", "s", "a", "--x", "x", "--y", "y"], 2, {"s": HALF_LINE},
-         stderr=USAGE),
     Case("the budget ends a run", ["run", "s"], 1,
          {"s": system("x in [0,9999999], y in [0,9999999]", "x < y")}, b"settled 20000 ", begins=True),
     Case("no such file", ["run", "t"], 11, {"s": HALF_LINE}, stderr=b"no file: t\n"),

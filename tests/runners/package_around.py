@@ -14,7 +14,7 @@ import paver
 from package_checks import Skipped
 
 TOP = Path(__file__).resolve().parents[2]
-COMMANDS = ["check", "run", "resume", "merge", "audit", "svg"]
+COMMANDS = ["check", "run", "resume", "merge", "audit", "svg", "sample"]
 SETTINGS = ["eps", "depth", "bisect", "contract"]
 RUN_OPTIONS = [*SETTINGS, "boxes", "workers", "out"]
 SVG_OPTIONS = [*SETTINGS, "x", "y", "at"]

@@ -218,10 +218,32 @@ def check_audited():
         raised(paver.Disagree, lambda: paver.audit(example("ring"), out, eps=1), kind="differs", first="X")
 
 
+def check_drawn():
+    needs("run --out")
+    needs("svg")
+    with tempfile.TemporaryDirectory() as folder:
+        out = Path(folder) / "1"
+        answer = paver.run(example("torus"), eps=1, out=out)
+        flat = paver.draw(example("torus"), out, "x", "y", at=[Fraction(3, 10)], eps=1)
+        assert flat.startswith("<svg ") and flat.endswith("</svg>\n")
+        assert flat.count("#43a047") <= answer.summary["inner"] and flat.count("<rect ") > 1
+        assert paver.draw(example("torus"), out, "x", "y", at=[-0.5], eps=1) == \
+            paver.draw(example("torus"), out, "x", "y", at=["-0.5"], eps=1)
+        raised(paver.UsageError, lambda: paver.draw(example("torus"), out, "x", "y", eps=1))
+        raised(paver.PavingRefused, lambda: paver.draw(example("torus"), out, "x", "y", at=[0]), cause="wrong identity")
+
+
+def check_sampled():
+    lines = paver.sample(1, 2).splitlines()
+    assert lines[0] == "sample seed 1 count 2" and len(lines) == 3
+    assert lines[1] == "settled 911 cut 455 removed 0 inner 256 small 200 open 0"
+    raised(paver.UsageError, lambda: paver.sample(1, 17))
+
+
 def checks():
     expected = dict(line.split(" ", 2)[:2] for line in EXPECTED.read_text().splitlines())
     named = [check_numbers, check_minibex_numbers, check_lines, check_refusals, check_answers, check_depths, check_canonical,
-             check_missing, check_stored, check_resumed, check_merged, check_audited]
+             check_missing, check_stored, check_resumed, check_merged, check_audited, check_drawn, check_sampled]
     found = [(check.__name__[6:].replace("_", " "), check, ()) for check in named]
     return found + [(f"the reference's text of {name}", check_digest, (name, words, expected[name]))
                     for name, words in EXAMPLES]

@@ -6,6 +6,7 @@ and joined, and are audited; and bad files, names, folders and disks.
 
 runs the checks whose names contain WORD. The last line is 'N passed, M failed'.
 """
+import hashlib
 import os
 import subprocess
 import sys
@@ -15,7 +16,7 @@ from pathlib import Path
 sys.path.insert(0, str(Path(__file__).resolve().parents[1]))
 from data.cases import HALF_LINE, RECIPROCAL, USAGE, lines, system  # noqa: E402
 from data.reader_cases import canonical  # noqa: E402
-from reference import files, minibex  # noqa: E402
+from reference import files, minibex, sample  # noqa: E402
 from reference.commands import Call, answer  # noqa: E402
 from fractions import Fraction  # noqa: E402
 
@@ -320,6 +321,23 @@ def drawn_files(f):
         f.run(["svg", "s", "p", "--x", "x", "--y", "y"], 6, None, err=b"write fault: standard output\n", stdout=full)
 
 
+def samples(f):
+    """A sample's report is that of a run of the system that the reference makes, which stores its paving."""
+    words = ["--eps", "8", "--depth", "14", "--boxes", "100000"]
+    for seed, count in ((1, 2), (7, 1), (7, 16), (2147483647, 3), (0, 5)):
+        f.put("s", sample.text_of(seed, count).encode())
+        stored = subprocess.run([f.paver, "run", "s", *words, "--out", "p"], cwd=f.path, stdout=subprocess.PIPE, check=True)
+        digest = hashlib.sha256(f.get("p")).hexdigest()
+        report = f"sample seed {seed} count {count}\n".encode() + stored.stdout + f"file {digest}\n".encode()
+        for _ in range(2):
+            f.run(["sample", "--seed", str(seed), f"--count={count}"], 0, report)
+    for words in ([], ["--seed", "1"], ["--seed", "1", "--count", "0"], ["--seed", "2147483648", "--count", "1"],
+                  ["--seed", "1", "--count", "17"], ["s", "--seed", "1", "--count", "1"]):
+        f.run(["sample", *words], 2, err=USAGE)
+    with open("/dev/full", "wb") as full:
+        f.run(["sample", "--seed", "1", "--count", "1"], 6, None, err=b"write fault: standard output\n", stdout=full)
+
+
 def words_that_are_no_text(f):
     f.put("s", HALF_LINE)
     f.run([b"run", b"\xff"], 2, err=USAGE)
@@ -337,7 +355,7 @@ def settings_of_others(f):
 
 
 CHECKS = [stored_runs, resumed_runs, merged_files, audited_files, workers_store_the_same, bad_files, cut_anywhere,
-          each_byte_replaced, big_trees, names_folders_and_disks, order_of_refusals, drawn_files,
+          each_byte_replaced, big_trees, names_folders_and_disks, order_of_refusals, drawn_files, samples,
           words_that_are_no_text, settings_of_others]
 
 

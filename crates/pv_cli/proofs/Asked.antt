@@ -1,14 +1,14 @@
 -- What the words ask for, by what clap answers.
 use Rattle.std.proofs.Common.{◌≡◌, ◌⊎◌, inl, inr, true, List, [], ◌∷◌, refl, sym, ◌∙◌, ap, subst}
-use Rattle.std.specs.Prelude.{Option, Some, None, Result, Ok, Err, MatchResult, ◌≢◌}
+use Rattle.std.specs.Prelude.{Option, Some, None, Result, Ok, Err, MatchResult, ◌≢◌, codes}
 use Rattle.clap.proofs.OnLiterals.{clap_on_literals}
 use Rattle.clap.specs.Words.{App, Row, Text, Kinds, HasKind, IsAmong, fault_of, is_simple, is_simple_and_free, subcommand_of, kind_of}
 use Rattle.clap.specs.declared.error.Error.{Error}
 use Rattle.clap.specs.declared.error.kind.ErrorKind.{ErrorKind}
 use Rattle.clap.specs.declared.error.kind.ErrorKind.TheVariants.{OutOfMemory}
 use Rattle.pv_cli.specs.Commands.{paver_app}
-use Rattle.pv_cli.specs.Requests.{IsAsked, Asks, HasBadValue, HasBadValueIn, AreRefused}
-use Rattle.pv_cli.specs.Found.{IsNoCommand, RefusesCommand, RefusesFound}
+use Rattle.pv_cli.specs.Requests.{Command, checks, runs, resumes, merges, audits, draws, samples, name_of, IsAskedBy, IsAsked, Asks, HasBadValueFor, HasBadValue, HasBadValueIn, AreRefused}
+use Rattle.pv_cli.specs.Found.{IsNoCommand, RefusesValues, RefusesCommand, RefusesFound}
 use Rattle.pv_cli.specs.Ends.{RefusesWords}
 use Rattle.pv_cli.specs.declared.request.Request.{Request}
 use Rattle.pv_cli.specs.declared.refusal.Refusal.{Refusal}
@@ -55,13 +55,40 @@ error_refuses a words e k r is kinds same (inr usage) = subst (RefusesWords word
 
 -- no command but these is met where clap takes the words
 bad_value : (name : Text) (rows : List Row) → IsACommand name → IsNoCommand name ⊎ HasBadValue name rows → HasBadValue name rows
-bad_value name rows (inl c) (inl none) = absurd (none.0 c)
-bad_value name rows (inr (inl c)) (inl none) = absurd (none.1 c)
-bad_value name rows (inr (inr (inl c))) (inl none) = absurd (none.2 c)
-bad_value name rows (inr (inr (inr (inl c)))) (inl none) = absurd (none.3 c)
-bad_value name rows (inr (inr (inr (inr (inl c))))) (inl none) = absurd (none.4 c)
-bad_value name rows (inr (inr (inr (inr (inr c))))) (inl none) = absurd (none.5 c)
+bad_value name rows is (inl none) = absurd (none is.command is.named)
 bad_value name rows is (inr bad) = bad
+
+-- a name is none of theirs where it is not one of these
+pub no_command : (name : Text) → name ≢ codes "check" → name ≢ codes "run" → name ≢ codes "resume" → name ≢ codes "merge" → name ≢ codes "audit"
+    → name ≢ codes "svg" → name ≢ codes "sample" → IsNoCommand name
+no_command name check run resume merge audit svg sample checks = check
+no_command name check run resume merge audit svg sample runs = run
+no_command name check run resume merge audit svg sample resumes = resume
+no_command name check run resume merge audit svg sample merges = merge
+no_command name check run resume merge audit svg sample audits = audit
+no_command name check run resume merge audit svg sample draws = svg
+no_command name check run resume merge audit svg sample samples = sample
+
+-- a value that a command's reader refuses is one of the command's
+pub refuses_value : (name : Text) (rows : List Row) (c : Command) (r : Refusal) → name ≡ name_of c → RefusesValues (HasBadValueFor c rows) r → RefusesCommand name rows r
+refuses_value name rows c Usage e bad = inr (record { command = c; named = e; bad = bad })
+refuses_value name rows c Memory e bad = tt
+refuses_value name rows c (System line column byte cause) e bad = bad
+refuses_value name rows c (Contract byte) e bad = bad
+refuses_value name rows c (NoFile n) e bad = bad
+refuses_value name rows c (ReadFault n) e bad = bad
+refuses_value name rows c (Paving n fault) e bad = bad
+refuses_value name rows c (NotStored n) e bad = bad
+refuses_value name rows c NotPrinted e bad = bad
+refuses_value name rows c (TreeLimit n) e bad = bad
+refuses_value name rows c (Disagree path a b) e bad = bad
+refuses_value name rows c (Differs path a b) e bad = bad
+
+-- what a command's reader answers is what the command of its name is asked for, or why it is refused
+pub read_as : (name : Text) (rows : List Row) (c : Command) (r : Result Request Refusal) → name ≡ name_of c
+    → MatchResult r (IsAskedBy (name_of c) rows) (RefusesValues (HasBadValueFor c rows)) → MatchResult r (IsAskedBy name rows) (RefusesCommand name rows)
+read_as name rows c (Ok q) e h = subst (λ (n : Text). IsAskedBy n rows q) (sym e) h
+read_as name rows c (Err r) e h = refuses_value name rows c r e h
 
 refuses_command : (words : List Text) (p : Text × List Row) (r : Refusal) → subcommand_of paver_app words ≡ Some p → IsACommand p.0 → RefusesCommand p.0 p.1 r → RefusesWords words r
 refuses_command words p Usage e is h = inr (subst HasBadValueIn (sym e) (bad_value p.0 p.1 is h))

@@ -13,11 +13,11 @@ use Rattle.clap.specs.Takes.{is_given}
 use Rattle.std.specs.List.{list_any}
 use Rattle.clap.specs.declared.error.kind.ErrorKind.TheVariants as kind
 use Rattle.pv_cli.specs.Commands.{paver_app}
+use Rattle.pv_cli.specs.Requests.{Command, checks, runs, resumes, merges, audits, draws, samples, name_of}
 
-abbrev pub IsACommand : Text → Type 0
-IsACommand name =
-    (name ≡ codes "check") ⊎ ((name ≡ codes "run") ⊎ ((name ≡ codes "resume") ⊎ ((name ≡ codes "merge")
-    ⊎ ((name ≡ codes "audit") ⊎ (name ≡ codes "svg")))))
+pub record IsACommand (name : Text) : Type 0 where
+  pub command : Command
+  pub named : name ≡ name_of command
 
 abbrev pub IsKnown : Option (Text × List Row) → Type 0
 IsKnown None = ⊥
@@ -61,24 +61,28 @@ entered_among : (a : App) (stop : Option (Text × List Text)) → IsFoundIn (map
 entered_among a None = tt
 entered_among a (Some p) = found_among (λ s. answers_to p.0 (label_of s)) a.subs p.1
 
-six_names : map (λ (s : Shape). s.name) (built paver_app).subs ≡ codes "check" ∷ codes "run" ∷ codes "resume" ∷ codes "merge" ∷ codes "audit" ∷ codes "svg" ∷ []
+abbrev seven_names : List Text
+seven_names = codes "check" ∷ codes "run" ∷ codes "resume" ∷ codes "merge" ∷ codes "audit" ∷ codes "svg" ∷ codes "sample" ∷ []
+
+names_are : map (λ (s : Shape). s.name) (built paver_app).subs ≡ seven_names
 unfolding clap_on_literals paver_app
-six_names = refl
+names_are = refl
 
 needs_one : (built paver_app).top.subcommand_required ≡ true
 unfolding clap_on_literals paver_app
 needs_one = refl
 
-is_a_command : (name : Text) → IsAmongNames name (codes "check" ∷ codes "run" ∷ codes "resume" ∷ codes "merge" ∷ codes "audit" ∷ codes "svg" ∷ []) → IsACommand name
-is_a_command name (inl e) = inl e
-is_a_command name (inr (inl e)) = inr (inl e)
-is_a_command name (inr (inr (inl e))) = inr (inr (inl e))
-is_a_command name (inr (inr (inr (inl e)))) = inr (inr (inr (inl e)))
-is_a_command name (inr (inr (inr (inr (inl e))))) = inr (inr (inr (inr (inl e))))
-is_a_command name (inr (inr (inr (inr (inr (inl e)))))) = inr (inr (inr (inr (inr e))))
-is_a_command name (inr (inr (inr (inr (inr (inr none)))))) = absurd none
+is_a_command : (name : Text) → IsAmongNames name seven_names → IsACommand name
+is_a_command name (inl e) = record { command = checks; named = e }
+is_a_command name (inr (inl e)) = record { command = runs; named = e }
+is_a_command name (inr (inr (inl e))) = record { command = resumes; named = e }
+is_a_command name (inr (inr (inr (inl e)))) = record { command = merges; named = e }
+is_a_command name (inr (inr (inr (inr (inl e))))) = record { command = audits; named = e }
+is_a_command name (inr (inr (inr (inr (inr (inl e)))))) = record { command = draws; named = e }
+is_a_command name (inr (inr (inr (inr (inr (inr (inl e))))))) = record { command = samples; named = e }
+is_a_command name (inr (inr (inr (inr (inr (inr (inr none))))))) = absurd none
 
-is_known : (o : Option (Text × List Row)) → is_some o ≡ true → IsFoundIn (codes "check" ∷ codes "run" ∷ codes "resume" ∷ codes "merge" ∷ codes "audit" ∷ codes "svg" ∷ []) o → IsKnown o
+is_known : (o : Option (Text × List Row)) → is_some o ≡ true → IsFoundIn seven_names o → IsKnown o
 is_known None e h = absurd (cc)
 is_known (Some p) e h = is_a_command p.0 h
 
@@ -106,4 +110,4 @@ meets a words needs none = level_meets a.top (names_of a) nothing_held words _ _
 pub known : (words : List Text) → fault_of paver_app words ≡ [] → IsKnown (subcommand_of paver_app words)
 known words none =
     is_known (subcommand_of paver_app words) (meets (built paver_app) (argument_words paver_app words) needs_one none)
-    (subst (λ (names : List Text). IsFoundIn names (subcommand_of paver_app words)) six_names (entered_among (built paver_app) _))
+    (subst (λ (names : List Text). IsFoundIn names (subcommand_of paver_app words)) names_are (entered_among (built paver_app) _))

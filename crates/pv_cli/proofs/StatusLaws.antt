@@ -1,25 +1,26 @@
 -- What each status says, by the cases of how a command ends.
-use Rattle.std.proofs.Common.{◌≡◌, ◌⊎◌, inl, inr, ℕ, ◌==◌, true, false, ◌<◌, ◌≤◌, Bool, List, [], ◌∷◌, map, length, refl, sym, ◌∙◌, ap, subst, arith}
-use Rattle.std.specs.Prelude.{◌≢◌, Option, Some, None, codes, slice_index}
+use Rattle.std.proofs.Common.{◌≡◌, ◌⊎◌, inl, inr, ℕ, ◌<◌, ◌≤◌, if◌then◌else◌, Bool, List, [], ◌∷◌, map, length, refl, sym, ◌∙◌, ap, subst, arith}
+use Rattle.std.specs.Prelude.{◌≢◌, Option, Some, None, codes, unwrap_or}
+use Rattle.std.specs.Str.{bytes_eq}
 use Rattle.std.specs.Borrow.{Bor}
 use Rattle.std.proofs.lemmas.List.{length-map}
-use Rattle.std.proofs.lemmas.Bool.Decides.{eqb_tells}
 use Rattle.clap.specs.Words.{Row, Text, fault_of, subcommand_of}
 use Rattle.pv_tree.specs.Trees.{Tree, leaf, opens}
 use Rattle.pv_settle.specs.Rules.{SettlerParts}
 use Rattle.pv_settle.specs.Spelling.{identity_of}
 use Rattle.pv_cli.specs.Commands.{paver_app}
-use Rattle.pv_cli.specs.Requests.{names_in, out_of, paving_names, AreSettings, IsEffort, ArePavings, HasBadSetting, bad_eps, bad_depth, bad_bisector, HasBadEffort, bad_workers, bad_boxes, HasManyPavings, HasBadValue, in_run, in_resume, in_merge, in_audit, in_svg, IsAskedBy, IsAsked, Asks, HasBadValueIn, AreRefused}
+use Rattle.pv_cli.specs.Requests.{names_in, out_of, paving_names, AreSettings, IsEffort, ArePavings, HasBadSetting, bad_eps, bad_depth, bad_bisector, HasBadEffort, bad_workers, bad_boxes, HasManyPavings, AreCircles, HasBadCircles, bad_seed, bad_count, Command, checks, runs, resumes, merges, audits, draws, samples, name_of, HasBadValueFor, HasBadValue, IsAskedBy, IsAsked, Asks, HasBadValueIn, AreRefused}
 use Rattle.pv_cli.specs.Refusals.{status_of, line_of}
 use Rattle.pv_cli.specs.Systems.{Files, HasRule, search_box}
 use Rattle.pv_cli.specs.Files.{RefusesPaving, RefusesPavings}
-use Rattle.pv_cli.specs.Products.{Product, text, paved, HasStatus, IsHonest, AreStages, ComesOf, ComesOfRun, ComesOfResume, ComesOfMerge, RefusesWork}
+use Rattle.pv_cli.specs.Products.{Product, text, paved, HasStatus, IsHonest, AreStages, full_by, ComesOf, ComesOfRun, ComesOfResume, ComesOfMerge, RefusesWork}
 use Rattle.pv_cli.specs.Ends.{Stream, Outside, AreUntouched, IsKept, RefusesDelivery, RefusesWords, IsRefusedSo, in_words, in_request, IsTold, Tells}
-use Rattle.pv_cli.specs.StatusLaws.{full_by, IsFullRun, IsFullResume, IsClosedJoin, IsWhole, DoneIsWhole, IsPartRun, IsPartResume, IsOpenJoin, IsPart, OpenLeftIsPart, IsEarly, IsCause, IsRefusedEarly, EarlyIsUntouched, IsUnstored, IsUnprinted, IsUnwritten, WriteFaultIsUnwritten, IsCutOffText, MemoryLeaves, OthersStay, AskingIsNotRefused, IsWordsRefused, RefusedWordsEnd, HasBadContract, HasBadPlane, UsageIsOfWords}
+use Rattle.pv_cli.specs.StatusLaws.{IsFullRun, IsFullResume, IsClosedJoin, IsWhole, DoneIsWhole, IsPartRun, IsPartResume, IsOpenJoin, IsPart, OpenLeftIsPart, IsEarly, IsCause, IsRefusedEarly, EarlyIsUntouched, IsUnstored, IsUnprinted, IsUnwritten, WriteFaultIsUnwritten, IsCutOffText, MemoryLeaves, OthersStay, AskingIsNotRefused, IsWordsRefused, RefusedWordsEnd, HasBadContract, HasBadPlane, UsageIsOfWords}
 use Rattle.pv_cli.specs.declared.request.Settings.{Settings}
 use Rattle.pv_cli.specs.declared.request.Effort.{Effort}
+use Rattle.pv_cli.specs.declared.request.Circles.{Circles}
 use Rattle.pv_cli.specs.declared.request.Request.{Request}
-use Rattle.pv_cli.specs.declared.request.Request.TheVariants.{Check, Run, Resume, Merge, Audit, Svg}
+use Rattle.pv_cli.specs.declared.request.Request.TheVariants.{Check, Run, Resume, Merge, Audit, Svg, Sample}
 use Rattle.pv_cli.specs.declared.refusal.Refusal.{Refusal}
 use Rattle.pv_cli.specs.declared.refusal.Refusal.TheVariants.{Usage, System, Contract, NoFile, ReadFault, Paving, NotStored, NotPrinted, Memory, TreeLimit, Disagree, Differs}
 use Rattle.pv_cli.specs.declared.status.Status.{Status}
@@ -118,6 +119,7 @@ whole_of before (Resume system pavings settings effort out) p h done = full_resu
 whole_of before (Merge system pavings settings out) p h done = closed_join before _ _ settings p h done
 whole_of before (Audit system paving settings) p h done = h
 whole_of before (Svg system paving settings view) p h done = h
+whole_of before (Sample circles) p h done = h
 
 pub done_is_whole : DoneIsWhole
 done_is_whole words before after (inl d) = record {
@@ -189,6 +191,7 @@ part_of before (Resume system pavings settings effort out) p h left = part_resum
 part_of before (Merge system pavings settings out) p h left = open_join before _ _ settings p h left
 part_of before (Audit system paving settings) p h left = no_text p _ h.is left
 part_of before (Svg system paving settings view) p h left = no_text p _ h.is left
+part_of before (Sample circles) p h left = no_text p _ h.is left
 
 pub open_left_is_part : OpenLeftIsPart
 open_left_is_part words before after (inl d) = record {
@@ -225,6 +228,7 @@ module _ (before after : Files) where
   no_work_stored (Audit system paving settings) m (inr h) = no_files h.rule (NotStored m) (stored_or_memory m) (λ n k. k) (paving.now ∷ []) h.refused
   no_work_stored (Svg system paving settings view) m (inl h) = h
   no_work_stored (Svg system paving settings view) m (inr h) = h.refused
+  no_work_stored (Sample circles) m h = h
 
   printed_or_memory : NotPrinted ≡ Memory → ⊥
   printed_or_memory e = cc
@@ -242,6 +246,7 @@ module _ (before after : Files) where
   no_work_printed (Audit system paving settings) (inr h) = no_files h.rule NotPrinted printed_or_memory (λ n k. k) (paving.now ∷ []) h.refused
   no_work_printed (Svg system paving settings view) (inl h) = h
   no_work_printed (Svg system paving settings view) (inr h) = h.refused
+  no_work_printed (Sample circles) h = h
 
   no_delivery : (out : Option Text) (p : Product) (x y : Stream) (r : Refusal) → IsEarly (status_of r) → RefusesDelivery out p before after x y r → ⊥
   no_delivery out p x y Usage early h = h
@@ -434,54 +439,68 @@ pavings_are_few rows names h many =
     let few = h.few in
     omega arith
 
-not_same : (m n : ℕ) → (m == n) ≡ false → m ≡ n → ⊥
-not_same m n other same = by (eqb_tells m n)
-  where
-    both : (m == n) ≡ true → ⊥
-    both e = cc
+circles_are_good : (rows : List Row) (c : Circles) → AreCircles rows c → HasBadCircles rows → ⊥
+circles_are_good rows c h (bad_seed none) = none c.seed h.seed
+circles_are_good rows c h (bad_count none) = none c.count h.count
 
-    by : (((m == n) ≡ true) × (m ≡ n)) ⊎ (((m == n) ≡ false) × (m ≡ n → ⊥)) → ⊥
-    by (inl h) = both h.0
-    by (inr h) = h.1 same
+-- a command has one name, and a name one command
+command_in : Text → Option Command
+command_in t =
+    if bytes_eq t (codes "check") then Some checks
+    else if bytes_eq t (codes "run") then Some runs
+    else if bytes_eq t (codes "resume") then Some resumes
+    else if bytes_eq t (codes "merge") then Some merges
+    else if bytes_eq t (codes "audit") then Some audits
+    else if bytes_eq t (codes "svg") then Some draws
+    else if bytes_eq t (codes "sample") then Some samples
+    else None
 
--- a command has one name: the third letters of the names differ
-one_name : (command a b : Text) → (slice_index a 2 == slice_index b 2) ≡ false → command ≡ a → command ≡ b → ⊥
-one_name command a b other e f = not_same (slice_index a 2) (slice_index b 2) other (ap (λ (t : Text). slice_index t 2) (sym e ∙ f))
+named : (c : Command) → command_in (name_of c) ≡ Some c
+named checks = refl
+named runs = refl
+named resumes = refl
+named merges = refl
+named audits = refl
+named draws = refl
+named samples = refl
 
-asked_is_good : (command : Text) (rows : List Row) (q : Request) → IsAskedBy command rows q → HasBadValue command rows → ⊥
-asked_is_good command rows (Check system) h (in_run e b) = one_name command (codes "check") (codes "run") refl h.0 e
-asked_is_good command rows (Check system) h (in_resume e b) = one_name command (codes "check") (codes "resume") refl h.0 e
-asked_is_good command rows (Check system) h (in_merge e b) = one_name command (codes "check") (codes "merge") refl h.0 e
-asked_is_good command rows (Check system) h (in_audit e b) = one_name command (codes "check") (codes "audit") refl h.0 e
-asked_is_good command rows (Check system) h (in_svg e b) = one_name command (codes "check") (codes "svg") refl h.0 e
-asked_is_good command rows (Run system settings effort out) h (in_run e b) = work_is_good rows settings effort h.2 h.3 b
-asked_is_good command rows (Run system settings effort out) h (in_resume e b) = one_name command (codes "run") (codes "resume") refl h.0 e
-asked_is_good command rows (Run system settings effort out) h (in_merge e b) = one_name command (codes "run") (codes "merge") refl h.0 e
-asked_is_good command rows (Run system settings effort out) h (in_audit e b) = one_name command (codes "run") (codes "audit") refl h.0 e
-asked_is_good command rows (Run system settings effort out) h (in_svg e b) = one_name command (codes "run") (codes "svg") refl h.0 e
-asked_is_good command rows (Resume system pavings settings effort out) h (in_resume e (inl b)) = pavings_are_few rows pavings.items h.2 b
-asked_is_good command rows (Resume system pavings settings effort out) h (in_resume e (inr b)) = work_is_good rows settings effort h.3 h.4 b
-asked_is_good command rows (Resume system pavings settings effort out) h (in_run e b) = one_name command (codes "resume") (codes "run") refl h.0 e
-asked_is_good command rows (Resume system pavings settings effort out) h (in_merge e b) = one_name command (codes "resume") (codes "merge") refl h.0 e
-asked_is_good command rows (Resume system pavings settings effort out) h (in_audit e b) = one_name command (codes "resume") (codes "audit") refl h.0 e
-asked_is_good command rows (Resume system pavings settings effort out) h (in_svg e b) = one_name command (codes "resume") (codes "svg") refl h.0 e
-asked_is_good command rows (Merge system pavings settings out) h (in_merge e (inl b)) = pavings_are_few rows pavings.items h.2 b
-asked_is_good command rows (Merge system pavings settings out) h (in_merge e (inr b)) = settings_are_good rows settings h.3 b
-asked_is_good command rows (Merge system pavings settings out) h (in_run e b) = one_name command (codes "merge") (codes "run") refl h.0 e
-asked_is_good command rows (Merge system pavings settings out) h (in_resume e b) = one_name command (codes "merge") (codes "resume") refl h.0 e
-asked_is_good command rows (Merge system pavings settings out) h (in_audit e b) = one_name command (codes "merge") (codes "audit") refl h.0 e
-asked_is_good command rows (Merge system pavings settings out) h (in_svg e b) = one_name command (codes "merge") (codes "svg") refl h.0 e
-asked_is_good command rows (Audit system paving settings) h (in_audit e b) = settings_are_good rows settings h.3 b
-asked_is_good command rows (Audit system paving settings) h (in_run e b) = one_name command (codes "audit") (codes "run") refl h.0 e
-asked_is_good command rows (Audit system paving settings) h (in_resume e b) = one_name command (codes "audit") (codes "resume") refl h.0 e
-asked_is_good command rows (Audit system paving settings) h (in_merge e b) = one_name command (codes "audit") (codes "merge") refl h.0 e
-asked_is_good command rows (Audit system paving settings) h (in_svg e b) = one_name command (codes "audit") (codes "svg") refl h.0 e
-asked_is_good command rows (Svg system paving settings view) h (in_svg e (inl b)) = b view.at.items h.4.at
-asked_is_good command rows (Svg system paving settings view) h (in_svg e (inr b)) = settings_are_good rows settings h.3 b
-asked_is_good command rows (Svg system paving settings view) h (in_run e b) = one_name command (codes "svg") (codes "run") refl h.0 e
-asked_is_good command rows (Svg system paving settings view) h (in_resume e b) = one_name command (codes "svg") (codes "resume") refl h.0 e
-asked_is_good command rows (Svg system paving settings view) h (in_merge e b) = one_name command (codes "svg") (codes "merge") refl h.0 e
-asked_is_good command rows (Svg system paving settings view) h (in_audit e b) = one_name command (codes "svg") (codes "audit") refl h.0 e
+one_command : (name : Text) (c d : Command) → name ≡ name_of c → name ≡ name_of d → c ≡ d
+one_command name c d e f = ap (λ (o : Option Command). unwrap_or o c) (sym (named c) ∙ ap command_in (sym e ∙ f) ∙ named d)
+
+command_of : Request → Command
+command_of (Check system) = checks
+command_of (Run system settings effort out) = runs
+command_of (Resume system pavings settings effort out) = resumes
+command_of (Merge system pavings settings out) = merges
+command_of (Audit system paving settings) = audits
+command_of (Svg system paving settings view) = draws
+command_of (Sample circles) = samples
+
+named_so : (name : Text) (rows : List Row) (q : Request) → IsAskedBy name rows q → name ≡ name_of (command_of q)
+named_so name rows (Check system) h = h.0
+named_so name rows (Run system settings effort out) h = h.0
+named_so name rows (Resume system pavings settings effort out) h = h.0
+named_so name rows (Merge system pavings settings out) h = h.0
+named_so name rows (Audit system paving settings) h = h.0
+named_so name rows (Svg system paving settings view) h = h.0
+named_so name rows (Sample circles) h = h.0
+
+values_are_good : (name : Text) (rows : List Row) (q : Request) → IsAskedBy name rows q → HasBadValueFor (command_of q) rows → ⊥
+values_are_good name rows (Check system) h b = b
+values_are_good name rows (Run system settings effort out) h b = work_is_good rows settings effort h.2 h.3 b
+values_are_good name rows (Resume system pavings settings effort out) h (inl b) = pavings_are_few rows pavings.items h.2 b
+values_are_good name rows (Resume system pavings settings effort out) h (inr b) = work_is_good rows settings effort h.3 h.4 b
+values_are_good name rows (Merge system pavings settings out) h (inl b) = pavings_are_few rows pavings.items h.2 b
+values_are_good name rows (Merge system pavings settings out) h (inr b) = settings_are_good rows settings h.3 b
+values_are_good name rows (Audit system paving settings) h b = settings_are_good rows settings h.3 b
+values_are_good name rows (Svg system paving settings view) h (inl b) = b view.at.items h.4.at
+values_are_good name rows (Svg system paving settings view) h (inr b) = settings_are_good rows settings h.3 b
+values_are_good name rows (Sample circles) h b = circles_are_good rows circles h.1 b
+
+asked_is_good : (name : Text) (rows : List Row) (q : Request) → IsAskedBy name rows q → HasBadValue name rows → ⊥
+asked_is_good name rows q h bad =
+    values_are_good name rows q h
+    (subst (λ (c : Command). HasBadValueFor c rows) (one_command name bad.command (command_of q) bad.named (named_so name rows q h)) bad.bad)
 
 found_is_good : (found : Option (Text × List Row)) (q : Request) → IsAsked found q → HasBadValueIn found → ⊥
 found_is_good None q h b = h

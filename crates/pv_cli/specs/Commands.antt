@@ -23,11 +23,11 @@ abbrev pub option_rule : Text → Rule
 option_rule name = record (new_rule name) { long = Some name; action = Some Set }
 
 -- the same, where it has to be there
-abbrev pub axis_rule : Text → Rule
-axis_rule name = record (new_rule name) { required = true; long = Some name; action = Some Set }
+abbrev pub needed_rule : Text → Rule
+needed_rule name = record (new_rule name) { required = true; long = Some name; action = Some Set }
 
-abbrev pub with_axis : Text → App → App
-with_axis name a = with_rule a (axis_rule name)
+abbrev pub with_needed : Text → App → App
+with_needed name a = with_rule a (needed_rule name)
 
 abbrev pub with_option : Text → App → App
 with_option name a = with_rule a (option_rule name)
@@ -73,9 +73,12 @@ abbrev pub audit_app : App
 audit_app = with_settings (paving_app (codes "audit"))
 
 abbrev pub svg_app : App
-svg_app = with_option (codes "at") (with_axis (codes "y") (with_axis (codes "x") (with_settings (paving_app (codes "svg")))))
+svg_app = with_option (codes "at") (with_needed (codes "y") (with_needed (codes "x") (with_settings (paving_app (codes "svg")))))
+
+abbrev pub sample_app : App
+sample_app = with_needed (codes "count") (with_needed (codes "seed") (bare_app (codes "sample")))
 
 unfoldable pub paver_app : App
 paver_app =
-    with_subcommand (with_subcommand (with_subcommand (with_subcommand (with_subcommand (with_subcommand top_app check_app.top)
-    run_app.top) resume_app.top) merge_app.top) audit_app.top) svg_app.top
+    with_subcommand (with_subcommand (with_subcommand (with_subcommand (with_subcommand (with_subcommand (with_subcommand top_app
+    check_app.top) run_app.top) resume_app.top) merge_app.top) audit_app.top) svg_app.top) sample_app.top

@@ -1,9 +1,9 @@
 -- What clap found for the words, as the reader of requests sees it on its way.
-use Rattle.std.specs.Prelude.{◌≡◌, ◌≢◌, ◌⊎◌, ◌++◌, List, [], ◌∷◌, Option, Some, None, codes}
+use Rattle.std.specs.Prelude.{◌≡◌, ◌≢◌, ◌⊎◌, ◌++◌, List, [], ◌∷◌, Option, Some, None}
 use Rattle.clap.specs.Words.{Row, Text, found_of, rows_of}
 use Rattle.clap.specs.declared.parser.matches.ArgMatches.{ArgMatches}
 use Rattle.pv_num.specs.Extended.{Extended}
-use Rattle.pv_cli.specs.Requests.{IsLevel, HasBadValue}
+use Rattle.pv_cli.specs.Requests.{Command, name_of, IsLevel, HasBadValue}
 use Rattle.pv_cli.specs.declared.refusal.Refusal.{Refusal}
 use Rattle.pv_cli.specs.declared.refusal.Refusal.TheVariants.{Usage, Memory}
 
@@ -17,9 +17,7 @@ RefusesValues bad Memory = Unit {0}
 RefusesValues bad _ = ⊥
 
 abbrev pub IsNoCommand : Text → Type 0
-IsNoCommand name =
-    (name ≢ codes "check") × (name ≢ codes "run") × (name ≢ codes "resume") × (name ≢ codes "merge") × (name ≢ codes "audit")
-    × (name ≢ codes "svg")
+IsNoCommand name = (c : Command) → name ≢ name_of c
 
 abbrev pub RefusesCommand : Text → List Row → Refusal → Type 0
 RefusesCommand name rows Usage = IsNoCommand name ⊎ HasBadValue name rows

@@ -13,6 +13,7 @@ pub mod Ends
 pub mod Reads
 pub mod Printing
 pub mod Scenes
+pub mod Samples
 pub mod Turns
 pub mod Telling
 pub mod Resumed

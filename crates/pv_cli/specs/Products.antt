@@ -1,7 +1,16 @@
 -- What comes of a command's work.
-use Rattle.std.specs.Prelude.{◌≡◌, ◌≢◌, ◌⊎◌, ◌<◌, ◌≤◌, ◌+◌, ◌++◌, ◌∷◌, ℕ, Bool, List, [], Option, Some, None, codes, decimal}
+use Rattle.std.specs.Prelude.{◌≡◌, ◌≢◌, ◌⊎◌, ◌<◌, ◌≤◌, ◌+◌, ◌++◌, ◌∷◌, ℕ, pos, Bool, List, [], Option, Some, None, codes, decimal, length}
+use Rattle.hex.specs.Hex.{encode_lower}
+use Rattle.sha2.specs.Sha256.{sha256}
 use Rattle.clap.specs.Words.{Text}
+use Rattle.pv_num.specs.Arithmetic.{ratio_of}
+use Rattle.pv_num.specs.declared.num.End.TheVariants.{Down}
+use Rattle.pv_box.specs.declared.choice.Bisector.TheVariants.{Largest}
 use Rattle.pv_interval.specs.Bounds.{Bounds}
+use Rattle.pv_made.specs.Circles.{sample_text}
+use Rattle.pv_parse.specs.Declarations.{IsMeaning}
+use Rattle.pv_parse.specs.declared.refused.ParseRefused.TheVariants.{Fault}
+use Rattle.pv_ctc.specs.Refusals.{refused_at}
 use Rattle.pv_expr.specs.Systems.{Parts}
 use Rattle.pv_expr.specs.Canonical.{canonical_text}
 use Rattle.pv_settle.specs.Rules.{SettlerParts}
@@ -16,7 +25,7 @@ use Rattle.pv_file.specs.Lines.{lines_of, outcome_line}
 use Rattle.pv_file.specs.Texts.{file_text}
 use Rattle.pv_file.specs.declared.version.Version.TheVariants.{One, Two}
 use Rattle.pv_cli.specs.Requests.{names_in}
-use Rattle.pv_cli.specs.Systems.{Files, HasSystem, HasRule, RefusesSystem, RefusesRule, search_box}
+use Rattle.pv_cli.specs.Systems.{Files, HasSystem, IsFaultOf, IsRuleFor, HasRule, RefusesSystem, RefusesRule, search_box}
 use Rattle.pv_cli.specs.Pavings.{IsPaved, HoldInside, settled_in}
 use Rattle.pv_svg.specs.Planes.{Plane}
 use Rattle.pv_svg.specs.Rectangles.{picture_of}
@@ -25,10 +34,11 @@ use Rattle.pv_cli.specs.Views.{IsPlaneOf, HasNoPlane, IsSoundFor}
 use Rattle.pv_cli.specs.Files.{HasPaving, RefusesPaving, AllTrees, HasOpening, HasBadFile, RefusesOpening}
 use Rattle.pv_cli.specs.declared.request.Settings.{Settings}
 use Rattle.pv_cli.specs.declared.request.View.{View}
+use Rattle.pv_cli.specs.declared.request.Circles.{Circles}
 use Rattle.pv_cli.specs.declared.request.Request.{Request}
-use Rattle.pv_cli.specs.declared.request.Request.TheVariants.{Check, Run, Resume, Merge, Audit, Svg}
+use Rattle.pv_cli.specs.declared.request.Request.TheVariants.{Check, Run, Resume, Merge, Audit, Svg, Sample}
 use Rattle.pv_cli.specs.declared.refusal.Refusal.{Refusal}
-use Rattle.pv_cli.specs.declared.refusal.Refusal.TheVariants.{Usage, TreeLimit, Differs}
+use Rattle.pv_cli.specs.declared.refusal.Refusal.TheVariants.{Usage, System, Contract, Memory, TreeLimit, Differs}
 use Rattle.pv_cli.specs.declared.status.Status.{Status}
 use Rattle.pv_cli.specs.declared.status.Status.TheVariants.{Done, OpenLeft}
 
@@ -131,6 +141,38 @@ pub record ComesOfSvg (before : Files) (system name : Text) (s : Settings) (v : 
   pub sound : IsStage (settle_by rule) rule.depth (search_box rule) leaf tree → IsSoundFor (is_member rule) plane (search_box rule) tree
   pub is : p ≡ text (picture_text (picture_of plane (search_box rule) tree))
 
+-- the full tree of what a rule begins with
+abbrev pub full_by : SettlerParts → Tree → Tree
+full_by rule opening = full_of (settle_by rule) rule.depth (search_box rule) opening 0
+
+-- the Minibex text of circles
+abbrev pub text_of : Circles → List ℕ
+text_of c = sample_text c.seed c.count
+
+-- by these a sample is paved: boxes down to 8 wide, at most 14 cuts deep
+pub record AreForSamples (s : Settings) : Type 0 where
+  pub eps : s.eps ≡ ratio_of Down (pos 8) 1
+  pub depth : s.depth ≡ 14
+  pub bisector : s.bisector ≡ Largest
+  pub contract : s.contract.now ≡ codes "prop(8)"
+
+-- which circles, a paving's summary, and the SHA-256 digest of its file
+unfoldable pub report_of : Circles → List ℕ → List Bounds → Tree → List ℕ
+report_of c identity b t =
+    codes "sample seed " ++ (decimal c.seed ++ (codes " count " ++ (decimal c.count ++ 10 ∷ (summary_of (counts_of t)
+    ++ (codes "file " ++ (encode_lower (sha256 (file_text Two identity b t)) ++ 10 ∷ []))))))
+
+-- `sample` reports on the full tree of the system that the text of its circles means
+pub record ComesOfSample (c : Circles) (p : Product) : Type 0 where
+  pub settings : Settings
+  pub settings_are : AreForSamples settings
+  pub system : Parts
+  pub means : IsMeaning (text_of c) system
+  pub rule : SettlerParts
+  pub rule_is : IsRuleFor system settings rule
+  pub honest : IsHonest settings rule (full_by rule leaf)
+  pub is : p ≡ text (report_of c (identity_of rule) (search_box rule) (full_by rule leaf))
+
 -- what comes of a request
 abbrev pub ComesOf : Files → Request → Product → Type 0
 ComesOf before (Check system) p = ComesOfCheck before system.now p
@@ -140,6 +182,7 @@ ComesOf before (Resume system pavings settings effort out) p =
 ComesOf before (Merge system pavings settings out) p = ComesOfMerge before system.now (names_in pavings.items) settings p
 ComesOf before (Audit system paving settings) p = ComesOfAudit before system.now paving.now settings p
 ComesOf before (Svg system paving settings view) p = ComesOfSvg before system.now paving.now settings view p
+ComesOf before (Sample circles) p = ComesOfSample circles p
 
 -- ---- Why nothing comes of them
 
@@ -191,6 +234,19 @@ abbrev pub RefusesSvg : Files → Files → Text → Text → Settings → View 
 RefusesSvg before after system name s v Usage = HasNoPlaneIn before system s v
 RefusesSvg before after system name s v r = RefusesRule before after system s r ⊎ HasNoPicture before after system name s v r
 
+-- the text of the contractor program is refused for the system that the circles' text means
+pub record HasNoProgram (c : Circles) (byte : ℕ) : Type 0 where
+  pub system : Parts
+  pub means : IsMeaning (text_of c) system
+  pub refused : refused_at (length system.constraints) (codes "prop(8)") ≡ Some byte
+
+-- why there is no sample
+abbrev pub RefusesSample : Circles → Refusal → Type 0
+RefusesSample c (System line column byte cause) = IsFaultOf (text_of c) (Fault byte line column cause)
+RefusesSample c (Contract byte) = HasNoProgram c byte
+RefusesSample c Memory = Unit {0}
+RefusesSample c _ = ⊥
+
 abbrev pub RefusesWork : Files → Files → Request → Refusal → Type 0
 RefusesWork before after (Check system) r = RefusesSystem before after system.now r
 RefusesWork before after (Run system settings effort out) r = RefusesRule before after system.now settings r
@@ -200,3 +256,4 @@ RefusesWork before after (Merge system pavings settings out) r =
     RefusesJoined before after system.now (names_in pavings.items) settings 0 r
 RefusesWork before after (Audit system paving settings) r = RefusesAudit before after system.now paving.now settings r
 RefusesWork before after (Svg system paving settings view) r = RefusesSvg before after system.now paving.now settings view r
+RefusesWork before after (Sample circles) r = RefusesSample circles r

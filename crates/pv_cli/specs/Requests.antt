@@ -14,8 +14,9 @@ use Rattle.pv_cli.specs.Commands.{paver_app}
 use Rattle.pv_cli.specs.declared.request.Settings.{Settings}
 use Rattle.pv_cli.specs.declared.request.Effort.{Effort}
 use Rattle.pv_cli.specs.declared.request.View.{View}
+use Rattle.pv_cli.specs.declared.request.Circles.{Circles}
 use Rattle.pv_cli.specs.declared.request.Request.{Request}
-use Rattle.pv_cli.specs.declared.request.Request.TheVariants.{Check, Run, Resume, Merge, Audit, Svg}
+use Rattle.pv_cli.specs.declared.request.Request.TheVariants.{Check, Run, Resume, Merge, Audit, Svg, Sample}
 
 -- one to ten digits, and the number that they write
 pub record IsDigits (t : Text) (n : ℕ) : Type 0 where
@@ -134,6 +135,17 @@ pub record IsView (rows : List Row) (v : View) : Type 0 where
   pub y : v.y.now ≡ value_of (codes "y") [] rows
   pub at : AreGiven rows v.at.items
 
+abbrev pub seed_text : List Row → Text
+seed_text = value_of (codes "seed") []
+
+abbrev pub count_text : List Row → Text
+count_text = value_of (codes "count") []
+
+-- the circles that the options give
+pub record AreCircles (rows : List Row) (c : Circles) : Type 0 where
+  pub seed : IsCount 0 2147483647 (seed_text rows) c.seed
+  pub count : IsCount 1 16 (count_text rows) c.count
+
 -- a number of `--at` has another spelling
 abbrev pub HasBadLevels : List Row → Type 0
 HasBadLevels rows = (ns : List Extended) → AreGiven rows ns → ⊥
@@ -149,17 +161,50 @@ pub data HasBadEffort (rows : List Row) : Type 0 where
   bad_workers : ((n : ℕ) → IsCount 1 16 (workers_text rows) n → ⊥) → HasBadEffort rows
   bad_boxes : ((n : ℕ) → IsCount 1 100000 (boxes_text rows) n → ⊥) → HasBadEffort rows
 
+-- so is a number of a sample
+pub data HasBadCircles (rows : List Row) : Type 0 where
+  bad_seed : ((n : ℕ) → IsCount 0 2147483647 (seed_text rows) n → ⊥) → HasBadCircles rows
+  bad_count : ((n : ℕ) → IsCount 1 16 (count_text rows) n → ⊥) → HasBadCircles rows
+
 -- there are more than eight paving files
 abbrev pub HasManyPavings : List Row → Type 0
 HasManyPavings rows = 8 < length (paving_names rows)
 
--- a value is refused that the command of this name takes
-pub data HasBadValue (command : Text) (rows : List Row) : Type 0 where
-  in_run : command ≡ codes "run" → HasBadSetting rows ⊎ HasBadEffort rows → HasBadValue command rows
-  in_resume : command ≡ codes "resume" → HasManyPavings rows ⊎ (HasBadSetting rows ⊎ HasBadEffort rows) → HasBadValue command rows
-  in_merge : command ≡ codes "merge" → HasManyPavings rows ⊎ HasBadSetting rows → HasBadValue command rows
-  in_audit : command ≡ codes "audit" → HasBadSetting rows → HasBadValue command rows
-  in_svg : command ≡ codes "svg" → HasBadLevels rows ⊎ HasBadSetting rows → HasBadValue command rows
+-- ---- The commands
+
+pub data Command : Type 0 where
+  checks : Command
+  runs : Command
+  resumes : Command
+  merges : Command
+  audits : Command
+  draws : Command
+  samples : Command
+
+abbrev pub name_of : Command → Text
+name_of checks = codes "check"
+name_of runs = codes "run"
+name_of resumes = codes "resume"
+name_of merges = codes "merge"
+name_of audits = codes "audit"
+name_of draws = codes "svg"
+name_of samples = codes "sample"
+
+-- a value is refused that the command takes
+abbrev pub HasBadValueFor : Command → List Row → Type 0
+HasBadValueFor checks rows = ⊥
+HasBadValueFor runs rows = HasBadSetting rows ⊎ HasBadEffort rows
+HasBadValueFor resumes rows = HasManyPavings rows ⊎ (HasBadSetting rows ⊎ HasBadEffort rows)
+HasBadValueFor merges rows = HasManyPavings rows ⊎ HasBadSetting rows
+HasBadValueFor audits rows = HasBadSetting rows
+HasBadValueFor draws rows = HasBadLevels rows ⊎ HasBadSetting rows
+HasBadValueFor samples rows = HasBadCircles rows
+
+-- so it is for the command of this name
+pub record HasBadValue (name : Text) (rows : List Row) : Type 0 where
+  pub command : Command
+  pub named : name ≡ name_of command
+  pub bad : HasBadValueFor command rows
 
 -- the command of this name, with what was found for its words and options, asks for this
 abbrev pub IsAskedBy : Text → List Row → Request → Type 0
@@ -178,6 +223,7 @@ IsAskedBy command rows (Audit system paving settings) =
 IsAskedBy command rows (Svg system paving settings view) =
     (command ≡ codes "svg") × (system.now ≡ system_name rows) × (paving.now ≡ value_of (codes "PAVING") [] rows)
     × AreSettings rows settings × IsView rows view
+IsAskedBy command rows (Sample circles) = (command ≡ codes "sample") × AreCircles rows circles
 
 abbrev pub IsAsked : Option (Text × List Row) → Request → Type 0
 IsAsked None q = ⊥
@@ -203,3 +249,4 @@ out_of (Resume system pavings settings effort out) = option_map (λ name. name.n
 out_of (Merge system pavings settings out) = option_map (λ name. name.now) out
 out_of (Audit system paving settings) = None
 out_of (Svg system paving settings view) = None
+out_of (Sample circles) = None

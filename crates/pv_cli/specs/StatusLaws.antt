@@ -12,21 +12,17 @@ use Rattle.pv_cli.specs.Refusals.{status_of, line_of}
 use Rattle.pv_cli.specs.Systems.{Files, HasRule, search_box}
 use Rattle.pv_cli.specs.Pavings.{IsPaved, FullFits, settled_in}
 use Rattle.pv_cli.specs.Files.{HasOpening}
-use Rattle.pv_cli.specs.Products.{Product, paved, IsHonest, AreStages, ComesOf, ComesOfCheck, ComesOfAudit, ComesOfSvg, RefusesWork}
+use Rattle.pv_cli.specs.Products.{Product, paved, IsHonest, AreStages, full_by, ComesOf, ComesOfCheck, ComesOfAudit, ComesOfSvg, ComesOfSample, RefusesWork}
 use Rattle.pv_cli.specs.Ends.{Outside, AreUntouched, IsDelivered, IsCutOff, IsLost, IsTold, IsEnd}
 use Rattle.pv_cli.specs.declared.request.Settings.{Settings}
 use Rattle.pv_cli.specs.declared.request.Request.{Request}
-use Rattle.pv_cli.specs.declared.request.Request.TheVariants.{Check, Run, Resume, Merge, Audit, Svg}
+use Rattle.pv_cli.specs.declared.request.Request.TheVariants.{Check, Run, Resume, Merge, Audit, Svg, Sample}
 use Rattle.pv_cli.specs.declared.refusal.Refusal.{Refusal}
 use Rattle.pv_cli.specs.declared.refusal.Refusal.TheVariants as refusal
 use Rattle.pv_cli.specs.declared.status.Status.{Status}
 use Rattle.pv_cli.specs.declared.status.Status.TheVariants.{Done, OpenLeft, Usage, SystemRefused, PavingRefused, ReadFault, WriteFault, WantOfMemory, TreeLimit, Disagree, KeeperFault, NoFile}
 
 -- ---- Status 0: no leaf is open
-
--- the full tree of what a rule begins with
-abbrev pub full_by : SettlerParts → Tree → Tree
-full_by rule opening = full_of (settle_by rule) rule.depth (search_box rule) opening 0
 
 -- the full tree of the open search box
 pub record IsFullRun (before : Files) (system : Text) (s : Settings) (p : Product) : Type 0 where
@@ -61,6 +57,7 @@ IsWhole before (Resume system pavings settings effort out) p = IsFullResume befo
 IsWhole before (Merge system pavings settings out) p = IsClosedJoin before system.now (names_in pavings.items) settings p
 IsWhole before (Audit system paving settings) p = ComesOfAudit before system.now paving.now settings p
 IsWhole before (Svg system paving settings view) p = ComesOfSvg before system.now paving.now settings view p
+IsWhole before (Sample circles) p = ComesOfSample circles p
 
 -- what was asked for came to this, was stored and printed, and nothing was told
 pub record IsDelivery (says : Files → Request → Product → Type 0) (words : List Text) (before after : Outside) : Type 0 where
@@ -118,6 +115,7 @@ IsPart before (Resume system pavings settings effort out) p =
 IsPart before (Merge system pavings settings out) p = IsOpenJoin before system.now (names_in pavings.items) settings p
 IsPart before (Audit system paving settings) p = ⊥
 IsPart before (Svg system paving settings view) p = ⊥
+IsPart before (Sample circles) p = ⊥
 
 abbrev pub OpenLeftIsPart : Type 0
 OpenLeftIsPart = (words : List Text) (before after : Outside) → IsEnd words before after OpenLeft → IsDelivery IsPart words before after

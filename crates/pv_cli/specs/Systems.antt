@@ -52,13 +52,17 @@ pub record HasSystem (before : Files) (name : List ℕ) (s : Parts) : Type 0 whe
   pub fetched : IsFetched (before.content name) text
   pub means : IsMeaning text s
 
--- its text has this fault, at this place
-pub record HasFault (before : Files) (name : List ℕ) (e : ParseRefused) : Type 0 where
-  pub text : List ℕ
-  pub fetched : IsFetched (before.content name) text
+-- a text of a system has this fault, at this place
+pub record IsFaultOf (text : List ℕ) (e : ParseRefused) : Type 0 where
   pub placed : IsPlaced text e
   pub long : 65536 < length text → SaysTooLong e
   pub because : IsRefusal text e
+
+-- the file's text has this fault
+pub record HasFault (before : Files) (name : List ℕ) (e : ParseRefused) : Type 0 where
+  pub text : List ℕ
+  pub fetched : IsFetched (before.content name) text
+  pub fault : IsFaultOf text e
 
 -- why nothing is fetched of this name
 abbrev pub RefusesFetch : Files → Files → List ℕ → Refusal → Type 0

@@ -11,7 +11,7 @@ ghost use Rattle.pv_cli.specs.Commands.{
   paving_app,
   pavings_app,
   with_option,
-  with_axis,
+  with_needed,
   with_settings,
   with_effort,
   with_out,
@@ -21,6 +21,7 @@ ghost use Rattle.pv_cli.specs.Commands.{
   merge_app,
   audit_app,
   svg_app,
+  sample_app,
   paver_app,
 };
 
@@ -37,7 +38,8 @@ pub(crate) fn paver<'a>(alloc: Global) -> Result<Command<'a>, AllocError>
         .subcommand(resume(alloc)?)?
         .subcommand(merge(alloc)?)?
         .subcommand(audit(alloc)?)?
-        .subcommand(svg(alloc)?)
+        .subcommand(svg(alloc)?)?
+        .subcommand(sample(alloc)?)
 }
 
 // The program, without its commands.
@@ -85,8 +87,16 @@ fn svg<'a>(alloc: Global) -> Result<Command<'a>, AllocError>
     ensures local { IfOk result (λ c. (out-Command c).has_globals ≡ false) }
 {
     let command = with_settings(paving(alloc, "svg")?, alloc)?;
-    let command = with_axis(with_axis(command, alloc, "x")?, alloc, "y")?;
+    let command = with_needed(with_needed(command, alloc, "x")?, alloc, "y")?;
     with_option(command, alloc, "at")
+}
+
+fn sample<'a>(alloc: Global) -> Result<Command<'a>, AllocError>
+    ensures app { IfOk result (λ c. app_of c ≡ sample_app) }
+    ensures local { IfOk result (λ c. (out-Command c).has_globals ≡ false) }
+{
+    let command = with_needed(bare(alloc, "sample"), alloc, "seed")?;
+    with_needed(command, alloc, "count")
 }
 
 // A command that has nothing.
@@ -190,19 +200,19 @@ fn with_option<'a>(
     command.arg(option)
 }
 
-// The command with an option that has to be there and takes the name of a variable.
-fn with_axis<'a>(
+// The command with an option that has to be there and takes a value.
+fn with_needed<'a>(
     command: Command<'a>,
     alloc: Global,
     name: &'a str,
 ) -> Result<Command<'a>, AllocError>
     requires { (out-Command command).has_globals ≡ false }
-    ensures app { IfOk result (λ c. app_of c ≡ with_axis name.entry.now (app_of command.entry)) }
+    ensures app { IfOk result (λ c. app_of c ≡ with_needed name.entry.now (app_of command.entry)) }
     ensures local { IfOk result (λ c. (out-Command c).has_globals ≡ false) }
 {
-    let axis = Arg::new(alloc, name)
+    let option = Arg::new(alloc, name)
         .long(name)
         .required(true)
         .action(ArgAction::Set);
-    command.arg(axis)
+    command.arg(option)
 }

@@ -21,6 +21,7 @@ mod refusal;
 mod request;
 mod resume;
 mod run;
+mod sample;
 mod status;
 mod summary;
 mod svg;

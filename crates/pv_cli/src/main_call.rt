@@ -16,6 +16,7 @@ use crate::reading::read;
 use crate::request::Request;
 use crate::resume::resume;
 use crate::run::run;
+use crate::sample::sample;
 use crate::svg::svg;
 use crate::telling::tell;
 use crate::{Gate, Refusal, Status};
@@ -84,7 +85,10 @@ fn file_of<'a>(request: &Request<'a>) -> Option<&'a str>
     ensures { option_map (λ name. name.now) result ≡ out_of request.now }
 {
     match request {
-        Request::Check { .. } | Request::Audit { .. } | Request::Svg { .. } => None,
+        Request::Check { .. }
+        | Request::Audit { .. }
+        | Request::Svg { .. }
+        | Request::Sample { .. } => None,
         Request::Run { out, .. } => *out,
         Request::Resume { out, .. } => *out,
         Request::Merge { out, .. } => *out,
@@ -141,5 +145,6 @@ fn work<'a, F: Folder, G: Gate>(
             settings,
             view,
         } => svg(alloc, folder, *system, *paving, settings, view),
+        Request::Sample { circles } => sample(alloc, circles, gate),
     }
 }

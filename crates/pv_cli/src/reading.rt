@@ -1,13 +1,13 @@
 //! From the words of a command to what they ask for.
 ghost use Rattle.std.specs.Prelude.{◌≡◌, ◌≢◌, ◌⊎◌, List, codes, map, option_map, MatchOption, MatchResult, string_bytes, IfOk, IfErr, unwrap_or};
 ghost use Rattle.clap.specs.Words.{all_of, subcommand_rows_of};
-ghost use Rattle.pv_cli.specs.Requests.{value_of, system_name, paving_names, names_in, AreSettings, IsEffort, ArePavings, IsOut, HasBadSetting, HasBadEffort, IsView, AreGiven, HasManyPavings, HasBadLevels, HasBadValue, IsAskedBy, IsAsked, Asks};
+ghost use Rattle.pv_cli.specs.Requests.{value_of, system_name, paving_names, names_in, AreSettings, IsEffort, ArePavings, IsOut, HasBadSetting, HasBadEffort, IsView, AreGiven, AreCircles, HasManyPavings, HasBadLevels, HasBadCircles, HasBadValueFor, runs, resumes, merges, audits, draws, samples, IsAskedBy, IsAsked, Asks};
 ghost use Rattle.pv_cli.specs.Found.{rows_in, RefusesValues, RefusesCommand, RefusesFound};
 ghost use Rattle.pv_cli.specs.Ends.{RefusesWords};
 
 use crate::Refusal;
 use crate::command_line::paver;
-use crate::request::{Effort, Request, Settings, View};
+use crate::request::{Circles, Effort, Request, Settings, View};
 use crate::values::{bisector_of, count_of, levels_of, width_of};
 use clap::ArgMatches;
 use clap::error::ErrorKind;
@@ -61,6 +61,7 @@ fn command_in<'a>(
         "merge" => merge_in(alloc, found),
         "audit" => audit_in(found),
         "svg" => svg_in(alloc, found),
+        "sample" => sample_in(found),
         _ => Err(Refusal::Usage),
     }
 }
@@ -75,7 +76,7 @@ fn check_in<'a>(found: &ArgMatches<'a>) -> Request<'a>
 
 fn run_in<'a>(found: &ArgMatches<'a>) -> Result<Request<'a>, Refusal<'a>>
     ensures { MatchResult result (IsAskedBy (codes "run") (rows_in found.now))
-        (RefusesValues (HasBadValue (codes "run") (rows_in found.now))) }
+        (RefusesValues (HasBadValueFor runs (rows_in found.now))) }
 {
     let settings = match settings_in(found) {
         Some(settings) => settings,
@@ -94,7 +95,7 @@ fn run_in<'a>(found: &ArgMatches<'a>) -> Result<Request<'a>, Refusal<'a>>
 
 fn resume_in<'a>(alloc: Global, found: &ArgMatches<'a>) -> Result<Request<'a>, Refusal<'a>>
     ensures { MatchResult result (IsAskedBy (codes "resume") (rows_in found.now))
-        (RefusesValues (HasBadValue (codes "resume") (rows_in found.now))) }
+        (RefusesValues (HasBadValueFor resumes (rows_in found.now))) }
 {
     let pavings = match pavings_in(alloc, found) {
         Ok(pavings) => pavings,
@@ -118,7 +119,7 @@ fn resume_in<'a>(alloc: Global, found: &ArgMatches<'a>) -> Result<Request<'a>, R
 
 fn merge_in<'a>(alloc: Global, found: &ArgMatches<'a>) -> Result<Request<'a>, Refusal<'a>>
     ensures { MatchResult result (IsAskedBy (codes "merge") (rows_in found.now))
-        (RefusesValues (HasBadValue (codes "merge") (rows_in found.now))) }
+        (RefusesValues (HasBadValueFor merges (rows_in found.now))) }
 {
     let pavings = match pavings_in(alloc, found) {
         Ok(pavings) => pavings,
@@ -137,7 +138,7 @@ fn merge_in<'a>(alloc: Global, found: &ArgMatches<'a>) -> Result<Request<'a>, Re
 
 fn audit_in<'a>(found: &ArgMatches<'a>) -> Result<Request<'a>, Refusal<'a>>
     ensures { MatchResult result (IsAskedBy (codes "audit") (rows_in found.now))
-        (RefusesValues (HasBadValue (codes "audit") (rows_in found.now))) }
+        (RefusesValues (HasBadValueFor audits (rows_in found.now))) }
 {
     match settings_in(found) {
         Some(settings) => Ok(Request::Audit {
@@ -151,7 +152,7 @@ fn audit_in<'a>(found: &ArgMatches<'a>) -> Result<Request<'a>, Refusal<'a>>
 
 fn svg_in<'a>(alloc: Global, found: &ArgMatches<'a>) -> Result<Request<'a>, Refusal<'a>>
     ensures { MatchResult result (IsAskedBy (codes "svg") (rows_in found.now))
-        (RefusesValues (HasBadValue (codes "svg") (rows_in found.now))) }
+        (RefusesValues (HasBadValueFor draws (rows_in found.now))) }
 {
     let view = match view_in(alloc, found) {
         Ok(view) => view,
@@ -191,6 +192,25 @@ fn levels_in<'a>(alloc: Global, found: &ArgMatches<'a>) -> Result<Vec<Num>, Refu
         Some(text) => levels_of(alloc, text),
         None => Ok(Vec::new(alloc)),
     }
+}
+
+fn sample_in<'a>(found: &ArgMatches<'a>) -> Result<Request<'a>, Refusal<'a>>
+    ensures { MatchResult result (IsAskedBy (codes "sample") (rows_in found.now))
+        (RefusesValues (HasBadValueFor samples (rows_in found.now))) }
+{
+    match circles_in(found) {
+        Some(circles) => Ok(Request::Sample { circles }),
+        None => Err(Refusal::Usage),
+    }
+}
+
+fn circles_in(found: &ArgMatches<'_>) -> Option<Circles>
+    ensures { MatchOption result (HasBadCircles (rows_in found.now))
+        (AreCircles (rows_in found.now)) }
+{
+    let seed = count_of(text_in(found, "seed", ""), 0, 2_147_483_647)? as u32;
+    let count = count_of(text_in(found, "count", ""), 1, 16)? as u32;
+    Some(Circles { seed, count })
 }
 
 fn settings_in<'a>(found: &ArgMatches<'a>) -> Option<Settings<'a>>

@@ -1,5 +1,5 @@
 //! What a command asks for, with the values of its options.
-ghost use Rattle.std.specs.Prelude.{◌≢◌, ◌≤◌, pos, IsTrue};
+ghost use Rattle.std.specs.Prelude.{◌≢◌, ◌<◌, ◌≤◌, ◌^◌, pos, IsTrue};
 ghost use Rattle.pv_num.specs.Extended.{Fin, PosInf};
 ghost use Rattle.pv_num.specs.Order.{le};
 
@@ -37,6 +37,16 @@ pub struct View<'a> {
     pub y: &'a str,
     /// The numbers of the other variables, in their order.
     pub at: Vec<Num>,
+}
+
+/// Which circles a sample has.
+#[derive(Clone, Copy)]
+pub struct Circles {
+    /// The number that makes them.
+    pub seed: u32,
+    pub count: u32,
+    ghost seed_fits: { seed < 2 ^ 31 },
+    ghost count_fits: { (1 ≤ count) × (count ≤ 16) },
 }
 
 /// What the words of a command ask for.
@@ -80,5 +90,9 @@ pub enum Request<'a> {
         paving: &'a str,
         settings: Settings<'a>,
         view: View<'a>,
+    },
+    /// Pave a system that a number makes.
+    Sample {
+        circles: Circles,
     },
 }

@@ -53,7 +53,8 @@ pub(crate) fn run<'a, F: Folder, G: Gate>(
     Ok(Product::Paved { identity, paving })
 }
 
-fn paved<G: Gate>(
+/// The paving of the search box of a settler's system, as far as the budget goes.
+pub(crate) fn paved<G: Gate>(
     alloc: Global,
     settler: &SystemSettler,
     budget: u64,

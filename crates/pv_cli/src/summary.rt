@@ -18,7 +18,8 @@ pub(crate) fn summary(alloc: Global, p: &Paving) -> Result<Vec<u8>, Memory>
 }
 
 #[tactic(auto, unfolding(crate::specs::Products::summary_of))]
-fn push_counts(counts: Counts, out: &mut Vec<u8>) -> Result<(), Memory>
+/// Appends how many nodes there are of each kind.
+pub(crate) fn push_counts(counts: Counts, out: &mut Vec<u8>) -> Result<(), Memory>
     requires { counts.cut + counts.removed + counts.inner + counts.small < 2 ^ 64 }
     ensures { OnOk result (out.new.items ≡ out.old.items ++ summary_of counts) }
 {

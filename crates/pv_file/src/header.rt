@@ -31,12 +31,12 @@ fn version_name(version: Version) -> &'static [u8]
     }
 }
 
-/// The 64 digits of an identity.
-fn hex_digits(identity: &[u8; 32]) -> [u8; 64]
-    ensures { result ≡ encode_lower identity.now }
+/// The 64 digits of a SHA-256 digest, in lower case.
+pub fn hex_digits(digest: &[u8; 32]) -> [u8; 64]
+    ensures { result ≡ encode_lower digest.now }
 {
     let mut digits = [0u8; 64];
-    let _ = hex::encode_to_slice(identity.as_slice(), &mut digits);
+    let _ = hex::encode_to_slice(digest.as_slice(), &mut digits);
     digits
 }
 

@@ -16,6 +16,7 @@ mod tests;
 mod version;
 mod writer;
 
+pub use header::hex_digits;
 pub use lines::{write_node, write_outcome};
 pub use outcome_line::read_outcome;
 pub use reader::read;

@@ -2,6 +2,7 @@
 //! the standard error.
 use crate::files::{FILES, SUMMARY, WHOLE, shelf};
 use crate::pictures::HALF;
+use crate::samples::TWO;
 use crate::tests::words_of;
 use pv_cli::{NoGate, Status, paver_main};
 use pv_io::{FetchRefused, Folder, MemFolder, MemSink};
@@ -23,7 +24,7 @@ struct Case {
 const NODES: &str =
     "settled 5 cut 2 removed 0 inner 2 small 1 open 0\nC 0 1:-1 0:0 1:0\nC 0 1:-2 0:0 1:-1\nS 0:0 1:-2\nI 1:-2 1:-1\nI 1:-1 1:0\n";
 
-const CASES: [Case; 9] = [
+const CASES: [Case; 10] = [
     Case {
         words: "check s",
         status: 0,
@@ -103,6 +104,14 @@ const CASES: [Case; 9] = [
         status: 0,
         out: HALF,
         lines: &["read fault: square\n", "read fault: left\n"],
+        file: "",
+        holds: "",
+    },
+    Case {
+        words: "sample --seed 1 --count 2",
+        status: 0,
+        out: TWO,
+        lines: &[],
         file: "",
         holds: "",
     },

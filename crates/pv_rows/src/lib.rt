@@ -12,6 +12,8 @@ mod numbers;
 #[cfg(test)]
 mod pictures;
 #[cfg(test)]
+mod samples;
+#[cfg(test)]
 mod settings;
 #[cfg(test)]
 mod table;

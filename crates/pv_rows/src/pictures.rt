@@ -2,7 +2,7 @@
 use crate::files::{Named, SQUARE, SYSTEM, Step, WHOLE, follow, shelf};
 use std::test::Fail;
 
-const USAGE: &str = "usage: paver COMMAND SYSTEM [OPTIONS] [PAVING..]\n";
+pub(crate) const USAGE: &str = "usage: paver COMMAND SYSTEM [OPTIONS] [PAVING..]\n";
 
 /// The left half of a square is inner.
 pub(crate) const HALF: &str =

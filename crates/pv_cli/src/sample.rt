@@ -1,0 +1,125 @@
+//! `sample`: a report on the paving of a system that a number makes.
+ghost use Rattle.std.specs.Prelude.{◌≡◌, ◌++◌, ◌∷◌, [], IfOk, IfErr, OnOk, codes};
+ghost use Rattle.hex.specs.Hex.{encode_lower};
+ghost use Rattle.sha2.specs.Sha256.{sha256};
+ghost use Rattle.pv_file.specs.Texts.{file_text};
+ghost use Rattle.pv_file.specs.declared.version.Version.TheVariants as version;
+ghost use Rattle.pv_settle.specs.Settlers.{rule_of};
+ghost use Rattle.pv_cli.specs.Products.{AreForSamples, ComesOfSample, RefusesSample, report_of};
+ghost use Rattle.pv_cli.specs.Samples.{IsMadeRule};
+ghost use Rattle.pv_cli.specs.Made.{made};
+
+use crate::decimal::push_decimal;
+use crate::honest::learn_honest;
+use crate::product::Product;
+use crate::request::{Circles, Settings};
+use crate::run::paved;
+use crate::summary::push_counts;
+use crate::system::settler_for;
+use crate::{Gate, Refusal};
+use pv_box::Bisector;
+use pv_file::{hex_digits, write};
+use pv_io::PlainSink;
+use pv_made::sample_system;
+use pv_num::{End, Memory, Num};
+use pv_parse::parse;
+use pv_settle::SystemSettler;
+use pv_tree::Paving;
+use sha2::{Digest, Sha256};
+use std::alloc::Global;
+
+// A tree of at most 14 cuts on a path has fewer nodes.
+const BUDGET: u64 = 100_000;
+
+/// A report on the full tree of the system that the circles make: its summary, and the digest of its file.
+pub(crate) fn sample<'a, G: Gate>(
+    alloc: Global,
+    circles: &Circles,
+    gate: &G,
+) -> Result<Product, Refusal<'a>>
+    ensures comes { IfOk result (λ p. ComesOfSample circles.now (made p)) }
+    ensures refused { IfErr result (RefusesSample circles.now) }
+{
+    let settings = settings();
+    let settler = match settler_of(alloc, circles, &settings) {
+        Ok(settler) => settler,
+        Err(refusal) => return Err(refusal),
+    };
+    let identity = settler.identity(alloc)?;
+    let paving = paved(alloc, &settler, BUDGET, gate)?;
+    learn_honest(&paving, &settler);
+    Ok(Product::Text(report(alloc, circles, identity, &paving)?))
+}
+
+// By these a sample is paved.
+fn settings<'a>() -> Settings<'a>
+    ensures { AreForSamples result }
+{
+    Settings {
+        eps: Num::from_ratio(8, 1, End::Down),
+        depth: 14,
+        bisector: Bisector::Largest,
+        contract: "prop(8)",
+    }
+}
+
+// The settler of the system that the circles make.
+fn settler_of<'a>(
+    alloc: Global,
+    circles: &Circles,
+    settings: &Settings<'a>,
+) -> Result<SystemSettler, Refusal<'a>>
+    requires { AreForSamples settings.now }
+    ensures rule { IfOk result (λ s. IsMadeRule circles.now settings.now (rule_of s)) }
+    ensures refused { IfErr result (RefusesSample circles.now) }
+{
+    let text = sample_system(alloc, circles.seed, circles.count)?;
+    let system = match parse(alloc, &text) {
+        Ok(system) => system,
+        Err(fault) => return Err(fault.into()),
+    };
+    settler_for(alloc, system, settings)
+}
+
+fn report(
+    alloc: Global,
+    circles: &Circles,
+    identity: [u8; 32],
+    paving: &Paving,
+) -> Result<Vec<u8>, Memory>
+    ensures { IfOk result
+        (λ text. text.items ≡ report_of circles.now identity paving.now.root paving.now.tree) }
+{
+    let mut out = Vec::new(alloc);
+    out.extend_from_slice(b"sample seed ")?;
+    push_decimal(&mut out, u64::from(circles.seed))?;
+    out.extend_from_slice(b" count ")?;
+    push_decimal(&mut out, u64::from(circles.count))?;
+    out.push(b'\n')?;
+    push_counts(paving.counts(), &mut out)?;
+    push_digest(alloc, identity, paving, &mut out)?;
+    Ok(out)
+}
+
+// Appends the line with the digest of a paving's file.
+fn push_digest(
+    alloc: Global,
+    identity: [u8; 32],
+    paving: &Paving,
+    out: &mut Vec<u8>,
+) -> Result<(), Memory>
+    ensures { OnOk result (out.new.items ≡ out.old.items ++ (codes "file "
+        ++ (encode_lower (sha256 (file_text version.Two identity paving.now.root paving.now.tree))
+        ++ 10 ∷ []))) }
+{
+    let mut text = PlainSink::new(alloc);
+    let Ok(()) = write(alloc, paving, identity, &mut text) else {
+        return Err(Memory);
+    };
+    let mut hasher = Sha256::new();
+    hasher.update(text.bytes());
+    out.extend_from_slice(b"file ")?;
+    out.extend_from_slice(&hex_digits(&hasher.finalize()))?;
+    out.push(b'\n')?;
+    Ok(())
+}

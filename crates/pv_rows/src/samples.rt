@@ -1,0 +1,71 @@
+// Samples. What is expected was worked out by the slow paver of tests/reference.
+use crate::files::{Step, follow, shelf};
+use crate::pictures::USAGE;
+use std::test::Fail;
+
+pub(crate) const TWO: &str =
+    "sample seed 1 count 2\nsettled 911 cut 455 removed 0 inner 256 small 200 open 0\nfile 11574911400edcb97140b9fc03ea80550a174694c79188ec132007be53af8654\n";
+
+const ONE: &str =
+    "sample seed 7 count 1\nsettled 509 cut 254 removed 0 inner 151 small 104 open 0\nfile 7807cc89e9b371c8ab0a4fbeb5b17170958f606d7e4e4ff6309d2b3b2923bb79\n";
+
+const SIXTEEN: &str =
+    "sample seed 7 count 16\nsettled 3121 cut 1560 removed 1 inner 753 small 807 open 0\nfile ce2a74aae6048d12f01b3e860caf4b1142ea67b673a4992c384e761ac163b562\n";
+
+fn made(words: &'static str, out: &'static str) -> Step {
+    Step {
+        words,
+        status: 0,
+        out,
+        err: "",
+        file: "",
+        holds: "",
+    }
+}
+
+fn refused(words: &'static str) -> Step {
+    Step {
+        words,
+        status: 2,
+        out: "",
+        err: USAGE,
+        file: "",
+        holds: "",
+    }
+}
+
+#[test]
+fn samples(rt: HostRuntime) -> Result<(), Fail> {
+    let alloc = rt.alloc();
+    let mut folder = shelf(alloc, &[], &[])?;
+    let steps = [
+        made("sample --seed 1 --count 2", TWO),
+        made("sample --count=2 --seed=1", TWO),
+        made("sample --seed 7 --count 1", ONE),
+        made("sample --seed 007 --count 1", ONE),
+        made("sample --seed 7 --count 16", SIXTEEN),
+        made("sample --seed 7 --count 16", SIXTEEN),
+    ];
+    follow(&rt, alloc, &mut folder, &steps)
+}
+
+#[test]
+fn samples_that_are_refused(rt: HostRuntime) -> Result<(), Fail> {
+    let alloc = rt.alloc();
+    let mut folder = shelf(alloc, &[], &[])?;
+    let steps = [
+        refused("sample"),
+        refused("sample --seed 1"),
+        refused("sample --count 1"),
+        refused("sample --seed 1 --count 0"),
+        refused("sample --seed 1 --count 17"),
+        refused("sample --seed 2147483648 --count 1"),
+        refused("sample --seed -1 --count 1"),
+        refused("sample --seed x --count 1"),
+        refused("sample --seed 00000000001 --count 1"),
+        refused("sample --seed 1 --count 1 s"),
+        refused("sample --seed 1 --count 1 --eps 8"),
+        refused("sample --seed 1 --seed 1 --count 1"),
+    ];
+    follow(&rt, alloc, &mut folder, &steps)
+}
