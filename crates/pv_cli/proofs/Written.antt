@@ -3,6 +3,7 @@ use Rattle.std.proofs.Common.{◌≡◌, inl, inr, ℕ, zero, suc, ◌+◌, List
 use Rattle.std.specs.Prelude.{Option, Some, None, Result, Ok, Err, OnOk, IsErrOf, take}
 use Rattle.std.proofs.lemmas.List.{take_all, append-nil}
 use Rattle.pv_io.specs.Outside.{appended, AppendsFront}
+use Rattle.pv_io.proofs.Fronts.{appended_twice}
 use Rattle.pv_cli.specs.Refusals.{status_of, line_of}
 use Rattle.pv_cli.specs.Ends.{Stream, IsTold, Tells}
 use Rattle.pv_cli.specs.Telling.{TellsLine}
@@ -31,10 +32,6 @@ pub front_of_any : {T : Type 0} (r : Result T WriteRefused) (before after : Opti
 front_of_any (Ok done) before after line whole front same = front_of_whole before after line whole
 front_of_any (Err write.Failed) before after line whole front same = front refl
 front_of_any (Err write.Memory) before after line whole front same = front_of_same before after line (same refl)
-
-appended_twice : (told : Option (List ℕ)) (one two : List ℕ) → appended (appended told one) two ≡ appended told (one ++ two)
-appended_twice None one two = refl
-appended_twice (Some bytes) one two = ap Some (append_assoc bytes one two)
 
 shorter : (n : ℕ) (one two : List ℕ) → (m : ℕ) × (take n one ≡ take m (one ++ two))
 shorter zero one two = (0, refl)

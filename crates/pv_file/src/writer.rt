@@ -1,12 +1,11 @@
 //! A paving's text, handed to a sink in pieces.
 ghost use Rattle.std.specs.Prelude.{◌≡◌, ◌+◌, ◌≤◌, ◌++◌, ◌∷◌, [], Some, OnOk, OnErr, IsErrOf, IsTrue, length};
-ghost use Rattle.pv_io.specs.Outside.{Rose, appended, AppendsFront};
+ghost use Rattle.pv_io.specs.Outside.{Rose, appended, AppendsFront, HandsOver};
 ghost use Rattle.pv_tree.specs.Trees.{shape_of, to_at};
 ghost use Rattle.pv_tree.specs.Pieces.{IsPiece};
 ghost use Rattle.pv_file.specs.Lines.{lines_of, top_line};
 ghost use Rattle.pv_file.specs.Shapes.{keeps_of};
 ghost use Rattle.pv_file.specs.Texts.{file_text};
-ghost use Rattle.pv_file.specs.Walks.{HandsOver};
 
 use crate::header::push_header;
 use crate::lines::{keeps, push_shape, scratch_box};

@@ -13,6 +13,11 @@ appended told piece = option_map (λ bytes. bytes ++ piece) told
 abbrev pub AppendsFront : Option (List ℕ) → Option (List ℕ) → List ℕ → Type 0
 AppendsFront before after piece = (n : ℕ) × (after ≡ appended before (take n piece))
 
+-- a first part of the bytes that were held was put behind those that are told
+abbrev pub HandsOver : Option (List ℕ) → Option (List ℕ) → List ℕ → List ℕ → Type 0
+HandsOver told_before told_after held_before held_after =
+    (sent : List ℕ) × (told_after ≡ appended told_before sent) × (held_before ≡ sent ++ held_after)
+
 -- what a folder says of a name
 pub data Content : Type 0 where
   untold : Content

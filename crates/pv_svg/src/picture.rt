@@ -1,8 +1,7 @@
 //! Pictures, and their text, handed to a sink in pieces.
 ghost use Rattle.std.specs.Prelude.{◌≡◌, ◌≤◌, [], OnOk, OnErr, IsErrOf};
-ghost use Rattle.pv_io.specs.Outside.{Rose, appended, AppendsFront};
+ghost use Rattle.pv_io.specs.Outside.{Rose, appended, AppendsFront, HandsOver};
 ghost use Rattle.pv_svg.specs.Texts.{picture_text};
-ghost use Rattle.pv_svg.specs.Pieces.{HandsOver};
 
 use crate::rectangle::Rectangle;
 use crate::refusal::FileWriteRefused;

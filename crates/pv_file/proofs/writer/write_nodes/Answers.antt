@@ -1,6 +1,7 @@
 use Rattle.std.proofs.Common.{[], ◌++◌, sym, ◌∙◌, ap, append_assoc, rules}
 use Rattle.std.proofs.lemmas.Result.{on_ok_weaker, on_err_weaker}
-use Rattle.pv_file.proofs.Handing.{appended_none, sent_front, held_front, visit_text, line_held, part_sent, all_sent, begin_text, end_text, on_any, more_sent}
+use Rattle.pv_io.proofs.Fronts.{appended_none, sent_front, held_front, line_held, part_sent, all_sent, on_any, more_sent}
+use Rattle.pv_file.proofs.Handing.{visit_text, begin_text, end_text}
 use Rattle.pv_file.proofs.writer.write_nodes.Goals as goal
 
 pub loop-shape-init : goal.loop-shape-init

@@ -1,6 +1,7 @@
 use Rattle.std.proofs.Common.{◌++◌, ◌∙◌, append_assoc, rules}
 use Rattle.std.proofs.lemmas.Result.{on_ok_weaker, on_err_weaker}
-use Rattle.pv_svg.proofs.Handing.{sent_front, held_front, line_held, part_sent, more_sent, all_sent, next_line, end_held, seen_line, on_any}
+use Rattle.pv_io.proofs.Fronts.{sent_front, held_front, line_held, part_sent, more_sent, all_sent, on_any}
+use Rattle.pv_svg.proofs.Handing.{next_line, end_held, seen_line}
 use Rattle.pv_svg.proofs.picture.Picture.write.Goals as goal
 
 pub returns-in_err-push_rectangle-clause-front : goal.returns-in_err-push_rectangle-clause-front
