@@ -8,6 +8,7 @@
     python3 bench/run.py printing           the share of instructions that printing takes, where there is valgrind
     python3 bench/run.py growth             how the time grows as --eps is halved
     python3 bench/run.py files              a large paving file: stored, joined with itself and in eight parts, audited
+    python3 bench/run.py workers            pavings by 1 to 16 workers, and what jobs and tickets cost
     python3 bench/run.py trees              milliseconds for settling, counting, copying, joining and auditing a large tree
 
 Each figure is the best of five runs or more. Needs rustc for the yardstick; without it only paver's own figures are printed.
@@ -110,7 +111,7 @@ def paving(folder):
     lean = yardstick(folder, "paver")
     for title, file, words in PAVINGS:
         words = paving_of(folder, file, words)
-        runs = [[TOP / "paver", "run", *words]] + ([[lean, *words]] if lean else [])
+        runs = [[TOP / "paver", "run", *words, "--workers", "1"]] + ([[lean, *words]] if lean else [])
         best, printed = [float("inf")] * len(runs), [b""] * len(runs)
         for _ in range(TURNS):
             for i, run in enumerate(runs):
@@ -176,9 +177,33 @@ def trees(_):
         print(f"{work:7} {max(spent - built, 0) / times * 1000:8.1f} ms")
 
 
+def workers(folder):
+    """Seconds by the clock of whole runs, and the processor time that they take; then jobs and tickets alone."""
+    for title, file, words in PAVINGS:
+        run = [TOP / "paver", "run", *paving_of(folder, file, words)]
+        one, figures = None, []
+        for count in (1, 2, 3, 4, 16):
+            spent, _ = seconds([*run, "--workers", count])
+            used = min(processor_seconds([*run, "--workers", count])[0] for _ in range(3))
+            one = one or spent
+            figures.append(f"{count}: {spent:6.3f} s x{one / spent:4.2f} ({used:6.3f} of processors)")
+        print(f"{title:28} " + ", ".join(figures), flush=True)
+    program = TOP / "crates/pv_pool_bench/out/pv_pool_bench"
+    for count in (1, 2, 4, 16):
+        spent, _ = seconds([program, 1_000_000, count])
+        used = min(processor_seconds([program, 1_000_000, count])[0] for _ in range(3))
+        print(f"a million jobs by {count:2} workers {spent * 1000:6.1f} ms, {used * 1000:6.1f} of processors")
+    program = TOP / "crates/pv_workers_bench/out/pv_workers_bench"
+    empty, _ = seconds([program, 1, 1])
+    for cuts in (6, 8, 10, 12, 14):
+        spent, printed = seconds([program, cuts, 1])
+        nodes, tickets = (int(word) for word in re.findall(rb"[0-9]+", printed))
+        print(f"{nodes:6} nodes by {tickets:6} tickets of one worker {(spent - empty) / tickets * 1e9:7.0f} ns a ticket")
+
+
 def main():
     parts = {"numbers": numbers, "calls": calls, "paving": paving, "printing": printing, "growth": growth, "files": files,
-             "trees": trees}
+             "workers": workers, "trees": trees}
     with tempfile.TemporaryDirectory() as folder:
         for part in sys.argv[1:] or parts:
             parts[part](folder)
