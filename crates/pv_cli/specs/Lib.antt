@@ -13,7 +13,6 @@ pub mod Ends
 pub mod Reads
 pub mod Printing
 pub mod Scenes
-pub mod Turns
 pub mod Telling
 pub mod Resumed
 pub mod Merges
