@@ -13,7 +13,7 @@ use Rattle.pv_tree.proofs.KnownLeaves.{known_after_cut, known_after_end}
 use Rattle.pv_workers.specs.Leaves.{with_handed}
 
 -- the first leaf of a growth is its box
-pub next_at_root : (b : List Bounds) (g : Growing) → IsBox b → g ≡ growth_over b → IsNext g []
+pub next_at_root : (b : List Bounds) (g : Growing) → IsBox g.root → g ≡ growth_over b → IsNext g []
 next_at_root b g h e = subst (λ (g : Growing). IsNext g []) (sym e) (record {
   hole = record { path = []; box = b };
   rest = [];
@@ -22,7 +22,7 @@ next_at_root b g h e = subst (λ (g : Growing). IsNext g []) (sym e) (record {
   is_leaf = refl;
   box = refl;
   dims = refl;
-  is_box = h;
+  is_box = subst IsBox (ap (λ (g : Growing). g.root) e) h;
   few = omega arith;
 })
 

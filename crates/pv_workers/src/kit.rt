@@ -1,5 +1,5 @@
 //! What a worker settles with.
-ghost use Rattle.std.specs.Prelude.{◌≡◌, ◌≤◌, length, IfOk};
+ghost use Rattle.std.specs.Prelude.{◌≡◌, ◌≤◌, [], length, IfOk};
 
 use pv_box::IBox;
 use pv_interval::Interval;
@@ -22,7 +22,8 @@ impl<S: KnowingSettler> Kit<S> {
     pub(crate) fn of(alloc: Global, settler: &S, places: u8) -> Result<Kit<S>, Memory>
         requires some { 1 ≤ places }
         requires few { places ≤ 12 }
-        ensures { IfOk result (λ k. length k.scratch ≡ places) }
+        ensures places { IfOk result (λ k. length k.scratch ≡ places) }
+        ensures none { IfOk result (λ k. k.facts.items ≡ []) }
     {
         Ok(Kit {
             scratch: blank(alloc, places)?,

@@ -38,6 +38,7 @@ pub(crate) fn stage_at<N: Naming, S: KnowingSettler, G: Gate>(
     ensures places { length kit.new.scratch ≡ N.dims }
 {
     let mut stage = Growth::open(alloc, kit.scratch.clone_of(alloc)?)?;
+    let _places = stage.dims();
     kit.facts.clear();
     kit.facts.push(ruled.nothing())?;
     settle_next(
@@ -98,9 +99,10 @@ fn settle_next<N: Naming, S: KnowingSettler, G: Gate>(
     } = ruled.settle_knowing(alloc, &mut kit.room, &kit.scratch, known, whole)?;
     hand_on(&mut kit.facts, &outcome, below)?;
     match stage.settle(outcome) {
-        Ok(()) => Ok(()),
-        Err(_) => Err(Memory),
+        Ok(()) => {}
+        Err(_) => return Err(Memory),
     }
+    Ok(())
 }
 
 // Hands what is known to the halves of a cut.
