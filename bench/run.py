@@ -8,6 +8,7 @@
     python3 bench/run.py printing           the share of instructions that printing takes, where there is valgrind
     python3 bench/run.py growth             how the time grows as --eps is halved
     python3 bench/run.py files              a large paving file: stored, joined with itself and in eight parts, audited
+    python3 bench/run.py workers            how much faster 2, 3, 4 and 16 workers are than one, on five systems
     python3 bench/run.py trees              milliseconds for settling, counting, copying, joining and auditing a large tree
 
 Each figure is the best of five runs or more. Needs rustc for the yardstick; without it only paver's own figures are printed.
@@ -124,6 +125,18 @@ def paving(folder):
         print(line, flush=True)
 
 
+def workers(folder):
+    """Seconds from start to end with one worker, and how many times as fast more of them are. Nothing is printed."""
+    chosen = ("ring", "Gough slice, 12 constraints", "torus", "planar arm", "strict order, a deep tree")
+    for title, file, words in PAVINGS:
+        if title in chosen:
+            words = [*paving_of(folder, file, words), "--out", Path(folder) / "paving"]
+            alone, printed = seconds([TOP / "paver", "run", *words, "--workers", "1"])
+            shares = [f"{count} workers {alone / seconds([TOP / 'paver', 'run', *words, '--workers', count])[0]:5.2f}"
+                      for count in (2, 3, 4, 16)]
+            print(f"{title:28} {int(printed.split()[1]):7} nodes {alone:6.3f} s, {', '.join(shares)}", flush=True)
+
+
 def printing(folder):
     if not shutil.which("valgrind"):
         return
@@ -178,7 +191,7 @@ def trees(_):
 
 def main():
     parts = {"numbers": numbers, "calls": calls, "paving": paving, "printing": printing, "growth": growth, "files": files,
-             "trees": trees}
+             "trees": trees, "workers": workers}
     with tempfile.TemporaryDirectory() as folder:
         for part in sys.argv[1:] or parts:
             parts[part](folder)
