@@ -8,7 +8,8 @@
     python3 bench/run.py printing           the share of instructions that printing takes, where there is valgrind
     python3 bench/run.py growth             how the time grows as --eps is halved
     python3 bench/run.py files              a large paving file: stored, joined with itself and in eight parts, audited
-    python3 bench/run.py workers            pavings by 1 to 16 workers, and what jobs and tickets cost
+    python3 bench/run.py workers            how much faster 2, 3, 4 and 16 workers are than one, on five systems
+    python3 bench/run.py tickets            what the pool's jobs and the board's tickets cost
     python3 bench/run.py trees              milliseconds for settling, counting, copying, joining and auditing a large tree
 
 Each figure is the best of five runs or more. Needs rustc for the yardstick; without it only paver's own figures are printed.
@@ -125,6 +126,18 @@ def paving(folder):
         print(line, flush=True)
 
 
+def workers(folder):
+    """Seconds from start to end with one worker, and how many times as fast more of them are. Nothing is printed."""
+    chosen = ("ring", "Gough slice, 12 constraints", "torus", "planar arm", "strict order, a deep tree")
+    for title, file, words in PAVINGS:
+        if title in chosen:
+            words = [*paving_of(folder, file, words), "--out", Path(folder) / "paving"]
+            alone, printed = seconds([TOP / "paver", "run", *words, "--workers", "1"])
+            shares = [f"{count} workers {alone / seconds([TOP / 'paver', 'run', *words, '--workers', count])[0]:5.2f}"
+                      for count in (2, 3, 4, 16)]
+            print(f"{title:28} {int(printed.split()[1]):7} nodes {alone:6.3f} s, {', '.join(shares)}", flush=True)
+
+
 def printing(folder):
     if not shutil.which("valgrind"):
         return
@@ -177,17 +190,8 @@ def trees(_):
         print(f"{work:7} {max(spent - built, 0) / times * 1000:8.1f} ms")
 
 
-def workers(folder):
-    """Seconds by the clock of whole runs, and the processor time that they take; then jobs and tickets alone."""
-    for title, file, words in PAVINGS:
-        run = [TOP / "paver", "run", *paving_of(folder, file, words)]
-        one, figures = None, []
-        for count in (1, 2, 3, 4, 16):
-            spent, _ = seconds([*run, "--workers", count])
-            used = min(processor_seconds([*run, "--workers", count])[0] for _ in range(3))
-            one = one or spent
-            figures.append(f"{count}: {spent:6.3f} s x{one / spent:4.2f} ({used:6.3f} of processors)")
-        print(f"{title:28} " + ", ".join(figures), flush=True)
+def tickets(_):
+    """What jobs and tickets cost where the work itself costs next to nothing."""
     program = TOP / "crates/pv_pool_bench/out/pv_pool_bench"
     for count in (1, 2, 4, 16):
         spent, _ = seconds([program, 1_000_000, count])
@@ -203,7 +207,8 @@ def workers(folder):
 
 def main():
     parts = {"numbers": numbers, "calls": calls, "paving": paving, "printing": printing, "growth": growth, "files": files,
-             "workers": workers, "trees": trees}
+             "workers": workers,
+             "tickets": tickets, "trees": trees}
     with tempfile.TemporaryDirectory() as folder:
         for part in sys.argv[1:] or parts:
             parts[part](folder)

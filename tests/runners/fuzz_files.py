@@ -113,6 +113,15 @@ class Maker:
         return ["audit", "s", names[0], *options], made, lambda: reference.audit(*named[0])
 
 
+def are_same(words, got, wanted):
+    """A run that its budget ends may have settled other leaves than the reference has, but as many."""
+    if words[0] != "resume" or wanted[0] != 1:
+        return got == wanted
+    (status, out, err, stored), (_, wanted_out, wanted_err, wanted_stored) = got, wanted
+    return (status, err) == (1, wanted_err) and out.split()[:2] == wanted_out.split()[:2] and (
+        (stored is None) == (wanted_stored is None))
+
+
 def main():
     paver = os.path.abspath(sys.argv[1])
     count = int(sys.argv[2]) if len(sys.argv) > 2 else 1000
@@ -128,7 +137,7 @@ def main():
             got = subprocess.run([paver, *words], cwd=folder, stdin=subprocess.DEVNULL, capture_output=True, timeout=120)
             stored = (folder / "o").read_bytes() if (folder / "o").exists() else None
             wanted = answer(work)
-            same = (got.returncode, got.stdout, got.stderr, stored) == wanted
+            same = are_same(words, (got.returncode, got.stdout, got.stderr, stored), wanted)
             passed, failed = passed + same, failed + (not same)
             if not same and failed <= 10:
                 print(words, (got.returncode, got.stdout[:200], got.stderr, stored), "in place of", wanted, made)

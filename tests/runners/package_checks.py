@@ -198,8 +198,8 @@ def check_merged():
     needs("merge")
     with tempfile.TemporaryDirectory() as folder:
         first, second, third = (Path(folder) / name for name in "123")
-        paver.run(example("ring"), boxes=100, out=first)
-        paver.run(example("ring"), boxes=300, out=second)
+        paver.run(example("ring"), boxes=100, workers=1, out=first)
+        paver.run(example("ring"), boxes=300, workers=1, out=second)
         answer = paver.merge(example("ring"), [first, second], out=third)
         assert not answer.complete and third.read_bytes() == second.read_bytes()
 

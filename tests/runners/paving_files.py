@@ -114,7 +114,7 @@ def resumed_runs(f):
     f.put("b", file_of(2, WHOLE))
     f.run(["resume", "s", "a", *QUARTER, "--boxes", "4", "--out", "c"], 0, WHOLE_SUMMARY, changed="c")
     f.same("b", "c")
-    f.run(["resume", "s", "a", *QUARTER, "--boxes", "3"], 1,
+    f.run(["resume", "s", "a", *QUARTER, "--boxes", "3", "--workers", "1"], 1,
           lines("settled 4 cut 2 removed 0 inner 1 small 1 open 1", *WHOLE_1[:4], "O"))
     f.run(["resume", "s", "a", *QUARTER, "--boxes", "100000"], 8, err=b"tree limit: 1 settled\n")
     f.run(["resume", "s", "b", *QUARTER, "--boxes", "99996"], 8, err=b"tree limit: 5 settled\n")

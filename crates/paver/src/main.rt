@@ -1,8 +1,10 @@
 //! The interval paver as a program: its words, the files of the folder in which it runs, and its streams.
 #![tactic(auto)]
 
-use pv_cli::{NoGate, Unread, paver_main, tell_unread};
+use pv_cli::{Unread, paver_main, tell_unread};
 use pv_io::{RealFolder, RealSink};
+use pv_keep::MemKeeper;
+use pv_pool::NoGate;
 use std::env;
 use std::env::Env;
 use std::io::ErrorKind;
@@ -14,7 +16,18 @@ fn main(rt: HostRuntime) -> ExitCode {
         Ok(words) => {
             let mut folder = RealFolder::new(&rt);
             let mut out = RealSink::new(rt.stdout());
-            paver_main(rt.alloc(), &words, &mut folder, &mut out, &mut err, &NoGate)
+            let alloc = rt.alloc();
+            let mut keeper = MemKeeper::new(alloc, Vec::new(alloc));
+            paver_main(
+                &rt,
+                alloc,
+                &words,
+                &mut folder,
+                &mut out,
+                &mut err,
+                &NoGate,
+                &mut keeper,
+            )
         }
         Err(why) => tell_unread(&mut err, why),
     };

@@ -1,13 +1,11 @@
 pub mod Written
 pub mod Fetches
-pub mod Budgets
 pub mod Rows
 pub mod Known
 pub mod Asked
 pub mod Widths
 pub mod Counts
 pub mod Ends
-pub mod GrownLeaves
 pub mod Inside
 pub mod Joined
 pub mod Earlier

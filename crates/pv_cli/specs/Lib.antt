@@ -14,7 +14,6 @@ pub mod Reads
 pub mod Printing
 pub mod Scenes
 pub mod Samples
-pub mod Turns
 pub mod Telling
 pub mod Resumed
 pub mod Merges

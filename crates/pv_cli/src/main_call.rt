@@ -19,22 +19,28 @@ use crate::run::run;
 use crate::sample::sample;
 use crate::svg::svg;
 use crate::telling::tell;
-use crate::{Gate, Refusal, Status};
+use crate::{Refusal, Status};
 use pv_io::{Folder, Sink};
+use pv_keep::Keeper;
+use pv_pool::Gate;
 use std::alloc::Global;
+use std::sync::Wait;
+use std::thread::Threads;
 
 /// Runs the command that the words give, of which word 0 is the program's name.
 ///
 /// With status 0 or 1 the words ask for something, and what comes of it over the folder was printed. Else the
 /// refusal is the first in this order: words and values, system, contractor program, plane, paving files, work,
 /// printing; and its line is told on the standard error.
-pub fn paver_main<F: Folder, K: Sink, E: Sink, G: Gate>(
+pub fn paver_main<F: Folder, K: Sink, E: Sink, G: Gate + Sync, P: Keeper, R: Threads + Wait + Sync>(
+    rt: &R,
     alloc: Global,
     words: &[String],
     folder: &mut F,
     out: &mut K,
     err: &mut E,
     gate: &G,
+    _keeper: &mut P,
 ) -> Status
     ensures end { IsEnd (map string_bytes words.now)
         (outside (files (F.content folder.old) (F.fetch_faults folder.old)
@@ -48,13 +54,14 @@ pub fn paver_main<F: Folder, K: Sink, E: Sink, G: Gate>(
         Ok(request) => request,
         Err(refusal) => return tell(alloc, err, &refusal),
     };
-    match answer(alloc, &request, folder, out, gate) {
+    match answer(rt, alloc, &request, folder, out, gate) {
         Ok(status) => status,
         Err(refusal) => tell(alloc, err, &refusal),
     }
 }
 
-fn answer<'a, F: Folder, K: Sink, G: Gate>(
+fn answer<'a, F: Folder, K: Sink, G: Gate + Sync, R: Threads + Wait + Sync>(
+    rt: &R,
     alloc: Global,
     request: &Request<'a>,
     folder: &mut F,
@@ -74,7 +81,7 @@ fn answer<'a, F: Folder, K: Sink, G: Gate>(
         (stream (K.written out.old) (K.faults out.old))
         (stream (K.written out.new) (K.faults out.new))) }
 {
-    match work(alloc, request, folder, gate) {
+    match work(rt, alloc, request, folder, gate) {
         Ok(product) => deliver(alloc, folder, out, &product, file_of(request)),
         Err(refusal) => Err(refusal),
     }
@@ -95,7 +102,8 @@ fn file_of<'a>(request: &Request<'a>) -> Option<&'a str>
     }
 }
 
-fn work<'a, F: Folder, G: Gate>(
+fn work<'a, F: Folder, G: Gate + Sync, R: Threads + Wait + Sync>(
+    rt: &R,
     alloc: Global,
     request: &Request<'a>,
     folder: &mut F,
@@ -120,14 +128,14 @@ fn work<'a, F: Folder, G: Gate>(
             settings,
             effort,
             out: _,
-        } => run(alloc, folder, *system, settings, effort, gate),
+        } => run(rt, alloc, folder, *system, settings, effort, gate),
         Request::Resume {
             system,
             pavings,
             settings,
             effort,
             out: _,
-        } => resume(alloc, folder, *system, pavings, settings, effort, gate),
+        } => resume(rt, alloc, folder, *system, pavings, settings, effort, gate),
         Request::Merge {
             system,
             pavings,
@@ -145,6 +153,6 @@ fn work<'a, F: Folder, G: Gate>(
             settings,
             view,
         } => svg(alloc, folder, *system, *paving, settings, view),
-        Request::Sample { circles } => sample(alloc, circles, gate),
+        Request::Sample { circles } => sample(rt, alloc, circles, gate),
     }
 }

@@ -9,19 +9,24 @@ ghost use Rattle.pv_cli.specs.Products.{ComesOfResume, RefusesJoined};
 ghost use Rattle.pv_cli.specs.Made.{made};
 ghost use Rattle.pv_cli.specs.Resumed.{IsResumed, GivesResumed};
 
+use crate::Refusal;
 use crate::honest::learn_honest;
 use crate::opening::{MOST_SETTLED, Opening, opening_in};
 use crate::product::Product;
 use crate::request::{Effort, Settings};
-use crate::{Gate, Refusal, pave};
 use pv_io::Folder;
 use pv_num::Memory;
+use pv_pool::Gate;
 use pv_settle::SystemSettler;
 use pv_tree::Paving;
+use pv_workers::pave_knowing;
 use std::alloc::Global;
+use std::sync::Wait;
+use std::thread::Threads;
 
 /// What the budget settles of the join of the files of these names.
-pub(crate) fn resume<'a, F: Folder, G: Gate>(
+pub(crate) fn resume<'a, F: Folder, G: Gate + Sync, R: Threads + Wait + Sync>(
+    rt: &R,
     alloc: Global,
     folder: &mut F,
     system: &'a str,
@@ -51,40 +56,52 @@ pub(crate) fn resume<'a, F: Folder, G: Gate>(
     if settled + effort.boxes > MOST_SETTLED {
         return Err(Refusal::TreeLimit { settled });
     }
-    Ok(resumed(alloc, opening, effort.boxes, gate)?)
+    Ok(resumed(rt, alloc, opening, effort, gate)?)
 }
 
-fn resumed<G: Gate>(
+fn resumed<G: Gate + Sync, R: Threads + Wait + Sync>(
+    rt: &R,
     alloc: Global,
     opening: Opening,
-    budget: u64,
+    effort: &Effort,
     gate: &G,
 ) -> Result<Product, Memory>
     requires root { opening.paving.root ≡ search_box (rule_of opening.settler) }
     requires dims { length opening.paving.root ≡ dims_of (rule_of opening.settler) }
+    requires limit { settled_in opening.paving.tree + effort.now.boxes ≤ 100000 }
     ensures { IfOk result
-        (λ p. GivesResumed (rule_of opening.settler) opening.paving.tree budget (made p)) }
+        (λ p. GivesResumed (rule_of opening.settler) opening.paving.tree effort.now.boxes (made p)) }
 {
     let Opening { settler, paving } = opening;
     let identity = settler.identity(alloc)?;
-    let paving = go_on(alloc, &settler, paving, budget, gate)?;
+    let paving = go_on(rt, alloc, &settler, paving, effort, gate)?;
     Ok(Product::Paved { identity, paving })
 }
 
-fn go_on<G: Gate>(
+fn go_on<G: Gate + Sync, R: Threads + Wait + Sync>(
+    rt: &R,
     alloc: Global,
     settler: &SystemSettler,
     opening: Paving,
-    budget: u64,
+    effort: &Effort,
     gate: &G,
 ) -> Result<Paving, Memory>
     requires root { opening.root ≡ search_box (rule_of settler.now) }
     requires dims { length opening.root ≡ dims_of (rule_of settler.now) }
+    requires limit { settled_in opening.tree + effort.now.boxes ≤ 100000 }
     ensures root { IfOk result (λ p. p.root ≡ search_box (rule_of settler.now)) }
     ensures resumed { IfOk result
-        (λ p. IsResumed (rule_of settler.now) opening.tree budget p.tree) }
+        (λ p. IsResumed (rule_of settler.now) opening.tree effort.now.boxes p.tree) }
 {
-    let paving = pave(alloc, settler, opening, budget, gate)?;
-    learn_honest(&paving, settler);
-    Ok(paving)
+    let paved = pave_knowing(
+        rt,
+        alloc,
+        settler,
+        opening,
+        effort.boxes,
+        effort.workers,
+        gate,
+    )?;
+    learn_honest(&paved.paving, settler);
+    Ok(paved.paving)
 }

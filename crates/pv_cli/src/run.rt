@@ -9,20 +9,24 @@ ghost use Rattle.pv_cli.specs.Pavings.{IsPaved};
 ghost use Rattle.pv_cli.specs.Products.{ComesOfRun};
 ghost use Rattle.pv_cli.specs.Made.{made};
 
-use crate::growing::grow;
+use crate::Refusal;
 use crate::honest::learn_honest;
 use crate::product::Product;
 use crate::request::{Effort, Settings};
 use crate::system::settler_in;
-use crate::{Gate, Refusal};
 use pv_io::Folder;
 use pv_num::Memory;
+use pv_pool::Gate;
 use pv_settle::SystemSettler;
 use pv_tree::Paving;
+use pv_workers::pave_knowing;
 use std::alloc::Global;
+use std::sync::Wait;
+use std::thread::Threads;
 
 /// The paving of the search box of the system in a file, as far as the budget goes.
-pub(crate) fn run<'a, F: Folder, G: Gate>(
+pub(crate) fn run<'a, F: Folder, G: Gate + Sync, R: Threads + Wait + Sync>(
+    rt: &R,
     alloc: Global,
     folder: &mut F,
     system: &'a str,
@@ -48,24 +52,35 @@ pub(crate) fn run<'a, F: Folder, G: Gate>(
         Err(refusal) => return Err(refusal),
     };
     let identity = settler.identity(alloc)?;
-    let paving = paved(alloc, &settler, effort.boxes, gate)?;
+    let paving = paved(rt, alloc, &settler, effort, gate)?;
     learn_honest(&paving, &settler);
     Ok(Product::Paved { identity, paving })
 }
 
 /// The paving of the search box of a settler's system, as far as the budget goes.
-pub(crate) fn paved<G: Gate>(
+pub(crate) fn paved<G: Gate + Sync, R: Threads + Wait + Sync>(
+    rt: &R,
     alloc: Global,
     settler: &SystemSettler,
-    budget: u64,
+    effort: &Effort,
     gate: &G,
 ) -> Result<Paving, Memory>
     ensures root { IfOk result (λ p. p.root ≡ search_box (rule_of settler.now)) }
     ensures paved { IfOk result
         (λ p. IsPaved (settle_by (rule_of settler.now)) (rule_of settler.now).depth
-        (search_box (rule_of settler.now)) leaf budget p.tree) }
+        (search_box (rule_of settler.now)) leaf effort.now.boxes p.tree) }
     ensures dims { IfOk result (λ p. length p.root ≡ dims_of (rule_of settler.now)) }
 {
     let root = settler.search_box(alloc)?;
-    grow(alloc, settler, root, budget, gate)
+    let opening = Paving::open(alloc, root)?;
+    let paved = pave_knowing(
+        rt,
+        alloc,
+        settler,
+        opening,
+        effort.boxes,
+        effort.workers,
+        gate,
+    )?;
+    Ok(paved.paving)
 }

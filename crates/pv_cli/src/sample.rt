@@ -9,30 +9,31 @@ ghost use Rattle.pv_cli.specs.Products.{AreForSamples, ComesOfSample, RefusesSam
 ghost use Rattle.pv_cli.specs.Samples.{IsMadeRule};
 ghost use Rattle.pv_cli.specs.Made.{made};
 
+use crate::Refusal;
 use crate::decimal::push_decimal;
 use crate::honest::learn_honest;
 use crate::product::Product;
-use crate::request::{Circles, Settings};
+use crate::request::{Circles, Effort, Settings};
 use crate::run::paved;
 use crate::summary::push_counts;
 use crate::system::settler_for;
-use crate::{Gate, Refusal};
 use pv_box::Bisector;
 use pv_file::{hex_digits, write};
 use pv_io::PlainSink;
 use pv_made::sample_system;
 use pv_num::{End, Memory, Num};
 use pv_parse::parse;
+use pv_pool::Gate;
 use pv_settle::SystemSettler;
 use pv_tree::Paving;
 use sha2::{Digest, Sha256};
 use std::alloc::Global;
-
-// A tree of at most 14 cuts on a path has fewer nodes.
-const BUDGET: u64 = 100_000;
+use std::sync::Wait;
+use std::thread::Threads;
 
 /// A report on the full tree of the system that the circles make: its summary, and the digest of its file.
-pub(crate) fn sample<'a, G: Gate>(
+pub(crate) fn sample<'a, G: Gate + Sync, R: Threads + Wait + Sync>(
+    rt: &R,
     alloc: Global,
     circles: &Circles,
     gate: &G,
@@ -46,7 +47,12 @@ pub(crate) fn sample<'a, G: Gate>(
         Err(refusal) => return Err(refusal),
     };
     let identity = settler.identity(alloc)?;
-    let paving = paved(alloc, &settler, BUDGET, gate)?;
+    // A tree of at most 14 cuts on a path has fewer nodes.
+    let effort = Effort {
+        workers: 4,
+        boxes: 100_000,
+    };
+    let paving = paved(rt, alloc, &settler, &effort, gate)?;
     learn_honest(&paving, &settler);
     Ok(Product::Text(report(alloc, circles, identity, &paving)?))
 }

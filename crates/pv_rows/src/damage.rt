@@ -1,12 +1,15 @@
 //! Paving files that are damaged or too large, as commands meet them.
+use crate::calling::paver;
 use crate::files::{SYSTEM, WHOLE, WHOLE_1};
 use crate::tests::words_of;
-use pv_cli::{NoGate, Status, paver_main};
+use pv_cli::Status;
 use pv_io::{FetchRefused, Folder, MemFolder, MemSink};
 use std::alloc::Global;
 use std::collections::BTreeMap;
 use std::process::Abort;
+use std::sync::Wait;
 use std::test::Fail;
+use std::thread::Threads;
 
 // What a call over the system and these files came to.
 #[derive(Drop)]
@@ -17,7 +20,13 @@ struct Answer {
     err: MemSink,
 }
 
-fn call(alloc: Global, words: &str, p: &[u8], q: &[u8]) -> Result<Answer, Fail> {
+fn call<R: Threads + Wait + Sync>(
+    rt: &R,
+    alloc: Global,
+    words: &str,
+    p: &[u8],
+    q: &[u8],
+) -> Result<Answer, Fail> {
     let list = words_of(alloc, words)?;
     let mut files = BTreeMap::new(alloc);
     files.insert(
@@ -29,7 +38,7 @@ fn call(alloc: Global, words: &str, p: &[u8], q: &[u8]) -> Result<Answer, Fail> 
     let mut folder = MemFolder::new(alloc, files, Vec::new(alloc));
     let mut out = MemSink::new(alloc, Vec::new(alloc));
     let mut err = MemSink::new(alloc, Vec::new(alloc));
-    let status = paver_main(alloc, &list, &mut folder, &mut out, &mut err, &NoGate);
+    let status = paver(rt, alloc, &list, &mut folder, &mut out, &mut err);
     Ok(Answer {
         status,
         folder,
@@ -41,8 +50,13 @@ fn call(alloc: Global, words: &str, p: &[u8], q: &[u8]) -> Result<Answer, Fail> 
 const RESUME: &str = "resume s p --eps 0.25 --boxes 4 --out m";
 
 // Going on from the file is refused with status 4 and this line; nothing is printed or stored.
-fn refused(rt: &impl Abort, alloc: Global, file: &[u8], line: &[u8]) -> Result<(), Fail> {
-    let mut answer = call(alloc, RESUME, file, b"")?;
+fn refused<R: Abort + Threads + Wait + Sync>(
+    rt: &R,
+    alloc: Global,
+    file: &[u8],
+    line: &[u8],
+) -> Result<(), Fail> {
+    let mut answer = call(rt, alloc, RESUME, file, b"")?;
     assert_eq!(rt; answer.status.code(), 4);
     assert_eq!(rt; answer.err.bytes(), line);
     assert_eq!(rt; answer.out.bytes(), "".as_bytes());
@@ -59,7 +73,11 @@ fn bad_line(alloc: Global, before: &[u8]) -> Result<String, Fail> {
     Ok(format!(in alloc; "paving p: bad line {line}\n")?)
 }
 
-fn each_cut(rt: &impl Abort, alloc: Global, file: &[u8]) -> Result<(), Fail> {
+fn each_cut<R: Abort + Threads + Wait + Sync>(
+    rt: &R,
+    alloc: Global,
+    file: &[u8],
+) -> Result<(), Fail> {
     for end in 0..file.len() {
         let front = file.get(..end).unwrap_or(&[]);
         let line = bad_line(alloc, front)?;
@@ -74,7 +92,11 @@ fn a_file_that_is_cut(rt: HostRuntime) -> Result<(), Fail> {
     each_cut(&rt, rt.alloc(), WHOLE_1.as_bytes())
 }
 
-fn each_byte(rt: &impl Abort, alloc: Global, file: &[u8]) -> Result<(), Fail> {
+fn each_byte<R: Abort + Threads + Wait + Sync>(
+    rt: &R,
+    alloc: Global,
+    file: &[u8],
+) -> Result<(), Fail> {
     for place in 0..file.len() {
         let mut other = file.to_vec(alloc)?;
         if let Some(byte) = other.get_mut(place) {
@@ -124,7 +146,7 @@ fn a_join_that_is_too_large(rt: HostRuntime) -> Result<(), Fail> {
     let mut high = HEAD.to_vec(alloc)?;
     high.extend_from_slice(b"C 0 1:-1 = =\nO\n")?;
     push_leaves(alloc, 32_768, 65_536, &mut high)?;
-    let mut answer = call(alloc, "merge s p q --eps 0.25 --out m", &low, &high)?;
+    let mut answer = call(&rt, alloc, "merge s p q --eps 0.25 --out m", &low, &high)?;
     assert_eq!(rt; answer.status.code(), 8);
     let line = b"tree limit: 131071 settled\n";
     assert_eq!(rt; answer.err.bytes(), line.as_slice());

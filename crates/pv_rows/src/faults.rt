@@ -1,14 +1,17 @@
 //! Commands whose outside fails: each call of the folder and of the standard output in turn, and the first of
 //! the standard error.
+use crate::calling::paver;
 use crate::files::{FILES, SUMMARY, WHOLE, shelf};
 use crate::pictures::HALF;
 use crate::samples::TWO;
 use crate::tests::words_of;
-use pv_cli::{NoGate, Status, paver_main};
+use pv_cli::Status;
 use pv_io::{FetchRefused, Folder, MemFolder, MemSink};
 use std::alloc::Global;
 use std::process::Abort;
+use std::sync::Wait;
 use std::test::Fail;
+use std::thread::Threads;
 
 // A call, what comes of it where nothing fails, and the line for each call of the folder that fails.
 struct Case {
@@ -126,7 +129,8 @@ struct Answer {
     err: MemSink,
 }
 
-fn call(
+fn call<R: Threads + Wait + Sync>(
+    rt: &R,
     alloc: Global,
     words: &str,
     folder_fails: &[u64],
@@ -137,7 +141,7 @@ fn call(
     let mut folder = shelf(alloc, &FILES, folder_fails)?;
     let mut out = MemSink::new(alloc, out_fails.to_vec(alloc)?);
     let mut err = MemSink::new(alloc, err_fails.to_vec(alloc)?);
-    let status = paver_main(alloc, &list, &mut folder, &mut out, &mut err, &NoGate);
+    let status = paver(rt, alloc, &list, &mut folder, &mut out, &mut err);
     Ok(Answer {
         status,
         folder,
@@ -147,8 +151,8 @@ fn call(
 }
 
 // Each file holds what it held.
-fn are_kept(
-    rt: &impl Abort,
+fn are_kept<R: Abort + Threads + Wait + Sync>(
+    rt: &R,
     alloc: Global,
     words: &str,
     folder: &mut MemFolder,
@@ -164,8 +168,8 @@ fn are_kept(
 }
 
 // The file that is asked for holds this, or nothing at all.
-fn is_written(
-    rt: &impl Abort,
+fn is_written<R: Abort + Threads + Wait + Sync>(
+    rt: &R,
     alloc: Global,
     case: &Case,
     folder: &mut MemFolder,
@@ -187,15 +191,15 @@ fn is_written(
 }
 
 // The call of the folder with this number fails.
-fn folder_fails(
-    rt: &impl Abort,
+fn folder_fails<R: Abort + Threads + Wait + Sync>(
+    rt: &R,
     alloc: Global,
     case: &Case,
     number: u64,
     line: &str,
 ) -> Result<(), Fail> {
     let words = case.words;
-    let mut answer = call(alloc, words, &[number], &[], &[])?;
+    let mut answer = call(rt, alloc, words, &[number], &[], &[])?;
     let is_read = line.starts_with("read fault: ");
     let status = if is_read { 5 } else { 6 };
     assert_eq!(rt; answer.status.code(), status, "{words}: {number}");
@@ -209,9 +213,14 @@ fn folder_fails(
 }
 
 // The call of the standard output with this number fails. Answers whether there is such a call.
-fn out_fails(rt: &impl Abort, alloc: Global, case: &Case, number: u64) -> Result<bool, Fail> {
+fn out_fails<R: Abort + Threads + Wait + Sync>(
+    rt: &R,
+    alloc: Global,
+    case: &Case,
+    number: u64,
+) -> Result<bool, Fail> {
     let words = case.words;
-    let mut answer = call(alloc, words, &[], &[number], &[])?;
+    let mut answer = call(rt, alloc, words, &[], &[number], &[])?;
     are_kept(rt, alloc, words, &mut answer.folder)?;
     is_written(rt, alloc, case, &mut answer.folder, true)?;
     if answer.status.code() == case.status {
@@ -248,7 +257,7 @@ fn nothing_fails(rt: HostRuntime) -> Result<(), Fail> {
     for case in &CASES {
         let words = case.words;
         let number = case.lines.len() as u64;
-        let mut answer = call(alloc, words, &[number], &[], &[])?;
+        let mut answer = call(&rt, alloc, words, &[number], &[], &[])?;
         assert_eq!(rt; answer.status.code(), case.status, "{words}");
         assert_eq!(rt; answer.out.bytes(), case.out.as_bytes(), "{words}");
         let mut none = Vec::new(alloc);
@@ -276,14 +285,14 @@ fn each_call_of_the_output_fails(rt: HostRuntime) -> Result<(), Fail> {
 }
 
 // The first call of the standard error fails: the status stays, and a front of the line is there.
-fn no_line(
-    rt: &impl Abort,
+fn no_line<R: Abort + Threads + Wait + Sync>(
+    rt: &R,
     alloc: Global,
     words: &str,
     status: u8,
     line: &str,
 ) -> Result<(), Fail> {
-    let answer = call(alloc, words, &[], &[], &[0])?;
+    let answer = call(rt, alloc, words, &[], &[], &[0])?;
     assert_eq!(rt; answer.status.code(), status, "{words}");
     assert_eq!(rt; answer.out.bytes(), "".as_bytes(), "{words}");
     assert!(rt; line.as_bytes().starts_with(answer.err.bytes()), "{words}");

@@ -1,11 +1,13 @@
 //! Worked examples of paving files: runs that are stored, gone on with, joined and audited.
+use crate::calling::paver;
 use crate::tests::words_of;
-use pv_cli::{NoGate, paver_main};
 use pv_io::{Folder, MemFolder, MemSink};
 use std::alloc::Global;
 use std::collections::BTreeMap;
 use std::process::Abort;
+use std::sync::Wait;
 use std::test::Fail;
+use std::thread::Threads;
 
 /// A file and its content.
 pub(crate) struct Named {
@@ -33,7 +35,7 @@ pub(crate) const WHOLE: &str =
 pub(crate) const WHOLE_1: &str =
     "paving 1\nidentity be80eb05bcbc91b70b7ad422c002b378eff58622ab1c9a053f3fcbdf6852f81a\nC 0 1:-1 0:0 1:0\nC 0 1:-2 0:0 1:-1\nS 0:0 1:-2\nI 1:-2 1:-1\nI 1:-1 1:0\n";
 
-const PART: &str =
+pub(crate) const PART: &str =
     "paving 2\nidentity be80eb05bcbc91b70b7ad422c002b378eff58622ab1c9a053f3fcbdf6852f81a\nC 0 1:-1 = =\nO\nO\n";
 
 const FILE_A: &str =
@@ -146,8 +148,8 @@ pub(crate) fn shelf(alloc: Global, files: &[Named], fails: &[u64]) -> Result<Mem
     Ok(MemFolder::new(alloc, map, fails.to_vec(alloc)?))
 }
 
-pub(crate) fn follow(
-    rt: &impl Abort,
+pub(crate) fn follow<R: Abort + Threads + Wait + Sync>(
+    rt: &R,
     alloc: Global,
     folder: &mut MemFolder,
     steps: &[Step],
@@ -156,7 +158,7 @@ pub(crate) fn follow(
         let list = words_of(alloc, step.words)?;
         let mut out = MemSink::new(alloc, Vec::new(alloc));
         let mut err = MemSink::new(alloc, Vec::new(alloc));
-        let status = paver_main(alloc, &list, folder, &mut out, &mut err, &NoGate);
+        let status = paver(rt, alloc, &list, folder, &mut out, &mut err);
         let words = step.words;
         assert_eq!(rt; status.code(), step.status, "{words}");
         assert_eq!(rt; out.bytes(), step.out.as_bytes(), "{words}");
@@ -199,7 +201,7 @@ const RUNS: [Step; 7] = [
         holds: WHOLE,
     },
     Step {
-        words: "resume s a --eps 0.25 --boxes 3",
+        words: "resume s a --eps 0.25 --boxes 3 --workers 1",
         status: 1,
         out: "settled 4 cut 2 removed 0 inner 1 small 1 open 1\nC 0 1:-1 0:0 1:0\nC 0 1:-2 0:0 1:-1\nS 0:0 1:-2\nI 1:-2 1:-1\nO\n",
         err: "",

@@ -98,7 +98,7 @@ pub(crate) const WORK: [Row; 21] = [
         err: "",
     },
     Row {
-        words: "run s --eps 0.25 --boxes 4",
+        words: "run s --eps 0.25 --boxes 4 --workers 1",
         system: "Variables x in [0,1]; Constraints 1/x >= 0; end\n",
         status: 1,
         out: "settled 4 cut 2 removed 0 inner 1 small 1 open 1\nC 0 1:-1 0:0 1:0\nC 0 1:-2 0:0 1:-1\nS 0:0 1:-2\nI 1:-2 1:-1\nO\n",

@@ -1,10 +1,13 @@
+use crate::calling::paver;
 use crate::table::{FORMS, REFUSED, Row, WORK};
-use pv_cli::{NoGate, Status, paver_main};
+use pv_cli::Status;
 use pv_io::{MemFolder, MemSink};
 use std::alloc::Global;
 use std::collections::BTreeMap;
 use std::process::Abort;
+use std::sync::Wait;
 use std::test::Fail;
+use std::thread::Threads;
 
 // What a call came to.
 #[derive(Drop)]
@@ -37,7 +40,13 @@ pub(crate) fn words_of(alloc: Global, words: &str) -> Result<Vec<String>, Fail> 
     Ok(list)
 }
 
-fn call(alloc: Global, words: &str, system: &str, fails: Fails) -> Result<Answer, Fail> {
+fn call<R: Threads + Wait + Sync>(
+    rt: &R,
+    alloc: Global,
+    words: &str,
+    system: &str,
+    fails: Fails,
+) -> Result<Answer, Fail> {
     let list = words_of(alloc, words)?;
     let mut files = BTreeMap::new(alloc);
     files.insert(
@@ -47,13 +56,17 @@ fn call(alloc: Global, words: &str, system: &str, fails: Fails) -> Result<Answer
     let mut folder = MemFolder::new(alloc, files, fails.folder.to_vec(alloc)?);
     let mut out = MemSink::new(alloc, fails.out.to_vec(alloc)?);
     let mut err = MemSink::new(alloc, fails.err.to_vec(alloc)?);
-    let status = paver_main(alloc, &list, &mut folder, &mut out, &mut err, &NoGate);
+    let status = paver(rt, alloc, &list, &mut folder, &mut out, &mut err);
     Ok(Answer { status, out, err })
 }
 
-fn check(rt: &impl Abort, alloc: Global, rows: &[Row]) -> Result<(), Fail> {
+fn check<R: Abort + Threads + Wait + Sync>(
+    rt: &R,
+    alloc: Global,
+    rows: &[Row],
+) -> Result<(), Fail> {
     for row in rows {
-        let answer = call(alloc, row.words, row.system, NONE)?;
+        let answer = call(rt, alloc, row.words, row.system, NONE)?;
         let words = row.words;
         assert_eq!(rt; answer.status.code(), row.status, "{words}");
         assert_eq!(rt; answer.out.bytes(), row.out.as_bytes(), "{words}");
@@ -78,22 +91,22 @@ const HALF_LINE: &str = "Variables x in [0,4]; Constraints x <= 1; end\n";
 #[test]
 fn the_budget_ends_a_run(rt: HostRuntime) -> Result<(), Fail> {
     let square = "Variables x in [0,9999999], y in [0,9999999]; Constraints x < y; end\n";
-    let answer = call(rt.alloc(), "run s", square, NONE)?;
+    let answer = call(&rt, rt.alloc(), "run s", square, NONE)?;
     assert_eq!(rt; answer.status.code(), 1);
     assert!(rt; answer.out.bytes().starts_with(b"settled 20000 "));
     Ok(())
 }
 
 // The call with these failures has a status and a line, and prints nothing.
-fn faulty(
-    rt: &impl Abort,
+fn faulty<R: Abort + Threads + Wait + Sync>(
+    rt: &R,
     alloc: Global,
     system: &str,
     fails: Fails,
     status: u8,
     line: &str,
 ) -> Result<(), Fail> {
-    let answer = call(alloc, "run s", system, fails)?;
+    let answer = call(rt, alloc, "run s", system, fails)?;
     assert_eq!(rt; answer.status.code(), status);
     assert_eq!(rt; answer.out.bytes(), "".as_bytes());
     assert_eq!(rt; answer.err.bytes(), line.as_bytes());
@@ -127,25 +140,25 @@ fn a_text_that_is_too_long(rt: HostRuntime) -> Result<(), Fail> {
     for _ in 0..65537 {
         spaces.push(' ')?;
     }
-    let answer = call(rt.alloc(), "run s", &spaces, NONE)?;
+    let answer = call(&rt, rt.alloc(), "run s", &spaces, NONE)?;
     assert_eq!(rt; answer.status.code(), 3);
     let line = b"system: line 1 column 65537 byte 65536: TextTooLong\n";
     assert_eq!(rt; answer.err.bytes(), line.as_slice());
     Ok(())
 }
 
-const TWO_DISCS: &str =
+pub(crate) const TWO_DISCS: &str =
     "/* two discs and a line */\nConstants\n  r = 2.1;\nVariables\n  x in [-4, 4], y in [-4, 4];\nConstraints\n  sqr(x - 0.5) + y^2 <= r^2;  // first disc\n  sqr(x + 0.5) + y^2 <= 4;\n  y >= 0.1 * x;\nend\n";
 
 #[test]
 fn any_number_of_workers_prints_the_same(rt: HostRuntime) -> Result<(), Fail> {
-    let one = call(rt.alloc(), "run s --workers 1", TWO_DISCS, NONE)?;
+    let one = call(&rt, rt.alloc(), "run s --workers 1", TWO_DISCS, NONE)?;
     assert_eq!(rt; one.status.code(), 0);
     let summary = b"settled 323 cut 161 removed 0 inner 74 small 88 open 0\n";
     assert!(rt; one.out.bytes().starts_with(summary));
-    let two = call(rt.alloc(), "run s --workers 2", TWO_DISCS, NONE)?;
+    let two = call(&rt, rt.alloc(), "run s --workers 2", TWO_DISCS, NONE)?;
     assert_eq!(rt; two.out.bytes(), one.out.bytes());
-    let eight = call(rt.alloc(), "run s --workers 8", TWO_DISCS, NONE)?;
+    let eight = call(&rt, rt.alloc(), "run s --workers 8", TWO_DISCS, NONE)?;
     assert_eq!(rt; eight.out.bytes(), one.out.bytes());
     Ok(())
 }

@@ -4,3 +4,5 @@ pub mod Below
 pub mod Counts
 pub mod Laws
 pub mod Earlier
+pub mod GrownLeaves
+pub mod Leaves

@@ -1,3 +1,4 @@
 pub mod Pavings
 pub mod Accounts
 pub mod Boards
+pub mod Leaves

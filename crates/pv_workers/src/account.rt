@@ -3,21 +3,21 @@ ghost use Rattle.std.specs.Prelude.{◌≡◌, ◌+◌, ◌^◌, ◌<◌, ◌≤
 ghost use Rattle.pv_board.specs.Tallies.{tally_of};
 ghost use Rattle.pv_workers.specs.Accounts.{parts_in, AllBelow};
 
+use crate::kit::Kit;
 use pv_board::{Naming, Told};
-use pv_box::IBox;
-use pv_interval::Interval;
 use pv_num::Memory;
+use pv_tree::KnowingSettler;
 use std::alloc::Global;
 use std::marker::Model;
 
-/// What a worker keeps: its counts, and a box for the leaf that it settles.
+/// What a worker keeps: its counts, and what it settles with.
 #[derive(Drop)]
-pub(crate) struct Account<N: Naming> {
+pub(crate) struct Account<N: Naming, S: KnowingSettler> {
     pub(crate) told: Told<N>,
-    pub(crate) scratch: IBox,
+    pub(crate) kit: Kit<S>,
 }
 
-impl<N: Naming> Model for Account<N> {
+impl<N: Naming, S: KnowingSettler> Model for Account<N, S> {
     ghost use Rattle.std.specs.Prelude.{◌≡◌, length};
     ghost use Rattle.pv_board.specs.Tallies.{Tally, coded_tally};
 
@@ -27,47 +27,35 @@ impl<N: Naming> Model for Account<N> {
 
     ghost view = { λ a. a.told };
 
-    ghost invariant = { λ a. length a.scratch ≡ N.dims };
+    ghost invariant = { λ a. length a.kit.scratch ≡ N.dims };
 }
 
-impl<N: Naming> Account<N> {
+impl<N: Naming, S: KnowingSettler> Account<N, S> {
     // An account with these counts.
-    fn new(told: Told<N>, scratch: IBox) -> Account<N>
-        requires { length scratch ≡ N.dims }
+    fn new(told: Told<N>, kit: Kit<S>) -> Account<N, S>
+        requires { length kit.scratch ≡ N.dims }
         ensures { result ≡ told }
     {
-        Account { told, scratch }
+        Account { told, kit }
     }
 
     // Its counts.
     fn into_told(self) -> Told<N>
         ensures { result ≡ self }
     {
-        let Account { told, scratch: _ } = self;
+        let Account { told, kit: _ } = self;
         told
     }
 }
 
-/// A box of so many places.
-pub(crate) fn blank(alloc: Global, places: u8) -> Result<IBox, Memory>
-    requires some { 1 ≤ places }
-    requires few { places ≤ 12 }
-    ensures { IfOk result (λ b. length b ≡ places) }
-{
-    let mut parts = Vec::new(alloc);
-    for _ in 0..places {
-        parts.push(Interval::ALL)?;
-    }
-    Ok(IBox::new(parts))
-}
-
 /// An account for each worker. The first parts go to them, and the last one has the rest.
-pub(crate) fn split<N: Naming>(
+pub(crate) fn split<N: Naming, S: KnowingSettler>(
     alloc: Global,
+    settler: &S,
     told: Told<N>,
     workers: u32,
     places: u8,
-) -> Result<Vec<Account<N>>, Memory>
+) -> Result<Vec<Account<N, S>>, Memory>
     requires told { told ≡ tally_of 32 }
     requires one { 1 ≤ workers }
     requires sixteen { workers ≤ 16 }
@@ -81,16 +69,16 @@ pub(crate) fn split<N: Naming>(
     let mut told = told;
     let mut accounts = Vec::with_capacity(alloc, workers as usize)?;
     for _worker in 1..workers {
-        let scratch = blank(alloc, places)?;
-        accounts.push_reserved(Account::new(told.split(), scratch));
+        let kit = Kit::of(alloc, settler, places)?;
+        accounts.push_reserved(Account::new(told.split(), kit));
     }
-    let scratch = blank(alloc, places)?;
-    accounts.push_reserved(Account::new(told, scratch));
+    let kit = Kit::of(alloc, settler, places)?;
+    accounts.push_reserved(Account::new(told, kit));
     Ok(accounts)
 }
 
 /// The counts of all workers together.
-pub(crate) fn joined<N: Naming>(accounts: Vec<Account<N>>) -> Told<N>
+pub(crate) fn joined<N: Naming, S: KnowingSettler>(accounts: Vec<Account<N, S>>) -> Told<N>
     requires one { 1 ≤ vec_len accounts }
     requires sixteen { vec_len accounts ≤ 16 }
     requires below { AllBelow (2 ^ 71) accounts.items }

@@ -7,13 +7,14 @@ ghost use Rattle.pv_pool.specs.Counting.{after_work};
 ghost use Rattle.pv_workers.specs.Accounts.{numbers_of};
 
 use crate::account::Account;
+use crate::kit::Kit;
 use crate::ruled::Ruled;
 use crate::stage::stage_at;
 use pv_board::{Look, Naming, Settled, Shared, Ticket, Told};
 use pv_box::IBox;
 use pv_num::Memory;
 use pv_pool::{Gate, Idle, Work};
-use pv_tree::{Batch, Outcome, Settler};
+use pv_tree::{Batch, KnowingSettler, Outcome};
 use std::alloc::Global;
 use std::sync::Wait;
 
@@ -25,17 +26,21 @@ const MOST_GRANT: u64 = 15;
 
 /// What the workers share: the board, the settler and the gate.
 #[derive(Drop)]
-pub(crate) struct Crew<'a, N: Naming, S: Settler, G: Gate> {
+pub(crate) struct Crew<'a, N: Naming, S: KnowingSettler, G: Gate> {
     pub(crate) alloc: Global,
     pub(crate) shared: &'a Shared<N>,
     pub(crate) ruled: &'a Ruled<'a, N, S>,
     pub(crate) gate: &'a G,
 }
 
-impl<'a, N: Naming + Send, S: Settler, G: Gate> Work for Crew<'a, N, S, G> {
+impl<'a, N: Naming + Send, S: KnowingSettler, G: Gate> Work for Crew<'a, N, S, G>
+where
+    S::Room: Send,
+    S::Known: Send,
+{
     type Job = Ticket;
 
-    type Told = Account<N>;
+    type Told = Account<N, S>;
 
     ghost use Rattle.pv_workers.specs.Accounts.{numbers_of};
 
@@ -46,23 +51,23 @@ impl<'a, N: Naming + Send, S: Settler, G: Gate> Work for Crew<'a, N, S, G> {
         rt: &R,
         worker: u64,
         ticket: Ticket,
-        account: &mut Account<N>,
+        account: &mut Account<N, S>,
         children: &mut Batch<Ticket>,
     ) {
         let told = &mut account.told;
-        let leaf = &mut account.scratch;
-        if !self.shared.box_of(rt, &ticket, leaf) {
+        let kit = &mut account.kit;
+        if !self.shared.box_of(rt, &ticket, &mut kit.scratch) {
             self.shared.give_back(rt, ticket, told);
             return;
         }
         if ticket.path().len() < STAGED_FROM {
-            self.settle(rt, worker, ticket, leaf, told, children);
+            self.settle(rt, worker, ticket, &kit.scratch, told, children);
         } else {
-            self.settle_stage(rt, worker, ticket, leaf, told, children);
+            self.settle_stage(rt, worker, ticket, kit, told, children);
         }
     }
 
-    fn give_back<R: Wait>(&self, rt: &R, ticket: Ticket, account: &mut Account<N>) {
+    fn give_back<R: Wait>(&self, rt: &R, ticket: Ticket, account: &mut Account<N, S>) {
         self.shared.give_back(rt, ticket, &mut account.told);
     }
 
@@ -70,7 +75,7 @@ impl<'a, N: Naming + Send, S: Settler, G: Gate> Work for Crew<'a, N, S, G> {
         self.shared.announce(rt);
     }
 
-    fn idle<R: Wait>(&self, rt: &R, seen: u64, account: &mut Account<N>) -> Idle<Ticket> {
+    fn idle<R: Wait>(&self, rt: &R, seen: u64, account: &mut Account<N, S>) -> Idle<Ticket> {
         match self.shared.idle(rt, seen, &mut account.told) {
             Look::Work(ticket) => Idle::Job(ticket),
             Look::Done => Idle::Done,
@@ -80,7 +85,7 @@ impl<'a, N: Naming + Send, S: Settler, G: Gate> Work for Crew<'a, N, S, G> {
     }
 }
 
-impl<'a, N: Naming, S: Settler, G: Gate> Crew<'a, N, S, G> {
+impl<'a, N: Naming, S: KnowingSettler, G: Gate> Crew<'a, N, S, G> {
     // Settles the leaf of a ticket. The tickets of a cut's children become `children`.
     fn settle<R: Wait>(
         &self,
@@ -107,33 +112,33 @@ impl<'a, N: Naming, S: Settler, G: Gate> Crew<'a, N, S, G> {
         }
     }
 
-    // Settles some nodes from the leaf of a ticket on, with a grant for all but the first. `leaf` is the leaf's box, and takes
-    // other boxes then. The tickets of the stage's open leaves become `children`.
+    // Settles some nodes from the leaf of a ticket on, whose box is in the kit, with a grant for all but the first. The tickets of the
+    // stage's open leaves become `children`.
     fn settle_stage<R: Wait>(
         &self,
         rt: &R,
         worker: u64,
         ticket: Ticket,
-        leaf: &mut IBox,
+        kit: &mut Kit<S>,
         told: &mut Told<N>,
         children: &mut Batch<Ticket>,
     )
         requires low { IsLow told.old }
-        requires places { length leaf.old ≡ N.dims }
+        requires places { length kit.old.scratch ≡ N.dims }
         requires there { IsSome (subtree (full_of N.rule N.depth N.root N.opening 0) ticket.path) }
-        requires leaf { leaf.old ≡ box_of N.root
+        requires leaf { kit.old.scratch ≡ box_of N.root
             (full_of N.rule N.depth N.root N.opening 0) ticket.path }
         requires none { children.old ≡ [] }
         ensures told { numbers_of told.new ≡
             after_work (length children.new) (numbers_of told.old) }
-        ensures places { length leaf.new ≡ N.dims }
+        ensures places { length kit.new.scratch ≡ N.dims }
     {
         let mut ticket = ticket;
         let want = MOST_GRANT - ticket.grant();
         self.shared.extend(rt, &mut ticket, want);
         let path = ticket.path();
         let most = 1 + ticket.grant();
-        match stage_at(self.alloc, self.ruled, self.gate, worker, path, most, leaf) {
+        match stage_at(self.alloc, self.ruled, self.gate, worker, path, most, kit) {
             Ok(stage) => {
                 self.shared.settle_stage(rt, ticket, &stage, told, children);
             }

@@ -3,6 +3,9 @@
 
 mod account;
 mod crew;
+mod growing;
+mod kit;
+mod lent;
 mod paving;
 mod rest;
 mod ruled;
@@ -10,4 +13,4 @@ mod stage;
 #[cfg(test)]
 mod tests;
 
-pub use paving::{Paved, pave};
+pub use paving::{Paved, pave, pave_knowing};

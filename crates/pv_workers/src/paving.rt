@@ -1,19 +1,22 @@
 //! Paving on a budget by several workers.
-ghost use Rattle.std.specs.Prelude.{◌≡◌, ◌+◌, ◌*◌, ◌^◌, ◌<◌, ◌≤◌, ℕ, length, IfOk};
-ghost use Rattle.pv_tree.specs.Trees.{Tree, Paves};
+ghost use Rattle.std.specs.Prelude.{◌≡◌, ◌+◌, ◌*◌, ◌^◌, ◌<◌, ◌≤◌, ℕ, length, IfOk, IsTrue};
+ghost use Rattle.pv_tree.specs.Trees.{Tree, Paves, leaf};
 ghost use Rattle.pv_tree.specs.Stages.{IsStage};
 ghost use Rattle.pv_board.specs.Marks.{issued};
 ghost use Rattle.pv_board.specs.Rules.{IsFitting, settled_in};
 ghost use Rattle.pv_workers.specs.Pavings.{IsPaved, IsSpent};
 
-use crate::account::{blank, joined, split};
+use crate::account::{joined, split};
 use crate::crew::Crew;
+use crate::growing::grow;
+use crate::kit::blank;
+use crate::lent::Lent;
 use crate::rest::{close, settle_rest};
 use crate::ruled::Ruled;
 use pv_board::{Board, Naming, OpenRefused, Shared};
 use pv_num::Memory;
 use pv_pool::{Gate, run_workers};
-use pv_tree::{Paving, Settler};
+use pv_tree::{Forgetful, KnowingSettler, Path, Paving, Settler, Shape};
 use std::alloc::Global;
 use std::marker::Brand;
 use std::sync::Wait;
@@ -66,7 +69,118 @@ pub fn pave<S: Settler + Sync, G: Gate + Sync, R: Threads + Wait + Sync>(
         settled_in p.paving.tree ≤ settled_in opening.tree + 16 * p.spent) }
 {
     let _places = opening.dims();
-    let paved = pave_named::<Brand, S, G, R>(
+    let lent = Forgetful {
+        settler: Lent { settler },
+    };
+    let paved = by_crew(rt, alloc, &lent, opening, budget, workers, gate)?;
+    learn_paved(&paved.paving, settler);
+    Ok(paved)
+}
+
+/// As `pave`, by a settler that knows: within what a worker settles at once, what is known of a box is handed to its halves. One
+/// worker grows an opening that is one open leaf with no board, and then each settling counts as one ticket.
+///
+/// # Errors
+///
+/// Want of memory.
+pub fn pave_knowing<S: KnowingSettler + Sync, G: Gate + Sync, R: Threads + Wait + Sync>(
+    rt: &R,
+    alloc: Global,
+    settler: &S,
+    opening: Paving,
+    budget: u64,
+    workers: u32,
+    gate: &G,
+) -> Result<Paved, Memory>
+where
+    S::Room: Send,
+    S::Known: Send,
+    requires dims { length opening.root ≡ S.dims settler.now }
+    requires some { 1 ≤ budget }
+    requires few { budget ≤ 100000 }
+    requires limit { settled_in opening.tree + budget ≤ 100000 }
+    requires one { 1 ≤ workers }
+    requires sixteen { workers ≤ 16 }
+    ensures root { IfOk result (λ p. p.paving.root ≡ opening.root) }
+    ensures stages { IfOk result (λ p. (earlier : Tree) → Paves opening.root earlier →
+        IsStage (S.settle_of settler.now)
+        (S.depth_of settler.now) opening.root earlier opening.tree →
+        IsStage (S.settle_of settler.now)
+        (S.depth_of settler.now) opening.root earlier p.paving.tree) }
+    ensures paved { IfOk result (λ p.
+        IsPaved (S.settle_of settler.now)
+        (S.depth_of settler.now) opening.root opening.tree budget p.paving.tree) }
+    ensures spent { IfOk result (λ p.
+        settled_in p.paving.tree ≤ settled_in opening.tree + 16 * p.spent) }
+{
+    let _places = opening.dims();
+    let paved = settled_by(rt, alloc, settler, opening, budget, workers, gate)?;
+    learn_paved(&paved.paving, settler);
+    Ok(paved)
+}
+
+// Settles by one worker alone, or by a crew.
+fn settled_by<S: KnowingSettler + Sync, G: Gate + Sync, R: Threads + Wait + Sync>(
+    rt: &R,
+    alloc: Global,
+    settler: &S,
+    opening: Paving,
+    budget: u64,
+    workers: u32,
+    gate: &G,
+) -> Result<Paved, Memory>
+where
+    S::Room: Send,
+    S::Known: Send,
+    requires dims { length opening.root ≡ S.dims settler.now }
+    requires some { 1 ≤ budget }
+    requires few { budget ≤ 100000 }
+    requires limit { settled_in opening.tree + budget ≤ 100000 }
+    requires one { 1 ≤ workers }
+    requires sixteen { workers ≤ 16 }
+    ensures root { IfOk result (λ p. p.paving.root ≡ opening.root) }
+    ensures stage { IfOk result (λ p.
+        IsStage (S.settle_of settler.now)
+        (S.depth_of settler.now) opening.root opening.tree p.paving.tree) }
+    ensures paved { IfOk result (λ p. IsSpent budget opening.tree p.paving.tree) }
+    ensures spent { IfOk result (λ p.
+        settled_in p.paving.tree ≤ settled_in opening.tree + 16 * p.spent) }
+{
+    if workers == 1 && is_leaf(&opening) {
+        return grow(alloc, settler, &opening, budget, gate);
+    }
+    by_crew(rt, alloc, settler, opening, budget, workers, gate)
+}
+
+// Settles by a crew of workers on a board, under a new name.
+fn by_crew<S: KnowingSettler + Sync, G: Gate + Sync, R: Threads + Wait + Sync>(
+    rt: &R,
+    alloc: Global,
+    settler: &S,
+    opening: Paving,
+    budget: u64,
+    workers: u32,
+    gate: &G,
+) -> Result<Paved, Memory>
+where
+    S::Room: Send,
+    S::Known: Send,
+    requires dims { length opening.root ≡ S.dims settler.now }
+    requires some { 1 ≤ budget }
+    requires few { budget ≤ 100000 }
+    requires limit { settled_in opening.tree + budget ≤ 100000 }
+    requires one { 1 ≤ workers }
+    requires sixteen { workers ≤ 16 }
+    ensures root { IfOk result (λ p. p.paving.root ≡ opening.root) }
+    ensures stage { IfOk result (λ p.
+        IsStage (S.settle_of settler.now)
+        (S.depth_of settler.now) opening.root opening.tree p.paving.tree) }
+    ensures paved { IfOk result (λ p. IsSpent budget opening.tree p.paving.tree) }
+    ensures spent { IfOk result (λ p.
+        settled_in p.paving.tree ≤ settled_in opening.tree + 16 * p.spent) }
+{
+    let _places = opening.dims();
+    pave_named::<Brand, S, G, R>(
         rt,
         alloc,
         settler,
@@ -76,9 +190,14 @@ pub fn pave<S: Settler + Sync, G: Gate + Sync, R: Threads + Wait + Sync>(
         gate,
         Blank::new(32),
         Blank::new(32),
-    )?;
-    learn_paved(&paved.paving, settler);
-    Ok(paved)
+    )
+}
+
+// Whether a paving is one open leaf.
+fn is_leaf(paving: &Paving) -> bool
+    ensures { IsTrue result → paving.now.tree ≡ leaf }
+{
+    matches!(paving.shape_at(Path::root()), Shape::OpenLeaf)
 }
 
 // Does nothing. Its contract is what a stage is that spent a budget or has no open leaf, and that a stage of a stage is one.
@@ -103,7 +222,12 @@ fn learn_paved<S: Settler>(paving: &Paving, settler: &S)
 }
 
 // The same under a name for the board and its ledgers.
-fn pave_named<N: Naming + Send + Sync, S: Settler + Sync, G: Gate + Sync, R: Threads + Wait + Sync>(
+fn pave_named<
+    N: Naming + Send + Sync,
+    S: KnowingSettler + Sync,
+    G: Gate + Sync,
+    R: Threads + Wait + Sync,
+>(
     rt: &R,
     alloc: Global,
     settler: &S,
@@ -114,6 +238,9 @@ fn pave_named<N: Naming + Send + Sync, S: Settler + Sync, G: Gate + Sync, R: Thr
     settlings: Blank,
     endings: Blank,
 ) -> Result<Paved, Memory>
+where
+    S::Room: Send,
+    S::Known: Send,
     requires rule { N.rule ≡ S.settle_of settler.now }
     requires depth { N.depth ≡ S.depth_of settler.now }
     requires dims { N.dims ≡ S.dims settler.now }
@@ -172,7 +299,12 @@ fn opened<N: Naming>(alloc: Global, opening: Paving, budget: u64) -> Result<Boar
 }
 
 // Lets the workers settle, and answers how many tickets they handed in.
-fn worked<N: Naming + Send + Sync, S: Settler + Sync, G: Gate + Sync, R: Threads + Wait + Sync>(
+fn worked<
+    N: Naming + Send + Sync,
+    S: KnowingSettler + Sync,
+    G: Gate + Sync,
+    R: Threads + Wait + Sync,
+>(
     rt: &R,
     alloc: Global,
     ruled: &Ruled<N, S>,
@@ -183,6 +315,9 @@ fn worked<N: Naming + Send + Sync, S: Settler + Sync, G: Gate + Sync, R: Threads
     settlings: Blank,
     endings: Blank,
 ) -> Result<(Board<N>, u128), Memory>
+where
+    S::Room: Send,
+    S::Known: Send,
     requires issued { issued board.marks ≡ 0 }
     requires used { board.used ≡ 0 }
     requires tree { board.tree ≡ N.opening }
@@ -196,7 +331,7 @@ fn worked<N: Naming + Send + Sync, S: Settler + Sync, G: Gate + Sync, R: Threads
     ensures low { IfOk result (λ r. r.1 < 2 ^ 75) }
 {
     let (shared, told) = Shared::new(board, settlings, endings);
-    let accounts = split(alloc, told, workers, places)?;
+    let accounts = split(alloc, ruled.settler, told, workers, places)?;
     let crew = Crew {
         alloc,
         shared: &shared,

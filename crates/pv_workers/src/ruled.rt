@@ -1,17 +1,19 @@
 //! A settler whose rule is the one that a board is named for.
-ghost use Rattle.std.specs.Prelude.{◌≡◌, ◌-◌, length, IfOk};
+ghost use Rattle.std.specs.Prelude.{◌≡◌, ◌-◌, List, length, IfOk};
+ghost use Rattle.pv_interval.specs.Bounds.{Bounds};
+ghost use Rattle.pv_tree.specs.KnownHalves.{HoldsOfHalves};
 
 use pv_board::Naming;
 use pv_box::IBox;
 use pv_num::Memory;
-use pv_tree::{Outcome, Path, Settler};
+use pv_tree::{KnowingSettler, Outcome, Path, Settled, Settler};
 use std::alloc::Global;
 use std::marker::PhantomData;
 
 /// A settler that settles boxes by the rule that a board is named for.
 #[derive(Drop)]
 pub(crate) struct Ruled<'a, N: Naming, S: Settler> {
-    settler: &'a S,
+    pub(crate) settler: &'a S,
     of: PhantomData<N>,
     ghost rule: { N.rule ≡ S.settle_of settler.now },
     ghost depth: { N.depth ≡ S.depth_of settler.now },
@@ -39,5 +41,36 @@ impl<'a, N: Naming, S: Settler> Ruled<'a, N, S> {
         let steps = path.len();
         let cuts_left = self.settler.depth().saturating_sub(steps);
         self.settler.settle(alloc, bx, cuts_left, steps)
+    }
+}
+
+impl<'a, N: Naming, S: KnowingSettler> Ruled<'a, N, S> {
+    /// To know nothing, which is true of every box.
+    pub(crate) fn nothing(&self) -> S::Known
+        ensures { (b : List Bounds) → S.knows self.now.settler.now result b }
+    {
+        self.settler.nothing()
+    }
+
+    /// The outcome for the box of a path, where something is known of the box.
+    pub(crate) fn settle_knowing(
+        &self,
+        alloc: Global,
+        room: &mut S::Room,
+        bx: &IBox,
+        known: S::Known,
+        path: Path,
+    ) -> Result<Settled<S::Known>, Memory>
+        requires dims { length bx.now ≡ N.dims }
+        requires known { S.knows self.now.settler.now known bx.now }
+        ensures outcome { IfOk result (λ s. s.outcome ≡
+            N.rule bx.now (N.depth - length path) (length path)) }
+        ensures known { IfOk result (λ s.
+            HoldsOfHalves (S.knows self.now.settler.now s.known) s.outcome) }
+    {
+        let steps = path.len();
+        let cuts_left = self.settler.depth().saturating_sub(steps);
+        self.settler
+            .settle_knowing(alloc, room, bx, known, cuts_left, steps)
     }
 }

@@ -1,41 +1,46 @@
 //! Stages of a leaf's box, which a worker settles on its own.
-ghost use Rattle.std.specs.Prelude.{◌≡◌, ◌+◌, ◌<◌, ◌≤◌, Some, length, IfOk, OnOk};
-ghost use Rattle.pv_tree.specs.Trees.{leaf, subtree};
-ghost use Rattle.pv_tree.specs.Stages.{Grows, full_of};
+ghost use Rattle.std.specs.Prelude.{◌≡◌, ◌+◌, ◌≤◌, length, reverse, IfOk, OnOk};
+ghost use Rattle.pv_tree.specs.Holes.{IsNext};
+ghost use Rattle.pv_tree.specs.KnownLeaves.{AreKnown};
 ghost use Rattle.pv_board.specs.Rules.{IsStageBelow, settled_in};
+ghost use Rattle.pv_workers.specs.Leaves.{with_handed};
 
+use crate::kit::Kit;
 use crate::ruled::Ruled;
 use pv_board::Naming;
-use pv_box::IBox;
 use pv_num::Memory;
 use pv_pool::Gate;
-use pv_tree::{Path, Paving, Settler};
+use pv_tree::{Growth, KnowingSettler, Outcome, Path, Paving, Settled};
 use std::alloc::Global;
 
-/// Settles up to so many nodes of the box in `scratch`, which is that of a leaf at a path, each time the first open leaf.
+/// Settles up to so many nodes of the box in `kit.scratch`, which is that of a leaf at a path, each time the first open leaf.
+/// What is known of a box is handed to its halves.
 ///
 /// # Errors
 ///
 /// Want of memory.
-pub(crate) fn stage_at<N: Naming, S: Settler, G: Gate>(
+pub(crate) fn stage_at<N: Naming, S: KnowingSettler, G: Gate>(
     alloc: Global,
     ruled: &Ruled<N, S>,
     gate: &G,
     worker: u64,
     at: Path,
     most: u64,
-    scratch: &mut IBox,
+    kit: &mut Kit<S>,
 ) -> Result<Paving, Memory>
     requires some { 1 ≤ most }
-    requires places { length scratch.old ≡ N.dims }
-    ensures root { IfOk result (λ p. p.root ≡ scratch.old) }
-    ensures stage { IfOk result (λ p. IsStageBelow N.rule N.depth scratch.old (length at) p.tree) }
+    requires places { length kit.old.scratch ≡ N.dims }
+    ensures root { IfOk result (λ p. p.root ≡ kit.old.scratch) }
+    ensures stage { IfOk result (λ p.
+        IsStageBelow N.rule N.depth kit.old.scratch (length at) p.tree) }
     ensures some { IfOk result (λ p. 1 ≤ settled_in p.tree) }
     ensures few { IfOk result (λ p. settled_in p.tree ≤ most) }
-    ensures places { length scratch.new ≡ N.dims }
+    ensures places { length kit.new.scratch ≡ N.dims }
 {
-    let mut stage = Paving::open(alloc, scratch.clone_of(alloc)?)?;
-    stage.reserve(most)?;
+    let mut stage = Growth::open(alloc, kit.scratch.clone_of(alloc)?)?;
+    let _places = stage.dims();
+    kit.facts.clear();
+    kit.facts.push(ruled.nothing())?;
     settle_next(
         alloc,
         ruled,
@@ -44,47 +49,72 @@ pub(crate) fn stage_at<N: Naming, S: Settler, G: Gate>(
         at,
         Path::root(),
         &mut stage,
-        scratch,
+        kit,
     )?;
     for _settled in 1..most {
-        let Some(path) = stage.first_open() else {
-            return Ok(stage);
+        let Some(path) = stage.next_leaf() else {
+            return Ok(stage.finish());
         };
-        settle_next(alloc, ruled, gate, worker, at, path, &mut stage, scratch)?;
+        settle_next(alloc, ruled, gate, worker, at, path, &mut stage, kit)?;
     }
-    Ok(stage)
+    Ok(stage.finish())
 }
 
-// Settles an open leaf of a stage, with the cuts that its whole path leaves.
-fn settle_next<N: Naming, S: Settler, G: Gate>(
+// Settles the next leaf of a stage, with the cuts that its whole path leaves.
+fn settle_next<N: Naming, S: KnowingSettler, G: Gate>(
     alloc: Global,
     ruled: &Ruled<N, S>,
     gate: &G,
     worker: u64,
     at: Path,
     path: Path,
-    stage: &mut Paving,
-    scratch: &mut IBox,
+    stage: &mut Growth,
+    kit: &mut Kit<S>,
 ) -> Result<(), Memory>
-    requires open { subtree stage.old.tree path ≡ Some leaf }
+    requires next { IsNext stage.old path }
     requires dims { length stage.old.root ≡ N.dims }
     requires stage { IsStageBelow N.rule N.depth stage.old.root (length at) stage.old.tree }
-    requires room { 1 ≤ stage.old.spare }
-    requires places { length scratch.old ≡ N.dims }
+    requires facts { AreKnown (S.knows ruled.now.settler.now)
+        (reverse kit.old.facts.items) stage.old.holes }
+    requires places { length kit.old.scratch ≡ N.dims }
     ensures root { stage.new.root ≡ stage.old.root }
     ensures stage { OnOk result (IsStageBelow N.rule N.depth stage.new.root
         (length at) stage.new.tree) }
     ensures more { OnOk result (settled_in stage.new.tree ≡ settled_in stage.old.tree + 1) }
-    ensures room { OnOk result (stage.old.spare ≤ stage.new.spare + 1) }
-    ensures places { length scratch.new ≡ N.dims }
+    ensures facts { OnOk result (AreKnown (S.knows ruled.now.settler.now)
+        (reverse kit.new.facts.items) stage.new.holes) }
+    ensures places { length kit.new.scratch ≡ N.dims }
 {
     let _places = stage.dims();
     let _steps = at.len();
-    stage.box_at(path, scratch);
     let whole = at.then(path);
     gate.enter(worker, whole);
-    let _sides = scratch.dims();
-    let outcome = ruled.settle(alloc, scratch, whole)?;
-    stage.put_in_room(path, outcome);
+    stage.write_box(&mut kit.scratch);
+    let Some(known) = kit.facts.pop() else {
+        unreachable!()
+    };
+    let Settled {
+        outcome,
+        known: below,
+    } = ruled.settle_knowing(alloc, &mut kit.room, &kit.scratch, known, whole)?;
+    hand_on(&mut kit.facts, &outcome, below)?;
+    match stage.settle(outcome) {
+        Ok(()) => {}
+        Err(_) => return Err(Memory),
+    }
     Ok(())
+}
+
+// Hands what is known to the halves of a cut.
+fn hand_on<K: Copy + Drop>(facts: &mut Vec<K>, outcome: &Outcome, known: K) -> Result<(), Memory>
+    ensures { OnOk result (facts.new.items ≡ with_handed facts.old.items outcome.now known) }
+{
+    match outcome {
+        Outcome::Cut { .. } => {
+            facts.push(known)?;
+            facts.push(known)?;
+            Ok(())
+        }
+        Outcome::Removed | Outcome::Inner { .. } | Outcome::Small { .. } => Ok(()),
+    }
 }

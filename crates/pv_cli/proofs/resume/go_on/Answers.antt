@@ -11,10 +11,10 @@ pub returns-clause-resumed : goal.returns-clause-resumed
 returns-clause-resumed g c =
     let o = c.args.opening.tree in
     let rule = rule_of c.args.settler.now in
-    let t = c.in_ok-paving.paving.tree in
+    let t = c.in_ok-paved.paved.paving.tree in
     record {
-      run = subst (λ (b : List Bounds). IsPaved (settle_by rule) rule.depth b o c.args.budget t) c.requires.root c.in_ok-paving.ensures.paved;
+      run = subst (λ (b : List Bounds). IsPaved (settle_by rule) rule.depth b o c.args.effort.now.boxes t) c.requires.root c.in_ok-paved.ensures.paved;
       honest = λ system s is stage. c.learn_honest.ensures.honest system s is
           (subst (λ (b : List Bounds). IsStage (settle_by rule) rule.depth b leaf t) c.requires.root
-          (c.in_ok-paving.ensures.stages leaf tt (subst (λ (b : List Bounds). IsStage (settle_by rule) rule.depth b leaf o) (sym c.requires.root) stage)));
+          (c.in_ok-paved.ensures.stages leaf tt (subst (λ (b : List Bounds). IsStage (settle_by rule) rule.depth b leaf o) (sym c.requires.root) stage)));
     }

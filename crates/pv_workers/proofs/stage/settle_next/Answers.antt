@@ -1,8 +1,12 @@
-use Rattle.std.proofs.Common.{◌≡◌, ◌-◌, ◌++◌, length, sym, ◌∙◌, ap, subst}
-use Rattle.pv_tree.specs.Trees.{graft, settled, box_of, CutsAbove, leaf}
+use Rattle.std.proofs.Common.{◌≡◌, ◌-◌, ◌++◌, List, Bool, length, sym, ◌∙◌, ap, subst}
+use Rattle.pv_interval.specs.Bounds.{Bounds}
+use Rattle.pv_box.specs.Boxes.{IsBox}
+use Rattle.pv_tree.specs.Trees.{Tree, Fits, CutsAbove, box_of, graft, leaf, settled}
+use Rattle.pv_tree.specs.Holes.{Growing}
 use Rattle.pv_tree.specs.Stages.{Grows, full_of}
-use Rattle.pv_tree.proofs.TreeFacts.{settled_more}
+use Rattle.pv_tree.proofs.KnownLeaves.{next_box, next_box_of, next_is_leaf, next_takes, next_tree}
 use Rattle.pv_board.specs.Rules.{IsFitting, settled_in}
+use Rattle.pv_workers.proofs.GrownLeaves.{one_more}
 use Rattle.pv_workers.proofs.Laws.{fitting_of}
 use Rattle.pv_workers.proofs.Below.{path_fits, settled_below, depth_below}
 use Rattle.pv_workers.proofs.stage.settle_next.Goals as goal
@@ -12,30 +16,40 @@ then-whole-requires g c =
     let n = g.N.Naming in let own = g.S.Settler in let m = g.met.S.Settler in let r = c.args.ruled.now in let s = r.settler.now in
     let laws : IsFitting n.rule n.depth n.dims = fitting_of n.rule (own.settle_of s) n.depth (own.depth_of s) n.dims (own.dims s) r.rule r.depth r.dims
     (record { some = (m.depth_fits s).0; few = (m.depth_fits s).1; fits = m.fits s; keeps_box = m.keeps_box s; ends = m.ends s }) in
-    path_fits n.rule n.depth n.dims laws c.args.stage.now.root c.args.stage.now.tree c.args.path c.args.at c.dims-places.ensures.paving.box c.requires.dims c.len-steps.ensures.few c.requires.stage c.requires.open
+    let now = c.args.stage.now in
+    path_fits n.rule n.depth n.dims laws now.root now.tree c.args.path c.args.at c.dims-places.ensures.is_box c.requires.dims c.len-steps.ensures.few c.requires.stage (next_is_leaf now c.args.path c.requires.next)
 
-pub put_in_room-requires-clause-depth : goal.put_in_room-requires-clause-depth
-put_in_room-requires-clause-depth g c =
+pub settle-requires : goal.settle-requires
+settle-requires g c =
     let n = g.N.Naming in let own = g.S.Settler in let m = g.met.S.Settler in let r = c.args.ruled.now in let s = r.settler.now in
     let laws : IsFitting n.rule n.depth n.dims = fitting_of n.rule (own.settle_of s) n.depth (own.depth_of s) n.dims (own.dims s) r.rule r.depth r.dims
     (record { some = (m.depth_fits s).0; few = (m.depth_fits s).1; fits = m.fits s; keeps_box = m.keeps_box s; ends = m.ends s }) in
-    let bx = c.box_at.new.into in let w = c.then-whole.result in
-    let e = c.then-whole.ensures in
-    let sides = c.box_at.ensures.places ∙ c.requires.places in
-    let cuts : CutsAbove (n.depth - length w) c.in_ok-outcome.outcome = subst (CutsAbove (n.depth - length w)) (sym c.in_ok-outcome.ensures) (laws.ends bx (n.depth - length w) (length w) c.dims-sides.ensures.is_box sides) in
-    depth_below n.rule n.depth n.dims laws c.args.path c.args.at c.in_ok-outcome.outcome (subst (λ p. CutsAbove (n.depth - length p) c.in_ok-outcome.outcome) e cuts)
+    let now = c.args.stage.now in let p = c.args.path in let next = c.requires.next in let first = c.write_box.ensures.is in
+    let bx = c.write_box.new.into in let w = c.then-whole.result in let o = c.in_ok-outcome.field-0.outcome in
+    let is_box : IsBox bx = subst IsBox (sym (next_box now p bx next first)) next.is_box in
+    let sides : length bx ≡ n.dims = c.write_box.ensures.places ∙ c.requires.places in
+    let due = c.in_ok-outcome.ensures.outcome in
+    let fits : Fits bx o = subst (Fits bx) (sym due) (laws.fits bx (n.depth - length w) (length w) is_box sides) in
+    let cuts : CutsAbove (n.depth - length w) o = subst (CutsAbove (n.depth - length w)) (sym due) (laws.ends bx (n.depth - length w) (length w) is_box sides) in
+    next_takes now p bx o next first fits
+    (depth_below n.rule n.depth n.dims laws p c.args.at o (subst (λ (q : List Bool). CutsAbove (n.depth - length q) o) c.then-whole.ensures cuts))
 
 pub returns-clause-stage : goal.returns-clause-stage
 returns-clause-stage g c =
     let n = g.N.Naming in let own = g.S.Settler in let m = g.met.S.Settler in let r = c.args.ruled.now in let s = r.settler.now in
     let laws : IsFitting n.rule n.depth n.dims = fitting_of n.rule (own.settle_of s) n.depth (own.depth_of s) n.dims (own.dims s) r.rule r.depth r.dims
     (record { some = (m.depth_fits s).0; few = (m.depth_fits s).1; fits = m.fits s; keeps_box = m.keeps_box s; ends = m.ends s }) in
-    let b = c.args.stage.now.root in let t = c.args.stage.now.tree in let p = c.args.path in let at = c.args.at in let o = c.in_ok-outcome.outcome in
-    let e = c.then-whole.ensures in
-    let due : o ≡ n.rule (box_of b t p) (n.depth - length (at ++ p)) (length (at ++ p)) = c.in_ok-outcome.ensures ∙ (λ i. n.rule (c.box_at.ensures.is i) (n.depth - length (e i)) (length (e i))) in
-    let grown : Grows (graft t p (settled o)) (full_of n.rule n.depth b leaf (length at)) = settled_below n.rule n.depth n.dims laws b t p at o c.dims-places.ensures.paving.box c.requires.dims c.requires.stage c.requires.open due in
-    subst (λ x. Grows x (full_of n.rule n.depth c.put_in_room.new.self.root leaf (length at))) (sym c.put_in_room.ensures.tree)
-    (subst (λ x. Grows (graft t p (settled o)) (full_of n.rule n.depth x leaf (length at))) (sym c.put_in_room.ensures.root) grown)
+    let now = c.args.stage.now in let b = now.root in let t = now.tree in let p = c.args.path in let at = c.args.at in let o = c.in_ok-outcome.field-0.outcome in
+    let next = c.requires.next in let e = c.then-whole.ensures in
+    let same : c.write_box.new.into ≡ box_of b t p = sym (next_box_of now p c.write_box.new.into next c.write_box.ensures.is) in
+    let due : o ≡ n.rule (box_of b t p) (n.depth - length (at ++ p)) (length (at ++ p)) = c.in_ok-outcome.ensures.outcome ∙ (λ i. n.rule (same i) (n.depth - length (e i)) (length (e i))) in
+    let grown : Grows (graft t p (settled o)) (full_of n.rule n.depth b leaf (length at)) =
+    settled_below n.rule n.depth n.dims laws b t p at o c.dims-places.ensures.is_box c.requires.dims c.requires.stage (next_is_leaf now p next) due in
+    let tree : c.settle.new.self.tree ≡ graft t p (settled o) = ap (λ (x : Growing). x.tree) c.in-Ok.ensures.settled ∙ next_tree now p o next in
+    subst (λ (x : Tree). Grows x (full_of n.rule n.depth c.settle.new.self.root leaf (length at))) (sym tree)
+    (subst (λ (x : List Bounds). Grows (graft t p (settled o)) (full_of n.rule n.depth x leaf (length at))) (sym c.in-Ok.ensures.root) grown)
 
 pub returns-clause-more : goal.returns-clause-more
-returns-clause-more g c = ap settled_in c.put_in_room.ensures.tree ∙ settled_more c.args.stage.now.tree c.args.path c.in_ok-outcome.outcome c.requires.open
+returns-clause-more g c =
+    let now = c.args.stage.now in let o = c.in_ok-outcome.field-0.outcome in
+    ap (λ (x : Growing). settled_in x.tree) c.in-Ok.ensures.settled ∙ one_more now c.args.path o c.requires.next

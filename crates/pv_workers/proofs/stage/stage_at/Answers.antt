@@ -1,10 +1,29 @@
-use Rattle.std.proofs.Common.{length, sym, ◌∙◌, subst}
+use Rattle.std.proofs.Common.{length, sym, ◌∙◌, ap, subst, List, Bool}
+use Rattle.pv_interval.specs.Bounds.{Bounds}
 use Rattle.pv_tree.specs.Trees.{Tree, leaf}
+use Rattle.pv_tree.specs.Holes.{IsNext}
 use Rattle.pv_tree.specs.Stages.{Grows, full_of}
 use Rattle.pv_tree.proofs.StageLaws.{grows_leaf}
+use Rattle.pv_workers.proofs.Leaves.{next_at_root}
 use Rattle.pv_workers.proofs.stage.stage_at.Goals as goal
+
+pub settle_next-requires-clause-next : goal.settle_next-requires-clause-next
+settle_next-requires-clause-next g c =
+    subst (IsNext c.in_ok-stage.stage) (sym c.root.ensures) (next_at_root c.in_ok-clone_of.field-0 c.in_ok-stage.stage c.dims-places.ensures.is_box c.in_ok-stage.ensures)
 
 pub settle_next-requires-clause-stage : goal.settle_next-requires-clause-stage
 settle_next-requires-clause-stage g c =
-    let n = g.N.Naming in let full = full_of n.rule n.depth c.reserve.new.self.root leaf (length c.args.at) in
-    subst (λ (t : Tree). Grows t full) (sym (c.reserve.ensures.tree ∙ c.in_ok-stage.ensures.tree)) (grows_leaf full)
+    let n = g.N.Naming in let full = full_of n.rule n.depth c.in_ok-stage.stage.root leaf (length c.args.at) in
+    subst (λ (t : Tree). Grows t full) (sym (ap (λ x. x.tree) c.in_ok-stage.ensures)) (grows_leaf full)
+
+pub returns-in_default-clause-stage : goal.returns-in_default-clause-stage
+returns-in_default-clause-stage g c =
+    let n = g.N.Naming in let l = c.loop-settled in let t = l.stage.tree in
+    subst (λ (x : Tree). Grows x (full_of n.rule n.depth c.args.kit.now.scratch leaf (length c.args.at))) (sym c.finish.ensures.tree)
+    (subst (λ (b : List Bounds). Grows t (full_of n.rule n.depth b leaf (length c.args.at))) l.invariant.root l.invariant.stage)
+
+pub returns-clause-stage : goal.returns-clause-stage
+returns-clause-stage g c =
+    let n = g.N.Naming in let l = c.loop-settled in let t = l.stage.tree in
+    subst (λ (x : Tree). Grows x (full_of n.rule n.depth c.args.kit.now.scratch leaf (length c.args.at))) (sym c.finish-2.ensures.tree)
+    (subst (λ (b : List Bounds). Grows t (full_of n.rule n.depth b leaf (length c.args.at))) l.invariant.root l.invariant.stage)

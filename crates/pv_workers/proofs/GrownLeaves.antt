@@ -8,9 +8,13 @@ use Rattle.pv_tree.specs.Stages.{IsStage, Rule}
 use Rattle.pv_tree.specs.declared.outcome.Outcome.{Outcome}
 use Rattle.pv_tree.specs.declared.outcome.Outcome.TheVariants.{Removed, Inner, Small, Cut}
 use Rattle.pv_tree.proofs.TreeFacts.{settled_more}
-use Rattle.pv_cli.specs.Pavings.{settled_in}
-use Rattle.pv_cli.specs.Turns.{AreOpen, IsSpent, paths_of}
-use Rattle.pv_cli.proofs.Budgets.{opening_is_stage}
+use Rattle.pv_tree.specs.Trees.{shape_of}
+use Rattle.pv_tree.specs.declared.outcome.Shape.{Shape}
+use Rattle.pv_tree.specs.declared.outcome.Shape.TheVariants as shape
+use Rattle.pv_board.specs.Rules.{settled_in}
+use Rattle.pv_workers.specs.Leaves.{AreOpen, paths_of}
+use Rattle.pv_workers.specs.Pavings.{IsSpent}
+use Rattle.pv_workers.proofs.Budgets.{opening_is_stage}
 
 -- the open leaves that come of one
 abbrev below : List Bool → Outcome → List (List Bool)
@@ -127,3 +131,11 @@ grown rule depth b budget old new e = subst (λ g. new.root ≡ g.root → Goes 
       stage = subst (λ x. IsStage rule depth x leaf new.tree) root (goes leaf tt (opening_is_stage rule depth b leaf));
       spent = spent;
     })
+
+-- what looks like an open leaf is one
+pub looks_open : (t : Tree) → shape_of (Some t) ≡ shape.OpenLeaf → t ≡ leaf
+looks_open leaf e = refl
+looks_open removed e = cc
+looks_open (inner to) e = cc
+looks_open (small to) e = cc
+looks_open (cut to v a l r) e = cc

@@ -1,4 +1,4 @@
-use Rattle.pv_workers.proofs.paving.pave.Given as goal
+use Rattle.pv_workers.proofs.paving.by_crew.Given as goal
 
 abbrev pub ghosts-pave_named : goal.ghosts-pave_named
 ghosts-pave_named g a = record {

@@ -1,8 +1,8 @@
 use Rattle.std.proofs.Common.{◌≡◌, ◌∙◌, sym, ap, subst}
-use Rattle.pv_cli.specs.Pavings.{settled_in}
-use Rattle.pv_cli.specs.Turns.{AreOpen}
-use Rattle.pv_cli.proofs.GrownLeaves.{one_more, still_open}
-use Rattle.pv_cli.proofs.growing.grow_one.Goals as goal
+use Rattle.pv_board.specs.Rules.{settled_in}
+use Rattle.pv_workers.specs.Leaves.{AreOpen}
+use Rattle.pv_workers.proofs.GrownLeaves.{one_more, still_open}
+use Rattle.pv_workers.proofs.growing.grow_one.Goals as goal
 
 pub returns-in_ok-settle_knowing-in-Some-clause-open :
     goal.returns-in_ok-settle_knowing-in-Some-clause-open

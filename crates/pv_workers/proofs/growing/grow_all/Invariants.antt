@@ -3,17 +3,17 @@ use Rattle.std.specs.Prelude.{reverse}
 use Rattle.pv_tree.specs.KnownLeaves.{AreKnown}
 use Rattle.pv_tree.specs.Trees.{Tree, Paves}
 use Rattle.pv_tree.specs.Stages.{IsStage}
-use Rattle.pv_cli.specs.Pavings.{settled_in}
-use Rattle.pv_cli.specs.Turns.{AreOpen}
-use Rattle.pv_cli.proofs.growing.grow_all.Given as goal
+use Rattle.pv_board.specs.Rules.{settled_in}
+use Rattle.pv_workers.specs.Leaves.{AreOpen}
+use Rattle.pv_workers.proofs.growing.grow_all.Given as goal
 
-abbrev pub invariant-loop-step : goal.invariant-loop-step
-invariant-loop-step g l = record {
+abbrev pub invariant-loop-settled : goal.invariant-loop-settled
+invariant-loop-settled g l = record {
   root : l.growth.root ≡ l.fn.growth.root;
-  scratch : length l.scratch ≡ length l.fn.scratch;
-  facts : AreKnown (g.S.KnowingSettler.knows l.settler) (reverse l.facts.items) l.growth.holes;
+  scratch : length l.kit.scratch ≡ length l.fn.kit.scratch;
+  facts : AreKnown (g.S.KnowingSettler.knows l.settler) (reverse l.kit.facts.items) l.growth.holes;
   leaves : AreOpen l.growth;
   stage : (opening : Tree) → Paves l.fn.growth.root opening → IsStage (g.S.Settler.settle_of l.settler) (g.S.Settler.depth_of l.settler) l.fn.growth.root opening l.fn.growth.tree
       → IsStage (g.S.Settler.settle_of l.settler) (g.S.Settler.depth_of l.settler) l.growth.root opening l.growth.tree;
-  count : settled_in l.growth.tree ≡ settled_in l.fn.growth.tree + l._step;
+  count : settled_in l.growth.tree ≡ settled_in l.fn.growth.tree + l.settled;
 }

@@ -1,0 +1,208 @@
+//! Commands that several workers work on.
+use crate::calling::{paver, paver_at};
+use crate::files::{PART, SUMMARY, SYSTEM, WHOLE};
+use crate::tests::{TWO_DISCS, words_of};
+use pv_cli::{Gate, Status};
+use pv_io::{Folder, MemFolder, MemSink};
+use pv_tree::Path;
+use std::alloc::Global;
+use std::collections::BTreeMap;
+use std::process::Abort;
+use std::sync::Wait;
+use std::sync::atomic::{AtomicBool, Ordering};
+use std::test::Fail;
+use std::thread;
+use std::thread::Threads;
+use std::time::{Clock, Duration};
+
+// A folder with one file, the system.
+fn folder_of(alloc: Global, system: &str) -> Result<MemFolder, Fail> {
+    let mut files = BTreeMap::new(alloc);
+    files.insert(
+        String::from_str(alloc, "s")?,
+        system.as_bytes().to_vec(alloc)?,
+    )?;
+    Ok(MemFolder::new(alloc, files, Vec::new(alloc)))
+}
+
+// What a command printed, and its status.
+#[derive(Drop)]
+struct Answer {
+    status: Status,
+    out: MemSink,
+}
+
+// The command with so many workers. It tells nothing on the standard error.
+fn call<R: Abort + Threads + Wait + Sync>(
+    rt: &R,
+    alloc: Global,
+    folder: &mut MemFolder,
+    words: &str,
+    workers: u32,
+) -> Result<Answer, Fail> {
+    let list = words_of(alloc, &format!(in alloc; "{words} --workers {workers}")?)?;
+    let mut out = MemSink::new(alloc, Vec::new(alloc));
+    let mut err = MemSink::new(alloc, Vec::new(alloc));
+    let status = paver(rt, alloc, &list, folder, &mut out, &mut err);
+    assert_eq!(rt; err.bytes(), "".as_bytes(), "{words}");
+    Ok(Answer { status, out })
+}
+
+// The bytes of a file.
+fn held(alloc: Global, folder: &mut MemFolder, name: &str) -> Result<Vec<u8>, Fail> {
+    let mut bytes = Vec::new(alloc);
+    let _found = folder.fetch(name, 100_000, &mut bytes);
+    Ok(bytes)
+}
+
+// A budget of one and the whole, stored, and gone on with.
+fn paves_the_line<R: Abort + Threads + Wait + Sync>(
+    rt: &R,
+    alloc: Global,
+    workers: u32,
+) -> Result<(), Fail> {
+    let mut folder = folder_of(alloc, SYSTEM)?;
+    let whole = call(rt, alloc, &mut folder, "run s --eps 0.25", workers)?;
+    assert_eq!(rt; whole.status.code(), 0);
+    assert!(rt; whole.out.bytes().starts_with(SUMMARY.as_bytes()));
+    let first = call(
+        rt,
+        alloc,
+        &mut folder,
+        "run s --eps 0.25 --boxes 1 --out a",
+        workers,
+    )?;
+    assert_eq!(rt; first.status.code(), 1);
+    assert_eq!(rt; held(alloc, &mut folder, "a")?.as_slice(), PART.as_bytes());
+    let five = call(
+        rt,
+        alloc,
+        &mut folder,
+        "run s --eps 0.25 --boxes 5 --out b",
+        workers,
+    )?;
+    assert_eq!(rt; five.status.code(), 0);
+    assert_eq!(rt; held(alloc, &mut folder, "b")?.as_slice(), WHOLE.as_bytes());
+    let four = call(
+        rt,
+        alloc,
+        &mut folder,
+        "run s --eps 0.25 --boxes 4",
+        workers,
+    )?;
+    assert_eq!(rt; four.status.code(), 1);
+    assert!(rt; four.out.bytes().starts_with(b"settled 4 "));
+    let on = call(
+        rt,
+        alloc,
+        &mut folder,
+        "resume s a --eps 0.25 --boxes 4 --out c",
+        workers,
+    )?;
+    assert_eq!(rt; on.status.code(), 0);
+    assert_eq!(rt; held(alloc, &mut folder, "c")?.as_slice(), WHOLE.as_bytes());
+    let short = call(
+        rt,
+        alloc,
+        &mut folder,
+        "resume s a --eps 0.25 --boxes 3",
+        workers,
+    )?;
+    assert_eq!(rt; short.status.code(), 1);
+    assert!(rt; short.out.bytes().starts_with(b"settled 4 "));
+    Ok(())
+}
+
+#[test]
+fn the_line_by_one_two_and_eight(rt: HostRuntime) -> Result<(), Fail> {
+    let alloc = rt.alloc();
+    for workers in [1u32, 2, 8] {
+        paves_the_line(&rt, alloc, workers)?;
+    }
+    Ok(())
+}
+
+#[test]
+fn two_discs_by_one_two_and_eight(rt: HostRuntime) -> Result<(), Fail> {
+    let alloc = rt.alloc();
+    let mut folder = folder_of(alloc, TWO_DISCS)?;
+    let one = call(&rt, alloc, &mut folder, "run s --out p", 1)?;
+    assert_eq!(rt; one.status.code(), 0);
+    for workers in [2u32, 8] {
+        let more = call(&rt, alloc, &mut folder, "run s --out q", workers)?;
+        assert_eq!(rt; more.status.code(), 0);
+        let same = held(alloc, &mut folder, "q")? == held(alloc, &mut folder, "p")?;
+        assert!(rt; same);
+    }
+    let list = words_of(alloc, "audit s q")?;
+    let mut out = MemSink::new(alloc, Vec::new(alloc));
+    let mut err = MemSink::new(alloc, Vec::new(alloc));
+    let status = paver(&rt, alloc, &list, &mut folder, &mut out, &mut err);
+    assert_eq!(rt; status.code(), 0);
+    Ok(())
+}
+
+#[test]
+fn a_budget_ends_eight_workers(rt: HostRuntime) -> Result<(), Fail> {
+    let alloc = rt.alloc();
+    let mut folder = folder_of(alloc, TWO_DISCS)?;
+    let answer = call(&rt, alloc, &mut folder, "run s --boxes 100", 8)?;
+    assert_eq!(rt; answer.status.code(), 1);
+    assert!(rt; answer.out.bytes().starts_with(b"settled 100 "));
+    Ok(())
+}
+
+// A gate at which a path that begins low waits for one that begins high, and the other way round, for a bounded time.
+#[derive(Drop)]
+struct Meeting<'a, C> {
+    clock: &'a C,
+    low: AtomicBool,
+    high: AtomicBool,
+    missed: AtomicBool,
+}
+
+impl<'a, C: Clock> Meeting<'a, C> {
+    fn meet(&self, mine: &AtomicBool, other: &AtomicBool) {
+        mine.store(true, Ordering::SeqCst);
+        for _ in 0..100_000u32 {
+            if other.load(Ordering::SeqCst) {
+                return;
+            }
+            thread::sleep(self.clock, Duration::from_micros(100));
+        }
+        self.missed.store(true, Ordering::SeqCst);
+    }
+}
+
+impl<'a, C: Clock> Gate for Meeting<'a, C> {
+    fn enter(&self, _worker: u64, path: Path) {
+        if path.len() == 0 {
+            return;
+        }
+        if path.step(0) {
+            self.meet(&self.high, &self.low);
+        } else {
+            self.meet(&self.low, &self.high);
+        }
+    }
+}
+
+#[test]
+fn two_workers_meet_at_a_gate(rt: HostRuntime) -> Result<(), Fail> {
+    let alloc = rt.alloc();
+    let mut folder = folder_of(alloc, SYSTEM)?;
+    let list = words_of(alloc, "run s --eps 0.25 --workers 2 --out b")?;
+    let mut out = MemSink::new(alloc, Vec::new(alloc));
+    let mut err = MemSink::new(alloc, Vec::new(alloc));
+    let gate = Meeting {
+        clock: &rt,
+        low: AtomicBool::new(false),
+        high: AtomicBool::new(false),
+        missed: AtomicBool::new(false),
+    };
+    let status = paver_at(&rt, alloc, &list, &mut folder, &mut out, &mut err, &gate);
+    assert_eq!(rt; status.code(), 0);
+    assert!(rt; !gate.missed.load(Ordering::SeqCst));
+    assert_eq!(rt; held(alloc, &mut folder, "b")?.as_slice(), WHOLE.as_bytes());
+    Ok(())
+}

@@ -1,0 +1,86 @@
+#!/usr/bin/env python3
+"""Runs each example by one worker and by several, stored, and compares the files byte for byte.
+
+    python3 tests/runners/workers.py ./paver [TIMES] [WORD]
+
+runs the examples whose names contain WORD, each TIMES times (1 where it isn't given; `50` is for a long look) by 2, 4
+and 16 workers. A run that its budget ends settles exactly the budget, and its file is a paving that `audit` calls
+honest; a done run has one worker's bytes. The last line is 'N passed, M failed'.
+"""
+import subprocess
+import sys
+import tempfile
+from pathlib import Path
+
+sys.path.insert(0, str(Path(__file__).resolve().parents[1]))
+from data.examples import EXAMPLES  # noqa: E402
+
+TOP = Path(__file__).resolve().parents[2]
+SECONDS = 120
+BUDGET = "150"
+
+
+def run(paver, folder, *words):
+    return subprocess.run([paver, *map(str, words)], cwd=folder, stdin=subprocess.DEVNULL, capture_output=True,
+                          timeout=SECONDS, check=False)
+
+
+def settings(words):
+    """The words of a run that are settings of its file."""
+    return [word for k in range(0, len(words), 2) if words[k] not in ("--boxes", "--workers", "--out")
+            for word in words[k:k + 2]]
+
+
+def faults_of(paver, name, words, times):
+    system = TOP / "examples" / f"{name}.mbx"
+    with tempfile.TemporaryDirectory() as folder:
+        alone = run(paver, folder, "run", system, *words, "--workers", "1", "--out", "one")
+        one = (Path(folder) / "one").read_bytes()
+        for workers in (2, 4, 16):
+            for _ in range(times):
+                more = run(paver, folder, "run", system, *words, "--workers", workers, "--out", "more")
+                if more.returncode != alone.returncode or more.stderr:
+                    return f"{workers} workers: status {more.returncode} in place of {alone.returncode}, {more.stderr!r}"
+                if alone.returncode == 0 and (Path(folder) / "more").read_bytes() != one:
+                    return f"{workers} workers: another file"
+                if more.stdout.split()[:2] != alone.stdout.split()[:2]:
+                    return f"{workers} workers: {more.stdout!r} in place of {alone.stdout!r}"
+        return cut_short(paver, folder, system, words)
+
+
+def cut_short(paver, folder, system, words):
+    """A run that its budget ends, by four workers, and one that goes on from there to the end."""
+    kept = settings(words)
+    part = run(paver, folder, "run", system, *kept, "--boxes", BUDGET, "--workers", "4", "--out", "part")
+    if part.returncode == 1 and not part.stdout.startswith(b"settled " + BUDGET.encode() + b" "):
+        return f"a budget of {BUDGET}: {part.stdout!r}"
+    if run(paver, folder, "audit", system, "part", *kept).stdout != b"honest\n":
+        return "a paving that is not honest"
+    whole = [run(paver, folder, *command, *kept, "--boxes", "99000", "--workers", "4", "--out", out)
+             for command, out in ((("run", system), "whole"), (("resume", system, "part"), "resumed"))]
+    if whole[0].returncode == 0:
+        files = [(Path(folder) / out).read_bytes() for out in ("whole", "resumed")]
+        if whole[1].returncode != 0 or files[0] != files[1]:
+            return "what was resumed is another file"
+    return None
+
+
+def main():
+    paver = str(Path(sys.argv[1]).resolve())
+    times = int(sys.argv[2]) if len(sys.argv) > 2 else 1
+    word = sys.argv[3] if len(sys.argv) > 3 else ""
+    passed = failed = 0
+    for name, words in EXAMPLES:
+        if word in name:
+            fault = faults_of(paver, name, words, times)
+            if fault:
+                print(f"{name}: {fault}")
+                failed += 1
+            else:
+                passed += 1
+    print(f"{passed} passed, {failed} failed")
+    return 1 if failed else 0
+
+
+if __name__ == "__main__":
+    sys.exit(main())
