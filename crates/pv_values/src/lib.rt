@@ -2,4 +2,10 @@
 #![tactic(auto)]
 
 #[cfg(test)]
+mod members;
+#[cfg(test)]
+mod table;
+#[cfg(test)]
 mod values;
+#[cfg(test)]
+mod worked;
