@@ -77,6 +77,7 @@ fn try_point(
     ensures leaf { room.new.leaf ≡ room.old.leaf }
     ensures probe { length room.new.probe ≡ length room.old.probe }
 {
+    let _places = to.dims();
     which.write(to, &mut room.probe);
     let Some(upper) = objective.bound(&mut room.scratch, &room.probe)? else {
         return Ok(());
