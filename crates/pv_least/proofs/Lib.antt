@@ -5,3 +5,4 @@ pub mod Numbers
 pub mod Trying
 pub mod Members
 pub mod Searching
+pub mod Steps

@@ -1,6 +1,6 @@
 //! What is known of the least value: a bound below it, and the best point so far.
 ghost use Rattle.std.specs.Prelude.{◌≡◌, ◌+◌, ◌^◌, ◌<◌, length, OnOk};
-ghost use Rattle.pv_least.specs.Objectives.{aim_of};
+ghost use Rattle.pv_least.specs.Objectives.{aim_of, low_of};
 ghost use Rattle.pv_least.specs.Running.{lowered, beats, tried_at, tried, passed_by, settled_by, nothing_found, HasDims};
 ghost use Rattle.pv_least.specs.Searches.{upper_of};
 
@@ -157,17 +157,29 @@ impl Least {
     {
         match outcome {
             Outcome::Inner { to } => {
-                let low = objective.low(&mut room.scratch, to)?;
-                self.lower = lower_by(self.lower, low);
+                self.take_low(objective, to, room)?;
                 try_points(alloc, objective, to, room, &mut self.best)?;
             }
-            Outcome::Small { to } => {
-                let low = objective.low(&mut room.scratch, to)?;
-                self.lower = lower_by(self.lower, low);
-            }
+            Outcome::Small { to } => self.take_low(objective, to, room)?,
             Outcome::Removed | Outcome::Cut { .. } => {}
         }
         self.settled += 1;
+        Ok(())
+    }
+
+    // Takes in the low end of the objective on what a leaf kept.
+    fn take_low(&mut self, objective: &Objective, to: &IBox, room: &mut Room) -> Result<(), Memory>
+        requires dims { length to.now ≡ objective.now.dims }
+        ensures lower { OnOk result (self.new.lower ≡
+            lowered self.old.lower (low_of (aim_of objective.now) to.now)) }
+        ensures best { self.new.best ≡ self.old.best }
+        ensures settled { self.new.settled ≡ self.old.settled }
+        ensures done { self.new.done ≡ self.old.done }
+        ensures leaf { room.new.leaf ≡ room.old.leaf }
+        ensures probe { room.new.probe ≡ room.old.probe }
+    {
+        let low = objective.low(&mut room.scratch, to)?;
+        self.lower = lower_by(self.lower, low);
         Ok(())
     }
 }

@@ -1,5 +1,5 @@
 //! The search for the least value.
-ghost use Rattle.std.specs.Prelude.{◌≡◌, ◌↔◌, ◌-◌, ◌<◌, ◌≤◌, IsTrue, length, IfOk, IfErr, IfSome, OnOk, None, if◌then◌else◌, is_ok};
+ghost use Rattle.std.specs.Prelude.{◌≡◌, ◌↔◌, ◌-◌, ◌<◌, ◌≤◌, IsTrue, length, IfOk, IfErr, IfSome, OnOk, None};
 ghost use Rattle.pv_tree.specs.Trees.{counts_of, settled_of};
 ghost use Rattle.pv_tree.specs.Holes.{Takes, IsNext, settle_next};
 ghost use Rattle.pv_least.specs.Objectives.{aim_of, admits};
@@ -102,7 +102,8 @@ impl Search {
             let outcome = settle_leaf(alloc, settler, &self.room.leaf, path)?;
             self.found
                 .settle(alloc, objective, &outcome, &mut self.room)?;
-            return put(&mut self.growth, outcome);
+            put(&mut self.growth, outcome)?;
+            return Ok(());
         }
         self.found.pass(low, is_next);
         self.growth.pass();
@@ -139,7 +140,7 @@ fn settle_leaf<S: Settler>(
 // Settles the leaf that comes next so.
 fn put(growth: &mut Growth, outcome: Outcome) -> Result<(), Memory>
     requires { Takes growth.old.holes outcome }
-    ensures { growth.new ≡ (if is_ok result then settle_next growth.old outcome else growth.old) }
+    ensures { OnOk result (growth.new ≡ settle_next growth.old outcome) }
 {
     match growth.settle(outcome) {
         Ok(()) => Ok(()),

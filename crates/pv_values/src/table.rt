@@ -2,7 +2,14 @@
 use crate::values::Case;
 use crate::values::Known::{At, Huge, Nowhere, Unbounded};
 
-pub(crate) static QUADRATICS: [Case; 10] = [
+pub(crate) static QUADRATICS: [Case; 11] = [
+    (
+        "Variables x in [0,4]; Constraints x <= 1; end",
+        "2*x+1",
+        40,
+        At(1, 1),
+        "lower 1:0 upper 1:0 point 0:0 settled 1 done",
+    ),
     (
         "Variables x in [-4,4]; Constraints x >= -3; end",
         "x^2",
