@@ -6,3 +6,4 @@ pub mod Trying
 pub mod Members
 pub mod Searching
 pub mod Steps
+pub mod Ending

@@ -1,27 +1,21 @@
 -- What the leaves of a sound paving tell of the members.
-use Rattle.std.proofs.Common.{◌≡◌, ◌⊎◌, inl, inr, ℕ, zero, suc, ◌<◌, Bool, true, false, IsTrue, cond, List, [], ◌∷◌, ◌++◌, length, refl, sym, ◌∙◌, ap, subst, arith}
-use Rattle.std.specs.Prelude.{Option, Some, None, IfSome, All, map, ℤ, pos, ◌*ℤ◌, ◌≤ℤ◌}
-use Rattle.std.specs.Int.Signed.{≤ℤ_refl}
-use Rattle.std.proofs.lemmas.Bool.{true≢false}
+use Rattle.std.proofs.Common.{◌≡◌, inl, inr, ℕ, zero, suc, Bool, true, false, cond, List, [], ◌∷◌, ◌++◌, length, refl, sym, ◌∙◌, subst, arith}
+use Rattle.std.specs.Prelude.{Option, Some, None, IfSome, map, ℤ}
 use Rattle.pv_num.specs.Extended.{Extended, NegInf, Fin, PosInf}
-use Rattle.pv_num.specs.Order.{le, lt, lesser}
+use Rattle.pv_num.specs.Order.{lesser}
 use Rattle.pv_num.specs.Grid.{unit}
-use Rattle.pv_num.specs.Arithmetic.{middle_of}
-use Rattle.pv_num.proofs.Orders.{le-refl, le-Fin, NegInf-le, le-PosInf}
-use Rattle.pv_num.proofs.Scales.{unit_pos}
-use Rattle.pv_interval.specs.Bounds.{Bounds, IsInterval, between}
+use Rattle.pv_interval.specs.Bounds.{Bounds, between}
 use Rattle.pv_interval.specs.Fractions.{Fraction}
 use Rattle.pv_interval.specs.Points.{Point, Lies, IsBelow, IsAbove}
 use Rattle.pv_interval.proofs.Values.{below_le, above_le}
 use Rattle.pv_interval.proofs.Choices.{lesser_left}
-use Rattle.pv_box.specs.Boxes.{IsBox, IsInside, IsWithin, LieIn, PointIn, lower_half, upper_half}
-use Rattle.pv_box.proofs.Inside.{middle_inside}
+use Rattle.pv_box.specs.Boxes.{IsBox, IsWithin, LieIn, PointIn, lower_half, upper_half}
 use Rattle.pv_expr.specs.Terms.{Term, value_at}
 use Rattle.pv_expr.specs.Systems.{IsOver}
 use Rattle.pv_hc4.specs.Forward.{forward_of}
 use Rattle.pv_hc4.specs.Totality.{total_of}
 use Rattle.pv_hc4.proofs.Lying.{InSome, forward_lies}
-use Rattle.pv_hc4.proofs.Sureness.{IsDefined, value_defined}
+use Rattle.pv_hc4.proofs.Sureness.{value_defined}
 use Rattle.pv_tree.specs.Trees.{Tree, leaf, removed, inner, small, cut, Paves, IsStrictlyInside, IsBetween}
 use Rattle.pv_tree.specs.Sets.{IsSound, IsCovered}
 use Rattle.pv_tree.proofs.Wholes.{within_length, half_length}
@@ -29,10 +23,10 @@ use Rattle.pv_tree.proofs.Covered.{covers}
 use Rattle.pv_least.specs.declared.candidate.Candidate.{Candidate}
 use Rattle.pv_least.specs.declared.candidate.Candidate.TheVariants.{Low, Centre, High}
 use Rattle.pv_least.specs.declared.found.BestPoint.{BestPoint}
-use Rattle.pv_least.specs.Points.{IsFinite, AreFinite, exact_box, units_of, rational}
+use Rattle.pv_least.specs.Points.{exact_box, units_of, rational}
 use Rattle.pv_least.specs.Objectives.{lower_end, upper_end, low_of, value_bound}
-use Rattle.pv_least.specs.Candidates.{finite_or, some_or, centre_of, number_of, point_in, exactly_at}
-use Rattle.pv_least.specs.Searches.{Leaf, leaves_below, leaves_of, lows, points, points_in, counting, candidate, with_bound, as_list, least_of, first_least, lower_of, best_of}
+use Rattle.pv_least.specs.Candidates.{point_in, exactly_at}
+use Rattle.pv_least.specs.Searches.{leaves_below, leaves_of, lows, points, counting, candidate, with_bound, as_list, least_of, lower_of, best_of}
 use Rattle.pv_least.specs.Promises.{NoneIsBelow, IsWitness}
 use Rattle.pv_least.proofs.Choosing.{least_of-left, least_of-right, AllPoints, best_of_all, all_more}
 use Rattle.pv_least.proofs.Leaves.{lows-append, points-append}

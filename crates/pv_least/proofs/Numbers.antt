@@ -1,8 +1,7 @@
 -- The numbers of the three points of a box.
-use Rattle.std.proofs.Common.{◌≡◌, ℕ, zero, suc, ◌<◌, Bool, true, false, IsTrue, List, [], ◌∷◌, length, refl, sym, ◌∙◌, ap, subst, arith}
-use Rattle.std.specs.Prelude.{Option, Some, None, IfSome, All, map, slice_index_or, ℤ, pos, ◌*ℤ◌, ◌≤ℤ◌}
+use Rattle.std.proofs.Common.{◌≡◌, suc, true, IsTrue, List, [], ◌∷◌, refl, sym, ◌∙◌, ap, arith}
+use Rattle.std.specs.Prelude.{Option, Some, None, IfSome, All, pos, ◌*ℤ◌}
 use Rattle.std.specs.Int.Signed.{≤ℤ_refl}
-use Rattle.std.proofs.lemmas.Int.{ints}
 use Rattle.std.proofs.lemmas.Bool.{true≢false}
 use Rattle.std.specs.Ordering.{is_lt, is_le}
 use Rattle.std.specs.declared.cmp.Ordering.{Ordering}
@@ -11,12 +10,12 @@ use Rattle.pv_num.specs.Extended.{Extended, NegInf, Fin, PosInf}
 use Rattle.pv_num.specs.Order.{le, lt, order_of}
 use Rattle.pv_num.specs.Grid.{unit}
 use Rattle.pv_num.specs.Arithmetic.{middle_of}
-use Rattle.pv_num.proofs.Orders.{le-refl, NegInf-le, le-PosInf}
+use Rattle.pv_num.proofs.Orders.{le-refl}
 use Rattle.pv_num.proofs.Scales.{unit_pos}
 use Rattle.pv_interval.specs.Bounds.{Bounds, IsInterval, between}
 use Rattle.pv_interval.specs.Points.{Lies, IsBelow, IsAbove}
 use Rattle.pv_interval.proofs.Values.{below_le, above_le}
-use Rattle.pv_box.specs.Boxes.{IsInside, LieIn, PointIn}
+use Rattle.pv_box.specs.Boxes.{IsInside, PointIn}
 use Rattle.pv_box.proofs.Inside.{middle_inside}
 use Rattle.pv_least.specs.declared.candidate.Candidate.{Candidate}
 use Rattle.pv_least.specs.declared.candidate.Candidate.TheVariants.{Low, Centre, High}

@@ -2,14 +2,14 @@
 use Rattle.std.proofs.Common.{◌≡◌, ℕ, zero, suc, ◌+◌, ◌-◌, ◌<◌, ◌≤◌, Bool, true, false, IsTrue, cond, List, [], ◌∷◌, ◌++◌, length, refl, sym, ◌∙◌, ap, subst, append_assoc, append-nil, arith}
 use Rattle.std.specs.Prelude.{not, ◌&&◌, Option, Some, None}
 use Rattle.std.proofs.lemmas.Bool.{true≢false}
-use Rattle.pv_num.specs.Extended.{Extended, PosInf}
-use Rattle.pv_num.specs.Order.{le, lesser}
+use Rattle.pv_num.specs.Extended.{Extended}
+use Rattle.pv_num.specs.Order.{le}
 use Rattle.pv_num.proofs.Orders.{le-refl, le-trans}
 use Rattle.pv_interval.specs.Bounds.{Bounds}
 use Rattle.pv_expr.specs.Terms.{Term}
-use Rattle.pv_tree.specs.Trees.{Tree, leaf, subtree, graft, box_of, settled, settled_of, counts_of}
+use Rattle.pv_tree.specs.Trees.{leaf, subtree, graft, box_of, settled, settled_of, counts_of}
 use Rattle.pv_tree.specs.Stages.{Rule, IsStage}
-use Rattle.pv_tree.specs.Holes.{Hole, Growing, growth_over, holes_below, rest_of, settle_next, pass_next, IsNext}
+use Rattle.pv_tree.specs.Holes.{Growing, growth_over, rest_of, settle_next, pass_next, IsNext}
 use Rattle.pv_tree.specs.declared.outcome.Outcome.{Outcome}
 use Rattle.pv_tree.specs.declared.outcome.Outcome.TheVariants.{Removed, Inner, Small, Cut}
 use Rattle.pv_tree.proofs.KnownLeaves.{next_tree, next_holes, next_root}
@@ -19,7 +19,7 @@ use Rattle.pv_least.specs.declared.found.BestPoint.{BestPoint}
 use Rattle.pv_least.specs.declared.found.Least.{Least}
 use Rattle.pv_least.specs.Objectives.{low_of, admits}
 use Rattle.pv_least.specs.Searches.{Leaf, open_leaf, inner_leaf, small_leaf, leaves_of, lows, points, as_list, least_of, candidate, counting, better, first_least, upper_of, first_admitted, lower_of, best_of, next_of, settled_where, searched}
-use Rattle.pv_least.specs.Running.{nothing_found, lowered, tried_at, tried, passed_by, settled_by, open_leaves, IsKnown, IsDone, IsSearch, steps_left}
+use Rattle.pv_least.specs.Running.{nothing_found, lowered, tried_at, tried, passed_by, settled_by, open_leaves, IsKnown, IsDone, IsSearch}
 use Rattle.pv_least.proofs.Choosing.{least_of-more, first_least-more, better_falls}
 use Rattle.pv_least.proofs.Leaves.{kept_by, leaves_after, lows-append, points-append, points-open}
 
@@ -136,7 +136,7 @@ search_begins rule depth t root budget stage = record {
 
 module _ (rule : Rule) (depth : ℕ) (t : Term) (root : List Bounds) (budget : ℕ) (g : Growing) (l : Least) (h : IsSearch rule depth t root budget g l) where
   -- the best point of the paving so far is the running one
-  best_now : best_of t root g.tree ≡ l.best
+  pub best_now : best_of t root g.tree ≡ l.best
   best_now =
       ap (λ ls. first_least (points t ls)) h.leaves
       ∙ ap first_least (points-append t h.passed (open_leaves g.holes) ∙ ap (λ ps. points t h.passed ++ ps) (points-open t g.holes) ∙ append-nil (points t h.passed))

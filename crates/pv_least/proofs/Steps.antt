@@ -1,5 +1,5 @@
 -- One step of a search: what it asks of the leaf that comes next, and that it brings the end nearer.
-use Rattle.std.proofs.Common.{◌≡◌, ℕ, suc, ◌+◌, ◌-◌, ◌*◌, ◌<◌, ◌≤◌, Bool, IsTrue, List, [], ◌∷◌, ◌++◌, length, refl, sym, ◌∙◌, ap, subst, arith, length-append}
+use Rattle.std.proofs.Common.{◌≡◌, ℕ, suc, ◌+◌, ◌-◌, ◌*◌, ◌<◌, ◌≤◌, Bool, IsTrue, List, length, refl, sym, ◌∙◌, ap, subst, arith, length-append}
 use Rattle.std.specs.Prelude.{Option}
 use Rattle.pv_num.specs.Extended.{Extended}
 use Rattle.pv_interval.specs.Bounds.{Bounds}
@@ -7,7 +7,7 @@ use Rattle.pv_interval.specs.Points.{Point}
 use Rattle.pv_box.specs.Boxes.{IsBox}
 use Rattle.pv_expr.specs.Terms.{Term}
 use Rattle.pv_tree.specs.Trees.{leaf, Fits, CutsAbove}
-use Rattle.pv_tree.specs.Stages.{Rule, IsStage}
+use Rattle.pv_tree.specs.Stages.{Rule}
 use Rattle.pv_tree.specs.Laws.{IsLawful}
 use Rattle.pv_tree.specs.Holes.{Hole, Growing, holes_below, settle_next, pass_next, rest_of, Takes, IsNext, IsFirstBox}
 use Rattle.pv_tree.specs.declared.outcome.Outcome.{Outcome}

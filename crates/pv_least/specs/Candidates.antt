@@ -1,5 +1,5 @@
 -- The three points of a box at which the objective is tried.
-use Rattle.std.specs.Prelude.{ℕ, pos, List, Option, Some, None, map}
+use Rattle.std.specs.Prelude.{pos, List, Option, Some, None, map}
 use Rattle.pv_num.specs.Extended.{Extended, NegInf, Fin, PosInf}
 use Rattle.pv_num.specs.Arithmetic.{middle_of}
 use Rattle.pv_interval.specs.Bounds.{Bounds}

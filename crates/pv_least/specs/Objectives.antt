@@ -1,5 +1,5 @@
 -- The term of an objective, and what its forward interval on a box tells.
-use Rattle.std.specs.Prelude.{◌≡◌, ℕ, pos, Bool, false, List, Option, Some, None, if◌then◌else◌}
+use Rattle.std.specs.Prelude.{◌≡◌, pos, Bool, false, List, Option, Some, None, if◌then◌else◌}
 use Rattle.pv_num.specs.Extended.{Extended}
 use Rattle.pv_num.specs.Order.{le}
 use Rattle.pv_interval.specs.Bounds.{Bounds}

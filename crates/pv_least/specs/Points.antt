@@ -1,5 +1,5 @@
 -- Points as lists of finite numbers, and as rational points.
-use Rattle.std.specs.Prelude.{ℕ, ◌<◌, ◌≤◌, ℤ, pos, List, [], ◌∷◌, length, map}
+use Rattle.std.specs.Prelude.{◌<◌, ◌≤◌, ℤ, pos, List, [], ◌∷◌, length, map}
 use Rattle.pv_num.specs.Extended.{Extended, NegInf, Fin, PosInf}
 use Rattle.pv_num.specs.Grid.{unit}
 use Rattle.pv_interval.specs.Bounds.{Bounds, between}

@@ -1,5 +1,5 @@
 -- Which leaves a search settles, and what a paving tells of the least value of a term.
-use Rattle.std.specs.Prelude.{◌≡◌, ℕ, zero, suc, Bool, true, false, Option, Some, None, List, [], ◌∷◌, ◌++◌, if◌then◌else◌}
+use Rattle.std.specs.Prelude.{ℕ, zero, suc, Bool, true, false, Option, Some, None, List, [], ◌∷◌, ◌++◌, if◌then◌else◌}
 use Rattle.pv_num.specs.Extended.{Extended, PosInf}
 use Rattle.pv_num.specs.Order.{lt, lesser}
 use Rattle.pv_interval.specs.Bounds.{Bounds}

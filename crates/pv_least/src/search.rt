@@ -54,6 +54,7 @@ pub fn least<S: Settler>(
         (IsWitness (S.inside settler.now) (aim_of objective.now) root.now)) }
 {
     objective.learn();
+    let _places = root.dims();
     let mut search = Search {
         growth: Growth::open(alloc, root.clone_of(alloc)?)?,
         room: Room {
@@ -97,7 +98,7 @@ impl Search {
         let _places = self.growth.dims();
         self.growth.write_box(&mut self.room.leaf);
         let low = objective.low(&mut self.room.scratch, &self.room.leaf)?;
-        let is_next = is_admitted(low, self.found.upper());
+        let is_next = is_admitted(&low, self.found.upper());
         if is_next && self.found.settled < budget {
             let outcome = settle_leaf(alloc, settler, &self.room.leaf, path)?;
             self.found
@@ -112,11 +113,11 @@ impl Search {
 }
 
 // Whether the objective may be as low as a bound.
-fn is_admitted(low: Option<Num>, upper: Num) -> bool
-    ensures { result ≡ admits low upper }
+fn is_admitted(low: &Option<Num>, upper: Num) -> bool
+    ensures { result ≡ admits low.now upper }
 {
     match low {
-        Some(low) => low <= upper,
+        Some(low) => *low <= upper,
         None => false,
     }
 }
