@@ -1,0 +1,9 @@
+pub mod Choosing
+pub mod Leaves
+pub mod Places
+pub mod Numbers
+pub mod Trying
+pub mod Members
+pub mod Searching
+pub mod Steps
+pub mod Ending

@@ -1,0 +1,6 @@
+pub mod Points
+pub mod Objectives
+pub mod Candidates
+pub mod Searches
+pub mod Running
+pub mod Promises
