@@ -32,6 +32,9 @@ use std::thread::Threads;
 /// With status 0 or 1 the words ask for something, and what comes of it over the folder was printed. Else the
 /// refusal is the first in this order: words and values, system, contractor program, plane, paving files, work,
 /// printing; and its line is told on the standard error.
+///
+/// `run` and `resume` work on as many threads as their words say, and join them: the call may wait for them. Each worker enters the
+/// gate with its number and a path before it settles the node there. The keeper is for campaigns alone.
 pub fn paver_main<F: Folder, K: Sink, E: Sink, G: Gate + Sync, P: Keeper, R: Threads + Wait + Sync>(
     rt: &R,
     alloc: Global,

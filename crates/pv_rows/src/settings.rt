@@ -16,10 +16,11 @@ const IDENTITY: [u8; 32] = [
     0xef, 0xf5, 0x86, 0x22, 0xab, 0x1c, 0x9a, 0x05, 0x3f, 0x3f, 0xcb, 0xdf, 0x68, 0x52, 0xf8, 0x1a,
 ];
 
-fn settler(alloc: Global) -> Option<SystemSettler> {
-    let system = parse(alloc, SYSTEM.as_bytes()).ok()?;
+/// The settler of a system by the default program, with a width of 2^exponent.
+pub(crate) fn settler_of(alloc: Global, text: &str, exponent: i16) -> Option<SystemSettler> {
+    let system = parse(alloc, text.as_bytes()).ok()?;
     let program = Program::read(alloc, b"prop(8)", system.constraint_count()).ok()?;
-    let eps = Num::fin(1, -2)?;
+    let eps = Num::fin(1, exponent)?;
     if Num::ZERO <= eps && eps < Num::POS_INF {
         let settings = Settings {
             eps,
@@ -33,7 +34,7 @@ fn settler(alloc: Global) -> Option<SystemSettler> {
 }
 
 fn are_as_worked_out(alloc: Global) -> Option<bool> {
-    let settler = settler(alloc)?;
+    let settler = settler_of(alloc, SYSTEM, -2)?;
     let text = settler.settings_text(alloc).ok()?;
     let identity = settler.identity(alloc).ok()?;
     Some(text.as_slice() == TEXT.as_bytes() && identity == IDENTITY)

@@ -1,10 +1,18 @@
 //! Commands that several workers work on.
+ghost use Rattle.std.specs.Prelude.{◌≡◌, length, IfOk};
+ghost use Rattle.pv_settle.specs.Rules.{dims_of};
+ghost use Rattle.pv_settle.specs.Settlers.{rule_of};
+ghost use Rattle.pv_board.specs.Rules.{settled_in};
+
 use crate::calling::{paver, paver_at};
 use crate::files::{PART, SUMMARY, SYSTEM, WHOLE};
+use crate::settings::settler_of;
 use crate::tests::{TWO_DISCS, words_of};
-use pv_cli::{Gate, Status};
+use pv_cli::{Gate, NoGate, Status, pave};
 use pv_io::{Folder, MemFolder, MemSink};
-use pv_tree::Path;
+use pv_num::Memory;
+use pv_settle::SystemSettler;
+use pv_tree::{Path, Paving};
 use std::alloc::Global;
 use std::collections::BTreeMap;
 use std::process::Abort;
@@ -205,4 +213,34 @@ fn two_workers_meet_at_a_gate(rt: HostRuntime) -> Result<(), Fail> {
     assert!(rt; !gate.missed.load(Ordering::SeqCst));
     assert_eq!(rt; held(alloc, &mut folder, "b")?.as_slice(), WHOLE.as_bytes());
     Ok(())
+}
+
+// The open search box of a settler.
+fn opened(alloc: Global, settler: &SystemSettler) -> Result<Paving, Memory>
+    ensures dims { IfOk result (λ p. length p.root ≡ dims_of (rule_of settler.now)) }
+    ensures none { IfOk result (λ p. settled_in p.tree ≡ 0) }
+{
+    let root = settler.search_box(alloc)?;
+    Paving::open(alloc, root)
+}
+
+// Whether one worker hands in fewer tickets than there are nodes, and makes the paving of 323 settled nodes.
+fn hands_stages_in<R: Threads + Wait + Sync>(rt: &R, alloc: Global) -> Option<bool> {
+    let settler = settler_of(alloc, TWO_DISCS, -3)?;
+    let opening = opened(alloc, &settler).ok()?;
+    let paved = pave(rt, alloc, &settler, opening, 20000, 1, &NoGate).ok()?;
+    let counts = paved.paving.counts();
+    Some(
+        paved.spent < 323
+            && counts.cut == 161
+            && counts.removed == 0
+            && counts.inner == 74
+            && counts.small == 88
+            && counts.open_leaves == 0,
+    )
+}
+
+#[test]
+fn one_worker_hands_stages_in(rt: HostRuntime) {
+    assert_eq!(rt; hands_stages_in(&rt, rt.alloc()), Some(true));
 }
