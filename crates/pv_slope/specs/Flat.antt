@@ -30,11 +30,11 @@ abbrev pub term_in : Parts → Term
 term_in p = term_at (terms p.nodes) p.root
 
 -- each node reads earlier ones, and stands for a part of the expression
-pub record IsFlat (p : Parts) : Type 0 where
-  pub ordered : AreOrdered p.nodes p.dims
-  pub root_in : p.root < length p.nodes
-  pub over : IsOver p.dims (term_in p)
-  pub used : (k : ℕ) → k < length p.nodes → IsPart (term_at (terms p.nodes) k) (term_in p)
+pub record IsFlat (ns : List Node) (root d : ℕ) : Type 0 where
+  pub ordered : AreOrdered ns d
+  pub root_in : root < length ns
+  pub over : IsOver d (term_at (terms ns) root)
+  pub used : (k : ℕ) → k < length ns → IsPart (term_at (terms ns) k) (term_at (terms ns) root)
 
 -- each of the intervals is f of its node's term
 pub record AreOf (f : Term → Bounds) (ns : List Node) (xs : List Bounds) : Type 0 where

@@ -1,9 +1,6 @@
 pub mod Centered
 pub mod Centres
 pub mod Flat
-pub mod Programs
 pub mod Ranges
-pub mod Settling
 pub mod SlopeTable
-pub mod Spelling
 pub mod Tests

@@ -1,13 +1,14 @@
 //! The slopes of a constraint.
 
 ghost use Rattle.std.specs.Prelude.{◌≡◌, ◌↔◌, ◌<◌, length, IfOk, OnOk, None, true};
-ghost use Rattle.pv_expr.specs.declared.constraint.Relation.TheVariants.{Eq};
 ghost use Rattle.pv_expr.specs.Systems.{IsOver};
 ghost use Rattle.pv_expr.specs.Terms.{term_of};
 ghost use Rattle.pv_hc4.specs.Forward.{forward_of};
 ghost use Rattle.pv_hc4.specs.Graphs.{sides_named, AreValues, AreReady};
 ghost use Rattle.pv_hc4.specs.Nodes.{AreOrdered, terms, term_at};
-ghost use Rattle.pv_slope.specs.Centered.{centered_of, has_finite_ends as have_finite_ends, linear_of, gap_of, Encloses};
+ghost use Rattle.pv_hc4.specs.Chain.{at};
+ghost use Rattle.pv_hc4.specs.Totality.{total_of};
+ghost use Rattle.pv_slope.specs.Centered.{centered_of, centered_from, gap_of, Encloses};
 ghost use Rattle.pv_slope.specs.Flat.{term_in, IsFlat};
 ghost use Rattle.pv_slope.specs.Ranges.{ranged_of};
 
@@ -42,7 +43,7 @@ impl Model for Slopes {
 
     ghost view = { λ s. record { nodes = s.nodes.items; root = s.root; relation = s.relation; dims = s.dims } };
 
-    ghost invariant = { λ s. IsFlat (record { nodes = s.nodes.items; root = s.root; relation = s.relation; dims = s.dims }) × AreReady s.nodes.items s.ready.items };
+    ghost invariant = { λ s. IsFlat s.nodes.items s.root s.dims × AreReady s.nodes.items s.ready.items };
 }
 
 /// An expression's interval on a box.
@@ -85,11 +86,21 @@ impl Slopes {
         ensures none { IfOk result (λ r. (r ≡ None) ↔
             (forward_of bx.now (term_in self.now) ≡ None)) }
     {
+        self.learn();
+        let _dims = bx.dims();
         let found = self.range_in(&mut Columns::new(alloc), bx)?;
         match found {
             Some(ranged) => Ok(Some(ranged.interval)),
             None => Ok(None),
         }
+    }
+
+    // The expression is over the constraint's variables. It holds by its contract alone; the call
+    // does nothing.
+    fn learn(&self)
+        ensures { IsOver self.now.dims (term_in self.now) }
+    {
+        let _ = &self.nodes;
     }
 
     // As `range`, with room that is kept.
@@ -117,7 +128,50 @@ impl Slopes {
     }
 }
 
-// The centered form of a node on a box. At the entry the columns have the constants' intervals.
+// Whether no divisor's interval contains 0 in the expression of node `root`.
+fn root_is_total(nodes: &[Node], root: usize, values: &[Interval], bx: &IBox) -> bool
+    requires flat { IsFlat nodes.now root (length bx.now) }
+    requires valued { AreValues bx.now nodes.now values.now }
+    ensures { result ≡ total_of bx.now (term_at (terms nodes.now) root) }
+{
+    is_total(nodes, values, bx)
+}
+
+// The centered form of node `root` from its forward interval. At the entry the columns have the
+// constants' intervals.
+fn centered(
+    nodes: &[Node],
+    root: usize,
+    bx: &IBox,
+    total: bool,
+    values: &[Interval],
+    centres: &mut [Interval],
+    factors: &mut [Interval],
+    slopes: &mut [Interval],
+) -> Option<Interval>
+    requires ordered { AreOrdered nodes.now (length bx.now) }
+    requires root { root < length nodes.now }
+    requires total { total ≡ total_of bx.now (term_at (terms nodes.now) root) }
+    requires valued { AreValues bx.now nodes.now values.now }
+    requires centres { AreReady nodes.now centres.old }
+    requires factors { AreReady nodes.now factors.old }
+    requires slopes { AreReady nodes.now slopes.old }
+    ensures { result ≡ centered_from bx.now (term_at (terms nodes.now) root)
+        (at values.now root) }
+{
+    let whole = values[root];
+    if !has_finite_ends(bx) {
+        return Some(whole);
+    }
+    if !total {
+        return Some(whole);
+    }
+    centre_all(nodes, bx, values, centres);
+    factor_all(nodes, bx.dims(), values, centres, factors);
+    whole.meet(linear(nodes, root, values, centres, factors, bx, slopes))
+}
+
+// The range of node `root` on a box. At the entry the columns have the constants' intervals.
 fn range_of(
     nodes: &[Node],
     root: usize,
@@ -127,12 +181,7 @@ fn range_of(
     factors: &mut [Interval],
     slopes: &mut [Interval],
 ) -> Option<Ranged>
-    requires flat { IsFlat (record {
-      nodes = nodes.now;
-      root = root;
-      relation = Eq;
-      dims = length bx.now;
-    }) }
+    requires flat { IsFlat nodes.now root (length bx.now) }
     requires values { AreReady nodes.now values.old }
     requires centres { AreReady nodes.now centres.old }
     requires factors { AreReady nodes.now factors.old }
@@ -142,16 +191,9 @@ fn range_of(
     if !forward_all(nodes, bx, values) {
         return None;
     }
-    let whole = values[root];
-    let total = is_total(nodes, values, bx);
-    if !(has_finite_ends(bx) && total) {
-        return Some(Ranged {
-            interval: whole,
-            total,
-        });
+    let total = root_is_total(nodes, root, values, bx);
+    match centered(nodes, root, bx, total, values, centres, factors, slopes) {
+        Some(interval) => Some(Ranged { interval, total }),
+        None => None,
     }
-    centre_all(nodes, bx, values, centres);
-    factor_all(nodes, bx.dims(), values, centres, factors);
-    let interval = whole.meet(linear(nodes, root, values, centres, factors, bx, slopes))?;
-    Some(Ranged { interval, total })
 }
