@@ -11,3 +11,6 @@ pub mod Turning
 pub mod Rounds
 pub mod Walking
 pub mod Ranging
+pub mod Tallying
+pub mod Matched
+pub mod Weighing

@@ -13,12 +13,22 @@
 mod centre;
 mod columns;
 mod forward;
+mod judging;
+mod knowing;
+pub mod laws;
 mod nodes;
 mod operations;
 mod passes;
+mod room;
 mod rows;
+mod settler;
 mod slopes;
+mod step;
+mod texts;
+mod verdicts;
 
+pub use room::Room;
+pub use settler::CenteredSettler;
 pub use slopes::Slopes;
 
 #[cfg(test)]
