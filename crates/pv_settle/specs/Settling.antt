@@ -17,11 +17,14 @@ abbrev pub cut_or_small : List Bounds → Option (ℕ × Extended) → Outcome
 cut_or_small to None = Small to
 cut_or_small to (Some c) = Cut to c.0 c.1
 
+-- the last two tests: small, cut
+abbrev pub settle_unsure : SettlerParts → List Bounds → ℕ → ℕ → Outcome
+settle_unsure r to d k = if nat_eq d 0 || is_small_of r.eps to then Small to else cut_or_small to (choose_of r.bisector k to)
+
 -- the tests that follow contraction, in their order: inner, small, cut
 abbrev pub settle_left : SettlerParts → List Bounds → ℕ → ℕ → Outcome
 settle_left r to d k =
-    if program_sure (sides_in r.graphs) (plan_of r.program) to then Inner to
-    else (if nat_eq d 0 || is_small_of r.eps to then Small to else cut_or_small to (choose_of r.bisector k to))
+    if program_sure (sides_in r.graphs) (plan_of r.program) to then Inner to else settle_unsure r to d k
 
 abbrev pub settle_contracted : SettlerParts → Option (List Bounds) → ℕ → ℕ → Outcome
 settle_contracted r None d k = Removed

@@ -16,7 +16,7 @@ use std::alloc::Global;
 impl SystemSettler {
     ghost use Rattle.pv_settle.specs.Rules.{dims_of};
     ghost use Rattle.pv_settle.specs.Settlers.{rule_of};
-    ghost use Rattle.pv_settle.specs.Settling.{settle_by, settle_left};
+    ghost use Rattle.pv_settle.specs.Settling.{settle_by, settle_left, settle_unsure};
 
     /// As `settle`, where something is known of the constraints on the box. What it answers as
     /// known is true of both halves of a cut.
@@ -68,7 +68,6 @@ impl SystemSettler {
         ensures known { IfOk result (λ s.
             HoldsOfHalves (Knows (sides_in self.now.graphs) s.known) s.outcome) }
     {
-        let _places = to.dims();
         let mut known = known;
         if self
             .program
@@ -79,28 +78,48 @@ impl SystemSettler {
                 known,
             });
         }
+        Ok(self.settle_unsure(to, known, depth_left, path_len))
+    }
+
+    /// The last two tests: a box that is narrow enough, or that can't be cut, is small, and any
+    /// other is cut.
+    pub fn settle_unsure(
+        &self,
+        to: IBox,
+        known: Known,
+        depth_left: u32,
+        path_len: u32,
+    ) -> Settled<Known>
+        requires dims { length to ≡ dims_of (rule_of self.now) }
+        requires known { Knows (sides_in self.now.graphs) known to }
+        ensures outcome { result.outcome ≡
+            settle_unsure (rule_of self.now) to depth_left path_len }
+        ensures known {
+            HoldsOfHalves (Knows (sides_in self.now.graphs) result.known) result.outcome }
+    {
+        let _places = to.dims();
         if depth_left == 0 || to.is_small(self.settings.eps) {
-            return Ok(Settled {
+            return Settled {
                 outcome: Outcome::Small { to },
                 known,
-            });
+            };
         }
         match to.choose(self.settings.bisector, path_len) {
             Some(choice) => {
                 let known = known.after_cut(&self.graphs, choice.0);
-                Ok(Settled {
+                Settled {
                     outcome: Outcome::Cut {
                         to,
                         var: choice.0,
                         at: choice.1,
                     },
                     known,
-                })
+                }
             }
-            None => Ok(Settled {
+            None => Settled {
                 outcome: Outcome::Small { to },
                 known,
-            }),
+            },
         }
     }
 }

@@ -70,6 +70,39 @@ impl SystemSettler {
         })
     }
 
+    /// The system.
+    pub fn system(&self) -> &System
+        ensures { result.now ≡ (rule_of self.now).system }
+    {
+        &self.system
+    }
+
+    /// The program by which boxes are contracted.
+    pub fn program(&self) -> &Program
+        ensures { result.now ≡ (rule_of self.now).program }
+    {
+        &self.program
+    }
+
+    /// The graphs of the system's constraints.
+    pub fn graphs(&self) -> &Graphs
+        ensures { result.now ≡ (rule_of self.now).graphs }
+    {
+        &self.graphs
+    }
+
+    /// Every constraint is over the system's variables, and the program is one for so many
+    /// constraints. It holds by its contract alone; the call does nothing.
+    pub fn learn(&self)
+        ensures dims { (rule_of self.now).graphs.dims ≡ dims_of (rule_of self.now) }
+        ensures over { AllOver (rule_of self.now).graphs.dims
+            (sides_in (rule_of self.now).graphs) }
+        ensures program { IsFor (length (sides_in (rule_of self.now).graphs))
+            (plan_of (rule_of self.now).program) }
+    {
+        let _ = &self.graphs;
+    }
+
     /// How many variables the system has, from 1 to 12.
     pub fn dims(&self) -> u8
         ensures value { result ≡ dims_of (rule_of self.now) }

@@ -1,0 +1,16 @@
+pub mod Centring
+pub mod Enclosing
+pub mod Identities
+pub mod Joined
+pub mod Joining
+pub mod Mixing
+pub mod Polynomials
+pub mod Raising
+pub mod Sums
+pub mod Turning
+pub mod Rounds
+pub mod Walking
+pub mod Ranging
+pub mod Tallying
+pub mod Matched
+pub mod Weighing

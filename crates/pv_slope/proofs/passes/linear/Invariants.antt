@@ -1,0 +1,11 @@
+use Rattle.std.proofs.Common.{◌≡◌, ℕ, ◌<◌, length}
+use Rattle.pv_hc4.specs.Nodes.{terms, term_at}
+use Rattle.pv_slope.specs.Centered.{linear_of}
+use Rattle.pv_slope.proofs.passes.linear.Given as goal
+
+abbrev pub invariant-loop-i : goal.invariant-loop-i
+invariant-loop-i l = record {
+  end : l.i-end ≡ length l.bx;
+  same : length l.slopes ≡ length l.nodes;
+  sum : l.sum ≡ linear_of l.bx (term_at (terms l.nodes) l.root) l.i;
+}

@@ -1,0 +1,13 @@
+pub mod Centered
+pub mod Centres
+pub mod Excluding
+pub mod Flat
+pub mod Laws
+pub mod Matching
+pub mod Programs
+pub mod Props
+pub mod Ranges
+pub mod Settling
+pub mod SlopeTable
+pub mod Spelling
+pub mod Tests

@@ -1,0 +1,132 @@
+//! From an expression to a list of nodes, each behind those that it reads.
+
+ghost use Rattle.std.specs.Prelude.{◌≡◌, length, IfOk, OnOk, []};
+ghost use Rattle.pv_expr.specs.Terms.{term_of, one, two};
+ghost use Rattle.pv_expr.specs.Systems.{IsOver, IsFraction};
+ghost use Rattle.pv_hc4.specs.Forward.{constant_of};
+ghost use Rattle.pv_hc4.specs.Nodes.{AreOrdered, ReadsBelow, FitsNode, IsPower, unary_named, binary_named};
+ghost use Rattle.pv_hc4.specs.Graphs.{AreReady, IsReady};
+ghost use Rattle.pv_hc4.specs.Building.{Grows, Holds};
+
+use pv_expr::Expr;
+use pv_hc4::{BinaryOp, Node, UnaryOp};
+use pv_interval::Interval;
+use pv_num::{End, Memory, Num};
+use std::alloc::Global;
+
+// The nodes so far, and the intervals of the constants among them.
+#[derive(Drop)]
+pub struct Nodes {
+    pub nodes: Vec<Node>,
+    pub ready: Vec<Interval>,
+}
+
+impl Nodes {
+    pub fn new(alloc: Global) -> Nodes
+        ensures nodes { result.nodes.items ≡ [] }
+        ensures ready { result.ready.items ≡ [] }
+    {
+        Nodes {
+            nodes: Vec::new(alloc),
+            ready: Vec::new(alloc),
+        }
+    }
+
+    // Adds a node, and gives its number.
+    pub fn number(&mut self, node: Node, own: Interval, dims: u8) -> Result<usize, Memory>
+        requires ordered { AreOrdered self.old.nodes.items dims }
+        requires ready { AreReady self.old.nodes.items self.old.ready.items }
+        requires reads { ReadsBelow (length self.old.nodes.items) node }
+        requires fits { FitsNode dims node }
+        requires own { IsReady node own }
+        ensures holds { IfOk result (λ i. Holds self.old.nodes.items self.new.nodes.items i node) }
+        ensures ordered { OnOk result (AreOrdered self.new.nodes.items dims) }
+        ensures ready { OnOk result (AreReady self.new.nodes.items self.new.ready.items) }
+    {
+        let number = self.nodes.len();
+        self.nodes.push(node)?;
+        self.ready.push(own)?;
+        Ok(number)
+    }
+
+    // Adds the nodes of an expression, and gives its number.
+    #[cycle(adding)]
+    pub fn add(&mut self, e: &Expr, dims: u8) -> Result<usize, Memory>
+        requires ordered { AreOrdered self.old.nodes.items dims }
+        requires ready { AreReady self.old.nodes.items self.old.ready.items }
+        requires over { IsOver dims (term_of e.now) }
+        ensures grows { IfOk result (λ i.
+            Grows self.old.nodes.items self.new.nodes.items i (term_of e.now)) }
+        ensures ordered { OnOk result (AreOrdered self.new.nodes.items dims) }
+        ensures ready { OnOk result (AreReady self.new.nodes.items self.new.ready.items) }
+    {
+        match e {
+            Expr::Const { p, q } => {
+                self.number(Node::Constant { p: *p, q: *q }, constant(*p, *q), dims)
+            }
+            Expr::Var(i) => self.number(Node::Place(*i), Interval::ALL, dims),
+            Expr::Add(a, b) => self.add_two(BinaryOp::Add, a, b, dims),
+            Expr::Sub(a, b) => self.add_two(BinaryOp::Sub, a, b, dims),
+            Expr::Mul(a, b) => self.add_two(BinaryOp::Mul, a, b, dims),
+            Expr::Div(a, b) => self.add_two(BinaryOp::Div, a, b, dims),
+            Expr::Min(a, b) => self.add_two(BinaryOp::Min, a, b, dims),
+            Expr::Max(a, b) => self.add_two(BinaryOp::Max, a, b, dims),
+            Expr::Neg(a) => self.add_one(UnaryOp::Neg, a, dims),
+            Expr::Abs(a) => self.add_one(UnaryOp::Abs, a, dims),
+            Expr::Pow(a, n) => self.add_one(UnaryOp::Pow(*n), a, dims),
+        }
+    }
+
+    #[cycle(adding)]
+    fn add_one(&mut self, op: UnaryOp, a: &Expr, dims: u8) -> Result<usize, Memory>
+        requires ordered { AreOrdered self.old.nodes.items dims }
+        requires ready { AreReady self.old.nodes.items self.old.ready.items }
+        requires power { IsPower op }
+        requires over { IsOver dims (term_of a.now) }
+        ensures grows { IfOk result (λ i.
+            Grows self.old.nodes.items self.new.nodes.items i
+            (one (unary_named op) (term_of a.now))) }
+        ensures ordered { OnOk result (AreOrdered self.new.nodes.items dims) }
+        ensures ready { OnOk result (AreReady self.new.nodes.items self.new.ready.items) }
+    {
+        let a = self.add(a, dims)?;
+        self.number(Node::One(op, a), Interval::ALL, dims)
+    }
+
+    /// Adds the nodes of an operation on two expressions, and gives its number.
+    #[cycle(adding)]
+    pub fn add_two(
+        &mut self,
+        op: BinaryOp,
+        a: &Expr,
+        b: &Expr,
+        dims: u8,
+    ) -> Result<usize, Memory>
+        requires ordered { AreOrdered self.old.nodes.items dims }
+        requires ready { AreReady self.old.nodes.items self.old.ready.items }
+        requires over_a { IsOver dims (term_of a.now) }
+        requires over_b { IsOver dims (term_of b.now) }
+        ensures grows { IfOk result (λ i.
+            Grows self.old.nodes.items self.new.nodes.items i
+            (two (binary_named op) (term_of a.now) (term_of b.now))) }
+        ensures ordered { OnOk result (AreOrdered self.new.nodes.items dims) }
+        ensures ready { OnOk result (AreReady self.new.nodes.items self.new.ready.items) }
+    {
+        let a = self.add(a, dims)?;
+        let b = self.add(b, dims)?;
+        self.number(Node::Two(op, a, b), Interval::ALL, dims)
+    }
+}
+
+// The least interval that holds a constant.
+fn constant(p: i128, q: u128) -> Interval
+    requires { IsFraction p q }
+    ensures { result ≡ constant_of p q }
+{
+    let low = Num::from_ratio(p, q, End::Down);
+    let high = Num::from_ratio(p, q, End::Up);
+    match Interval::new(low, high) {
+        Some(x) => x,
+        None => unreachable!(),
+    }
+}

@@ -1,0 +1,199 @@
+//! The slopes of a constraint.
+
+ghost use Rattle.std.specs.Prelude.{◌≡◌, ◌↔◌, ◌<◌, length, IfOk, OnOk, None, true};
+ghost use Rattle.pv_expr.specs.Systems.{IsOver};
+ghost use Rattle.pv_expr.specs.Terms.{term_of};
+ghost use Rattle.pv_hc4.specs.Forward.{forward_of};
+ghost use Rattle.pv_hc4.specs.Graphs.{sides_named, AreValues, AreReady};
+ghost use Rattle.pv_hc4.specs.Nodes.{AreOrdered, terms, term_at};
+ghost use Rattle.pv_hc4.specs.Chain.{at};
+ghost use Rattle.pv_hc4.specs.Totality.{total_of};
+ghost use Rattle.pv_slope.specs.Centered.{centered_of, centered_from, gap_of, Encloses};
+ghost use Rattle.pv_slope.specs.Flat.{term_in, IsFlat};
+ghost use Rattle.pv_slope.specs.Ranges.{ranged_of};
+
+use crate::centre::{centre_all, has_finite_ends};
+use crate::columns::{Columns, fill};
+use crate::forward::{forward_all, is_total};
+use crate::nodes::Nodes;
+use crate::passes::{factor_all, linear};
+use pv_box::IBox;
+use pv_expr::{Constraint, Relation};
+use pv_hc4::{BinaryOp, Node};
+use pv_interval::Interval;
+use pv_num::Memory;
+use std::alloc::Global;
+use std::marker::Model;
+
+/// The expression left - right of a constraint's two sides, and the slopes of its parts.
+#[derive(Drop)]
+pub struct Slopes {
+    nodes: Vec<Node>,
+    ready: Vec<Interval>,
+    root: usize,
+    pub(crate) relation: Relation,
+    dims: u8,
+}
+
+impl Model for Slopes {
+    ghost use Rattle.pv_hc4.specs.Graphs.{AreReady};
+    ghost use Rattle.pv_slope.specs.Flat.{Parts, IsFlat};
+
+    ghost Value = { Parts };
+
+    ghost view = { λ s. record { nodes = s.nodes.items; root = s.root; relation = s.relation; dims = s.dims } };
+
+    ghost invariant = { λ s. IsFlat s.nodes.items s.root s.dims × AreReady s.nodes.items s.ready.items };
+}
+
+/// An expression's interval on a box.
+#[derive(Clone, Copy, Debug)]
+pub(crate) struct Ranged {
+    pub(crate) interval: Interval,
+    /// No divisor's interval contains 0.
+    pub(crate) total: bool,
+}
+
+impl Slopes {
+    /// The slopes of a constraint over `dims` variables.
+    pub fn of(alloc: Global, constraint: &Constraint, dims: u8) -> Result<Slopes, Memory>
+        requires left { IsOver dims (term_of constraint.now.left) }
+        requires right { IsOver dims (term_of constraint.now.right) }
+        ensures term { IfOk result (λ s. term_in s ≡ gap_of (sides_named constraint.now)) }
+        ensures relation { IfOk result (λ s. s.relation ≡ constraint.now.relation) }
+        ensures dims { IfOk result (λ s. s.dims ≡ dims) }
+    {
+        let mut adding = Nodes::new(alloc);
+        let root = adding.add_two(BinaryOp::Sub, &constraint.left, &constraint.right, dims)?;
+        let Nodes { nodes, ready } = adding;
+        Ok(Slopes {
+            nodes,
+            ready,
+            root,
+            relation: constraint.relation,
+            dims,
+        })
+    }
+
+    /// The centered form on a box of the left side minus the right side: an interval in which its
+    /// value lies at each rational point of the box where it is defined. It is the forward interval
+    /// alone where an end of the box is infinite or a divisor's interval contains 0. None where a
+    /// divisor's interval is [0,0].
+    pub fn range(&self, alloc: Global, bx: &IBox) -> Result<Option<Interval>, Memory>
+        requires { length bx.now ≡ self.now.dims }
+        ensures value { IfOk result (λ r. r ≡ centered_of bx.now (term_in self.now)) }
+        ensures encloses { IfOk result (λ r. Encloses (term_in self.now) bx.now r) }
+        ensures none { IfOk result (λ r. (r ≡ None) ↔
+            (forward_of bx.now (term_in self.now) ≡ None)) }
+    {
+        self.learn();
+        let _dims = bx.dims();
+        let found = self.range_in(&mut Columns::new(alloc), bx)?;
+        match found {
+            Some(ranged) => Ok(Some(ranged.interval)),
+            None => Ok(None),
+        }
+    }
+
+    // The expression is over the constraint's variables. It holds by its contract alone; the call
+    // does nothing.
+    fn learn(&self)
+        ensures { IsOver self.now.dims (term_in self.now) }
+    {
+        let _ = &self.nodes;
+    }
+
+    // As `range`, with room that is kept.
+    pub(crate) fn range_in(
+        &self,
+        columns: &mut Columns,
+        bx: &IBox,
+    ) -> Result<Option<Ranged>, Memory>
+        requires { length bx.now ≡ self.now.dims }
+        ensures { IfOk result (λ r. r ≡ ranged_of bx.now (term_in self.now)) }
+    {
+        fill(&mut columns.values, &self.ready)?;
+        fill(&mut columns.centres, &self.ready)?;
+        fill(&mut columns.factors, &self.ready)?;
+        fill(&mut columns.slopes, &self.ready)?;
+        Ok(range_of(
+            &self.nodes,
+            self.root,
+            bx,
+            &mut columns.values,
+            &mut columns.centres,
+            &mut columns.factors,
+            &mut columns.slopes,
+        ))
+    }
+}
+
+// Whether no divisor's interval contains 0 in the expression of node `root`.
+fn root_is_total(nodes: &[Node], root: usize, values: &[Interval], bx: &IBox) -> bool
+    requires flat { IsFlat nodes.now root (length bx.now) }
+    requires valued { AreValues bx.now nodes.now values.now }
+    ensures { result ≡ total_of bx.now (term_at (terms nodes.now) root) }
+{
+    is_total(nodes, values, bx)
+}
+
+// The centered form of node `root` from its forward interval. At the entry the columns have the
+// constants' intervals.
+fn centered(
+    nodes: &[Node],
+    root: usize,
+    bx: &IBox,
+    total: bool,
+    values: &[Interval],
+    centres: &mut [Interval],
+    factors: &mut [Interval],
+    slopes: &mut [Interval],
+) -> Option<Interval>
+    requires ordered { AreOrdered nodes.now (length bx.now) }
+    requires root { root < length nodes.now }
+    requires total { total ≡ total_of bx.now (term_at (terms nodes.now) root) }
+    requires valued { AreValues bx.now nodes.now values.now }
+    requires centres { AreReady nodes.now centres.old }
+    requires factors { AreReady nodes.now factors.old }
+    requires slopes { AreReady nodes.now slopes.old }
+    ensures { result ≡ centered_from bx.now (term_at (terms nodes.now) root)
+        (at values.now root) }
+{
+    let whole = values[root];
+    if !has_finite_ends(bx) {
+        return Some(whole);
+    }
+    if !total {
+        return Some(whole);
+    }
+    centre_all(nodes, bx, values, centres);
+    factor_all(nodes, bx.dims(), values, centres, factors);
+    whole.meet(linear(nodes, root, values, centres, factors, bx, slopes))
+}
+
+// The range of node `root` on a box. At the entry the columns have the constants' intervals.
+fn range_of(
+    nodes: &[Node],
+    root: usize,
+    bx: &IBox,
+    values: &mut [Interval],
+    centres: &mut [Interval],
+    factors: &mut [Interval],
+    slopes: &mut [Interval],
+) -> Option<Ranged>
+    requires flat { IsFlat nodes.now root (length bx.now) }
+    requires values { AreReady nodes.now values.old }
+    requires centres { AreReady nodes.now centres.old }
+    requires factors { AreReady nodes.now factors.old }
+    requires slopes { AreReady nodes.now slopes.old }
+    ensures { result ≡ ranged_of bx.now (term_at (terms nodes.now) root) }
+{
+    if !forward_all(nodes, bx, values) {
+        return None;
+    }
+    let total = root_is_total(nodes, root, values, bx);
+    match centered(nodes, root, bx, total, values, centres, factors, slopes) {
+        Some(interval) => Some(Ranged { interval, total }),
+        None => None,
+    }
+}
