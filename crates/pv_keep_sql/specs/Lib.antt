@@ -1,4 +1,4 @@
 pub mod Troubles
-pub mod Digits
+pub mod PathDigits
 pub mod Served
 pub mod Files

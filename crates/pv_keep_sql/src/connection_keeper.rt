@@ -1,5 +1,6 @@
 //! A keeper over an open connection.
-ghost use Rattle.std.specs.Prelude.{◌≡◌, false, None};
+ghost use Rattle.std.specs.Prelude.{◌≡◌, ◌≤◌, false, None};
+ghost use Rattle.pv_io.specs.Outside.{Rose};
 ghost use Rattle.pv_keep.specs.Keeping.{untold};
 ghost use Rattle.pv_keep_sql.specs.Served.{begun_name};
 
@@ -52,7 +53,14 @@ impl<S: Alter> ConnectionKeeper<S> {
         }
     }
 
-    fn count(&mut self) {
+    // Counts a fault.
+    fn count(&mut self)
+        ensures begun { begun_name self.new.is_begun self.new.served
+            ≡ begun_name self.old.is_begun self.old.served }
+        ensures none { self.old.is_begun ≡ false → self.new.is_begun ≡ false }
+        ensures rose { Rose self.old.faults self.new.faults }
+        ensures counts_on { self.old.faults ≤ self.new.faults }
+    {
         self.faults = self.faults.saturating_add(1);
     }
 }

@@ -1,5 +1,6 @@
 //! A keeper over files: a name is that of a database file.
-ghost use Rattle.std.specs.Prelude.{◌≡◌, false, None, IfOk, string_bytes};
+ghost use Rattle.std.specs.Prelude.{◌≡◌, ◌≤◌, false, None, IfOk, string_bytes};
+ghost use Rattle.pv_io.specs.Outside.{Rose};
 ghost use Rattle.pv_keep.specs.Keeping.{untold};
 ghost use Rattle.pv_keep_sql.specs.Files.{file_name};
 ghost use Rattle.pv_keep_sql.specs.Served.{IsBegunAs};
@@ -13,7 +14,7 @@ use std::alloc::Global;
 use std::rt::HostRuntime;
 
 /// The campaign that is begun, and its file.
-struct Open {
+struct OpenFile {
     name: String,
     conn: Connection<FileStore<File>>,
 }
@@ -22,14 +23,14 @@ struct Open {
 /// closed when another is begun or the keeper ends. It tells no rows.
 pub struct FileKeeper {
     rt: HostRuntime,
-    open: Option<Open>,
+    file: Option<OpenFile>,
     faults: u64,
 }
 
 // Closing copies what the log holds into the file. Where it fails the log stays, and has all that was saved.
-impl Drop for Open {
+impl Drop for OpenFile {
     fn drop(self) {
-        let Open { name: _, conn } = self;
+        let OpenFile { name: _, conn } = self;
         let _ = conn.close();
     }
 }
@@ -38,7 +39,7 @@ impl Drop for FileKeeper {
     fn drop(self) {
         let FileKeeper {
             rt: _,
-            open: _,
+            file: _,
             faults: _,
         } = self;
     }
@@ -47,17 +48,22 @@ impl Drop for FileKeeper {
 impl FileKeeper {
     /// A keeper that has begun nothing and met no fault, over the machine's files.
     pub fn new(rt: &HostRuntime) -> FileKeeper
-        ensures begun { file_name result.open ≡ None }
+        ensures begun { file_name result.file ≡ None }
         ensures no_fault { result.faults ≡ 0 }
     {
         FileKeeper {
             rt: *rt,
-            open: None,
+            file: None,
             faults: 0,
         }
     }
 
-    fn count(&mut self) {
+    // Counts a fault.
+    fn count(&mut self)
+        ensures begun { file_name self.new.file ≡ file_name self.old.file }
+        ensures rose { Rose self.old.faults self.new.faults }
+        ensures counts_on { self.old.faults ≤ self.new.faults }
+    {
         self.faults = self.faults.saturating_add(1);
     }
 }
@@ -68,14 +74,14 @@ fn open_at(
     alloc: Global,
     name: &str,
     identity: [u8; 32],
-) -> Result<(Open, Begun), Trouble>
+) -> Result<(OpenFile, Begun), Trouble>
     ensures { IfOk result (λ found. (string_bytes found.0.name ≡ name.now)
         × IsBegunAs identity found.1) }
 {
     let own = String::from_str(alloc, name)?;
     let mut conn = open_file(rt, name)?;
     let begun = begin_at(&mut conn, identity)?;
-    Ok((Open { name: own, conn }, begun))
+    Ok((OpenFile { name: own, conn }, begun))
 }
 
 fn open_file(rt: &HostRuntime, name: &str) -> Result<Connection<FileStore<File>>, Error> {
@@ -83,17 +89,17 @@ fn open_file(rt: &HostRuntime, name: &str) -> Result<Connection<FileStore<File>>
 }
 
 impl Keeper for FileKeeper {
-    ghost begun = { λ k. file_name k.open };
+    ghost begun = { λ k. file_name k.file };
 
     ghost kept = { λ _ _. untold };
 
     ghost faults = { λ k. k.faults };
 
     fn begin(&mut self, name: &str, identity: [u8; 32]) -> Result<(), BeginRefused> {
-        self.open = None;
+        self.file = None;
         match open_at(&self.rt, self.rt.alloc(), name, identity) {
-            Ok((open, Begun::Same)) => {
-                self.open = Some(open);
+            Ok((file, Begun::Same)) => {
+                self.file = Some(file);
                 Ok(())
             }
             Ok((_, Begun::Other(kept))) => Err(BeginRefused::OtherIdentity { kept }),
@@ -106,10 +112,10 @@ impl Keeper for FileKeeper {
     }
 
     fn load(&mut self, limit: u64, into: &mut Rows) -> Result<(), LoadRefused> {
-        let Some(open) = &mut self.open else {
+        let Some(file) = &mut self.file else {
             unreachable!()
         };
-        match load_from(self.rt.alloc(), &mut open.conn, limit, into) {
+        match load_from(self.rt.alloc(), &mut file.conn, limit, into) {
             Ok(Loaded::All) => Ok(()),
             Ok(Loaded::TooMany) => Err(LoadRefused::TooMany),
             Err(Trouble::Memory) => Err(LoadRefused::Memory),
@@ -121,10 +127,10 @@ impl Keeper for FileKeeper {
     }
 
     fn save(&mut self, rows: &Rows) -> Result<(), KeepRefused> {
-        let Some(open) = &mut self.open else {
+        let Some(file) = &mut self.file else {
             unreachable!()
         };
-        match save_in(self.rt.alloc(), &mut open.conn, rows) {
+        match save_in(self.rt.alloc(), &mut file.conn, rows) {
             Ok(()) => Ok(()),
             Err(Trouble::Memory) => Err(KeepRefused::Memory),
             Err(Trouble::Fault) => {

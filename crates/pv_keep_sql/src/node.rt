@@ -49,13 +49,19 @@ fn take_rows<S: Alter>(
     ensures { IfOk result (λ l. AreLoaded limit l (length into.new)) }
 {
     let mut found = find_nodes(conn)?;
-    while into.len() <= limit {
+    for _ in 0..limit {
         match next_row(alloc, &mut found)? {
             Some(row) => into.push(row)?,
             None => return Ok(Loaded::All),
         }
     }
-    Ok(Loaded::TooMany)
+    match next_row(alloc, &mut found)? {
+        Some(row) => {
+            into.push(row)?;
+            Ok(Loaded::TooMany)
+        }
+        None => Ok(Loaded::All),
+    }
 }
 
 fn find_nodes<S: Alter>(conn: &mut Connection<S>) -> Result<Found<'_, S>, Trouble> {
@@ -91,27 +97,30 @@ fn row_of(alloc: Global, path: &[u8], line: &[u8]) -> Result<Row, Trouble> {
     }
 }
 
-/// Keeps further rows, in one transaction and by one prepared statement. After a refusal all is as before.
+/// Keeps further rows, in one transaction and by one prepared statement. After a refusal all is as before,
+/// since a transaction that is dropped before its end is taken back.
 pub(crate) fn save_in<S: Alter>(
     alloc: Global,
     conn: &mut Connection<S>,
     rows: &Rows,
 ) -> Result<(), Trouble> {
+    let put = prepare(conn)?;
     if !conn.is_autocommit() {
         return Err(Trouble::Fault);
     }
-    let put = prepare(conn)?;
-    put_all(alloc, conn.transaction(), &put, rows)
+    let mut change = conn.transaction();
+    put_all(alloc, &mut change, &put, rows)?;
+    end(change)?;
+    Ok(())
 }
 
 fn prepare<S: Alter>(conn: &mut Connection<S>) -> Result<Statement, Error> {
     conn.prepare(PUT_NODE)
 }
 
-// A transaction that is dropped before its end is taken back.
 fn put_all<S: Alter>(
     alloc: Global,
-    mut change: Transaction<'_, S>,
+    change: &mut Transaction<'_, S>,
     put: &Statement,
     rows: &Rows,
 ) -> Result<(), Trouble> {
@@ -120,9 +129,8 @@ fn put_all<S: Alter>(
         let row = rows.get(i);
         digits.clear();
         write_path(row.path, &mut digits)?;
-        put_row(&mut change, put, &digits, row.line.bytes())?;
+        put_row(change, put, &digits, row.line.bytes())?;
     }
-    end(change)?;
     Ok(())
 }
 
