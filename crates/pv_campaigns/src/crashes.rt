@@ -49,7 +49,7 @@ fn run_over(alloc: Global, files: Files<Fused>, rounds: u32) -> Result<Ran, Fail
     match Connection::open_files(alloc, files, Options::new(7)) {
         Ok(conn) => {
             let mut keeper = ConnectionKeeper::new(alloc, conn);
-            let ended = drive(alloc, &mut keeper, rounds)?;
+            let ended = drive(alloc, &mut keeper, "k", rounds)?;
             Ok(Ran {
                 ended: Some(ended),
                 files: files_of(keeper.into_connection()),
@@ -70,8 +70,8 @@ fn files_of(conn: Connection<FileStore<Fused>>) -> Files<Fused> {
 fn may_be_found(ended: Option<Ended>, settled: u64) -> bool {
     match ended {
         None | Some(Ended::NotOpened(_)) => settled == 0,
-        Some(Ended::NotSaved { saved, .. }) =>
-            settled == saved as u64 || settled == saved as u64 + 1,
+        Some(Ended::NotSaved { saved, .. }) => settled == saved as u64
+            || settled == saved as u64 + 1,
         Some(Ended::Saved { saved, .. }) => settled == saved as u64,
     }
 }
@@ -89,7 +89,11 @@ fn stopped(ended: Option<Ended>) -> bool {
 // Stops a file at a call, and goes on after a crash. Whether there was a stop.
 fn stop_at(alloc: Global, stops: Stops, call: u64) -> Result<bool, Fail> {
     let first = run_over(alloc, fused(alloc, stops, call), 5)?;
-    let is_whole = first.ended == Some(Ended::Saved { saved: 5, settled: 5 });
+    let is_whole = first.ended
+        == Some(Ended::Saved {
+            saved: 5,
+            settled: 5,
+        });
     if !is_whole && !stopped(first.ended) {
         return Err("another end than a stop")?;
     }
@@ -101,7 +105,12 @@ fn stop_at(alloc: Global, stops: Stops, call: u64) -> Result<bool, Fail> {
         return Err("another paving than was kept")?;
     }
     let last = run_over(alloc, again.files, 5)?;
-    if last.ended != Some(Ended::Saved { saved: 5 - settled as u32, settled: 5 }) {
+    if last.ended
+        != Some(Ended::Saved {
+            saved: 5 - settled as u32,
+            settled: 5,
+        })
+    {
         return Err("the campaign did not go on")?;
     }
     Ok(!is_whole)

@@ -42,14 +42,15 @@ fn settler() -> Result<Above, Fail>
     Ok(Above::new(1, limit, 0, 2))
 }
 
-/// Opens a campaign under the name `k` and goes on with it for so many rounds.
+/// Opens a campaign and goes on with it for so many rounds.
 pub(crate) fn drive<P: Keeper>(
     alloc: Global,
     keeper: &mut P,
+    name: &str,
     rounds: u32,
 ) -> Result<Ended, Fail> {
     let settler = settler()?;
-    let mut campaign = match Campaign::open(alloc, keeper, "k", IDENTITY, unit_box(alloc)?) {
+    let mut campaign = match Campaign::open(alloc, keeper, name, IDENTITY, unit_box(alloc)?) {
         Ok(campaign) => campaign,
         Err(refused) => return Ok(Ended::NotOpened(refused)),
     };

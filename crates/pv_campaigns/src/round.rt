@@ -33,9 +33,9 @@ pub fn run_round<P: Keeper, S: Settler>(
         settled_count campaign.old.tree + n) }
     ensures spent { IfOk result (λ _. IsSpent boxes campaign.old.tree campaign.new.tree) }
     ensures stage { (opening : Tree) → IsStage (S.settle_of settler.now) (S.depth_of settler.now)
-            campaign.old.root opening campaign.old.tree
+        campaign.old.root opening campaign.old.tree
         → IsStage (S.settle_of settler.now) (S.depth_of settler.now)
-            campaign.old.root opening campaign.new.tree }
+        campaign.old.root opening campaign.new.tree }
     ensures kept { (name : List ℕ) → P.begun keeper.old ≡ Some name
         → KeepsTree (P.kept keeper.new name) campaign.new.tree }
     ensures unchanged { OnErr result (campaign.new ≡ campaign.old) }

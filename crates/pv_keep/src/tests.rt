@@ -68,7 +68,11 @@ fn path_of(digits: &str) -> Result<Path, Fail> {
         if path.len() >= 200 {
             return Err("too long")?;
         }
-        path = if *digit == b'0' { path.low() } else { path.high() };
+        path = if *digit == b'0' {
+            path.low()
+        } else {
+            path.high()
+        };
     }
     Ok(path)
 }
@@ -126,11 +130,23 @@ fn a_path_is_that_of_an_open_leaf(rt: HostRuntime) -> Result<(), Fail> {
 #[test]
 fn a_line_is_right_for_its_box(rt: HostRuntime) -> Result<(), Fail> {
     let alloc = rt.alloc();
-    for line in ["", "Y", "O", "X ", "I 0:0 1:1", "I 0:0", "I 0:0 2:-1", "C 0 1:0 0:0 1:0"] {
+    for line in [
+        "",
+        "Y",
+        "O",
+        "X ",
+        "I 0:0 1:1",
+        "I 0:0",
+        "I 0:0 2:-1",
+        "C 0 1:0 0:0 1:0",
+    ] {
         assert_eq!(rt; made(alloc, &[("", line)])?, bad(0));
     }
     assert_eq!(rt; made(alloc, &[CUT, ("0", "I 0:0 1:0")])?, bad(1));
-    assert_eq!(rt; made(alloc, &[CUT, ("0", "I 0:0 1:-1"), ("1", "S 1:-1 1:0")])?, Ok(3));
+    assert_eq!(rt;
+        made(alloc, &[CUT, ("0", "I 0:0 1:-1"), ("1", "S 1:-1 1:0")])?,
+        Ok(3)
+    );
     Ok(())
 }
 
@@ -157,7 +173,12 @@ fn deep(alloc: Global, last: &[u8]) -> Result<Rows, Fail> {
     let mut rows = Rows::new(alloc);
     let mut path = Path::root();
     for step in 0..200i16 {
-        push(alloc, &mut rows, path, &halving(alloc, 0i16.saturating_sub(step))?)?;
+        push(
+            alloc,
+            &mut rows,
+            path,
+            &halving(alloc, 0i16.saturating_sub(step))?,
+        )?;
         if path.len() >= 200 {
             return Err("too deep")?;
         }
@@ -187,7 +208,10 @@ fn many(alloc: Global, count: u32) -> Result<Rows, Fail> {
 #[test]
 fn more_than_100_000_rows_are_too_many(rt: HostRuntime) -> Result<(), Fail> {
     let alloc = rt.alloc();
-    assert_eq!(rt; opened(alloc, many(alloc, 100_001)?)?, Err(CampaignRefused::TooMany));
+    assert_eq!(rt;
+        opened(alloc, many(alloc, 100_001)?)?,
+        Err(CampaignRefused::TooMany)
+    );
     assert_eq!(rt; opened(alloc, many(alloc, 100_000)?)?, bad(0));
     Ok(())
 }
