@@ -9,3 +9,4 @@ mod Lengths
 mod SideBySide
 mod Opening
 mod Rounding
+mod Reopened

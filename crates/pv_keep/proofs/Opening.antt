@@ -126,3 +126,9 @@ shuffle_count xs ys (z ∷ zs) (inr s) = let e : length ys ≡ length (z ∷ s.0
 
 pub new_count : (s u : Tree) (rows : List Row) → IsShuffle (rows_of s) rows (rows_of u) → settled_count u ≡ settled_count s + length rows
 new_count s u rows h = omega (arith, shuffle_count (rows_of s) rows (rows_of u) h, row_count [] s, row_count [] u)
+
+-- what is told once a campaign is opened is its tree's
+pub opened_keeps : (before after : Kept) (identity : List ℕ) (b : List Bounds) (t : Tree) → IsOpened before after identity b t → KeepsTree after t
+opened_keeps untold after identity b t h = subst (λ (k : Kept). KeepsTree k t) (sym h) tt
+opened_keeps absent after identity b t h = subst (λ (k : Kept). KeepsTree k t) (sym h.0) (sym (ap rows_of h.1))
+opened_keeps (holds kept rows) after identity b t h = subst (λ (k : Kept). KeepsTree k t) (sym h.1.0) h.1.1.0

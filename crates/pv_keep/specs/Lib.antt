@@ -6,3 +6,4 @@ pub mod Rebuilding
 pub mod Campaigns
 pub mod Beside
 pub mod Rounds
+pub mod Reopening

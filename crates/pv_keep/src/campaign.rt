@@ -59,6 +59,7 @@ impl Campaign {
         ensures opened { IfOk result (λ c.
             IsOpened (P.kept keeper.old name.now) (P.kept keeper.new name.now) identity root c.tree) }
         ensures begun { OnOk result (P.begun keeper.new ≡ Some name.now) }
+        ensures keeps { IfOk result (λ c. KeepsTree (P.kept keeper.new name.now) c.tree) }
         ensures other_identity { (found : List ℕ) → result ≡ Err (CampaignRefused.OtherIdentity found)
             → HasOther (P.kept keeper.old name.now) identity found }
         ensures too_many { IsErrOf result CampaignRefused.TooMany

@@ -1,0 +1,4 @@
+pub mod Troubles
+pub mod PathDigits
+pub mod Served
+pub mod Files
