@@ -15,3 +15,4 @@ pub mod StatusLaws
 pub mod Levels
 pub mod Drawn
 pub mod Planes
+pub mod Few
