@@ -222,7 +222,12 @@ fn learn_paved<S: Settler>(paving: &Paving, settler: &S)
 }
 
 // The same under a name for the board and its ledgers.
-fn pave_named<N: Naming + Send + Sync, S: KnowingSettler + Sync, G: Gate + Sync, R: Threads + Wait + Sync>(
+fn pave_named<
+    N: Naming + Send + Sync,
+    S: KnowingSettler + Sync,
+    G: Gate + Sync,
+    R: Threads + Wait + Sync,
+>(
     rt: &R,
     alloc: Global,
     settler: &S,
@@ -294,7 +299,12 @@ fn opened<N: Naming>(alloc: Global, opening: Paving, budget: u64) -> Result<Boar
 }
 
 // Lets the workers settle, and answers how many tickets they handed in.
-fn worked<N: Naming + Send + Sync, S: KnowingSettler + Sync, G: Gate + Sync, R: Threads + Wait + Sync>(
+fn worked<
+    N: Naming + Send + Sync,
+    S: KnowingSettler + Sync,
+    G: Gate + Sync,
+    R: Threads + Wait + Sync,
+>(
     rt: &R,
     alloc: Global,
     ruled: &Ruled<N, S>,
