@@ -1,4 +1,4 @@
--- What is known of the leaves of a stage.
+-- The first leaf of a growth.
 use Rattle.std.proofs.Common.{◌≡◌, ◌∙◌, ◌++◌, Bool, List, [], ◌∷◌, length, refl, sym, ap, subst, arith, ◌≤◌}
 use Rattle.std.specs.Prelude.{Some, reverse, ℕ}
 use Rattle.pv_interval.specs.Bounds.{Bounds}
@@ -25,12 +25,3 @@ next_at_root b g h e = subst (λ (g : Growing). IsNext g []) (sym e) (record {
   is_box = subst IsBox (ap (λ (g : Growing). g.root) e) h;
   few = omega arith;
 })
-
-module _ {K : Type 0} (knows : K → List Bounds → Type 0) where
-  -- a settling hands on what is then known
-  pub known_on : (items front now : List K) (last k : K) (g : Growing) (p : List Bool) (o : Outcome) → IsNext g p → items ≡ front ++ last ∷ [] → now ≡ with_handed front o k
-      → HoldsOfHalves (knows k) o → AreKnown knows (reverse items) g.holes → AreKnown knows (reverse now) (settle_next g o).holes
-  known_on items front now last k g p Removed n e f h a = subst (λ (ks : List K). AreKnown knows (reverse ks) (settle_next g Removed).holes) (sym f) (known_after_end knows items front last g p Removed n e tt a)
-  known_on items front now last k g p (Inner to) n e f h a = subst (λ (ks : List K). AreKnown knows (reverse ks) (settle_next g (Inner to)).holes) (sym f) (known_after_end knows items front last g p (Inner to) n e tt a)
-  known_on items front now last k g p (Small to) n e f h a = subst (λ (ks : List K). AreKnown knows (reverse ks) (settle_next g (Small to)).holes) (sym f) (known_after_end knows items front last g p (Small to) n e tt a)
-  known_on items front now last k g p (Cut to v at) n e f h a = known_after_cut knows items front now last k g p (Cut to v at) n e f h a
