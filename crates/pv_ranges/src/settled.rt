@@ -22,7 +22,8 @@ pub(crate) enum As {
     Cut(Ends),
 }
 
-// A system of one variable, a program, how many cuts are allowed, and what its search box is settled as.
+// A system of one variable, a program, how many cuts are allowed, and what its search box is
+// settled as.
 pub(crate) type Settled = (&'static str, &'static str, u32, As);
 
 // The settler of a text and a program, for boxes no wider than an eighth.

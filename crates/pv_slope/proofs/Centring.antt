@@ -1,6 +1,6 @@
 -- The centre of a box as a point of it.
-use Rattle.std.proofs.Common.{◌≡◌, ℕ, zero, suc, ◌<◌, List, [], ◌∷◌, length, refl, ap, sym, ◌∙◌, subst, arith, rules}
-use Rattle.std.specs.Prelude.{IsTrue, IfSome, Option, Some, None, Bool, true, false, ◌&&◌, ℤ, pos, ◌*ℤ◌, map, All, unwrap_or}
+use Rattle.std.proofs.Common.{◌≡◌, List, [], ◌∷◌, refl, sym, subst, arith, rules}
+use Rattle.std.specs.Prelude.{IsTrue, IfSome, Option, Some, None, Bool, true, false, ◌&&◌, ℤ, pos, map, All, unwrap_or}
 use Rattle.std.proofs.lemmas.Int.{ints}
 use Rattle.std.proofs.lemmas.List.Elements.{All-head, All-tail}
 use Rattle.pv_num.specs.Extended.{Extended, NegInf, Fin, PosInf}
@@ -13,7 +13,7 @@ use Rattle.pv_interval.specs.Tables.{exactly}
 use Rattle.pv_interval.proofs.Ends.{le_refl, le_of_false, lt_not}
 use Rattle.pv_interval.proofs.Multiples.{unit_some}
 use Rattle.pv_interval.proofs.Values.{below_le, above_le}
-use Rattle.pv_box.specs.Boxes.{IsInside, LieIn, PointIn}
+use Rattle.pv_box.specs.Boxes.{IsInside, PointIn}
 use Rattle.pv_box.proofs.Inside.{middle_inside}
 use Rattle.pv_slope.specs.Centres.{centre_of}
 use Rattle.pv_slope.specs.Centered.{is_finite, has_finite_ends}

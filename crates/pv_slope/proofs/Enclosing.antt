@@ -1,8 +1,8 @@
 -- The centered form encloses its expression.
-use Rattle.std.proofs.Common.{◌≡◌, ℕ, zero, suc, ◌*◌, ◌<◌, ◌≤◌, List, [], ◌∷◌, length, refl, ap, sym, ◌∙◌, subst, arith, get_or}
-use Rattle.std.specs.Prelude.{ℤ, pos, ◌+ℤ◌, ◌-ℤ◌, ◌*ℤ◌, Option, Some, None, Bool, true, false, ◌&&◌, All, map, slice_get, unwrap_or, if◌then◌else◌}
+use Rattle.std.proofs.Common.{◌≡◌, ℕ, zero, suc, ◌*◌, ◌<◌, ◌≤◌, List, [], ◌∷◌, length, refl, ap, sym, subst, arith, get_or}
+use Rattle.std.specs.Prelude.{ℤ, pos, ◌+ℤ◌, ◌-ℤ◌, ◌*ℤ◌, Option, Some, None, true, ◌&&◌, map, slice_get, unwrap_or}
 use Rattle.std.proofs.lemmas.List.{get_or-map}
-use Rattle.pv_interval.specs.Bounds.{Bounds, IsInterval, everything}
+use Rattle.pv_interval.specs.Bounds.{Bounds, everything}
 use Rattle.pv_interval.specs.Fractions.{Fraction, plus, minus, times, opposite, size, power as raised, least as lesser, greatest as larger}
 use Rattle.pv_interval.specs.Points.{Lies, LiesIn, LiesInSome, Point}
 use Rattle.pv_interval.specs.Tables as table
@@ -16,15 +16,15 @@ use Rattle.pv_expr.specs.Terms.{Unary, negation, absolute, power, Binary, sum, d
 use Rattle.pv_hc4.specs.Chain.{chain, at}
 use Rattle.pv_hc4.specs.Forward.{forward_of, unary_of, binary_of}
 use Rattle.pv_hc4.specs.Totality.{total_of}
-use Rattle.pv_hc4.proofs.Lying.{InSome, same_value, one_value, two_values, coordinate_lies, unary_lies, binary_lies, forward_lies}
-use Rattle.pv_hc4.proofs.Sureness.{IsDefined, value_defined}
+use Rattle.pv_hc4.proofs.Lying.{same_value, one_value, two_values, coordinate_lies, unary_lies, binary_lies, forward_lies}
+use Rattle.pv_hc4.proofs.Sureness.{value_defined}
 use Rattle.pv_slope.specs.Centres.{centre_of, known, met_with, on_box, at_centre}
 use Rattle.pv_slope.specs.SlopeTable.{unary_slope, binary_slope, slope_of}
-use Rattle.pv_slope.specs.Centered.{has_finite_ends, from_centre, linear_of, centered_from, centered_of, Encloses, CenteredEncloses}
+use Rattle.pv_slope.specs.Centered.{has_finite_ends, from_centre, linear_of, centered_from, CenteredEncloses}
 use Rattle.pv_slope.proofs.Polynomials.{v, n, ◌⊕◌, ◌⊗◌, alike}
-use Rattle.pv_slope.proofs.Identities.{IsBy, sum_more, sum_whole}
+use Rattle.pv_slope.proofs.Identities.{sum_more, sum_whole}
 use Rattle.pv_slope.proofs.Sums.{dot, cancelled}
-use Rattle.pv_slope.proofs.Joining.{Same, same_lies, Joins, slope, sum_joins, difference_joins, product_joins, negation_joins}
+use Rattle.pv_slope.proofs.Joining.{same_lies, Joins, sum_joins, difference_joins, product_joins, negation_joins}
 use Rattle.pv_slope.proofs.Joined.{in_known, constant_joins, place_joins, power_joins, absolute_joins, least_joins, greatest_joins, quotient_row_joins}
 use Rattle.pv_slope.proofs.Centring.{both_true, centre_point, centres, centre_in_box, centre_in_centres}
 

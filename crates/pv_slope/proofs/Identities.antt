@@ -1,8 +1,7 @@
 -- The identities of slopes, between whole numbers. Of one term a/b and c/d are the values at two points, and their difference
 -- is p/(m k); of another one the values are e/f and g/h, and their difference is q/(o k).
-use Rattle.std.proofs.Common.{◌≡◌, ℕ, ◌<◌, [], ◌∷◌, refl, arith}
+use Rattle.std.proofs.Common.{◌≡◌, [], ◌∷◌, refl}
 use Rattle.std.specs.Prelude.{ℤ, pos, negsuc, ◌+ℤ◌, ◌-ℤ◌, ◌*ℤ◌}
-use Rattle.std.proofs.lemmas.Int.{ints}
 use lib.IntN.{neg_ℤ}
 use Rattle.pv_slope.proofs.Polynomials.{Poly, v, n, ◌⊕◌, ◌⊖◌, ◌⊗◌, minus, Equation, follows, alike}
 
@@ -13,42 +12,59 @@ IsBy a b c d m k p = (a *ℤ d -ℤ c *ℤ b) *ℤ (m *ℤ k) ≡ p *ℤ (b *ℤ
 -- the letters as variables
 abbrev A : Poly
 A = v 0
+
 abbrev B : Poly
 B = v 1
+
 abbrev C : Poly
 C = v 2
+
 abbrev D : Poly
 D = v 3
+
 abbrev M : Poly
 M = v 4
+
 abbrev K : Poly
 K = v 5
+
 abbrev P : Poly
 P = v 6
+
 abbrev E : Poly
 E = v 7
+
 abbrev F : Poly
 F = v 8
+
 abbrev G : Poly
 G = v 9
+
 abbrev H : Poly
 H = v 10
+
 abbrev O : Poly
 O = v 11
+
 abbrev Q : Poly
 Q = v 12
+
 abbrev R : Poly
 R = v 13
+
 abbrev S : Poly
 S = v 14
+
 abbrev T : Poly
 T = v 15
+
 abbrev U : Poly
 U = v 16
 
 -- the differences of both terms, times a factor
 abbrev first_by : Poly → Equation
 first_by x = record { by = x; left = (A ⊗ D ⊖ C ⊗ B) ⊗ (M ⊗ K); right = P ⊗ (B ⊗ D) }
+
 abbrev second_by : Poly → Equation
 second_by x = record { by = x; left = (E ⊗ H ⊖ G ⊗ F) ⊗ (O ⊗ K); right = Q ⊗ (F ⊗ H) }
 
@@ -83,11 +99,11 @@ quotient_row a b c d m k p e f g h o q r s t u x y z w =
     (((A ⊗ S) ⊗ (D ⊗ U) ⊖ (C ⊗ T) ⊗ (B ⊗ R)) ⊗ (((M ⊗ ((D ⊗ U) ⊗ O)) ⊗ R) ⊗ K) ⊗ (F ⊗ H))
     ((P ⊗ (((D ⊗ U) ⊗ O) ⊗ S) ⊕ Q ⊗ minus (((C ⊗ T) ⊗ M) ⊗ S)) ⊗ ((B ⊗ R) ⊗ (D ⊗ U)) ⊗ (F ⊗ H))
     (
-      first_by (D ⊗ U ⊗ O ⊗ S ⊗ R ⊗ U ⊗ F ⊗ H)
-      ∷ second_by (minus (C ⊗ T ⊗ M ⊗ S ⊗ B ⊗ R ⊗ D ⊗ U))
-      ∷ record { by = M ⊗ O ⊗ R ⊗ K ⊗ D ⊗ U ⊗ C ⊗ T ⊗ B ⊗ H; left = E ⊗ S; right = R ⊗ F }
-      ∷ record { by = minus (M ⊗ O ⊗ R ⊗ K ⊗ D ⊗ U ⊗ C ⊗ B ⊗ S ⊗ F); left = G ⊗ T; right = U ⊗ H }
-      ∷ []
+    first_by (D ⊗ U ⊗ O ⊗ S ⊗ R ⊗ U ⊗ F ⊗ H)
+    ∷ second_by (minus (C ⊗ T ⊗ M ⊗ S ⊗ B ⊗ R ⊗ D ⊗ U))
+    ∷ record { by = M ⊗ O ⊗ R ⊗ K ⊗ D ⊗ U ⊗ C ⊗ T ⊗ B ⊗ H; left = E ⊗ S; right = R ⊗ F }
+    ∷ record { by = minus (M ⊗ O ⊗ R ⊗ K ⊗ D ⊗ U ⊗ C ⊗ B ⊗ S ⊗ F); left = G ⊗ T; right = U ⊗ H }
+    ∷ []
     )
     refl (x, (y, (z, (w, tt))))
 
@@ -98,10 +114,10 @@ same_row a b c d m k p e f g h x y z =
     follows (a ∷ b ∷ c ∷ d ∷ m ∷ k ∷ p ∷ e ∷ f ∷ g ∷ h ∷ [])
     (((E ⊗ H ⊖ G ⊗ F) ⊗ (M ⊗ K)) ⊗ (B ⊗ D)) ((P ⊗ (F ⊗ H)) ⊗ (B ⊗ D))
     (
-      first_by (F ⊗ H)
-      ∷ record { by = minus (D ⊗ H ⊗ M ⊗ K); left = A ⊗ F; right = E ⊗ B }
-      ∷ record { by = B ⊗ F ⊗ M ⊗ K; left = C ⊗ H; right = G ⊗ D }
-      ∷ []
+    first_by (F ⊗ H)
+    ∷ record { by = minus (D ⊗ H ⊗ M ⊗ K); left = A ⊗ F; right = E ⊗ B }
+    ∷ record { by = B ⊗ F ⊗ M ⊗ K; left = C ⊗ H; right = G ⊗ D }
+    ∷ []
     )
     refl (x, (y, (z, tt)))
 
@@ -114,11 +130,11 @@ mixed_row a b c d m k p e f g h o q r s t x y z w =
     follows (a ∷ b ∷ c ∷ d ∷ m ∷ k ∷ p ∷ e ∷ f ∷ g ∷ h ∷ o ∷ q ∷ r ∷ s ∷ t ∷ [])
     (((A ⊗ H ⊖ G ⊗ B) ⊗ (((R ⊕ T) ⊗ (M ⊗ O)) ⊗ K)) ⊗ (D ⊗ F)) (((P ⊗ (R ⊗ O) ⊕ Q ⊗ (T ⊗ M)) ⊗ (B ⊗ H)) ⊗ (D ⊗ F))
     (
-      first_by (R ⊗ O ⊗ H ⊗ F)
-      ∷ second_by (T ⊗ M ⊗ B ⊗ D)
-      ∷ record { by = M ⊗ O ⊗ K ⊗ D ⊗ H ⊗ (A ⊗ F ⊖ E ⊗ B); left = T; right = S ⊗ ((C ⊗ H ⊖ G ⊗ D) ⊗ (B ⊗ F)) }
-      ∷ record { by = M ⊗ O ⊗ K ⊗ B ⊗ F ⊗ (C ⊗ H ⊖ G ⊗ D); left = R; right = S ⊗ ((E ⊗ B ⊖ A ⊗ F) ⊗ (D ⊗ H)) }
-      ∷ []
+    first_by (R ⊗ O ⊗ H ⊗ F)
+    ∷ second_by (T ⊗ M ⊗ B ⊗ D)
+    ∷ record { by = M ⊗ O ⊗ K ⊗ D ⊗ H ⊗ (A ⊗ F ⊖ E ⊗ B); left = T; right = S ⊗ ((C ⊗ H ⊖ G ⊗ D) ⊗ (B ⊗ F)) }
+    ∷ record { by = M ⊗ O ⊗ K ⊗ B ⊗ F ⊗ (C ⊗ H ⊖ G ⊗ D); left = R; right = S ⊗ ((E ⊗ B ⊖ A ⊗ F) ⊗ (D ⊗ H)) }
+    ∷ []
     )
     refl (x, (y, (z, (w, tt))))
 
@@ -129,9 +145,9 @@ scaled_row a b c d m k p e f g h r s x y =
     follows (a ∷ b ∷ c ∷ d ∷ m ∷ k ∷ p ∷ e ∷ f ∷ g ∷ h ∷ pos 0 ∷ pos 0 ∷ r ∷ s ∷ [])
     (((E ⊗ H ⊖ G ⊗ F) ⊗ ((R ⊗ M) ⊗ K)) ⊗ (B ⊗ D)) (((P ⊗ S) ⊗ (F ⊗ H)) ⊗ (B ⊗ D))
     (
-      first_by (S ⊗ F ⊗ H)
-      ∷ record { by = M ⊗ K; left = (E ⊗ H ⊖ G ⊗ F) ⊗ (R ⊗ (B ⊗ D)); right = (S ⊗ (A ⊗ D ⊖ C ⊗ B)) ⊗ (F ⊗ H) }
-      ∷ []
+    first_by (S ⊗ F ⊗ H)
+    ∷ record { by = M ⊗ K; left = (E ⊗ H ⊖ G ⊗ F) ⊗ (R ⊗ (B ⊗ D)); right = (S ⊗ (A ⊗ D ⊖ C ⊗ B)) ⊗ (F ⊗ H) }
+    ∷ []
     )
     refl (x, (y, tt))
 
@@ -177,8 +193,8 @@ sum_whole a b c d m k p e f x y =
     follows (a ∷ b ∷ c ∷ d ∷ m ∷ k ∷ p ∷ e ∷ f ∷ [])
     ((E ⊗ B) ⊗ (D ⊗ (M ⊗ K))) ((A ⊗ F) ⊗ (D ⊗ (M ⊗ K)))
     (
-      first_by (minus F)
-      ∷ record { by = B; left = E ⊗ (D ⊗ (M ⊗ K)); right = (C ⊗ (M ⊗ K) ⊕ P ⊗ D) ⊗ F }
-      ∷ []
+    first_by (minus F)
+    ∷ record { by = B; left = E ⊗ (D ⊗ (M ⊗ K)); right = (C ⊗ (M ⊗ K) ⊕ P ⊗ D) ⊗ F }
+    ∷ []
     )
     refl (x, (y, tt))

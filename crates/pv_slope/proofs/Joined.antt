@@ -1,24 +1,21 @@
 -- The rows of the table of slopes lead from the values at the centre to those at a point.
-use Rattle.std.proofs.Common.{◌≡◌, ◌⊎◌, inl, inr, ℕ, zero, suc, ◌*◌, ◌<◌, List, length, refl, ap, sym, ◌∙◌, subst, arith, [], ◌∷◌}
-use Rattle.std.specs.Prelude.{ℤ, pos, negsuc, ◌+ℤ◌, ◌-ℤ◌, ◌*ℤ◌, ◌≤ℤ◌, Option, Some, None, Bool, true, false, cond, int_lt, nat_eq, unwrap_or, if◌then◌else◌}
-use Rattle.std.proofs.Math.IntN.{zero-*ℤ}
+use Rattle.std.proofs.Common.{◌≡◌, ℕ, zero, suc, ◌*◌, ◌<◌, refl, ap, sym, ◌∙◌, subst, arith, [], ◌∷◌}
+use Rattle.std.specs.Prelude.{ℤ, pos, negsuc, ◌-ℤ◌, ◌*ℤ◌, ◌≤ℤ◌, Option, Some, None, Bool, true, false, cond, nat_eq, if◌then◌else◌}
 use Rattle.std.proofs.lemmas.Int.{ints, by_lt_z}
-use Rattle.pv_num.specs.Grid.{unit}
 use Rattle.pv_num.specs.Order.{le}
-use Rattle.pv_interval.specs.Bounds.{Bounds, everything}
-use Rattle.pv_interval.specs.Fractions.{Fraction, plus, minus, times, opposite, size, power, over, below, least, greatest}
+use Rattle.pv_interval.specs.Bounds.{Bounds}
+use Rattle.pv_interval.specs.Fractions.{Fraction, opposite, size, power, over, below, least, greatest}
 use Rattle.pv_interval.specs.Points.{Lies, LiesIn, LiesInSome}
 use Rattle.pv_interval.specs.Tables as table
-use Rattle.pv_interval.proofs.Keeps.{some_times, by_sign, opposite_keeps}
 use Rattle.pv_interval.proofs.Multiples.{below_zero, above_zero}
 use Rattle.pv_interval.proofs.Orders.{cond_keeps, lt_fact, not_lt_fact, size_from, size_to, hull_keeps_left, hull_keeps_right}
 use Rattle.pv_interval.proofs.Values.{below_le, above_le}
 use Rattle.pv_hc4.proofs.Comparing.{through_end}
 use Rattle.pv_slope.specs.Centres.{known}
 use Rattle.pv_slope.specs.SlopeTable.{zero_slope, one_slope, either_slope, power_factor, power_slope, absolute_slope, least_slope, greatest_slope, quotient_slope}
-use Rattle.pv_slope.proofs.Polynomials.{v, n, ◌⊗◌, ◌⊖◌, minus as minus_of, alike}
+use Rattle.pv_slope.proofs.Polynomials.{v, n, ◌⊗◌, ◌⊖◌, alike}
 use Rattle.pv_slope.proofs.Identities.{IsBy}
-use Rattle.pv_slope.proofs.Sums.{dot, dot_zero, dot_only, only}
+use Rattle.pv_slope.proofs.Sums.{dot_zero, dot_only, only}
 use Rattle.pv_slope.proofs.Joining.{Same, Joins, same_joins, covered_joins, scaled_joins, negation_joins, quotient_joins}
 use Rattle.pv_slope.proofs.Mixing.{mixed_joins}
 use Rattle.pv_slope.proofs.Raising.{terms_value, terms_lie, powers_differ}
@@ -177,8 +174,10 @@ least_joins s t f g h j k d u x y fl gl hl jl a b = go (le x.hi y.lo) (le y.hi x
   where
     left : (i : ℕ) (e : Fraction) → LiesIn e (s i) → LiesIn e (table.hull_of (s i) (t i))
     left i e l = hull_keeps_left e.top e.under (s i) (t i) l
+
     right : (i : ℕ) (e : Fraction) → LiesIn e (t i) → LiesIn e (table.hull_of (s i) (t i))
     right i e l = hull_keeps_right e.top e.under (s i) (t i) l
+
     mixes : Joins (λ i. table.hull_of (s i) (t i)) (least f h) (least g j) k d u
     mixes =
         let r : ℕ → Bounds = λ i. table.hull_of (s i) (t i) in
@@ -191,6 +190,7 @@ least_joins s t f g h j k d u x y fl gl hl jl a b = go (le x.hi y.lo) (le y.hi x
         (λ q. same_joins r h g (least f h) (least g j) k d u hl.some gl.some (least_second f h p) (least_first g j q)
         (low_mixed t s r h j f g k d u hl.some jl.some fl.some gl.some p q right left b a))
         (λ q. same_joins r h j (least f h) (least g j) k d u hl.some jl.some (least_second f h p) (least_second g j q) (covered_joins t r h j k d u right b)))
+
     go : (p q : Bool) → le x.hi y.lo ≡ p → le y.hi x.lo ≡ q
         → Joins (λ i. if p then s i else if q then t i else table.hull_of (s i) (t i)) (least f h) (least g j) k d u
     go true q e i =
@@ -207,8 +207,10 @@ greatest_joins s t f g h j k d u x y fl gl hl jl a b = go (le y.hi x.lo) (le x.h
   where
     left : (i : ℕ) (e : Fraction) → LiesIn e (s i) → LiesIn e (table.hull_of (s i) (t i))
     left i e l = hull_keeps_left e.top e.under (s i) (t i) l
+
     right : (i : ℕ) (e : Fraction) → LiesIn e (t i) → LiesIn e (table.hull_of (s i) (t i))
     right i e l = hull_keeps_right e.top e.under (s i) (t i) l
+
     mixes : Joins (λ i. table.hull_of (s i) (t i)) (greatest f h) (greatest g j) k d u
     mixes =
         let r : ℕ → Bounds = λ i. table.hull_of (s i) (t i) in
@@ -221,6 +223,7 @@ greatest_joins s t f g h j k d u x y fl gl hl jl a b = go (le y.hi x.lo) (le x.h
         (λ q. same_joins r h g (greatest f h) (greatest g j) k d u hl.some gl.some (greatest_second f h p) (greatest_first g j q)
         (high_mixed t s r h j f g k d u hl.some jl.some fl.some gl.some p q right left b a))
         (λ q. same_joins r h j (greatest f h) (greatest g j) k d u hl.some jl.some (greatest_second f h p) (greatest_second g j q) (covered_joins t r h j k d u right b)))
+
     go : (p q : Bool) → le y.hi x.lo ≡ p → le x.hi y.lo ≡ q
         → Joins (λ i. if p then s i else if q then t i else table.hull_of (s i) (t i)) (greatest f h) (greatest g j) k d u
     go true q e i =

@@ -1,23 +1,20 @@
 -- Numbers of intervals of slopes that lead from one value of a term to another, and how operations combine them.
-use Rattle.std.proofs.Common.{◌≡◌, ℕ, zero, suc, ◌+◌, ◌*◌, ◌<◌, ◌≤◌, [], ◌∷◌, refl, ap, sym, ◌∙◌, subst, arith}
-use Rattle.std.specs.Prelude.{ℤ, pos, negsuc, ◌+ℤ◌, ◌-ℤ◌, ◌*ℤ◌, ◌≤ℤ◌, Option, Some, None}
+use Rattle.std.proofs.Common.{◌≡◌, ℕ, zero, suc, ◌*◌, ◌<◌, [], ◌∷◌, refl, ap, sym, ◌∙◌, subst, arith}
+use Rattle.std.specs.Prelude.{ℤ, pos, negsuc, ◌+ℤ◌, ◌-ℤ◌, ◌*ℤ◌, Option, Some}
 use Rattle.std.proofs.lemmas.Int.{ints}
 use lib.IntN.{neg_ℤ}
-use Rattle.pv_num.specs.Grid.{unit}
-use Rattle.pv_num.specs.Extended.{Extended, NegInf, Fin, PosInf}
 use Rattle.pv_interval.specs.Bounds.{Bounds}
 use Rattle.pv_interval.specs.Fractions.{Fraction, plus, minus, times, over, over_parts, opposite}
 use Rattle.pv_interval.specs.Inclusion.{Covers}
-use Rattle.pv_interval.specs.Points.{IsBelow, IsAbove, Lies, LiesIn, LiesInSome}
-use Rattle.pv_interval.specs.Tables.{sum_of, difference_of, product_of, negated, quotient_of, hull_of}
-use Rattle.pv_interval.proofs.Integers.{neg_left, neg_right}
+use Rattle.pv_interval.specs.Points.{Lies, LiesIn, LiesInSome}
+use Rattle.pv_interval.specs.Tables.{sum_of, difference_of, product_of, negated, quotient_of}
+use Rattle.pv_interval.proofs.Integers.{neg_right}
 use Rattle.pv_interval.proofs.Keeps.{some_times, sum_keeps, difference_keeps, product_keeps, opposite_keeps}
-use Rattle.pv_interval.proofs.Orders.{above_down, below_up, hull_keeps_left, hull_keeps_right}
-use Rattle.pv_interval.proofs.Products.{times_pos}
+use Rattle.pv_interval.proofs.Orders.{above_down, below_up}
 use Rattle.pv_interval.proofs.Quotients.{quotient_keeps}
-use Rattle.pv_slope.proofs.Polynomials.{Poly, v, n, ◌⊕◌, ◌⊖◌, ◌⊗◌, minus as minus_of, alike}
-use Rattle.pv_slope.proofs.Identities.{IsBy, sum_row, difference_row, product_row, quotient_row, same_row, mixed_row, scaled_row, negation_row}
-use Rattle.pv_slope.proofs.Sums.{dot, dot_linear, dot_scaled, dot_zero, cancelled}
+use Rattle.pv_slope.proofs.Polynomials.{v, n, ◌⊕◌, ◌⊖◌, ◌⊗◌, minus as minus_of, alike}
+use Rattle.pv_slope.proofs.Identities.{IsBy, sum_row, difference_row, product_row, quotient_row, same_row, scaled_row, negation_row}
+use Rattle.pv_slope.proofs.Sums.{dot, dot_linear, dot_scaled, cancelled}
 
 -- two fractions of one value
 abbrev pub Same : Fraction → Fraction → Type 0

@@ -1,5 +1,5 @@
 -- Values of one term at one point and of another at the other: their difference lies between those of the two terms.
-use Rattle.std.proofs.Common.{◌≡◌, ℕ, zero, suc, ◌+◌, ◌*◌, ◌<◌, ◌≤◌, [], ◌∷◌, refl, ap, sym, ◌∙◌, subst, arith}
+use Rattle.std.proofs.Common.{◌≡◌, ℕ, zero, suc, ◌+◌, ◌*◌, ◌<◌, [], ◌∷◌, refl, ap, sym, ◌∙◌, subst, arith}
 use Rattle.std.specs.Prelude.{ℤ, pos, negsuc, ◌+ℤ◌, ◌-ℤ◌, ◌*ℤ◌, ◌≤ℤ◌, unsigned_abs}
 use Rattle.std.proofs.lemmas.Int.{ints}
 use Rattle.pv_num.specs.Grid.{unit}
@@ -7,7 +7,7 @@ use Rattle.pv_num.specs.Extended.{Extended, NegInf, Fin, PosInf}
 use Rattle.pv_interval.specs.Bounds.{Bounds}
 use Rattle.pv_interval.specs.Fractions.{Fraction}
 use Rattle.pv_interval.specs.Inclusion.{Covers}
-use Rattle.pv_interval.specs.Points.{IsBelow, IsAbove, Lies, LiesIn}
+use Rattle.pv_interval.specs.Points.{IsBelow, IsAbove, LiesIn}
 use Rattle.pv_interval.proofs.Integers.{times_assoc}
 use Rattle.pv_interval.proofs.Keeps.{some_times}
 use Rattle.pv_interval.proofs.Orders.{size_from}

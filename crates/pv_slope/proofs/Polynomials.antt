@@ -1,5 +1,5 @@
 -- Identities between polynomials over the whole numbers, by normal forms: a list of monomials with coefficients.
-use Rattle.std.proofs.Common.{◌≡◌, ℕ, zero, suc, List, [], ◌∷◌, refl, ap, sym, ◌∙◌, subst, arith, get_or}
+use Rattle.std.proofs.Common.{◌≡◌, ℕ, zero, suc, List, [], ◌∷◌, refl, ap, sym, ◌∙◌, arith, get_or}
 use Rattle.std.specs.Prelude.{ℤ, pos, negsuc, ◌+ℤ◌, ◌-ℤ◌, ◌*ℤ◌, Bool, true, false, cond, ◌&&◌, nat_eq, nat_le}
 use Rattle.std.proofs.Math.IntN.{*ℤ_comm, *ℤ-one, *ℤ-zero, zero-*ℤ}
 use Rattle.std.proofs.lemmas.Int.{ints}
@@ -11,7 +11,6 @@ use Rattle.pv_interval.proofs.Multiples.{cross}
 infixl 6 ◌⊕◌
 infixl 6 ◌⊖◌
 infixl 7 ◌⊗◌
-
 -- a polynomial: variable k, a number, sums, differences and products
 pub data Poly : Type 0 where
   v : ℕ → Poly

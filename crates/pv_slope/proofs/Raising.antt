@@ -1,13 +1,13 @@
 -- The difference of two powers is a sum of products of powers times the difference of their bases.
-use Rattle.std.proofs.Common.{◌≡◌, ℕ, zero, suc, ◌+◌, ◌-◌, ◌*◌, ◌<◌, ◌≤◌, [], ◌∷◌, refl, ap, sym, ◌∙◌, subst, arith}
-use Rattle.std.specs.Prelude.{ℤ, pos, negsuc, ◌+ℤ◌, ◌-ℤ◌, ◌*ℤ◌}
+use Rattle.std.proofs.Common.{◌≡◌, ℕ, zero, suc, ◌-◌, ◌<◌, ◌≤◌, [], ◌∷◌, refl, sym, subst, arith}
+use Rattle.std.specs.Prelude.{ℤ, pos, negsuc, ◌-ℤ◌, ◌*ℤ◌}
 use Rattle.pv_interval.specs.Bounds.{Bounds}
 use Rattle.pv_interval.specs.Fractions.{Fraction, plus, times, power}
 use Rattle.pv_interval.specs.Points.{LiesIn}
 use Rattle.pv_interval.proofs.Keeps.{sum_keeps, product_keeps}
 use Rattle.pv_interval.proofs.Powers.{power_keeps}
 use Rattle.pv_slope.specs.SlopeTable.{power_term, power_terms}
-use Rattle.pv_slope.proofs.Polynomials.{Poly, v, n, ◌⊕◌, ◌⊖◌, ◌⊗◌, follows}
+use Rattle.pv_slope.proofs.Polynomials.{v, n, ◌⊖◌, ◌⊗◌, follows}
 use Rattle.pv_slope.proofs.Identities.{powers_begin, powers_more}
 use Rattle.pv_slope.proofs.Sums.{cancelled}
 
@@ -57,19 +57,19 @@ whole t d a b c e q k x =
     follows (t ∷ d ∷ a ∷ b ∷ c ∷ e ∷ q ∷ k ∷ [])
     ((v 4 ⊗ v 3 ⊖ v 5 ⊗ v 2) ⊗ (v 6 ⊗ v 7)) ((v 0 ⊗ v 1) ⊗ (v 2 ⊗ v 3))
     (
-      record {
-        by = n (negsuc 0);
-        left = (v 0 ⊗ v 1) ⊗ ((v 2 ⊗ n (pos 1)) ⊗ v 3);
-        right = ((v 4 ⊗ n (pos 1)) ⊗ v 3 ⊖ v 5 ⊗ (v 2 ⊗ n (pos 1))) ⊗ (v 6 ⊗ v 7);
-      }
-      ∷ []
+    record {
+      by = n (negsuc 0);
+      left = (v 0 ⊗ v 1) ⊗ ((v 2 ⊗ n (pos 1)) ⊗ v 3);
+      right = ((v 4 ⊗ n (pos 1)) ⊗ v 3 ⊖ v 5 ⊗ (v 2 ⊗ n (pos 1))) ⊗ (v 6 ⊗ v 7);
+    }
+    ∷ []
     )
     refl (x, tt)
 
 -- f^(m+1) - g^(m+1) is the whole sum times f - g
 pub powers_differ : (f g : Fraction) (m : ℕ) → 0 < g.under
     → ((power f (suc m)).top *ℤ pos (power g (suc m)).under -ℤ (power g (suc m)).top *ℤ pos (power f (suc m)).under)
-        *ℤ (pos (terms_value f g m m).under *ℤ (pos f.under *ℤ pos g.under))
+    *ℤ (pos (terms_value f g m m).under *ℤ (pos f.under *ℤ pos g.under))
     ≡ ((terms_value f g m m).top *ℤ (f.top *ℤ pos g.under -ℤ g.top *ℤ pos f.under)) *ℤ (pos (power f (suc m)).under *ℤ pos (power g (suc m)).under)
 powers_differ f g m h =
     let t = terms_value f g m m in

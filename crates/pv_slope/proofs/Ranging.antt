@@ -1,14 +1,13 @@
 -- What the passes over the nodes say of the expression, and when its centered form is empty.
-use Rattle.std.proofs.Common.{◌≡◌, ℕ, ◌<◌, List, length, refl, ap, sym, ◌∙◌, subst}
+use Rattle.std.proofs.Common.{◌≡◌, ℕ, List, length, refl, ap, sym, ◌∙◌, subst}
 use Rattle.std.specs.Prelude.{◌↔◌, Option, Some, None, Bool, true, false, ◌&&◌, if◌then◌else◌}
 use Rattle.pv_interval.specs.Bounds.{Bounds}
-use Rattle.pv_interval.specs.Fractions.{Fraction}
 use Rattle.pv_interval.specs.Points.{LiesInSome}
 use Rattle.pv_interval.specs.Tables.{meet_of}
 use Rattle.pv_box.specs.Boxes.{IsBox}
 use Rattle.pv_expr.specs.Systems.{IsOver}
 use Rattle.pv_expr.specs.Terms.{Term}
-use Rattle.pv_hc4.specs.Chain.{chain, at}
+use Rattle.pv_hc4.specs.Chain.{chain}
 use Rattle.pv_hc4.specs.Forward.{forward_of}
 use Rattle.pv_hc4.specs.declared.node.Node.{Node}
 use Rattle.pv_hc4.specs.Nodes.{terms, term_at}

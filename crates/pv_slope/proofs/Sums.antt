@@ -1,12 +1,12 @@
 -- Sums of slopes times changes, one a variable.
 use Rattle.std.proofs.Common.{◌≡◌, ◌≢◌, ℕ, zero, suc, ◌<◌, ◌≤◌, [], ◌∷◌, refl, ap, sym, ◌∙◌, arith, inl, inr}
-use Rattle.std.specs.Prelude.{ℤ, pos, ◌+ℤ◌, ◌*ℤ◌, Bool, true, false, nat_eq, cond}
-use Rattle.std.proofs.Math.IntN.{zero-*ℤ, *ℤ-one}
+use Rattle.std.specs.Prelude.{ℤ, pos, ◌+ℤ◌, ◌*ℤ◌, true, false, nat_eq, cond}
+use Rattle.std.proofs.Math.IntN.{zero-*ℤ}
 use Rattle.std.proofs.lemmas.Int.{ints}
 use Rattle.std.proofs.lemmas.Bool.{cases_eq}
 use Rattle.std.proofs.lemmas.Bool.Decides.{nat_tests}
 use Rattle.pv_interval.proofs.Products.{cancel_pos}
-use Rattle.pv_slope.proofs.Polynomials.{Poly, v, n, ◌⊕◌, ◌⊖◌, ◌⊗◌, follows, one_times}
+use Rattle.pv_slope.proofs.Polynomials.{v, n, ◌⊕◌, ◌⊗◌, follows, one_times}
 
 -- equal multiples are of equal numbers
 pub cancelled : (k : ℕ) (x y : ℤ) → 0 < k → x *ℤ pos k ≡ y *ℤ pos k → x ≡ y

@@ -1,10 +1,10 @@
 -- Tests of the parts of a program, and how many of them hold.
-use Rattle.std.proofs.Common.{◌≡◌, ℕ, suc, ◌+◌, ◌-◌, ◌*◌, ◌<◌, ◌≤◌, List, ◌∷◌, length, ap, sym, ◌∙◌, subst, arith, get_or, drop, add-one, Vec, Global}
+use Rattle.std.proofs.Common.{◌≡◌, ℕ, suc, ◌+◌, ◌-◌, ◌<◌, ◌≤◌, List, ◌∷◌, length, ap, sym, ◌∙◌, subst, arith, get_or, drop, add-one, Vec, Global}
 use Rattle.std.specs.Prelude.{Bool, nat_le, nat_lt}
 use Rattle.std.proofs.Math.Seq.{drop-cons}
 use Rattle.std.proofs.lemmas.Bool.Decides.{nat_tests}
 use Rattle.pv_ctc.specs.declared.program.Program.{Program, Compose, Union, QInter}
-use Rattle.pv_ctc.specs.Plans.{Plan, Plans, plan_and, plan_of, plans_of, plan_count, IsFor}
+use Rattle.pv_ctc.specs.Plans.{plan_of, plans_of, plan_count, IsFor}
 use Rattle.pv_ctc.specs.Sureness.{all_true, count_true}
 use Rattle.pv_ctc.proofs.Rows.{count_plans}
 use Rattle.pv_ctc.proofs.Sizes.{vec_plans}

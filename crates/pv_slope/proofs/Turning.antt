@@ -1,19 +1,18 @@
 -- The difference of two absolute values is the difference of the numbers times a number from -1 to 1.
-use Rattle.std.proofs.Common.{◌≡◌, ◌⊎◌, inl, inr, ℕ, zero, suc, ◌<◌, [], ◌∷◌, refl, ap, sym, ◌∙◌, subst, arith}
-use Rattle.std.specs.Prelude.{ℤ, pos, negsuc, ◌+ℤ◌, ◌-ℤ◌, ◌*ℤ◌, ◌≤ℤ◌, unsigned_abs}
-use Rattle.std.proofs.Math.IntN.{*ℤ-zero}
+use Rattle.std.proofs.Common.{◌≡◌, ◌⊎◌, inl, inr, ℕ, zero, suc, ◌<◌, [], ◌∷◌, refl, ap, sym, subst, arith}
+use Rattle.std.specs.Prelude.{ℤ, pos, negsuc, ◌-ℤ◌, ◌*ℤ◌, ◌≤ℤ◌, unsigned_abs}
 use Rattle.std.proofs.lemmas.Int.{ints}
 use lib.IntN.{neg_ℤ}
 use Rattle.pv_num.specs.Grid.{unit}
 use Rattle.pv_interval.specs.Fractions.{Fraction, size}
-use Rattle.pv_interval.specs.Points.{Lies, LiesIn}
+use Rattle.pv_interval.specs.Points.{LiesIn}
 use Rattle.pv_interval.proofs.Integers.{neg_left}
 use Rattle.pv_interval.proofs.Keeps.{by_sign}
 use Rattle.pv_interval.proofs.Multiples.{up_from, down_to}
 use Rattle.pv_interval.proofs.Orders.{size_from, size_to}
 use Rattle.pv_interval.proofs.Products.{times_pos}
 use Rattle.pv_slope.specs.SlopeTable.{either_slope}
-use Rattle.pv_slope.proofs.Polynomials.{v, n, ◌⊗◌, minus, alike, follows}
+use Rattle.pv_slope.proofs.Polynomials.{v, ◌⊗◌, minus, alike, follows}
 
 -- x is at most as far from 0 as y
 abbrev IsNearer : ℤ → ℤ → Type 0

@@ -1,9 +1,9 @@
 -- Passes over the nodes of an expression: what each leaves is the expression's, node by node.
-use Rattle.std.proofs.Common.{◌≡◌, ◌≢◌, ℕ, zero, suc, ◌+◌, ◌<◌, List, [], ◌∷◌, length, refl, ap, sym, ◌∙◌, subst, arith, get_or, below_more}
+use Rattle.std.proofs.Common.{◌≡◌, ◌≢◌, ℕ, zero, suc, ◌+◌, ◌<◌, List, length, refl, ap, sym, ◌∙◌, subst, arith, get_or, below_more}
 use Rattle.std.proofs.lemmas.List.{get_or_read, get_or-set_same, get_or-set_other}
-use Rattle.std.specs.Prelude.{Option, Some, slice_set, nat_eq}
+use Rattle.std.specs.Prelude.{slice_set}
 use Rattle.pv_interval.specs.Bounds.{Bounds, everything}
-use Rattle.pv_expr.specs.Terms.{Term, constant, place, one, two}
+use Rattle.pv_expr.specs.Terms.{Term}
 use Rattle.pv_hc4.specs.declared.node.UnaryOp.{UnaryOp}
 use Rattle.pv_hc4.specs.declared.node.UnaryOp.TheVariants.{Neg, Abs, Pow}
 use Rattle.pv_hc4.specs.declared.node.BinaryOp.{BinaryOp}
@@ -11,7 +11,7 @@ use Rattle.pv_hc4.specs.declared.node.BinaryOp.TheVariants.{Add, Sub, Mul, Div, 
 use Rattle.pv_hc4.specs.declared.node.Node.{Node}
 use Rattle.pv_hc4.specs.declared.node.Node.TheVariants.{Constant, Place, One, Two}
 use Rattle.pv_hc4.specs.Chain.{at}
-use Rattle.pv_hc4.specs.Forward.{forward_of, unary_of, binary_of, constant_of}
+use Rattle.pv_hc4.specs.Forward.{unary_of, binary_of}
 use Rattle.pv_hc4.specs.Graphs.{AreValues, IsReady}
 use Rattle.pv_hc4.specs.Nodes.{AreOrdered, ReadsBelow, node_at, node_term, terms, term_at, unary_named, binary_named}
 use Rattle.pv_hc4.proofs.Growth.{term_step}

@@ -1,15 +1,14 @@
 -- What is found of a constraint is what the tests say.
 use Rattle.std.proofs.Common.{◌≡◌, ℕ, zero, suc, ◌+◌, ◌<◌, List, [], ◌∷◌, ◌++◌, length, take, refl, ap, sym, ◌∙◌, arith}
-use Rattle.std.specs.Prelude.{ℤ, Bool, true, false, ◌&&◌, ◌||◌, All, Option, Some, None, map, slice_get}
+use Rattle.std.specs.Prelude.{ℤ, Bool, true, false, ◌&&◌, ◌||◌, All, Some, None, map, slice_get}
 use Rattle.std.proofs.lemmas.List.Elements.{All-head, All-tail}
 use Rattle.pv_num.specs.Grid.{unit}
 use Rattle.pv_interval.specs.Bounds.{Bounds, IsInterval}
 use Rattle.pv_interval.specs.Points.{Point}
 use Rattle.pv_interval.proofs.Intervals.{member}
 use Rattle.pv_box.specs.Boxes.{IsBox, LieIn}
-use Rattle.pv_expr.specs.Terms.{Term, place}
+use Rattle.pv_expr.specs.Terms.{Term}
 use Rattle.pv_expr.specs.declared.constraint.Relation.{Relation}
-use Rattle.pv_expr.specs.declared.constraint.Relation.TheVariants.{Eq}
 use Rattle.pv_hc4.specs.Members.{AreOver}
 use Rattle.pv_hc4.specs.Revise.{Sides}
 use Rattle.pv_hc4.specs.Totality.{total_of, sure_of}
@@ -17,7 +16,7 @@ use Rattle.pv_hc4.proofs.Sureness.{sure-holds}
 use Rattle.pv_ctc.specs.Contracting.{side_at}
 use Rattle.pv_settle.proofs.Making.{take_more}
 use Rattle.pv_slope.specs.declared.slopes.Ranged.{Ranged}
-use Rattle.pv_slope.specs.Centered.{centered_of, gap_of}
+use Rattle.pv_slope.specs.Centered.{centered_of}
 use Rattle.pv_slope.specs.Flat.{Parts, term_in}
 use Rattle.pv_slope.specs.Tests.{none_stands, all_stand, none_in, all_in, centered_none, centered_sure, counts_as_sure}
 use Rattle.pv_slope.specs.Excluding.{none_holds}

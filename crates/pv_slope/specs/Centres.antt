@@ -1,5 +1,5 @@
 -- The centre of a box, and an expression's interval there.
-use Rattle.std.specs.Prelude.{ℕ, List, Option, Some, None, unwrap_or}
+use Rattle.std.specs.Prelude.{List, Option, unwrap_or}
 use Rattle.pv_num.specs.Extended.{Extended}
 use Rattle.pv_num.specs.Arithmetic.{middle_of}
 use Rattle.pv_interval.specs.Bounds.{Bounds, everything}

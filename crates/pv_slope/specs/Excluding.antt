@@ -1,6 +1,6 @@
 -- What the tests by centered forms say of points, where these enclose their expressions.
-use Rattle.std.proofs.Common.{◌≡◌, ◌⊎◌, inl, inr, ℕ, zero, suc, ◌+◌, ◌-◌, ◌<◌, ◌≤◌, List, [], ◌∷◌, length, refl, ap, sym, ◌∙◌, subst, arith, get_or}
-use Rattle.std.specs.Prelude.{IsTrue, Option, Some, None, Bool, true, false, not, cond, ◌&&◌, ◌||◌, nat_le, nat_lt, ℤ, pos, negsuc, ◌+ℤ◌, ◌-ℤ◌, ◌*ℤ◌, ◌≤ℤ◌, ◌<ℤ◌, map}
+use Rattle.std.proofs.Common.{◌≡◌, ◌⊎◌, inl, inr, ℕ, zero, suc, ◌+◌, ◌-◌, ◌<◌, ◌≤◌, List, [], ◌∷◌, length, refl, ap, sym, ◌∙◌, subst, arith}
+use Rattle.std.specs.Prelude.{Option, Some, None, Bool, true, false, not, ◌&&◌, ◌||◌, nat_le, nat_lt, ℤ, pos, ◌-ℤ◌, ◌*ℤ◌, ◌≤ℤ◌, ◌<ℤ◌, map}
 use Rattle.std.proofs.Math.IntN.{zero-*ℤ, *ℤ-one}
 use Rattle.std.proofs.lemmas.Bool.Decides.{nat_tests}
 use Rattle.std.proofs.lemmas.Int.{ints}
@@ -9,7 +9,7 @@ use Rattle.pv_num.specs.Extended.{Extended}
 use Rattle.pv_num.specs.Order.{le, lt}
 use Rattle.pv_interval.specs.Bounds.{Bounds}
 use Rattle.pv_interval.specs.Fractions.{Fraction, minus}
-use Rattle.pv_interval.specs.Points.{IsBelow, IsAbove, Lies, LiesIn, LiesInSome, Point}
+use Rattle.pv_interval.specs.Points.{IsBelow, IsAbove, Lies, LiesInSome, Point}
 use Rattle.pv_interval.specs.Tables.{nought, holds}
 use Rattle.pv_interval.proofs.Multiples.{zero_below, zero_above, below_zero, above_zero}
 use Rattle.pv_interval.proofs.Values.{across, below_le, above_le}
@@ -17,7 +17,6 @@ use Rattle.pv_box.specs.Boxes.{IsBox, PointIn}
 use Rattle.pv_expr.specs.declared.constraint.Relation.{Relation}
 use Rattle.pv_expr.specs.declared.constraint.Relation.TheVariants.{Eq, Le, Ge, Lt, Gt}
 use Rattle.pv_expr.specs.Terms.{difference, place, Stands, value_at, with_two}
-use Rattle.pv_hc4.specs.Forward.{forward_of}
 use Rattle.pv_hc4.specs.Members.{HoldsAt, AreOver}
 use Rattle.pv_hc4.specs.Revise.{Sides}
 use Rattle.pv_hc4.specs.Totality.{total_of, same_number, sure_of}

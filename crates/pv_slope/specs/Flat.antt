@@ -16,7 +16,7 @@ use Rattle.pv_hc4.specs.Chain.{at}
 use Rattle.pv_hc4.specs.Forward.{unary_of, binary_of}
 use Rattle.pv_hc4.specs.Nodes.{AreOrdered, terms, term_at, node_at, unary_named, binary_named}
 use Rattle.pv_slope.specs.Centres.{centre_of, known, met_with}
-use Rattle.pv_slope.specs.SlopeTable.{zero_slope, one_slope, unary_slope, binary_slope, absolute_slope, power_factor, quotient_slope, least_slope, greatest_slope}
+use Rattle.pv_slope.specs.SlopeTable.{zero_slope, one_slope, absolute_slope, power_factor, quotient_slope, least_slope, greatest_slope}
 
 -- slopes as their callers see them: the nodes of left - right, and the number of its own node
 pub record Parts : Type 0 where

@@ -14,7 +14,7 @@ use Rattle.pv_ctc.proofs.Keeping.{contract-keeps}
 use Rattle.pv_tree.specs.declared.outcome.Outcome.{Outcome}
 use Rattle.pv_tree.specs.declared.outcome.Outcome.TheVariants.{Removed, Inner, Small, Cut}
 use Rattle.pv_tree.specs.Trees.{IsStrictlyInside, Fits, KeepsBox, CutsAbove}
-use Rattle.pv_tree.specs.Sets.{LosesNone, IsSoundOutcome}
+use Rattle.pv_tree.specs.Sets.{IsSoundOutcome}
 use Rattle.pv_settle.specs.Laws.{as_within, by_test, by_unsure, part_of, left_none}
 use Rattle.pv_settle.specs.Rules.{SettlerParts, dims_of}
 use Rattle.pv_settle.specs.Settling.{settle_unsure, is_member}

@@ -1,5 +1,5 @@
 -- What tests of the constraints say of a contractor program: that no point of a box is a member of its set, or that each one is.
-use Rattle.std.specs.Prelude.{◌≡◌, ℕ, ◌-◌, Bool, false, nat_le, nat_lt, List, [], ◌∷◌, map, slice_index_or}
+use Rattle.std.specs.Prelude.{ℕ, ◌-◌, Bool, false, nat_le, nat_lt, List, [], ◌∷◌, map, slice_index_or}
 use Rattle.pv_interval.specs.Bounds.{Bounds}
 use Rattle.pv_hc4.specs.Revise.{Sides}
 use Rattle.pv_ctc.specs.Plans.{Plan, Plans, hc4, compose, union, qinter, fix, prop, no_plan, plan_and, plan_count}

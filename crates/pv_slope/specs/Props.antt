@@ -1,6 +1,6 @@
 -- That values lie in centered forms has one proof at most.
 use Rattle.std.proofs.Common.{ℕ}
-use Rattle.std.specs.Coded.{×_prop, Π_prop, →_prop, Unit-prop}
+use Rattle.std.specs.Coded.{Π_prop, Unit-prop}
 use Rattle.std.proofs.Props.{props}
 use Rattle.std.specs.Prelude.{ℤ, Option, Some, None}
 use Rattle.pv_num.specs.Extended.{Extended, NegInf, Fin, PosInf}

@@ -2,7 +2,7 @@
 -- expression changes by some numbers of these intervals times the changes of the variables.
 --
 -- Source: Krawczyk and Neumaier, "Interval slopes for rational functions and associated centered forms" (1985).
-use Rattle.std.specs.Prelude.{ℕ, zero, suc, ◌-◌, pos, negsuc, List, nat_eq, if◌then◌else◌}
+use Rattle.std.specs.Prelude.{ℕ, zero, suc, ◌-◌, pos, List, nat_eq, if◌then◌else◌}
 use Rattle.pv_num.specs.Extended.{Fin}
 use Rattle.pv_num.specs.Grid.{unit}
 use Rattle.pv_num.specs.Arithmetic.{neg_of}

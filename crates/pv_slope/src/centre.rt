@@ -78,13 +78,7 @@ fn met(x: Interval, whole: Interval) -> Interval
 
 // The interval of a node over those of earlier nodes; `whole` is its forward interval, and `own` a
 // constant's.
-fn value(
-    node: Node,
-    whole: Interval,
-    own: Interval,
-    bx: &IBox,
-    centres: &[Interval],
-) -> Interval
+fn value(node: Node, whole: Interval, own: Interval, bx: &IBox, centres: &[Interval]) -> Interval
     requires reads { ReadsBelow (length centres.now) node }
     requires fits { FitsNode (length bx.now) node }
     requires finite { have_finite_ends bx.now ≡ true }

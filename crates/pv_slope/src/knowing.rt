@@ -45,13 +45,10 @@ impl CenteredSettler {
         let mut to = bx.clone_of(alloc)?;
         self.settler.learn();
         let graphs = self.settler.graphs();
-        let answer = self.settler.program().narrow_knowing(
-            alloc,
-            graphs,
-            &mut room.scratch,
-            &mut to,
-            &mut known,
-        )?;
+        let answer = self
+            .settler
+            .program()
+            .narrow_knowing(alloc, graphs, &mut room.scratch, &mut to, &mut known)?;
         match answer {
             Revised::Empty => Ok(Settled {
                 outcome: Outcome::Removed,

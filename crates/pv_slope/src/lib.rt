@@ -30,6 +30,3 @@ mod verdicts;
 pub use room::Room;
 pub use settler::CenteredSettler;
 pub use slopes::Slopes;
-
-#[cfg(test)]
-mod tests;

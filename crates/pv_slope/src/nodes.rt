@@ -95,13 +95,7 @@ impl Nodes {
 
     /// Adds the nodes of an operation on two expressions, and gives its number.
     #[cycle(adding)]
-    pub fn add_two(
-        &mut self,
-        op: BinaryOp,
-        a: &Expr,
-        b: &Expr,
-        dims: u8,
-    ) -> Result<usize, Memory>
+    pub fn add_two(&mut self, op: BinaryOp, a: &Expr, b: &Expr, dims: u8) -> Result<usize, Memory>
         requires ordered { AreOrdered self.old.nodes.items dims }
         requires ready { AreReady self.old.nodes.items self.old.ready.items }
         requires over_a { IsOver dims (term_of a.now) }

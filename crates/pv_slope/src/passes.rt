@@ -64,13 +64,7 @@ fn slope(
 {
     match node {
         Node::Constant { .. } => zero(),
-        Node::Place(j) => {
-            if i == j {
-                one()
-            } else {
-                zero()
-            }
-        }
+        Node::Place(j) => { if i == j { one() } else { zero() } }
         Node::One(op, a) => unary_slope(op, factor, values[a], slopes[a]),
         Node::Two(op, a, b) => binary_slope(
             op, factor, values[a], values[b], centres[b], slopes[a], slopes[b],

@@ -65,7 +65,8 @@ fn more_have_none(q: u32, parts: &[Program], tests: &[bool]) -> bool
     requires few { q ≤ length parts.now }
     requires programs { AreFor (length tests.now) (plans_of parts.now) }
     ensures { result ≡
-        nat_le (length parts.now - q + 1) (count_true (none_by_each tests.now (plans_of parts.now))) }
+        nat_le (length parts.now - q + 1)
+        (count_true (none_by_each tests.now (plans_of parts.now))) }
 {
     so_many_have_none(parts.len() - q as usize + 1, parts, tests)
 }

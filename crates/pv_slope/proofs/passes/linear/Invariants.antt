@@ -1,4 +1,4 @@
-use Rattle.std.proofs.Common.{◌≡◌, ℕ, ◌<◌, length}
+use Rattle.std.proofs.Common.{◌≡◌, length}
 use Rattle.pv_hc4.specs.Nodes.{terms, term_at}
 use Rattle.pv_slope.specs.Centered.{linear_of}
 use Rattle.pv_slope.proofs.passes.linear.Given as goal

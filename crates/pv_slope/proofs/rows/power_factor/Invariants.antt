@@ -1,4 +1,4 @@
-use Rattle.std.proofs.Common.{◌≡◌, ℕ}
+use Rattle.std.proofs.Common.{◌≡◌}
 use Rattle.pv_slope.specs.SlopeTable.{power_terms}
 use Rattle.pv_slope.proofs.rows.power_factor.Given as goal
 

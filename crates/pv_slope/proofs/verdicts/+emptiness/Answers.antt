@@ -1,4 +1,4 @@
-use Rattle.std.proofs.Common.{length, ◌≡◌, ◌+◌, ◌*◌, ◌<◌, sym, ◌∙◌, ap, arith}
+use Rattle.std.proofs.Common.{length, sym, ◌∙◌, arith}
 use Rattle.pv_ctc.proofs.Rows.{compose_parts, union_parts, qinter_parts, fits_at}
 use Rattle.pv_ctc.proofs.Sizes.{compose_falls, union_falls, qinter_falls, part_falls_far}
 use Rattle.pv_slope.proofs.Tallying.{compose_none, union_none, qinter_none, qinter_few}
@@ -16,9 +16,10 @@ has_none-all_have_none-requires t c =
 
 pub has_none-more_have_none-requires : goal.has_none-more_have_none-requires
 has_none-more_have_none-requires t c =
-    let p = qinter_parts (length c.args.tests.now) c.in-QInter.q c.args.program.now c.in-QInter.parts c.deref-in-QInter.result.now c.in-QInter.is c.deref-in-QInter.ensures.value c.requires in
-    (qinter_falls c.args.program.now c.in-QInter.q c.in-QInter.parts c.deref-in-QInter.result.now t c.in-QInter.is c.deref-in-QInter.ensures.value c.decreases,
-    (p.0, (qinter_few (length c.args.tests.now) c.in-QInter.q c.args.program.now c.in-QInter.parts c.deref-in-QInter.result.now c.in-QInter.is c.deref-in-QInter.ensures.value c.requires, p.1)))
+    let p = qinter_parts (length c.args.tests.now) c.in-QInter.q c.args.program.now c.in-QInter.parts c.deref-in-QInter.result.now c.in-QInter.is c.deref-in-QInter.ensures.value c.requires in (
+      qinter_falls c.args.program.now c.in-QInter.q c.in-QInter.parts c.deref-in-QInter.result.now t c.in-QInter.is c.deref-in-QInter.ensures.value c.decreases,
+      (p.0, (qinter_few (length c.args.tests.now) c.in-QInter.q c.args.program.now c.in-QInter.parts c.deref-in-QInter.result.now c.in-QInter.is c.deref-in-QInter.ensures.value c.requires, p.1)),
+    )
 
 pub all_have_none-has_none-requires : goal.all_have_none-has_none-requires
 all_have_none-has_none-requires t c = (part_falls_far c.args.parts.now c.loop-part.part-index c.part-item.result t c.loop-part-test.true c.part-item.is c.decreases, fits_at (length c.args.tests.now) c.args.parts.now c.loop-part.part-index c.part-item.result c.requires c.loop-part-test.true c.part-item.is)

@@ -1,4 +1,4 @@
-use Rattle.std.proofs.Common.{length, ◌≡◌, sym, ◌∙◌, ap}
+use Rattle.std.proofs.Common.{length, sym, ◌∙◌}
 use Rattle.pv_ctc.proofs.Rows.{compose_parts, union_parts, qinter_parts, fits_at}
 use Rattle.pv_ctc.proofs.Sizes.{compose_falls, union_falls, qinter_falls, part_falls}
 use Rattle.pv_slope.proofs.Tallying.{compose_sure, union_sure, qinter_sure}

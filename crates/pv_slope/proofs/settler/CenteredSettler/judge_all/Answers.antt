@@ -1,4 +1,4 @@
-use Rattle.std.proofs.Common.{◌≡◌, ◌<◌, length, sym, ◌∙◌, arith, rules}
+use Rattle.std.proofs.Common.{◌≡◌, ◌<◌, length, ◌∙◌, arith, rules}
 use Rattle.std.specs.Prelude.{vec_len}
 use Rattle.pv_ctc.specs.Contracting.{sides_in}
 use Rattle.pv_settle.specs.Rules.{dims_of}

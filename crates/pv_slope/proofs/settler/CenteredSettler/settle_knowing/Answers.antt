@@ -1,5 +1,5 @@
 use Rattle.std.proofs.Common.{sym, ◌∙◌, ◌≡◌, subst, ap}
-use Rattle.std.specs.Prelude.{IfOk, List, Option, Some, None}
+use Rattle.std.specs.Prelude.{IfOk, List, Some, None}
 use Rattle.pv_interval.specs.Bounds.{Bounds}
 use Rattle.pv_hc4.specs.declared.revised.Revised.{Revised}
 use Rattle.pv_ctc.specs.Contracting.{sides_in, contract_of}

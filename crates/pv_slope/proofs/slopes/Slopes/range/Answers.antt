@@ -1,5 +1,4 @@
-use Rattle.std.proofs.Common.{◌≡◌, length, subst, sym, ◌∙◌, ap, refl}
-use Rattle.std.specs.Prelude.{Some, None}
+use Rattle.std.proofs.Common.{length, subst, sym, refl}
 use Rattle.pv_expr.specs.Systems.{IsOver}
 use Rattle.pv_slope.specs.Centered.{Encloses}
 use Rattle.pv_slope.specs.Flat.{term_in}
