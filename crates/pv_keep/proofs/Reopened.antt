@@ -1,12 +1,12 @@
 -- The rows of a paving make that paving and no other.
-use Rattle.std.proofs.Common.{◌≡◌, ℕ, Bool, true, false, List, [], ◌∷◌, ◌++◌, Option, Some, None, refl, sym, ◌∙◌, ap, subst, arith}
+use Rattle.std.proofs.Common.{◌≡◌, ℕ, suc, ◌+◌, ◌<◌, ◌≤◌, length, length-append, Bool, true, false, List, [], ◌∷◌, ◌++◌, Option, Some, None, refl, sym, ◌∙◌, ap, subst, arith}
+use Rattle.std.specs.Prelude.{max}
 use Rattle.pv_num.proofs.Texts.{some_some}
 use Rattle.pv_num.specs.Extended.{Extended}
 use Rattle.pv_interval.specs.Bounds.{Bounds}
 use Rattle.pv_box.specs.Boxes.{lower_half, upper_half}
-use Rattle.pv_tree.specs.Trees.{Tree, leaf, removed, inner, small, cut, top, subtree, graft, settled, box_of}
+use Rattle.pv_tree.specs.Trees.{Tree, leaf, removed, inner, small, cut, top, subtree, graft, settled, box_of, Paves, height}
 use Rattle.pv_tree.specs.Stages.{Rule, IsStage}
-use Rattle.pv_tree.specs.Holes.{Hole}
 use Rattle.pv_tree.specs.declared.outcome.Outcome.{Outcome}
 use Rattle.pv_tree.specs.declared.outcome.Outcome.TheVariants.{Removed, Inner, Small, Cut}
 use Rattle.pv_tree.proofs.Pieces.{subtree_child, graft_in, graft_cut, graft_leaf}
@@ -14,9 +14,8 @@ use Rattle.pv_tree.proofs.Halves.{box_child}
 use Rattle.pv_join.proofs.JoinFacts.{graft_at}
 use Rattle.pv_file.specs.declared.version.Version.TheVariants.{One}
 use Rattle.pv_file.specs.Lines.{outcome_line}
-use Rattle.pv_file.specs.Readings.{IsPavingInFormat}
+use Rattle.pv_file.specs.Readings.{IsPavingInFormat, HasNumbers}
 use Rattle.pv_file.specs.Reading.{IsRightNode}
-use Rattle.pv_file.proofs.Fits.{FitsHole, fit_down, right_top}
 use Rattle.pv_file.proofs.Different.{same_node}
 use Rattle.pv_keep.specs.declared.row.Row.{Row}
 use Rattle.pv_keep.specs.Rows.{rows_below, rows_of, row_at}
@@ -49,8 +48,36 @@ make_append : (b : List Bounds) (s : Tree) (xs ys : List Row) (m t : Tree) → M
 make_append b s [] ys m t e f = subst (λ (u : Tree). Make b u ys t) e f
 make_append b s (row ∷ xs) ys m t e f = (e.0, (e.1.0, make_append b (graft s row.path (settled e.0)) xs ys m t e.1.1 f))
 
-abbrev hole_at : List Bool → List Bounds → Hole
-hole_at p b = record { path = p; box = b }
+-- A part of a paving at a path, with its box.
+record IsPart (p : List Bool) (b : List Bounds) (t : Tree) : Type 0 where
+  pub paves : Paves b t
+  pub numbers : HasNumbers t
+  pub depth : length p + height t ≤ 200
+
+deep_low : (p : List Bool) (c : Bool) (low high : Tree) → length p + suc (max (height low) (height high)) ≤ 200 → length (p ++ c ∷ []) + height low ≤ 200
+deep_low p c low high h = let l : length (p ++ c ∷ []) ≡ length p + 1 = length-append p (c ∷ []) in omega (arith, l, h)
+
+deep_high : (p : List Bool) (c : Bool) (low high : Tree) → length p + suc (max (height low) (height high)) ≤ 200 → length (p ++ c ∷ []) + height high ≤ 200
+deep_high p c low high h = let l : length (p ++ c ∷ []) ≡ length p + 1 = length-append p (c ∷ []) in omega (arith, l, h)
+
+short_cut : (p : List Bool) (low high : Tree) → length p + suc (max (height low) (height high)) ≤ 200 → length p < 200
+short_cut p low high h = omega (arith, h)
+
+low_part : (p : List Bool) (b to : List Bounds) (var : ℕ) (at : Extended) (low high : Tree) → IsPart p b (cut to var at low high) → IsPart (p ++ false ∷ []) (lower_half to var at) low
+low_part p b to var at low high f = record { paves = f.paves.3; numbers = f.numbers.2; depth = deep_low p false low high f.depth }
+
+high_part : (p : List Bool) (b to : List Bounds) (var : ℕ) (at : Extended) (low high : Tree) → IsPart p b (cut to var at low high) → IsPart (p ++ true ∷ []) (upper_half to var at) high
+high_part p b to var at low high f = record { paves = f.paves.4; numbers = f.numbers.3; depth = deep_high p true low high f.depth }
+
+right_top : (p : List Bool) (b : List Bounds) (t : Tree) → IsPart p b t → IsRightNode p b (top t)
+right_top p b leaf f = tt
+right_top p b removed f = (record { fits = tt; keeps = tt; numbers = tt }, tt)
+right_top p b (inner to) f = (record { fits = f.paves.1; keeps = f.paves.0; numbers = f.numbers }, tt)
+right_top p b (small to) f = (record { fits = f.paves.1; keeps = f.paves.0; numbers = f.numbers }, tt)
+right_top p b (cut to var at low high) f = (
+  record { fits = (f.paves.1, f.paves.2); keeps = f.paves.0; numbers = (f.numbers.0, f.numbers.1) },
+  short_cut p low high f.depth,
+)
 
 good_row : (b : List Bounds) (u : Tree) (p : List Bool) (o : Outcome) → subtree u p ≡ Some leaf → IsRightNode p (box_of b u p) (Some o) → IsGoodRow b u (row_at p o) o
 good_row b u p o h r = record { is_leaf = h; stands = record { right = r.0; depth = r.1 }; line = refl }
@@ -59,24 +86,21 @@ one_row : (b : List Bounds) (u : Tree) (p : List Bool) (o : Outcome) → subtree
     → Make b u (row_at p o ∷ []) (graft u p (settled o))
 one_row b u p o h r = (o, (good_row b u p o h r, refl))
 
-make_in : (b : List Bounds) (u : Tree) (p : List Bool) (t : Tree) → subtree u p ≡ Some leaf → FitsHole (hole_at p (box_of b u p)) t → Make b u (rows_below p t) (graft u p t)
+make_in : (b : List Bounds) (u : Tree) (p : List Bool) (t : Tree) → subtree u p ≡ Some leaf → IsPart p (box_of b u p) t → Make b u (rows_below p t) (graft u p t)
 make_in b u p leaf h f = graft_leaf u p h
-make_in b u p removed h f = one_row b u p Removed h (right_top (hole_at p (box_of b u p)) removed f)
-make_in b u p (inner to) h f = one_row b u p (Inner to) h (right_top (hole_at p (box_of b u p)) (inner to) f)
-make_in b u p (small to) h f = one_row b u p (Small to) h (right_top (hole_at p (box_of b u p)) (small to) f)
+make_in b u p removed h f = one_row b u p Removed h (right_top p (box_of b u p) removed f)
+make_in b u p (inner to) h f = one_row b u p (Inner to) h (right_top p (box_of b u p) (inner to) f)
+make_in b u p (small to) h f = one_row b u p (Small to) h (right_top p (box_of b u p) (small to) f)
 make_in b u p (cut to var at low high) h f =
-    let hole = hole_at p (box_of b u p) in
-    let kids = fit_down hole [] (cut to var at low high) [] f tt in
     let one : Tree = graft u p (cut to var at leaf leaf) in
     let two : Tree = graft one (p ++ false ∷ []) low in
     let here : subtree one p ≡ Some (cut to var at leaf leaf) = graft_at u p leaf (cut to var at leaf leaf) h in
     let two_is : two ≡ graft u p (cut to var at low leaf) = graft_in u p (cut to var at leaf leaf) (false ∷ []) low in
-    let there : subtree two p ≡ Some (cut to var at low leaf) =
-    ap (λ (x : Tree). subtree x p) two_is ∙ graft_at u p leaf (cut to var at low leaf) h in
-    let low_fits : FitsHole (hole_at (p ++ false ∷ []) (box_of b one (p ++ false ∷ []))) low =
-    subst (λ (x : List Bounds). FitsHole (hole_at (p ++ false ∷ []) x) low) (sym (box_child b one p false to var at leaf leaf here)) kids.0 in
-    let high_fits : FitsHole (hole_at (p ++ true ∷ []) (box_of b two (p ++ true ∷ []))) high =
-    subst (λ (x : List Bounds). FitsHole (hole_at (p ++ true ∷ []) x) high) (sym (box_child b two p true to var at low leaf there)) kids.1.0 in
+    let there : subtree two p ≡ Some (cut to var at low leaf) = ap (λ (x : Tree). subtree x p) two_is ∙ graft_at u p leaf (cut to var at low leaf) h in
+    let low_fits : IsPart (p ++ false ∷ []) (box_of b one (p ++ false ∷ [])) low =
+    subst (λ (x : List Bounds). IsPart (p ++ false ∷ []) x low) (sym (box_child b one p false to var at leaf leaf here)) (low_part p (box_of b u p) to var at low high f) in
+    let high_fits : IsPart (p ++ true ∷ []) (box_of b two (p ++ true ∷ [])) high =
+    subst (λ (x : List Bounds). IsPart (p ++ true ∷ []) x high) (sym (box_child b two p true to var at low leaf there)) (high_part p (box_of b u p) to var at low high f) in
     let low_made : Make b one (rows_below (p ++ false ∷ []) low) two =
     make_in b one (p ++ false ∷ []) low (subtree_child one p false to var at leaf leaf here) low_fits in
     let high_made : Make b two (rows_below (p ++ true ∷ []) high) (graft two (p ++ true ∷ []) high) =
@@ -84,7 +108,7 @@ make_in b u p (cut to var at low high) h f =
     let both : Make b one (rows_below (p ++ false ∷ []) low ++ rows_below (p ++ true ∷ []) high) (graft u p (cut to var at low high)) =
     subst (λ (x : Tree). Make b one (rows_below (p ++ false ∷ []) low ++ rows_below (p ++ true ∷ []) high) x) (graft_cut u p to var at low high)
     (make_append b one (rows_below (p ++ false ∷ []) low) (rows_below (p ++ true ∷ []) high) two (graft two (p ++ true ∷ []) high) low_made high_made) in
-    (Cut to var at, (good_row b u p (Cut to var at) h (right_top hole (cut to var at low high) f), both))
+    (Cut to var at, (good_row b u p (Cut to var at) h (right_top p (box_of b u p) (cut to var at low high) f), both))
 
 make_whole : (b : List Bounds) (t : Tree) → IsPavingInFormat b t → Make b leaf (rows_of t) t
 make_whole b t p = make_in b leaf [] t refl (record { paves = p.paving.paves; numbers = p.numbers; depth = omega (arith, p.paving.depth) })
