@@ -8,11 +8,16 @@ use pv_parse::{parse, parse_expr};
 use pv_settle::{Settings, SystemSettler};
 use std::alloc::Global;
 
-/// The least value of an expression over a system, with the propagation of all constraints.
+/// The least value of an expression over a system, with the propagation of all constraints. None
+/// where a text is none, `eps` is below 0 or +oo, or the budget is not from 1 to 100,000.
 pub(crate) fn search(alloc: Global, text: &str, of: &str, eps: Num, budget: u64) -> Option<Least> {
+    if eps < Num::ZERO || eps == Num::POS_INF || budget == 0 || budget > 100_000 {
+        return None;
+    }
     let system = parse(alloc, text.as_bytes()).ok()?;
     let expr = parse_expr(alloc, &system, of.as_bytes()).ok()?;
-    let objective = Objective::of(alloc, &expr, system.variable_count()).ok()?;
+    let dims = system.variable_count();
+    let objective = Objective::of(alloc, &expr, dims).ok()?;
     let program = Program::read(alloc, b"prop(8)", system.constraint_count()).ok()?;
     let settings = Settings {
         eps,
@@ -21,6 +26,9 @@ pub(crate) fn search(alloc: Global, text: &str, of: &str, eps: Num, budget: u64)
     };
     let settler = SystemSettler::new(alloc, system, program, settings).ok()?;
     let root = settler.search_box(alloc).ok()?;
+    if root.dims() != dims {
+        return None;
+    }
     least(alloc, &settler, &objective, &root, budget).ok()
 }
 
