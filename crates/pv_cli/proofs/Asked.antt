@@ -1,13 +1,13 @@
 -- What the words ask for, by what clap answers.
 use Rattle.std.proofs.Common.{◌≡◌, ◌⊎◌, inl, inr, true, List, [], ◌∷◌, refl, sym, ◌∙◌, ap, subst}
-use Rattle.std.specs.Prelude.{Option, Some, None, Result, Ok, Err, MatchResult, ◌≢◌, codes}
+use Rattle.std.specs.Prelude.{Option, Some, None, Result, Ok, Err, MatchResult, ◌≢◌}
 use Rattle.clap.proofs.OnLiterals.{clap_on_literals}
 use Rattle.clap.specs.Words.{App, Row, Text, Kinds, HasKind, IsAmong, fault_of, is_simple, is_simple_and_free, subcommand_of, kind_of}
 use Rattle.clap.specs.declared.error.Error.{Error}
 use Rattle.clap.specs.declared.error.kind.ErrorKind.{ErrorKind}
 use Rattle.clap.specs.declared.error.kind.ErrorKind.TheVariants.{OutOfMemory}
 use Rattle.pv_cli.specs.Commands.{paver_app}
-use Rattle.pv_cli.specs.Requests.{Command, checks, runs, resumes, merges, audits, draws, samples, name_of, IsAskedBy, IsAsked, Asks, HasBadValueFor, HasBadValue, HasBadValueIn, AreRefused}
+use Rattle.pv_cli.specs.Requests.{Command, name_of, IsAskedBy, IsAsked, Asks, HasBadValueFor, HasBadValue, HasBadValueIn, AreRefused}
 use Rattle.pv_cli.specs.Found.{IsNoCommand, RefusesValues, RefusesCommand, RefusesFound}
 use Rattle.pv_cli.specs.Ends.{RefusesWords}
 use Rattle.pv_cli.specs.declared.request.Request.{Request}
@@ -57,17 +57,6 @@ error_refuses a words e k r is kinds same (inr usage) = subst (RefusesWords word
 bad_value : (name : Text) (rows : List Row) → IsACommand name → IsNoCommand name ⊎ HasBadValue name rows → HasBadValue name rows
 bad_value name rows is (inl none) = absurd (none is.command is.named)
 bad_value name rows is (inr bad) = bad
-
--- a name is none of theirs where it is not one of these
-pub no_command : (name : Text) → name ≢ codes "check" → name ≢ codes "run" → name ≢ codes "resume" → name ≢ codes "merge" → name ≢ codes "audit"
-    → name ≢ codes "svg" → name ≢ codes "sample" → IsNoCommand name
-no_command name check run resume merge audit svg sample checks = check
-no_command name check run resume merge audit svg sample runs = run
-no_command name check run resume merge audit svg sample resumes = resume
-no_command name check run resume merge audit svg sample merges = merge
-no_command name check run resume merge audit svg sample audits = audit
-no_command name check run resume merge audit svg sample draws = svg
-no_command name check run resume merge audit svg sample samples = sample
 
 -- a value that a command's reader refuses is one of the command's
 pub refuses_value : (name : Text) (rows : List Row) (c : Command) (r : Refusal) → name ≡ name_of c → RefusesValues (HasBadValueFor c rows) r → RefusesCommand name rows r

@@ -16,3 +16,4 @@ pub mod Levels
 pub mod Drawn
 pub mod Planes
 pub mod Few
+pub mod Sampled

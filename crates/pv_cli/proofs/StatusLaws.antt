@@ -456,6 +456,7 @@ command_in t =
     else None
 
 named : (c : Command) → command_in (name_of c) ≡ Some c
+unfolding command_in
 named checks = refl
 named runs = refl
 named resumes = refl
@@ -467,7 +468,7 @@ named samples = refl
 one_command : (name : Text) (c d : Command) → name ≡ name_of c → name ≡ name_of d → c ≡ d
 one_command name c d e f = ap (λ (o : Option Command). unwrap_or o c) (sym (named c) ∙ ap command_in (sym e ∙ f) ∙ named d)
 
-command_of : Request → Command
+abbrev command_of : Request → Command
 command_of (Check system) = checks
 command_of (Run system settings effort out) = runs
 command_of (Resume system pavings settings effort out) = resumes

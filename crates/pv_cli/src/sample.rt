@@ -4,12 +4,16 @@ ghost use Rattle.hex.specs.Hex.{encode_lower};
 ghost use Rattle.sha2.specs.Sha256.{sha256};
 ghost use Rattle.pv_file.specs.Texts.{file_text};
 ghost use Rattle.pv_file.specs.declared.version.Version.TheVariants as version;
+ghost use Rattle.pv_expr.specs.Systems.{Parts};
+ghost use Rattle.pv_tree.specs.Trees.{leaf};
 ghost use Rattle.pv_settle.specs.Settlers.{rule_of};
-ghost use Rattle.pv_cli.specs.Products.{AreForSamples, ComesOfSample, RefusesSample, report_of};
+ghost use Rattle.pv_settle.specs.Spelling.{identity_of};
+ghost use Rattle.pv_cli.specs.Products.{AreForSamples, ComesOfSample, RefusesSample, IsHonest, full_by, report_of};
 ghost use Rattle.pv_cli.specs.Samples.{IsMadeRule};
+ghost use Rattle.pv_cli.specs.Systems.{IsRuleFor, search_box};
+ghost use Rattle.pv_cli.specs.declared.request.Settings as declared;
 ghost use Rattle.pv_cli.specs.Made.{made};
 
-use crate::Refusal;
 use crate::decimal::push_decimal;
 use crate::honest::learn_honest;
 use crate::product::Product;
@@ -17,6 +21,7 @@ use crate::request::{Circles, Effort, Settings};
 use crate::run::paved;
 use crate::summary::push_counts;
 use crate::system::settler_for;
+use crate::Refusal;
 use pv_box::Bisector;
 use pv_file::{hex_digits, write};
 use pv_io::PlainSink;
@@ -46,15 +51,34 @@ pub(crate) fn sample<'a, G: Gate + Sync, R: Threads + Wait + Sync>(
         Ok(settler) => settler,
         Err(refusal) => return Err(refusal),
     };
+    Ok(Product::Text(reported(rt, alloc, circles, &settler, gate)?))
+}
+
+// The report on what a settler makes of its search box.
+fn reported<G: Gate + Sync, R: Threads + Wait + Sync>(
+    rt: &R,
+    alloc: Global,
+    circles: &Circles,
+    settler: &SystemSettler,
+    gate: &G,
+) -> Result<Vec<u8>, Memory>
+    requires { (rule_of settler.now).depth ≡ 14 }
+    ensures report { IfOk result
+        (λ text. text.items ≡ report_of circles.now (identity_of (rule_of settler.now))
+        (search_box (rule_of settler.now)) (full_by (rule_of settler.now) leaf)) }
+    ensures honest { OnOk result ((system : Parts) (s : declared.Settings)
+        → IsRuleFor system s (rule_of settler.now)
+        → IsHonest s (rule_of settler.now) (full_by (rule_of settler.now) leaf)) }
+{
     let identity = settler.identity(alloc)?;
     // A tree of at most 14 cuts on a path has fewer nodes.
     let effort = Effort {
         workers: 4,
         boxes: 100_000,
     };
-    let paving = paved(rt, alloc, &settler, &effort, gate)?;
-    learn_honest(&paving, &settler);
-    Ok(Product::Text(report(alloc, circles, identity, &paving)?))
+    let paving = paved(rt, alloc, settler, &effort, gate)?;
+    learn_honest(&paving, settler);
+    report(alloc, circles, identity, &paving)
 }
 
 // By these a sample is paved.
@@ -87,6 +111,7 @@ fn settler_of<'a>(
     settler_for(alloc, system, settings)
 }
 
+#[tactic(auto, unfolding(crate::specs::Products::report_of))]
 fn report(
     alloc: Global,
     circles: &Circles,

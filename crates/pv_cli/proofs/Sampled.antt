@@ -1,0 +1,85 @@
+-- What a sample's text and settings come to.
+use Rattle.std.proofs.Common.{◌≡◌, ◌≢◌, ℕ, ◌+◌, ◌≤◌, pos, List, Ok, Err, length, sym, subst, arith}
+use Rattle.std.specs.Prelude.{IsTrue, Some, Result, IfOk, IfErr, OnOk, codes}
+use Rattle.pv_num.specs.Extended.{Extended, Fin, PosInf}
+use Rattle.pv_num.specs.Order.{le}
+use Rattle.pv_num.specs.Arithmetic.{ratio_of}
+use Rattle.pv_num.specs.declared.num.End.TheVariants.{Down}
+use Rattle.pv_num.proofs.Ratios.{ratio-from_zero, ratio-finite}
+use Rattle.pv_expr.specs.Systems.{Parts}
+use Rattle.pv_parse.specs.Declarations.{IsMeaning}
+use Rattle.pv_parse.specs.declared.refused.ParseRefused.{ParseRefused}
+use Rattle.pv_parse.specs.declared.refused.ParseRefused.TheVariants as parse
+use Rattle.pv_ctc.specs.Refusals.{refused_at}
+use Rattle.pv_tree.specs.Trees.{Tree, leaf}
+use Rattle.pv_tree.specs.Stages.{full_of}
+use Rattle.pv_settle.specs.Rules.{SettlerParts}
+use Rattle.pv_settle.specs.Settling.{settle_by}
+use Rattle.pv_settle.specs.Settlers.{rule_of}
+use Rattle.pv_settle.specs.declared.settler.SystemSettler.{SystemSettler}
+use Rattle.pv_cli.specs.Systems.{IsFaultOf, IsRuleFor, RefusesSettings, refusal_of, search_box}
+use Rattle.pv_cli.specs.Pavings.{IsPaved, settled_in}
+use Rattle.pv_cli.specs.Products.{AreForSamples, RefusesSample, text_of, full_by}
+use Rattle.pv_cli.proofs.Few.{few_of_sample}
+use Rattle.pv_cli.specs.Samples.{IsMadeRule}
+use Rattle.pv_cli.specs.declared.request.Circles.{Circles}
+use Rattle.pv_cli.specs.declared.request.Settings.{Settings}
+use Rattle.pv_cli.specs.declared.refusal.Refusal.{Refusal}
+use Rattle.pv_cli.specs.declared.refusal.Refusal.TheVariants.{Usage, System, Contract, NoFile, ReadFault, Paving, NotStored, NotPrinted, Memory, TreeLimit, Disagree, Differs}
+
+-- ---- The width
+
+pub eight_from : (n : Extended) → n ≡ ratio_of Down (pos 8) 1 → IsTrue (le (Fin (pos 0)) n)
+eight_from n is = subst (λ (x : Extended). IsTrue (le (Fin (pos 0)) x)) (sym is) (ratio-from_zero Down 8 1 (omega arith))
+
+pub eight_finite : (n : Extended) → n ≡ ratio_of Down (pos 8) 1 → n ≢ PosInf
+eight_finite n is = subst (λ (x : Extended). x ≢ PosInf) (sym is) (ratio-finite Down (pos 8) 1 (omega arith) (omega arith)).1
+
+-- ---- The system
+
+-- the reader refuses the text
+pub not_read : (c : Circles) (text : List ℕ) (e : ParseRefused) (r : Refusal) → text ≡ text_of c → IsFaultOf text e → r ≡ refusal_of e → RefusesSample c r
+not_read c text parse.Memory r same fault is = subst (RefusesSample c) (sym is) tt
+not_read c text (parse.Fault byte line column cause) r same fault is =
+    subst (RefusesSample c) (sym is) (subst (λ (t : List ℕ). IsFaultOf t (parse.Fault byte line column cause)) same fault)
+
+pub made_rule : (c : Circles) (s : Settings) (text : List ℕ) (system : Parts) (r : Result SystemSettler Refusal) → text ≡ text_of c → IsMeaning text system
+    → IfOk r (λ x. IsRuleFor system s (rule_of x)) → IfOk r (λ x. IsMadeRule c s (rule_of x))
+made_rule c s text system (Ok x) same means h = record { system = system; means = subst (λ (t : List ℕ). IsMeaning t system) same means; is = h }
+made_rule c s text system (Err r) same means h = tt
+
+no_rule : (c : Circles) (s : Settings) (system : Parts) (r : Refusal) → AreForSamples s → IsMeaning (text_of c) system → RefusesSettings system s r → RefusesSample c r
+no_rule c s system (Contract byte) for means h = record {
+  system = system;
+  means = means;
+  refused = subst (λ (t : List ℕ). refused_at (length system.constraints) t ≡ Some byte) for.contract h;
+}
+no_rule c s system Memory for means h = tt
+no_rule c s system Usage for means h = h
+no_rule c s system (System line column byte cause) for means h = absurd h
+no_rule c s system (NoFile n) for means h = h
+no_rule c s system (ReadFault n) for means h = h
+no_rule c s system (Paving n f) for means h = h
+no_rule c s system (NotStored n) for means h = h
+no_rule c s system NotPrinted for means h = h
+no_rule c s system (TreeLimit n) for means h = h
+no_rule c s system (Disagree p a b) for means h = h
+no_rule c s system (Differs p a b) for means h = h
+
+pub not_made : (c : Circles) (s : Settings) (text : List ℕ) (system : Parts) (r : Result SystemSettler Refusal) → AreForSamples s → text ≡ text_of c → IsMeaning text system
+    → IfErr r (RefusesSettings system s) → IfErr r (RefusesSample c)
+not_made c s text system (Ok x) for same means h = tt
+not_made c s text system (Err r) for same means h = no_rule c s system r for (subst (λ (t : List ℕ). IsMeaning t system) same means) h
+
+-- ---- The paving
+
+-- so large a budget is enough for a tree of at most 14 cuts on a path
+pub is_full : (rule : SettlerParts) (t : Tree) → rule.depth ≡ 14 → IsPaved (settle_by rule) rule.depth (search_box rule) leaf 100000 t → t ≡ full_by rule leaf
+is_full rule t deep paved =
+    let few : settled_in (full_of (settle_by rule) rule.depth (search_box rule) leaf 0) ≤ 32767 =
+    subst (λ (d : ℕ). settled_in (full_of (settle_by rule) d (search_box rule) leaf 0) ≤ 32767) (sym deep) (few_of_sample (settle_by rule) (search_box rule)) in
+    paved.full (paved.fits.1 (omega arith))
+
+pub on_ok : {T E P : Type 0} (r : Result T E) → P → OnOk r P
+on_ok (Ok x) p = p
+on_ok (Err e) p = tt
