@@ -365,10 +365,10 @@ pub(crate) static SETTLED: [Settled; 20] = [
         Small(((1, -3), (1, 0))),
     ),
     (
-        "Variables x in [0,0.125]; Constraints x * x - x <= -0.0625; End",
+        "Variables x in [0.1,0.1]; Constraints x * x - x <= -0.09; End",
         "hc4(0)",
         60,
-        Small(((1, -4), (1, -3))),
+        Small(((3689348814741910323, -65), (922337203685477581, -63))),
     ),
     (
         "Variables x in [0,+oo]; Constraints x - x <= 0; End",
