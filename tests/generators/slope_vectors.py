@@ -114,7 +114,7 @@ SETTLED = [
     ("[0,1]", "x - x = 0; x >= 0.5", "prop(2)", 60),
     ("[0,1]", "x * x - x <= -0.125", "hc4(0)", 60),
     ("[0,1]", "x * x - x <= -0.125", "hc4(0)", 0),
-    ("[0,0.125]", "x * x - x <= -0.0625", "hc4(0)", 60),
+    ("[0.1,0.1]", "x * x - x <= -0.09", "hc4(0)", 60),
     ("[0,+oo]", "x - x <= 0", "hc4(0)", 60),
     ("[2,3]", "x / x = 1", "hc4(0)", 60),
 ]
@@ -150,7 +150,7 @@ def row(x, y, text):
 
 def settled_row(x, text, program, depth_left):
     system = f"Variables x in {x}; Constraints {text}; End"
-    settler = CenteredSettler(minibex.read(system), contract=program)
+    settler = CenteredSettler(minibex.read(system), eps=Fraction(0), contract=program)
     outcome = settler.settle(settler.root, depth_left, 0)
     answer = {"X": lambda: "Removed", "I": lambda: f"Inner({ends(outcome[1][0])})", "S": lambda: f"Small({ends(outcome[1][0])})",
               "C": lambda: f"Cut({ends(outcome[1][0])})"}[outcome[0]]()

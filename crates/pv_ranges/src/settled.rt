@@ -26,12 +26,11 @@ pub(crate) enum As {
 // settled as.
 pub(crate) type Settled = (&'static str, &'static str, u32, As);
 
-// The settler of a text and a program, for boxes no wider than an eighth.
+// The settler of a text and a program, by which only boxes without width are narrow enough.
 fn settler(alloc: Global, text: &[u8], program: &[u8]) -> Option<CenteredSettler> {
     let system = parse(alloc, text).ok()?;
     let program = Program::read(alloc, program, system.constraint_count()).ok()?;
-    let eps = Num::from_ratio(1, 8, pv_num::End::Down);
-    CenteredSettler::new(alloc, system, program, eps, 60, Bisector::Largest).ok()
+    CenteredSettler::new(alloc, system, program, Num::ZERO, 60, Bisector::Largest).ok()
 }
 
 fn is_left(to: &IBox, ends: Ends) -> Option<bool> {
