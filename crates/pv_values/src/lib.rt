@@ -1,4 +1,5 @@
-//! Least values of expressions over systems that are read from their texts. This crate is tests alone.
+//! Least values of expressions over systems that are read from their texts. This crate is tests
+//! alone.
 #![tactic(auto)]
 
 #[cfg(test)]

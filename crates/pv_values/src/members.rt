@@ -3,15 +3,24 @@
 use crate::worked::search;
 use pv_num::{End, Num};
 
+// How far i/24 lies from 4, in units of 1/24.
+fn distance(i: u32) -> u32 {
+    if i < 96 { 96 - i } else { i - 96 }
+}
+
+fn square(n: u32) -> u32 {
+    n.saturating_mul(n)
+}
+
 // Of the points x, y from -4 to 4 whose numbers are whole multiples of 1/24, how many have x + y
 // at least 2. None where x^2 + y^2 is below a bound at one of them.
 fn tried(lower: Num) -> Option<u32> {
     let mut count = 0u32;
-    for i in 0i128..193 {
-        for j in 0i128..193 {
-            let (x, y) = (i - 96, j - 96);
-            if x + y >= 48 {
-                if Num::from_ratio(x * x + y * y, 576, End::Down) < lower {
+    for i in 0u32..193 {
+        for j in 0u32..193 {
+            if i + j >= 240 {
+                let squares = square(distance(i)).saturating_add(square(distance(j)));
+                if Num::from_ratio(squares as i128, 576, End::Down) < lower {
                     return None;
                 }
                 count = count.saturating_add(1);
