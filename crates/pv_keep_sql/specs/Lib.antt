@@ -1,4 +1,3 @@
 pub mod Troubles
 pub mod PathDigits
 pub mod Served
-pub mod Files

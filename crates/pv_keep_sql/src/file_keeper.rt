@@ -1,9 +1,8 @@
 //! A keeper over files: a name is that of a database file.
-ghost use Rattle.std.specs.Prelude.{◌≡◌, ◌≤◌, false, None, IfOk, string_bytes};
+ghost use Rattle.std.specs.Prelude.{◌≡◌, ◌+◌, ◌≤◌, [], None, IfOk, OnErr, length};
 ghost use Rattle.pv_io.specs.Outside.{Rose};
 ghost use Rattle.pv_keep.specs.Keeping.{untold};
-ghost use Rattle.pv_keep_sql.specs.Files.{file_name};
-ghost use Rattle.pv_keep_sql.specs.Served.{IsBegunAs};
+ghost use Rattle.pv_keep_sql.specs.Served.{name_of, AreLoaded, IsBegunAs};
 
 use crate::head::{Begun, begin_at};
 use crate::node::{Loaded, load_from, save_in};
@@ -13,32 +12,33 @@ use sqlite::{Connection, Error, File, FileStore};
 use std::alloc::Global;
 use std::rt::HostRuntime;
 
-/// The campaign that is begun, and its file.
+/// A database file that is open.
 struct OpenFile {
-    name: String,
     conn: Connection<FileStore<File>>,
+}
+
+// Closing copies what the log holds into the file. Where it fails the log stays, and has all that was saved.
+impl Drop for OpenFile {
+    fn drop(self) {
+        let OpenFile { conn } = self;
+        let _ = conn.close();
+    }
 }
 
 /// Keeps a campaign in each database file. A file is opened at each `begin`, made where it is absent, and
 /// closed when another is begun or the keeper ends. It tells no rows.
 pub struct FileKeeper {
     rt: HostRuntime,
+    begun: Option<String>,
     file: Option<OpenFile>,
     faults: u64,
-}
-
-// Closing copies what the log holds into the file. Where it fails the log stays, and has all that was saved.
-impl Drop for OpenFile {
-    fn drop(self) {
-        let OpenFile { name: _, conn } = self;
-        let _ = conn.close();
-    }
 }
 
 impl Drop for FileKeeper {
     fn drop(self) {
         let FileKeeper {
             rt: _,
+            begun: _,
             file: _,
             faults: _,
         } = self;
@@ -48,11 +48,12 @@ impl Drop for FileKeeper {
 impl FileKeeper {
     /// A keeper that has begun nothing and met no fault, over the machine's files.
     pub fn new(rt: &HostRuntime) -> FileKeeper
-        ensures begun { file_name result.file ≡ None }
+        ensures begun { name_of result.begun ≡ None }
         ensures no_fault { result.faults ≡ 0 }
     {
         FileKeeper {
             rt: *rt,
+            begun: None,
             file: None,
             faults: 0,
         }
@@ -60,7 +61,7 @@ impl FileKeeper {
 
     // Counts a fault.
     fn count(&mut self)
-        ensures begun { file_name self.new.file ≡ file_name self.old.file }
+        ensures begun { name_of self.new.begun ≡ name_of self.old.begun }
         ensures rose { Rose self.old.faults self.new.faults }
         ensures counts_on { self.old.faults ≤ self.new.faults }
     {
@@ -69,37 +70,56 @@ impl FileKeeper {
 }
 
 // Opens the file of a name and begins the campaign in it.
-fn open_at(
-    rt: &HostRuntime,
-    alloc: Global,
-    name: &str,
-    identity: [u8; 32],
-) -> Result<(OpenFile, Begun), Trouble>
-    ensures { IfOk result (λ found. (string_bytes found.0.name ≡ name.now)
-        × IsBegunAs identity found.1) }
+fn open_at(rt: &HostRuntime, name: &str, identity: [u8; 32]) -> Result<(OpenFile, Begun), Trouble>
+    ensures { IfOk result (λ found. IsBegunAs identity found.1) }
 {
-    let own = String::from_str(alloc, name)?;
     let mut conn = open_file(rt, name)?;
     let begun = begin_at(&mut conn, identity)?;
-    Ok((OpenFile { name: own, conn }, begun))
+    Ok((OpenFile { conn }, begun))
 }
 
 fn open_file(rt: &HostRuntime, name: &str) -> Result<Connection<FileStore<File>>, Error> {
     Connection::open(rt, name)
 }
 
+fn load_file(
+    alloc: Global,
+    file: &mut Option<OpenFile>,
+    limit: u64,
+    into: &mut Rows,
+) -> Result<Loaded, Trouble>
+    requires { into.old ≡ [] }
+    ensures loaded { IfOk result (λ l. AreLoaded limit l (length into.new)) }
+    ensures none { OnErr result (into.new ≡ []) }
+{
+    match file {
+        Some(file) => load_from(alloc, &mut file.conn, limit, into),
+        None => Err(Trouble::Fault),
+    }
+}
+
+fn save_file(alloc: Global, file: &mut Option<OpenFile>, rows: &Rows) -> Result<(), Trouble> {
+    match file {
+        Some(file) => save_in(alloc, &mut file.conn, rows),
+        None => Err(Trouble::Fault),
+    }
+}
+
 impl Keeper for FileKeeper {
-    ghost begun = { λ k. file_name k.file };
+    ghost begun = { λ k. name_of k.begun };
 
     ghost kept = { λ _ _. untold };
 
     ghost faults = { λ k. k.faults };
 
     fn begin(&mut self, name: &str, identity: [u8; 32]) -> Result<(), BeginRefused> {
+        self.begun = None;
         self.file = None;
-        match open_at(&self.rt, self.rt.alloc(), name, identity) {
+        let own = String::from_str(self.rt.alloc(), name)?;
+        match open_at(&self.rt, name, identity) {
             Ok((file, Begun::Same)) => {
                 self.file = Some(file);
+                self.begun = Some(own);
                 Ok(())
             }
             Ok((_, Begun::Other(kept))) => Err(BeginRefused::OtherIdentity { kept }),
@@ -112,10 +132,7 @@ impl Keeper for FileKeeper {
     }
 
     fn load(&mut self, limit: u64, into: &mut Rows) -> Result<(), LoadRefused> {
-        let Some(file) = &mut self.file else {
-            unreachable!()
-        };
-        match load_from(self.rt.alloc(), &mut file.conn, limit, into) {
+        match load_file(self.rt.alloc(), &mut self.file, limit, into) {
             Ok(Loaded::All) => Ok(()),
             Ok(Loaded::TooMany) => Err(LoadRefused::TooMany),
             Err(Trouble::Memory) => Err(LoadRefused::Memory),
@@ -127,10 +144,7 @@ impl Keeper for FileKeeper {
     }
 
     fn save(&mut self, rows: &Rows) -> Result<(), KeepRefused> {
-        let Some(file) = &mut self.file else {
-            unreachable!()
-        };
-        match save_in(self.rt.alloc(), &mut file.conn, rows) {
+        match save_file(self.rt.alloc(), &mut self.file, rows) {
             Ok(()) => Ok(()),
             Err(Trouble::Memory) => Err(KeepRefused::Memory),
             Err(Trouble::Fault) => {
