@@ -1,3 +1,0 @@
-pub mod Troubles
-pub mod PathDigits
-pub mod Served
