@@ -1,5 +1,5 @@
 -- The rows of a paving make that paving and no other.
-use Rattle.std.proofs.Common.{◌≡◌, ℕ, suc, ◌+◌, ◌<◌, ◌≤◌, length, length-append, Bool, true, false, List, [], ◌∷◌, ◌++◌, Option, Some, None, refl, sym, ◌∙◌, ap, subst, arith}
+use Rattle.std.proofs.Common.{◌≡◌, ℕ, suc, ◌+◌, ◌<◌, ◌≤◌, length, length-append, Bool, true, false, List, [], ◌∷◌, ◌++◌, Some, refl, sym, ◌∙◌, ap, subst, arith}
 use Rattle.std.specs.Prelude.{max}
 use Rattle.pv_num.proofs.Texts.{some_some}
 use Rattle.pv_num.specs.Extended.{Extended}
@@ -22,7 +22,7 @@ use Rattle.pv_keep.specs.Rows.{rows_below, rows_of, row_at}
 use Rattle.pv_keep.specs.Keeping.{Kept, untold, absent, holds}
 use Rattle.pv_keep.specs.Campaigns.{KeepsTree}
 use Rattle.pv_keep.specs.Rebuilding.{Make, IsGoodRow, IsFirstBad, MayStand}
-use Rattle.pv_keep.specs.Rounds.{Held, IsHeldStage, AreRounds, AllHeldStages}
+use Rattle.pv_keep.specs.Rounds.{Held, AllHeldStages}
 use Rattle.pv_keep.specs.Reopening.{MakeOnly, RowsMakeTheirs, KeptMakes, AllKeptMake, RoundsKeepTheirTrees}
 use Rattle.pv_keep.proofs.Rounding.{all_held}
 

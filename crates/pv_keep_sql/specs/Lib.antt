@@ -1,4 +1,0 @@
-pub mod Troubles
-pub mod PathDigits
-pub mod Served
-pub mod Files
