@@ -14,6 +14,7 @@ ghost use Rattle.pv_cli.specs.Systems.{IsRuleFor, search_box};
 ghost use Rattle.pv_cli.specs.declared.request.Settings as declared;
 ghost use Rattle.pv_cli.specs.Made.{made};
 
+use crate::Refusal;
 use crate::decimal::push_decimal;
 use crate::honest::learn_honest;
 use crate::product::Product;
@@ -21,7 +22,6 @@ use crate::request::{Circles, Effort, Settings};
 use crate::run::paved;
 use crate::summary::push_counts;
 use crate::system::settler_for;
-use crate::Refusal;
 use pv_box::Bisector;
 use pv_file::{hex_digits, write};
 use pv_io::PlainSink;
