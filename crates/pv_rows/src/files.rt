@@ -16,6 +16,7 @@ pub(crate) struct Named {
 }
 
 /// One call, what comes of it, and what a file holds then.
+#[derive(Drop)]
 pub(crate) struct Step {
     pub words: &'static str,
     pub status: u8,
