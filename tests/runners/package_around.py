@@ -18,7 +18,8 @@ COMMANDS = ["check", "run", "resume", "merge", "audit", "svg", "sample"]
 SETTINGS = ["eps", "depth", "bisect", "contract"]
 RUN_OPTIONS = [*SETTINGS, "boxes", "workers", "out"]
 SVG_OPTIONS = [*SETTINGS, "x", "y", "at"]
-OPTIONS = [*RUN_OPTIONS, "x", "y", "at"]
+SAMPLE_OPTIONS = ["seed", "count"]
+OPTIONS = [*RUN_OPTIONS, "x", "y", "at", *SAMPLE_OPTIONS]
 STATUSES = ["0", "1", "2", "3", "4", "5", "6", "7", "8", "9", "11"]
 LINES = ["usage: paver COMMAND SYSTEM [OPTIONS] [PAVING..]", "contract: refused at byte B",
          "system: line L column C byte B: CAUSE", "paving NAME: too long", "paving NAME: wrong identity",
@@ -66,6 +67,7 @@ def check_completions():
     assert completed("paver", "re") == ["resume"]
     assert sorted(completed("paver", "run", "--")) == sorted(f"--{name}" for name in RUN_OPTIONS)
     assert sorted(completed("paver", "svg", "--")) == sorted(f"--{name}" for name in SVG_OPTIONS)
+    assert sorted(completed("paver", "sample", "--")) == sorted(f"--{name}" for name in SAMPLE_OPTIONS)
     assert sorted(completed("paver", "audit", "--")) == ["--bisect", "--contract", "--depth", "--eps"]
     assert "--boxes" not in completed("paver", "merge", "s", "--")
     assert completed("paver", "run", "s", "--bisect", "") == ["largest", "round"]
