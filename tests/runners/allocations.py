@@ -37,6 +37,7 @@ def commands():
         "audit": (["audit", "r", "whole", *QUARTER], None),
         "a bad file": (["audit", "r", "bad", *QUARTER], None),
         "no file": (["run", "no"], None),
+        "sample": (["sample", "--seed", "7", "--count", "1"], None),
         "words": (["run", "s", "--eps"], None),
         "a contract": (["run", "s", "--contract", "union(hc4(0),prop(3),q)"], None),
     }

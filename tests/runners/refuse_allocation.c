@@ -10,6 +10,7 @@
 #include <stdio.h>
 #include <stdlib.h>
 #include <string.h>
+#include <sys/syscall.h>
 #include <unistd.h>
 
 extern void *__libc_malloc(size_t);
@@ -28,6 +29,10 @@ __attribute__((constructor)) static void begin(void) {
     atomic_store(&calls, 0);
 }
 
+static void leave(int status) {
+    for (;;) syscall(SYS_exit_group, status);
+}
+
 __attribute__((destructor)) static void end(void) {
     const char *name = getenv("REFUSE_COUNT");
     if (!name) return;
@@ -35,8 +40,15 @@ __attribute__((destructor)) static void end(void) {
     if (file < 0) return;
     char text[32];
     int length = snprintf(text, sizeof text, "%lu\n", atomic_load(&calls));
-    if (write(file, text, (size_t)length) < 0) _exit(99);
+    if (write(file, text, (size_t)length) < 0) leave(99);
     close(file);
+}
+
+/* A program that may have threads ends by this call, which runs no destructor. */
+void _exit(int status) {
+    end();
+    leave(status);
+    __builtin_unreachable();
 }
 
 static int is_refused(void) {

@@ -63,61 +63,102 @@ fn held(alloc: Global, folder: &mut MemFolder, name: &str) -> Result<Vec<u8>, Fa
     Ok(bytes)
 }
 
+// A command, its status, what it prints at first, and what a file holds then.
+struct Turn {
+    words: &'static str,
+    status: u8,
+    begins: &'static str,
+    file: &'static str,
+    holds: &'static str,
+}
+
 // A budget of one and the whole, stored, and gone on with.
-fn paves_the_line<R: Abort + Threads + Wait + Sync>(
+const TURNS: [Turn; 6] = [
+    Turn {
+        words: "run s --eps 0.25",
+        status: 0,
+        begins: SUMMARY,
+        file: "",
+        holds: "",
+    },
+    Turn {
+        words: "run s --eps 0.25 --boxes 1 --out a",
+        status: 1,
+        begins: "settled 1 ",
+        file: "a",
+        holds: PART,
+    },
+    Turn {
+        words: "run s --eps 0.25 --boxes 5 --out b",
+        status: 0,
+        begins: SUMMARY,
+        file: "b",
+        holds: WHOLE,
+    },
+    Turn {
+        words: "run s --eps 0.25 --boxes 4",
+        status: 1,
+        begins: "settled 4 ",
+        file: "",
+        holds: "",
+    },
+    Turn {
+        words: "resume s a --eps 0.25 --boxes 4 --out c",
+        status: 0,
+        begins: SUMMARY,
+        file: "c",
+        holds: WHOLE,
+    },
+    Turn {
+        words: "resume s a --eps 0.25 --boxes 3",
+        status: 1,
+        begins: "settled 4 ",
+        file: "",
+        holds: "",
+    },
+];
+
+fn is_held(
+    rt: &impl Abort,
+    alloc: Global,
+    folder: &mut MemFolder,
+    turn: &Turn,
+) -> Result<(), Fail> {
+    if turn.file.is_empty() {
+        return Ok(());
+    }
+    let bytes = held(alloc, folder, turn.file)?;
+    let words = turn.words;
+    assert_eq!(rt; bytes.as_slice(), turn.holds.as_bytes(), "{words}");
+    Ok(())
+}
+
+fn take_turn<R: Abort + Threads + Wait + Sync>(
+    rt: &R,
+    alloc: Global,
+    folder: &mut MemFolder,
+    turn: &Turn,
+    workers: u32,
+) -> Result<(), Fail> {
+    let words = turn.words;
+    let answer = call(rt, alloc, folder, words, workers)?;
+    assert_eq!(rt; answer.status.code(), turn.status, "{words}");
+    assert!(rt;
+        answer.out.bytes().starts_with(turn.begins.as_bytes()),
+        "{words}"
+    );
+    is_held(rt, alloc, folder, turn)
+}
+
+fn take_turns<R: Abort + Threads + Wait + Sync>(
     rt: &R,
     alloc: Global,
     workers: u32,
 ) -> Result<(), Fail> {
     let mut folder = folder_of(alloc, SYSTEM)?;
-    let whole = call(rt, alloc, &mut folder, "run s --eps 0.25", workers)?;
-    assert_eq!(rt; whole.status.code(), 0);
-    assert!(rt; whole.out.bytes().starts_with(SUMMARY.as_bytes()));
-    let first = call(
-        rt,
-        alloc,
-        &mut folder,
-        "run s --eps 0.25 --boxes 1 --out a",
-        workers,
-    )?;
-    assert_eq!(rt; first.status.code(), 1);
-    assert_eq!(rt; held(alloc, &mut folder, "a")?.as_slice(), PART.as_bytes());
-    let five = call(
-        rt,
-        alloc,
-        &mut folder,
-        "run s --eps 0.25 --boxes 5 --out b",
-        workers,
-    )?;
-    assert_eq!(rt; five.status.code(), 0);
-    assert_eq!(rt; held(alloc, &mut folder, "b")?.as_slice(), WHOLE.as_bytes());
-    let four = call(
-        rt,
-        alloc,
-        &mut folder,
-        "run s --eps 0.25 --boxes 4",
-        workers,
-    )?;
-    assert_eq!(rt; four.status.code(), 1);
-    assert!(rt; four.out.bytes().starts_with(b"settled 4 "));
-    let on = call(
-        rt,
-        alloc,
-        &mut folder,
-        "resume s a --eps 0.25 --boxes 4 --out c",
-        workers,
-    )?;
-    assert_eq!(rt; on.status.code(), 0);
-    assert_eq!(rt; held(alloc, &mut folder, "c")?.as_slice(), WHOLE.as_bytes());
-    let short = call(
-        rt,
-        alloc,
-        &mut folder,
-        "resume s a --eps 0.25 --boxes 3",
-        workers,
-    )?;
-    assert_eq!(rt; short.status.code(), 1);
-    assert!(rt; short.out.bytes().starts_with(b"settled 4 "));
+    for turn in &TURNS {
+        take_turn(rt, alloc, &mut folder, turn, workers)?;
+    }
     Ok(())
 }
 
@@ -125,8 +166,23 @@ fn paves_the_line<R: Abort + Threads + Wait + Sync>(
 fn the_line_by_one_two_and_eight(rt: HostRuntime) -> Result<(), Fail> {
     let alloc = rt.alloc();
     for workers in [1u32, 2, 8] {
-        paves_the_line(&rt, alloc, workers)?;
+        take_turns(&rt, alloc, workers)?;
     }
+    Ok(())
+}
+
+// The two discs, stored under another name than by one worker, are the same bytes.
+fn paves_as_one<R: Abort + Threads + Wait + Sync>(
+    rt: &R,
+    alloc: Global,
+    folder: &mut MemFolder,
+    workers: u32,
+) -> Result<(), Fail> {
+    let more = call(rt, alloc, folder, "run s --out q", workers)?;
+    assert_eq!(rt; more.status.code(), 0);
+    let one = held(alloc, folder, "p")?;
+    let other = held(alloc, folder, "q")?;
+    assert_eq!(rt; other.as_slice(), one.as_slice());
     Ok(())
 }
 
@@ -137,16 +193,8 @@ fn two_discs_by_one_two_and_eight(rt: HostRuntime) -> Result<(), Fail> {
     let one = call(&rt, alloc, &mut folder, "run s --out p", 1)?;
     assert_eq!(rt; one.status.code(), 0);
     for workers in [2u32, 8] {
-        let more = call(&rt, alloc, &mut folder, "run s --out q", workers)?;
-        assert_eq!(rt; more.status.code(), 0);
-        let same = held(alloc, &mut folder, "q")? == held(alloc, &mut folder, "p")?;
-        assert!(rt; same);
+        paves_as_one(&rt, alloc, &mut folder, workers)?;
     }
-    let list = words_of(alloc, "audit s q")?;
-    let mut out = MemSink::new(alloc, Vec::new(alloc));
-    let mut err = MemSink::new(alloc, Vec::new(alloc));
-    let status = paver(&rt, alloc, &list, &mut folder, &mut out, &mut err);
-    assert_eq!(rt; status.code(), 0);
     Ok(())
 }
 
