@@ -17,15 +17,19 @@ use pv_num::{End, Memory, Num};
 use std::alloc::Global;
 use std::collections::HashMap;
 
-// The nodes so far, the intervals of the constants among them, and the number of each node.
+/// Expressions as numbered nodes, in which no two are equal.
 #[derive(Drop)]
 pub struct Builder {
+    /// The nodes so far, each behind those that it reads.
     pub nodes: Vec<Node>,
+    /// The intervals of the constants among them.
     pub ready: Vec<Interval>,
+    /// The number of each node.
     pub numbers: HashMap<Node, usize>,
 }
 
 impl Builder {
+    /// No nodes yet. It takes no memory.
     pub fn new(alloc: Global) -> Builder
         ensures nodes { result.nodes.items ≡ [] }
         ensures ready { result.ready.items ≡ [] }
@@ -76,7 +80,7 @@ impl Builder {
         Ok(number)
     }
 
-    // Adds the nodes of an expression, and gives its number.
+    /// Adds the nodes of an expression, and gives its number.
     #[cycle(adding)]
     pub fn add(&mut self, e: &Expr, dims: u8) -> Result<usize, Memory>
         requires ordered { AreOrdered self.old.nodes.items dims }
@@ -124,8 +128,9 @@ impl Builder {
         self.number(Node::One(op, a), Interval::ALL, dims)
     }
 
+    /// Adds the nodes of an operation on two expressions, and gives its number.
     #[cycle(adding)]
-    fn add_two(&mut self, op: BinaryOp, a: &Expr, b: &Expr, dims: u8) -> Result<usize, Memory>
+    pub fn add_two(&mut self, op: BinaryOp, a: &Expr, b: &Expr, dims: u8) -> Result<usize, Memory>
         requires ordered { AreOrdered self.old.nodes.items dims }
         requires ready { AreReady self.old.nodes.items self.old.ready.items }
         requires numbered { AreNumbered self.old.nodes.items self.old.numbers }

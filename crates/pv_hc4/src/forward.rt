@@ -11,7 +11,8 @@ use crate::node::{BinaryOp, Node, UnaryOp};
 use pv_box::IBox;
 use pv_interval::Interval;
 
-fn unary(op: UnaryOp, x: Interval) -> Interval
+/// The interval of an operation on an interval.
+pub fn unary(op: UnaryOp, x: Interval) -> Interval
     requires { IsPower op }
     ensures { result ≡ unary_of (unary_named op) x }
 {
@@ -22,7 +23,8 @@ fn unary(op: UnaryOp, x: Interval) -> Interval
     }
 }
 
-fn binary(op: BinaryOp, x: Interval, y: Interval) -> Option<Interval>
+/// The interval of an operation on two intervals; None where a divisor is [0,0].
+pub fn binary(op: BinaryOp, x: Interval, y: Interval) -> Option<Interval>
     ensures { result ≡ binary_of (binary_named op) x y }
 {
     match op {
@@ -35,8 +37,8 @@ fn binary(op: BinaryOp, x: Interval, y: Interval) -> Option<Interval>
     }
 }
 
-// One place of a box.
-pub(crate) fn place(bx: &IBox, i: u8) -> Interval
+/// One place of a box.
+pub fn place(bx: &IBox, i: u8) -> Interval
     requires { i < length bx.now }
     ensures { result ≡ at bx.now i }
 {
@@ -57,8 +59,9 @@ fn value(node: Node, own: Interval, bx: &IBox, values: &[Interval]) -> Option<In
     }
 }
 
-// Gives each node its interval; false where one of them is empty. At the entry the constants have theirs.
-pub(crate) fn forward_all(nodes: &[Node], bx: &IBox, values: &mut [Interval]) -> bool
+/// Gives each node its interval; false where one of them is empty. At the entry the constants have
+/// theirs.
+pub fn forward_all(nodes: &[Node], bx: &IBox, values: &mut [Interval]) -> bool
     requires ordered { AreOrdered nodes.now (length bx.now) }
     requires ready { AreReady nodes.now values.old }
     ensures passed { IsPass bx.now nodes.now values.new result }

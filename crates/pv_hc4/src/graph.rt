@@ -246,6 +246,7 @@ impl Scratch {
     }
 }
 
+/// Writes the intervals of the constants over a list, with one place a node.
 pub fn fill(values: &mut Vec<Interval>, ready: &[Interval]) -> Result<(), Memory>
     ensures { OnOk result (values.new.items ≡ ready.now) }
 {

@@ -4,8 +4,8 @@
 //! Source: Benhamou, Goualard, Granvilliers, Puget, "Revising hull and box consistency" (1999).
 #![tactic(auto)]
 
-mod builder;
-mod forward;
+pub mod builder;
+pub mod forward;
 mod graph;
 mod judge;
 pub mod laws;
@@ -16,9 +16,9 @@ mod relate;
 mod revise;
 mod revised;
 mod steps;
-mod total;
+pub mod total;
 
-pub use graph::{Forward, Graph, Scratch};
+pub use graph::{Forward, Graph, Scratch, fill};
 pub use judge::Judged;
 pub use marks::Marks;
 pub use node::{BinaryOp, Node, UnaryOp};

@@ -38,8 +38,8 @@ fn node_is_total(node: Node, values: &[Interval]) -> bool
     }
 }
 
-// Whether no divisor's interval contains 0, for the values of a box.
-pub(crate) fn is_total(nodes: &[Node], values: &[Interval], bx: &IBox) -> bool
+/// Whether no divisor's interval contains 0, for the forward intervals of a box.
+pub fn is_total(nodes: &[Node], values: &[Interval], bx: &IBox) -> bool
     requires ordered { AreOrdered nodes.now (length bx.now) }
     requires valued { AreValues bx.now nodes.now values.now }
     ensures { IsTotality bx.now nodes.now result }

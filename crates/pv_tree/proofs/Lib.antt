@@ -11,6 +11,7 @@ pub mod Searches
 pub mod Halves
 pub mod Behind
 pub mod StageLaws
+pub mod Earlier
 pub mod Covered
 pub mod Pieces
 pub mod Stacks

@@ -8,7 +8,7 @@ use Rattle.pv_tree.specs.Trees.{Tree, leaf, removed, inner, small, cut, opens, f
 use Rattle.pv_tree.specs.declared.outcome.Outcome.TheVariants.{Removed, Inner, Small, Cut}
 use Rattle.pv_tree.specs.Stages.{Rule, full_of, Grows, IsStage}
 use Rattle.pv_tree.specs.Laws.{IsLawful}
-use Rattle.pv_tree.proofs.StageLaws.{IsCut, top_removed, top_inner, top_small, top_cut, grows_low, grows_high, grows_leaf, grows_self, grows_cut, step_stage, whole_stage}
+use Rattle.pv_tree.proofs.StageLaws.{IsCut, top_removed, top_inner, top_small, top_cut, grows_low, grows_high, step_stage, whole_stage}
 use Rattle.pv_tree.proofs.TreeFacts.{settled_more}
 use Rattle.pv_tree.proofs.Searches.{some_is}
 use Rattle.pv_board.specs.Rules.{settled_in}
@@ -31,20 +31,6 @@ grows_settled (cut to v a l r) t h =
     let whole : settled_in (cut to v a l r) ≤ settled_in (cut to v a c.low c.high) = omega arith in
     let same : settled_in (cut to v a c.low c.high) ≤ settled_in t = same_or_more (cut to v a c.low c.high) t (sym c.is) in
     omega arith
-
--- an opening grows to its full tree
-pub grows_full : (rule : Rule) (depth : ℕ) (b : List Bounds) (t : Tree) (k : ℕ) → Grows t (full_of rule depth b t k)
-unfolding full_of
-grows_full rule depth b leaf k = grows_leaf (full_of rule depth b leaf k)
-grows_full rule depth b removed k = grows_self removed
-grows_full rule depth b (inner to) k = grows_self (inner to)
-grows_full rule depth b (small to) k = grows_self (small to)
-grows_full rule depth b (cut to v a l r) k =
-    grows_cut to v a l r (full_of rule depth (lower_half to v a) l (suc k)) (full_of rule depth (upper_half to v a) r (suc k))
-    (grows_full rule depth (lower_half to v a) l (suc k)) (grows_full rule depth (upper_half to v a) r (suc k))
-
-pub opening_is_stage : (rule : Rule) (depth : ℕ) (b : List Bounds) (t : Tree) → IsStage rule depth b t t
-opening_is_stage rule depth b t = record { grown = grows_self t; grows = grows_full rule depth b t 0 }
 
 -- the first of a list that is empty, or isn't
 pub no_first : (ps : List (List Bool)) → first ps ≡ None → ps ≡ []

@@ -14,7 +14,7 @@ use Rattle.pv_tree.specs.declared.outcome.Shape.TheVariants as shape
 use Rattle.pv_board.specs.Rules.{settled_in}
 use Rattle.pv_workers.specs.Leaves.{AreOpen, paths_of}
 use Rattle.pv_workers.specs.Pavings.{IsSpent}
-use Rattle.pv_workers.proofs.Budgets.{opening_is_stage}
+use Rattle.pv_tree.proofs.Earlier.{opening_is_stage}
 
 -- the open leaves that come of one
 abbrev below : List Bool → Outcome → List (List Bool)

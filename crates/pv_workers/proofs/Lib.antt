@@ -3,6 +3,5 @@ pub mod Rests
 pub mod Below
 pub mod Counts
 pub mod Laws
-pub mod Earlier
 pub mod GrownLeaves
 pub mod Leaves

@@ -1,7 +1,7 @@
 use Rattle.pv_tree.specs.Laws.{IsLawful}
 use Rattle.pv_tree.proofs.StageLaws.{whole_stage}
 use Rattle.pv_workers.proofs.Budgets.{fits_of, spent_of}
-use Rattle.pv_workers.proofs.Earlier.{stage_on}
+use Rattle.pv_tree.proofs.Earlier.{stage_on}
 use Rattle.pv_workers.proofs.paving.learn_paved.Goals as goal
 
 pub returns-clause-stages : goal.returns-clause-stages

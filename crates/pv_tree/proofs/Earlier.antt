@@ -1,4 +1,4 @@
--- What is a stage of a stage of an opening is a stage of that opening.
+-- An opening is a stage of itself, and what is a stage of a stage of it is a stage of it.
 use Rattle.std.proofs.Common.{◌≡◌, ℕ, suc, ◌-◌, true, false, Some, None, List, [], length, refl, sym, ◌∙◌, subst}
 use Rattle.pv_num.specs.Extended.{Extended}
 use Rattle.pv_interval.specs.Bounds.{Bounds}
@@ -9,7 +9,21 @@ use Rattle.pv_tree.specs.Stages.{Rule, full_of, Grows, IsStage}
 use Rattle.pv_tree.specs.Laws.{IsLawful}
 use Rattle.pv_tree.specs.declared.outcome.Outcome.TheVariants.{Removed, Inner, Small, Cut}
 use Rattle.pv_tree.proofs.Wholes.{half_length, within_length}
-use Rattle.pv_tree.proofs.StageLaws.{top_removed, top_inner, top_small, grows_low, grows_high, grows_leaf, grows_cut, grows_on, half_box, leaf_cut, top_leaf, full_of_cut}
+use Rattle.pv_tree.proofs.StageLaws.{top_removed, top_inner, top_small, grows_self, grows_low, grows_high, grows_leaf, grows_cut, grows_on, half_box, leaf_cut, top_leaf, full_of_cut}
+
+-- an opening grows to its full tree
+pub grows_full : (rule : Rule) (depth : ℕ) (b : List Bounds) (t : Tree) (k : ℕ) → Grows t (full_of rule depth b t k)
+unfolding full_of
+grows_full rule depth b leaf k = grows_leaf (full_of rule depth b leaf k)
+grows_full rule depth b removed k = grows_self removed
+grows_full rule depth b (inner to) k = grows_self (inner to)
+grows_full rule depth b (small to) k = grows_self (small to)
+grows_full rule depth b (cut to v a l r) k =
+    grows_cut to v a l r (full_of rule depth (lower_half to v a) l (suc k)) (full_of rule depth (upper_half to v a) r (suc k))
+    (grows_full rule depth (lower_half to v a) l (suc k)) (grows_full rule depth (upper_half to v a) r (suc k))
+
+pub opening_is_stage : (rule : Rule) (depth : ℕ) (b : List Bounds) (t : Tree) → IsStage rule depth b t t
+opening_is_stage rule depth b t = record { grown = grows_self t; grows = grows_full rule depth b t 0 }
 
 module _ (rule : Rule) (depth dims : ℕ) (inside : Point → Type 0) (laws : IsLawful rule depth dims inside) where
   -- a stage has the full tree of its opening
