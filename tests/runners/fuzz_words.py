@@ -1,9 +1,9 @@
 #!/usr/bin/env python3
-"""Calls the real binary with made words and made contractor texts, good and broken.
+"""Calls the real binary with made words, contractor texts and objectives, good and broken.
 
     python3 tests/runners/fuzz_words.py ./paver [COUNT [SEED]]
 
-A contractor text has to be refused at the byte that the reference says, or not at all. Good words in any order and
+A contractor text and an objective have to be refused at the byte that the reference says, or not at all. Good words in any order and
 either spelling of an option have to answer what the same call answers in its plain form, and words with one thing wrong
 end with the usage line. The last line is 'N passed, M failed'; a call that differs is printed with both answers.
 """
@@ -16,7 +16,9 @@ from pathlib import Path
 
 sys.path.insert(0, str(Path(__file__).resolve().parents[1]))
 from data.cases import USAGE, system  # noqa: E402
+from reference.faults import first_expression_fault  # noqa: E402
 from reference.programs import refused_at  # noqa: E402
+from runners.fuzz_reader import Maker  # noqa: E402
 
 CONSTRAINTS = 3
 SYSTEM = system("x in [0,4], y in [0,4]", "x + y <= 4; x >= 1; y^2 <= x")
@@ -162,6 +164,25 @@ class Calls:
             self.check(words, (status, out, err), (2, b"", f"contract: refused at byte {place}\n".encode()))
 
 
+    def objective(self, text):
+        words = ["least", "s", "--boxes=1", "--eps=4", f"--of={text}"]
+        status, out, err = self.answer(words)
+        fault = first_expression_fault(text.encode(), ["x", "y"])
+        if fault is None:
+            self.check(words, (status in (0, 1), err), (True, b""))
+        else:
+            self.check(words, (status, out, err), (2, b"", "objective: byte {}: {}\n".format(*fault).encode()))
+
+
+def objectives(source, count):
+    """Texts of expressions over two variables, and what is left of them when a piece is exchanged."""
+    maker = Maker(source)
+    yield from ("", "x", "y+", "(" * 101 + "x", "x" + "+1" * 1000, "x" + "+1" * 1001, "x^33", "z", "x y", "x;", "x<=1")
+    for _ in range(count):
+        text = maker.expression(3, ["x", "y"])
+        yield text if source.random() < 0.3 else maker.broken(text)
+
+
 def main():
     count, seed = (int(word) for word in (sys.argv[2:] + ["600", "1"][len(sys.argv) - 2:])[:2])
     source = random.Random(seed)
@@ -169,8 +190,10 @@ def main():
     with tempfile.TemporaryDirectory() as folder:
         (Path(folder) / "s").write_bytes(SYSTEM)
         calls = Calls(os.path.abspath(sys.argv[1]), folder)
-        for text in Programs(source).texts(count // 2):
+        for text in Programs(source).texts(count // 4):
             calls.program(text)
+        for text in objectives(source, count // 4):
+            calls.objective(text)
         for _ in range(count // 4):
             made, plain = words.good()
             calls.check(made, calls.answer(made), calls.answer(plain))
