@@ -183,8 +183,9 @@ fn is_staged(ticket: &Ticket) -> bool {
 fn wanted(ticket: &Ticket) -> u64
     ensures { ticket.now.grant + result ≤ 15 }
 {
+    let granted = ticket.grant();
     if is_staged(ticket) {
-        MOST_GRANT - ticket.grant()
+        MOST_GRANT - granted
     } else {
         0
     }

@@ -65,9 +65,9 @@ impl<'a, N: Naming, S: KnowingSettler> Task<'a, N, S> {
 
     /// What it consists of.
     pub(crate) fn into_parts(self) -> Parts<'a, N, S>
-        ensures ticket { result.ticket ≡ self }
+        ensures ticket { result.ticket ≡ self.entry }
         ensures known { S.knows result.ruled.now.settler.now result.known
-            (box_of N.root (full_of N.rule N.depth N.root N.opening 0) self.path) }
+            (box_of N.root (full_of N.rule N.depth N.root N.opening 0) self.entry.path) }
     {
         let Task {
             ticket,
