@@ -1,6 +1,6 @@
 -- What is behind a token depends neither on what a name is declared as nor on which function is called, but for the code: so the
 -- items begin with tokens where a tree does, an undeclared or taken name as a known one.
-use Rattle.std.proofs.Common.{◌≡◌, ℕ, zero, suc, ◌-◌, List, [], ◌∷◌, ◌++◌, map, false, Option, Some, None, refl, sym, ap, ◌∙◌, subst, append_assoc, arith}
+use Rattle.std.proofs.Common.{◌≡◌, ℕ, zero, suc, ◌-◌, List, [], ◌∷◌, ◌++◌, map, Option, Some, None, refl, sym, ap, ◌∙◌, subst, append_assoc, arith}
 use Rattle.pv_code.specs.declared.code.Op.{Op}
 use Rattle.pv_code.specs.declared.code.Op.TheVariants.{Call, Define}
 use Rattle.pv_grammar.specs.declared.machine.Item.{Item}

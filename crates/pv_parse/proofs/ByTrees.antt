@@ -1,6 +1,5 @@
 -- What is first wrong in a text by the items of the grammar is so by its trees.
-use Rattle.std.proofs.Common.{◌≡◌, ℕ, List, [], ◌∷◌, ◌++◌, take, refl, ap, ◌∙◌, subst, append_assoc, Result, Ok, Err}
-use Rattle.pv_code.specs.declared.code.Op.{Op}
+use Rattle.std.proofs.Common.{◌≡◌, ℕ, List, [], ◌∷◌, ◌++◌, take, ap, ◌∙◌, subst, append_assoc, Result, Ok, Err}
 use Rattle.pv_grammar.specs.declared.cause.Cause.{Cause}
 use Rattle.pv_grammar.specs.declared.counts.Counts.{Counts}
 use Rattle.pv_grammar.specs.declared.counts.Phase.TheVariants.{Between, Sides}

@@ -496,28 +496,28 @@ pub record StartsKnown (items : List Item) (c : Counts) (n : Names) : Type 0 whe
 pub system_start : StartsKnown system_items (nothing Between) no_names
 system_start = record {
   fits = (
+    tt,
+    λ q m l. (
       tt,
-      λ q m l. (
+      λ q1 m1 l1. (
         tt,
-        λ q1 m1 l1. (
+        λ q2 m2 l2. (
           tt,
-          λ q2 m2 l2. (
+          λ q3 m3 l3. (
             tt,
-            λ q3 m3 l3. (
+            λ q4 m4 l4. (
               tt,
-              λ q4 m4 l4. (
+              λ q5 m5 l5. (
                 tt,
-                λ q5 m5 l5. (
-                  tt,
-                  λ q6 m6 l6.
-                      expression_fits (WantRelation ∷ MoreConstraints ∷ Exactly End ∷ []) (λ q7 m7. (tt, λ q8 m8 l8. (tt, λ q9 m9 l9. (tt, λ q10 m10 l10. tt)))) q6 m6,
-                ),
+                λ q6 m6 l6.
+                    expression_fits (WantRelation ∷ MoreConstraints ∷ Exactly End ∷ []) (λ q7 m7. (tt, λ q8 m8 l8. (tt, λ q9 m9 l9. (tt, λ q10 m10 l10. tt)))) q6 m6,
               ),
             ),
           ),
         ),
       ),
-    );
+    ),
+  );
   bodied = tt;
   names = λ name. tt;
 }

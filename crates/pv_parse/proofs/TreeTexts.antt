@@ -1,5 +1,5 @@
 -- The texts of trees are the sentences of the grammar's items, with the tree's code.
-use Rattle.std.proofs.Common.{◌≡◌, ℕ, List, [], ◌∷◌, ◌∙◌, subst}
+use Rattle.std.proofs.Common.{◌≡◌, ℕ, List, [], ◌∙◌, subst}
 use Rattle.pv_code.specs.declared.code.Op.{Op}
 use Rattle.pv_grammar.specs.declared.counts.Phase.TheVariants.{Between, Sides as SidesPhase}
 use Rattle.pv_grammar.specs.Grammar.{expression_items, system_items}

@@ -1,5 +1,5 @@
 -- Which tokens a text has for the grammar, and of which tree it is a text.
-use Rattle.std.specs.Prelude.{◌≡◌, ℕ, ◌++◌, List, [], ◌∷◌, Option, Some, None, Ok, slice_range}
+use Rattle.std.specs.Prelude.{◌≡◌, ℕ, List, [], ◌∷◌, Option, Some, None, Ok, slice_range}
 use Rattle.pv_expr.specs.declared.constraint.Relation.TheVariants.{Eq, Le, Ge, Lt, Gt}
 use Rattle.pv_code.specs.declared.code.Op.TheVariants.{One, Two}
 use Rattle.pv_code.specs.declared.code.Unary.TheVariants.{Abs, Pow}
