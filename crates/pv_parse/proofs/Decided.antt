@@ -29,9 +29,9 @@ use Rattle.pv_tokens.proofs.Exists.{Next, next_from, digit_or}
 use Rattle.pv_tokens.proofs.OneRatio.{common_within}
 use Rattle.pv_tokens.proofs.Powers.{divided, least_power}
 use Rattle.pv_tokens.proofs.TokenNumbers.{same_numeral, token_numeral}
-use Rattle.pv_parse.specs.ByItems.{IsFirstByItems, IsSentence}
+use Rattle.pv_parse.specs.ByItems.{AreBounded, IsFirstByItems, IsSentence}
 use Rattle.pv_parse.specs.Faults.{IsEither, IsExpressionFault, IsSystemFault}
-use Rattle.pv_parse.specs.Meanings.{AreBounded, KnowsVariables, Names, learnt, no_names, variables_from}
+use Rattle.pv_parse.specs.Meanings.{KnowsVariables, Names, learnt, no_names, variables_from}
 use Rattle.pv_parse.specs.Sentences.{IsExpressionText, IsNumberSymbol, IsSystemText, MayRaise, StandsFor, bytes_of, name_symbol}
 use Rattle.pv_parse.proofs.ByTrees.{expression_first, system_first}
 use Rattle.pv_parse.proofs.Pieces.{known_bounded, none_bounded}

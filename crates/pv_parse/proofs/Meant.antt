@@ -23,9 +23,9 @@ use Rattle.pv_parse.specs.declared.refused.ParseRefused.{ParseRefused}
 use Rattle.pv_parse.specs.declared.refused.ParseRefused.TheVariants.{Memory, Fault}
 use Rattle.pv_parse.specs.declared.scope.Begun.{Begun}
 use Rattle.pv_parse.specs.declared.scope.Begun.TheVariants.{Outside, Next, At}
-use Rattle.pv_parse.specs.ByItems.{IsFirstOfByItems, IsLargeAt}
+use Rattle.pv_parse.specs.ByItems.{IsAt, IsFirstOfByItems, IsLargeAt}
 use Rattle.pv_parse.specs.Declarations.{AreGood, IsFirstBad, IsMeaning, Mark, Marks, MarksTo, Reading, begun_at, begun_behind, bracket_behind, bracket_of, brackets_in, declares, own, start_of, starts_from, starts_in}
-use Rattle.pv_parse.specs.Faults.{IsAt, IsRefusal}
+use Rattle.pv_parse.specs.Faults.{IsRefusal}
 use Rattle.pv_parse.specs.Faults.IsFaultOf.{bounds, first, large}
 use Rattle.pv_parse.specs.Meanings.{Names, no_names}
 use Rattle.pv_parse.specs.Scopes.{IsToldAs, Scoped, Variable, bracket_given, bracket_in, domain_given, domain_in, name_of, nothing_scoped, variable, variables_in}

@@ -1,5 +1,5 @@
 -- A text is one list of tokens for the grammar. So a text of the grammar has no first fault, and each other one has at most one.
-use Rattle.std.proofs.Common.{Err, List, None, Ok, Option, Result, Some, [], ap, append_assoc, arith, refl, subst, sym, take, ℕ, ◌*◌, ◌++◌, ◌-◌, ◌^◌, ◌∙◌, ◌∷◌, ◌≡◌, ◌≤◌}
+use Rattle.std.proofs.Common.{◌*◌, ◌++◌, ◌-◌, ◌^◌, ◌∙◌, ◌∷◌, ◌≡◌, ◌≤◌, Err, List, None, Ok, Option, Result, Some, [], ap, append_assoc, arith, refl, subst, sym, take, ℕ}
 use Rattle.std.proofs.lemmas.List.{append-nil}
 use Rattle.pv_code.specs.declared.fraction.Fraction.{Fraction}
 use Rattle.pv_grammar.specs.declared.cause.Cause.{Cause}

@@ -25,7 +25,8 @@ use Rattle.pv_tokens.specs.Tokens.Separates.{blank, line, closed, unclosed}
 use Rattle.pv_tokens.specs.Tokens.IsWord.{name, number, less_equal, single}
 use Rattle.pv_parse.specs.declared.names.Meaning.{Meaning}
 use Rattle.pv_parse.specs.declared.names.Meaning.TheVariants.{Variable as VariableMeaning}
-use Rattle.pv_parse.specs.Meanings.{AreBounded, AreWithin, KnowsVariables, Names, no_names, numbered, behind_sign, is_function, is_taken, learnt, meaning, told, with_function, with_known, with_name, with_parameter, with_pending, with_value, without_parameters}
+use Rattle.pv_parse.specs.ByItems.{AreBounded, AreWithin}
+use Rattle.pv_parse.specs.Meanings.{KnowsVariables, Names, no_names, numbered, behind_sign, is_function, is_taken, learnt, meaning, told, with_function, with_known, with_name, with_parameter, with_pending, with_value, without_parameters}
 use Rattle.pv_parse.specs.Sentences.{StandsFor}
 
 -- ---- Names stay bounded

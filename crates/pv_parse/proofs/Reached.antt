@@ -25,8 +25,8 @@ use Rattle.pv_tokens.specs.declared.token.Kind.{Kind}
 use Rattle.pv_tokens.specs.declared.token.Kind.TheVariants.{End}
 use Rattle.pv_tokens.specs.declared.token.Token.{Token}
 use Rattle.pv_tokens.specs.Tokens.{IsNext}
-use Rattle.pv_parse.specs.ByItems.{ClosesByItems, IsFirstByItems, IsSentence}
-use Rattle.pv_parse.specs.Meanings.{AreBounded, AreSame, Names, learnt}
+use Rattle.pv_parse.specs.ByItems.{AreBounded, ClosesByItems, IsFirstByItems, IsSentence}
+use Rattle.pv_parse.specs.Meanings.{AreSame, Names, learnt}
 use Rattle.pv_parse.specs.Sentences.{SpellsTo, StandsFor, bytes_of}
 use Rattle.pv_parse.specs.Declarations.{mark_of}
 use Rattle.pv_parse.specs.Fractions.{HasFraction}

@@ -1,5 +1,5 @@
 -- What a refused text's answer says.
-use Rattle.std.proofs.Common.{Bool, Err, IfErr, IsOk, List, None, Ok, OnOk, Option, Result, [], ap, false, length, rules, subst, sym, true, ℕ, ◌∙◌, ◌≡◌, ◌≤◌}
+use Rattle.std.proofs.Common.{◌∙◌, ◌≡◌, ◌≤◌, Bool, Err, IfErr, IsOk, List, None, Ok, OnOk, Option, Result, [], ap, false, length, rules, subst, sym, true, ℕ}
 use Rattle.pv_expr.specs.Terms.{Term}
 use Rattle.pv_code.specs.declared.code.Op.{Op}
 use Rattle.pv_code.specs.Expansion.{run, top}
@@ -12,9 +12,9 @@ use Rattle.pv_grammar.specs.Limits.{nothing}
 use Rattle.pv_grammar.proofs.TreeRuns.{expression_means}
 use Rattle.pv_parse.specs.declared.refused.ParseRefused.{ParseRefused}
 use Rattle.pv_parse.specs.declared.refused.ParseRefused.TheVariants.{Memory, Fault}
-use Rattle.pv_parse.specs.ByItems.{IsFirstByItems, IsFirstOfByItems, IsSentence}
+use Rattle.pv_parse.specs.ByItems.{IsAt, IsFirstByItems, IsFirstOfByItems, IsLong, IsSentence}
 use Rattle.pv_parse.specs.Declarations.{IsExpressionMeaning}
-use Rattle.pv_parse.specs.Faults.{IsAt, IsExpressionRefusal, IsLong, IsRefusal}
+use Rattle.pv_parse.specs.Faults.{IsExpressionRefusal, IsRefusal}
 use Rattle.pv_parse.specs.Faults.IsExpressionFaultOf.{first as first_text, long as long_text}
 use Rattle.pv_parse.specs.Faults.IsFaultOf.{long}
 use Rattle.pv_parse.specs.Meanings.{KnowsVariables, Names}

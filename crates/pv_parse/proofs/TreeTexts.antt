@@ -8,7 +8,7 @@ use Rattle.pv_grammar.specs.Productions.{Expression, System, expression_symbols,
 use Rattle.pv_grammar.specs.TreeCodes.{expression_code, system_code}
 use Rattle.pv_grammar.proofs.OneTree.{one_expression_tree, one_system_tree}
 use Rattle.pv_grammar.proofs.TreeBuilding.{expression_tree, system_tree}
-use Rattle.pv_grammar.proofs.TreeReadings.{expression_is_read, system_reads}
+use Rattle.pv_grammar.proofs.TreeReadings.{system_reads}
 use Rattle.pv_parse.specs.ByItems.{IsSentence}
 use Rattle.pv_parse.specs.Meanings.{KnowsVariables, Names, no_names}
 use Rattle.pv_parse.specs.Sentences.{IsExpressionTextOf, IsTextOf, Spells}
@@ -45,20 +45,6 @@ pub expression_sentence_tree : (variables : List (List ℕ)) (t : List ℕ) (kno
 expression_sentence_tree variables t known code knows s =
     let found = expression_tree s.symbols s.steps s.derived (sentence_known t known (nothing SidesPhase) expression_items [] code (expression_start variables known knows) s) in
     (found.0, subst (Spells t known (nothing SidesPhase)) found.1 s.spelled, s.code_is ∙ found.2)
-
-pub tree_expression_sentence : (t : List ℕ) (known : Names) (code : List Op) (e : Expression) → IsExpressionTextOf known t e → code ≡ expression_code e [] →
-    IsSentence t known (nothing SidesPhase) expression_items [] code
-tree_expression_sentence t known code e spelled is =
-    let counts = counted_of t known (nothing SidesPhase) 0 (expression_symbols e []) spelled.0 spelled.1 spelled.3 in
-    record {
-      symbols = expression_symbols e [];
-      steps = expression_code e [];
-      counts = counts.0;
-      spelled = spelled;
-      within = counts.1;
-      derived = (expression_is_read e).derived;
-      code_is = is;
-    }
 
 pub one_expression_tree_of : (t : List ℕ) (known : Names) (d e : Expression) → IsExpressionTextOf known t d → IsExpressionTextOf known t e → d ≡ e
 one_expression_tree_of t known d e of_d of_e =

@@ -1,11 +1,11 @@
--- What the machine's proofs say of texts by the items of the grammar and by a code, in place of trees. It is for those proofs: no
+-- What the reader's own functions say of texts, for its proofs: texts by the items of the grammar and by a code, in place of trees. No
 -- public contract cites it. `proofs/TreeTexts` and `proofs/ByTrees` lead from it to what `Sentences` and `Faults` say by trees.
-use Rattle.std.specs.Prelude.{◌≡◌, ℕ, List, [], ◌++◌, Some, slice_get, take}
+use Rattle.std.specs.Prelude.{◌++◌, ◌<◌, ◌≡◌, ◌≤◌, List, None, Some, [], length, slice_get, take, ℕ}
 use Rattle.pv_code.specs.declared.code.Op.{Op}
 use Rattle.pv_code.specs.Expansion.{constraints_of}
 use Rattle.pv_code.specs.Sizes.{IsFirstLarge}
 use Rattle.pv_grammar.specs.declared.cause.Cause.{Cause}
-use Rattle.pv_grammar.specs.declared.cause.Cause.TheVariants.{TooLarge}
+use Rattle.pv_grammar.specs.declared.cause.Cause.TheVariants.{TextTooLong, TooLarge}
 use Rattle.pv_grammar.specs.declared.counts.Counts.{Counts}
 use Rattle.pv_grammar.specs.declared.machine.Item.{Item}
 use Rattle.pv_grammar.specs.declared.symbol.Symbol.{Symbol}
@@ -19,6 +19,8 @@ use Rattle.pv_parse.specs.declared.refused.ParseRefused.{ParseRefused}
 use Rattle.pv_parse.specs.declared.refused.ParseRefused.TheVariants.{Memory, Fault}
 use Rattle.pv_parse.specs.Meanings.{Names}
 use Rattle.pv_parse.specs.Sentences.{Spells, SpellsTo, StandsFor, bytes_of}
+
+-- ---- Texts of items
 
 -- the text is a sentence of the items within the limits, where these names are declared before it, and its steps lead from one
 -- code to the other
@@ -60,6 +62,18 @@ abbrev pub IsFirstOfByItems : List ℕ → Names → Counts → List Item → Pa
 IsFirstOfByItems t known start items Memory = Unit {0}
 IsFirstOfByItems t known start items (Fault byte line column cause) = IsFirstByItems t known start items byte cause
 
+-- ---- Other faults
+
+-- the fault is at this byte, with this cause
+abbrev pub IsAt : ℕ → Cause → ParseRefused → Type 0
+IsAt byte cause Memory = ⊥
+IsAt byte cause (Fault byte' line column cause') = (byte' ≡ byte) × (cause' ≡ cause)
+
+-- a fault comes from the length of the text
+abbrev pub IsLong : List ℕ → ParseRefused → Type 0
+IsLong t Memory = Unit {0}
+IsLong t (Fault byte line column cause) = (65536 < length t) × (byte ≡ 65536) × (cause ≡ TextTooLong)
+
 -- a fault is at the start of a constraint, which is too large
 abbrev pub IsAtStart : List ℕ → ℕ → ParseRefused → Type 0
 IsAtStart starts i Memory = Unit {0}
@@ -70,3 +84,15 @@ abbrev pub IsLargeAt : List ℕ → List Op → ParseRefused → Type 0
 IsLargeAt starts code Memory = Unit {0}
 IsLargeAt starts code (Fault byte line column cause) =
     (cause ≡ TooLarge) × (i : ℕ) × IsFirstLarge (constraints_of code) i × (slice_get starts i ≡ Some byte)
+
+-- ---- Names
+
+-- no name that is longer than this is declared
+pub record AreWithin (n : Names) (most : ℕ) : Type 0 where
+  pub known : (name : List ℕ) → most < length name → n.known name ≡ None
+  pub parameter : (name : List ℕ) → most < length name → n.parameter name ≡ None
+  pub pending : length n.pending ≤ most
+
+-- so there is always a fresh name
+abbrev pub AreBounded : Names → Type 0
+AreBounded n = (most : ℕ) × AreWithin n most

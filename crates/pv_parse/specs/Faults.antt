@@ -30,16 +30,6 @@ abbrev pub SaysTooLong : ParseRefused → Type 0
 SaysTooLong Memory = Unit {0}
 SaysTooLong (Fault byte line column cause) = (byte ≡ 65536) × (cause ≡ TextTooLong)
 
--- the fault is at this byte, with this cause
-abbrev pub IsAt : ℕ → Cause → ParseRefused → Type 0
-IsAt byte cause Memory = ⊥
-IsAt byte cause (Fault byte' line column cause') = (byte' ≡ byte) × (cause' ≡ cause)
-
--- a fault comes from the length of the text
-abbrev pub IsLong : List ℕ → ParseRefused → Type 0
-IsLong t Memory = Unit {0}
-IsLong t (Fault byte line column cause) = (65536 < length t) × (byte ≡ 65536) × (cause ≡ TextTooLong)
-
 -- ---- The first fault
 
 -- a text whose bytes begin with those of this one up to a place, and whose tokens begin with these

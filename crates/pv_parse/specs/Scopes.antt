@@ -1,5 +1,5 @@
 -- How the declarations that the reader keeps go on behind a token. It is for the proofs of the reader: no public contract cites it.
-use Rattle.std.specs.Prelude.{Bool, List, None, Option, Some, [], false, if◌then◌else◌, map, option_to_list, string_bytes, ℕ, ◌++◌, ◌∷◌, ◌≡◌}
+use Rattle.std.specs.Prelude.{if◌then◌else◌, ◌++◌, ◌∷◌, ◌≡◌, Bool, List, None, Option, Some, [], false, map, option_to_list, string_bytes, ℕ}
 use Rattle.pv_expr.specs.declared.domain.Bound.{Bound}
 use Rattle.pv_expr.specs.declared.domain.Bound.TheVariants.{MinusOo, PlusOo}
 use Rattle.pv_expr.specs.declared.domain.Domain.{Domain}

@@ -5,8 +5,7 @@ use Rattle.pv_grammar.specs.Causes.{refusal}
 use Rattle.pv_grammar.specs.Grammar.{pile, Settles}
 use Rattle.pv_tokens.specs.declared.token.Kind.TheVariants.{End}
 use Rattle.pv_parse.specs.declared.refused.ParseRefused.{ParseRefused}
-use Rattle.pv_parse.specs.ByItems.{IsFirstByItems, IsFirstOfByItems}
-use Rattle.pv_parse.specs.Faults.{IsAt}
+use Rattle.pv_parse.specs.ByItems.{IsAt, IsFirstByItems, IsFirstOfByItems}
 use Rattle.pv_parse.specs.Meanings.{learnt}
 use Rattle.pv_parse.specs.Sentences.{bytes_of}
 use Rattle.pv_parse.specs.Scopes.{scoped}
