@@ -7,7 +7,7 @@ pub mod Widths
 pub mod Counts
 pub mod Ends
 pub mod Inside
-pub mod Honest
+pub mod HonestStages
 pub mod Spelled
 pub mod Joined
 pub mod Earlier

@@ -1,6 +1,6 @@
 use Rattle.pv_settle.specs.Settlers.{rule_of}
 use Rattle.pv_settle.specs.Settling.{settle_by}
-use Rattle.pv_cli.proofs.Honest.{honest_of}
+use Rattle.pv_cli.proofs.HonestStages.{honest_of}
 use Rattle.pv_cli.proofs.honest.learn_honest.Goals as goal
 
 pub returns-clause-honest : goal.returns-clause-honest
