@@ -31,6 +31,7 @@ def lines(*texts):
 HALF_LINE = system("x in [0,4]", "x <= 1")
 STRICT = system("x in [0,1]", "x < 1")
 RECIPROCAL = system("x in [0,1]", "1/x >= 0")
+NO_MORE = system("x in [0,1]", "x - x <= 0")
 FUNCTION = b"Variables x in [0,4]; function f(a) return a^2; end Constraints f(x) <= 4; end\n"
 
 CASES = [
@@ -59,6 +60,21 @@ CASES = [
          b"settled 4 ", begins=True),
     Case("a budget that is just enough", ["run", "s", "--eps", "0.25", "--boxes", "5"], 0, {"s": RECIPROCAL},
          b"settled 5 cut 2 removed 0 inner 2 small 1 open 0\n", begins=True),
+    Case("a difference that is 0, by one worker", ["run-centered", "s", "--workers", "1"], 0, {"s": NO_MORE},
+         lines("settled 1 cut 0 removed 0 inner 1 small 0 open 0", "I 0:0 1:0")),
+    Case("a difference that is 0, by eight workers", ["run-centered", "s", "--workers", "8"], 0, {"s": NO_MORE},
+         lines("settled 1 cut 0 removed 0 inner 1 small 0 open 0", "I 0:0 1:0")),
+    Case("a difference that is not 1/4, by one worker",
+         ["run-centered", "s", "--contract", "hc4(0)", "--workers", "1"], 0, {"s": system("x in [0,1]", "x - x = 0.25")},
+         lines("settled 1 cut 0 removed 1 inner 0 small 0 open 0", "X")),
+    Case("a difference that is not 1/4, by eight workers",
+         ["run-centered", "s", "--contract", "hc4(0)", "--workers", "8"], 0, {"s": system("x in [0,1]", "x - x = 0.25")},
+         lines("settled 1 cut 0 removed 1 inner 0 small 0 open 0", "X")),
+    Case("a difference that is not 1/4, by the sides' intervals", ["run", "s", "--contract", "hc4(0)"], 0,
+         {"s": system("x in [0,1]", "x - x = 0.25")},
+         lines("settled 3 cut 1 removed 2 inner 0 small 0 open 0", "C 0 1:-1 1:-2 3:-2", "X", "X")),
+    Case("an audit by centered forms without a file", ["audit-centered", "s", "p"], 11, {"s": NO_MORE},
+         stderr=b"no file: p\n"),
     Case("17 workers", ["run", "s", "--workers", "17"], 2, {"s": HALF_LINE}, stderr=USAGE),
     Case("an eps that is no number", ["run", "s", "--eps", "x"], 2, {"s": HALF_LINE}, stderr=USAGE),
     Case("a contractor of a constraint that is not there", ["run", "s", "--contract", "hc4(1)"], 2, {"s": HALF_LINE},

@@ -23,7 +23,12 @@ EXAMPLES = [
     ("outlier_decay", ["--eps", "0.0078125", "--contract", f"qinter(6,{pairs(7)})"]),
     ("three_rpr", ["--eps", "0.125", "--boxes", "100000"]),
     ("puma_poses", ["--eps", "0.0625"]),
+    ("damped_gains", ["--eps", "0.03125"]),
+    ("platform_determinant", ["--eps", "0.03125"]),
 ]
+
+# Those that are paved by centered forms, too.
+CENTERED = ["pi_gains", "arm_configurations", "bounded_error_fit", "damped_gains", "platform_determinant"]
 
 
 def settings_of(words):

@@ -7,6 +7,8 @@ pub mod Widths
 pub mod Counts
 pub mod Ends
 pub mod Inside
+pub mod HonestStages
+pub mod Spelled
 pub mod Joined
 pub mod Earlier
 pub mod Refused

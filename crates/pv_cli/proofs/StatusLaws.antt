@@ -11,11 +11,15 @@ use Rattle.pv_settle.specs.Spelling.{identity_of}
 use Rattle.pv_cli.specs.Commands.{paver_app}
 use Rattle.pv_cli.specs.Requests.{names_in, out_of, paving_names, AreSettings, IsEffort, ArePavings, HasBadSetting, bad_eps, bad_depth, bad_bisector, HasBadEffort, bad_workers, bad_boxes, HasManyPavings, AreCircles, HasBadCircles, bad_seed, bad_count, Command, checks, runs, resumes, merges, audits, draws, samples, name_of, HasBadValueFor, HasBadValue, IsAskedBy, IsAsked, Asks, HasBadValueIn, AreRefused}
 use Rattle.pv_cli.specs.Refusals.{status_of, line_of}
+use Rattle.pv_settle.specs.Settling.{settle_by}
+use Rattle.pv_cli.specs.Forms.{settle_as, identity_as}
 use Rattle.pv_cli.specs.Systems.{Files, HasRule, search_box}
 use Rattle.pv_cli.specs.Files.{RefusesPaving, RefusesPavings}
-use Rattle.pv_cli.specs.Products.{Product, text, paved, HasStatus, IsHonest, AreStages, full_by, ComesOf, ComesOfRun, ComesOfResume, ComesOfMerge, RefusesWork}
+use Rattle.pv_cli.specs.Products.{Product, text, paved, HasStatus, IsHonestBy, AreStages, full_as, full_by, ComesOf, ComesOfRun, ComesOfResume, ComesOfMerge, RefusesWork}
 use Rattle.pv_cli.specs.Ends.{Stream, Outside, AreUntouched, IsKept, RefusesDelivery, RefusesWords, IsRefusedSo, in_words, in_request, IsTold, Tells}
 use Rattle.pv_cli.specs.StatusLaws.{IsFullRun, IsFullResume, IsClosedJoin, IsWhole, DoneIsWhole, IsPartRun, IsPartResume, IsOpenJoin, IsPart, OpenLeftIsPart, IsEarly, IsCause, IsRefusedEarly, EarlyIsUntouched, IsUnstored, IsUnprinted, IsUnwritten, WriteFaultIsUnwritten, IsCutOffText, MemoryLeaves, OthersStay, AskingIsNotRefused, IsWordsRefused, RefusedWordsEnd, HasBadContract, HasBadPlane, UsageIsOfWords}
+use Rattle.pv_cli.specs.declared.request.Form.{Form}
+use Rattle.pv_cli.specs.declared.request.Form.TheVariants.{Natural, Centered}
 use Rattle.pv_cli.specs.declared.request.Settings.{Settings}
 use Rattle.pv_cli.specs.declared.request.Effort.{Effort}
 use Rattle.pv_cli.specs.declared.request.Circles.{Circles}
@@ -75,15 +79,15 @@ closed_at : (t : Tree) → ((status.Done ≡ status.Done) × (opens t ≡ [])) �
 closed_at t (inl h) = h.1
 closed_at t (inr h) = absurd (not_open h.0)
 
-full_run : (before : Files) (system : Text) (s : Settings) (budget : ℕ) (p : Product) → ComesOfRun before system s budget p → HasStatus p status.Done → IsFullRun before system s p
-full_run before system s budget p h done =
+full_run : (form : Form) (before : Files) (system : Text) (s : Settings) (budget : ℕ) (p : Product) → ComesOfRun form before system s budget p → HasStatus p status.Done → IsFullRun form before system s p
+full_run form before system s budget p h done =
     let closed : opens h.tree ≡ [] = closed_at h.tree (subst (λ (x : Product). HasStatus x status.Done) h.is done) in
-    let full : h.tree ≡ full_by h.rule leaf = h.run.full closed in
+    let full : h.tree ≡ full_as form h.rule leaf = h.run.full closed in
     record {
       rule = h.rule;
       read = h.read;
-      honest = subst (IsHonest s h.rule) full h.honest;
-      is = h.is ∙ ap (paved (identity_of h.rule) (search_box h.rule)) full;
+      honest = subst (IsHonestBy (settle_as form h.rule) s h.rule) full h.honest;
+      is = h.is ∙ ap (paved (identity_as form h.rule) (search_box h.rule)) full;
     }
 
 full_resume : (before : Files) (system : Text) (names : List Text) (s : Settings) (budget : ℕ) (p : Product) → ComesOfResume before system names s budget p → HasStatus p status.Done
@@ -96,7 +100,7 @@ full_resume before system names s budget p h done =
       trees = h.trees;
       opening = h.opening;
       opened = h.opened;
-      honest = λ stages. subst (IsHonest s h.rule) full (h.honest stages);
+      honest = λ stages. subst (IsHonestBy (settle_by h.rule) s h.rule) full (h.honest stages);
       is = h.is ∙ ap (paved (identity_of h.rule) (search_box h.rule)) full;
     }
 
@@ -114,10 +118,10 @@ closed_join before system names s p h done = record {
 
 whole_of : (before : Files) (q : Request) (p : Product) → ComesOf before q p → HasStatus p status.Done → IsWhole before q p
 whole_of before (Check system) p h done = h
-whole_of before (Run system settings effort out) p h done = full_run before _ settings _ p h done
+whole_of before (Run form system settings effort out) p h done = full_run form before _ settings _ p h done
 whole_of before (Resume system pavings settings effort out) p h done = full_resume before _ _ settings _ p h done
 whole_of before (Merge system pavings settings out) p h done = closed_join before _ _ settings p h done
-whole_of before (Audit system paving settings) p h done = h
+whole_of before (Audit form system paving settings) p h done = h
 whole_of before (Svg system paving settings view) p h done = h
 whole_of before (Sample circles) p h done = h
 
@@ -144,9 +148,9 @@ open_at t (inr h) = h.1
 no_text : (p : Product) (t : List ℕ) → p ≡ text t → HasStatus p status.OpenLeft → ⊥
 no_text p t e h = not_done (subst (λ (x : Product). HasStatus x status.OpenLeft) e h)
 
-part_run : (before : Files) (system : Text) (s : Settings) (budget : ℕ) (p : Product) → ComesOfRun before system s budget p → HasStatus p status.OpenLeft
-    → IsPartRun before system s budget p
-part_run before system s budget p h left =
+part_run : (form : Form) (before : Files) (system : Text) (s : Settings) (budget : ℕ) (p : Product) → ComesOfRun form before system s budget p → HasStatus p status.OpenLeft
+    → IsPartRun form before system s budget p
+part_run form before system s budget p h left =
     let open_left : opens h.tree ≢ [] = open_at h.tree (subst (λ (x : Product). HasStatus x status.OpenLeft) h.is left) in
     record {
       rule = h.rule;
@@ -186,10 +190,10 @@ open_join before system names s p h left = record {
 
 part_of : (before : Files) (q : Request) (p : Product) → ComesOf before q p → HasStatus p status.OpenLeft → IsPart before q p
 part_of before (Check system) p h left = no_text p _ h.is left
-part_of before (Run system settings effort out) p h left = part_run before _ settings _ p h left
+part_of before (Run form system settings effort out) p h left = part_run form before _ settings _ p h left
 part_of before (Resume system pavings settings effort out) p h left = part_resume before _ _ settings _ p h left
 part_of before (Merge system pavings settings out) p h left = open_join before _ _ settings p h left
-part_of before (Audit system paving settings) p h left = no_text p _ h.is left
+part_of before (Audit form system paving settings) p h left = no_text p _ h.is left
 part_of before (Svg system paving settings view) p h left = no_text p _ h.is left
 part_of before (Sample circles) p h left = no_text p _ h.is left
 
@@ -217,15 +221,15 @@ module _ (before after : Files) where
 
   no_work_stored : (q : Request) (m : Bor Text) → RefusesWork before after q (NotStored m) → ⊥
   no_work_stored (Check system) m h = h
-  no_work_stored (Run system settings effort out) m h = h
+  no_work_stored (Run form system settings effort out) m h = h
   no_work_stored (Resume system pavings settings effort out) m (inl h) = h
   no_work_stored (Resume system pavings settings effort out) m (inr (inl h)) = no_files h.rule (NotStored m) (stored_or_memory m) (λ n k. k) (names_in pavings.items) h.refused
   no_work_stored (Resume system pavings settings effort out) m (inr (inr h)) = h.refused
   no_work_stored (Merge system pavings settings out) m (inl h) = h
   no_work_stored (Merge system pavings settings out) m (inr (inl h)) = no_files h.rule (NotStored m) (stored_or_memory m) (λ n k. k) (names_in pavings.items) h.refused
   no_work_stored (Merge system pavings settings out) m (inr (inr h)) = h.refused
-  no_work_stored (Audit system paving settings) m (inl h) = h
-  no_work_stored (Audit system paving settings) m (inr h) = no_files h.rule (NotStored m) (stored_or_memory m) (λ n k. k) (paving.now ∷ []) h.refused
+  no_work_stored (Audit form system paving settings) m (inl h) = h
+  no_work_stored (Audit form system paving settings) m (inr h) = h.refused
   no_work_stored (Svg system paving settings view) m (inl h) = h
   no_work_stored (Svg system paving settings view) m (inr h) = h.refused
   no_work_stored (Sample circles) m h = h
@@ -235,15 +239,15 @@ module _ (before after : Files) where
 
   no_work_printed : (q : Request) → RefusesWork before after q NotPrinted → ⊥
   no_work_printed (Check system) h = h
-  no_work_printed (Run system settings effort out) h = h
+  no_work_printed (Run form system settings effort out) h = h
   no_work_printed (Resume system pavings settings effort out) (inl h) = h
   no_work_printed (Resume system pavings settings effort out) (inr (inl h)) = no_files h.rule NotPrinted printed_or_memory (λ n k. k) (names_in pavings.items) h.refused
   no_work_printed (Resume system pavings settings effort out) (inr (inr h)) = h.refused
   no_work_printed (Merge system pavings settings out) (inl h) = h
   no_work_printed (Merge system pavings settings out) (inr (inl h)) = no_files h.rule NotPrinted printed_or_memory (λ n k. k) (names_in pavings.items) h.refused
   no_work_printed (Merge system pavings settings out) (inr (inr h)) = h.refused
-  no_work_printed (Audit system paving settings) (inl h) = h
-  no_work_printed (Audit system paving settings) (inr h) = no_files h.rule NotPrinted printed_or_memory (λ n k. k) (paving.now ∷ []) h.refused
+  no_work_printed (Audit form system paving settings) (inl h) = h
+  no_work_printed (Audit form system paving settings) (inr h) = h.refused
   no_work_printed (Svg system paving settings view) (inl h) = h
   no_work_printed (Svg system paving settings view) (inr h) = h.refused
   no_work_printed (Sample circles) h = h
@@ -447,21 +451,25 @@ circles_are_good rows c h (bad_count none) = none c.count h.count
 command_in : Text → Option Command
 command_in t =
     if bytes_eq t (codes "check") then Some checks
-    else if bytes_eq t (codes "run") then Some runs
+    else if bytes_eq t (codes "run") then Some (runs Natural)
     else if bytes_eq t (codes "resume") then Some resumes
     else if bytes_eq t (codes "merge") then Some merges
-    else if bytes_eq t (codes "audit") then Some audits
+    else if bytes_eq t (codes "audit") then Some (audits Natural)
     else if bytes_eq t (codes "svg") then Some draws
     else if bytes_eq t (codes "sample") then Some samples
+    else if bytes_eq t (codes "run-centered") then Some (runs Centered)
+    else if bytes_eq t (codes "audit-centered") then Some (audits Centered)
     else None
 
 named : (c : Command) → command_in (name_of c) ≡ Some c
 unfolding command_in
 named checks = refl
-named runs = refl
+named (runs Natural) = refl
+named (runs Centered) = refl
 named resumes = refl
 named merges = refl
-named audits = refl
+named (audits Natural) = refl
+named (audits Centered) = refl
 named draws = refl
 named samples = refl
 
@@ -470,30 +478,30 @@ one_command name c d e f = ap (λ (o : Option Command). unwrap_or o c) (sym (nam
 
 abbrev command_of : Request → Command
 command_of (Check system) = checks
-command_of (Run system settings effort out) = runs
+command_of (Run form system settings effort out) = runs form
 command_of (Resume system pavings settings effort out) = resumes
 command_of (Merge system pavings settings out) = merges
-command_of (Audit system paving settings) = audits
+command_of (Audit form system paving settings) = audits form
 command_of (Svg system paving settings view) = draws
 command_of (Sample circles) = samples
 
 named_so : (name : Text) (rows : List Row) (q : Request) → IsAskedBy name rows q → name ≡ name_of (command_of q)
 named_so name rows (Check system) h = h.0
-named_so name rows (Run system settings effort out) h = h.0
+named_so name rows (Run form system settings effort out) h = h.0
 named_so name rows (Resume system pavings settings effort out) h = h.0
 named_so name rows (Merge system pavings settings out) h = h.0
-named_so name rows (Audit system paving settings) h = h.0
+named_so name rows (Audit form system paving settings) h = h.0
 named_so name rows (Svg system paving settings view) h = h.0
 named_so name rows (Sample circles) h = h.0
 
 values_are_good : (name : Text) (rows : List Row) (q : Request) → IsAskedBy name rows q → HasBadValueFor (command_of q) rows → ⊥
 values_are_good name rows (Check system) h b = b
-values_are_good name rows (Run system settings effort out) h b = work_is_good rows settings effort h.2 h.3 b
+values_are_good name rows (Run form system settings effort out) h b = work_is_good rows settings effort h.2 h.3 b
 values_are_good name rows (Resume system pavings settings effort out) h (inl b) = pavings_are_few rows pavings.items h.2 b
 values_are_good name rows (Resume system pavings settings effort out) h (inr b) = work_is_good rows settings effort h.3 h.4 b
 values_are_good name rows (Merge system pavings settings out) h (inl b) = pavings_are_few rows pavings.items h.2 b
 values_are_good name rows (Merge system pavings settings out) h (inr b) = settings_are_good rows settings h.3 b
-values_are_good name rows (Audit system paving settings) h b = settings_are_good rows settings h.3 b
+values_are_good name rows (Audit form system paving settings) h b = settings_are_good rows settings h.3 b
 values_are_good name rows (Svg system paving settings view) h (inl b) = b view.at.items h.4.at
 values_are_good name rows (Svg system paving settings view) h (inr b) = settings_are_good rows settings h.3 b
 values_are_good name rows (Sample circles) h b = circles_are_good rows circles h.1 b

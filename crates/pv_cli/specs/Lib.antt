@@ -7,6 +7,8 @@ pub mod Systems
 pub mod Files
 pub mod Pavings
 pub mod Views
+pub mod Forms
+pub mod FormSettlers
 pub mod Products
 pub mod Made
 pub mod Ends

@@ -9,11 +9,14 @@ use Rattle.pv_settle.specs.Spelling.{identity_of}
 use Rattle.pv_io.specs.Outside.{Rose, AppendsFront}
 use Rattle.pv_cli.specs.Requests.{names_in, out_of, Asks, AreRefused}
 use Rattle.pv_cli.specs.Refusals.{status_of, line_of}
+use Rattle.pv_cli.specs.Forms.{settle_as, identity_as}
 use Rattle.pv_cli.specs.Systems.{Files, HasRule, search_box}
 use Rattle.pv_cli.specs.Pavings.{IsPaved, FullFits, settled_in}
 use Rattle.pv_cli.specs.Files.{HasOpening}
-use Rattle.pv_cli.specs.Products.{Product, paved, IsHonest, AreStages, full_by, ComesOf, ComesOfCheck, ComesOfAudit, ComesOfSvg, ComesOfSample, RefusesWork}
+use Rattle.pv_cli.specs.Products.{Product, paved, IsHonestBy, IsHonest, AreStages, full_as, full_by, ComesOf, ComesOfCheck, ComesOfAudit, ComesOfSvg, ComesOfSample, RefusesWork}
 use Rattle.pv_cli.specs.Ends.{Outside, AreUntouched, IsDelivered, IsCutOff, IsLost, IsTold, IsEnd}
+use Rattle.pv_cli.specs.declared.request.Form.{Form}
+use Rattle.pv_cli.specs.declared.request.Form.TheVariants.{Natural}
 use Rattle.pv_cli.specs.declared.request.Settings.{Settings}
 use Rattle.pv_cli.specs.declared.request.Request.{Request}
 use Rattle.pv_cli.specs.declared.request.Request.TheVariants.{Check, Run, Resume, Merge, Audit, Svg, Sample}
@@ -25,11 +28,11 @@ use Rattle.pv_cli.specs.declared.status.Status.TheVariants.{Done, OpenLeft, Usag
 -- ---- Status 0: no leaf is open
 
 -- the full tree of the open search box
-pub record IsFullRun (before : Files) (system : Text) (s : Settings) (p : Product) : Type 0 where
+pub record IsFullRun (form : Form) (before : Files) (system : Text) (s : Settings) (p : Product) : Type 0 where
   pub rule : SettlerParts
   pub read : HasRule before system s rule
-  pub honest : IsHonest s rule (full_by rule leaf)
-  pub is : p ≡ paved (identity_of rule) (search_box rule) (full_by rule leaf)
+  pub honest : IsHonestBy (settle_as form rule) s rule (full_as form rule leaf)
+  pub is : p ≡ paved (identity_as form rule) (search_box rule) (full_as form rule leaf)
 
 -- the full tree of the join of the files
 pub record IsFullResume (before : Files) (system : Text) (names : List Text) (s : Settings) (p : Product) : Type 0 where
@@ -52,10 +55,10 @@ pub record IsClosedJoin (before : Files) (system : Text) (names : List Text) (s 
 
 abbrev pub IsWhole : Files → Request → Product → Type 0
 IsWhole before (Check system) p = ComesOfCheck before system.now p
-IsWhole before (Run system settings effort out) p = IsFullRun before system.now settings p
+IsWhole before (Run form system settings effort out) p = IsFullRun form before system.now settings p
 IsWhole before (Resume system pavings settings effort out) p = IsFullResume before system.now (names_in pavings.items) settings p
 IsWhole before (Merge system pavings settings out) p = IsClosedJoin before system.now (names_in pavings.items) settings p
-IsWhole before (Audit system paving settings) p = ComesOfAudit before system.now paving.now settings p
+IsWhole before (Audit form system paving settings) p = ComesOfAudit form before system.now paving.now settings p
 IsWhole before (Svg system paving settings view) p = ComesOfSvg before system.now paving.now settings view p
 IsWhole before (Sample circles) p = ComesOfSample circles p
 
@@ -74,18 +77,18 @@ DoneIsWhole = (words : List Text) (before after : Outside) → IsEnd words befor
 -- ---- Status 1: a leaf is open
 
 -- exactly the budget was settled of what the work began with, and that is not enough
-pub record IsCutShort (rule : SettlerParts) (opening : Tree) (budget : ℕ) (t : Tree) : Type 0 where
+pub record IsCutShort (form : Form) (rule : SettlerParts) (opening : Tree) (budget : ℕ) (t : Tree) : Type 0 where
   pub open_left : opens t ≢ []
   pub spent : settled_in t ≡ settled_in opening + budget
-  pub short : FullFits (settle_by rule) rule.depth (search_box rule) opening budget → ⊥
+  pub short : FullFits (settle_as form rule) rule.depth (search_box rule) opening budget → ⊥
 
-pub record IsPartRun (before : Files) (system : Text) (s : Settings) (budget : ℕ) (p : Product) : Type 0 where
+pub record IsPartRun (form : Form) (before : Files) (system : Text) (s : Settings) (budget : ℕ) (p : Product) : Type 0 where
   pub rule : SettlerParts
   pub read : HasRule before system s rule
   pub tree : Tree
-  pub part : IsCutShort rule leaf budget tree
-  pub honest : IsHonest s rule tree
-  pub is : p ≡ paved (identity_of rule) (search_box rule) tree
+  pub part : IsCutShort form rule leaf budget tree
+  pub honest : IsHonestBy (settle_as form rule) s rule tree
+  pub is : p ≡ paved (identity_as form rule) (search_box rule) tree
 
 pub record IsPartResume (before : Files) (system : Text) (names : List Text) (s : Settings) (budget : ℕ) (p : Product) : Type 0 where
   pub rule : SettlerParts
@@ -93,7 +96,7 @@ pub record IsPartResume (before : Files) (system : Text) (names : List Text) (s 
   pub opening : Tree
   pub opened : HasOpening before system names s rule trees opening
   pub tree : Tree
-  pub part : IsCutShort rule opening budget tree
+  pub part : IsCutShort Natural rule opening budget tree
   pub honest : AreStages rule trees → IsHonest s rule tree
   pub is : p ≡ paved (identity_of rule) (search_box rule) tree
 
@@ -109,11 +112,11 @@ pub record IsOpenJoin (before : Files) (system : Text) (names : List Text) (s : 
 
 abbrev pub IsPart : Files → Request → Product → Type 0
 IsPart before (Check system) p = ⊥
-IsPart before (Run system settings effort out) p = IsPartRun before system.now settings effort.boxes p
+IsPart before (Run form system settings effort out) p = IsPartRun form before system.now settings effort.boxes p
 IsPart before (Resume system pavings settings effort out) p =
     IsPartResume before system.now (names_in pavings.items) settings effort.boxes p
 IsPart before (Merge system pavings settings out) p = IsOpenJoin before system.now (names_in pavings.items) settings p
-IsPart before (Audit system paving settings) p = ⊥
+IsPart before (Audit form system paving settings) p = ⊥
 IsPart before (Svg system paving settings view) p = ⊥
 IsPart before (Sample circles) p = ⊥
 

@@ -6,6 +6,7 @@ mod check;
 mod command_line;
 mod decimal;
 mod deliver;
+mod form_settler;
 mod honest;
 pub mod laws;
 mod main_call;

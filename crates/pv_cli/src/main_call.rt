@@ -127,11 +127,12 @@ fn work<'a, F: Folder, G: Gate + Sync, R: Threads + Wait + Sync>(
     match request {
         Request::Check { system } => check(alloc, folder, *system),
         Request::Run {
+            form,
             system,
             settings,
             effort,
             out: _,
-        } => run(rt, alloc, folder, *system, settings, effort, gate),
+        } => run(rt, alloc, folder, *form, *system, settings, effort, gate),
         Request::Resume {
             system,
             pavings,
@@ -146,10 +147,11 @@ fn work<'a, F: Folder, G: Gate + Sync, R: Threads + Wait + Sync>(
             out: _,
         } => merge(alloc, folder, *system, pavings, settings),
         Request::Audit {
+            form,
             system,
             paving,
             settings,
-        } => audit(alloc, folder, *system, *paving, settings),
+        } => audit(alloc, folder, *form, *system, *paving, settings),
         Request::Svg {
             system,
             paving,

@@ -6,6 +6,15 @@ ghost use Rattle.pv_num.specs.Order.{le};
 use pv_box::Bisector;
 use pv_num::Num;
 
+/// By which intervals boxes are settled.
+#[derive(Clone, Copy, Debug, PartialEq, Eq)]
+pub enum Form {
+    /// By those of the constraints' sides.
+    Natural,
+    /// By centered forms, too.
+    Centered,
+}
+
 /// How boxes are settled.
 #[derive(Clone, Copy)]
 pub struct Settings<'a> {
@@ -58,6 +67,7 @@ pub enum Request<'a> {
     },
     /// Pave the search box of a system.
     Run {
+        form: Form,
         system: &'a str,
         settings: Settings<'a>,
         effort: Effort,
@@ -80,6 +90,7 @@ pub enum Request<'a> {
     },
     /// Settle again what a paving file says is settled.
     Audit {
+        form: Form,
         system: &'a str,
         paving: &'a str,
         settings: Settings<'a>,
