@@ -78,7 +78,10 @@ svg_app = with_option (codes "at") (with_needed (codes "y") (with_needed (codes 
 abbrev pub sample_app : App
 sample_app = with_needed (codes "count") (with_needed (codes "seed") (bare_app (codes "sample")))
 
+abbrev pub least_app : App
+least_app = with_needed (codes "of") (with_option (codes "boxes") (with_settings (system_app (codes "least"))))
+
 unfoldable pub paver_app : App
 paver_app =
-    with_subcommand (with_subcommand (with_subcommand (with_subcommand (with_subcommand (with_subcommand (with_subcommand top_app
-    check_app.top) run_app.top) resume_app.top) merge_app.top) audit_app.top) svg_app.top) sample_app.top
+    with_subcommand (with_subcommand (with_subcommand (with_subcommand (with_subcommand (with_subcommand (with_subcommand (with_subcommand top_app
+    check_app.top) run_app.top) resume_app.top) merge_app.top) audit_app.top) svg_app.top) sample_app.top) least_app.top

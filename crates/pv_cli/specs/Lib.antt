@@ -7,6 +7,7 @@ pub mod Systems
 pub mod Files
 pub mod Pavings
 pub mod Views
+pub mod Leasts
 pub mod Products
 pub mod Made
 pub mod Ends

@@ -22,6 +22,7 @@ ghost use Rattle.pv_cli.specs.Commands.{
   audit_app,
   svg_app,
   sample_app,
+  least_app,
   paver_app,
 };
 
@@ -39,7 +40,8 @@ pub(crate) fn paver<'a>(alloc: Global) -> Result<Command<'a>, AllocError>
         .subcommand(merge(alloc)?)?
         .subcommand(audit(alloc)?)?
         .subcommand(svg(alloc)?)?
-        .subcommand(sample(alloc)?)
+        .subcommand(sample(alloc)?)?
+        .subcommand(least(alloc)?)
 }
 
 // The program, without its commands.
@@ -97,6 +99,14 @@ fn sample<'a>(alloc: Global) -> Result<Command<'a>, AllocError>
 {
     let command = with_needed(bare(alloc, "sample"), alloc, "seed")?;
     with_needed(command, alloc, "count")
+}
+
+fn least<'a>(alloc: Global) -> Result<Command<'a>, AllocError>
+    ensures app { IfOk result (λ c. app_of c ≡ least_app) }
+    ensures local { IfOk result (λ c. (out-Command c).has_globals ≡ false) }
+{
+    let command = with_settings(system(alloc, "least")?, alloc)?;
+    with_needed(with_option(command, alloc, "boxes")?, alloc, "of")
 }
 
 // A command that has nothing.

@@ -8,6 +8,7 @@ mod decimal;
 mod deliver;
 mod honest;
 pub mod laws;
+mod least;
 mod main_call;
 mod merge;
 mod opening;

@@ -1,7 +1,7 @@
 use Rattle.std.proofs.Common.{◌≡◌, ◌∙◌, ap, ap₂}
 use Rattle.std.proofs.lemmas.Result.{IfOk-weaker}
 use Rattle.clap.specs.Words.{App, app_of, with_subcommand}
-use Rattle.pv_cli.specs.Commands.{top_app, check_app, run_app, resume_app, merge_app, audit_app, svg_app, paver_app}
+use Rattle.pv_cli.specs.Commands.{top_app, check_app, run_app, resume_app, merge_app, audit_app, svg_app, sample_app, paver_app}
 use Rattle.pv_cli.proofs.command_line.paver.Goals as goal
 
 pub returns : goal.returns
@@ -24,5 +24,9 @@ returns c =
     ≡ with_subcommand (with_subcommand (with_subcommand (with_subcommand (with_subcommand (with_subcommand top_app check_app.top) run_app.top) resume_app.top) merge_app.top)
     audit_app.top) svg_app.top =
     c.in_ok-subcommand-6.ensures.shape c.in_ok-svg.ensures.local ∙ ap₂ with_subcommand five (ap (λ (a : App). a.top) c.in_ok-svg.ensures.app) in
-    IfOk-weaker c.subcommand-7.result _ _
-    (λ r e. e.shape c.in_ok-sample.ensures.local ∙ ap₂ with_subcommand six (ap (λ (a : App). a.top) c.in_ok-sample.ensures.app)) c.subcommand-7.ensures
+    let seven : app_of c.in_ok-subcommand-7.field-0
+    ≡ with_subcommand (with_subcommand (with_subcommand (with_subcommand (with_subcommand (with_subcommand (with_subcommand top_app check_app.top) run_app.top) resume_app.top) merge_app.top)
+    audit_app.top) svg_app.top) sample_app.top =
+    c.in_ok-subcommand-7.ensures.shape c.in_ok-sample.ensures.local ∙ ap₂ with_subcommand six (ap (λ (a : App). a.top) c.in_ok-sample.ensures.app) in
+    IfOk-weaker c.subcommand-8.result _ _
+    (λ r e. e.shape c.in_ok-least.ensures.local ∙ ap₂ with_subcommand seven (ap (λ (a : App). a.top) c.in_ok-least.ensures.app)) c.subcommand-8.ensures

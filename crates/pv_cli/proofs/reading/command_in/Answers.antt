@@ -1,5 +1,5 @@
 use Rattle.pv_cli.specs.Found.{rows_in}
-use Rattle.pv_cli.specs.Requests.{runs, resumes, merges, audits, draws, samples}
+use Rattle.pv_cli.specs.Requests.{runs, resumes, merges, audits, draws, samples, seeks}
 use Rattle.pv_cli.proofs.Asked.{read_as}
 use Rattle.pv_cli.proofs.reading.command_in.Goals as goal
 
@@ -20,3 +20,6 @@ returns-in-svg c = read_as c.args.command.now (rows_in c.args.found.now) draws c
 
 pub returns-in-sample : goal.returns-in-sample
 returns-in-sample c = read_as c.args.command.now (rows_in c.args.found.now) samples c.sample_in.result c.in-sample.is c.sample_in.ensures
+
+pub returns-in-least : goal.returns-in-least
+returns-in-least c = read_as c.args.command.now (rows_in c.args.found.now) seeks c.least_in.result c.in-least.is c.least_in.ensures
