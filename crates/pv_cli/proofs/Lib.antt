@@ -17,3 +17,4 @@ pub mod Drawn
 pub mod Planes
 pub mod Few
 pub mod Sampled
+pub mod Searched

@@ -48,21 +48,21 @@ pub record AreBounds (inside : Point → Type 0) (t : Term) (b : List Bounds) (l
   pub none_below : NoneIsBelow inside t b l.lower
   pub witness : IfSome l.best (IsWitness inside t b)
 
--- the paving of the search box after a budget of settlings, each of the leaf that comes next
-abbrev pub searched_by : SettlerParts → Term → ℕ → Tree
-searched_by rule t budget = searched (settle_by rule) rule.depth t (search_box rule) budget
+-- the paving of a box after a budget of settlings, each of the leaf that comes next
+abbrev pub searched_by : SettlerParts → List Bounds → Term → ℕ → Tree
+searched_by rule b t budget = searched (settle_by rule) rule.depth t b budget
 
 -- the leaf that would be settled next behind the budget
-abbrev pub next_in : SettlerParts → Term → ℕ → Option (List Bool)
-next_in rule t budget = next_of t (search_box rule) (searched_by rule t budget)
+abbrev pub next_in : SettlerParts → List Bounds → Term → ℕ → Option (List Bool)
+next_in rule b t budget = next_of t b (searched_by rule b t budget)
 
 -- what that paving tells of the least value of a term
-pub record IsLeastBy (rule : SettlerParts) (t : Term) (budget : ℕ) (l : Least) : Type 0 where
-  pub lower : l.lower ≡ lower_of t (search_box rule) (searched_by rule t budget)
-  pub best : l.best ≡ best_of t (search_box rule) (searched_by rule t budget)
-  pub settled : l.settled ≡ settled_of (counts_of (searched_by rule t budget))
-  pub done : IsTrue l.done ↔ (next_in rule t budget ≡ None)
-  pub bounds : AreBounds (is_member rule) t (search_box rule) l
+pub record IsLeastBy (rule : SettlerParts) (b : List Bounds) (t : Term) (budget : ℕ) (l : Least) : Type 0 where
+  pub lower : l.lower ≡ lower_of t b (searched_by rule b t budget)
+  pub best : l.best ≡ best_of t b (searched_by rule b t budget)
+  pub settled : l.settled ≡ settled_of (counts_of (searched_by rule b t budget))
+  pub done : IsTrue l.done ↔ (next_in rule b t budget ≡ None)
+  pub bounds : AreBounds (is_member rule) t b l
 
 -- The file of this name holds a system, the text is an expression over its variables, and this is found of its least
 -- value. By the default program the bounds are those over the points at which every constraint holds.
@@ -71,7 +71,7 @@ pub record HasLeast (before : Files) (system : Text) (s : Settings) (search : Se
   pub read : HasRule before system s rule
   pub term : Term
   pub means : IsExpressionMeaning rule.system.names search.of.now term
-  pub is : IsLeastBy rule term search.boxes l
+  pub is : IsLeastBy rule (search_box rule) term search.boxes l
   pub by_default : s.contract.now ≡ codes "prop(8)" → AreBounds (EachHolds rule.system.constraints) term (search_box rule) l
 
 -- ---- Why nothing is found

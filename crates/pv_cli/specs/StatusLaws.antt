@@ -58,7 +58,7 @@ pub record IsClosedJoin (before : Files) (system : Text) (names : List Text) (s 
 pub record IsFinalLeast (before : Files) (system : Text) (s : Settings) (search : Search) (p : Product) : Type 0 where
   pub least : known.Least
   pub found : HasLeast before system s search least
-  pub final : next_in found.rule found.term search.boxes ≡ None
+  pub final : next_in found.rule (search_box found.rule) found.term search.boxes ≡ None
   pub is : p ≡ text (least_text least)
 
 abbrev pub IsWhole : Files → Request → Product → Type 0
@@ -123,7 +123,7 @@ pub record IsOpenJoin (before : Files) (system : Text) (names : List Text) (s : 
 pub record IsPartLeast (before : Files) (system : Text) (s : Settings) (search : Search) (p : Product) : Type 0 where
   pub least : known.Least
   pub found : HasLeast before system s search least
-  pub left : next_in found.rule found.term search.boxes ≢ None
+  pub left : next_in found.rule (search_box found.rule) found.term search.boxes ≢ None
   pub is : p ≡ unfinished (least_text least)
 
 abbrev pub IsPart : Files → Request → Product → Type 0

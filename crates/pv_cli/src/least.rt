@@ -1,10 +1,11 @@
 //! `least`: bounds of the least value of an expression over the set of a system.
-ghost use Rattle.std.specs.Prelude.{◌≡◌, ◌≤◌, ◌++◌, IfOk, IfErr, OnOk};
+ghost use Rattle.std.specs.Prelude.{◌≡◌, ◌≤◌, ◌++◌, ◌∷◌, IfOk, IfErr, OnOk};
+ghost use Rattle.pv_num.specs.Parts.{number_text};
 ghost use Rattle.pv_parse.specs.Declarations.{IsExpressionMeaning};
 ghost use Rattle.pv_settle.specs.Settlers.{rule_of};
 ghost use Rattle.pv_settle.specs.Rules.{dims_of};
 ghost use Rattle.pv_least.specs.Objectives.{aim_of};
-ghost use Rattle.pv_cli.specs.Systems.{files, AreOnlyRead};
+ghost use Rattle.pv_cli.specs.Systems.{files, AreOnlyRead, search_box};
 ghost use Rattle.pv_cli.specs.Leasts.{IsLeastBy, RefusesObjective, RefusesLeast, least_text, best_text, numbers_text};
 ghost use Rattle.pv_cli.specs.Products.{ComesOfLeast, report_as};
 ghost use Rattle.pv_cli.specs.Made.{made};
@@ -15,7 +16,7 @@ use crate::request::{Search, Settings};
 use crate::system::settler_in;
 use pv_io::Folder;
 use pv_least::{BestPoint, Least, Objective, Point};
-use pv_num::Memory;
+use pv_num::{Memory, Num};
 use pv_parse::{ParseRefused, parse_expr};
 use pv_settle::SystemSettler;
 use std::alloc::Global;
@@ -86,7 +87,8 @@ fn found_by(
     requires dims { objective.now.dims ≡ dims_of (rule_of settler.now) }
     requires some { 1 ≤ boxes }
     requires few { boxes ≤ 100000 }
-    ensures { IfOk result (IsLeastBy (rule_of settler.now) (aim_of objective.now) boxes) }
+    ensures { IfOk result (IsLeastBy (rule_of settler.now) (search_box (rule_of settler.now))
+        (aim_of objective.now) boxes) }
 {
     let root = settler.search_box(alloc)?;
     pv_least::least(alloc, settler, objective, &root, boxes)
@@ -133,8 +135,15 @@ fn push_numbers(point: &Point, out: &mut Vec<u8>) -> Result<(), Memory>
     ensures { OnOk result (out.new.items ≡ out.old.items ++ numbers_text point.now) }
 {
     for i in 0..point.dims() {
-        out.push(b' ')?;
-        point.get(i).write_text(out)?;
+        push_number(point.get(i), out)?;
     }
+    Ok(())
+}
+
+fn push_number(n: Num, out: &mut Vec<u8>) -> Result<(), Memory>
+    ensures { OnOk result (out.new.items ≡ out.old.items ++ (32 ∷ number_text n)) }
+{
+    out.push(b' ')?;
+    n.write_text(out)?;
     Ok(())
 }
