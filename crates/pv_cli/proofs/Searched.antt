@@ -1,10 +1,7 @@
 -- What is found of a least value, by the steps of `least`.
-use Rattle.std.proofs.Common.{◌≡◌, ℕ, ◌+◌, ◌<◌, List, [], ◌∷◌, ◌++◌, length, drop, get_or, refl, sym, ◌∙◌, ap, subst, append_assoc}
+use Rattle.std.proofs.Common.{◌≡◌, ℕ, List, sym, subst}
 use Rattle.std.specs.Prelude.{◌↔◌, Option, Some, None, Result, Ok, Err, IfOk, IfSome, IsTrue}
-use Rattle.std.proofs.lemmas.List.{drop_more}
 use Rattle.clap.specs.Words.{Text}
-use Rattle.pv_num.specs.Extended.{Extended}
-use Rattle.pv_num.specs.Parts.{number_text}
 use Rattle.pv_num.specs.declared.memory.Memory.{Memory}
 use Rattle.pv_interval.specs.Bounds.{Bounds}
 use Rattle.pv_interval.specs.Points.{Point}
@@ -19,7 +16,7 @@ use Rattle.pv_least.specs.Promises.{NoneIsBelow, IsWitness}
 use Rattle.pv_least.specs.declared.found.BestPoint.{BestPoint}
 use Rattle.pv_least.specs.declared.found.Least.{Least}
 use Rattle.pv_cli.specs.Systems.{Files, HasRule, RefusesRule, EachHolds, search_box}
-use Rattle.pv_cli.specs.Leasts.{AreBounds, IsLeastBy, HasLeast, HasBadObjective, RefusesObjective, RefusesLeast, searched_by, next_in, numbers_text, least_text}
+use Rattle.pv_cli.specs.Leasts.{AreBounds, IsLeastBy, HasLeast, HasBadObjective, RefusesObjective, RefusesLeast, searched_by, next_in, least_text}
 use Rattle.pv_cli.specs.Products.{Product, ComesOfLeast, report_as}
 use Rattle.pv_cli.specs.declared.request.Settings.{Settings}
 use Rattle.pv_cli.specs.declared.request.Search.{Search}
@@ -121,14 +118,3 @@ module _ (before after : Files) (system : Text) (s : Settings) (of : Text) where
   objective_refused rule (TreeLimit n) read h = absurd h
   objective_refused rule (Disagree p a b) read h = absurd h
   objective_refused rule (Differs p a b) read h = absurd h
-
--- ---- A point's numbers, one after another
-
-pub numbers_step : (ns : List Extended) (i : ℕ) (n : Extended) (before after goal : List ℕ) → i < length ns → n ≡ get_or ns i n
-    → after ≡ before ++ (32 ∷ number_text n) → before ++ numbers_text (drop i ns) ≡ goal → after ++ numbers_text (drop (i + 1) ns) ≡ goal
-numbers_step ns i n before after goal less is written e =
-    let rest = drop (i + 1) ns in
-    let here : drop i ns ≡ n ∷ rest = drop_more ns i n less ∙ ap (λ (x : Extended). x ∷ rest) (sym is) in
-    ap (λ (x : List ℕ). x ++ numbers_text rest) written
-    ∙ append_assoc before (32 ∷ number_text n) (numbers_text rest)
-    ∙ ap (λ (x : List Extended). before ++ numbers_text x) (sym here) ∙ e

@@ -118,6 +118,7 @@ fn report(alloc: Global, found: &Least) -> Result<Vec<u8>, Memory>
     Ok(text)
 }
 
+#[tactic(auto, unfolding(crate::specs::Leasts::best_text))]
 fn push_best(best: &BestPoint, out: &mut Vec<u8>) -> Result<(), Memory>
     ensures { OnOk result (out.new.items ≡ out.old.items ++ best_text best.now) }
 {
