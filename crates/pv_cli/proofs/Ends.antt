@@ -10,11 +10,11 @@ use Rattle.pv_parse.specs.declared.refused.ParseRefused.{ParseRefused}
 use Rattle.pv_parse.specs.declared.refused.ParseRefused.TheVariants as parse
 use Rattle.pv_cli.specs.Requests.{Asks, AreRefused, out_of}
 use Rattle.pv_cli.specs.Systems.{Files, AreOnlyRead}
-use Rattle.pv_cli.specs.Products.{Product, text, paved, printed_of, HasStatus, ComesOf, RefusesWork}
+use Rattle.pv_cli.specs.Products.{Product, text, unfinished, paved, printed_of, HasStatus, ComesOf, RefusesWork}
 use Rattle.pv_cli.specs.Ends.{Stream, Outside, AreUntouched, AreOthersKept, IsStored, IsKept, IsDelivered, IsCutOff, RefusesDelivery, IsAnswered, RefusesRequest, RefusesWords, IsRefusedSo, in_words, in_request, Tells, IsEnd}
 use Rattle.pv_cli.specs.declared.request.Request.{Request}
 use Rattle.pv_cli.specs.declared.refusal.Refusal.{Refusal}
-use Rattle.pv_cli.specs.declared.refusal.Refusal.TheVariants.{Usage, System, Contract, NoFile, ReadFault, Paving, NotStored, NotPrinted, Memory, TreeLimit, Disagree, Differs}
+use Rattle.pv_cli.specs.declared.refusal.Refusal.TheVariants.{Usage, System, Contract, Objective, NoFile, ReadFault, Paving, NotStored, NotPrinted, Memory, TreeLimit, Disagree, Differs}
 use Rattle.pv_cli.specs.declared.status.Status.{Status}
 use Rattle.pv_cli.proofs.Earlier.{only_read_on}
 
@@ -40,6 +40,7 @@ module _ (a b c : Files) (read : AreOnlyRead a b) (x y : Stream) where
   kept_on : (out : Option Text) (p : Product) → IsKept out p b c → IsKept out p a c
   kept_on None p h = only_read_on a b c read h
   kept_on (Some name) (text t) h = only_read_on a b c read h
+  kept_on (Some name) (unfinished t) h = only_read_on a b c read h
   kept_on (Some name) (paved identity root t) h = stored_on name _ h
 
   cut_on : (out : Option Text) (p : Product) → IsCutOff out p b c x y → IsCutOff out p a c x y
@@ -61,6 +62,7 @@ module _ (a b c : Files) (read : AreOnlyRead a b) (x y : Stream) where
   delivery_on out p Usage h = h
   delivery_on out p (System line column byte cause) h = h
   delivery_on out p (Contract byte) h = h
+  delivery_on out p (Objective byte cause) h = h
   delivery_on out p (NoFile n) h = h
   delivery_on out p (ReadFault n) h = h
   delivery_on out p (Paving n f) h = h

@@ -1,6 +1,6 @@
 use Rattle.pv_cli.specs.Found.{rows_in}
 use Rattle.pv_cli.specs.declared.request.Form.TheVariants.{Natural, Centered}
-use Rattle.pv_cli.specs.Requests.{runs, resumes, merges, audits, draws, samples}
+use Rattle.pv_cli.specs.Requests.{runs, resumes, merges, audits, draws, samples, seeks}
 use Rattle.pv_cli.proofs.Asked.{read_as}
 use Rattle.pv_cli.proofs.reading.command_in.Goals as goal
 
@@ -27,3 +27,6 @@ returns-in-run-centered c = read_as c.args.command.now (rows_in c.args.found.now
 
 pub returns-in-audit-centered : goal.returns-in-audit-centered
 returns-in-audit-centered c = read_as c.args.command.now (rows_in c.args.found.now) (audits Centered) c.audit_in-in-audit-centered.result c.in-audit-centered.is c.audit_in-in-audit-centered.ensures
+
+pub returns-in-least : goal.returns-in-least
+returns-in-least c = read_as c.args.command.now (rows_in c.args.found.now) seeks c.least_in.result c.in-least.is c.least_in.ensures
