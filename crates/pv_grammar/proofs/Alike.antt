@@ -13,7 +13,7 @@ use Rattle.pv_grammar.specs.Causes.{Begins, as_known}
 use Rattle.pv_grammar.specs.Grammar.{Derives, MayEnd, Produced, arguments, begun, done, expression_items, factor, left_out, produced, step_of, system_items, with_more}
 use Rattle.pv_grammar.specs.Productions.{IsExpression, IsSystem}
 use Rattle.pv_grammar.specs.TreeCodes.{AreKnown, IsKnown}
-use Rattle.pv_grammar.proofs.Forward.{none_some}
+use Rattle.pv_grammar.proofs.Forward.{head_is, nil_cons, none_some, tail_is}
 use Rattle.pv_grammar.proofs.TreeBuilding.{expression_tree, system_tree}
 use Rattle.pv_grammar.proofs.TreeReadings.{expression_text, system_text}
 
@@ -74,20 +74,11 @@ AreAlike [] [] = Unit {0}
 AreAlike (s ∷ ss) (r ∷ rs) = (tame s ≡ tame r) × AreAlike ss rs
 AreAlike ss rs = ⊥
 
-pub heads : {X : Type 0} {x y : X} {xs ys : List X} → x ∷ xs ≡ y ∷ ys → x ≡ y
-heads e = cc
-
-pub tails : {X : Type 0} {x y : X} {xs ys : List X} → x ∷ xs ≡ y ∷ ys → xs ≡ ys
-tails e = cc
-
-pub not_longer : {X : Type 0} {x : X} {xs : List X} → [] ≡ x ∷ xs → ⊥
-not_longer e = cc
-
 plain_lists : (is js : List Item) → map plain is ≡ map plain js → ArePlain is js
 plain_lists [] [] e = tt
-plain_lists [] (j ∷ js) e = absurd (not_longer e)
-plain_lists (i ∷ is) [] e = absurd (not_longer (sym e))
-plain_lists (i ∷ is) (j ∷ js) e = (heads e, plain_lists is js (tails e))
+plain_lists [] (j ∷ js) e = absurd (nil_cons e)
+plain_lists (i ∷ is) [] e = absurd (nil_cons (sym e))
+plain_lists (i ∷ is) (j ∷ js) e = (head_is e, plain_lists is js (tail_is e))
 
 plain_append : (is js ks ls : List Item) → ArePlain is js → ArePlain ks ls → ArePlain (is ++ ks) (js ++ ls)
 plain_append [] [] ks ls h k = k

@@ -18,12 +18,10 @@ use Rattle.pv_parse.specs.Faults.{IsExpressionFault, IsFirst, IsSystemFault}
 use Rattle.pv_parse.specs.Meanings.{KnowsVariables, Names, no_names}
 use Rattle.pv_parse.specs.Sentences.{Spells, bytes_of}
 use Rattle.pv_parse.proofs.KnownNames.{StartsKnown, expression_start, next_known, system_start, text_known}
+use Rattle.pv_parse.proofs.OneSpelling.{ok_same}
 
 ok_err : {c : Counts} {cause : Cause} (r : Result Counts Cause) → r ≡ Ok c → r ≡ Err cause → ⊥
 ok_err r e f = cc
-
-ok_same : {v w : Counts} (r : Result Counts Cause) → r ≡ Ok v → r ≡ Ok w → v ≡ w
-ok_same r e f = cc
 
 counted_split : (c : Counts) (ss : List Symbol) (d : Counts) (s : Symbol) (rest : List Symbol) (e : Counts) (cause : Cause) → Counted c ss d → counted d s ≡ Err cause →
     Counted c (ss ++ s ∷ rest) e → ⊥

@@ -19,8 +19,7 @@ use Rattle.pv_grammar.specs.Causes.{as_known}
 use Rattle.pv_grammar.specs.Grammar.{Derives, MayEnd, Produced, arguments, begun as begun_by, done, exactly, expression_items, factor, factors, fixed, left_out, produced, relation, system_items, terms, with_more}
 use Rattle.pv_grammar.specs.Limits.{Counting, begins, begins_expression, begun, behind_comma, behind_end, behind_semicolon, counted, declared, in_expression, in_phase, levels, moved, nested, next, nothing, operated, operates, turned}
 use Rattle.pv_grammar.specs.TreeCodes.{AreKnown, IsCalled, IsKnown}
-use Rattle.pv_grammar.proofs.Alike.{heads, not_longer, tails}
-use Rattle.pv_grammar.proofs.Forward.{none_some}
+use Rattle.pv_grammar.proofs.Forward.{head_is, nil_cons, none_some, tail_is}
 use Rattle.pv_tokens.specs.declared.keyword.Word.{Word}
 use Rattle.pv_tokens.specs.declared.keyword.Word.TheVariants.{Constants as ConstantsBlock, Variables as VariablesBlock, Constraints as ConstraintsBlock, Function as FunctionBlock, Return as ReturnWord, End as EndWord, In as InWord, Oo as OoWord, Abs as AbsWord, Sqr as SqrWord, Min as MinWord, Max as MaxWord, Outside}
 use Rattle.pv_tokens.specs.declared.token.Kind.{Kind}
@@ -544,13 +543,13 @@ sentence_known t n c items before after start s = text_known items c n start s.s
 names_behind : (items : List Item) (all : List Symbol) (code : List Op) → Derives items all code → (ss rest : List Symbol) → all ≡ ss ++ rest →
     (t : List ℕ) (n : Names) (c : Counts) (from to : ℕ) (m : Names) → SpellsTo t n c from ss to m → Fits items c.phase c.parameters → Bodied c → SomeNames n → SomeNames m
 names_behind items all code (done) [] rest e t n c from to m h f b k = subst SomeNames h.1 k
-names_behind items all code (done) (s ∷ ss) rest e t n c from to m h f b k = absurd (not_longer e)
+names_behind items all code (done) (s ∷ ss) rest e t n c from to m h f b k = absurd (nil_cons e)
 names_behind items all code (left_out i others all' code' may d) ss rest e t n c from to m h f b k =
     names_behind others all' code' d ss rest e t n c from to m h (f.1 c.phase c.parameters (same_left i c.phase c.parameters may)) b k
 names_behind items all code (begun_by i others s all' p code' made d) [] rest e t n c from to m h f b k = subst SomeNames h.1 k
 names_behind items all code (begun_by i others s all' p code' made d) (r ∷ ss) rest e t n c from to m (x, c', next_is, inside, stands, counts, more) f b k =
-    let made' : produced i r ≡ Some p = subst (λ (z : Symbol). produced i z ≡ Some p) (heads e) made in
-    names_behind (p.0 ++ others) all' code' d ss rest (tails e) t (learnt c r (bytes_of t x) n) c' x.end to m more
+    let made' : produced i r ≡ Some p = subst (λ (z : Symbol). produced i z ≡ Some p) (head_is e) made in
+    names_behind (p.0 ++ others) all' code' d ss rest (tail_is e) t (learnt c r (bytes_of t x) n) c' x.end to m more
     (subst (λ (o : Option Produced). Fitted o others c'.phase c'.parameters) made' (fits i r others c c' counts f))
     (counted_fine c c' r counts (b, token_needs i r c.phase c.parameters (λ none. none_some none made') f.0))
     (told_some c r (bytes_of t x) n b k)

@@ -84,9 +84,6 @@ starts t known start items code is few =
 
 -- ---- Lists of tokens, with one more behind them
 
-ok_err : {c : Counts} {cause : Cause} (r : Result Counts Cause) → r ≡ Ok c → r ≡ Err cause → ⊥
-ok_err r e f = cc
-
 ok_same : {v w : Counts} (r : Result Counts Cause) → r ≡ Ok v → r ≡ Ok w → v ≡ w
 ok_same r e f = cc
 
