@@ -4,7 +4,7 @@
     python3 tests/generators/gallery.py
 
 The summaries are those of tests/data/summaries.txt, which the plain paver worked out; the pictures are drawn by
-examples/pictures.sh.
+examples/pictures.sh, and bench/centered.py measured the times of tests/data/centered_times.txt.
 """
 import math
 import sys
@@ -22,12 +22,20 @@ Each example of `examples/`, with its question, the command that answers it and 
 """
 
 
+SIDE_BY_SIDE = """
+## By centered forms
+
+`run-centered` tests each box by the centered forms of the constraints too ([the rule](RULES.md#centered-forms)). Where variables stand in a constraint several times it settles fewer boxes and knows more of them; where each stands there once it does the same work and pays for the test. The examples above with their own options, one worker:
+
+| example | `run`: nodes | inner | seconds | `run-centered`: nodes | inner | seconds |
+|---|---|---|---|---|---|---|
+"""
+
 LEAST_HEAD = """
 ## Least values
 
 The next two ask for the least value of an expression. No value on the set is below the lower bound; the point is in the set, and its value is at most the upper bound. The numbers are rounded outward to six digits here. Leaves are settled in their order, so the lower bound moves once the search comes to its end, and then it is as good as the width of the small boxes lets it be. The answers are those that the plain paver worked out.
 """
-
 
 TITLES = {"pi_gains": "PI gains", "robust_pid": "Robust PID", "three_rpr": "3-RPR platform"}
 
@@ -65,6 +73,15 @@ $ {command}
 
 ![{title_of(name)}](pictures/{name}.svg)
 """
+
+
+def side_by_side():
+    """`run` and `run-centered` on some examples, with one worker."""
+    text = SIDE_BY_SIDE
+    for line in (TOP / "tests" / "data" / "centered_times.txt").read_text().splitlines():
+        name, *numbers = line.split()
+        text += f"| {title_of(name)} | " + " | ".join(numbers) + " |\n"
+    return text
 
 
 def decimal(word, up):
@@ -108,7 +125,7 @@ $ paver least examples/{name}.mbx {" ".join(words)}
 
 def main():
     found, answers = summaries(), least_answers()
-    text = HEAD + "".join(entry(name, words, found[name]) for name, words in EXAMPLES) + LEAST_HEAD
+    text = HEAD + "".join(entry(name, words, found[name]) for name, words in EXAMPLES) + side_by_side() + LEAST_HEAD
     for name, searches in groupby(LEAST, key=lambda search: search[0]):
         text += least_entry(name, [words for _, words in searches], answers)
     (TOP / "docs" / "GALLERY.md").write_text(text)
