@@ -1,4 +1,4 @@
-use Rattle.std.proofs.Common.{length, sym, ◌∙◌, ap, subst, List, Bool}
+use Rattle.std.proofs.Common.{length, sym, ap, subst, List}
 use Rattle.std.specs.Prelude.{reverse}
 use Rattle.pv_interval.specs.Bounds.{Bounds}
 use Rattle.pv_tree.specs.Trees.{Tree, leaf}

@@ -1,4 +1,4 @@
-use Rattle.std.proofs.Common.{◌≡◌, ◌∙◌, ◌+◌, length, List, Bool, ap, subst}
+use Rattle.std.proofs.Common.{◌∙◌, length, List, Bool, ap, subst}
 use Rattle.std.specs.Prelude.{Some, reverse}
 use Rattle.pv_interval.specs.Bounds.{Bounds}
 use Rattle.pv_tree.specs.Trees.{leaf, opens, box_of}
