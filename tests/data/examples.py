@@ -26,10 +26,12 @@ EXAMPLES = [
     ("puma_poses", ["--eps", "0.0625"]),
     ("damped_gains", ["--eps", "0.03125"]),
     ("platform_determinant", ["--eps", "0.03125"]),
+    ("lyapunov_fall", ["--eps", "0.03125"]),
 ]
 
 # Those that are paved by centered forms, too.
-CENTERED = ["pi_gains", "arm_configurations", "bounded_error_fit", "damped_gains", "platform_determinant"]
+CENTERED = ["pi_gains", "arm_configurations", "bounded_error_fit", "damped_gains", "platform_determinant",
+            "lyapunov_fall"]
 # Searches for the least value of an expression, with growing budgets and widths that fall.
 LEAST = [(name, ["--of", of, "--eps", eps, "--boxes", boxes]) for name, of, searches in (
     ("best_fit", "error", (("0.0625", "1000"), ("0.015625", "100"), ("0.015625", "1000"), ("0.00390625", "10000"))),

@@ -25,10 +25,10 @@ Each example of `examples/`, with its question, the command that answers it and 
 SIDE_BY_SIDE = """
 ## By centered forms
 
-`run-centered` tests each box by the centered forms of the constraints too ([the rule](RULES.md#centered-forms)). Where variables stand in a constraint several times it settles fewer boxes and knows more of them; where each stands there once it does the same work and pays for the test. The examples above with their own options, one worker:
+`run-centered` tests each box by the centered forms of the constraints too ([the rule](RULES.md#centered-forms)). Where variables stand in a constraint several times it settles fewer boxes and leaves less undecided, and each box takes longer. The last column is what that is worth: how many nodes `run` settles, with eps halved as often as needed, to leave no greater volume undecided than `run-centered` does (- where 100,000 are too few). In the ring each variable stands once in each constraint, and nothing is won. One worker, each example's own eps, the best of five runs by an unproved build on a busy machine:
 
-| example | `run`: nodes | inner | seconds | `run-centered`: nodes | inner | seconds |
-|---|---|---|---|---|---|---|
+| example | `run`: nodes | seconds | `run-centered`: nodes | seconds | nodes of `run` for as little undecided |
+|---|---|---|---|---|---|
 """
 
 LEAST_HEAD = """
