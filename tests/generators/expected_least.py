@@ -13,18 +13,15 @@ TOP = Path(__file__).resolve().parents[2]
 sys.path.insert(0, str(TOP))
 from tests.data.examples import LEAST, settings_of  # noqa: E402
 from tests.reference import least, minibex  # noqa: E402
-from tests.reference.numbers import spelling  # noqa: E402
 from tests.reference.paver import Settler  # noqa: E402
 
 
 def answer_to(name, words):
     system = minibex.read((TOP / "examples" / f"{name}.mbx").read_text())
-    scope = {variable: ("var", i) for i, variable in enumerate(system.names)}
-    e = minibex.Reader(dict(zip(words[::2], words[1::2]))["--of"]).expression(scope)
+    e = least.expression(system, dict(zip(words[::2], words[1::2]))["--of"])
     settings, budget = settings_of(words)
     lower, found, _, done = least.least(Settler(system, **settings), e, budget)
-    there = ["upper", "none"] if found is None else ["upper", spelling(found[0]), "point", *map(spelling, found[1])]
-    return " ".join(["0" if done else "1", "lower", spelling(lower), *there])
+    return " ".join(["0" if done else "1", *least.printed(lower, found)])
 
 
 def main():

@@ -3,7 +3,8 @@
 Every step looks at all leaves in preorder again: which open leaf is settled next, and which of the
 points of inner leaves is the best so far. What a leaf tells of the expression is worked out once.
 """
-from .numbers import NEG_INF, POS_INF, is_finite, middle
+from . import minibex
+from .numbers import POS_INF, is_finite, middle, spelling
 from .paver import Constraint, Empty, halves
 
 ANY = Constraint((None, None, None))
@@ -82,3 +83,15 @@ def least(settler, e, budget):
         leaves[i:i + 1] = settled_leaves(settler, e, leaves[i])
         settled += 1
     return min((leaf.low for leaf in leaves if leaf.low is not None), default=POS_INF), found, settled, i is None
+
+
+def expression(system, text):
+    """The expression of a text over a system's variables."""
+    return minibex.Reader(text).expression({name: ("var", i) for i, name in enumerate(system.names)})
+
+
+def printed(lower, found):
+    """The lines that `least` prints."""
+    if found is None:
+        return [f"lower {spelling(lower)}", "upper none"]
+    return [f"lower {spelling(lower)}", f"upper {spelling(found[0])}", " ".join(["point", *map(spelling, found[1])])]

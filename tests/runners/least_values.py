@@ -12,7 +12,6 @@ import os
 import subprocess
 import sys
 import tempfile
-from fractions import Fraction
 from pathlib import Path
 
 TOP = Path(__file__).resolve().parents[2]
@@ -21,21 +20,13 @@ sys.path.insert(1, str(TOP / "tests"))
 from tests.data.examples import LEAST, least_answers  # noqa: E402
 from tests.generators.least_vectors import GROUPS, HUGE, NONE, UNBOUNDED, members  # noqa: E402
 from tests.reference import least, minibex  # noqa: E402
-from tests.reference.numbers import NEG_INF, POS_INF, as_fraction, is_finite, spelling  # noqa: E402
+from tests.reference.numbers import NEG_INF, POS_INF, as_fraction, is_finite  # noqa: E402
 from tests.reference.paver import Settler  # noqa: E402
+from tests.runners.soundness import end  # noqa: E402
 
 DRAWN = 2000  # points of one system; those that are members are looked at
 MEMBERS = 10_000  # so many of all systems at least
 SECONDS = 120
-
-
-def printed(lower, found):
-    lines = [f"lower {spelling(lower)}"]
-    if found is None:
-        lines += ["upper none"]
-    else:
-        lines += [f"upper {spelling(found[0])}", " ".join(["point", *map(spelling, found[1])])]
-    return "".join(f"{line}\n" for line in lines).encode()
 
 
 def ask(paver, text, *words):
@@ -45,21 +36,9 @@ def ask(paver, text, *words):
                               timeout=SECONDS, check=False)
 
 
-def value(e, point):
-    """The exact value of an expression at a point of fractions; None where it has none."""
-    return minibex.value(e, point)
-
-
-def is_below(number, value_there):
-    """Whether a number of the format is above a value, which then is below it."""
+def is_above(number, value_there):
+    """Whether a number of the format is above a value."""
     return number == POS_INF or is_finite(number) and value_there < as_fraction(number)
-
-
-def number_of(word):
-    if word in ("-oo", "+oo"):
-        return NEG_INF if word == "-oo" else POS_INF
-    mantissa, exponent = map(int, word.split(":"))
-    return mantissa << exponent + 512
 
 
 def faults_of_known(lower, found, known):
@@ -70,7 +49,7 @@ def faults_of_known(lower, found, known):
         return [] if lower == NEG_INF else ["a lower bound, though there is none"]
     if known == HUGE:
         return [] if found is None or found[0] == POS_INF else ["an upper bound below all values"]
-    faults = ["the least value is below the lower bound"] if is_below(lower, known) else []
+    faults = ["the least value is below the lower bound"] if is_above(lower, known) else []
     if found is not None and found[0] != POS_INF and as_fraction(found[0]) < known:
         faults.append("the upper bound is below the least value")
     return faults
@@ -80,7 +59,7 @@ def faults_of_point(system, e, upper, point):
     there = [as_fraction(n) for n in point]
     if not all(minibex.holds(c, there) for c in system.constraints):
         return ["the point is no member"]
-    found = value(e, there)
+    found = minibex.value(e, there)
     if found is None:
         return ["the expression has no value at the point"]
     return [] if upper == POS_INF or found <= as_fraction(upper) else ["the point's value is above the upper bound"]
@@ -91,8 +70,8 @@ def faults_of_members(system, e, lower):
     looked, faults = 0, []
     for point in members(system, DRAWN):
         looked += 1
-        found = value(e, point)
-        if found is not None and is_below(lower, found):
+        found = minibex.value(e, point)
+        if found is not None and is_above(lower, found):
             faults.append(f"the value at {point} is below the lower bound")
     return faults[:3], looked
 
@@ -100,25 +79,21 @@ def faults_of_members(system, e, lower):
 def read(text):
     """The bounds of printed lines: the lower one, and the upper one with its point, or None."""
     lines = [line.split(" ") for line in text.decode().splitlines()]
-    lower = number_of(lines[0][1])
+    lower = end(lines[0][1])
     if lines[1] == ["upper", "none"]:
         return lower, None
-    return lower, (number_of(lines[1][1]), [number_of(word) for word in lines[2][1:]])
-
-
-def expression(system, of):
-    scope = {name: ("var", i) for i, name in enumerate(system.names)}
-    return minibex.Reader(of).expression(scope)
+    return lower, (end(lines[1][1]), [end(word) for word in lines[2][1:]])
 
 
 def looked_at(paver, domains, constraints, of, budget, known):
     text = f"Variables {domains}; Constraints {constraints}; end"
     system = minibex.read(text)
-    e = expression(system, of)
+    e = least.expression(system, of)
     answer = ask(paver, text, f"--of={of}", f"--boxes={budget}")
     lower, found, _, done = least.least(Settler(system), e, budget)
-    if answer.stderr or answer.returncode != (0 if done else 1) or answer.stdout != printed(lower, found):
-        return [f"status {answer.returncode}, {answer.stdout!r} {answer.stderr!r} in place of {printed(lower, found)!r}"], 0
+    wanted = "".join(f"{line}\n" for line in least.printed(lower, found)).encode()
+    if answer.stderr or answer.returncode != (0 if done else 1) or answer.stdout != wanted:
+        return [f"status {answer.returncode}, {answer.stdout!r} {answer.stderr!r} in place of {wanted!r}"], 0
     lower, found = read(answer.stdout)
     faults, looked = faults_of_members(system, e, lower)
     faults += faults_of_known(lower, found, known)
