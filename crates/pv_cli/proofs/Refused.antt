@@ -45,8 +45,8 @@ no_one before after identity b name (NotStored n) late h = late
 no_one before after identity b name NotPrinted late h = late
 no_one before after identity b name Memory late h = late
 no_one before after identity b name (TreeLimit n) late h = h
-no_one before after identity b name (Disagree p a b) late h = late
-no_one before after identity b name (Differs p a b) late h = h
+no_one before after identity b name (Disagree p x y) late h = late
+no_one before after identity b name (Differs p x y) late h = h
 
 no_rule : (before after : Files) (system : List ℕ) (s : Settings) (r : Refusal) → IsLate r → RefusesRule before after system s r → ⊥
 no_rule before after system s Usage late h = late
