@@ -4,22 +4,23 @@ _paver() {
     local settings="--eps --depth --bisect --contract"
     COMPREPLY=()
     if [ "$COMP_CWORD" -eq 1 ]; then
-        mapfile -t COMPREPLY < <(compgen -W "check run resume merge audit svg sample" -- "$word")
+        mapfile -t COMPREPLY < <(compgen -W "check run resume merge audit svg sample run-centered audit-centered least" -- "$word")
         return
     fi
     case $before in
         --bisect) mapfile -t COMPREPLY < <(compgen -W "largest round" -- "$word"); return ;;
         --contract) mapfile -t COMPREPLY < <(compgen -W "prop(8) hc4( compose( union( qinter( fix( prop(" -- "$word"); return ;;
-        --eps|--depth|--boxes|--workers|--x|--y|--at|--seed|--count) return ;;
+        --eps|--depth|--boxes|--workers|--x|--y|--at|--seed|--count|--of) return ;;
         --out) mapfile -t COMPREPLY < <(compgen -f -- "$word"); return ;;
     esac
     if [[ $word == -* ]]; then
         case $command in
-            run|resume) mapfile -t COMPREPLY < <(compgen -W "$settings --boxes --workers --out" -- "$word") ;;
+            run|resume|run-centered) mapfile -t COMPREPLY < <(compgen -W "$settings --boxes --workers --out" -- "$word") ;;
             merge) mapfile -t COMPREPLY < <(compgen -W "$settings --out" -- "$word") ;;
-            audit) mapfile -t COMPREPLY < <(compgen -W "$settings" -- "$word") ;;
+            audit|audit-centered) mapfile -t COMPREPLY < <(compgen -W "$settings" -- "$word") ;;
             svg) mapfile -t COMPREPLY < <(compgen -W "$settings --x --y --at" -- "$word") ;;
             sample) mapfile -t COMPREPLY < <(compgen -W "--seed --count" -- "$word") ;;
+            least) mapfile -t COMPREPLY < <(compgen -W "$settings --boxes --of" -- "$word") ;;
         esac
         return
     fi

@@ -31,6 +31,7 @@ def lines(*texts):
 HALF_LINE = system("x in [0,4]", "x <= 1")
 STRICT = system("x in [0,1]", "x < 1")
 RECIPROCAL = system("x in [0,1]", "1/x >= 0")
+NO_MORE = system("x in [0,1]", "x - x <= 0")
 FUNCTION = b"Variables x in [0,4]; function f(a) return a^2; end Constraints f(x) <= 4; end\n"
 
 CASES = [
@@ -59,6 +60,21 @@ CASES = [
          b"settled 4 ", begins=True),
     Case("a budget that is just enough", ["run", "s", "--eps", "0.25", "--boxes", "5"], 0, {"s": RECIPROCAL},
          b"settled 5 cut 2 removed 0 inner 2 small 1 open 0\n", begins=True),
+    Case("a difference that is 0, by one worker", ["run-centered", "s", "--workers", "1"], 0, {"s": NO_MORE},
+         lines("settled 1 cut 0 removed 0 inner 1 small 0 open 0", "I 0:0 1:0")),
+    Case("a difference that is 0, by eight workers", ["run-centered", "s", "--workers", "8"], 0, {"s": NO_MORE},
+         lines("settled 1 cut 0 removed 0 inner 1 small 0 open 0", "I 0:0 1:0")),
+    Case("a difference that is not 1/4, by one worker",
+         ["run-centered", "s", "--contract", "hc4(0)", "--workers", "1"], 0, {"s": system("x in [0,1]", "x - x = 0.25")},
+         lines("settled 1 cut 0 removed 1 inner 0 small 0 open 0", "X")),
+    Case("a difference that is not 1/4, by eight workers",
+         ["run-centered", "s", "--contract", "hc4(0)", "--workers", "8"], 0, {"s": system("x in [0,1]", "x - x = 0.25")},
+         lines("settled 1 cut 0 removed 1 inner 0 small 0 open 0", "X")),
+    Case("a difference that is not 1/4, by the sides' intervals", ["run", "s", "--contract", "hc4(0)"], 0,
+         {"s": system("x in [0,1]", "x - x = 0.25")},
+         lines("settled 3 cut 1 removed 2 inner 0 small 0 open 0", "C 0 1:-1 1:-2 3:-2", "X", "X")),
+    Case("an audit by centered forms without a file", ["audit-centered", "s", "p"], 11, {"s": NO_MORE},
+         stderr=b"no file: p\n"),
     Case("17 workers", ["run", "s", "--workers", "17"], 2, {"s": HALF_LINE}, stderr=USAGE),
     Case("an eps that is no number", ["run", "s", "--eps", "x"], 2, {"s": HALF_LINE}, stderr=USAGE),
     Case("a contractor of a constraint that is not there", ["run", "s", "--contract", "hc4(1)"], 2, {"s": HALF_LINE},
@@ -102,4 +118,24 @@ CASES = [
     Case("no system is named", ["run"], 2, {}, stderr=USAGE),
     Case("no command", [], 2, {}, stderr=USAGE),
     Case("an unknown command", ["draw", "s"], 2, {"s": HALF_LINE}, stderr=USAGE),
+    Case("the least value of an expression", ["least", "s", "--of", "2*x+1"], 0, {"s": HALF_LINE},
+         lines("lower 1:0", "upper 1:0", "point 0:0")),
+    Case("no member has a value", ["least", "s", "--of", "x"], 0, {"s": system("x in [0,1]", "x < 0")},
+         lines("lower +oo", "upper none")),
+    Case("a search of one box", ["least", "s", "--eps", "0.25", "--of", "x", "--boxes", "1"], 1, {"s": RECIPROCAL},
+         lines("lower 0:0", "upper none")),
+    Case("a search one box short", ["least", "s", "--eps", "0.25", "--of", "x", "--boxes", "3"], 1, {"s": RECIPROCAL},
+         lines("lower 0:0", "upper none")),
+    Case("a search of boxes that are just enough", ["least", "--of=x", "--boxes=4", "s", "--eps", "0.25"], 0,
+         {"s": RECIPROCAL}, lines("lower 0:0", "upper 1:-2", "point 1:-2")),
+    Case("an expression without its end", ["least", "s", "--of", "2*"], 2, {"s": HALF_LINE},
+         stderr=b"objective: byte 2: EndOfText\n"),
+    Case("an expression is read after the contractor", ["least", "s", "--of", "2*", "--contract", "hc4(1)"], 2,
+         {"s": HALF_LINE}, stderr=b"contract: refused at byte 4\n"),
+    Case("an expression is read after the system", ["least", "s", "--of", "2*"], 3, {"s": b"Variables"},
+         stderr=b"system: line 1 column 10 byte 9: EndOfText\n"),
+    Case("no expression", ["least", "s"], 2, {"s": HALF_LINE}, stderr=USAGE),
+    Case("a search by workers", ["least", "s", "--of", "x", "--workers", "2"], 2, {"s": HALF_LINE}, stderr=USAGE),
+    Case("a least value on a full disk", ["least", "s", "--of", "x"], 6, {"s": HALF_LINE},
+         stderr=b"write fault: standard output\n", full_disk=True),
 ]

@@ -1,27 +1,32 @@
 #!/usr/bin/env python3
-"""Works out by the slow reference what `paver run` has to print for each example.
+"""Works out by the slow reference what `paver run` has to print for each example, or `paver run-centered` for those that
+are paved so, too.
 
-    python3 tests/generators/expected_summaries.py [NAME..]
+    python3 tests/generators/expected_summaries.py [--centered] [NAME..]
 
 prints a line per example: its name, the SHA-256 of the printed text, and the summary line.
-tests/data/summaries.txt holds what it printed; the end-to-end tests compare the program with that.
+tests/data/summaries.txt and centered_summaries.txt hold what it printed; the end-to-end tests compare the program with that.
 """
 import hashlib
 import sys
 from pathlib import Path
 
 sys.path.insert(0, str(Path(__file__).resolve().parents[1]))
-from data.examples import EXAMPLES, settings_of  # noqa: E402
+from data.examples import CENTERED, EXAMPLES, settings_of  # noqa: E402
 from reference import minibex, paver  # noqa: E402
+from reference.slopes import CenteredSettler  # noqa: E402
 
 
 def main():
-    wanted = sys.argv[1:] or [name for name, _ in EXAMPLES]
+    centered = "--centered" in sys.argv
+    settler = CenteredSettler if centered else paver.Settler
+    wanted = [word for word in sys.argv[1:] if word != "--centered"] or (
+        CENTERED if centered else [name for name, _ in EXAMPLES])
     for name, words in EXAMPLES:
         if name in wanted:
             text = (Path(__file__).resolve().parents[2] / "examples" / f"{name}.mbx").read_text()
             settings, budget = settings_of(words)
-            summary, lines = paver.pave(paver.Settler(minibex.read(text), **settings), budget)
+            summary, lines = paver.pave(settler(minibex.read(text), **settings), budget)
             printed = "".join(f"{line}\n" for line in [summary, *lines])
             print(name, hashlib.sha256(printed.encode()).hexdigest(), summary, flush=True)
 

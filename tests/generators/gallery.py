@@ -4,21 +4,38 @@
     python3 tests/generators/gallery.py
 
 The summaries are those of tests/data/summaries.txt, which the plain paver worked out; the pictures are drawn by
-examples/pictures.sh.
+examples/pictures.sh, and bench/centered.py measured the times of tests/data/centered_times.txt.
 """
+import math
 import sys
-from itertools import takewhile
+from fractions import Fraction
+from itertools import groupby, takewhile
 from pathlib import Path
 
 TOP = Path(__file__).resolve().parents[2]
 sys.path.insert(0, str(TOP / "tests"))
-from data.examples import EXAMPLES  # noqa: E402
+from data.examples import EXAMPLES, LEAST, least_answers  # noqa: E402
 
 HEAD = """# Gallery
 
 Each example of `examples/`, with its question, the command that answers it and the first line of the answer. Green boxes are inner: every rational point of them is in the set. Grey parts are removed: no rational point of them is. Yellow boxes are undecided. Of three variables and more a picture is a slice, or the projection on two variables; some are drawn with a smaller eps than that of the command. `examples/pictures.sh` draws them, `tests/generators/gallery.py` writes this page.
 """
 
+
+SIDE_BY_SIDE = """
+## By centered forms
+
+`run-centered` tests each box by the centered forms of the constraints too ([the rule](RULES.md#centered-forms)). Where variables stand in a constraint several times it settles fewer boxes and leaves less undecided, and each box takes longer. The last column is what that is worth: how many nodes `run` settles, with eps halved as often as needed, to leave no greater volume undecided than `run-centered` does (- where 100,000 are too few). In the ring each variable stands once in each constraint, and nothing is won. One worker, each example's own eps, the best of five runs by an unproved build on a busy machine:
+
+| example | `run`: nodes | seconds | `run-centered`: nodes | seconds | nodes of `run` for as little undecided |
+|---|---|---|---|---|---|
+"""
+
+LEAST_HEAD = """
+## Least values
+
+The next two ask for the least value of an expression. No value on the set is below the lower bound; the point is in the set, and its value is at most the upper bound. The numbers are rounded outward to six digits here. Leaves are settled in their order, so the lower bound moves once the search comes to its end, and then it is as good as the width of the small boxes lets it be. The answers are those that the plain paver worked out.
+"""
 
 TITLES = {"pi_gains": "PI gains", "robust_pid": "Robust PID", "three_rpr": "3-RPR platform"}
 
@@ -34,7 +51,7 @@ def question_of(name):
         lines = text[2:text.index("*/")].strip().splitlines()
     else:
         lines = [line[2:] for line in takewhile(lambda line: line.startswith("//"), text.splitlines())]
-    return "\n".join(f"> {line.strip()}  " for line in lines if "paver run" not in line)
+    return "\n".join(f"> {line.strip()}  " for line in lines if "  paver " not in line)
 
 
 def summaries():
@@ -58,9 +75,59 @@ $ {command}
 """
 
 
+def side_by_side():
+    """`run` and `run-centered` on some examples, with one worker."""
+    text = SIDE_BY_SIDE
+    for line in (TOP / "tests" / "data" / "centered_times.txt").read_text().splitlines():
+        name, *numbers = line.split()
+        text += f"| {title_of(name)} | " + " | ".join(numbers) + " |\n"
+    return text
+
+
+def decimal(word, up):
+    """A printed number to six digits behind the point, rounded down or up."""
+    if word in ("none", "-oo", "+oo"):
+        return word
+    mantissa, exponent = map(int, word.split(":"))
+    scaled = Fraction(mantissa) * Fraction(2) ** exponent * 10**6
+    whole = math.ceil(scaled) if up else math.floor(scaled)
+    return f"{'-' if whole < 0 else ''}{abs(whole) // 10**6}.{abs(whole) % 10**6:06}"
+
+
+def search_row(words, answer):
+    options, (status, _, lower, _, upper) = dict(zip(words[::2], words[1::2])), answer.split()[:5]
+    end = "ended" if status == "0" else "budget spent"
+    return f"| {options['--eps']} | {options['--boxes']} | {decimal(lower, False)} | {decimal(upper, True)} | {end} |\n"
+
+
+def lines_of(answer):
+    """The printed lines of an answer's words."""
+    return answer.split(" ", 1)[1].replace(" upper ", "\nupper ").replace(" point ", "\npoint ")
+
+
+def least_entry(name, searches, answers):
+    words = searches[-1]
+    rows = "".join(search_row(words, answers[name, tuple(words)]) for words in searches)
+    return f"""
+### {title_of(name)}
+
+{question_of(name)}
+
+```
+$ paver least examples/{name}.mbx {" ".join(words)}
+{lines_of(answers[name, tuple(words)])}
+```
+
+| `--eps` | `--boxes` | lower | upper | search |
+|---|---|---|---|---|
+{rows}"""
+
+
 def main():
-    found = summaries()
-    text = HEAD + "".join(entry(name, words, found[name]) for name, words in EXAMPLES)
+    found, answers = summaries(), least_answers()
+    text = HEAD + "".join(entry(name, words, found[name]) for name, words in EXAMPLES) + side_by_side() + LEAST_HEAD
+    for name, searches in groupby(LEAST, key=lambda search: search[0]):
+        text += least_entry(name, [words for _, words in searches], answers)
     (TOP / "docs" / "GALLERY.md").write_text(text)
 
 

@@ -3,17 +3,18 @@ import hashlib
 
 from . import files
 from .paver import Settler, node_line
+from .slopes import CenteredSettler
 from .numbers import spelling
 
 
 class Call:
     """A system's text and its settings, as the options spell them."""
 
-    def __init__(self, system, canonical, **settings):
-        self.settler = Settler(system, **settings)
+    def __init__(self, system, canonical, centered=False, **settings):
+        self.settler = (CenteredSettler if centered else Settler)(system, **settings)
         depth, bisector = self.settler.depth, self.settler.bisector
         contract = settings.get("contract", "prop(8)")
-        text = f"eps {spelling(self.settler.eps)}\ndepth {depth}\nbisect {bisector}\ncontract {contract}\n"
+        text = f"eps {spelling(self.settler.eps)}\ndepth {depth}\nbisect {bisector}\ncontract {contract}\n" + ("centered\n" if centered else "")
         self.identity = hashlib.sha256(canonical + text.encode()).hexdigest()
 
     def write(self, tree, version=2):

@@ -15,7 +15,7 @@ from pathlib import Path
 
 sys.path.insert(0, str(Path(__file__).resolve().parents[1]))
 from data.cases import CASES  # noqa: E402
-from data.examples import EXAMPLES  # noqa: E402
+from data.examples import CENTERED, EXAMPLES  # noqa: E402
 from data.reader_cases import canonical  # noqa: E402
 from soundness import faults_of_paving  # noqa: E402
 
@@ -60,10 +60,10 @@ def faults_of_case(paver, case):
     return faults
 
 
-def faults_of_example(paver, name, words, expected):
+def faults_of_example(paver, command, name, words, expected):
     """An example has to print what the slow reference printed, and its paving has to be sound at sampled points."""
     system = TOP / "examples" / f"{name}.mbx"
-    answer = run(paver, ["run", str(system), *words], HERE)
+    answer = run(paver, [command, str(system), *words], HERE)
     if answer.returncode not in (0, 1):
         return [f"status {answer.returncode}, {answer.stderr!r}"]
     digest, summary = expected[name]
@@ -84,16 +84,18 @@ def faults_of_check(paver, name):
     return [] if answer.returncode == 0 and answer.stdout == wanted else [f"{answer.stdout[:300]!r} {answer.stderr!r}"]
 
 
-def expected_summaries():
-    lines = (TOP / "tests" / "data" / "summaries.txt").read_text().splitlines()
+def expected_summaries(file):
+    lines = (TOP / "tests" / "data" / file).read_text().splitlines()
     return {name: (digest, summary) for name, digest, summary in (line.split(" ", 2) for line in lines)}
 
 
 def main():
     paver, word = os.path.abspath(sys.argv[1]), sys.argv[2] if len(sys.argv) > 2 else ""
-    expected = expected_summaries()
+    expected, by_slopes = expected_summaries("summaries.txt"), expected_summaries("centered_summaries.txt")
     checks = [(case.name, faults_of_case, (paver, case)) for case in CASES]
-    checks += [(f"example {name}", faults_of_example, (paver, name, words, expected)) for name, words in EXAMPLES]
+    checks += [(f"example {name}", faults_of_example, (paver, "run", name, words, expected)) for name, words in EXAMPLES]
+    checks += [(f"centered example {name}", faults_of_example, (paver, "run-centered", name, words, by_slopes))
+               for name, words in EXAMPLES if name in CENTERED]
     checks += [(f"check of {name}", faults_of_check, (paver, name)) for name, _ in EXAMPLES]
     passed = failed = 0
     for name, check, arguments in checks:

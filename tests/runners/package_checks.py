@@ -1,5 +1,6 @@
 """Checks of the package's calls of the program: statuses as exceptions, numbers, and the commands on stored files."""
 import hashlib
+import math
 import random
 import tempfile
 from fractions import Fraction
@@ -165,7 +166,9 @@ def check_digest(name, words, digest):
 def check_missing():
     """What an older program lacks is named."""
     assert program.has("run") and program.has("check")
-    for command, work in (("resume", paver.resume), ("merge", paver.merge), ("audit", paver.audit)):
+    for command, work in (("resume", paver.resume), ("merge", paver.merge), ("audit", paver.audit),
+                          ("run-centered", lambda system, _: paver.run_centered(system)),
+                          ("audit-centered", paver.audit_centered)):
         if not program.has(command):
             raised(paver.NotInProgram, lambda work=work: work(example("ring"), "none"))
     if not program.has("run --out"):
@@ -218,6 +221,22 @@ def check_audited():
         raised(paver.Disagree, lambda: paver.audit(example("ring"), out, eps=1), kind="differs", first="X")
 
 
+def check_centered():
+    """A system whose variable stands in it twice is settled with one box, and neither kind of file is the other."""
+    needs("run-centered")
+    needs("audit-centered")
+    with tempfile.TemporaryDirectory() as folder:
+        system, out = Path(folder) / "s", Path(folder) / "p"
+        system.write_text("Variables x in [0,1]; Constraints x - x <= 0; end\n")
+        answer = paver.run_centered(system, out=out)
+        assert answer.complete and answer.summary["inner"] == 1 and answer.summary["settled"] == 1
+        assert paver.run(system).summary["small"] > 1
+        assert paver.audit_centered(system, out)
+        raised(paver.PavingRefused, lambda: paver.audit(system, out), cause="wrong identity")
+        out.write_text(out.read_text().replace("I = =", "X"))
+        raised(paver.Disagree, lambda: paver.audit_centered(system, out), kind="differs", first="X")
+
+
 def check_drawn():
     needs("run --out")
     needs("svg")
@@ -240,10 +259,27 @@ def check_sampled():
     raised(paver.UsageError, lambda: paver.sample(1, 17))
 
 
+def check_least():
+    needs("least")
+    text = "Variables x in [0,1]; Constraints 1/x >= 0; end\n"
+    with tempfile.TemporaryDirectory() as folder:
+        name = Path(folder) / "s"
+        name.write_text(text)
+        open_yet = paver.least(name, "x", eps=0.25, boxes=3)
+        assert (open_yet.lower, open_yet.upper, open_yet.point, open_yet.complete) == (0, None, None, False)
+        found = paver.least(name, "x", eps=Fraction(1, 4))
+        assert (found.lower, found.upper, found.point, found.complete) == (0, Fraction(1, 4), (Fraction(1, 4),), True)
+        assert paver.least(name, "-x").lower == -1
+        assert paver.least(name, "1/0").lower == math.inf
+        raised(paver.ObjectiveRefused, lambda: paver.least(name, "2*"), byte=2, cause="EndOfText")
+        raised(paver.UsageError, lambda: paver.least(name, "x", boxes=0))
+
+
 def checks():
     expected = dict(line.split(" ", 2)[:2] for line in EXPECTED.read_text().splitlines())
     named = [check_numbers, check_minibex_numbers, check_lines, check_refusals, check_answers, check_depths, check_canonical,
-             check_missing, check_stored, check_resumed, check_merged, check_audited, check_drawn, check_sampled]
+             check_missing, check_stored, check_resumed, check_merged, check_audited, check_centered, check_drawn, check_sampled,
+             check_least]
     found = [(check.__name__[6:].replace("_", " "), check, ()) for check in named]
     return found + [(f"the reference's text of {name}", check_digest, (name, words, expected[name]))
                     for name, words in EXAMPLES]

@@ -14,7 +14,7 @@ import tempfile
 from pathlib import Path
 
 sys.path.insert(0, str(Path(__file__).resolve().parents[1]))
-from data.cases import HALF_LINE, RECIPROCAL, USAGE, lines, system  # noqa: E402
+from data.cases import HALF_LINE, NO_MORE, RECIPROCAL, USAGE, lines, system  # noqa: E402
 from data.reader_cases import canonical  # noqa: E402
 from reference import files, minibex, sample  # noqa: E402
 from reference.commands import Call, answer  # noqa: E402
@@ -354,9 +354,32 @@ def settings_of_others(f):
           b"honest\n")
 
 
+def centered_files(f):
+    f.put("s", NO_MORE)
+    eighth = Fraction(1, 8)
+    whole = file_of(2, ["I = ="], call(NO_MORE, eps=eighth, centered=True).identity)
+    for workers in ("1", "8"):
+        f.run(["run-centered", "s", "--workers", workers, "--out", "p"], 0,
+              b"settled 1 cut 0 removed 0 inner 1 small 0 open 0\n", changed="p")
+        f.holds("p", whole)
+        f.run(["audit-centered", "s", "p"], 0, b"honest\n")
+    for words in (["audit", "s", "p"], ["merge", "s", "p"], ["resume", "s", "p"]):
+        f.run(words, 4, err=b"paving p: wrong identity\n")
+    f.put("n", file_of(2, ["I = ="], call(NO_MORE, eps=eighth).identity))
+    f.run(["audit-centered", "s", "n"], 4, err=b"paving n: wrong identity\n")
+    f.run(["audit", "s", "n"], 9, err=b"differs .: I 0:0 1:0 | C 0 1:-1 0:0 1:0\n")
+    f.put("d", TWO_DISCS)
+    f.run(["run-centered", "d", "--boxes", "40", "--out", "q"], 1, None, changed="q")
+    f.run(["audit-centered", "d", "q"], 0, b"honest\n")
+    _, printed, _, stored = answer(lambda: call(TWO_DISCS, eps=eighth, centered=True).run(100000, "q"))
+    f.run(["run-centered", "d", "--boxes", "100000", "--out", "q"], 0, printed, changed="q")
+    f.holds("q", stored)
+    f.run(["audit-centered", "d", "q"], 0, b"honest\n")
+
+
 CHECKS = [stored_runs, resumed_runs, merged_files, audited_files, workers_store_the_same, bad_files, cut_anywhere,
           each_byte_replaced, big_trees, names_folders_and_disks, order_of_refusals, drawn_files, samples,
-          words_that_are_no_text, settings_of_others]
+          words_that_are_no_text, settings_of_others, centered_files]
 
 
 def main():

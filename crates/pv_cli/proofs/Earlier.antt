@@ -6,7 +6,7 @@ use Rattle.pv_tree.specs.Trees.{Tree, Seen}
 use Rattle.pv_io.specs.Outside.{Content, Rose, IsWhole, IsTooLong, MayBeAbsent}
 use Rattle.pv_cli.specs.Requests.{names_in}
 use Rattle.pv_cli.specs.Systems.{Files, AreOnlyRead, RefusesFetch, search_box}
-use Rattle.pv_cli.specs.Files.{HasPaving, HoldsOther, HoldsLong, HasFileFault, RefusesPaving, HavePavings, RefusesPavings}
+use Rattle.pv_cli.specs.Files.{HoldsPaving, HasPaving, HoldsOther, HoldsLong, HasFileFault, RefusesFile, RefusesPaving, HavePavings, RefusesPavings}
 use Rattle.std.specs.Borrow.{Bor}
 use Rattle.pv_settle.specs.Spelling.{identity_of}
 use Rattle.pv_file.specs.Readings.{IsFirstBadLine, IsOneTooMany}
@@ -15,7 +15,7 @@ use Rattle.pv_cli.specs.declared.pavings.Key.{Key}
 use Rattle.pv_cli.specs.declared.refusal.FileFault.{FileFault}
 use Rattle.pv_cli.specs.declared.refusal.FileFault.TheVariants.{TooLong, WrongIdentity, BadLine, TooManyNodes}
 use Rattle.pv_cli.specs.declared.refusal.Refusal.{Refusal}
-use Rattle.pv_cli.specs.declared.refusal.Refusal.TheVariants.{Usage, System, Contract, NoFile, ReadFault, Paving, NotStored, NotPrinted, Memory, TreeLimit, Disagree, Differs}
+use Rattle.pv_cli.specs.declared.refusal.Refusal.TheVariants.{Usage, System, Contract, Objective, NoFile, ReadFault, Paving, NotStored, NotPrinted, Memory, TreeLimit, Disagree, Differs}
 
 pub only_read_on : (a b c : Files) → AreOnlyRead a b → AreOnlyRead b c → AreOnlyRead a c
 only_read_on a b c h k = record {
@@ -35,11 +35,11 @@ module _ (a b : Files) (read : AreOnlyRead a b) where
   long_before : (name : List ℕ) → HoldsLong b name → HoldsLong a name
   long_before name h = record { bytes = h.bytes; long = subst (λ (x : Content). IsTooLong x 70000000 h.bytes) (read.content name) h.long }
 
-  fault_before : (rule : SettlerParts) (name : List ℕ) (f : FileFault) → HasFileFault b rule name f → HasFileFault a rule name f
-  fault_before rule name TooLong h = long_before name h
-  fault_before rule name WrongIdentity h = other_before name _ h
-  fault_before rule name (BadLine n) h = other_before name _ h
-  fault_before rule name (TooManyNodes n) h = other_before name _ h
+  fault_before : (identity : List ℕ) (root : List Bounds) (name : List ℕ) (f : FileFault) → HasFileFault b identity root name f → HasFileFault a identity root name f
+  fault_before identity root name TooLong h = long_before name h
+  fault_before identity root name WrongIdentity h = other_before name _ h
+  fault_before identity root name (BadLine n) h = other_before name _ h
+  fault_before identity root name (TooManyNodes n) h = other_before name _ h
 
   fetch_before : (c : Files) (name : List ℕ) (r : Refusal) → RefusesFetch b c name r → RefusesFetch a c name r
   fetch_before c name (NoFile n) h = (h.0, subst (λ (x : Content). MayBeAbsent x) (read.content name) h.1)
@@ -48,6 +48,7 @@ module _ (a b : Files) (read : AreOnlyRead a b) where
   fetch_before c name Usage h = h
   fetch_before c name (System line column byte cause) h = h
   fetch_before c name (Contract byte) h = h
+  fetch_before c name (Objective byte cause) h = h
   fetch_before c name (Paving n f) h = h
   fetch_before c name (NotStored n) h = h
   fetch_before c name NotPrinted h = h
@@ -55,8 +56,8 @@ module _ (a b : Files) (read : AreOnlyRead a b) where
   fetch_before c name (Disagree p x y) h = h
   fetch_before c name (Differs p x y) h = h
 
-  pub paving_before : (rule : SettlerParts) (name : List ℕ) (t : Tree) → HasPaving b rule name t → HasPaving a rule name t
-  paving_before rule name t h = record {
+  pub paving_before : (identity : List ℕ) (root : List Bounds) (name : List ℕ) (t : Tree) → HoldsPaving b identity root name t → HoldsPaving a identity root name t
+  paving_before identity root name t h = record {
     bytes = h.bytes;
     fetched = subst (λ (x : Content). IsWhole x 70000000 h.bytes) (read.content name) h.fetched;
     text = h.text;
@@ -64,30 +65,31 @@ module _ (a b : Files) (read : AreOnlyRead a b) where
     few = h.few;
   }
 
-  pub refused_before : (c : Files) (rule : SettlerParts) (name : List ℕ) (r : Refusal) → RefusesPaving b c rule name r → RefusesPaving a c rule name r
-  refused_before c rule name (Paving n f) h = (h.0, fault_before rule name f h.1)
-  refused_before c rule name (NoFile n) h = fetch_before c name (NoFile n) h
-  refused_before c rule name (ReadFault n) h = fetch_before c name (ReadFault n) h
-  refused_before c rule name Memory h = tt
-  refused_before c rule name Usage h = h
-  refused_before c rule name (System line column byte cause) h = h
-  refused_before c rule name (Contract byte) h = h
-  refused_before c rule name (NotStored n) h = h
-  refused_before c rule name NotPrinted h = h
-  refused_before c rule name (TreeLimit n) h = h
-  refused_before c rule name (Disagree p x y) h = h
-  refused_before c rule name (Differs p x y) h = h
+  pub refused_before : (c : Files) (identity : List ℕ) (root : List Bounds) (name : List ℕ) (r : Refusal) → RefusesFile b c identity root name r → RefusesFile a c identity root name r
+  refused_before c identity root name (Paving n f) h = (h.0, fault_before identity root name f h.1)
+  refused_before c identity root name (NoFile n) h = fetch_before c name (NoFile n) h
+  refused_before c identity root name (ReadFault n) h = fetch_before c name (ReadFault n) h
+  refused_before c identity root name Memory h = tt
+  refused_before c identity root name Usage h = h
+  refused_before c identity root name (System line column byte cause) h = h
+  refused_before c identity root name (Contract byte) h = h
+  refused_before c identity root name (Objective byte cause) h = h
+  refused_before c identity root name (NotStored n) h = h
+  refused_before c identity root name NotPrinted h = h
+  refused_before c identity root name (TreeLimit n) h = h
+  refused_before c identity root name (Disagree p x y) h = h
+  refused_before c identity root name (Differs p x y) h = h
 
   pub read_before : (rule : SettlerParts) (ns : List (List ℕ)) (ps : List Seen) → AreRead b rule ns ps → AreRead a rule ns ps
   read_before rule [] [] h = tt
   read_before rule [] (p ∷ ps) h = absurd h
   read_before rule (n ∷ ns) [] h = absurd h
-  read_before rule (n ∷ ns) (p ∷ ps) h = (h.0, paving_before rule n p.tree h.1, read_before rule ns ps h.2)
+  read_before rule (n ∷ ns) (p ∷ ps) h = (h.0, paving_before (identity_of rule) (search_box rule) n p.tree h.1, read_before rule ns ps h.2)
 
   pub all_refused_before : (c : Files) (rule : SettlerParts) (ns : List (List ℕ)) (r : Refusal) → RefusesPavings b c rule ns r → RefusesPavings a c rule ns r
   all_refused_before c rule [] r h = h
-  all_refused_before c rule (n ∷ ns) r (inl h) = inl (refused_before c rule n r h)
-  all_refused_before c rule (n ∷ ns) r (inr h) = inr (h.0, paving_before rule n h.0 h.1, all_refused_before c rule ns r h.2)
+  all_refused_before c rule (n ∷ ns) r (inl h) = inl (refused_before c (identity_of rule) (search_box rule) n r h)
+  all_refused_before c rule (n ∷ ns) r (inr h) = inr (h.0, paving_before (identity_of rule) (search_box rule) n h.0 h.1, all_refused_before c rule ns r h.2)
 
 -- what was read are pavings of the files, and over the search box
 pub held_of : (a : Files) (rule : SettlerParts) (ns : List (List ℕ)) (ps : List Seen) → AreRead a rule ns ps → HavePavings a rule ns (trees_of ps)
@@ -102,35 +104,40 @@ over_of a rule b [] (p ∷ ps) e h = absurd h
 over_of a rule b (n ∷ ns) [] e h = absurd h
 over_of a rule b (n ∷ ns) (p ∷ ps) e h = (h.0 ∙ sym e, over_of a rule b ns ps e h.2)
 
--- ---- A file that was read and is refused at a line
+-- ---- A file that was read for a key
 
-bytes_for : (rule : SettlerParts) (key : Key) (P : List ℕ → List ℕ → List Bounds → Type 0) (bytes read : List ℕ) → IsKeyOf rule key → read ≡ bytes → P read key.identity key.root
-    → P bytes (identity_of rule) (search_box rule)
-bytes_for rule key P bytes read is same h =
-    subst (λ (x : List ℕ). P x (identity_of rule) (search_box rule)) same
-    (subst (λ (x : List Bounds). P read (identity_of rule) x) is.root (subst (λ (x : List ℕ). P read x key.root) is.identity h))
+-- what is said of a key's identity and box is said of what they are
+pub by_key : (P : List ℕ → List Bounds → Type 0) (identity : List ℕ) (root : List Bounds) (key : Key) → key.identity ≡ identity → key.root ≡ root → P key.identity key.root → P identity root
+by_key P identity root key same box h = subst (P identity) box (subst (λ (x : List ℕ). P x key.root) same h)
 
-pub bad_line : (a b : Files) (rule : SettlerParts) (key : Key) (name : Bor (List ℕ)) (n : ℕ) (bytes read : List ℕ) (r : Refusal) → IsKeyOf rule key → read ≡ bytes
-    → IsWhole (a.content name.now) 70000000 bytes → IsFirstBadLine n read key.identity key.root → r ≡ Paving name (BadLine n) → RefusesPaving a b rule name.now r
-bad_line a b rule key name n bytes read r is same whole h e =
-    subst (RefusesPaving a b rule name.now) (sym e)
-    (refl, record { bytes = bytes; fetched = whole; other = bytes_for rule key (IsFirstBadLine n) bytes read is same h })
+pub bad_line : (a b : Files) (identity : List ℕ) (root : List Bounds) (name : Bor (List ℕ)) (n : ℕ) (bytes read : List ℕ) (r : Refusal) → read ≡ bytes
+    → IsWhole (a.content name.now) 70000000 bytes → IsFirstBadLine n read identity root → r ≡ Paving name (BadLine n) → RefusesFile a b identity root name.now r
+bad_line a b identity root name n bytes read r same whole h e =
+    subst (RefusesFile a b identity root name.now) (sym e)
+    (refl, record { bytes = bytes; fetched = whole; other = subst (λ (x : List ℕ). IsFirstBadLine n x identity root) same h })
 
-pub one_too_many : (a b : Files) (rule : SettlerParts) (key : Key) (name : Bor (List ℕ)) (n : ℕ) (bytes read : List ℕ) (r : Refusal) → IsKeyOf rule key → read ≡ bytes
-    → IsWhole (a.content name.now) 70000000 bytes → IsOneTooMany n read key.identity key.root → r ≡ Paving name (TooManyNodes n) → RefusesPaving a b rule name.now r
-one_too_many a b rule key name n bytes read r is same whole h e =
-    subst (RefusesPaving a b rule name.now) (sym e)
-    (refl, record { bytes = bytes; fetched = whole; other = bytes_for rule key (IsOneTooMany n) bytes read is same h })
+pub one_too_many : (a b : Files) (identity : List ℕ) (root : List Bounds) (name : Bor (List ℕ)) (n : ℕ) (bytes read : List ℕ) (r : Refusal) → read ≡ bytes
+    → IsWhole (a.content name.now) 70000000 bytes → IsOneTooMany n read identity root → r ≡ Paving name (TooManyNodes n) → RefusesFile a b identity root name.now r
+one_too_many a b identity root name n bytes read r same whole h e =
+    subst (RefusesFile a b identity root name.now) (sym e)
+    (refl, record { bytes = bytes; fetched = whole; other = subst (λ (x : List ℕ). IsOneTooMany n x identity root) same h })
 
 -- ---- Several files, the first of which was read
 
 pub first_read : (a b : Files) → AreOnlyRead a b → (rule : SettlerParts) (key : Key) (names rest : List (Bor (List ℕ))) (name : Bor (List ℕ)) (ps qs : List Seen) (p : Seen) → IsKeyOf rule key
-    → names ≡ name ∷ rest → ps ≡ p ∷ qs → p.root ≡ key.root → HasPaving a rule name.now p.tree → AreRead b rule (names_in rest) qs → AreRead a rule (names_in names) ps
+    → names ≡ name ∷ rest → ps ≡ p ∷ qs → p.root ≡ key.root → HoldsPaving a key.identity key.root name.now p.tree → AreRead b rule (names_in rest) qs → AreRead a rule (names_in names) ps
 first_read a b read rule key names rest name ps qs p is e f root held h =
     subst (λ (ns : List (Bor (List ℕ))). AreRead a rule (names_in ns) ps) (sym e)
-    (subst (λ (xs : List Seen). AreRead a rule (name.now ∷ names_in rest) xs) (sym f) (root ∙ is.root, held, read_before a b read rule (names_in rest) qs h))
+    (subst (λ (xs : List Seen). AreRead a rule (name.now ∷ names_in rest) xs) (sym f) (root ∙ is.root, by_key (λ i x. HoldsPaving a i x name.now p.tree) (identity_of rule) (search_box rule) key is.identity is.root held, read_before a b read rule (names_in rest) qs h))
 
-pub first_held : (a b : Files) → AreOnlyRead a b → (c : Files) (rule : SettlerParts) (names rest : List (Bor (List ℕ))) (name : Bor (List ℕ)) (t : Tree) (r : Refusal)
-    → names ≡ name ∷ rest → HasPaving a rule name.now t → RefusesPavings b c rule (names_in rest) r → RefusesPavings a c rule (names_in names) r
-first_held a b read c rule names rest name t r e held h =
-    subst (λ (ns : List (Bor (List ℕ))). RefusesPavings a c rule (names_in ns) r) (sym e) (inr (t, held, all_refused_before a b read c rule (names_in rest) r h))
+pub first_held : (a b : Files) → AreOnlyRead a b → (c : Files) (rule : SettlerParts) (key : Key) (names rest : List (Bor (List ℕ))) (name : Bor (List ℕ)) (t : Tree) (r : Refusal) → IsKeyOf rule key
+    → names ≡ name ∷ rest → HoldsPaving a key.identity key.root name.now t → RefusesPavings b c rule (names_in rest) r → RefusesPavings a c rule (names_in names) r
+first_held a b read c rule key names rest name t r is e held h =
+    let here : HasPaving a rule name.now t = by_key (λ i x. HoldsPaving a i x name.now t) (identity_of rule) (search_box rule) key is.identity is.root held in
+    subst (λ (ns : List (Bor (List ℕ))). RefusesPavings a c rule (names_in ns) r) (sym e) (inr (t, here, all_refused_before a b read c rule (names_in rest) r h))
+
+pub first_refused : (a b : Files) (rule : SettlerParts) (key : Key) (names rest : List (Bor (List ℕ))) (name : Bor (List ℕ)) (r : Refusal) → IsKeyOf rule key
+    → names ≡ name ∷ rest → RefusesFile a b key.identity key.root name.now r → RefusesPavings a b rule (names_in names) r
+first_refused a b rule key names rest name r is e h =
+    subst (λ (ns : List (Bor (List ℕ))). RefusesPavings a b rule (names_in ns) r) (sym e)
+    (inl (by_key (λ i x. RefusesFile a b i x name.now r) (identity_of rule) (search_box rule) key is.identity is.root h))

@@ -13,7 +13,8 @@ use Rattle.clap.specs.Takes.{is_given}
 use Rattle.std.specs.List.{list_any}
 use Rattle.clap.specs.declared.error.kind.ErrorKind.TheVariants as kind
 use Rattle.pv_cli.specs.Commands.{paver_app}
-use Rattle.pv_cli.specs.Requests.{Command, checks, runs, resumes, merges, audits, draws, samples, name_of}
+use Rattle.pv_cli.specs.declared.request.Form.TheVariants.{Natural, Centered}
+use Rattle.pv_cli.specs.Requests.{Command, checks, runs, resumes, merges, audits, draws, samples, seeks, name_of}
 
 pub record IsACommand (name : Text) : Type 0 where
   pub command : Command
@@ -61,10 +62,14 @@ entered_among : (a : App) (stop : Option (Text × List Text)) → IsFoundIn (map
 entered_among a None = tt
 entered_among a (Some p) = found_among (λ s. answers_to p.0 (label_of s)) a.subs p.1
 
-abbrev seven_names : List Text
-seven_names = codes "check" ∷ codes "run" ∷ codes "resume" ∷ codes "merge" ∷ codes "audit" ∷ codes "svg" ∷ codes "sample" ∷ []
+-- each command
+abbrev commands : List Command
+commands = checks ∷ runs Natural ∷ resumes ∷ merges ∷ audits Natural ∷ draws ∷ samples ∷ runs Centered ∷ audits Centered ∷ seeks ∷ []
 
-names_are : map (λ (s : Shape). s.name) (built paver_app).subs ≡ seven_names
+abbrev all_names : List Text
+all_names = map name_of commands
+
+names_are : map (λ (s : Shape). s.name) (built paver_app).subs ≡ all_names
 unfolding clap_on_literals paver_app
 names_are = refl
 
@@ -72,19 +77,14 @@ needs_one : (built paver_app).top.subcommand_required ≡ true
 unfolding clap_on_literals paver_app
 needs_one = refl
 
-is_a_command : (name : Text) → IsAmongNames name seven_names → IsACommand name
-is_a_command name (inl e) = record { command = checks; named = e }
-is_a_command name (inr (inl e)) = record { command = runs; named = e }
-is_a_command name (inr (inr (inl e))) = record { command = resumes; named = e }
-is_a_command name (inr (inr (inr (inl e)))) = record { command = merges; named = e }
-is_a_command name (inr (inr (inr (inr (inl e))))) = record { command = audits; named = e }
-is_a_command name (inr (inr (inr (inr (inr (inl e)))))) = record { command = draws; named = e }
-is_a_command name (inr (inr (inr (inr (inr (inr (inl e))))))) = record { command = samples; named = e }
-is_a_command name (inr (inr (inr (inr (inr (inr (inr none))))))) = absurd none
+is_a_command : (name : Text) (cs : List Command) → IsAmongNames name (map name_of cs) → IsACommand name
+is_a_command name [] none = absurd none
+is_a_command name (c ∷ cs) (inl e) = record { command = c; named = e }
+is_a_command name (c ∷ cs) (inr more) = is_a_command name cs more
 
-is_known : (o : Option (Text × List Row)) → is_some o ≡ true → IsFoundIn seven_names o → IsKnown o
+is_known : (o : Option (Text × List Row)) → is_some o ≡ true → IsFoundIn all_names o → IsKnown o
 is_known None e h = absurd (cc)
-is_known (Some p) e h = is_a_command p.0 h
+is_known (Some p) e h = is_a_command p.0 commands h
 
 level_meets : (s : Shape) (names : Names) (h : Held) (words : List Text) (has : Bool) (below : Kinds) → s.subcommand_required ≡ true
     → level_fault s names h words has below ≡ [] → has ≡ true

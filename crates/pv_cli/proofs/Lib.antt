@@ -7,6 +7,8 @@ pub mod Widths
 pub mod Counts
 pub mod Ends
 pub mod Inside
+pub mod HonestStages
+pub mod Spelled
 pub mod Joined
 pub mod Earlier
 pub mod Refused
@@ -17,3 +19,4 @@ pub mod Drawn
 pub mod Planes
 pub mod Few
 pub mod Sampled
+pub mod Searched

@@ -60,8 +60,8 @@ with_out a = with_option (codes "out") a
 abbrev pub check_app : App
 check_app = system_app (codes "check")
 
-abbrev pub run_app : App
-run_app = with_out (with_effort (with_settings (system_app (codes "run"))))
+abbrev pub run_app : Text → App
+run_app name = with_out (with_effort (with_settings (system_app name)))
 
 abbrev pub resume_app : App
 resume_app = with_out (with_effort (with_settings (pavings_app (codes "resume"))))
@@ -69,8 +69,8 @@ resume_app = with_out (with_effort (with_settings (pavings_app (codes "resume"))
 abbrev pub merge_app : App
 merge_app = with_out (with_settings (pavings_app (codes "merge")))
 
-abbrev pub audit_app : App
-audit_app = with_settings (paving_app (codes "audit"))
+abbrev pub audit_app : Text → App
+audit_app name = with_settings (paving_app name)
 
 abbrev pub svg_app : App
 svg_app = with_option (codes "at") (with_needed (codes "y") (with_needed (codes "x") (with_settings (paving_app (codes "svg")))))
@@ -78,7 +78,20 @@ svg_app = with_option (codes "at") (with_needed (codes "y") (with_needed (codes 
 abbrev pub sample_app : App
 sample_app = with_needed (codes "count") (with_needed (codes "seed") (bare_app (codes "sample")))
 
+abbrev pub least_app : App
+least_app = with_needed (codes "of") (with_option (codes "boxes") (with_settings (system_app (codes "least"))))
+
+-- the command with one more subcommand
+abbrev pub with_command : App → App → App
+with_command app sub = with_subcommand app sub.top
+
+abbrev pub paving_commands : App → App
+paving_commands a =
+    with_command (with_command (with_command (with_command (with_command (with_command (with_command a check_app) (run_app (codes "run")))
+    resume_app) merge_app) (audit_app (codes "audit"))) svg_app) sample_app
+
+abbrev pub further_commands : App → App
+further_commands a = with_command (with_command (with_command a (run_app (codes "run-centered"))) (audit_app (codes "audit-centered"))) least_app
+
 unfoldable pub paver_app : App
-paver_app =
-    with_subcommand (with_subcommand (with_subcommand (with_subcommand (with_subcommand (with_subcommand (with_subcommand top_app
-    check_app.top) run_app.top) resume_app.top) merge_app.top) audit_app.top) svg_app.top) sample_app.top
+paver_app = further_commands (paving_commands top_app)

@@ -21,14 +21,18 @@ use Rattle.pv_cli.specs.declared.refusal.Refusal.TheVariants.{Paving, Memory, Di
 
 -- ---- One file
 
--- the file of this name holds at most 70,000,000 bytes: the text, in one of the versions, of this paving of the
--- search box, for the system and its settings, with at most 100,000 settled nodes
-pub record HasPaving (before : Files) (rule : SettlerParts) (name : List ℕ) (t : Tree) : Type 0 where
+-- the file of this name holds at most 70,000,000 bytes: the text, in one of the versions, of this paving of the box,
+-- for the identity, with at most 100,000 settled nodes
+pub record HoldsPaving (before : Files) (identity : List ℕ) (b : List Bounds) (name : List ℕ) (t : Tree) : Type 0 where
   pub bytes : List ℕ
   pub fetched : IsWhole (before.content name) 70000000 bytes
-  pub text : IsTextOf bytes (identity_of rule) (search_box rule) t
-  pub paving : IsPavingInFormat (search_box rule) t
+  pub text : IsTextOf bytes identity b t
+  pub paving : IsPavingInFormat b t
   pub few : settled_in t ≤ 100000
+
+-- the same of the search box, for the system and its settings
+abbrev pub HasPaving : Files → SettlerParts → List ℕ → Tree → Type 0
+HasPaving before rule name t = HoldsPaving before (identity_of rule) (search_box rule) name t
 
 -- the file holds other bytes, of which this is said
 pub record HoldsOther (before : Files) (name : List ℕ) (says : List ℕ → Type 0) : Type 0 where
@@ -41,19 +45,20 @@ pub record HoldsLong (before : Files) (name : List ℕ) : Type 0 where
   pub long : IsTooLong (before.content name) 70000000 bytes
 
 -- what is wrong with the file of this name
-abbrev pub HasFileFault : Files → SettlerParts → List ℕ → FileFault → Type 0
-HasFileFault before rule name TooLong = HoldsLong before name
-HasFileFault before rule name WrongIdentity =
-    HoldsOther before name (λ bytes. HasOtherIdentity bytes (identity_of rule) (search_box rule))
-HasFileFault before rule name (BadLine n) =
-    HoldsOther before name (λ bytes. IsFirstBadLine n bytes (identity_of rule) (search_box rule))
-HasFileFault before rule name (TooManyNodes n) =
-    HoldsOther before name (λ bytes. IsOneTooMany n bytes (identity_of rule) (search_box rule))
+abbrev pub HasFileFault : Files → List ℕ → List Bounds → List ℕ → FileFault → Type 0
+HasFileFault before identity b name TooLong = HoldsLong before name
+HasFileFault before identity b name WrongIdentity = HoldsOther before name (λ bytes. HasOtherIdentity bytes identity b)
+HasFileFault before identity b name (BadLine n) = HoldsOther before name (λ bytes. IsFirstBadLine n bytes identity b)
+HasFileFault before identity b name (TooManyNodes n) = HoldsOther before name (λ bytes. IsOneTooMany n bytes identity b)
 
--- why the file of this name gives no paving
+-- why the file of this name gives no paving of the box
+abbrev pub RefusesFile : Files → Files → List ℕ → List Bounds → List ℕ → Refusal → Type 0
+RefusesFile before after identity b name (Paving n fault) = (n.now ≡ name) × HasFileFault before identity b name fault
+RefusesFile before after identity b name r = RefusesFetch before after name r
+
+-- why it gives none of the search box
 abbrev pub RefusesPaving : Files → Files → SettlerParts → List ℕ → Refusal → Type 0
-RefusesPaving before after rule name (Paving n fault) = (n.now ≡ name) × HasFileFault before rule name fault
-RefusesPaving before after rule name r = RefusesFetch before after name r
+RefusesPaving before after rule name r = RefusesFile before after (identity_of rule) (search_box rule) name r
 
 -- ---- Several files
 

@@ -7,6 +7,9 @@ pub mod Systems
 pub mod Files
 pub mod Pavings
 pub mod Views
+pub mod Forms
+pub mod FormSettlers
+pub mod Leasts
 pub mod Products
 pub mod Made
 pub mod Ends
@@ -16,5 +19,6 @@ pub mod Scenes
 pub mod Samples
 pub mod Telling
 pub mod Resumed
+pub mod Audited
 pub mod Merges
 pub mod StatusLaws

@@ -1,5 +1,5 @@
 -- What comes of a command's work.
-use Rattle.std.specs.Prelude.{◌≡◌, ◌≢◌, ◌⊎◌, ◌<◌, ◌≤◌, ◌+◌, ◌++◌, ◌∷◌, ℕ, pos, Bool, List, [], Option, Some, None, codes, decimal, length}
+use Rattle.std.specs.Prelude.{if◌then◌else◌, ◌≡◌, ◌≢◌, ◌⊎◌, ◌<◌, ◌≤◌, ◌+◌, ◌++◌, ◌∷◌, ℕ, pos, Bool, List, [], Option, Some, None, codes, decimal, length}
 use Rattle.hex.specs.Hex.{encode_lower}
 use Rattle.sha2.specs.Sha256.{sha256}
 use Rattle.clap.specs.Words.{Text}
@@ -17,7 +17,7 @@ use Rattle.pv_settle.specs.Rules.{SettlerParts}
 use Rattle.pv_settle.specs.Settling.{settle_by, is_member}
 use Rattle.pv_settle.specs.Spelling.{identity_of}
 use Rattle.pv_tree.specs.Trees.{Tree, leaf, opens, counts_of, settled_of, IsPaving}
-use Rattle.pv_tree.specs.Stages.{IsStage, full_of}
+use Rattle.pv_tree.specs.Stages.{Rule, IsStage, full_of}
 use Rattle.pv_tree.specs.Sets.{IsSound, Covers}
 use Rattle.pv_tree.specs.declared.outcome.Counts.{Counts}
 use Rattle.pv_join.specs.Audits.{IsFirstDifference, due_at}
@@ -31,20 +31,26 @@ use Rattle.pv_svg.specs.Planes.{Plane}
 use Rattle.pv_svg.specs.Rectangles.{picture_of}
 use Rattle.pv_svg.specs.Texts.{picture_text}
 use Rattle.pv_cli.specs.Views.{IsPlaneOf, HasNoPlane, IsSoundFor}
-use Rattle.pv_cli.specs.Files.{HasPaving, RefusesPaving, AllTrees, HasOpening, HasBadFile, RefusesOpening}
+use Rattle.pv_cli.specs.Leasts.{HasLeast, RefusesLeast, least_text}
+use Rattle.pv_cli.specs.Forms.{settle_as, identity_as}
+use Rattle.pv_cli.specs.Files.{HoldsPaving, HasPaving, RefusesFile, RefusesPaving, AllTrees, HasOpening, RefusesOpening}
+use Rattle.pv_cli.specs.declared.request.Form.{Form}
 use Rattle.pv_cli.specs.declared.request.Settings.{Settings}
 use Rattle.pv_cli.specs.declared.request.View.{View}
 use Rattle.pv_cli.specs.declared.request.Circles.{Circles}
+use Rattle.pv_cli.specs.declared.request.Search.{Search}
+use Rattle.pv_least.specs.declared.found.Least as known
 use Rattle.pv_cli.specs.declared.request.Request.{Request}
-use Rattle.pv_cli.specs.declared.request.Request.TheVariants.{Check, Run, Resume, Merge, Audit, Svg, Sample}
+use Rattle.pv_cli.specs.declared.request.Request.TheVariants.{Check, Run, Resume, Merge, Audit, Svg, Sample, Least}
 use Rattle.pv_cli.specs.declared.refusal.Refusal.{Refusal}
 use Rattle.pv_cli.specs.declared.refusal.Refusal.TheVariants.{Usage, System, Contract, Memory, TreeLimit, Differs}
 use Rattle.pv_cli.specs.declared.status.Status.{Status}
 use Rattle.pv_cli.specs.declared.status.Status.TheVariants.{Done, OpenLeft}
 
--- a text, or a paving of a box for an identity
+-- a text, one of a search that was cut short, or a paving of a box for an identity
 pub data Product : Type 0 where
   text : List ℕ → Product
+  unfinished : List ℕ → Product
   paved : List ℕ → List Bounds → Tree → Product
 
 unfoldable pub summary_of : Counts → List ℕ
@@ -55,12 +61,14 @@ summary_of c =
 -- what is printed of it: a paving's summary, and where no file is asked for its nodes' lines
 abbrev pub printed_of : Option Text → Product → List ℕ
 printed_of out (text t) = t
+printed_of out (unfinished t) = t
 printed_of None (paved identity b t) = summary_of (counts_of t) ++ lines_of One b t
 printed_of (Some name) (paved identity b t) = summary_of (counts_of t)
 
--- the status with which the command ends that delivered it: 1 says that a leaf is open
+-- the status with which the command ends that delivered it: 1 says that a leaf is open, or that a search was cut short
 abbrev pub HasStatus : Product → Status → Type 0
 HasStatus (text t) s = s ≡ Done
+HasStatus (unfinished t) s = s ≡ OpenLeft
 HasStatus (paved identity b t) s = ((s ≡ Done) × (opens t ≡ [])) ⊎ ((s ≡ OpenLeft) × (opens t ≢ []))
 
 -- ---- What is said of pavings
@@ -68,12 +76,16 @@ HasStatus (paved identity b t) s = ((s ≡ Done) × (opens t ≡ [])) ⊎ ((s �
 -- The paving is a stage of the open search box: so it covers the box, it is sound for the set that the program
 -- speaks of, and without an open leaf it is the full tree. By the default program every constraint holds at each
 -- rational point of each inner box.
-pub record IsHonest (s : Settings) (rule : SettlerParts) (t : Tree) : Type 0 where
-  pub stage : IsStage (settle_by rule) rule.depth (search_box rule) leaf t
+pub record IsHonestBy (settle : Rule) (s : Settings) (rule : SettlerParts) (t : Tree) : Type 0 where
+  pub stage : IsStage settle rule.depth (search_box rule) leaf t
   pub covers : Covers (search_box rule) t
   pub sound : IsSound (is_member rule) (search_box rule) t
-  pub whole : opens t ≡ [] → t ≡ full_of (settle_by rule) rule.depth (search_box rule) leaf 0
+  pub whole : opens t ≡ [] → t ≡ full_of settle rule.depth (search_box rule) leaf 0
   pub by_default : s.contract.now ≡ codes "prop(8)" → HoldInside rule.system.constraints t
+
+-- the same where boxes are settled by the intervals of the sides
+abbrev pub IsHonest : Settings → SettlerParts → Tree → Type 0
+IsHonest s rule t = IsHonestBy (settle_by rule) s rule t
 
 -- the premise on files: each is a stage of the open search box, as all are that this program wrote for the system
 -- and its settings; `audit` decides it
@@ -88,14 +100,14 @@ pub record ComesOfCheck (before : Files) (system : Text) (p : Product) : Type 0 
   pub read : HasSystem before system parts
   pub is : p ≡ text (canonical_text parts)
 
--- `run` gives what the budget settles of the open search box
-pub record ComesOfRun (before : Files) (system : Text) (s : Settings) (budget : ℕ) (p : Product) : Type 0 where
+-- `run` and `run-centered` give what the budget settles of the open search box
+pub record ComesOfRun (form : Form) (before : Files) (system : Text) (s : Settings) (budget : ℕ) (p : Product) : Type 0 where
   pub rule : SettlerParts
   pub read : HasRule before system s rule
   pub tree : Tree
-  pub run : IsPaved (settle_by rule) rule.depth (search_box rule) leaf budget tree
-  pub honest : IsHonest s rule tree
-  pub is : p ≡ paved (identity_of rule) (search_box rule) tree
+  pub run : IsPaved (settle_as form rule) rule.depth (search_box rule) leaf budget tree
+  pub honest : IsHonestBy (settle_as form rule) s rule tree
+  pub is : p ≡ paved (identity_as form rule) (search_box rule) tree
 
 -- `resume` gives what the budget settles of the join of the files
 pub record ComesOfResume (before : Files) (system : Text) (names : List Text) (s : Settings) (budget : ℕ) (p : Product) : Type 0 where
@@ -120,13 +132,13 @@ pub record ComesOfMerge (before : Files) (system : Text) (names : List Text) (s 
   pub honest : AreStages rule trees → IsHonest s rule tree
   pub is : p ≡ paved (identity_of rule) (search_box rule) tree
 
--- `audit` says that the file's paving is a stage of the open search box
-pub record ComesOfAudit (before : Files) (system name : Text) (s : Settings) (p : Product) : Type 0 where
+-- `audit` and `audit-centered` say that the file's paving is a stage of the open search box
+pub record ComesOfAudit (form : Form) (before : Files) (system name : Text) (s : Settings) (p : Product) : Type 0 where
   pub rule : SettlerParts
   pub read : HasRule before system s rule
   pub tree : Tree
-  pub held : HasPaving before rule name tree
-  pub honest : IsHonest s rule tree
+  pub held : HoldsPaving before (identity_as form rule) (search_box rule) name tree
+  pub honest : IsHonestBy (settle_as form rule) s rule tree
   pub is : p ≡ text (codes "honest" ++ 10 ∷ [])
 
 -- `svg` gives the picture of the file's paving on a plane. Where the paving is a stage of the open search box, the
@@ -142,6 +154,9 @@ pub record ComesOfSvg (before : Files) (system name : Text) (s : Settings) (v : 
   pub is : p ≡ text (picture_text (picture_of plane (search_box rule) tree))
 
 -- the full tree of what a rule begins with
+abbrev pub full_as : Form → SettlerParts → Tree → Tree
+full_as form rule opening = full_of (settle_as form rule) rule.depth (search_box rule) opening 0
+
 abbrev pub full_by : SettlerParts → Tree → Tree
 full_by rule opening = full_of (settle_by rule) rule.depth (search_box rule) opening 0
 
@@ -173,16 +188,27 @@ pub record ComesOfSample (c : Circles) (p : Product) : Type 0 where
   pub honest : IsHonest settings rule (full_by rule leaf)
   pub is : p ≡ text (report_of c (identity_of rule) (search_box rule) (full_by rule leaf))
 
+-- the text of a search, which was cut short unless it is done
+abbrev pub report_as : List ℕ → Bool → Product
+report_as t done = if done then text t else unfinished t
+
+-- `least` reports what is found of the least value of an expression over the system's set
+pub record ComesOfLeast (before : Files) (system : Text) (s : Settings) (search : Search) (p : Product) : Type 0 where
+  pub least : known.Least
+  pub found : HasLeast before system s search least
+  pub is : p ≡ report_as (least_text least) least.done
+
 -- what comes of a request
 abbrev pub ComesOf : Files → Request → Product → Type 0
 ComesOf before (Check system) p = ComesOfCheck before system.now p
-ComesOf before (Run system settings effort out) p = ComesOfRun before system.now settings effort.boxes p
+ComesOf before (Run form system settings effort out) p = ComesOfRun form before system.now settings effort.boxes p
 ComesOf before (Resume system pavings settings effort out) p =
     ComesOfResume before system.now (names_in pavings.items) settings effort.boxes p
 ComesOf before (Merge system pavings settings out) p = ComesOfMerge before system.now (names_in pavings.items) settings p
-ComesOf before (Audit system paving settings) p = ComesOfAudit before system.now paving.now settings p
+ComesOf before (Audit form system paving settings) p = ComesOfAudit form before system.now paving.now settings p
 ComesOf before (Svg system paving settings view) p = ComesOfSvg before system.now paving.now settings view p
 ComesOf before (Sample circles) p = ComesOfSample circles p
+ComesOf before (Least system settings search) p = ComesOfLeast before system.now settings search p
 
 -- ---- Why nothing comes of them
 
@@ -201,19 +227,25 @@ RefusesJoined before after system names s budget r = RefusesOpening before after
 
 -- The file's paving is no stage of the open search box: at this path, the first such one in preorder, its outcome
 -- is not the one that is due there. Both are given by their lines.
-pub record HasDifference (before : Files) (system name : Text) (s : Settings) (path : List Bool) (file due : List ℕ) : Type 0 where
+pub record HasDifference (form : Form) (before : Files) (system name : Text) (s : Settings) (path : List Bool) (file due : List ℕ) : Type 0 where
   pub rule : SettlerParts
   pub read : HasRule before system s rule
   pub tree : Tree
-  pub held : HasPaving before rule name tree
-  pub first : IsFirstDifference (settle_by rule) rule.depth (search_box rule) tree path
+  pub held : HoldsPaving before (identity_as form rule) (search_box rule) name tree
+  pub first : IsFirstDifference (settle_as form rule) rule.depth (search_box rule) tree path
   pub file_is : file ≡ outcome_line first.found
-  pub due_is : due ≡ outcome_line (due_at (settle_by rule) rule.depth (search_box rule) tree path)
-  pub no_stage : IsStage (settle_by rule) rule.depth (search_box rule) leaf tree → ⊥
+  pub due_is : due ≡ outcome_line (due_at (settle_as form rule) rule.depth (search_box rule) tree path)
+  pub no_stage : IsStage (settle_as form rule) rule.depth (search_box rule) leaf tree → ⊥
 
-abbrev pub RefusesAudit : Files → Files → Text → Text → Settings → Refusal → Type 0
-RefusesAudit before after system name s (Differs path file due) = HasDifference before system name s path file.items due.items
-RefusesAudit before after system name s r = RefusesRule before after system s r ⊎ HasBadFile before after system (name ∷ []) s r
+-- the system is there, and the file is refused
+pub record HasBadPaving (form : Form) (before after : Files) (system name : Text) (s : Settings) (r : Refusal) : Type 0 where
+  pub rule : SettlerParts
+  pub read : HasRule before system s rule
+  pub refused : RefusesFile before after (identity_as form rule) (search_box rule) name r
+
+abbrev pub RefusesAudit : Form → Files → Files → Text → Text → Settings → Refusal → Type 0
+RefusesAudit form before after system name s (Differs path file due) = HasDifference form before system name s path file.items due.items
+RefusesAudit form before after system name s r = RefusesRule before after system s r ⊎ HasBadPaving form before after system name s r
 
 -- the system has no such plane
 pub record HasNoPlaneIn (before : Files) (system : Text) (s : Settings) (v : View) : Type 0 where
@@ -249,11 +281,12 @@ RefusesSample c _ = ⊥
 
 abbrev pub RefusesWork : Files → Files → Request → Refusal → Type 0
 RefusesWork before after (Check system) r = RefusesSystem before after system.now r
-RefusesWork before after (Run system settings effort out) r = RefusesRule before after system.now settings r
+RefusesWork before after (Run form system settings effort out) r = RefusesRule before after system.now settings r
 RefusesWork before after (Resume system pavings settings effort out) r =
     RefusesJoined before after system.now (names_in pavings.items) settings effort.boxes r
 RefusesWork before after (Merge system pavings settings out) r =
     RefusesJoined before after system.now (names_in pavings.items) settings 0 r
-RefusesWork before after (Audit system paving settings) r = RefusesAudit before after system.now paving.now settings r
+RefusesWork before after (Audit form system paving settings) r = RefusesAudit form before after system.now paving.now settings r
 RefusesWork before after (Svg system paving settings view) r = RefusesSvg before after system.now paving.now settings view r
 RefusesWork before after (Sample circles) r = RefusesSample circles r
+RefusesWork before after (Least system settings search) r = RefusesLeast before after system.now settings search.of.now r

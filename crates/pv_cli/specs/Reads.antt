@@ -15,10 +15,14 @@ use Rattle.pv_cli.specs.declared.refusal.Refusal.{Refusal}
 use Rattle.pv_cli.specs.declared.refusal.Refusal.TheVariants.{Disagree, Differs, Memory}
 use Rattle.pv_cli.specs.declared.pavings.Key.{Key}
 
+-- the key of the paving files of a box, for an identity
+pub record IsKey (hash : List ℕ) (b : List Bounds) (key : Key) : Type 0 where
+  pub identity : key.identity ≡ hash
+  pub root : key.root ≡ b
+
 -- the key of a rule's paving files
-pub record IsKeyOf (rule : SettlerParts) (key : Key) : Type 0 where
-  pub identity : key.identity ≡ identity_of rule
-  pub root : key.root ≡ search_box rule
+abbrev pub IsKeyOf : SettlerParts → Key → Type 0
+IsKeyOf rule key = IsKey (identity_of rule) (search_box rule) key
 
 abbrev pub trees_of : List Seen → List Tree
 trees_of = map (λ p. p.tree)

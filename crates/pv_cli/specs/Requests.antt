@@ -11,12 +11,15 @@ use Rattle.pv_box.specs.declared.choice.Bisector.{Bisector}
 use Rattle.pv_box.specs.declared.choice.Bisector.TheVariants.{Largest, Round}
 use Rattle.pv_tokens.specs.Numbers.{IsRead}
 use Rattle.pv_cli.specs.Commands.{paver_app}
+use Rattle.pv_cli.specs.declared.request.Form.{Form}
+use Rattle.pv_cli.specs.declared.request.Form.TheVariants.{Natural, Centered}
 use Rattle.pv_cli.specs.declared.request.Settings.{Settings}
 use Rattle.pv_cli.specs.declared.request.Effort.{Effort}
 use Rattle.pv_cli.specs.declared.request.View.{View}
 use Rattle.pv_cli.specs.declared.request.Circles.{Circles}
+use Rattle.pv_cli.specs.declared.request.Search.{Search}
 use Rattle.pv_cli.specs.declared.request.Request.{Request}
-use Rattle.pv_cli.specs.declared.request.Request.TheVariants.{Check, Run, Resume, Merge, Audit, Svg, Sample}
+use Rattle.pv_cli.specs.declared.request.Request.TheVariants.{Check, Run, Resume, Merge, Audit, Svg, Sample, Least}
 
 -- one to ten digits, and the number that they write
 pub record IsDigits (t : Text) (n : ℕ) : Type 0 where
@@ -146,6 +149,11 @@ pub record AreCircles (rows : List Row) (c : Circles) : Type 0 where
   pub seed : IsCount 0 2147483647 (seed_text rows) c.seed
   pub count : IsCount 1 16 (count_text rows) c.count
 
+-- the expression and the budget that the options give
+pub record IsSearch (rows : List Row) (s : Search) : Type 0 where
+  pub of : s.of.now ≡ value_of (codes "of") [] rows
+  pub boxes : IsCount 1 100000 (boxes_text rows) s.boxes
+
 -- a number of `--at` has another spelling
 abbrev pub HasBadLevels : List Row → Type 0
 HasBadLevels rows = (ns : List Extended) → AreGiven rows ns → ⊥
@@ -161,6 +169,10 @@ pub data HasBadEffort (rows : List Row) : Type 0 where
   bad_workers : ((n : ℕ) → IsCount 1 16 (workers_text rows) n → ⊥) → HasBadEffort rows
   bad_boxes : ((n : ℕ) → IsCount 1 100000 (boxes_text rows) n → ⊥) → HasBadEffort rows
 
+-- so is the budget of a search
+abbrev pub HasBadBudget : List Row → Type 0
+HasBadBudget rows = (n : ℕ) → IsCount 1 100000 (boxes_text rows) n → ⊥
+
 -- so is a number of a sample
 pub data HasBadCircles (rows : List Row) : Type 0 where
   bad_seed : ((n : ℕ) → IsCount 0 2147483647 (seed_text rows) n → ⊥) → HasBadCircles rows
@@ -172,33 +184,44 @@ HasManyPavings rows = 8 < length (paving_names rows)
 
 -- ---- The commands
 
+abbrev pub run_name : Form → Text
+run_name Natural = codes "run"
+run_name Centered = codes "run-centered"
+
+abbrev pub audit_name : Form → Text
+audit_name Natural = codes "audit"
+audit_name Centered = codes "audit-centered"
+
 pub data Command : Type 0 where
   checks : Command
-  runs : Command
+  runs : Form → Command
   resumes : Command
   merges : Command
-  audits : Command
+  audits : Form → Command
   draws : Command
   samples : Command
+  seeks : Command
 
 abbrev pub name_of : Command → Text
 name_of checks = codes "check"
-name_of runs = codes "run"
+name_of (runs form) = run_name form
 name_of resumes = codes "resume"
 name_of merges = codes "merge"
-name_of audits = codes "audit"
+name_of (audits form) = audit_name form
 name_of draws = codes "svg"
 name_of samples = codes "sample"
+name_of seeks = codes "least"
 
 -- a value is refused that the command takes
 abbrev pub HasBadValueFor : Command → List Row → Type 0
 HasBadValueFor checks rows = ⊥
-HasBadValueFor runs rows = HasBadSetting rows ⊎ HasBadEffort rows
+HasBadValueFor (runs form) rows = HasBadSetting rows ⊎ HasBadEffort rows
 HasBadValueFor resumes rows = HasManyPavings rows ⊎ (HasBadSetting rows ⊎ HasBadEffort rows)
 HasBadValueFor merges rows = HasManyPavings rows ⊎ HasBadSetting rows
-HasBadValueFor audits rows = HasBadSetting rows
+HasBadValueFor (audits form) rows = HasBadSetting rows
 HasBadValueFor draws rows = HasBadLevels rows ⊎ HasBadSetting rows
 HasBadValueFor samples rows = HasBadCircles rows
+HasBadValueFor seeks rows = HasBadSetting rows ⊎ HasBadBudget rows
 
 -- so it is for the command of this name
 pub record HasBadValue (name : Text) (rows : List Row) : Type 0 where
@@ -209,21 +232,23 @@ pub record HasBadValue (name : Text) (rows : List Row) : Type 0 where
 -- the command of this name, with what was found for its words and options, asks for this
 abbrev pub IsAskedBy : Text → List Row → Request → Type 0
 IsAskedBy command rows (Check system) = (command ≡ codes "check") × (system.now ≡ system_name rows)
-IsAskedBy command rows (Run system settings effort out) =
-    (command ≡ codes "run") × (system.now ≡ system_name rows) × AreSettings rows settings × IsEffort rows effort × IsOut rows out
+IsAskedBy command rows (Run form system settings effort out) =
+    (command ≡ run_name form) × (system.now ≡ system_name rows) × AreSettings rows settings × IsEffort rows effort × IsOut rows out
 IsAskedBy command rows (Resume system pavings settings effort out) =
     (command ≡ codes "resume") × (system.now ≡ system_name rows) × ArePavings rows pavings.items × AreSettings rows settings
     × IsEffort rows effort × IsOut rows out
 IsAskedBy command rows (Merge system pavings settings out) =
     (command ≡ codes "merge") × (system.now ≡ system_name rows) × ArePavings rows pavings.items × AreSettings rows settings
     × IsOut rows out
-IsAskedBy command rows (Audit system paving settings) =
-    (command ≡ codes "audit") × (system.now ≡ system_name rows) × (paving.now ≡ value_of (codes "PAVING") [] rows)
+IsAskedBy command rows (Audit form system paving settings) =
+    (command ≡ audit_name form) × (system.now ≡ system_name rows) × (paving.now ≡ value_of (codes "PAVING") [] rows)
     × AreSettings rows settings
 IsAskedBy command rows (Svg system paving settings view) =
     (command ≡ codes "svg") × (system.now ≡ system_name rows) × (paving.now ≡ value_of (codes "PAVING") [] rows)
     × AreSettings rows settings × IsView rows view
 IsAskedBy command rows (Sample circles) = (command ≡ codes "sample") × AreCircles rows circles
+IsAskedBy command rows (Least system settings search) =
+    (command ≡ codes "least") × (system.now ≡ system_name rows) × AreSettings rows settings × IsSearch rows search
 
 abbrev pub IsAsked : Option (Text × List Row) → Request → Type 0
 IsAsked None q = ⊥
@@ -244,9 +269,10 @@ AreRefused words = (fault_of paver_app words ≢ []) ⊎ HasBadValueIn (subcomma
 -- the file that is asked for
 abbrev pub out_of : Request → Option Text
 out_of (Check system) = None
-out_of (Run system settings effort out) = option_map (λ name. name.now) out
+out_of (Run form system settings effort out) = option_map (λ name. name.now) out
 out_of (Resume system pavings settings effort out) = option_map (λ name. name.now) out
 out_of (Merge system pavings settings out) = option_map (λ name. name.now) out
-out_of (Audit system paving settings) = None
+out_of (Audit form system paving settings) = None
 out_of (Svg system paving settings view) = None
 out_of (Sample circles) = None
+out_of (Least system settings search) = None

@@ -1,19 +1,21 @@
-//! `audit`: settles again what a paving file says is settled.
-ghost use Rattle.std.specs.Prelude.{◌≡◌, IfOk, IfErr, IsSome};
+//! `audit` and `audit-centered`: settle again what a paving file says is settled.
+ghost use Rattle.std.specs.Prelude.{◌≡◌, IfOk, IfErr, IsSome, length};
 ghost use Rattle.pv_tree.specs.Trees.{outcome_at};
 ghost use Rattle.pv_file.specs.Lines.{outcome_line};
-ghost use Rattle.pv_cli.specs.Systems.{files, AreOnlyRead};
+ghost use Rattle.pv_settle.specs.Rules.{dims_of};
+ghost use Rattle.pv_cli.specs.Systems.{files, AreOnlyRead, search_box};
+ghost use Rattle.pv_cli.specs.FormSettlers.{form_of, parts_of};
+ghost use Rattle.pv_cli.specs.Audited.{IsFoundHonest, IsFoundOther};
 ghost use Rattle.pv_cli.specs.Products.{ComesOfAudit, RefusesAudit};
 ghost use Rattle.pv_cli.specs.Reads.{IsDiffers};
 ghost use Rattle.pv_cli.specs.Made.{made};
 
 use crate::Refusal;
-use crate::honest::learn_honest;
+use crate::form_settler::{FormSettler, form_settler_in};
 use crate::opening::line_at;
 use crate::pavings::{Key, paving_in};
 use crate::product::Product;
-use crate::request::Settings;
-use crate::system::settler_in;
+use crate::request::{Form, Settings};
 use pv_file::write_outcome;
 use pv_io::Folder;
 use pv_join::Audit;
@@ -21,10 +23,12 @@ use pv_num::Memory;
 use pv_tree::{Outcome, Path, Paving};
 use std::alloc::Global;
 
-/// Says that the paving in a file is a stage of the open search box of the system in another.
+/// Says that the paving in a file is a stage of the open search box of the system in another, where
+/// boxes are settled by a form of intervals.
 pub(crate) fn audit<'a, F: Folder>(
     alloc: Global,
     folder: &mut F,
+    form: Form,
     system: &'a str,
     name: &'a str,
     settings: &Settings<'a>,
@@ -33,30 +37,48 @@ pub(crate) fn audit<'a, F: Folder>(
         (files (F.content folder.old) (F.fetch_faults folder.old) (F.store_faults folder.old))
         (files (F.content folder.new) (F.fetch_faults folder.new) (F.store_faults folder.new)) }
     ensures comes { IfOk result
-        (λ p. ComesOfAudit
+        (λ p. ComesOfAudit form
         (files (F.content folder.old) (F.fetch_faults folder.old) (F.store_faults folder.old))
         system.now name.now settings.now (made p)) }
     ensures refused { IfErr result
-        (RefusesAudit (files (F.content folder.old) (F.fetch_faults folder.old)
+        (RefusesAudit form (files (F.content folder.old) (F.fetch_faults folder.old)
         (F.store_faults folder.old))
         (files (F.content folder.new) (F.fetch_faults folder.new) (F.store_faults folder.new))
         system.now name.now settings.now) }
 {
-    let settler = match settler_in(alloc, folder, system, settings) {
+    let settler = match form_settler_in(alloc, folder, form, system, settings) {
         Ok(settler) => settler,
         Err(refusal) => return Err(refusal),
     };
-    let key = Key::of(alloc, &settler)?;
+    let identity = settler.identity(alloc)?;
+    let root = settler.search_box(alloc)?;
+    let key = Key { identity, root };
     let paving = match paving_in(alloc, folder, &key, name) {
         Ok(paving) => paving,
         Err(refusal) => return Err(refusal),
     };
-    match pv_join::audit(alloc, &settler, &paving)? {
+    audited(alloc, &settler, &paving)
+}
+
+// Says that a paving of the search box is a stage of the open one.
+fn audited<'a>(
+    alloc: Global,
+    settler: &FormSettler,
+    paving: &Paving,
+) -> Result<Product, Refusal<'a>>
+    requires root { paving.now.root ≡ search_box (parts_of settler.now) }
+    requires dims { length paving.now.root ≡ dims_of (parts_of settler.now) }
+    ensures honest { IfOk result
+        (λ p. IsFoundHonest (form_of settler.now) (parts_of settler.now) paving.now.tree (made p)) }
+    ensures other { IfErr result
+        (IsFoundOther (form_of settler.now) (parts_of settler.now) paving.now.tree) }
+{
+    match settler.audit(alloc, paving)? {
         Audit::Honest => {
-            learn_honest(&paving, &settler);
+            settler.learn_honest(paving);
             Ok(Product::Text(Vec::from_slice(alloc, b"honest\n")?))
         }
-        Audit::DiffersAt { path, outcome } => Err(differs(alloc, &paving, path, &outcome)),
+        Audit::DiffersAt { path, outcome } => Err(differs(alloc, paving, path, &outcome)),
     }
 }
 

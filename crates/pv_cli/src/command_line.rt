@@ -15,6 +15,9 @@ ghost use Rattle.pv_cli.specs.Commands.{
   with_settings,
   with_effort,
   with_out,
+  with_command,
+  paving_commands,
+  further_commands,
   check_app,
   run_app,
   resume_app,
@@ -22,6 +25,7 @@ ghost use Rattle.pv_cli.specs.Commands.{
   audit_app,
   svg_app,
   sample_app,
+  least_app,
   paver_app,
 };
 
@@ -32,14 +36,42 @@ use std::alloc::{AllocError, Global};
 pub(crate) fn paver<'a>(alloc: Global) -> Result<Command<'a>, AllocError>
     ensures { IfOk result (λ c. app_of c ≡ paver_app) }
 {
-    top(alloc)
-        .subcommand(system(alloc, "check")?)?
-        .subcommand(run(alloc)?)?
-        .subcommand(resume(alloc)?)?
-        .subcommand(merge(alloc)?)?
-        .subcommand(audit(alloc)?)?
-        .subcommand(svg(alloc)?)?
-        .subcommand(sample(alloc)?)
+    let command = with_paving_commands(top(alloc), alloc)?;
+    with_further_commands(command, alloc)
+}
+
+fn with_paving_commands<'a>(command: Command<'a>, alloc: Global) -> Result<Command<'a>, AllocError>
+    ensures { IfOk result (λ c. app_of c ≡ paving_commands (app_of command.entry)) }
+{
+    let command = with_command(command, system(alloc, "check")?)?;
+    let command = with_command(command, run(alloc, "run")?)?;
+    let command = with_command(command, resume(alloc)?)?;
+    let command = with_command(command, merge(alloc)?)?;
+    let command = with_command(command, audit(alloc, "audit")?)?;
+    let command = with_command(command, svg(alloc)?)?;
+    with_command(command, sample(alloc)?)
+}
+
+fn with_further_commands<'a>(
+    command: Command<'a>,
+    alloc: Global,
+) -> Result<Command<'a>, AllocError>
+    ensures { IfOk result (λ c. app_of c ≡ further_commands (app_of command.entry)) }
+{
+    let command = with_command(command, run(alloc, "run-centered")?)?;
+    let command = with_command(command, audit(alloc, "audit-centered")?)?;
+    with_command(command, least(alloc)?)
+}
+
+fn with_command<'a>(
+    command: Command<'a>,
+    subcommand: Command<'a>,
+) -> Result<Command<'a>, AllocError>
+    requires { (out-Command subcommand).has_globals ≡ false }
+    ensures { IfOk result
+        (λ c. app_of c ≡ with_command (app_of command.entry) (app_of subcommand.entry)) }
+{
+    command.subcommand(subcommand)
 }
 
 // The program, without its commands.
@@ -51,11 +83,11 @@ fn top<'a>(alloc: Global) -> Command<'a>
         .subcommand_required(true)
 }
 
-fn run<'a>(alloc: Global) -> Result<Command<'a>, AllocError>
-    ensures app { IfOk result (λ c. app_of c ≡ run_app) }
+fn run<'a>(alloc: Global, name: &'a str) -> Result<Command<'a>, AllocError>
+    ensures app { IfOk result (λ c. app_of c ≡ run_app name.entry.now) }
     ensures local { IfOk result (λ c. (out-Command c).has_globals ≡ false) }
 {
-    let command = with_settings(system(alloc, "run")?, alloc)?;
+    let command = with_settings(system(alloc, name)?, alloc)?;
     with_option(with_effort(command, alloc)?, alloc, "out")
 }
 
@@ -75,11 +107,11 @@ fn merge<'a>(alloc: Global) -> Result<Command<'a>, AllocError>
     with_option(command, alloc, "out")
 }
 
-fn audit<'a>(alloc: Global) -> Result<Command<'a>, AllocError>
-    ensures app { IfOk result (λ c. app_of c ≡ audit_app) }
+fn audit<'a>(alloc: Global, name: &'a str) -> Result<Command<'a>, AllocError>
+    ensures app { IfOk result (λ c. app_of c ≡ audit_app name.entry.now) }
     ensures local { IfOk result (λ c. (out-Command c).has_globals ≡ false) }
 {
-    with_settings(paving(alloc, "audit")?, alloc)
+    with_settings(paving(alloc, name)?, alloc)
 }
 
 fn svg<'a>(alloc: Global) -> Result<Command<'a>, AllocError>
@@ -97,6 +129,14 @@ fn sample<'a>(alloc: Global) -> Result<Command<'a>, AllocError>
 {
     let command = with_needed(bare(alloc, "sample"), alloc, "seed")?;
     with_needed(command, alloc, "count")
+}
+
+fn least<'a>(alloc: Global) -> Result<Command<'a>, AllocError>
+    ensures app { IfOk result (λ c. app_of c ≡ least_app) }
+    ensures local { IfOk result (λ c. (out-Command c).has_globals ≡ false) }
+{
+    let command = with_settings(system(alloc, "least")?, alloc)?;
+    with_needed(with_option(command, alloc, "boxes")?, alloc, "of")
 }
 
 // A command that has nothing.

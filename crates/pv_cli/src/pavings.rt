@@ -5,7 +5,7 @@ ghost use Rattle.pv_settle.specs.Settlers.{rule_of};
 ghost use Rattle.pv_settle.specs.Rules.{SettlerParts};
 ghost use Rattle.pv_cli.specs.Requests.{names_in};
 ghost use Rattle.pv_cli.specs.Systems.{files, AreOnlyRead, search_box};
-ghost use Rattle.pv_cli.specs.Files.{HasPaving, RefusesPaving, RefusesPavings};
+ghost use Rattle.pv_cli.specs.Files.{HoldsPaving, RefusesFile, RefusesPavings};
 ghost use Rattle.pv_cli.specs.Reads.{trees_of, AreRead, IsKeyOf};
 
 use crate::{FileFault, Refusal};
@@ -23,8 +23,8 @@ const PAVING_LIMIT: u64 = 70_000_000;
 /// What the paving files of a system and its settings have in common.
 #[derive(Drop)]
 pub(crate) struct Key {
-    identity: [u8; 32],
-    root: IBox,
+    pub identity: [u8; 32],
+    pub root: IBox,
 }
 
 impl Key {
@@ -93,15 +93,13 @@ pub(crate) fn paving_in<'a, F: Folder>(
         (files (F.content folder.new) (F.fetch_faults folder.new) (F.store_faults folder.new)) }
     ensures root { IfOk result (λ p. p.root ≡ key.now.root) }
     ensures paving { IfOk result
-        (λ p. (rule : SettlerParts) → IsKeyOf rule key.now
-        → HasPaving (files (F.content folder.old) (F.fetch_faults folder.old)
-        (F.store_faults folder.old)) rule name.now p.tree) }
+        (λ p. HoldsPaving (files (F.content folder.old) (F.fetch_faults folder.old)
+        (F.store_faults folder.old)) key.now.identity key.now.root name.now p.tree) }
     ensures refused { IfErr result
-        (λ r. (rule : SettlerParts) → IsKeyOf rule key.now
-        → RefusesPaving
-        (files (F.content folder.old) (F.fetch_faults folder.old) (F.store_faults folder.old))
-        (files (F.content folder.new) (F.fetch_faults folder.new) (F.store_faults folder.new)) rule
-        name.now r) }
+        (RefusesFile (files (F.content folder.old) (F.fetch_faults folder.old)
+        (F.store_faults folder.old))
+        (files (F.content folder.new) (F.fetch_faults folder.new) (F.store_faults folder.new))
+        key.now.identity key.now.root name.now) }
 {
     let mut bytes = Vec::new(alloc);
     match folder.fetch(name, PAVING_LIMIT, &mut bytes) {

@@ -6,6 +6,15 @@ ghost use Rattle.pv_num.specs.Order.{le};
 use pv_box::Bisector;
 use pv_num::Num;
 
+/// By which intervals boxes are settled.
+#[derive(Clone, Copy, Debug, PartialEq, Eq)]
+pub enum Form {
+    /// By those of the constraints' sides.
+    Natural,
+    /// By centered forms, too.
+    Centered,
+}
+
 /// How boxes are settled.
 #[derive(Clone, Copy)]
 pub struct Settings<'a> {
@@ -49,6 +58,15 @@ pub struct Circles {
     ghost count_fits: { (1 ≤ count) × (count ≤ 16) },
 }
 
+/// Which expression's least value is sought, and how many boxes are settled for it at most.
+#[derive(Clone, Copy)]
+pub struct Search<'a> {
+    /// The text of the expression.
+    pub of: &'a str,
+    pub boxes: u64,
+    ghost boxes_fit: { (1 ≤ boxes) × (boxes ≤ 100000) },
+}
+
 /// What the words of a command ask for.
 #[derive(Drop)]
 pub enum Request<'a> {
@@ -58,6 +76,7 @@ pub enum Request<'a> {
     },
     /// Pave the search box of a system.
     Run {
+        form: Form,
         system: &'a str,
         settings: Settings<'a>,
         effort: Effort,
@@ -80,6 +99,7 @@ pub enum Request<'a> {
     },
     /// Settle again what a paving file says is settled.
     Audit {
+        form: Form,
         system: &'a str,
         paving: &'a str,
         settings: Settings<'a>,
@@ -94,5 +114,11 @@ pub enum Request<'a> {
     /// Pave a system that a number makes.
     Sample {
         circles: Circles,
+    },
+    /// Bound the least value of an expression over a system's set.
+    Least {
+        system: &'a str,
+        settings: Settings<'a>,
+        search: Search<'a>,
     },
 }

@@ -1,34 +1,32 @@
-//! `run`: a paving of the search box of a system.
+//! `run` and `run-centered`: a paving of the search box of a system.
 ghost use Rattle.std.specs.Prelude.{◌≡◌, IfOk, IfErr, length};
 ghost use Rattle.pv_tree.specs.Trees.{leaf};
-ghost use Rattle.pv_settle.specs.Settlers.{rule_of};
-ghost use Rattle.pv_settle.specs.Rules.{dims_of};
-ghost use Rattle.pv_settle.specs.Settling.{settle_by};
-ghost use Rattle.pv_cli.specs.Systems.{files, AreOnlyRead, RefusesRule, search_box};
+ghost use Rattle.pv_cli.specs.Systems.{files, AreOnlyRead, RefusesRule};
 ghost use Rattle.pv_cli.specs.Pavings.{IsPaved};
 ghost use Rattle.pv_cli.specs.Products.{ComesOfRun};
 ghost use Rattle.pv_cli.specs.Made.{made};
 
 use crate::Refusal;
-use crate::honest::learn_honest;
+use crate::form_settler::form_settler_in;
 use crate::product::Product;
-use crate::request::{Effort, Settings};
-use crate::system::settler_in;
+use crate::request::{Effort, Form, Settings};
+use pv_box::IBox;
 use pv_io::Folder;
 use pv_num::Memory;
 use pv_pool::Gate;
-use pv_settle::SystemSettler;
-use pv_tree::Paving;
+use pv_tree::{KnowingSettler, Paving};
 use pv_workers::pave_knowing;
 use std::alloc::Global;
 use std::sync::Wait;
 use std::thread::Threads;
 
-/// The paving of the search box of the system in a file, as far as the budget goes.
+/// The paving of the search box of the system in a file by a form of intervals, as far as the
+/// budget goes.
 pub(crate) fn run<'a, F: Folder, G: Gate + Sync, R: Threads + Wait + Sync>(
     rt: &R,
     alloc: Global,
     folder: &mut F,
+    form: Form,
     system: &'a str,
     settings: &Settings<'a>,
     effort: &Effort,
@@ -38,7 +36,7 @@ pub(crate) fn run<'a, F: Folder, G: Gate + Sync, R: Threads + Wait + Sync>(
         (files (F.content folder.old) (F.fetch_faults folder.old) (F.store_faults folder.old))
         (files (F.content folder.new) (F.fetch_faults folder.new) (F.store_faults folder.new)) }
     ensures comes { IfOk result
-        (λ p. ComesOfRun
+        (λ p. ComesOfRun form
         (files (F.content folder.old) (F.fetch_faults folder.old) (F.store_faults folder.old))
         system.now settings.now effort.now.boxes (made p)) }
     ensures refused { IfErr result
@@ -47,31 +45,35 @@ pub(crate) fn run<'a, F: Folder, G: Gate + Sync, R: Threads + Wait + Sync>(
         (files (F.content folder.new) (F.fetch_faults folder.new) (F.store_faults folder.new))
         system.now settings.now) }
 {
-    let settler = match settler_in(alloc, folder, system, settings) {
+    let settler = match form_settler_in(alloc, folder, form, system, settings) {
         Ok(settler) => settler,
         Err(refusal) => return Err(refusal),
     };
     let identity = settler.identity(alloc)?;
-    let paving = paved(rt, alloc, &settler, effort, gate)?;
-    learn_honest(&paving, &settler);
+    let root = settler.search_box(alloc)?;
+    let paving = settler.paved(rt, alloc, root, effort, gate)?;
+    settler.learn_honest(&paving);
     Ok(Product::Paved { identity, paving })
 }
 
-/// The paving of the search box of a settler's system, as far as the budget goes.
-pub(crate) fn paved<G: Gate + Sync, R: Threads + Wait + Sync>(
+/// What the budget settles of an open box.
+pub(crate) fn paved<S: KnowingSettler + Sync, G: Gate + Sync, R: Threads + Wait + Sync>(
     rt: &R,
     alloc: Global,
-    settler: &SystemSettler,
+    settler: &S,
+    root: IBox,
     effort: &Effort,
     gate: &G,
 ) -> Result<Paving, Memory>
-    ensures root { IfOk result (λ p. p.root ≡ search_box (rule_of settler.now)) }
+where
+    S::Room: Send,
+    S::Known: Send,
+    requires { length root ≡ S.dims settler.now }
+    ensures root { IfOk result (λ p. p.root ≡ root) }
     ensures paved { IfOk result
-        (λ p. IsPaved (settle_by (rule_of settler.now)) (rule_of settler.now).depth
-        (search_box (rule_of settler.now)) leaf effort.now.boxes p.tree) }
-    ensures dims { IfOk result (λ p. length p.root ≡ dims_of (rule_of settler.now)) }
+        (λ p. IsPaved (S.settle_of settler.now) (S.depth_of settler.now) root leaf effort.now.boxes
+        p.tree) }
 {
-    let root = settler.search_box(alloc)?;
     let opening = Paving::open(alloc, root)?;
     let paved = pave_knowing(
         rt,

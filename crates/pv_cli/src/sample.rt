@@ -76,7 +76,8 @@ fn reported<G: Gate + Sync, R: Threads + Wait + Sync>(
         workers: 4,
         boxes: 100_000,
     };
-    let paving = paved(rt, alloc, settler, &effort, gate)?;
+    let root = settler.search_box(alloc)?;
+    let paving = paved(rt, alloc, settler, root, &effort, gate)?;
     learn_honest(&paving, settler);
     report(alloc, circles, identity, &paving)
 }

@@ -1,6 +1,9 @@
 //! The system of a command, and its settler.
-ghost use Rattle.std.specs.Prelude.{◌≡◌, ◌≤◌, ℕ, List, length, IfOk, IfErr};
+ghost use Rattle.std.specs.Prelude.{◌≡◌, ◌≤◌, ◌<◌, ◌^◌, ℕ, List, length, IfOk, IfErr, OnOk};
+ghost use Rattle.pv_ctc.specs.Plans.{plan_of};
+ghost use Rattle.pv_ctc.specs.Refusals.{IsSpelling};
 ghost use Rattle.pv_settle.specs.Settlers.{rule_of};
+ghost use Rattle.pv_slope.specs.Settlers as centered;
 ghost use Rattle.pv_cli.specs.Systems.{files, AreOnlyRead, IsFetched, HasSystem, RefusesSystem, RefusesFetch, IsRuleFor, HasRule, RefusesSettings, RefusesRule};
 
 use crate::Refusal;
@@ -10,6 +13,7 @@ use pv_expr::System;
 use pv_io::{FetchRefused, Folder};
 use pv_parse::{ParseRefused, parse};
 use pv_settle::SystemSettler;
+use pv_slope::CenteredSettler;
 use std::alloc::Global;
 
 /// The longest text of a system, in bytes.
@@ -85,17 +89,57 @@ pub(crate) fn settler_for<'a>(
     ensures rule { IfOk result (λ s. IsRuleFor system settings.now (rule_of s)) }
     ensures refused { IfErr result (RefusesSettings system settings.now) }
 {
-    let program = Program::read(
-        alloc,
-        settings.contract.as_bytes(),
-        system.constraint_count(),
-    )?;
+    let program = match program_for(alloc, &system, settings) {
+        Ok(program) => program,
+        Err(refusal) => return Err(refusal),
+    };
     let by = pv_settle::Settings {
         eps: settings.eps,
         depth: settings.depth,
         bisector: settings.bisector,
     };
     Ok(SystemSettler::new(alloc, system, program, by)?)
+}
+
+/// The settler of a system with centered forms, by the settings.
+pub(crate) fn centered_for<'a>(
+    alloc: Global,
+    system: System,
+    settings: &Settings<'a>,
+) -> Result<CenteredSettler, Refusal<'a>>
+    ensures rule { IfOk result (λ s. IsRuleFor system settings.now (centered.rule_of s)) }
+    ensures refused { IfErr result (RefusesSettings system settings.now) }
+{
+    let program = match program_for(alloc, &system, settings) {
+        Ok(program) => program,
+        Err(refusal) => return Err(refusal),
+    };
+    Ok(CenteredSettler::new(
+        alloc,
+        system,
+        program,
+        settings.eps,
+        settings.depth,
+        settings.bisector,
+    )?)
+}
+
+// The contractor program that the settings spell.
+fn program_for<'a>(
+    alloc: Global,
+    system: &System,
+    settings: &Settings<'a>,
+) -> Result<Program, Refusal<'a>>
+    ensures few { OnOk result (length system.now.constraints < 2 ^ 32) }
+    ensures program { IfOk result (λ p.
+        IsSpelling (length system.now.constraints) settings.now.contract.now (plan_of p)) }
+    ensures refused { IfErr result (RefusesSettings system.now settings.now) }
+{
+    Ok(Program::read(
+        alloc,
+        settings.contract.as_bytes(),
+        system.constraint_count(),
+    )?)
 }
 
 /// The system in a file.

@@ -4,11 +4,15 @@
 #[cfg(test)]
 mod calling;
 #[cfg(test)]
+mod centered;
+#[cfg(test)]
 mod damage;
 #[cfg(test)]
 mod faults;
 #[cfg(test)]
 mod files;
+#[cfg(test)]
+mod least_values;
 #[cfg(test)]
 mod numbers;
 #[cfg(test)]

@@ -7,6 +7,7 @@ pub mod Matching
 pub mod Programs
 pub mod Props
 pub mod Ranges
+pub mod Settlers
 pub mod Settling
 pub mod SlopeTable
 pub mod Spelling

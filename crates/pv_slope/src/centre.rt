@@ -8,9 +8,9 @@ ghost use Rattle.pv_slope.specs.Centres.{centre_of as centre_in, met_with, at_ce
 ghost use Rattle.pv_slope.specs.Centered.{is_finite as is_finite_end, has_finite_ends as have_finite_ends, from_centre as from_centre_of};
 ghost use Rattle.pv_slope.specs.Flat.{AreOf, node_centre};
 
-use crate::operations::{binary, place, unary};
 use pv_box::IBox;
 use pv_hc4::Node;
+use pv_hc4::forward::{binary, place, unary};
 use pv_interval::Interval;
 use pv_num::Num;
 

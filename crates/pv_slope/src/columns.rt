@@ -1,9 +1,6 @@
 //! Room for the passes over the nodes of an expression.
 
-ghost use Rattle.std.specs.Prelude.{◌≡◌, OnOk};
-
 use pv_interval::Interval;
-use pv_num::Memory;
 use std::alloc::Global;
 
 /// One interval a node for each pass, kept from one box to the next.
@@ -25,13 +22,4 @@ impl Columns {
             slopes: Vec::new(alloc),
         }
     }
-}
-
-// Makes a column hold what is known of the nodes beforehand.
-pub(crate) fn fill(column: &mut Vec<Interval>, ready: &[Interval]) -> Result<(), Memory>
-    ensures { OnOk result (column.new.items ≡ ready.now) }
-{
-    column.clear();
-    column.extend_from_slice(ready)?;
-    Ok(())
 }

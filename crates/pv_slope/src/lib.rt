@@ -12,12 +12,9 @@
 
 mod centre;
 mod columns;
-mod forward;
 mod judging;
 mod knowing;
 pub mod laws;
-mod nodes;
-mod operations;
 mod passes;
 mod room;
 mod rows;

@@ -9,10 +9,10 @@ ghost use Rattle.pv_slope.specs.Flat.{AreOf, AreFactors, node_factor, node_slope
 ghost use Rattle.pv_slope.specs.SlopeTable.{slope_of};
 
 use crate::centre::from_centre;
-use crate::operations::place;
 use crate::rows::{binary_factor, binary_slope, one, unary_factor, unary_slope, zero};
 use pv_box::IBox;
 use pv_hc4::Node;
+use pv_hc4::forward::place;
 use pv_interval::Interval;
 
 fn factor(node: Node, values: &[Interval], centres: &[Interval]) -> Interval

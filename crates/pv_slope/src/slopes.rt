@@ -13,13 +13,14 @@ ghost use Rattle.pv_slope.specs.Flat.{term_in, IsFlat};
 ghost use Rattle.pv_slope.specs.Ranges.{ranged_of};
 
 use crate::centre::{centre_all, has_finite_ends};
-use crate::columns::{Columns, fill};
-use crate::forward::{forward_all, is_total};
-use crate::nodes::Nodes;
+use crate::columns::Columns;
 use crate::passes::{factor_all, linear};
 use pv_box::IBox;
 use pv_expr::{Constraint, Relation};
-use pv_hc4::{BinaryOp, Node};
+use pv_hc4::builder::Builder;
+use pv_hc4::forward::forward_all;
+use pv_hc4::total::is_total;
+use pv_hc4::{BinaryOp, Node, fill};
 use pv_interval::Interval;
 use pv_num::Memory;
 use std::alloc::Global;
@@ -63,9 +64,9 @@ impl Slopes {
         ensures relation { IfOk result (λ s. s.relation ≡ constraint.now.relation) }
         ensures dims { IfOk result (λ s. s.dims ≡ dims) }
     {
-        let mut adding = Nodes::new(alloc);
-        let root = adding.add_two(BinaryOp::Sub, &constraint.left, &constraint.right, dims)?;
-        let Nodes { nodes, ready } = adding;
+        let mut builder = Builder::new(alloc);
+        let root = builder.add_two(BinaryOp::Sub, &constraint.left, &constraint.right, dims)?;
+        let Builder { nodes, ready, .. } = builder;
         Ok(Slopes {
             nodes,
             ready,

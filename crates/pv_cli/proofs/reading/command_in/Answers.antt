@@ -1,10 +1,11 @@
 use Rattle.pv_cli.specs.Found.{rows_in}
-use Rattle.pv_cli.specs.Requests.{runs, resumes, merges, audits, draws, samples}
+use Rattle.pv_cli.specs.declared.request.Form.TheVariants.{Natural, Centered}
+use Rattle.pv_cli.specs.Requests.{runs, resumes, merges, audits, draws, samples, seeks}
 use Rattle.pv_cli.proofs.Asked.{read_as}
 use Rattle.pv_cli.proofs.reading.command_in.Goals as goal
 
 pub returns-in-run : goal.returns-in-run
-returns-in-run c = read_as c.args.command.now (rows_in c.args.found.now) runs c.run_in.result c.in-run.is c.run_in.ensures
+returns-in-run c = read_as c.args.command.now (rows_in c.args.found.now) (runs Natural) c.run_in.result c.in-run.is c.run_in.ensures
 
 pub returns-in-resume : goal.returns-in-resume
 returns-in-resume c = read_as c.args.command.now (rows_in c.args.found.now) resumes c.resume_in.result c.in-resume.is c.resume_in.ensures
@@ -13,10 +14,19 @@ pub returns-in-merge : goal.returns-in-merge
 returns-in-merge c = read_as c.args.command.now (rows_in c.args.found.now) merges c.merge_in.result c.in-merge.is c.merge_in.ensures
 
 pub returns-in-audit : goal.returns-in-audit
-returns-in-audit c = read_as c.args.command.now (rows_in c.args.found.now) audits c.audit_in.result c.in-audit.is c.audit_in.ensures
+returns-in-audit c = read_as c.args.command.now (rows_in c.args.found.now) (audits Natural) c.audit_in.result c.in-audit.is c.audit_in.ensures
 
 pub returns-in-svg : goal.returns-in-svg
 returns-in-svg c = read_as c.args.command.now (rows_in c.args.found.now) draws c.svg_in.result c.in-svg.is c.svg_in.ensures
 
 pub returns-in-sample : goal.returns-in-sample
 returns-in-sample c = read_as c.args.command.now (rows_in c.args.found.now) samples c.sample_in.result c.in-sample.is c.sample_in.ensures
+
+pub returns-in-text : goal.returns-in-text
+returns-in-text c = read_as c.args.command.now (rows_in c.args.found.now) (runs Centered) c.run_in-in-text.result c.in-text.is c.run_in-in-text.ensures
+
+pub returns-in-text-2 : goal.returns-in-text-2
+returns-in-text-2 c = read_as c.args.command.now (rows_in c.args.found.now) (audits Centered) c.audit_in-in-text-2.result c.in-text-2.is c.audit_in-in-text-2.ensures
+
+pub returns-in-least : goal.returns-in-least
+returns-in-least c = read_as c.args.command.now (rows_in c.args.found.now) seeks c.least_in.result c.in-least.is c.least_in.ensures

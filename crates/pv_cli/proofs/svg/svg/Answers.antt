@@ -2,10 +2,12 @@ use Rattle.std.proofs.Common.{◌≡◌, rules, length, ◌∙◌, ap}
 use Rattle.pv_svg.specs.Rectangles.{picture_of}
 use Rattle.pv_svg.specs.Texts.{picture_text}
 use Rattle.pv_settle.specs.Settlers.{rule_of}
-use Rattle.pv_cli.specs.Systems.{files}
+use Rattle.pv_settle.specs.Spelling.{identity_of}
+use Rattle.pv_cli.specs.Systems.{files, search_box}
+use Rattle.pv_cli.specs.Files.{HoldsPaving, RefusesFile}
 use Rattle.pv_cli.specs.Products.{text}
 use Rattle.pv_cli.specs.Scenes.{plane_of}
-use Rattle.pv_cli.proofs.Earlier.{only_read_on, paving_before, refused_before}
+use Rattle.pv_cli.proofs.Earlier.{only_read_on, by_key, paving_before, refused_before}
 use Rattle.pv_cli.proofs.Drawn.{scene_refused, picture_refused}
 use Rattle.pv_cli.proofs.Planes.{svg_comes, dims_from}
 use Rattle.pv_cli.proofs.svg.svg.Goals as goal
@@ -23,13 +25,15 @@ returns-in-Err-paving_in-clause-refused g c =
     let after = (files (g.F.Folder.content c.paving_in.new.folder) (g.F.Folder.fetch_faults c.paving_in.new.folder) (g.F.Folder.store_faults c.paving_in.new.folder)) in
     let rule = rule_of c.in-Ok.scene.settler in
     let seen = c.in-Ok.ensures.scene in
+    let key = c.in_ok-key.ensures in
     picture_refused before after c.args.system.now c.args.settings.now c.args.view.now c.args.name.now c.in-Err-paving_in.refusal
     (record {
       rule = rule;
       read = seen.read;
       plane = plane_of c.in-Ok.scene.axes c.args.view.now.at.items;
       shown = seen.plane;
-      refused = refused_before before mid c.in-Ok.ensures.read after rule c.args.name.now c.in-Err-paving_in.refusal (c.in-Err-paving_in.ensures.refused rule c.in_ok-key.ensures);
+      refused = refused_before before mid c.in-Ok.ensures.read after (identity_of rule) (search_box rule) c.args.name.now c.in-Err-paving_in.refusal
+          (by_key (λ i x. RefusesFile mid after i x c.args.name.now c.in-Err-paving_in.refusal) (identity_of rule) (search_box rule) c.in_ok-key.key key.identity key.root c.in-Err-paving_in.ensures.refused);
     })
 
 pub returns-clause-read : goal.returns-clause-read
@@ -45,7 +49,8 @@ returns-clause-comes g c =
     let root = c.in-Ok-paving_in.ensures.root ∙ c.in_ok-key.ensures.root in
     let same : c.deref.result.now ≡ c.args.view.now.at.items = search rules in
     svg_comes before c.args.system.now c.args.name.now c.args.settings.now c.args.view.now c.in-Ok.scene c.in-Ok-paving_in.paving.root t _ seen
-    (paving_before before mid c.in-Ok.ensures.read rule c.args.name.now t (c.in-Ok-paving_in.ensures.paving rule c.in_ok-key.ensures))
+    (paving_before before mid c.in-Ok.ensures.read (identity_of rule) (search_box rule) c.args.name.now t
+    (by_key (λ i x. HoldsPaving mid i x c.args.name.now t) (identity_of rule) (search_box rule) c.in_ok-key.key c.in_ok-key.ensures.identity c.in_ok-key.ensures.root c.in-Ok-paving_in.ensures.paving))
     root (ap length root ∙ dims_from before c.args.system.now c.args.settings.now rule seen.read)
     (c.learn_honest.ensures.honest seen.read.system c.args.settings.now seen.read.is)
     c.pictures_are_sound.ensures

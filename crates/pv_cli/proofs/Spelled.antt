@@ -1,0 +1,24 @@
+-- The rule of a settler whose program the settings spell.
+use Rattle.std.proofs.Common.{◌≡◌, ◌<◌, ◌^◌, List, ℕ, length, map}
+use Rattle.pv_expr.specs.Systems.{Parts}
+use Rattle.pv_hc4.specs.Graphs.{sides_named}
+use Rattle.pv_ctc.specs.Contracting.{sides_in}
+use Rattle.pv_ctc.specs.Plans.{plan_of}
+use Rattle.pv_ctc.specs.Refusals.{IsSpelling}
+use Rattle.pv_settle.specs.Rules.{SettlerParts}
+use Rattle.pv_cli.specs.Systems.{IsRuleFor}
+use Rattle.pv_cli.specs.declared.request.Settings.{Settings}
+use Rattle.pv_cli.proofs.Inside.{default_set}
+
+pub rule_for : (system : Parts) (s : Settings) (rule : SettlerParts) → length system.constraints < 2 ^ 32 → IsSpelling (length system.constraints) s.contract.now (plan_of rule.program)
+    → rule.system ≡ system → sides_in rule.graphs ≡ map sides_named system.constraints → rule.eps ≡ s.eps → rule.depth ≡ s.depth → rule.bisector ≡ s.bisector
+    → IsRuleFor system s rule
+rule_for system s rule few program same sides eps depth bisector = record {
+  system_is = same;
+  sides = sides;
+  program = program;
+  eps = eps;
+  depth = depth;
+  bisector = bisector;
+  by_default = default_set (length system.constraints) system.constraints s.contract.now _ _ few program sides;
+}
