@@ -1,0 +1,206 @@
+//! The statements that keep a campaign in a database.
+ghost use Rattle.std.specs.Prelude.{◌≡◌, ◌≢◌, ◌+◌, ◌≤◌, ◌<◌, [], length, IfOk, OnOk, MatchOption};
+ghost use Rattle.pv_keep_sql.specs.Keepers.{IsOther, IsRead};
+
+use crate::faults::Refused;
+use crate::kept_path::{path_of, push_digits};
+use pv_keep::{Line, Row, Rows};
+use sqlite::types::ValueRef;
+use sqlite::{Alter, Connection, Statement, Transaction, params};
+use std::alloc::Global;
+
+const OBJECTS: &str = "SELECT count(*) FROM sqlite_master";
+
+const OWN_TABLES: &str =
+    "SELECT count(*) FROM sqlite_master WHERE type = 'table' AND name IN ('head', 'node')";
+
+const MAKE_TABLES: &str = "CREATE TABLE IF NOT EXISTS head (
+    id INTEGER PRIMARY KEY CHECK (id = 1), identity BLOB NOT NULL) STRICT;
+CREATE TABLE IF NOT EXISTS node (path TEXT PRIMARY KEY NOT NULL, line TEXT NOT NULL) STRICT";
+
+const IDENTITY: &str = "SELECT identity FROM head WHERE id = 1";
+
+const SET_IDENTITY: &str = "INSERT INTO head (id, identity) VALUES (1, ?1)";
+
+const ROWS: &str = "SELECT path, line FROM node ORDER BY path";
+
+const ADD_ROW: &str = "INSERT INTO node (path, line) VALUES (?1, ?2)";
+
+/// How a database stands to an identity.
+#[derive(Clone, Copy)]
+pub(crate) enum Entered {
+    /// It has this identity, perhaps since this call.
+    Same,
+    /// It has another one, which is `kept`.
+    Other { kept: [u8; 32] },
+}
+
+/// What was read of the kept rows.
+#[derive(Clone, Copy)]
+pub(crate) enum Extent {
+    /// All of them.
+    Whole,
+    /// The limit and one more.
+    OneTooMany,
+}
+
+/// Sees to it that a database has the two tables and an identity. Where the identity is another one, or the
+/// database is refused, it stays as it was.
+pub(crate) fn enter<S: Alter>(
+    alloc: Global,
+    connection: &mut Connection<S>,
+    identity: &[u8; 32],
+) -> Result<Entered, Refused>
+    ensures { IfOk result (IsOther identity.now) }
+{
+    if !connection.is_autocommit() {
+        return Err(Refused::Failed);
+    }
+    let mut change = connection.transaction();
+    let made = make_tables(&mut change)?;
+    let Some(kept) = kept_identity(alloc, &mut change)? else {
+        set_identity(&mut change, identity)?;
+        change.commit()?;
+        return Ok(Entered::Same);
+    };
+    let entered = entered_as(identity, &kept)?;
+    if made && matches!(entered, Entered::Same) {
+        change.commit()?;
+    }
+    Ok(entered)
+}
+
+// Makes the tables that are absent, and says whether one was. A database of another program is refused: it has
+// tables, and neither of these two.
+fn make_tables<S: Alter>(change: &mut Transaction<'_, S>) -> Result<bool, Refused> {
+    let own = count(change, OWN_TABLES)?;
+    if own == 0 && count(change, OBJECTS)? > 0 {
+        return Err(Refused::Failed);
+    }
+    if own < 2 {
+        change.execute_batch(MAKE_TABLES)?;
+    }
+    change.prepare(ROWS)?;
+    Ok(own < 2)
+}
+
+fn count<S: Alter>(change: &mut Transaction<'_, S>, sql: &str) -> Result<i64, Refused> {
+    let row = change.query_row(sql, &[])?;
+    Ok(row.get(0)?)
+}
+
+// The identity that is kept, if there is one.
+fn kept_identity<S: Alter>(
+    alloc: Global,
+    change: &mut Transaction<'_, S>,
+) -> Result<Option<Vec<u8>>, Refused> {
+    let mut found = change.query(IDENTITY, &[])?;
+    let Some(row) = found.next()? else {
+        return Ok(None);
+    };
+    match row.get_ref(0)? {
+        ValueRef::Blob(bytes) => Ok(Some(Vec::from_slice(alloc, bytes)?)),
+        _ => Err(Refused::Failed),
+    }
+}
+
+fn set_identity<S: Alter>(
+    change: &mut Transaction<'_, S>,
+    identity: &[u8; 32],
+) -> Result<(), Refused> {
+    change.execute(SET_IDENTITY, &[ValueRef::Blob(identity)])?;
+    Ok(())
+}
+
+// How a kept identity stands to the one that is asked for. One that is not 32 bytes long is refused.
+fn entered_as(identity: &[u8; 32], kept: &[u8]) -> Result<Entered, Refused>
+    ensures { IfOk result (IsOther identity.now) }
+{
+    let Some(kept) = digest_of(kept) else {
+        return Err(Refused::Failed);
+    };
+    if kept == *identity {
+        Ok(Entered::Same)
+    } else {
+        Ok(Entered::Other { kept })
+    }
+}
+
+fn digest_of(bytes: &[u8]) -> Option<[u8; 32]>
+    ensures { MatchOption result (length bytes.now ≢ 32) (λ digest. digest ≡ bytes.now) }
+{
+    if bytes.len() != 32 {
+        return None;
+    }
+    let mut digest = [0; 32];
+    digest.copy_from_slice(bytes);
+    Some(digest)
+}
+
+/// Reads the kept rows into an empty list, one at a time in the order of their keys, up to the limit and one
+/// more.
+pub(crate) fn read_rows<S: Alter>(
+    alloc: Global,
+    connection: &mut Connection<S>,
+    limit: u64,
+    into: &mut Rows,
+) -> Result<Extent, Refused>
+    requires { into.old ≡ [] }
+    ensures { IfOk result (IsRead limit into.new) }
+{
+    let mut found = connection.query(ROWS, &[])?;
+    while into.len() <= limit {
+        let Some(row) = found.next()? else {
+            return Ok(Extent::Whole);
+        };
+        let row = kept_row(alloc, row)?;
+        into.push(row)?;
+    }
+    Ok(Extent::OneTooMany)
+}
+
+// A row of the table, if its key is that of a path and its line no longer than lines are.
+fn kept_row(alloc: Global, row: &sqlite::Row) -> Result<Row, Refused> {
+    let (ValueRef::Text(digits), ValueRef::Text(line)) = (row.get_ref(0)?, row.get_ref(1)?) else {
+        return Err(Refused::Failed);
+    };
+    let Some(path) = path_of(digits) else {
+        return Err(Refused::Failed);
+    };
+    match Line::of(alloc, line)? {
+        Some(line) => Ok(Row { path, line }),
+        None => Err(Refused::Failed),
+    }
+}
+
+/// Keeps further rows in one transaction. After a refusal the database is as before.
+pub(crate) fn write_rows<S: Alter>(
+    alloc: Global,
+    connection: &mut Connection<S>,
+    rows: &Rows,
+) -> Result<(), Refused> {
+    if !connection.is_autocommit() {
+        return Err(Refused::Failed);
+    }
+    let mut change = connection.transaction();
+    let add = change.prepare(ADD_ROW)?;
+    let mut digits = Vec::new(alloc);
+    for i in 0..rows.len() {
+        write_row(&mut change, &add, &mut digits, rows.get(i))?;
+    }
+    change.commit()?;
+    Ok(())
+}
+
+fn write_row<S: Alter>(
+    change: &mut Transaction<'_, S>,
+    add: &Statement,
+    digits: &mut Vec<u8>,
+    row: &Row,
+) -> Result<(), Refused> {
+    digits.clear();
+    push_digits(row.path, digits)?;
+    let values = [ValueRef::Text(digits), ValueRef::Text(row.line.bytes())];
+    change.execute_prepared(add, &values)?;
+    Ok(())
+}
