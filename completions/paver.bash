@@ -4,7 +4,7 @@ _paver() {
     local settings="--eps --depth --bisect --contract"
     COMPREPLY=()
     if [ "$COMP_CWORD" -eq 1 ]; then
-        mapfile -t COMPREPLY < <(compgen -W "check run resume merge audit svg sample" -- "$word")
+        mapfile -t COMPREPLY < <(compgen -W "check run resume merge audit svg sample run-centered audit-centered" -- "$word")
         return
     fi
     case $before in
@@ -15,9 +15,9 @@ _paver() {
     esac
     if [[ $word == -* ]]; then
         case $command in
-            run|resume) mapfile -t COMPREPLY < <(compgen -W "$settings --boxes --workers --out" -- "$word") ;;
+            run|resume|run-centered) mapfile -t COMPREPLY < <(compgen -W "$settings --boxes --workers --out" -- "$word") ;;
             merge) mapfile -t COMPREPLY < <(compgen -W "$settings --out" -- "$word") ;;
-            audit) mapfile -t COMPREPLY < <(compgen -W "$settings" -- "$word") ;;
+            audit|audit-centered) mapfile -t COMPREPLY < <(compgen -W "$settings" -- "$word") ;;
             svg) mapfile -t COMPREPLY < <(compgen -W "$settings --x --y --at" -- "$word") ;;
             sample) mapfile -t COMPREPLY < <(compgen -W "--seed --count" -- "$word") ;;
         esac

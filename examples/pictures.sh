@@ -28,4 +28,7 @@ draw arm_configurations --eps 0.0625
 draw robust_pid --eps 0.25 --boxes 100000 --at kd=1
 draw outlier_decay --eps 0.0078125 --contract "$(pairs 6 7)" --near --stretch
 draw three_rpr --eps 0.0625 --boxes 100000 --at t=0.1
+draw damped_gains --eps 0.03125
+draw platform_determinant --eps 0.03125
+draw lyapunov_fall --eps 0.03125
 draw puma_poses --eps 0.0625 --x c1 --y s1 --project

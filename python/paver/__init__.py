@@ -17,14 +17,15 @@ from .errors import (ContractRefused, Disagree, NoFile, NotInProgram, PaverError
 from .paving import Parts, Paving
 from .picture import svg
 from .plots import plot, plot_projection
-from .program import Answer, audit, check, check_text, draw, find, merge, resume, run, sample
+from .program import (
+    Answer, audit, audit_centered, check, check_text, draw, find, merge, resume, run, run_centered, sample)
 from .roots import find_roots
 from .split import gather, split
 
 __all__ = [
     "Answer", "Box", "Cluster", "ContractRefused", "Disagree", "NoFile", "NotInProgram", "Parts", "Paving",
     "PaverError", "PavingError", "PavingRefused", "ProgramFault", "ProgramMissing", "ReadFault", "System",
-    "SystemRefused", "TreeLimit", "UsageError", "WantOfMemory", "WriteFault", "audit", "check", "check_text",
-    "depth_that_suffices", "draw", "find", "find_roots", "gather", "merge", "plot", "plot_projection", "resume", "run",
-    "sample", "split", "svg", "warnings_of",
+    "SystemRefused", "TreeLimit", "UsageError", "WantOfMemory", "WriteFault", "audit", "audit_centered", "check",
+    "check_text", "depth_that_suffices", "draw", "find", "find_roots", "gather", "merge", "plot", "plot_projection",
+    "resume", "run", "run_centered", "sample", "split", "svg", "warnings_of",
 ]

@@ -47,7 +47,7 @@ def option_words(settings, known=OPTIONS):
 
 @dataclass
 class Answer:
-    """What run, resume and merge answered: status 0, or 1 where leaves are open."""
+    """What run, run_centered, resume and merge answered: status 0, or 1 where leaves are open."""
     status: int
     text: str
     system: Path
@@ -130,7 +130,7 @@ def asked(words, program, timeout):
 def has(command, program=None):
     """Whether the program has a command, or `run --out`: with it, a system that is not there is no file."""
     words = {"run --out": ["run", "--out=none"]}.get(command, [command])
-    pavings = ["none"] if command in ("resume", "merge", "audit", "svg") else []
+    pavings = ["none"] if command in ("resume", "merge", "audit", "audit-centered", "svg") else []
     words += ["--x=x", "--y=y"] if command == "svg" else []
     return call([*words, "--", "/no such folder/no such system", *pavings], program)[0] == 11
 
@@ -161,6 +161,11 @@ def run(system, *, out=None, program=None, timeout=None, **options):
     return paved("run", system, [], out, options, OPTIONS, program, timeout)
 
 
+def run_centered(system, *, out=None, program=None, timeout=None, **options):
+    """As run, where boxes are tested by centered forms, too."""
+    return paved("run-centered", system, [], out, options, OPTIONS, program, timeout)
+
+
 def resume(system, pavings, *, out=None, program=None, timeout=None, **options):
     """Joins 1 to 8 stored pavings of the system under the same settings, and goes on from there."""
     return paved("resume", system, listed(pavings), out, options, OPTIONS, program, timeout)
@@ -173,9 +178,18 @@ def merge(system, pavings, *, out=None, program=None, timeout=None, **settings):
 
 def audit(system, paving, *, program=None, timeout=None, **settings):
     """Has every settled node of a stored paving recomputed. True where it is honest; Disagree where a node differs."""
-    _, text = asked(["audit", *option_words(settings, SETTINGS), "--", system, paving], program, timeout)
+    return honest("audit", system, paving, settings, program, timeout)
+
+
+def audit_centered(system, paving, *, program=None, timeout=None, **settings):
+    """The same for a stored paving of run_centered."""
+    return honest("audit-centered", system, paving, settings, program, timeout)
+
+
+def honest(command, system, paving, settings, program, timeout):
+    _, text = asked([command, *option_words(settings, SETTINGS), "--", system, paving], program, timeout)
     if text != "honest\n":
-        raise errors.ProgramFault(0, f"audit answered {text!r}")
+        raise errors.ProgramFault(0, f"{command} answered {text!r}")
     return True
 
 

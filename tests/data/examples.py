@@ -25,10 +25,12 @@ EXAMPLES = [
     ("puma_poses", ["--eps", "0.0625"]),
     ("damped_gains", ["--eps", "0.03125"]),
     ("platform_determinant", ["--eps", "0.03125"]),
+    ("lyapunov_fall", ["--eps", "0.03125"]),
 ]
 
 # Those that are paved by centered forms, too.
-CENTERED = ["pi_gains", "arm_configurations", "bounded_error_fit", "damped_gains", "platform_determinant"]
+CENTERED = ["pi_gains", "arm_configurations", "bounded_error_fit", "damped_gains", "platform_determinant",
+            "lyapunov_fall"]
 
 
 def settings_of(words):

@@ -4,7 +4,7 @@
     python3 tests/generators/gallery.py
 
 The summaries are those of tests/data/summaries.txt, which the plain paver worked out; the pictures are drawn by
-examples/pictures.sh.
+examples/pictures.sh, and bench/centered.py measured the times of tests/data/centered_times.txt.
 """
 import sys
 from itertools import takewhile
@@ -19,6 +19,15 @@ HEAD = """# Gallery
 Each example of `examples/`, with its question, the command that answers it and the first line of the answer. Green boxes are inner: every rational point of them is in the set. Grey parts are removed: no rational point of them is. Yellow boxes are undecided. Of three variables and more a picture is a slice, or the projection on two variables; some are drawn with a smaller eps than that of the command. `examples/pictures.sh` draws them, `tests/generators/gallery.py` writes this page.
 """
 
+
+SIDE_BY_SIDE = """
+## By centered forms
+
+`run-centered` tests each box by the centered forms of the constraints too ([the rule](RULES.md#centered-forms)). Where variables stand in a constraint several times it settles fewer boxes and leaves less undecided, and each box takes longer. The last column is what that is worth: how many nodes `run` settles, with eps halved as often as needed, to leave no greater volume undecided than `run-centered` does (- where 100,000 are too few). In the ring each variable stands once in each constraint, and nothing is won. One worker, each example's own eps, the best of five runs by an unproved build on a busy machine:
+
+| example | `run`: nodes | seconds | `run-centered`: nodes | seconds | nodes of `run` for as little undecided |
+|---|---|---|---|---|---|
+"""
 
 TITLES = {"pi_gains": "PI gains", "robust_pid": "Robust PID", "three_rpr": "3-RPR platform"}
 
@@ -58,9 +67,18 @@ $ {command}
 """
 
 
+def side_by_side():
+    """`run` and `run-centered` on some examples, with one worker."""
+    text = SIDE_BY_SIDE
+    for line in (TOP / "tests" / "data" / "centered_times.txt").read_text().splitlines():
+        name, *numbers = line.split()
+        text += f"| {title_of(name)} | " + " | ".join(numbers) + " |\n"
+    return text
+
+
 def main():
     found = summaries()
-    text = HEAD + "".join(entry(name, words, found[name]) for name, words in EXAMPLES)
+    text = HEAD + "".join(entry(name, words, found[name]) for name, words in EXAMPLES) + side_by_side()
     (TOP / "docs" / "GALLERY.md").write_text(text)
 
 

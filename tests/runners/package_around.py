@@ -14,7 +14,7 @@ import paver
 from package_checks import Skipped
 
 TOP = Path(__file__).resolve().parents[2]
-COMMANDS = ["check", "run", "resume", "merge", "audit", "svg", "sample"]
+COMMANDS = ["check", "run", "resume", "merge", "audit", "svg", "sample", "run-centered", "audit-centered"]
 SETTINGS = ["eps", "depth", "bisect", "contract"]
 RUN_OPTIONS = [*SETTINGS, "boxes", "workers", "out"]
 SVG_OPTIONS = [*SETTINGS, "x", "y", "at"]
@@ -66,6 +66,8 @@ def check_completions():
     assert completed("paver", "") == COMMANDS
     assert completed("paver", "re") == ["resume"]
     assert sorted(completed("paver", "run", "--")) == sorted(f"--{name}" for name in RUN_OPTIONS)
+    assert completed("paver", "run-centered", "--") == completed("paver", "run", "--")
+    assert completed("paver", "audit-centered", "--") == completed("paver", "audit", "--")
     assert sorted(completed("paver", "svg", "--")) == sorted(f"--{name}" for name in SVG_OPTIONS)
     assert sorted(completed("paver", "sample", "--")) == sorted(f"--{name}" for name in SAMPLE_OPTIONS)
     assert sorted(completed("paver", "audit", "--")) == ["--bisect", "--contract", "--depth", "--eps"]
@@ -87,6 +89,7 @@ def check_fish():
     needs_tool("fish")
     assert sorted(fish_offers("paver ")) == sorted(COMMANDS)
     assert sorted(fish_offers("paver run s --")) == sorted(f"--{name}" for name in RUN_OPTIONS)
+    assert sorted(fish_offers("paver run-centered s --")) == sorted(f"--{name}" for name in RUN_OPTIONS)
     assert sorted(fish_offers("paver svg s --")) == sorted(f"--{name}" for name in SVG_OPTIONS)
     assert sorted(fish_offers("paver audit s --")) == ["--bisect", "--contract", "--depth", "--eps"]
     assert fish_offers("paver run s --bisect r") == ["round"]

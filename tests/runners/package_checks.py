@@ -165,7 +165,9 @@ def check_digest(name, words, digest):
 def check_missing():
     """What an older program lacks is named."""
     assert program.has("run") and program.has("check")
-    for command, work in (("resume", paver.resume), ("merge", paver.merge), ("audit", paver.audit)):
+    for command, work in (("resume", paver.resume), ("merge", paver.merge), ("audit", paver.audit),
+                          ("run-centered", lambda system, _: paver.run_centered(system)),
+                          ("audit-centered", paver.audit_centered)):
         if not program.has(command):
             raised(paver.NotInProgram, lambda work=work: work(example("ring"), "none"))
     if not program.has("run --out"):
@@ -218,6 +220,22 @@ def check_audited():
         raised(paver.Disagree, lambda: paver.audit(example("ring"), out, eps=1), kind="differs", first="X")
 
 
+def check_centered():
+    """A system whose variable stands in it twice is settled with one box, and neither kind of file is the other."""
+    needs("run-centered")
+    needs("audit-centered")
+    with tempfile.TemporaryDirectory() as folder:
+        system, out = Path(folder) / "s", Path(folder) / "p"
+        system.write_text("Variables x in [0,1]; Constraints x - x <= 0; end\n")
+        answer = paver.run_centered(system, out=out)
+        assert answer.complete and answer.summary["inner"] == 1 and answer.summary["settled"] == 1
+        assert paver.run(system).summary["small"] > 1
+        assert paver.audit_centered(system, out)
+        raised(paver.PavingRefused, lambda: paver.audit(system, out), cause="wrong identity")
+        out.write_text(out.read_text().replace("I = =", "X"))
+        raised(paver.Disagree, lambda: paver.audit_centered(system, out), kind="differs", first="X")
+
+
 def check_drawn():
     needs("run --out")
     needs("svg")
@@ -243,7 +261,7 @@ def check_sampled():
 def checks():
     expected = dict(line.split(" ", 2)[:2] for line in EXPECTED.read_text().splitlines())
     named = [check_numbers, check_minibex_numbers, check_lines, check_refusals, check_answers, check_depths, check_canonical,
-             check_missing, check_stored, check_resumed, check_merged, check_audited, check_drawn, check_sampled]
+             check_missing, check_stored, check_resumed, check_merged, check_audited, check_centered, check_drawn, check_sampled]
     found = [(check.__name__[6:].replace("_", " "), check, ()) for check in named]
     return found + [(f"the reference's text of {name}", check_digest, (name, words, expected[name]))
                     for name, words in EXAMPLES]

@@ -11,6 +11,8 @@ use Rattle.pv_tree.specs.Laws.{StagesAreSound}
 use Rattle.pv_cli.specs.Systems.{IsRuleFor, search_box}
 use Rattle.pv_cli.specs.Pavings.{HoldInside}
 use Rattle.pv_cli.specs.Products.{IsHonestBy}
+use Rattle.pv_cli.specs.FormSettlers.{parts_of, settles}
+use Rattle.pv_cli.specs.declared.form_settler.FormSettler.{FormSettler}
 use Rattle.pv_cli.specs.declared.request.Settings.{Settings}
 use Rattle.pv_cli.proofs.Inside.{holds_inside}
 
@@ -28,3 +30,17 @@ honest_of settle system s rule b t root covers are_sound are_full is stage =
       by_default = λ default. subst (λ (p : Parts). HoldInside p.constraints t) (sym is.system_is)
           (holds_inside system.constraints _ t (is_member rule) (λ x. (is.by_default default x).0) sound);
     }
+
+-- the same of the settler by either form
+abbrev Learns : Tree → FormSettler → Type 0
+Learns t f =
+    (system : Parts) (s : Settings) → IsRuleFor system s (parts_of f) → IsStage (settles f) (parts_of f).depth (search_box (parts_of f)) leaf t
+    → IsHonestBy (settles f) s (parts_of f) t
+
+pub learns_of : (f g : FormSettler) (b : List Bounds) (t : Tree) → f ≡ g → b ≡ search_box (parts_of f) → Covers b t
+    → StagesAreSound (settles g) (parts_of g).depth (is_member (parts_of g)) b → ClosedStagesAreFull (settles g) (parts_of g).depth b
+    → (system : Parts) (s : Settings) → IsRuleFor system s (parts_of f) → IsStage (settles f) (parts_of f).depth (search_box (parts_of f)) leaf t
+    → IsHonestBy (settles f) s (parts_of f) t
+learns_of f g b t same root covers sound full =
+    subst (Learns t) (sym same)
+    (λ system s is stage. honest_of (settles g) system s (parts_of g) b t (subst (λ (x : FormSettler). b ≡ search_box (parts_of x)) same root) covers sound full is stage)

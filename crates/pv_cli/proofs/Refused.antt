@@ -10,6 +10,7 @@ use Rattle.pv_join.specs.declared.verdict.Audit.TheVariants.{DiffersAt}
 use Rattle.pv_file.specs.Lines.{outcome_line}
 use Rattle.pv_cli.specs.Systems.{Files, HasRule, RefusesRule, search_box}
 use Rattle.pv_cli.specs.Reads.{IsLineAt, IsDiffers}
+use Rattle.pv_cli.specs.Audited.{IsFoundOther}
 use Rattle.pv_cli.specs.Files.{HoldsPaving, RefusesFile, RefusesPavings, HasNoJoin, RefusesOpening}
 use Rattle.pv_cli.specs.Products.{RefusesJoined, HasBadPaving, RefusesAudit}
 use Rattle.pv_cli.specs.declared.request.Form.{Form}
@@ -32,19 +33,19 @@ IsLate (TreeLimit n) = Unit {0}
 IsLate (Disagree p a b) = ⊥
 IsLate (Differs p a b) = Unit {0}
 
-no_one : (before after : Files) (identity : List ℕ) (b : List Bounds) (name : List ℕ) (r : Refusal) → IsLate r → RefusesFile before after identity b name r → ⊥
-no_one before after identity b name Usage late h = late
-no_one before after identity b name (System line column byte cause) late h = late
-no_one before after identity b name (Contract byte) late h = late
-no_one before after identity b name (NoFile n) late h = late
-no_one before after identity b name (ReadFault n) late h = late
-no_one before after identity b name (Paving m f) late h = late
-no_one before after identity b name (NotStored n) late h = late
-no_one before after identity b name NotPrinted late h = late
-no_one before after identity b name Memory late h = late
-no_one before after identity b name (TreeLimit n) late h = h
-no_one before after identity b name (Disagree p a b) late h = late
-no_one before after identity b name (Differs p a b) late h = h
+no_one : (before after : Files) (identity : List ℕ) (root : List Bounds) (name : List ℕ) (r : Refusal) → IsLate r → RefusesFile before after identity root name r → ⊥
+no_one before after identity root name Usage late h = late
+no_one before after identity root name (System line column byte cause) late h = late
+no_one before after identity root name (Contract byte) late h = late
+no_one before after identity root name (NoFile n) late h = late
+no_one before after identity root name (ReadFault n) late h = late
+no_one before after identity root name (Paving m f) late h = late
+no_one before after identity root name (NotStored n) late h = late
+no_one before after identity root name NotPrinted late h = late
+no_one before after identity root name Memory late h = late
+no_one before after identity root name (TreeLimit n) late h = h
+no_one before after identity root name (Disagree p a b) late h = late
+no_one before after identity root name (Differs p a b) late h = h
 
 no_rule : (before after : Files) (system : List ℕ) (s : Settings) (r : Refusal) → IsLate r → RefusesRule before after system s r → ⊥
 no_rule before after system s Usage late h = late
@@ -89,7 +90,7 @@ opening_refused before after system names s budget Memory h = h
 opening_refused before after system names s budget (Disagree p a b) h = h
 opening_refused before after system names s budget (Differs p a b) h = h
 
-pub difference : (form : Form) (before : Files) (system name : List ℕ) (s : Settings) (rule : SettlerParts) (t : Tree) (path : List Bool) (due : Outcome) (after : Files) (r : Refusal) → HasRule before system s rule
+difference : (form : Form) (before : Files) (system name : List ℕ) (s : Settings) (rule : SettlerParts) (t : Tree) (path : List Bool) (due : Outcome) (after : Files) (r : Refusal) → HasRule before system s rule
     → HoldsPaving before (identity_as form rule) (search_box rule) name t → IsVerdict (settle_as form rule) rule.depth (search_box rule) t (DiffersAt path due) → IsDiffers t path due r → RefusesAudit form before after system name s r
 difference form before system name s rule t path due after (Differs p a b) read held (first, same, no_stage) (here, file, owed) =
     let f : IsFirstDifference (settle_as form rule) rule.depth (search_box rule) t p =
@@ -115,6 +116,15 @@ difference form before system name s rule t path due after (NotStored n) read he
 difference form before system name s rule t path due after NotPrinted read held verdict told = absurd told
 difference form before system name s rule t path due after (TreeLimit n) read held verdict told = absurd told
 difference form before system name s rule t path due after (Disagree p a b) read held verdict told = absurd told
+
+memory_refused : (form : Form) (before after : Files) (system name : List ℕ) (s : Settings) (r : Refusal) → r ≡ Memory → RefusesAudit form before after system name s r
+memory_refused form before after system name s r e = subst (RefusesAudit form before after system name s) (sym e) (inl tt)
+
+pub found_other : (form : Form) (before : Files) (system name : List ℕ) (s : Settings) (rule : SettlerParts) (t : Tree) (after : Files) (r : Refusal) → HasRule before system s rule
+    → HoldsPaving before (identity_as form rule) (search_box rule) name t → IsFoundOther form rule t r → RefusesAudit form before after system name s r
+found_other form before system name s rule t after r read held (inl h) =
+    difference form before system name s rule t h.path h.due after r read held h.verdict h.told
+found_other form before system name s rule t after r read held (inr e) = memory_refused form before after system name s r e
 
 no_audit : (form : Form) (before after : Files) (system name : List ℕ) (s : Settings) (r : Refusal) → IsLate r → RefusesRule before after system s r ⊎ HasBadPaving form before after system name s r → ⊥
 no_audit form before after system name s r late (inl h) = no_rule before after system s r late h

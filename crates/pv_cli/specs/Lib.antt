@@ -18,5 +18,6 @@ pub mod Scenes
 pub mod Samples
 pub mod Telling
 pub mod Resumed
+pub mod Audited
 pub mod Merges
 pub mod StatusLaws

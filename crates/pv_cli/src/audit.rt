@@ -1,14 +1,17 @@
 //! `audit` and `audit-centered`: settle again what a paving file says is settled.
-ghost use Rattle.std.specs.Prelude.{◌≡◌, IfOk, IfErr, IsSome};
+ghost use Rattle.std.specs.Prelude.{◌≡◌, IfOk, IfErr, IsSome, length};
 ghost use Rattle.pv_tree.specs.Trees.{outcome_at};
 ghost use Rattle.pv_file.specs.Lines.{outcome_line};
-ghost use Rattle.pv_cli.specs.Systems.{files, AreOnlyRead};
+ghost use Rattle.pv_settle.specs.Rules.{dims_of};
+ghost use Rattle.pv_cli.specs.Systems.{files, AreOnlyRead, search_box};
+ghost use Rattle.pv_cli.specs.FormSettlers.{form_of, parts_of};
+ghost use Rattle.pv_cli.specs.Audited.{IsFoundHonest, IsFoundOther};
 ghost use Rattle.pv_cli.specs.Products.{ComesOfAudit, RefusesAudit};
 ghost use Rattle.pv_cli.specs.Reads.{IsDiffers};
 ghost use Rattle.pv_cli.specs.Made.{made};
 
 use crate::Refusal;
-use crate::form_settler::form_settler_in;
+use crate::form_settler::{FormSettler, form_settler_in};
 use crate::opening::line_at;
 use crate::pavings::{Key, paving_in};
 use crate::product::Product;
@@ -54,12 +57,28 @@ pub(crate) fn audit<'a, F: Folder>(
         Ok(paving) => paving,
         Err(refusal) => return Err(refusal),
     };
-    match settler.audit(alloc, &paving)? {
+    audited(alloc, &settler, &paving)
+}
+
+// Says that a paving of the search box is a stage of the open one.
+fn audited<'a>(
+    alloc: Global,
+    settler: &FormSettler,
+    paving: &Paving,
+) -> Result<Product, Refusal<'a>>
+    requires root { paving.now.root ≡ search_box (parts_of settler.now) }
+    requires dims { length paving.now.root ≡ dims_of (parts_of settler.now) }
+    ensures honest { IfOk result
+        (λ p. IsFoundHonest (form_of settler.now) (parts_of settler.now) paving.now.tree (made p)) }
+    ensures other { IfErr result
+        (IsFoundOther (form_of settler.now) (parts_of settler.now) paving.now.tree) }
+{
+    match settler.audit(alloc, paving)? {
         Audit::Honest => {
-            settler.learn_honest(&paving);
+            settler.learn_honest(paving);
             Ok(Product::Text(Vec::from_slice(alloc, b"honest\n")?))
         }
-        Audit::DiffersAt { path, outcome } => Err(differs(alloc, &paving, path, &outcome)),
+        Audit::DiffersAt { path, outcome } => Err(differs(alloc, paving, path, &outcome)),
     }
 }
 

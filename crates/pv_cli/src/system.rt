@@ -1,5 +1,5 @@
 //! The system of a command, and its settler.
-ghost use Rattle.std.specs.Prelude.{◌≡◌, ◌≤◌, ℕ, List, length, IfOk, IfErr};
+ghost use Rattle.std.specs.Prelude.{◌≡◌, ◌≤◌, ◌<◌, ◌^◌, ℕ, List, length, IfOk, IfErr, OnOk};
 ghost use Rattle.pv_ctc.specs.Plans.{plan_of};
 ghost use Rattle.pv_ctc.specs.Refusals.{IsSpelling};
 ghost use Rattle.pv_settle.specs.Settlers.{rule_of};
@@ -130,6 +130,7 @@ fn program_for<'a>(
     system: &System,
     settings: &Settings<'a>,
 ) -> Result<Program, Refusal<'a>>
+    ensures few { OnOk result (length system.now.constraints < 2 ^ 32) }
     ensures program { IfOk result (λ p.
         IsSpelling (length system.now.constraints) settings.now.contract.now (plan_of p)) }
     ensures refused { IfErr result (RefusesSettings system.now settings.now) }

@@ -1,4 +1,4 @@
-use Rattle.std.proofs.Common.{◌<◌, ◌^◌, length, sym, subst, arith}
+use Rattle.std.proofs.Common.{length, sym, subst}
 use Rattle.pv_ctc.specs.Plans.{plan_of}
 use Rattle.pv_ctc.specs.Refusals.{IsSpelling}
 use Rattle.pv_slope.specs.Settlers.{rule_of}
@@ -9,6 +9,5 @@ pub returns-clause-rule : goal.returns-clause-rule
 returns-clause-rule c =
     let s = c.in_ok-new.ensures in
     let n = length c.args.system.constraints in
-    let few : n < 2 ^ 32 = omega (arith, c.system.invariant.few_constraints) in
     let program = subst (λ p. IsSpelling n c.args.settings.now.contract.now (plan_of p)) (sym s.program) c.in-Ok.ensures.program in
-    rule_for c.args.system c.args.settings.now (rule_of c.in_ok-new.field-0) few program s.system s.sides s.eps s.depth s.bisector
+    rule_for c.args.system c.args.settings.now (rule_of c.in_ok-new.field-0) c.in-Ok.ensures.few program s.system s.sides s.eps s.depth s.bisector

@@ -1,0 +1,34 @@
+use Rattle.std.proofs.Common.{inl, List, ap, subst}
+use Rattle.pv_interval.specs.Bounds.{Bounds}
+use Rattle.pv_tree.specs.Trees.{leaf}
+use Rattle.pv_tree.specs.Stages.{IsStage}
+use Rattle.pv_join.specs.Audits.{IsVerdict}
+use Rattle.pv_join.specs.declared.verdict.Audit.TheVariants.{DiffersAt}
+use Rattle.pv_cli.specs.FormSettlers.{parts_of, settles}
+use Rattle.pv_cli.specs.Products.{text}
+use Rattle.pv_cli.proofs.audit.audited.Goals as goal
+
+pub returns-in-Honest-clause-honest : goal.returns-in-Honest-clause-honest
+returns-in-Honest-clause-honest c =
+    let s = c.args.settler.now in
+    let t = c.args.paving.now.tree in
+    let verdict = subst (IsVerdict (settles s) (parts_of s).depth c.args.paving.now.root t) c.in-Honest.is c.in_ok-audit.ensures in
+    record {
+      honest = λ system settings is. c.learn_honest.ensures system settings is
+          (subst (λ (b : List Bounds). IsStage (settles s) (parts_of s).depth b leaf t) c.requires.root verdict);
+      is = ap text c.in_ok-from_slice-in-Honest.ensures.items;
+    }
+
+pub returns-clause-other : goal.returns-clause-other
+returns-clause-other c =
+    let s = c.args.settler.now in
+    let t = c.args.paving.now.tree in
+    let path = c.in-DiffersAt.path in
+    let due = c.in-DiffersAt.outcome in
+    inl (record {
+      path = path;
+      due = due;
+      verdict = subst (λ (b : List Bounds). IsVerdict (settles s) (parts_of s).depth b t (DiffersAt path due)) c.requires.root
+          (subst (IsVerdict (settles s) (parts_of s).depth c.args.paving.now.root t) c.in-DiffersAt.is c.in_ok-audit.ensures);
+      told = c.differs.ensures;
+    })
