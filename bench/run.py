@@ -8,7 +8,7 @@
     python3 bench/run.py printing           the share of instructions that printing takes, where there is valgrind
     python3 bench/run.py growth             how the time grows as --eps is halved
     python3 bench/run.py files              a large paving file: stored, joined with itself and in eight parts, audited
-    python3 bench/run.py workers            how much faster 2, 3, 4 and 16 workers are than one, on five systems
+    python3 bench/run.py workers            how much faster 2, 3, 4 and 16 workers are than one, on six systems
     python3 bench/run.py tickets            what the pool's jobs and the board's tickets cost
     python3 bench/run.py trees              milliseconds for settling, counting, copying, joining and auditing a large tree
 
@@ -126,16 +126,36 @@ def paving(folder):
         print(line, flush=True)
 
 
+def side_by_side(words, count):
+    """The best time in which so many runs of one worker end that start together, each storing under a name of its own."""
+    best = float("inf")
+    for _ in range(TURNS):
+        start = time.perf_counter()
+        runs = [subprocess.Popen([*map(str, words[:-1]), f"{words[-1]}{i}", "--workers", "1"], stdout=subprocess.DEVNULL)
+                for i in range(count)]
+        for run in runs:
+            run.wait()
+        best = min(best, time.perf_counter() - start)
+    return best
+
+
 def workers(folder):
-    """Seconds from start to end with one worker, and how many times as fast more of them are. Nothing is printed."""
-    chosen = ("ring", "Gough slice, 12 constraints", "torus", "planar arm", "strict order, a deep tree")
+    """Milliseconds from start to end by so many workers, those of processors in brackets, and how many times as fast as one
+    they are; and how much four runs of one worker get done side by side, which is all that the machine can do. Nothing is printed."""
+    chosen = ("ring", "Gough slice, 12 constraints", "rate law, 8 measurements", "torus", "planar arm",
+              "strict order, a deep tree")
     for title, file, words in PAVINGS:
-        if title in chosen:
-            words = [*paving_of(folder, file, words), "--out", Path(folder) / "paving"]
-            alone, printed = seconds([TOP / "paver", "run", *words, "--workers", "1"])
-            shares = [f"{count} workers {alone / seconds([TOP / 'paver', 'run', *words, '--workers', count])[0]:5.2f}"
-                      for count in (2, 3, 4, 16)]
-            print(f"{title:28} {int(printed.split()[1]):7} nodes {alone:6.3f} s, {', '.join(shares)}", flush=True)
+        if title not in chosen:
+            continue
+        words = [TOP / "paver", "run", *paving_of(folder, file, words), "--out", Path(folder) / "paving"]
+        alone, parts = None, []
+        for count in (1, 2, 3, 4, 16):
+            spent, printed = seconds([*words, "--workers", count])
+            used = min(processor_seconds([*words, "--workers", count])[0] for _ in range(TURNS))
+            alone = alone or spent
+            parts.append(f"{count}: {spent * 1000:.0f} ({used * 1000:.0f}) x{alone / spent:.2f}")
+        limit = 4 * alone / side_by_side(words, 4)
+        print(f"{title:28} {int(printed.split()[1]):7} nodes, {', '.join(parts)}, four runs at once x{limit:.2f}", flush=True)
 
 
 def printing(folder):

@@ -4,13 +4,13 @@ _paver() {
     local settings="--eps --depth --bisect --contract"
     COMPREPLY=()
     if [ "$COMP_CWORD" -eq 1 ]; then
-        mapfile -t COMPREPLY < <(compgen -W "check run resume merge audit svg sample run-centered audit-centered" -- "$word")
+        mapfile -t COMPREPLY < <(compgen -W "check run resume merge audit svg sample run-centered audit-centered least" -- "$word")
         return
     fi
     case $before in
         --bisect) mapfile -t COMPREPLY < <(compgen -W "largest round" -- "$word"); return ;;
         --contract) mapfile -t COMPREPLY < <(compgen -W "prop(8) hc4( compose( union( qinter( fix( prop(" -- "$word"); return ;;
-        --eps|--depth|--boxes|--workers|--x|--y|--at|--seed|--count) return ;;
+        --eps|--depth|--boxes|--workers|--x|--y|--at|--seed|--count|--of) return ;;
         --out) mapfile -t COMPREPLY < <(compgen -f -- "$word"); return ;;
     esac
     if [[ $word == -* ]]; then
@@ -20,6 +20,7 @@ _paver() {
             audit|audit-centered) mapfile -t COMPREPLY < <(compgen -W "$settings" -- "$word") ;;
             svg) mapfile -t COMPREPLY < <(compgen -W "$settings --x --y --at" -- "$word") ;;
             sample) mapfile -t COMPREPLY < <(compgen -W "--seed --count" -- "$word") ;;
+            least) mapfile -t COMPREPLY < <(compgen -W "$settings --boxes --of" -- "$word") ;;
         esac
         return
     fi

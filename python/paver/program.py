@@ -131,7 +131,7 @@ def has(command, program=None):
     """Whether the program has a command, or `run --out`: with it, a system that is not there is no file."""
     words = {"run --out": ["run", "--out=none"]}.get(command, [command])
     pavings = ["none"] if command in ("resume", "merge", "audit", "audit-centered", "svg") else []
-    words += ["--x=x", "--y=y"] if command == "svg" else []
+    words += ["--x=x", "--y=y"] if command == "svg" else ["--of=x"] if command == "least" else []
     return call([*words, "--", "/no such folder/no such system", *pavings], program)[0] == 11
 
 

@@ -1,5 +1,6 @@
 """The example systems and the options that each is run with."""
 from fractions import Fraction
+from pathlib import Path
 
 
 def pairs(count):
@@ -31,6 +32,18 @@ EXAMPLES = [
 # Those that are paved by centered forms, too.
 CENTERED = ["pi_gains", "arm_configurations", "bounded_error_fit", "damped_gains", "platform_determinant",
             "lyapunov_fall"]
+# Searches for the least value of an expression, with growing budgets and widths that fall.
+LEAST = [(name, ["--of", of, "--eps", eps, "--boxes", boxes]) for name, of, searches in (
+    ("best_fit", "error", (("0.0625", "1000"), ("0.015625", "100"), ("0.015625", "1000"), ("0.00390625", "10000"))),
+    ("least_derivative_gain", "kd", (("0.5", "1000"), ("0.125", "100"), ("0.125", "1000"), ("0.03125", "10000"),
+                                     ("0.0078125", "10000"))),
+) for eps, boxes in searches]
+
+
+def least_answers():
+    """What each search of LEAST has to come to: its status and the printed words, by its name and words."""
+    rows = (line.split(" | ") for line in (Path(__file__).parent / "least.txt").read_text().splitlines())
+    return {(name, tuple(words.split())): answer for name, words, answer in rows}
 
 
 def settings_of(words):

@@ -6,13 +6,15 @@
 The summaries are those of tests/data/summaries.txt, which the plain paver worked out; the pictures are drawn by
 examples/pictures.sh, and bench/centered.py measured the times of tests/data/centered_times.txt.
 """
+import math
 import sys
-from itertools import takewhile
+from fractions import Fraction
+from itertools import groupby, takewhile
 from pathlib import Path
 
 TOP = Path(__file__).resolve().parents[2]
 sys.path.insert(0, str(TOP / "tests"))
-from data.examples import EXAMPLES  # noqa: E402
+from data.examples import EXAMPLES, LEAST, least_answers  # noqa: E402
 
 HEAD = """# Gallery
 
@@ -29,6 +31,12 @@ SIDE_BY_SIDE = """
 |---|---|---|---|---|---|
 """
 
+LEAST_HEAD = """
+## Least values
+
+The next two ask for the least value of an expression. No value on the set is below the lower bound; the point is in the set, and its value is at most the upper bound. The numbers are rounded outward to six digits here. Leaves are settled in their order, so the lower bound moves once the search comes to its end, and then it is as good as the width of the small boxes lets it be. The answers are those that the plain paver worked out.
+"""
+
 TITLES = {"pi_gains": "PI gains", "robust_pid": "Robust PID", "three_rpr": "3-RPR platform"}
 
 
@@ -43,7 +51,7 @@ def question_of(name):
         lines = text[2:text.index("*/")].strip().splitlines()
     else:
         lines = [line[2:] for line in takewhile(lambda line: line.startswith("//"), text.splitlines())]
-    return "\n".join(f"> {line.strip()}  " for line in lines if "paver run" not in line)
+    return "\n".join(f"> {line.strip()}  " for line in lines if "  paver " not in line)
 
 
 def summaries():
@@ -76,9 +84,50 @@ def side_by_side():
     return text
 
 
+def decimal(word, up):
+    """A printed number to six digits behind the point, rounded down or up."""
+    if word in ("none", "-oo", "+oo"):
+        return word
+    mantissa, exponent = map(int, word.split(":"))
+    scaled = Fraction(mantissa) * Fraction(2) ** exponent * 10**6
+    whole = math.ceil(scaled) if up else math.floor(scaled)
+    return f"{'-' if whole < 0 else ''}{abs(whole) // 10**6}.{abs(whole) % 10**6:06}"
+
+
+def search_row(words, answer):
+    options, (status, _, lower, _, upper) = dict(zip(words[::2], words[1::2])), answer.split()[:5]
+    end = "ended" if status == "0" else "budget spent"
+    return f"| {options['--eps']} | {options['--boxes']} | {decimal(lower, False)} | {decimal(upper, True)} | {end} |\n"
+
+
+def lines_of(answer):
+    """The printed lines of an answer's words."""
+    return answer.split(" ", 1)[1].replace(" upper ", "\nupper ").replace(" point ", "\npoint ")
+
+
+def least_entry(name, searches, answers):
+    words = searches[-1]
+    rows = "".join(search_row(words, answers[name, tuple(words)]) for words in searches)
+    return f"""
+### {title_of(name)}
+
+{question_of(name)}
+
+```
+$ paver least examples/{name}.mbx {" ".join(words)}
+{lines_of(answers[name, tuple(words)])}
+```
+
+| `--eps` | `--boxes` | lower | upper | search |
+|---|---|---|---|---|
+{rows}"""
+
+
 def main():
-    found = summaries()
-    text = HEAD + "".join(entry(name, words, found[name]) for name, words in EXAMPLES) + side_by_side()
+    found, answers = summaries(), least_answers()
+    text = HEAD + "".join(entry(name, words, found[name]) for name, words in EXAMPLES) + side_by_side() + LEAST_HEAD
+    for name, searches in groupby(LEAST, key=lambda search: search[0]):
+        text += least_entry(name, [words for _, words in searches], answers)
     (TOP / "docs" / "GALLERY.md").write_text(text)
 
 

@@ -136,8 +136,7 @@ def row(text, of, budget, known, answer):
 def worked(domains, constraints, of, budget, known):
     text = f"Variables {domains}; Constraints {constraints}; end"
     system = minibex.read(text)
-    scope = {name: ("var", i) for i, name in enumerate(system.names)}
-    e = minibex.Reader(of).expression(scope)
+    e = least.expression(system, of)
     answer = least.least(Settler(system), e, budget)
     looked_at(text, system, e, known, answer)
     return text, of, budget, known, answer

@@ -351,6 +351,21 @@ def first_fault(text):
     return late.args if late else None
 
 
+def first_expression_fault(text, variables):
+    """The same for the text of an expression over these variables."""
+    if len(text) > 65536:
+        return 65536, "TextTooLong"
+    reader = Reader(text)
+    reader.variables = list(variables)
+    try:
+        reader.expression()
+        if reader.token.kind != "end":
+            reader.refuse()
+    except Fault as fault:
+        return fault.args
+    return None
+
+
 def line_of(text):
     """The line that the program has to print for a refused text, or None."""
     found = first_fault(text)

@@ -1,9 +1,10 @@
 """The least value of an expression over a set, straight from its definition, slow and plain.
 
 Every step looks at all leaves in preorder again: which open leaf is settled next, and which of the
-points of inner leaves is the best so far.
+points of inner leaves is the best so far. What a leaf tells of the expression is worked out once.
 """
-from .numbers import NEG_INF, POS_INF, is_finite, middle
+from . import minibex
+from .numbers import POS_INF, is_finite, middle, spelling
 from .paver import Constraint, Empty, halves
 
 ANY = Constraint((None, None, None))
@@ -35,41 +36,62 @@ def candidates(to):
     yield [x[1] if is_finite(x[1]) else c for x, c in zip(to, centres)]
 
 
-def best(e, leaves):
+def counting(e, to):
+    """The bound and the point of each candidate that counts, in their order."""
+    for point in candidates(to):
+        at = forward(e, [(n, n) for n in point])
+        if at is not None and at[1]:
+            yield at[0][1], point
+
+
+class Leaf:
+    """An open leaf ("O"), or what an inner ("I") or small ("S") one kept of its box, with what it tells of e."""
+
+    def __init__(self, e, kind, box, length):
+        self.kind, self.box, self.length = kind, box, length
+        self.low = low(e, box)
+        self.points = list(counting(e, box)) if kind == "I" else []
+
+
+def best(leaves):
     """The first counting point of least bound with that bound; None where no point counts."""
-    found = []
-    for leaf in leaves:
-        if leaf[0] == "I":
-            for point in candidates(leaf[1]):
-                at = forward(e, [(n, n) for n in point])
-                if at is not None and at[1]:
-                    found.append((at[0][1], point))
-    return min(found, key=lambda pair: pair[0]) if found else None
+    return min((pair for leaf in leaves for pair in leaf.points), key=lambda pair: pair[0], default=None)
 
 
-def next_leaf(e, leaves, upper):
-    for i, leaf in enumerate(leaves):
-        if leaf[0] == "O":
-            end = low(e, leaf[1])
-            if end is not None and end <= upper:
-                return i
-    return None
+def next_leaf(leaves, upper):
+    admitted = (i for i, leaf in enumerate(leaves)
+                if leaf.kind == "O" and leaf.low is not None and leaf.low <= upper)
+    return next(admitted, None)
+
+
+def settled_leaves(settler, e, leaf):
+    """The leaves that settling an open one leaves in its place."""
+    outcome = settler.settle(leaf.box, max(0, settler.depth - leaf.length), leaf.length)
+    if outcome[0] == "C":
+        return [Leaf(e, "O", half, leaf.length + 1) for half in halves(*outcome[1:])]
+    return [] if outcome[0] == "X" else [Leaf(e, outcome[0], outcome[1], leaf.length)]
 
 
 def least(settler, e, budget):
     """(lower, (upper, point) or None, settled, done)"""
-    leaves, settled = [("O", settler.root, 0)], 0
+    leaves, settled = [Leaf(e, "O", settler.root, 0)], 0
     while True:
-        found = best(e, leaves)
-        i = next_leaf(e, leaves, POS_INF if found is None else found[0])
+        found = best(leaves)
+        i = next_leaf(leaves, POS_INF if found is None else found[0])
         if i is None or settled == budget:
             break
-        _, box, length = leaves[i]
-        outcome = settler.settle(box, max(0, settler.depth - length), length)
+        leaves[i:i + 1] = settled_leaves(settler, e, leaves[i])
         settled += 1
-        if outcome[0] == "C":
-            leaves[i:i + 1] = [("O", half, length + 1) for half in halves(*outcome[1:])]
-        else:
-            leaves[i:i + 1] = [] if outcome[0] == "X" else [(outcome[0], outcome[1], length)]
-    ends = [end for end in (low(e, leaf[1]) for leaf in leaves) if end is not None]
-    return min(ends, default=POS_INF), found, settled, i is None
+    return min((leaf.low for leaf in leaves if leaf.low is not None), default=POS_INF), found, settled, i is None
+
+
+def expression(system, text):
+    """The expression of a text over a system's variables."""
+    return minibex.Reader(text).expression({name: ("var", i) for i, name in enumerate(system.names)})
+
+
+def printed(lower, found):
+    """The lines that `least` prints."""
+    if found is None:
+        return [f"lower {spelling(lower)}", "upper none"]
+    return [f"lower {spelling(lower)}", f"upper {spelling(found[0])}", " ".join(["point", *map(spelling, found[1])])]

@@ -38,6 +38,8 @@ def commands():
         "a bad file": (["audit", "r", "bad", *QUARTER], None),
         "no file": (["run", "no"], None),
         "sample": (["sample", "--seed", "7", "--count", "1"], None),
+        "least": (["least", "s", *QUARTER, "--boxes", "400", "--of", "x+y*y"], None),
+        "a refused expression": (["least", "s", "--of", "x+"], None),
         "words": (["run", "s", "--eps"], None),
         "a contract": (["run", "s", "--contract", "union(hc4(0),prop(3),q)"], None),
     }

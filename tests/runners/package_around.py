@@ -14,14 +14,15 @@ import paver
 from package_checks import Skipped
 
 TOP = Path(__file__).resolve().parents[2]
-COMMANDS = ["check", "run", "resume", "merge", "audit", "svg", "sample", "run-centered", "audit-centered"]
+COMMANDS = ["check", "run", "resume", "merge", "audit", "svg", "sample", "run-centered", "audit-centered", "least"]
 SETTINGS = ["eps", "depth", "bisect", "contract"]
 RUN_OPTIONS = [*SETTINGS, "boxes", "workers", "out"]
 SVG_OPTIONS = [*SETTINGS, "x", "y", "at"]
 SAMPLE_OPTIONS = ["seed", "count"]
-OPTIONS = [*RUN_OPTIONS, "x", "y", "at", *SAMPLE_OPTIONS]
+LEAST_OPTIONS = [*SETTINGS, "boxes", "of"]
+OPTIONS = [*RUN_OPTIONS, "x", "y", "at", *SAMPLE_OPTIONS, "of"]
 STATUSES = ["0", "1", "2", "3", "4", "5", "6", "7", "8", "9", "11"]
-LINES = ["usage: paver COMMAND SYSTEM [OPTIONS] [PAVING..]", "contract: refused at byte B",
+LINES = ["usage: paver COMMAND SYSTEM [OPTIONS] [PAVING..]", "contract: refused at byte B", "objective: byte B: CAUSE",
          "system: line L column C byte B: CAUSE", "paving NAME: too long", "paving NAME: wrong identity",
          "paving NAME: bad line L", "paving NAME: too many nodes at line L", "read fault: NAME", "write fault: NAME",
          "write fault: standard output", "want of memory", "tree limit: N settled", "disagree PATH: A | B",
@@ -70,6 +71,7 @@ def check_completions():
     assert completed("paver", "audit-centered", "--") == completed("paver", "audit", "--")
     assert sorted(completed("paver", "svg", "--")) == sorted(f"--{name}" for name in SVG_OPTIONS)
     assert sorted(completed("paver", "sample", "--")) == sorted(f"--{name}" for name in SAMPLE_OPTIONS)
+    assert sorted(completed("paver", "least", "--")) == sorted(f"--{name}" for name in LEAST_OPTIONS)
     assert sorted(completed("paver", "audit", "--")) == ["--bisect", "--contract", "--depth", "--eps"]
     assert "--boxes" not in completed("paver", "merge", "s", "--")
     assert completed("paver", "run", "s", "--bisect", "") == ["largest", "round"]
@@ -91,6 +93,7 @@ def check_fish():
     assert sorted(fish_offers("paver run s --")) == sorted(f"--{name}" for name in RUN_OPTIONS)
     assert sorted(fish_offers("paver run-centered s --")) == sorted(f"--{name}" for name in RUN_OPTIONS)
     assert sorted(fish_offers("paver svg s --")) == sorted(f"--{name}" for name in SVG_OPTIONS)
+    assert sorted(fish_offers("paver least s --")) == sorted(f"--{name}" for name in LEAST_OPTIONS)
     assert sorted(fish_offers("paver audit s --")) == ["--bisect", "--contract", "--depth", "--eps"]
     assert fish_offers("paver run s --bisect r") == ["round"]
 

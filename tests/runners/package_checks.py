@@ -1,5 +1,6 @@
 """Checks of the package's calls of the program: statuses as exceptions, numbers, and the commands on stored files."""
 import hashlib
+import math
 import random
 import tempfile
 from fractions import Fraction
@@ -258,10 +259,27 @@ def check_sampled():
     raised(paver.UsageError, lambda: paver.sample(1, 17))
 
 
+def check_least():
+    needs("least")
+    text = "Variables x in [0,1]; Constraints 1/x >= 0; end\n"
+    with tempfile.TemporaryDirectory() as folder:
+        name = Path(folder) / "s"
+        name.write_text(text)
+        open_yet = paver.least(name, "x", eps=0.25, boxes=3)
+        assert (open_yet.lower, open_yet.upper, open_yet.point, open_yet.complete) == (0, None, None, False)
+        found = paver.least(name, "x", eps=Fraction(1, 4))
+        assert (found.lower, found.upper, found.point, found.complete) == (0, Fraction(1, 4), (Fraction(1, 4),), True)
+        assert paver.least(name, "-x").lower == -1
+        assert paver.least(name, "1/0").lower == math.inf
+        raised(paver.ObjectiveRefused, lambda: paver.least(name, "2*"), byte=2, cause="EndOfText")
+        raised(paver.UsageError, lambda: paver.least(name, "x", boxes=0))
+
+
 def checks():
     expected = dict(line.split(" ", 2)[:2] for line in EXPECTED.read_text().splitlines())
     named = [check_numbers, check_minibex_numbers, check_lines, check_refusals, check_answers, check_depths, check_canonical,
-             check_missing, check_stored, check_resumed, check_merged, check_audited, check_centered, check_drawn, check_sampled]
+             check_missing, check_stored, check_resumed, check_merged, check_audited, check_centered, check_drawn, check_sampled,
+             check_least]
     found = [(check.__name__[6:].replace("_", " "), check, ()) for check in named]
     return found + [(f"the reference's text of {name}", check_digest, (name, words, expected[name]))
                     for name, words in EXAMPLES]

@@ -11,3 +11,5 @@ pub mod Openings
 pub mod Dealing
 pub mod Filling
 pub mod Absorbed
+pub mod StageTickets
+pub mod Recalls

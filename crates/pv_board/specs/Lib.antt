@@ -7,3 +7,4 @@ pub mod Piles
 pub mod Openings
 pub mod Tallies
 pub mod Absorbing
+pub mod Children

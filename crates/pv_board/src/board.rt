@@ -245,6 +245,9 @@ impl<N: Naming> Board<N> {
     {
         let _places = self.paving.dims();
         let issued = self.leaves.marks.len();
+        if issued == 0 {
+            return;
+        }
         self.leaves.recall(&self.paving);
         self.steps = self.steps.wrapping_add(issued);
     }

@@ -1,9 +1,10 @@
 //! What lies under the lock: the board and the books.
-ghost use Rattle.std.specs.Prelude.{◌≡◌, ◌+◌, ◌-◌, ◌<◌, ◌≤◌, [], ◌++◌, false, IsTrue, is_some, IsSome, length, option_to_list, min, if◌then◌else◌};
-ghost use Rattle.pv_tree.specs.Trees.{subtree, box_of};
+ghost use Rattle.std.specs.Prelude.{◌≡◌, ◌+◌, ◌-◌, ◌<◌, ◌≤◌, [], ◌++◌, false, IsTrue, is_some, IsSome, Some, length, option_to_list, min, if◌then◌else◌};
+ghost use Rattle.pv_tree.specs.Trees.{leaf, subtree, box_of};
 ghost use Rattle.pv_tree.specs.Stages.{full_of};
 ghost use Rattle.pv_board.specs.Marks.{issued};
 ghost use Rattle.pv_board.specs.Rules.{IsStageBelow, settled_in};
+ghost use Rattle.pv_board.specs.Children.{AreFirst};
 ghost use Rattle.pv_board.specs.Core.{Core};
 ghost use Rattle.pv_board.specs.Events.{IsOver};
 ghost use Rattle.pv_board.specs.declared.ticket.Look.TheVariants.{Done};
@@ -120,9 +121,15 @@ impl<N: Naming> Desk<N> {
         requires some { 1 ≤ settled_in stage.now.tree }
         requires few { settled_in stage.now.tree ≤ 1 + ticket.grant }
         requires empty { children.old ≡ [] }
-        ensures { told.new ≡ handed_in told.old (if result then settled_in stage.now.tree else 0)
-            (length children.new) }
+        ensures told { told.new ≡ handed_in told.old
+            (if result then settled_in stage.now.tree else 0) (length children.new) }
+        ensures children { IsTrue result → AreFirst ticket.path stage.now.tree children.new }
+        ensures stale { result ≡ false → children.new ≡ [] }
+        ensures full { IsTrue result →
+            subtree (full_of N.rule N.depth N.root N.opening 0) ticket.path ≡ Some
+            (full_of N.rule N.depth stage.now.root leaf (length ticket.path)) }
     {
+        let _used = self.board.used();
         let _grant = ticket.grant();
         let settled = stage.counts().settled();
         let is_current = self.board.settle_stage(ticket, stage, children);
@@ -159,6 +166,26 @@ impl<N: Naming> Desk<N> {
     {
         let _used = self.board.used();
         self.board.box_of(ticket, into)
+    }
+
+    pub(crate) fn prepare(&mut self, ticket: &mut Ticket, want: u64, into: &mut IBox) -> bool
+        requires units { ticket.old.grant + want ≤ 15 }
+        requires dims { length into.old ≡ N.dims }
+        ensures path { ticket.new.path ≡ ticket.old.path }
+        ensures least { ticket.old.grant ≤ ticket.new.grant }
+        ensures most { ticket.new.grant ≤ ticket.old.grant + want }
+        ensures is { IsTrue result → into.new ≡
+            box_of N.root (full_of N.rule N.depth N.root N.opening 0) ticket.old.path }
+        ensures in_full { IsTrue result →
+            IsSome (subtree (full_of N.rule N.depth N.root N.opening 0) ticket.old.path) }
+        ensures same { result ≡ false → (into.new ≡ into.old) × (ticket.new ≡ ticket.old) }
+        ensures places { length into.new ≡ length into.old }
+    {
+        if !self.box_of(ticket, into) {
+            return false;
+        }
+        self.extend(ticket, want);
+        true
     }
 
     pub(crate) fn stop(&mut self) {

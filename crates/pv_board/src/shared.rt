@@ -1,9 +1,10 @@
 //! A board behind a lock, for several callers.
-ghost use Rattle.std.specs.Prelude.{◌≡◌, ◌≢◌, ◌+◌, ◌-◌, ◌<◌, ◌≤◌, [], false, IsTrue, is_some, IsSome, length, if◌then◌else◌};
-ghost use Rattle.pv_tree.specs.Trees.{subtree, box_of};
+ghost use Rattle.std.specs.Prelude.{◌≡◌, ◌≢◌, ◌+◌, ◌-◌, ◌<◌, ◌≤◌, [], false, IsTrue, is_some, IsSome, Some, length, if◌then◌else◌};
+ghost use Rattle.pv_tree.specs.Trees.{leaf, subtree, box_of};
 ghost use Rattle.pv_tree.specs.Stages.{full_of};
 ghost use Rattle.pv_board.specs.Marks.{issued};
 ghost use Rattle.pv_board.specs.Rules.{IsStageBelow, settled_in};
+ghost use Rattle.pv_board.specs.Children.{AreFirst};
 ghost use Rattle.pv_board.specs.Events.{IsOver};
 ghost use Rattle.pv_board.specs.Tallies.{tally_of, handed_in, given_more, told_of, one_if, tickets_in, IsLow};
 ghost use Rattle.pv_board.specs.declared.ticket.Look.TheVariants.{Done, Same};
@@ -71,7 +72,8 @@ impl<N: Naming> Shared<N> {
         settled
     }
 
-    /// Puts a stage of a ticket's leaf in the leaf's place, and wakes all who wait.
+    /// Puts a stage of a ticket's leaf in the leaf's place, and wakes all who wait. The children are tickets of the first open leaves of
+    /// the stage, in preorder.
     pub fn settle_stage<R: Wait>(
         &self,
         rt: &R,
@@ -89,8 +91,13 @@ impl<N: Naming> Shared<N> {
         requires some { 1 ≤ settled_in stage.now.tree }
         requires few { settled_in stage.now.tree ≤ 1 + ticket.grant }
         requires empty { children.old ≡ [] }
-        ensures { told.new ≡ handed_in told.old (if result then settled_in stage.now.tree else 0)
-            (length children.new) }
+        ensures told { told.new ≡ handed_in told.old
+            (if result then settled_in stage.now.tree else 0) (length children.new) }
+        ensures children { IsTrue result → AreFirst ticket.path stage.now.tree children.new }
+        ensures stale { result ≡ false → children.new ≡ [] }
+        ensures full { IsTrue result →
+            subtree (full_of N.rule N.depth N.root N.opening 0) ticket.path ≡ Some
+            (full_of N.rule N.depth stage.now.root leaf (length ticket.path)) }
     {
         let is_current = self
             .desk
@@ -130,6 +137,23 @@ impl<N: Naming> Shared<N> {
         ensures places { length into.new ≡ length into.old }
     {
         self.desk.lock(rt).box_of(ticket, into)
+    }
+
+    /// Writes the box of a ticket's path as `box_of` does, and moves units to its grant as `extend` does, both at once.
+    pub fn prepare<R: Wait>(&self, rt: &R, ticket: &mut Ticket, want: u64, into: &mut IBox) -> bool
+        requires units { ticket.old.grant + want ≤ 15 }
+        requires dims { length into.old ≡ N.dims }
+        ensures path { ticket.new.path ≡ ticket.old.path }
+        ensures least { ticket.old.grant ≤ ticket.new.grant }
+        ensures most { ticket.new.grant ≤ ticket.old.grant + want }
+        ensures is { IsTrue result → into.new ≡
+            box_of N.root (full_of N.rule N.depth N.root N.opening 0) ticket.old.path }
+        ensures in_full { IsTrue result →
+            IsSome (subtree (full_of N.rule N.depth N.root N.opening 0) ticket.old.path) }
+        ensures same { result ≡ false → (into.new ≡ into.old) × (ticket.new ≡ ticket.old) }
+        ensures places { length into.new ≡ length into.old }
+    {
+        self.desk.lock(rt).prepare(ticket, want, into)
     }
 
     /// Changes the number that idle callers look at, and wakes all who wait.

@@ -12,7 +12,7 @@ use Rattle.pv_cli.specs.Found.{IsNoCommand, RefusesValues, RefusesCommand, Refus
 use Rattle.pv_cli.specs.Ends.{RefusesWords}
 use Rattle.pv_cli.specs.declared.request.Request.{Request}
 use Rattle.pv_cli.specs.declared.refusal.Refusal.{Refusal}
-use Rattle.pv_cli.specs.declared.refusal.Refusal.TheVariants.{Usage, System, Contract, NoFile, ReadFault, Paving, NotStored, NotPrinted, Memory, TreeLimit, Disagree, Differs}
+use Rattle.pv_cli.specs.declared.refusal.Refusal.TheVariants.{Usage, System, Contract, Objective, NoFile, ReadFault, Paving, NotStored, NotPrinted, Memory, TreeLimit, Disagree, Differs}
 use Rattle.pv_cli.proofs.Known.{IsACommand, IsKnown, known}
 
 paver_free : is_simple_and_free paver_app ≡ true
@@ -64,6 +64,7 @@ refuses_value name rows c Usage e bad = inr (record { command = c; named = e; ba
 refuses_value name rows c Memory e bad = tt
 refuses_value name rows c (System line column byte cause) e bad = bad
 refuses_value name rows c (Contract byte) e bad = bad
+refuses_value name rows c (Objective byte cause) e bad = bad
 refuses_value name rows c (NoFile n) e bad = bad
 refuses_value name rows c (ReadFault n) e bad = bad
 refuses_value name rows c (Paving n fault) e bad = bad
@@ -84,6 +85,7 @@ refuses_command words p Usage e is h = inr (subst HasBadValueIn (sym e) (bad_val
 refuses_command words p Memory e is h = tt
 refuses_command words p (System line column byte cause) e is h = h
 refuses_command words p (Contract byte) e is h = h
+refuses_command words p (Objective byte cause) e is h = h
 refuses_command words p (NoFile n) e is h = h
 refuses_command words p (ReadFault n) e is h = h
 refuses_command words p (Paving n fault) e is h = h

@@ -8,13 +8,14 @@ use Rattle.pv_cli.specs.Scenes.{RefusesScene}
 use Rattle.pv_cli.specs.declared.request.Settings.{Settings}
 use Rattle.pv_cli.specs.declared.request.View.{View}
 use Rattle.pv_cli.specs.declared.refusal.Refusal.{Refusal}
-use Rattle.pv_cli.specs.declared.refusal.Refusal.TheVariants.{Usage, System, Contract, NoFile, ReadFault, Paving, NotStored, NotPrinted, Memory, TreeLimit, Disagree, Differs}
+use Rattle.pv_cli.specs.declared.refusal.Refusal.TheVariants.{Usage, System, Contract, Objective, NoFile, ReadFault, Paving, NotStored, NotPrinted, Memory, TreeLimit, Disagree, Differs}
 
 module _ (before after : Files) (system : Text) (s : Settings) (v : View) where
   pub scene_refused : (name : Text) (r : Refusal) → RefusesScene before after system s v r → RefusesSvg before after system name s v r
   scene_refused name Usage h = h
   scene_refused name (System line column byte cause) h = inl h
   scene_refused name (Contract byte) h = inl h
+  scene_refused name (Objective byte cause) h = inl h
   scene_refused name (NoFile n) h = inl h
   scene_refused name (ReadFault n) h = inl h
   scene_refused name (Paving n f) h = inl h
@@ -29,6 +30,7 @@ module _ (before after : Files) (system : Text) (s : Settings) (v : View) where
   picture_refused name Usage h = absurd h.refused
   picture_refused name (System line column byte cause) h = inr h
   picture_refused name (Contract byte) h = inr h
+  picture_refused name (Objective byte cause) h = inr h
   picture_refused name (NoFile n) h = inr h
   picture_refused name (ReadFault n) h = inr h
   picture_refused name (Paving n f) h = inr h

@@ -15,7 +15,7 @@ use Rattle.pv_cli.specs.declared.pavings.Key.{Key}
 use Rattle.pv_cli.specs.declared.refusal.FileFault.{FileFault}
 use Rattle.pv_cli.specs.declared.refusal.FileFault.TheVariants.{TooLong, WrongIdentity, BadLine, TooManyNodes}
 use Rattle.pv_cli.specs.declared.refusal.Refusal.{Refusal}
-use Rattle.pv_cli.specs.declared.refusal.Refusal.TheVariants.{Usage, System, Contract, NoFile, ReadFault, Paving, NotStored, NotPrinted, Memory, TreeLimit, Disagree, Differs}
+use Rattle.pv_cli.specs.declared.refusal.Refusal.TheVariants.{Usage, System, Contract, Objective, NoFile, ReadFault, Paving, NotStored, NotPrinted, Memory, TreeLimit, Disagree, Differs}
 
 pub only_read_on : (a b c : Files) → AreOnlyRead a b → AreOnlyRead b c → AreOnlyRead a c
 only_read_on a b c h k = record {
@@ -48,6 +48,7 @@ module _ (a b : Files) (read : AreOnlyRead a b) where
   fetch_before c name Usage h = h
   fetch_before c name (System line column byte cause) h = h
   fetch_before c name (Contract byte) h = h
+  fetch_before c name (Objective byte cause) h = h
   fetch_before c name (Paving n f) h = h
   fetch_before c name (NotStored n) h = h
   fetch_before c name NotPrinted h = h
@@ -72,6 +73,7 @@ module _ (a b : Files) (read : AreOnlyRead a b) where
   refused_before c identity root name Usage h = h
   refused_before c identity root name (System line column byte cause) h = h
   refused_before c identity root name (Contract byte) h = h
+  refused_before c identity root name (Objective byte cause) h = h
   refused_before c identity root name (NotStored n) h = h
   refused_before c identity root name NotPrinted h = h
   refused_before c identity root name (TreeLimit n) h = h

@@ -10,16 +10,42 @@ use Rattle.pv_parse.specs.declared.refused.ParseRefused.{ParseRefused}
 use Rattle.pv_parse.specs.declared.refused.ParseRefused.TheVariants as parse
 use Rattle.pv_cli.specs.Requests.{Asks, AreRefused, out_of}
 use Rattle.pv_cli.specs.Systems.{Files, AreOnlyRead}
-use Rattle.pv_cli.specs.Products.{Product, text, paved, printed_of, HasStatus, ComesOf, RefusesWork}
+use Rattle.pv_cli.specs.Printing.{RefusesPrint}
+use Rattle.pv_cli.specs.Products.{Product, text, unfinished, paved, printed_of, HasStatus, ComesOf, RefusesWork}
 use Rattle.pv_cli.specs.Ends.{Stream, Outside, AreUntouched, AreOthersKept, IsStored, IsKept, IsDelivered, IsCutOff, RefusesDelivery, IsAnswered, RefusesRequest, RefusesWords, IsRefusedSo, in_words, in_request, Tells, IsEnd}
 use Rattle.pv_cli.specs.declared.request.Request.{Request}
 use Rattle.pv_cli.specs.declared.refusal.Refusal.{Refusal}
-use Rattle.pv_cli.specs.declared.refusal.Refusal.TheVariants.{Usage, System, Contract, NoFile, ReadFault, Paving, NotStored, NotPrinted, Memory, TreeLimit, Disagree, Differs}
+use Rattle.pv_cli.specs.declared.refusal.Refusal.TheVariants.{Usage, System, Contract, Objective, NoFile, ReadFault, Paving, NotStored, NotPrinted, Memory, TreeLimit, Disagree, Differs}
 use Rattle.pv_cli.specs.declared.status.Status.{Status}
 use Rattle.pv_cli.proofs.Earlier.{only_read_on}
 
 pub same_files : (f : Files) → AreOnlyRead f f
 same_files f = record { content = λ name. refl; fetch_faults = omega arith; store_faults = refl }
+
+-- ---- A text, for which nothing is stored, whatever file is asked for
+
+front_printed : (out : Option Text) (t : List ℕ) (f : Files) (x y : Stream) → AppendsFront x.written y.written t → IsCutOff out (text t) f f x y
+front_printed None t f x y front = record { files = same_files f; out = front }
+front_printed (Some name) t f x y front = record { files = same_files f; out = front }
+
+pub text_delivered : (out : Option Text) (t : List ℕ) (f : Files) (x y : Stream) → y.written ≡ appended x.written t → IsDelivered out (text t) f f x y
+text_delivered None t f x y printed = record { files = same_files f; out = printed }
+text_delivered (Some name) t f x y printed = record { files = same_files f; out = printed }
+
+pub text_undelivered : (out : Option Text) (t : List ℕ) (f : Files) (x y : Stream) (r : Refusal) → RefusesPrint x y t r → RefusesDelivery out (text t) f f x y r
+text_undelivered out t f x y NotPrinted h = (front_printed out t f x y h.0, h.1)
+text_undelivered out t f x y Memory h = inr (front_printed out t f x y h)
+text_undelivered out t f x y Usage h = h
+text_undelivered out t f x y (System line column byte cause) h = h
+text_undelivered out t f x y (Contract byte) h = h
+text_undelivered out t f x y (Objective byte cause) h = h
+text_undelivered out t f x y (NoFile n) h = h
+text_undelivered out t f x y (ReadFault n) h = h
+text_undelivered out t f x y (Paving n fault) h = h
+text_undelivered out t f x y (NotStored n) h = absurd h
+text_undelivered out t f x y (TreeLimit n) h = h
+text_undelivered out t f x y (Disagree path u v) h = h
+text_undelivered out t f x y (Differs path u v) h = h
 
 -- ---- A delivery that begins where files were only read
 
@@ -40,6 +66,7 @@ module _ (a b c : Files) (read : AreOnlyRead a b) (x y : Stream) where
   kept_on : (out : Option Text) (p : Product) → IsKept out p b c → IsKept out p a c
   kept_on None p h = only_read_on a b c read h
   kept_on (Some name) (text t) h = only_read_on a b c read h
+  kept_on (Some name) (unfinished t) h = only_read_on a b c read h
   kept_on (Some name) (paved identity root t) h = stored_on name _ h
 
   cut_on : (out : Option Text) (p : Product) → IsCutOff out p b c x y → IsCutOff out p a c x y
@@ -61,6 +88,7 @@ module _ (a b c : Files) (read : AreOnlyRead a b) (x y : Stream) where
   delivery_on out p Usage h = h
   delivery_on out p (System line column byte cause) h = h
   delivery_on out p (Contract byte) h = h
+  delivery_on out p (Objective byte cause) h = h
   delivery_on out p (NoFile n) h = h
   delivery_on out p (ReadFault n) h = h
   delivery_on out p (Paving n f) h = h

@@ -14,7 +14,7 @@ use Rattle.pv_join.proofs.JoinFacts.{side_some, side_left, top_is}
 use Rattle.pv_cli.specs.Files.{AllTrees, AnyTree, IsJoinOf, RefusesJoin}
 use Rattle.pv_cli.specs.Reads.{IsLineAt, IsDisagree, AreOver, trees_of}
 use Rattle.pv_cli.specs.declared.refusal.Refusal.{Refusal}
-use Rattle.pv_cli.specs.declared.refusal.Refusal.TheVariants.{Usage, System, Contract, NoFile, ReadFault, Paving, NotStored, NotPrinted, Memory, TreeLimit, Disagree, Differs}
+use Rattle.pv_cli.specs.declared.refusal.Refusal.TheVariants.{Usage, System, Contract, Objective, NoFile, ReadFault, Paving, NotStored, NotPrinted, Memory, TreeLimit, Disagree, Differs}
 
 -- ---- Lists of trees
 
@@ -102,6 +102,7 @@ disagreement ts us joined next path Memory j first h = tt
 disagreement ts us joined next path Usage j first h = h
 disagreement ts us joined next path (System line column byte cause) j first h = h
 disagreement ts us joined next path (Contract byte) j first h = h
+disagreement ts us joined next path (Objective byte cause) j first h = h
 disagreement ts us joined next path (NoFile n) j first h = h
 disagreement ts us joined next path (ReadFault n) j first h = h
 disagreement ts us joined next path (Paving n f) j first h = h

@@ -19,3 +19,4 @@ pub mod Drawn
 pub mod Planes
 pub mod Few
 pub mod Sampled
+pub mod Searched

@@ -34,14 +34,14 @@ use Rattle.pv_cli.specs.Refusals.{status_of}
 use Rattle.pv_cli.specs.Systems.{Files, IsFetched, HasSystem, IsRuleFor, HasRule, search_box}
 use Rattle.pv_cli.specs.Pavings.{settled_in}
 use Rattle.pv_cli.specs.Files.{HasPaving, HavePavings, AllTrees, AnyTree, IsJoinOf, HasOpening, IsDisagreement}
-use Rattle.pv_cli.specs.Products.{Product, text, paved, HasStatus, ComesOf, ComesOfMerge, IsOverLimit, RefusesJoined, RefusesWork}
+use Rattle.pv_cli.specs.Products.{Product, text, unfinished, paved, HasStatus, ComesOf, ComesOfMerge, IsOverLimit, RefusesJoined, RefusesWork}
 use Rattle.pv_cli.specs.Ends.{Stream, Outside, IsKept, IsDelivered, IsAnswered, RefusesDelivery, RefusesWords, IsRefusedSo, in_words, in_request, Tells}
 use Rattle.pv_cli.specs.Merges.{IsTree, AreSameTrees, JoinAlike, IsNamed, AreSameNames, AreSameSettings, AreSameMerge, AskForSameMerge, AreTold, EndAlike, MergesEndAlike, MergesAreTakenAlike}
 use Rattle.pv_cli.specs.declared.request.Settings.{Settings}
 use Rattle.pv_cli.specs.declared.request.Request.{Request}
 use Rattle.pv_cli.specs.declared.request.Request.TheVariants.{Check, Run, Resume, Merge, Audit}
 use Rattle.pv_cli.specs.declared.refusal.Refusal.{Refusal}
-use Rattle.pv_cli.specs.declared.refusal.Refusal.TheVariants.{Usage, System, Contract, NoFile, ReadFault, Paving, NotStored, NotPrinted, Memory, TreeLimit, Disagree, Differs}
+use Rattle.pv_cli.specs.declared.refusal.Refusal.TheVariants.{Usage, System, Contract, Objective, NoFile, ReadFault, Paving, NotStored, NotPrinted, Memory, TreeLimit, Disagree, Differs}
 use Rattle.pv_cli.specs.declared.status.Status.{Status}
 use Rattle.pv_cli.specs.declared.status.Status.TheVariants as status
 use Rattle.pv_cli.proofs.Ends.{same_or_other}
@@ -245,6 +245,7 @@ product_alike before q r p other told h c d = absurd h
 kept_alike : (out : Option Text) (p : Product) (before one other : Files) → IsKept out p before one → IsKept out p before other → (name : Text) → one.content name ≡ other.content name
 kept_alike None p before one other h k name = h.content name ∙ sym (k.content name)
 kept_alike (Some m) (text t) before one other h k name = h.content name ∙ sym (k.content name)
+kept_alike (Some m) (unfinished t) before one other h k name = h.content name ∙ sym (k.content name)
 kept_alike (Some m) (paved identity b t) before one other h k name = by (same_or_other name m)
   where
     by : (name ≡ m) ⊎ (name ≡ m → ⊥) → one.content name ≡ other.content name
@@ -253,6 +254,7 @@ kept_alike (Some m) (paved identity b t) before one other h k name = by (same_or
 
 one_status : (p : Product) (s other : Status) → HasStatus p s → HasStatus p other → s ≡ other
 one_status (text t) s other h k = h ∙ sym k
+one_status (unfinished t) s other h k = h ∙ sym k
 one_status (paved identity b t) s other (inl h) (inl k) = h.0 ∙ sym k.0
 one_status (paved identity b t) s other (inl h) (inr k) = absurd (k.1 h.1)
 one_status (paved identity b t) s other (inr h) (inl k) = absurd (h.1 k.1)
@@ -341,6 +343,7 @@ module _ (before after : Files) (system : Text) (names others : List Text) (x y 
   not_refused Usage over k = over
   not_refused (System line column byte cause) over k = over
   not_refused (Contract byte) over k = over
+  not_refused (Objective byte cause) over k = over
   not_refused (NoFile n) over k = over
   not_refused (ReadFault n) over k = over
   not_refused (Paving n f) over k = over
@@ -361,6 +364,7 @@ words_over words (Differs path a b) over h = h
 words_over words Usage over h = over
 words_over words (System line column byte cause) over h = over
 words_over words (Contract byte) over h = over
+words_over words (Objective byte cause) over h = over
 words_over words (NoFile n) over h = over
 words_over words (ReadFault n) over h = over
 words_over words (Paving n f) over h = over
@@ -375,6 +379,7 @@ delivery_over out p before after x y (Differs path a b) over h = h
 delivery_over out p before after x y Usage over h = over
 delivery_over out p before after x y (System line column byte cause) over h = over
 delivery_over out p before after x y (Contract byte) over h = over
+delivery_over out p before after x y (Objective byte cause) over h = over
 delivery_over out p before after x y (NoFile n) over h = over
 delivery_over out p before after x y (ReadFault n) over h = over
 delivery_over out p before after x y (Paving n f) over h = over

@@ -8,7 +8,7 @@ use Rattle.pv_num.specs.Extended.{Extended}
 use Rattle.pv_interval.specs.Bounds.{Bounds, everything}
 use Rattle.pv_expr.specs.Searches.{search_bounds}
 use Rattle.pv_expr.specs.Systems.{Parts}
-use Rattle.pv_parse.specs.Declarations.{variables_in, name_of, domain_in}
+use Rattle.pv_parse.proofs.Outcomes.{domains_named}
 use Rattle.pv_settle.specs.Rules.{SettlerParts, dims_of}
 use Rattle.pv_settle.specs.Settlers.{rule_of}
 use Rattle.pv_settle.specs.Settling.{settle_by, is_member}
@@ -52,10 +52,7 @@ no_plane_in before system s v parts rule read is none = record {
 -- a system that was read has a domain for each name
 pub dims_from : (before : Files) (system : Text) (s : Settings) (rule : SettlerParts) → HasRule before system s rule → length (search_box rule) ≡ dims_of rule
 dims_from before system s rule h =
-    let means = h.read.means in
-    let variables = variables_in means.text.reading.marks in
-    let same : length h.system.domains ≡ length h.system.names =
-    ap length means.domains ∙ (length-map variables domain_in ∙ (sym (length-map variables name_of) ∙ sym (ap length means.names))) in
+    let same : length h.system.domains ≡ length h.system.names = domains_named h.read.text h.system h.read.means in
     length-map rule.system.domains search_bounds ∙ subst (λ (p : Parts). length p.domains ≡ length p.names) (sym h.is.system_is) same
 
 pub fits_root : (rule : SettlerParts) (x y : Text) (at : List Extended) (plane : Plane) (root : List Bounds) → length root ≡ dims_of rule

@@ -16,13 +16,14 @@ use Rattle.pv_cli.specs.Products.{RefusesJoined, HasBadPaving, RefusesAudit}
 use Rattle.pv_cli.specs.declared.request.Form.{Form}
 use Rattle.pv_cli.specs.declared.request.Settings.{Settings}
 use Rattle.pv_cli.specs.declared.refusal.Refusal.{Refusal}
-use Rattle.pv_cli.specs.declared.refusal.Refusal.TheVariants.{Usage, System, Contract, NoFile, ReadFault, Paving, NotStored, NotPrinted, Memory, TreeLimit, Disagree, Differs}
+use Rattle.pv_cli.specs.declared.refusal.Refusal.TheVariants.{Usage, System, Contract, Objective, NoFile, ReadFault, Paving, NotStored, NotPrinted, Memory, TreeLimit, Disagree, Differs}
 
 -- the tree is too large, or the paving differs
 abbrev IsLate : Refusal → Type 0
 IsLate Usage = ⊥
 IsLate (System line column byte cause) = ⊥
 IsLate (Contract byte) = ⊥
+IsLate (Objective byte cause) = ⊥
 IsLate (NoFile n) = ⊥
 IsLate (ReadFault n) = ⊥
 IsLate (Paving n f) = ⊥
@@ -37,6 +38,7 @@ no_one : (before after : Files) (identity : List ℕ) (root : List Bounds) (name
 no_one before after identity root name Usage late h = late
 no_one before after identity root name (System line column byte cause) late h = late
 no_one before after identity root name (Contract byte) late h = late
+no_one before after identity root name (Objective byte cause) late h = late
 no_one before after identity root name (NoFile n) late h = late
 no_one before after identity root name (ReadFault n) late h = late
 no_one before after identity root name (Paving m f) late h = late
@@ -51,6 +53,7 @@ no_rule : (before after : Files) (system : List ℕ) (s : Settings) (r : Refusal
 no_rule before after system s Usage late h = late
 no_rule before after system s (System line column byte cause) late h = late
 no_rule before after system s (Contract byte) late h = late
+no_rule before after system s (Objective byte cause) late h = late
 no_rule before after system s (NoFile n) late h = late
 no_rule before after system s (ReadFault n) late h = late
 no_rule before after system s (Paving n f) late h = late
@@ -81,6 +84,7 @@ opening_refused before after system names s budget (TreeLimit n) h = absurd (no_
 opening_refused before after system names s budget Usage h = h
 opening_refused before after system names s budget (System line column byte cause) h = h
 opening_refused before after system names s budget (Contract byte) h = h
+opening_refused before after system names s budget (Objective byte cause) h = h
 opening_refused before after system names s budget (NoFile n) h = h
 opening_refused before after system names s budget (ReadFault n) h = h
 opening_refused before after system names s budget (Paving n f) h = h
@@ -109,6 +113,7 @@ difference form before system name s rule t path due after Memory read held verd
 difference form before system name s rule t path due after Usage read held verdict told = absurd told
 difference form before system name s rule t path due after (System line column byte cause) read held verdict told = absurd told
 difference form before system name s rule t path due after (Contract byte) read held verdict told = absurd told
+difference form before system name s rule t path due after (Objective byte cause) read held verdict told = absurd told
 difference form before system name s rule t path due after (NoFile n) read held verdict told = absurd told
 difference form before system name s rule t path due after (ReadFault n) read held verdict told = absurd told
 difference form before system name s rule t path due after (Paving n f) read held verdict told = absurd told
@@ -136,6 +141,7 @@ audit_refused form before after system name s (Differs p a b) h = absurd (no_aud
 audit_refused form before after system name s Usage h = h
 audit_refused form before after system name s (System line column byte cause) h = h
 audit_refused form before after system name s (Contract byte) h = h
+audit_refused form before after system name s (Objective byte cause) h = h
 audit_refused form before after system name s (NoFile n) h = h
 audit_refused form before after system name s (ReadFault n) h = h
 audit_refused form before after system name s (Paving n f) h = h

@@ -25,7 +25,7 @@ use Rattle.pv_cli.specs.Samples.{IsMadeRule}
 use Rattle.pv_cli.specs.declared.request.Circles.{Circles}
 use Rattle.pv_cli.specs.declared.request.Settings.{Settings}
 use Rattle.pv_cli.specs.declared.refusal.Refusal.{Refusal}
-use Rattle.pv_cli.specs.declared.refusal.Refusal.TheVariants.{Usage, System, Contract, NoFile, ReadFault, Paving, NotStored, NotPrinted, Memory, TreeLimit, Disagree, Differs}
+use Rattle.pv_cli.specs.declared.refusal.Refusal.TheVariants.{Usage, System, Contract, Objective, NoFile, ReadFault, Paving, NotStored, NotPrinted, Memory, TreeLimit, Disagree, Differs}
 
 -- ---- The width
 
@@ -57,6 +57,7 @@ no_rule c s system (Contract byte) for means h = record {
 no_rule c s system Memory for means h = tt
 no_rule c s system Usage for means h = h
 no_rule c s system (System line column byte cause) for means h = absurd h
+no_rule c s system (Objective byte cause) for means h = h
 no_rule c s system (NoFile n) for means h = h
 no_rule c s system (ReadFault n) for means h = h
 no_rule c s system (Paving n f) for means h = h

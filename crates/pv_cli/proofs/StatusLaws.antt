@@ -1,32 +1,35 @@
 -- What each status says, by the cases of how a command ends.
-use Rattle.std.proofs.Common.{◌≡◌, ◌⊎◌, inl, inr, ℕ, ◌<◌, ◌≤◌, if◌then◌else◌, Bool, List, [], ◌∷◌, map, length, refl, sym, ◌∙◌, ap, subst, arith}
+use Rattle.std.proofs.Common.{◌≡◌, ◌⊎◌, inl, inr, ℕ, ◌<◌, ◌≤◌, if◌then◌else◌, Bool, true, false, List, [], ◌∷◌, map, length, refl, sym, ◌∙◌, ap, subst, arith}
 use Rattle.std.specs.Prelude.{◌≢◌, Option, Some, None, codes, unwrap_or}
 use Rattle.std.specs.Str.{bytes_eq}
 use Rattle.std.specs.Borrow.{Bor}
 use Rattle.std.proofs.lemmas.List.{length-map}
+use Rattle.std.proofs.lemmas.Bool.{false≢true}
 use Rattle.clap.specs.Words.{Row, Text, fault_of, subcommand_of}
 use Rattle.pv_tree.specs.Trees.{Tree, leaf, opens}
 use Rattle.pv_settle.specs.Rules.{SettlerParts}
 use Rattle.pv_settle.specs.Spelling.{identity_of}
 use Rattle.pv_cli.specs.Commands.{paver_app}
-use Rattle.pv_cli.specs.Requests.{names_in, out_of, paving_names, AreSettings, IsEffort, ArePavings, HasBadSetting, bad_eps, bad_depth, bad_bisector, HasBadEffort, bad_workers, bad_boxes, HasManyPavings, AreCircles, HasBadCircles, bad_seed, bad_count, Command, checks, runs, resumes, merges, audits, draws, samples, name_of, HasBadValueFor, HasBadValue, IsAskedBy, IsAsked, Asks, HasBadValueIn, AreRefused}
+use Rattle.pv_cli.specs.Requests.{names_in, out_of, paving_names, AreSettings, IsEffort, ArePavings, HasBadSetting, bad_eps, bad_depth, bad_bisector, HasBadEffort, bad_workers, bad_boxes, HasManyPavings, AreCircles, HasBadCircles, bad_seed, bad_count, Command, checks, runs, resumes, merges, audits, draws, samples, seeks, name_of, HasBadValueFor, HasBadValue, IsAskedBy, IsAsked, Asks, HasBadValueIn, AreRefused}
 use Rattle.pv_cli.specs.Refusals.{status_of, line_of}
 use Rattle.pv_settle.specs.Settling.{settle_by}
 use Rattle.pv_cli.specs.Forms.{settle_as, identity_as}
 use Rattle.pv_cli.specs.Systems.{Files, HasRule, search_box}
 use Rattle.pv_cli.specs.Files.{RefusesPaving, RefusesPavings}
-use Rattle.pv_cli.specs.Products.{Product, text, paved, HasStatus, IsHonestBy, AreStages, full_as, full_by, ComesOf, ComesOfRun, ComesOfResume, ComesOfMerge, RefusesWork}
+use Rattle.pv_cli.specs.Leasts.{least_text}
+use Rattle.pv_cli.specs.Products.{Product, text, unfinished, paved, HasStatus, IsHonestBy, AreStages, full_as, full_by, report_as, ComesOf, ComesOfRun, ComesOfResume, ComesOfMerge, ComesOfLeast, RefusesWork}
 use Rattle.pv_cli.specs.Ends.{Stream, Outside, AreUntouched, IsKept, RefusesDelivery, RefusesWords, IsRefusedSo, in_words, in_request, IsTold, Tells}
-use Rattle.pv_cli.specs.StatusLaws.{IsFullRun, IsFullResume, IsClosedJoin, IsWhole, DoneIsWhole, IsPartRun, IsPartResume, IsOpenJoin, IsPart, OpenLeftIsPart, IsEarly, IsCause, IsRefusedEarly, EarlyIsUntouched, IsUnstored, IsUnprinted, IsUnwritten, WriteFaultIsUnwritten, IsCutOffText, MemoryLeaves, OthersStay, AskingIsNotRefused, IsWordsRefused, RefusedWordsEnd, HasBadContract, HasBadPlane, UsageIsOfWords}
+use Rattle.pv_cli.specs.StatusLaws.{IsFullRun, IsFullResume, IsClosedJoin, IsFinalLeast, IsWhole, DoneIsWhole, IsPartRun, IsPartResume, IsOpenJoin, IsPartLeast, IsPart, OpenLeftIsPart, IsEarly, IsCause, IsRefusedEarly, EarlyIsUntouched, IsUnstored, IsUnprinted, IsUnwritten, WriteFaultIsUnwritten, IsCutOffText, MemoryLeaves, OthersStay, AskingIsNotRefused, IsWordsRefused, RefusedWordsEnd, HasBadContract, HasBadExpression, HasBadPlane, HaveBadText, UsageIsOfWords}
 use Rattle.pv_cli.specs.declared.request.Form.{Form}
 use Rattle.pv_cli.specs.declared.request.Form.TheVariants.{Natural, Centered}
 use Rattle.pv_cli.specs.declared.request.Settings.{Settings}
 use Rattle.pv_cli.specs.declared.request.Effort.{Effort}
 use Rattle.pv_cli.specs.declared.request.Circles.{Circles}
+use Rattle.pv_cli.specs.declared.request.Search.{Search}
 use Rattle.pv_cli.specs.declared.request.Request.{Request}
-use Rattle.pv_cli.specs.declared.request.Request.TheVariants.{Check, Run, Resume, Merge, Audit, Svg, Sample}
+use Rattle.pv_cli.specs.declared.request.Request.TheVariants.{Check, Run, Resume, Merge, Audit, Svg, Sample, Least}
 use Rattle.pv_cli.specs.declared.refusal.Refusal.{Refusal}
-use Rattle.pv_cli.specs.declared.refusal.Refusal.TheVariants.{Usage, System, Contract, NoFile, ReadFault, Paving, NotStored, NotPrinted, Memory, TreeLimit, Disagree, Differs}
+use Rattle.pv_cli.specs.declared.refusal.Refusal.TheVariants.{Usage, System, Contract, Objective, NoFile, ReadFault, Paving, NotStored, NotPrinted, Memory, TreeLimit, Disagree, Differs}
 use Rattle.pv_cli.specs.declared.status.Status.{Status}
 use Rattle.pv_cli.specs.declared.status.Status.TheVariants as status
 
@@ -50,6 +53,7 @@ no_answer : (r : Refusal) → IsAnswer (status_of r) → ⊥
 no_answer Usage h = h
 no_answer (System line column byte cause) h = h
 no_answer (Contract byte) h = h
+no_answer (Objective byte cause) h = h
 no_answer (NoFile n) h = h
 no_answer (ReadFault n) h = h
 no_answer (Paving n f) h = h
@@ -67,6 +71,7 @@ not_told r s before after h (inr memory) = subst IsAnswer memory.0 h
 -- what was delivered has an answer's status
 is_answer : (p : Product) (s : Status) → HasStatus p s → IsAnswer s
 is_answer (text t) s h = subst IsAnswer (sym h) tt
+is_answer (unfinished t) s h = subst IsAnswer (sym h) tt
 is_answer (paved identity b t) s (inl h) = subst IsAnswer (sym h.0) tt
 is_answer (paved identity b t) s (inr h) = subst IsAnswer (sym h.0) tt
 
@@ -116,6 +121,21 @@ closed_join before system names s p h done = record {
   is = h.is;
 }
 
+is_final : (t : List ℕ) (d : Bool) → HasStatus (report_as t d) status.Done → d ≡ true
+is_final t true h = refl
+is_final t false h = absurd (not_open h)
+
+final_least : (before : Files) (system : Text) (s : Settings) (search : Search) (p : Product) → ComesOfLeast before system s search p → HasStatus p status.Done
+    → IsFinalLeast before system s search p
+final_least before system s search p h done =
+    let final : h.least.done ≡ true = is_final (least_text h.least) h.least.done (subst (λ (x : Product). HasStatus x status.Done) h.is done) in
+    record {
+      least = h.least;
+      found = h.found;
+      final = h.found.is.done.0 final;
+      is = h.is ∙ ap (report_as (least_text h.least)) final;
+    }
+
 whole_of : (before : Files) (q : Request) (p : Product) → ComesOf before q p → HasStatus p status.Done → IsWhole before q p
 whole_of before (Check system) p h done = h
 whole_of before (Run form system settings effort out) p h done = full_run form before _ settings _ p h done
@@ -124,6 +144,7 @@ whole_of before (Merge system pavings settings out) p h done = closed_join befor
 whole_of before (Audit form system paving settings) p h done = h
 whole_of before (Svg system paving settings view) p h done = h
 whole_of before (Sample circles) p h done = h
+whole_of before (Least system settings search) p h done = final_least before _ settings search p h done
 
 pub done_is_whole : DoneIsWhole
 done_is_whole words before after (inl d) = record {
@@ -188,6 +209,24 @@ open_join before system names s p h left = record {
   is = h.is;
 }
 
+is_cut_short : (t : List ℕ) (d : Bool) → HasStatus (report_as t d) status.OpenLeft → d ≡ false
+is_cut_short t true h = absurd (not_done h)
+is_cut_short t false h = refl
+
+not_final : (d : Bool) → d ≡ false → d ≡ true → ⊥
+not_final d e f = false≢true (sym e ∙ f)
+
+part_least : (before : Files) (system : Text) (s : Settings) (search : Search) (p : Product) → ComesOfLeast before system s search p → HasStatus p status.OpenLeft
+    → IsPartLeast before system s search p
+part_least before system s search p h left =
+    let short : h.least.done ≡ false = is_cut_short (least_text h.least) h.least.done (subst (λ (x : Product). HasStatus x status.OpenLeft) h.is left) in
+    record {
+      least = h.least;
+      found = h.found;
+      left = λ none. not_final h.least.done short (h.found.is.done.1 none);
+      is = h.is ∙ ap (report_as (least_text h.least)) short;
+    }
+
 part_of : (before : Files) (q : Request) (p : Product) → ComesOf before q p → HasStatus p status.OpenLeft → IsPart before q p
 part_of before (Check system) p h left = no_text p _ h.is left
 part_of before (Run form system settings effort out) p h left = part_run form before _ settings _ p h left
@@ -196,6 +235,7 @@ part_of before (Merge system pavings settings out) p h left = open_join before _
 part_of before (Audit form system paving settings) p h left = no_text p _ h.is left
 part_of before (Svg system paving settings view) p h left = no_text p _ h.is left
 part_of before (Sample circles) p h left = no_text p _ h.is left
+part_of before (Least system settings search) p h left = part_least before _ settings search p h left
 
 pub open_left_is_part : OpenLeftIsPart
 open_left_is_part words before after (inl d) = record {
@@ -233,6 +273,7 @@ module _ (before after : Files) where
   no_work_stored (Svg system paving settings view) m (inl h) = h
   no_work_stored (Svg system paving settings view) m (inr h) = h.refused
   no_work_stored (Sample circles) m h = h
+  no_work_stored (Least system settings search) m h = h
 
   printed_or_memory : NotPrinted ≡ Memory → ⊥
   printed_or_memory e = cc
@@ -251,11 +292,13 @@ module _ (before after : Files) where
   no_work_printed (Svg system paving settings view) (inl h) = h
   no_work_printed (Svg system paving settings view) (inr h) = h.refused
   no_work_printed (Sample circles) h = h
+  no_work_printed (Least system settings search) h = h
 
   no_delivery : (out : Option Text) (p : Product) (x y : Stream) (r : Refusal) → IsEarly (status_of r) → RefusesDelivery out p before after x y r → ⊥
   no_delivery out p x y Usage early h = h
   no_delivery out p x y (System line column byte cause) early h = h
   no_delivery out p x y (Contract byte) early h = h
+  no_delivery out p x y (Objective byte cause) early h = h
   no_delivery out p x y (NoFile n) early h = h
   no_delivery out p x y (ReadFault n) early h = h
   no_delivery out p x y (Paving n f) early h = h
@@ -287,6 +330,7 @@ words_cause words before after Usage early h = inl (refl, h)
 words_cause words before after Memory early h = absurd early
 words_cause words before after (System line column byte cause) early h = absurd h
 words_cause words before after (Contract byte) early h = absurd h
+words_cause words before after (Objective byte cause) early h = absurd h
 words_cause words before after (NoFile n) early h = absurd h
 words_cause words before after (ReadFault n) early h = absurd h
 words_cause words before after (Paving n f) early h = absurd h
@@ -351,6 +395,7 @@ unwritten words before after NotPrinted w (in_request q asks (inr f)) = record {
 unwritten words before after Usage w so = absurd w
 unwritten words before after (System line column byte cause) w so = absurd w
 unwritten words before after (Contract byte) w so = absurd w
+unwritten words before after (Objective byte cause) w so = absurd w
 unwritten words before after (NoFile n) w so = absurd w
 unwritten words before after (ReadFault n) w so = absurd w
 unwritten words before after (Paving n f) w so = absurd w
@@ -382,6 +427,7 @@ undelivered words before after q p Memory asks comes (inr cut) = inr (inl (recor
 undelivered words before after q p Usage asks comes h = absurd h
 undelivered words before after q p (System line column byte cause) asks comes h = absurd h
 undelivered words before after q p (Contract byte) asks comes h = absurd h
+undelivered words before after q p (Objective byte cause) asks comes h = absurd h
 undelivered words before after q p (NoFile n) asks comes h = absurd h
 undelivered words before after q p (ReadFault n) asks comes h = absurd h
 undelivered words before after q p (Paving n f) asks comes h = absurd h
@@ -403,6 +449,7 @@ memory_leaves words before after (inr r) = leaves words before after r.refusal r
 kept_others : (out : Option Text) (p : Product) (before after : Files) (name : Text) → IsKept out p before after → out ≢ Some name → after.content name ≡ before.content name
 kept_others None p before after name h other = h.content name
 kept_others (Some m) (text t) before after name h other = h.content name
+kept_others (Some m) (unfinished t) before after name h other = h.content name
 kept_others (Some m) (paved identity b t) before after name h other = h.kept.others name (λ e. other (ap Some (sym e)))
 
 unwritten_others : (before after : Outside) (q : Request) (p : Product) (name : Text) → out_of q ≢ Some name → IsUnstored q p before after ⊎ IsUnprinted q p before after
@@ -459,6 +506,7 @@ command_in t =
     else if bytes_eq t (codes "sample") then Some samples
     else if bytes_eq t (codes "run-centered") then Some (runs Centered)
     else if bytes_eq t (codes "audit-centered") then Some (audits Centered)
+    else if bytes_eq t (codes "least") then Some seeks
     else None
 
 named : (c : Command) → command_in (name_of c) ≡ Some c
@@ -472,6 +520,7 @@ named (audits Natural) = refl
 named (audits Centered) = refl
 named draws = refl
 named samples = refl
+named seeks = refl
 
 one_command : (name : Text) (c d : Command) → name ≡ name_of c → name ≡ name_of d → c ≡ d
 one_command name c d e f = ap (λ (o : Option Command). unwrap_or o c) (sym (named c) ∙ ap command_in (sym e ∙ f) ∙ named d)
@@ -484,6 +533,7 @@ command_of (Merge system pavings settings out) = merges
 command_of (Audit form system paving settings) = audits form
 command_of (Svg system paving settings view) = draws
 command_of (Sample circles) = samples
+command_of (Least system settings search) = seeks
 
 named_so : (name : Text) (rows : List Row) (q : Request) → IsAskedBy name rows q → name ≡ name_of (command_of q)
 named_so name rows (Check system) h = h.0
@@ -493,6 +543,7 @@ named_so name rows (Merge system pavings settings out) h = h.0
 named_so name rows (Audit form system paving settings) h = h.0
 named_so name rows (Svg system paving settings view) h = h.0
 named_so name rows (Sample circles) h = h.0
+named_so name rows (Least system settings search) h = h.0
 
 values_are_good : (name : Text) (rows : List Row) (q : Request) → IsAskedBy name rows q → HasBadValueFor (command_of q) rows → ⊥
 values_are_good name rows (Check system) h b = b
@@ -505,6 +556,8 @@ values_are_good name rows (Audit form system paving settings) h b = settings_are
 values_are_good name rows (Svg system paving settings view) h (inl b) = b view.at.items h.4.at
 values_are_good name rows (Svg system paving settings view) h (inr b) = settings_are_good rows settings h.3 b
 values_are_good name rows (Sample circles) h b = circles_are_good rows circles h.1 b
+values_are_good name rows (Least system settings search) h (inl b) = settings_are_good rows settings h.2 b
+values_are_good name rows (Least system settings search) h (inr b) = b search.boxes h.3.boxes
 
 asked_is_good : (name : Text) (rows : List Row) (q : Request) → IsAskedBy name rows q → HasBadValue name rows → ⊥
 asked_is_good name rows q h bad =
@@ -524,6 +577,7 @@ words_status words Usage h = inl refl
 words_status words Memory h = inr refl
 words_status words (System line column byte cause) h = absurd h
 words_status words (Contract byte) h = absurd h
+words_status words (Objective byte cause) h = absurd h
 words_status words (NoFile n) h = absurd h
 words_status words (ReadFault n) h = absurd h
 words_status words (Paving n f) h = absurd h
@@ -562,13 +616,17 @@ IsUsage status.KeeperFault = ⊥
 IsUsage status.NoFile = ⊥
 
 usage_so : (words : List Text) (before after : Outside) (r : Refusal) → IsUsage (status_of r) → IsRefusedSo words before after r
-    → AreRefused words ⊎ (HasBadContract words before.files after.files ⊎ HasBadPlane words before.files after.files)
+    → HaveBadText words before.files after.files
 usage_so words before after Usage u (in_words h same) = inl h
-usage_so words before after Usage u (in_request q asks (inl work)) = inr (inr (record { request = q; asks = asks; refused = work.0 }))
+usage_so words before after Usage u (in_request q asks (inl work)) = inr (inr (inr (record { request = q; asks = asks; refused = work.0 })))
 usage_so words before after Usage u (in_request q asks (inr f)) = absurd f.refused
 usage_so words before after (Contract byte) u (in_words h same) = absurd h
+usage_so words before after (Objective byte cause) u (in_words h same) = absurd h
 usage_so words before after (Contract byte) u (in_request q asks (inl work)) = inr (inl (record { request = q; asks = asks; byte = byte; refused = work.0 }))
+usage_so words before after (Objective byte cause) u (in_request q asks (inl work)) =
+    inr (inr (inl (record { request = q; asks = asks; byte = byte; cause = cause; refused = work.0 })))
 usage_so words before after (Contract byte) u (in_request q asks (inr f)) = absurd f.refused
+usage_so words before after (Objective byte cause) u (in_request q asks (inr f)) = absurd f.refused
 usage_so words before after (System line column byte cause) u so = absurd u
 usage_so words before after (NoFile n) u so = absurd u
 usage_so words before after (ReadFault n) u so = absurd u
@@ -581,7 +639,7 @@ usage_so words before after (Disagree p a b) u so = absurd u
 usage_so words before after (Differs p a b) u so = absurd u
 
 usage_told : (words : List Text) (before after : Outside) (r : Refusal) → IsRefusedSo words before after r → Tells r status.Usage before.err after.err
-    → AreRefused words ⊎ (HasBadContract words before.files after.files ⊎ HasBadPlane words before.files after.files)
+    → HaveBadText words before.files after.files
 usage_told words before after r so (inl told) = usage_so words before after r (subst IsUsage told.0 tt) so
 usage_told words before after r so (inr memory) = absurd (subst IsUsage memory.0 tt)
 

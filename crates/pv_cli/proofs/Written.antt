@@ -9,7 +9,7 @@ use Rattle.pv_cli.specs.Ends.{Stream, IsTold, Tells}
 use Rattle.pv_cli.specs.Telling.{TellsLine}
 use Rattle.pv_cli.specs.Printing.{RefusesPrint}
 use Rattle.pv_cli.specs.declared.refusal.Refusal.{Refusal}
-use Rattle.pv_cli.specs.declared.refusal.Refusal.TheVariants.{Usage, System, Contract, NoFile, ReadFault, Paving, NotStored, NotPrinted, Memory, TreeLimit, Disagree, Differs}
+use Rattle.pv_cli.specs.declared.refusal.Refusal.TheVariants.{Usage, System, Contract, Objective, NoFile, ReadFault, Paving, NotStored, NotPrinted, Memory, TreeLimit, Disagree, Differs}
 use Rattle.pv_cli.specs.declared.status.Status.{Status}
 use Rattle.pv_cli.specs.declared.status.Status.TheVariants.{WantOfMemory}
 use Rattle.pv_io.specs.declared.sink.WriteRefused.{WriteRefused}
@@ -74,6 +74,7 @@ print_first before after one two Memory h = front_first before.written after.wri
 print_first before after one two Usage h = h
 print_first before after one two (System line column byte cause) h = h
 print_first before after one two (Contract byte) h = h
+print_first before after one two (Objective byte cause) h = h
 print_first before after one two (NoFile n) h = h
 print_first before after one two (ReadFault n) h = h
 print_first before after one two (Paving n f) h = h

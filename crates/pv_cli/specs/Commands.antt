@@ -78,6 +78,9 @@ svg_app = with_option (codes "at") (with_needed (codes "y") (with_needed (codes 
 abbrev pub sample_app : App
 sample_app = with_needed (codes "count") (with_needed (codes "seed") (bare_app (codes "sample")))
 
+abbrev pub least_app : App
+least_app = with_needed (codes "of") (with_option (codes "boxes") (with_settings (system_app (codes "least"))))
+
 -- the command with one more subcommand
 abbrev pub with_command : App → App → App
 with_command app sub = with_subcommand app sub.top
@@ -87,8 +90,8 @@ paving_commands a =
     with_command (with_command (with_command (with_command (with_command (with_command (with_command a check_app) (run_app (codes "run")))
     resume_app) merge_app) (audit_app (codes "audit"))) svg_app) sample_app
 
-abbrev pub centered_commands : App → App
-centered_commands a = with_command (with_command a (run_app (codes "run-centered"))) (audit_app (codes "audit-centered"))
+abbrev pub further_commands : App → App
+further_commands a = with_command (with_command (with_command a (run_app (codes "run-centered"))) (audit_app (codes "audit-centered"))) least_app
 
 unfoldable pub paver_app : App
-paver_app = centered_commands (paving_commands top_app)
+paver_app = further_commands (paving_commands top_app)

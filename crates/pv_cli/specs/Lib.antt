@@ -9,6 +9,7 @@ pub mod Pavings
 pub mod Views
 pub mod Forms
 pub mod FormSettlers
+pub mod Leasts
 pub mod Products
 pub mod Made
 pub mod Ends

@@ -1,5 +1,5 @@
 -- What comes of a command's work.
-use Rattle.std.specs.Prelude.{◌≡◌, ◌≢◌, ◌⊎◌, ◌<◌, ◌≤◌, ◌+◌, ◌++◌, ◌∷◌, ℕ, pos, Bool, List, [], Option, Some, None, codes, decimal, length}
+use Rattle.std.specs.Prelude.{if◌then◌else◌, ◌≡◌, ◌≢◌, ◌⊎◌, ◌<◌, ◌≤◌, ◌+◌, ◌++◌, ◌∷◌, ℕ, pos, Bool, List, [], Option, Some, None, codes, decimal, length}
 use Rattle.hex.specs.Hex.{encode_lower}
 use Rattle.sha2.specs.Sha256.{sha256}
 use Rattle.clap.specs.Words.{Text}
@@ -31,22 +31,26 @@ use Rattle.pv_svg.specs.Planes.{Plane}
 use Rattle.pv_svg.specs.Rectangles.{picture_of}
 use Rattle.pv_svg.specs.Texts.{picture_text}
 use Rattle.pv_cli.specs.Views.{IsPlaneOf, HasNoPlane, IsSoundFor}
+use Rattle.pv_cli.specs.Leasts.{HasLeast, RefusesLeast, least_text}
 use Rattle.pv_cli.specs.Forms.{settle_as, identity_as}
 use Rattle.pv_cli.specs.Files.{HoldsPaving, HasPaving, RefusesFile, RefusesPaving, AllTrees, HasOpening, RefusesOpening}
 use Rattle.pv_cli.specs.declared.request.Form.{Form}
 use Rattle.pv_cli.specs.declared.request.Settings.{Settings}
 use Rattle.pv_cli.specs.declared.request.View.{View}
 use Rattle.pv_cli.specs.declared.request.Circles.{Circles}
+use Rattle.pv_cli.specs.declared.request.Search.{Search}
+use Rattle.pv_least.specs.declared.found.Least as known
 use Rattle.pv_cli.specs.declared.request.Request.{Request}
-use Rattle.pv_cli.specs.declared.request.Request.TheVariants.{Check, Run, Resume, Merge, Audit, Svg, Sample}
+use Rattle.pv_cli.specs.declared.request.Request.TheVariants.{Check, Run, Resume, Merge, Audit, Svg, Sample, Least}
 use Rattle.pv_cli.specs.declared.refusal.Refusal.{Refusal}
 use Rattle.pv_cli.specs.declared.refusal.Refusal.TheVariants.{Usage, System, Contract, Memory, TreeLimit, Differs}
 use Rattle.pv_cli.specs.declared.status.Status.{Status}
 use Rattle.pv_cli.specs.declared.status.Status.TheVariants.{Done, OpenLeft}
 
--- a text, or a paving of a box for an identity
+-- a text, one of a search that was cut short, or a paving of a box for an identity
 pub data Product : Type 0 where
   text : List ℕ → Product
+  unfinished : List ℕ → Product
   paved : List ℕ → List Bounds → Tree → Product
 
 unfoldable pub summary_of : Counts → List ℕ
@@ -57,12 +61,14 @@ summary_of c =
 -- what is printed of it: a paving's summary, and where no file is asked for its nodes' lines
 abbrev pub printed_of : Option Text → Product → List ℕ
 printed_of out (text t) = t
+printed_of out (unfinished t) = t
 printed_of None (paved identity b t) = summary_of (counts_of t) ++ lines_of One b t
 printed_of (Some name) (paved identity b t) = summary_of (counts_of t)
 
--- the status with which the command ends that delivered it: 1 says that a leaf is open
+-- the status with which the command ends that delivered it: 1 says that a leaf is open, or that a search was cut short
 abbrev pub HasStatus : Product → Status → Type 0
 HasStatus (text t) s = s ≡ Done
+HasStatus (unfinished t) s = s ≡ OpenLeft
 HasStatus (paved identity b t) s = ((s ≡ Done) × (opens t ≡ [])) ⊎ ((s ≡ OpenLeft) × (opens t ≢ []))
 
 -- ---- What is said of pavings
@@ -182,6 +188,16 @@ pub record ComesOfSample (c : Circles) (p : Product) : Type 0 where
   pub honest : IsHonest settings rule (full_by rule leaf)
   pub is : p ≡ text (report_of c (identity_of rule) (search_box rule) (full_by rule leaf))
 
+-- the text of a search, which was cut short unless it is done
+abbrev pub report_as : List ℕ → Bool → Product
+report_as t done = if done then text t else unfinished t
+
+-- `least` reports what is found of the least value of an expression over the system's set
+pub record ComesOfLeast (before : Files) (system : Text) (s : Settings) (search : Search) (p : Product) : Type 0 where
+  pub least : known.Least
+  pub found : HasLeast before system s search least
+  pub is : p ≡ report_as (least_text least) least.done
+
 -- what comes of a request
 abbrev pub ComesOf : Files → Request → Product → Type 0
 ComesOf before (Check system) p = ComesOfCheck before system.now p
@@ -192,6 +208,7 @@ ComesOf before (Merge system pavings settings out) p = ComesOfMerge before syste
 ComesOf before (Audit form system paving settings) p = ComesOfAudit form before system.now paving.now settings p
 ComesOf before (Svg system paving settings view) p = ComesOfSvg before system.now paving.now settings view p
 ComesOf before (Sample circles) p = ComesOfSample circles p
+ComesOf before (Least system settings search) p = ComesOfLeast before system.now settings search p
 
 -- ---- Why nothing comes of them
 
@@ -272,3 +289,4 @@ RefusesWork before after (Merge system pavings settings out) r =
 RefusesWork before after (Audit form system paving settings) r = RefusesAudit form before after system.now paving.now settings r
 RefusesWork before after (Svg system paving settings view) r = RefusesSvg before after system.now paving.now settings view r
 RefusesWork before after (Sample circles) r = RefusesSample circles r
+RefusesWork before after (Least system settings search) r = RefusesLeast before after system.now settings search.of.now r

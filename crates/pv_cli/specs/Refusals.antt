@@ -4,7 +4,7 @@ use Rattle.pv_grammar.specs.Messages.{cause_name}
 use Rattle.pv_cli.specs.declared.status.Status.{Status}
 use Rattle.pv_cli.specs.declared.status.Status.TheVariants as status
 use Rattle.pv_cli.specs.declared.refusal.Refusal.{Refusal}
-use Rattle.pv_cli.specs.declared.refusal.Refusal.TheVariants.{Usage, System, Contract, NoFile, ReadFault, Paving, NotStored, NotPrinted, Memory, TreeLimit, Disagree, Differs}
+use Rattle.pv_cli.specs.declared.refusal.Refusal.TheVariants.{Usage, System, Contract, Objective, NoFile, ReadFault, Paving, NotStored, NotPrinted, Memory, TreeLimit, Disagree, Differs}
 use Rattle.pv_cli.specs.declared.refusal.FileFault.{FileFault}
 use Rattle.pv_cli.specs.declared.refusal.FileFault.TheVariants.{TooLong, WrongIdentity, BadLine, TooManyNodes}
 use Rattle.pv_tree.specs.PathText.{path_text}
@@ -13,6 +13,7 @@ abbrev pub status_of : Refusal → Status
 status_of Usage = status.Usage
 status_of (System line column byte cause) = status.SystemRefused
 status_of (Contract byte) = status.Usage
+status_of (Objective byte cause) = status.Usage
 status_of (NoFile name) = status.NoFile
 status_of (ReadFault name) = status.ReadFault
 status_of (NotStored name) = status.WriteFault
@@ -39,6 +40,7 @@ words_of (System line column byte cause) =
     codes "system: line " ++ (decimal line ++ (codes " column " ++ (decimal column
     ++ (codes " byte " ++ (decimal byte ++ (codes ": " ++ cause_name cause))))))
 words_of (Contract byte) = codes "contract: refused at byte " ++ decimal byte
+words_of (Objective byte cause) = codes "objective: byte " ++ (decimal byte ++ (codes ": " ++ cause_name cause))
 words_of (NoFile name) = codes "no file: " ++ name.now
 words_of (ReadFault name) = codes "read fault: " ++ name.now
 words_of (NotStored name) = codes "write fault: " ++ name.now

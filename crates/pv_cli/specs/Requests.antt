@@ -17,8 +17,9 @@ use Rattle.pv_cli.specs.declared.request.Settings.{Settings}
 use Rattle.pv_cli.specs.declared.request.Effort.{Effort}
 use Rattle.pv_cli.specs.declared.request.View.{View}
 use Rattle.pv_cli.specs.declared.request.Circles.{Circles}
+use Rattle.pv_cli.specs.declared.request.Search.{Search}
 use Rattle.pv_cli.specs.declared.request.Request.{Request}
-use Rattle.pv_cli.specs.declared.request.Request.TheVariants.{Check, Run, Resume, Merge, Audit, Svg, Sample}
+use Rattle.pv_cli.specs.declared.request.Request.TheVariants.{Check, Run, Resume, Merge, Audit, Svg, Sample, Least}
 
 -- one to ten digits, and the number that they write
 pub record IsDigits (t : Text) (n : ℕ) : Type 0 where
@@ -148,6 +149,11 @@ pub record AreCircles (rows : List Row) (c : Circles) : Type 0 where
   pub seed : IsCount 0 2147483647 (seed_text rows) c.seed
   pub count : IsCount 1 16 (count_text rows) c.count
 
+-- the expression and the budget that the options give
+pub record IsSearch (rows : List Row) (s : Search) : Type 0 where
+  pub of : s.of.now ≡ value_of (codes "of") [] rows
+  pub boxes : IsCount 1 100000 (boxes_text rows) s.boxes
+
 -- a number of `--at` has another spelling
 abbrev pub HasBadLevels : List Row → Type 0
 HasBadLevels rows = (ns : List Extended) → AreGiven rows ns → ⊥
@@ -162,6 +168,10 @@ pub data HasBadSetting (rows : List Row) : Type 0 where
 pub data HasBadEffort (rows : List Row) : Type 0 where
   bad_workers : ((n : ℕ) → IsCount 1 16 (workers_text rows) n → ⊥) → HasBadEffort rows
   bad_boxes : ((n : ℕ) → IsCount 1 100000 (boxes_text rows) n → ⊥) → HasBadEffort rows
+
+-- so is the budget of a search
+abbrev pub HasBadBudget : List Row → Type 0
+HasBadBudget rows = (n : ℕ) → IsCount 1 100000 (boxes_text rows) n → ⊥
 
 -- so is a number of a sample
 pub data HasBadCircles (rows : List Row) : Type 0 where
@@ -190,6 +200,7 @@ pub data Command : Type 0 where
   audits : Form → Command
   draws : Command
   samples : Command
+  seeks : Command
 
 abbrev pub name_of : Command → Text
 name_of checks = codes "check"
@@ -199,6 +210,7 @@ name_of merges = codes "merge"
 name_of (audits form) = audit_name form
 name_of draws = codes "svg"
 name_of samples = codes "sample"
+name_of seeks = codes "least"
 
 -- a value is refused that the command takes
 abbrev pub HasBadValueFor : Command → List Row → Type 0
@@ -209,6 +221,7 @@ HasBadValueFor merges rows = HasManyPavings rows ⊎ HasBadSetting rows
 HasBadValueFor (audits form) rows = HasBadSetting rows
 HasBadValueFor draws rows = HasBadLevels rows ⊎ HasBadSetting rows
 HasBadValueFor samples rows = HasBadCircles rows
+HasBadValueFor seeks rows = HasBadSetting rows ⊎ HasBadBudget rows
 
 -- so it is for the command of this name
 pub record HasBadValue (name : Text) (rows : List Row) : Type 0 where
@@ -234,6 +247,8 @@ IsAskedBy command rows (Svg system paving settings view) =
     (command ≡ codes "svg") × (system.now ≡ system_name rows) × (paving.now ≡ value_of (codes "PAVING") [] rows)
     × AreSettings rows settings × IsView rows view
 IsAskedBy command rows (Sample circles) = (command ≡ codes "sample") × AreCircles rows circles
+IsAskedBy command rows (Least system settings search) =
+    (command ≡ codes "least") × (system.now ≡ system_name rows) × AreSettings rows settings × IsSearch rows search
 
 abbrev pub IsAsked : Option (Text × List Row) → Request → Type 0
 IsAsked None q = ⊥
@@ -260,3 +275,4 @@ out_of (Merge system pavings settings out) = option_map (λ name. name.now) out
 out_of (Audit form system paving settings) = None
 out_of (Svg system paving settings view) = None
 out_of (Sample circles) = None
+out_of (Least system settings search) = None

@@ -1,5 +1,5 @@
 -- What each status says, of what was asked for, of the files and of what was printed.
-use Rattle.std.specs.Prelude.{◌≡◌, ◌≢◌, ◌⊎◌, ◌+◌, ℕ, List, [], Some}
+use Rattle.std.specs.Prelude.{◌≡◌, ◌≢◌, ◌⊎◌, ◌+◌, ℕ, List, [], Some, None}
 use Rattle.clap.specs.Words.{Text}
 use Rattle.pv_tree.specs.Trees.{Tree, leaf, opens}
 use Rattle.pv_tree.specs.Stages.{full_of}
@@ -13,13 +13,17 @@ use Rattle.pv_cli.specs.Forms.{settle_as, identity_as}
 use Rattle.pv_cli.specs.Systems.{Files, HasRule, search_box}
 use Rattle.pv_cli.specs.Pavings.{IsPaved, FullFits, settled_in}
 use Rattle.pv_cli.specs.Files.{HasOpening}
-use Rattle.pv_cli.specs.Products.{Product, paved, IsHonestBy, IsHonest, AreStages, full_as, full_by, ComesOf, ComesOfCheck, ComesOfAudit, ComesOfSvg, ComesOfSample, RefusesWork}
+use Rattle.pv_cli.specs.Leasts.{HasLeast, next_in, least_text}
+use Rattle.pv_cli.specs.Products.{Product, text, unfinished, paved, IsHonestBy, IsHonest, AreStages, full_as, full_by, ComesOf, ComesOfCheck, ComesOfAudit, ComesOfSvg, ComesOfSample, RefusesWork}
 use Rattle.pv_cli.specs.Ends.{Outside, AreUntouched, IsDelivered, IsCutOff, IsLost, IsTold, IsEnd}
 use Rattle.pv_cli.specs.declared.request.Form.{Form}
 use Rattle.pv_cli.specs.declared.request.Form.TheVariants.{Natural}
 use Rattle.pv_cli.specs.declared.request.Settings.{Settings}
+use Rattle.pv_cli.specs.declared.request.Search.{Search}
+use Rattle.pv_grammar.specs.declared.cause.Cause.{Cause}
+use Rattle.pv_least.specs.declared.found.Least as known
 use Rattle.pv_cli.specs.declared.request.Request.{Request}
-use Rattle.pv_cli.specs.declared.request.Request.TheVariants.{Check, Run, Resume, Merge, Audit, Svg, Sample}
+use Rattle.pv_cli.specs.declared.request.Request.TheVariants.{Check, Run, Resume, Merge, Audit, Svg, Sample, Least}
 use Rattle.pv_cli.specs.declared.refusal.Refusal.{Refusal}
 use Rattle.pv_cli.specs.declared.refusal.Refusal.TheVariants as refusal
 use Rattle.pv_cli.specs.declared.status.Status.{Status}
@@ -53,6 +57,13 @@ pub record IsClosedJoin (before : Files) (system : Text) (names : List Text) (s 
   pub honest : AreStages rule trees → IsHonest s rule tree
   pub is : p ≡ paved (identity_of rule) (search_box rule) tree
 
+-- what is found of the least value, with no open leaf left in which it may be as low as at the best point
+pub record IsFinalLeast (before : Files) (system : Text) (s : Settings) (search : Search) (p : Product) : Type 0 where
+  pub least : known.Least
+  pub found : HasLeast before system s search least
+  pub final : next_in found.rule (search_box found.rule) found.term search.boxes ≡ None
+  pub is : p ≡ text (least_text least)
+
 abbrev pub IsWhole : Files → Request → Product → Type 0
 IsWhole before (Check system) p = ComesOfCheck before system.now p
 IsWhole before (Run form system settings effort out) p = IsFullRun form before system.now settings p
@@ -61,6 +72,7 @@ IsWhole before (Merge system pavings settings out) p = IsClosedJoin before syste
 IsWhole before (Audit form system paving settings) p = ComesOfAudit form before system.now paving.now settings p
 IsWhole before (Svg system paving settings view) p = ComesOfSvg before system.now paving.now settings view p
 IsWhole before (Sample circles) p = ComesOfSample circles p
+IsWhole before (Least system settings search) p = IsFinalLeast before system.now settings search p
 
 -- what was asked for came to this, was stored and printed, and nothing was told
 pub record IsDelivery (says : Files → Request → Product → Type 0) (words : List Text) (before after : Outside) : Type 0 where
@@ -110,6 +122,13 @@ pub record IsOpenJoin (before : Files) (system : Text) (names : List Text) (s : 
   pub honest : AreStages rule trees → IsHonest s rule tree
   pub is : p ≡ paved (identity_of rule) (search_box rule) tree
 
+-- what is found of it within the budget, with an open leaf left in which it may be as low as at the best point
+pub record IsPartLeast (before : Files) (system : Text) (s : Settings) (search : Search) (p : Product) : Type 0 where
+  pub least : known.Least
+  pub found : HasLeast before system s search least
+  pub left : next_in found.rule (search_box found.rule) found.term search.boxes ≢ None
+  pub is : p ≡ unfinished (least_text least)
+
 abbrev pub IsPart : Files → Request → Product → Type 0
 IsPart before (Check system) p = ⊥
 IsPart before (Run form system settings effort out) p = IsPartRun form before system.now settings effort.boxes p
@@ -119,6 +138,7 @@ IsPart before (Merge system pavings settings out) p = IsOpenJoin before system.n
 IsPart before (Audit form system paving settings) p = ⊥
 IsPart before (Svg system paving settings view) p = ⊥
 IsPart before (Sample circles) p = ⊥
+IsPart before (Least system settings search) p = IsPartLeast before system.now settings search p
 
 abbrev pub OpenLeftIsPart : Type 0
 OpenLeftIsPart = (words : List Text) (before after : Outside) → IsEnd words before after OpenLeft → IsDelivery IsPart words before after
@@ -226,14 +246,25 @@ pub record HasBadContract (words : List Text) (before after : Files) : Type 0 wh
   pub byte : ℕ
   pub refused : RefusesWork before after request (refusal.Contract byte)
 
+-- the text of the expression whose least value is sought is refused
+pub record HasBadExpression (words : List Text) (before after : Files) : Type 0 where
+  pub request : Request
+  pub asks : Asks words request
+  pub byte : ℕ
+  pub cause : Cause
+  pub refused : RefusesWork before after request (refusal.Objective byte cause)
+
 -- the system has no plane as the words ask for
 pub record HasBadPlane (words : List Text) (before after : Files) : Type 0 where
   pub request : Request
   pub asks : Asks words request
   pub refused : RefusesWork before after request refusal.Usage
 
--- status 2 comes of words that are refused, of the text of the contractor program, or of the plane of a picture
+-- status 2 comes of words that are refused, of the text of the contractor program or of an expression, or of the plane of
+-- a picture
+abbrev pub HaveBadText : List Text → Files → Files → Type 0
+HaveBadText words before after =
+    AreRefused words ⊎ (HasBadContract words before after ⊎ (HasBadExpression words before after ⊎ HasBadPlane words before after))
+
 abbrev pub UsageIsOfWords : Type 0
-UsageIsOfWords =
-    (words : List Text) (before after : Outside) → IsEnd words before after Usage
-    → AreRefused words ⊎ (HasBadContract words before.files after.files ⊎ HasBadPlane words before.files after.files)
+UsageIsOfWords = (words : List Text) (before after : Outside) → IsEnd words before after Usage → HaveBadText words before.files after.files

@@ -17,7 +17,7 @@ ghost use Rattle.pv_cli.specs.Commands.{
   with_out,
   with_command,
   paving_commands,
-  centered_commands,
+  further_commands,
   check_app,
   run_app,
   resume_app,
@@ -25,6 +25,7 @@ ghost use Rattle.pv_cli.specs.Commands.{
   audit_app,
   svg_app,
   sample_app,
+  least_app,
   paver_app,
 };
 
@@ -36,7 +37,7 @@ pub(crate) fn paver<'a>(alloc: Global) -> Result<Command<'a>, AllocError>
     ensures { IfOk result (λ c. app_of c ≡ paver_app) }
 {
     let command = with_paving_commands(top(alloc), alloc)?;
-    with_centered_commands(command, alloc)
+    with_further_commands(command, alloc)
 }
 
 fn with_paving_commands<'a>(command: Command<'a>, alloc: Global) -> Result<Command<'a>, AllocError>
@@ -51,14 +52,12 @@ fn with_paving_commands<'a>(command: Command<'a>, alloc: Global) -> Result<Comma
     with_command(command, sample(alloc)?)
 }
 
-fn with_centered_commands<'a>(
-    command: Command<'a>,
-    alloc: Global,
-) -> Result<Command<'a>, AllocError>
-    ensures { IfOk result (λ c. app_of c ≡ centered_commands (app_of command.entry)) }
+fn with_further_commands<'a>(command: Command<'a>, alloc: Global) -> Result<Command<'a>, AllocError>
+    ensures { IfOk result (λ c. app_of c ≡ further_commands (app_of command.entry)) }
 {
     let command = with_command(command, run(alloc, "run-centered")?)?;
-    with_command(command, audit(alloc, "audit-centered")?)
+    let command = with_command(command, audit(alloc, "audit-centered")?)?;
+    with_command(command, least(alloc)?)
 }
 
 fn with_command<'a>(
@@ -127,6 +126,14 @@ fn sample<'a>(alloc: Global) -> Result<Command<'a>, AllocError>
 {
     let command = with_needed(bare(alloc, "sample"), alloc, "seed")?;
     with_needed(command, alloc, "count")
+}
+
+fn least<'a>(alloc: Global) -> Result<Command<'a>, AllocError>
+    ensures app { IfOk result (λ c. app_of c ≡ least_app) }
+    ensures local { IfOk result (λ c. (out-Command c).has_globals ≡ false) }
+{
+    let command = with_settings(system(alloc, "least")?, alloc)?;
+    with_needed(with_option(command, alloc, "boxes")?, alloc, "of")
 }
 
 // A command that has nothing.

@@ -49,6 +49,10 @@ pub(crate) fn deliver<'a, F: Folder, K: Sink>(
             print(out, text)?;
             Ok(Status::Done)
         }
+        (Product::Unfinished(text), _) => {
+            print(out, text)?;
+            Ok(Status::OpenLeft)
+        }
         (Product::Picture(picture), _) => {
             print_picture(alloc, out, picture)?;
             Ok(Status::Done)

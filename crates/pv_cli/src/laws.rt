@@ -21,12 +21,14 @@ pub fn merges_alike()
     ensures taken { MergesAreTakenAlike }
 {}
 
-/// With status 0 no leaf is open: what was printed and stored is of the full tree.
+/// With status 0 no leaf is open: what was printed and stored is of the full tree. Of `least` no leaf is open in which the value
+/// may be as low as at the best point.
 pub fn done()
     ensures { DoneIsWhole }
 {}
 
-/// With status 1 a leaf is open, and `run` and `resume` settled exactly their budget, which is not enough.
+/// With status 1 a leaf is open, and `run` and `resume` settled exactly their budget, which is not enough. Of `least` a leaf is
+/// open in which the value may be as low as at the best point.
 pub fn open_left()
     ensures { OpenLeftIsPart }
 {}
@@ -53,7 +55,7 @@ pub fn others_stay()
 {}
 
 /// Words are refused exactly where clap's meaning refuses them or a value that their command takes. Status 2 comes
-/// of them, of the contractor program or of the plane of a picture.
+/// of them, of the contractor program, of the expression of `least` or of the plane of a picture.
 pub fn words()
     ensures asked { AskingIsNotRefused }
     ensures refused { RefusedWordsEnd }

@@ -9,6 +9,7 @@ mod deliver;
 mod form_settler;
 mod honest;
 pub mod laws;
+mod least;
 mod main_call;
 mod merge;
 mod opening;

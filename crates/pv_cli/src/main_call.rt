@@ -10,6 +10,7 @@ ghost use Rattle.pv_cli.specs.Made.{made};
 use crate::audit::audit;
 use crate::check::check;
 use crate::deliver::deliver;
+use crate::least::least;
 use crate::merge::merge;
 use crate::product::Product;
 use crate::reading::read;
@@ -30,8 +31,8 @@ use std::thread::Threads;
 /// Runs the command that the words give, of which word 0 is the program's name.
 ///
 /// With status 0 or 1 the words ask for something, and what comes of it over the folder was printed. Else the
-/// refusal is the first in this order: words and values, system, contractor program, plane, paving files, work,
-/// printing; and its line is told on the standard error.
+/// refusal is the first in this order: words and values, system, contractor program, expression or plane, paving files,
+/// work, printing; and its line is told on the standard error.
 ///
 /// `run` and `resume` work on as many threads as their words say, and join them: the call may wait for them. Each worker enters the
 /// gate with its number and a path before it settles the node there. The keeper is for campaigns alone.
@@ -98,7 +99,8 @@ fn file_of<'a>(request: &Request<'a>) -> Option<&'a str>
         Request::Check { .. }
         | Request::Audit { .. }
         | Request::Svg { .. }
-        | Request::Sample { .. } => None,
+        | Request::Sample { .. }
+        | Request::Least { .. } => None,
         Request::Run { out, .. } => *out,
         Request::Resume { out, .. } => *out,
         Request::Merge { out, .. } => *out,
@@ -159,5 +161,10 @@ fn work<'a, F: Folder, G: Gate + Sync, R: Threads + Wait + Sync>(
             view,
         } => svg(alloc, folder, *system, *paving, settings, view),
         Request::Sample { circles } => sample(rt, alloc, circles, gate),
+        Request::Least {
+            system,
+            settings,
+            search,
+        } => least(alloc, folder, *system, settings, search),
     }
 }

@@ -7,6 +7,8 @@ use pv_tree::Paving;
 pub(crate) enum Product {
     /// A text to print.
     Text(Vec<u8>),
+    /// A text to print of a search that was cut short.
+    Unfinished(Vec<u8>),
     /// A paving of the system and settings that the identity names.
     Paved { identity: [u8; 32], paving: Paving },
     /// A picture of a paving.

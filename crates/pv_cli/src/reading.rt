@@ -1,13 +1,13 @@
 //! From the words of a command to what they ask for.
 ghost use Rattle.std.specs.Prelude.{◌≡◌, ◌≢◌, ◌⊎◌, List, codes, map, option_map, MatchOption, MatchResult, string_bytes, IfOk, IfErr, unwrap_or};
 ghost use Rattle.clap.specs.Words.{all_of, subcommand_rows_of};
-ghost use Rattle.pv_cli.specs.Requests.{value_of, system_name, paving_names, names_in, AreSettings, IsEffort, ArePavings, IsOut, HasBadSetting, HasBadEffort, IsView, AreGiven, AreCircles, HasManyPavings, HasBadLevels, HasBadCircles, HasBadValueFor, run_name, audit_name, runs, resumes, merges, audits, draws, samples, IsAskedBy, IsAsked, Asks};
+ghost use Rattle.pv_cli.specs.Requests.{value_of, system_name, paving_names, names_in, AreSettings, IsEffort, ArePavings, IsOut, HasBadSetting, HasBadEffort, IsView, AreGiven, AreCircles, HasManyPavings, HasBadLevels, HasBadCircles, IsSearch, HasBadBudget, HasBadValueFor, run_name, audit_name, runs, resumes, merges, audits, draws, samples, seeks, IsAskedBy, IsAsked, Asks};
 ghost use Rattle.pv_cli.specs.Found.{rows_in, RefusesValues, RefusesCommand, RefusesFound};
 ghost use Rattle.pv_cli.specs.Ends.{RefusesWords};
 
 use crate::Refusal;
 use crate::command_line::paver;
-use crate::request::{Circles, Effort, Form, Request, Settings, View};
+use crate::request::{Circles, Effort, Form, Request, Search, Settings, View};
 use crate::values::{bisector_of, count_of, levels_of, width_of};
 use clap::ArgMatches;
 use clap::error::ErrorKind;
@@ -64,6 +64,7 @@ fn command_in<'a>(
         "sample" => sample_in(found),
         "run-centered" => run_in(Form::Centered, found),
         "audit-centered" => audit_in(Form::Centered, found),
+        "least" => least_in(found),
         _ => Err(Refusal::Usage),
     }
 }
@@ -215,6 +216,34 @@ fn circles_in(found: &ArgMatches<'_>) -> Option<Circles>
     let seed = count_of(text_in(found, "seed", ""), 0, 2_147_483_647)? as u32;
     let count = count_of(text_in(found, "count", ""), 1, 16)? as u32;
     Some(Circles { seed, count })
+}
+
+fn least_in<'a>(found: &ArgMatches<'a>) -> Result<Request<'a>, Refusal<'a>>
+    ensures { MatchResult result (IsAskedBy (codes "least") (rows_in found.now))
+        (RefusesValues (HasBadValueFor seeks (rows_in found.now))) }
+{
+    let settings = match settings_in(found) {
+        Some(settings) => settings,
+        None => return Err(Refusal::Usage),
+    };
+    match search_in(found) {
+        Some(search) => Ok(Request::Least {
+            system: text_in(found, "SYSTEM", ""),
+            settings,
+            search,
+        }),
+        None => Err(Refusal::Usage),
+    }
+}
+
+fn search_in<'a>(found: &ArgMatches<'a>) -> Option<Search<'a>>
+    ensures { MatchOption result (HasBadBudget (rows_in found.now)) (IsSearch (rows_in found.now)) }
+{
+    let boxes = count_of(text_in(found, "boxes", "20000"), 1, 100_000)?;
+    Some(Search {
+        of: text_in(found, "of", ""),
+        boxes,
+    })
 }
 
 fn settings_in<'a>(found: &ArgMatches<'a>) -> Option<Settings<'a>>

@@ -26,6 +26,11 @@ pub enum Refusal<'a> {
     Contract {
         byte: u32,
     },
+    /// The text of the expression whose least value is sought has a fault at a byte, counted from 0.
+    Objective {
+        byte: u32,
+        cause: Cause,
+    },
     /// There is no file of this name.
     NoFile {
         name: &'a str,
@@ -114,7 +119,7 @@ impl<'a> Refusal<'a> {
         ensures { result ≡ status_of self.now }
     {
         match self {
-            Refusal::Usage | Refusal::Contract { .. } => Status::Usage,
+            Refusal::Usage | Refusal::Contract { .. } | Refusal::Objective { .. } => Status::Usage,
             Refusal::System { .. } => Status::SystemRefused,
             Refusal::NoFile { .. } => Status::NoFile,
             Refusal::ReadFault { .. } => Status::ReadFault,
@@ -155,6 +160,7 @@ impl<'a> Refusal<'a> {
                 push_decimal(&mut words, u64::from(*byte))?;
                 Ok(words)
             }
+            Refusal::Objective { byte, cause } => objective_words(alloc, *byte, *cause),
             Refusal::NoFile { name } => joined(alloc, b"no file: ", name),
             Refusal::ReadFault { name } => joined(alloc, b"read fault: ", name),
             Refusal::NotStored { name } => joined(alloc, b"write fault: ", name),
@@ -237,6 +243,16 @@ fn joined(alloc: Global, front: &[u8], name: &str) -> Result<Vec<u8>, Memory>
 {
     let mut words = Vec::from_slice(alloc, front)?;
     words.extend_from_slice(name.as_bytes())?;
+    Ok(words)
+}
+
+fn objective_words(alloc: Global, byte: u32, cause: Cause) -> Result<Vec<u8>, Memory>
+    ensures { IfOk result (λ words. words.items ≡ words_of (Refusal.Objective byte cause)) }
+{
+    let mut words = Vec::from_slice(alloc, b"objective: byte ")?;
+    push_decimal(&mut words, u64::from(byte))?;
+    words.extend_from_slice(b": ")?;
+    words.extend_from_slice(cause.name().as_bytes())?;
     Ok(words)
 }
 

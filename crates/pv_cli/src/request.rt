@@ -58,6 +58,15 @@ pub struct Circles {
     ghost count_fits: { (1 ≤ count) × (count ≤ 16) },
 }
 
+/// Which expression's least value is sought, and how many boxes are settled for it at most.
+#[derive(Clone, Copy)]
+pub struct Search<'a> {
+    /// The text of the expression.
+    pub of: &'a str,
+    pub boxes: u64,
+    ghost boxes_fit: { (1 ≤ boxes) × (boxes ≤ 100000) },
+}
+
 /// What the words of a command ask for.
 #[derive(Drop)]
 pub enum Request<'a> {
@@ -105,5 +114,11 @@ pub enum Request<'a> {
     /// Pave a system that a number makes.
     Sample {
         circles: Circles,
+    },
+    /// Bound the least value of an expression over a system's set.
+    Least {
+        system: &'a str,
+        settings: Settings<'a>,
+        search: Search<'a>,
     },
 }

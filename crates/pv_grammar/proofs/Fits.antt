@@ -1,5 +1,5 @@
 -- Each token that is taken leaves counts that fit what is then to come; and so do the starts of a text.
-use Rattle.std.proofs.Common.{◌≡◌, ℕ, nat_lt, Bool, true, false, List, [], ◌∷◌, ◌++◌, refl, sym, ap, ◌∙◌, subst, Option, Some, None, is_some, if◌then◌else◌, Ok, Err}
+use Rattle.std.proofs.Common.{◌≡◌, ℕ, nat_lt, Bool, true, false, List, [], ◌∷◌, ◌++◌, refl, sym, ap, ◌∙◌, subst, Option, Some, None, if◌then◌else◌, Ok, Err}
 use Rattle.pv_expr.specs.declared.constraint.Relation.TheVariants.{Eq}
 use Rattle.pv_code.specs.declared.code.Op.{Op}
 use Rattle.pv_code.specs.declared.code.Op.TheVariants.{Define}
@@ -13,8 +13,8 @@ use Rattle.pv_grammar.specs.declared.symbol.Symbol.{Symbol}
 use Rattle.pv_grammar.specs.declared.symbol.Symbol.TheVariants.{Fixed as FixedToken, Relation as RelationToken, Number, Declared, Constant as ConstantName, Unknown}
 use Rattle.pv_grammar.specs.declared.machine.Item.{Item}
 use Rattle.pv_grammar.specs.declared.machine.Item.TheVariants.{Exactly, MaybeConstants, WantConstant, MoreConstants, MaybeConstant, WantEquals, MaybeSign, WantValue, MaybeFunctions, WantFunctionName, WantParameter, MoreParameters, MaybeSemicolon, WantVariable, MoreVariables, MaybeVariable, MaybeDomain, WantBound, WantRelation, MoreConstraints, MaybeConstraint, WantFactor, MoreFactors, MoreTerms, MaybePower, WantExponent, MoreArguments, Then}
-use Rattle.pv_grammar.specs.Grammar.{Follows, MayEnd, Produced, Settles, body_items, emptied, ended, exactly, expression_items, factor, fixed, met, produced, step_of, system_items}
-use Rattle.pv_grammar.specs.Limits.{behind_comma, behind_end, behind_semicolon, counted, declared, in_phase, nothing, turned, with_parameters, with_variables}
+use Rattle.pv_grammar.specs.Grammar.{Follows, MayEnd, Produced, Settles, body_items, emptied, ended, exactly, expression_items, fixed, met, produced, step_of, system_items}
+use Rattle.pv_grammar.specs.Limits.{begins_expression, behind_comma, behind_end, behind_semicolon, counted, declared, in_phase, nothing, turned, with_parameters, with_variables}
 use Rattle.pv_grammar.proofs.Ready.{Behind, FactorRoom, FixedRoom, Gives, IsApart, IsStill, OpenRoom, Ready, ReadyAfter, aside, begun_seen, constraint_ready, expression_ready, factor_token, fixed_behind, gives_if, in_sides, kept_arguments, kept_constraint, kept_exponent, kept_factor, kept_factors, kept_next, kept_power, kept_relation, kept_terms, may_begin, opened, opened_sides, opened_still, other_token, phase_is, reads, seen}
 
 -- ---- Constants
@@ -330,7 +330,7 @@ seen_end Body c = refl
 seen_end p c = refl
 
 -- behind a token that leads to a phase
-phase_token : (f : Fixed) (p : Phase) (c e : Counts) → is_some (factor (FixedToken f)) ≡ false → ((d : Counts) → Gives (λ x. seen x ≡ in_phase p (seen d)) (turned f d)) → counted c (FixedToken f) ≡ Ok e →
+phase_token : (f : Fixed) (p : Phase) (c e : Counts) → begins_expression (FixedToken f) ≡ false → ((d : Counts) → Gives (λ x. seen x ≡ in_phase p (seen d)) (turned f d)) → counted c (FixedToken f) ≡ Ok e →
     seen e ≡ in_phase p (seen c)
 phase_token f p c e b m h =
     reads (λ x. seen x ≡ in_phase p (seen c)) c e (FixedToken f) h

@@ -1,3 +1,4 @@
+pub mod Alike
 pub mod Derivations
 pub mod Exponents
 pub mod Fits

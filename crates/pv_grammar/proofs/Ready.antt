@@ -1,5 +1,5 @@
 -- The counts fit the items that are to come. So what is to come has a text that stays within the limits.
-use Rattle.std.proofs.Common.{◌≡◌, ℕ, zero, suc, ◌+◌, ◌-◌, nat_lt, Bool, true, false, List, [], ◌∷◌, ◌++◌, refl, sym, ap, ◌∙◌, subst, append_assoc, Option, Some, None, is_some, if◌then◌else◌, Ok, Err}
+use Rattle.std.proofs.Common.{◌≡◌, ℕ, zero, suc, ◌+◌, ◌-◌, nat_lt, Bool, true, false, List, [], ◌∷◌, ◌++◌, refl, sym, ap, ◌∙◌, subst, append_assoc, Option, Some, None, if◌then◌else◌, Ok, Err}
 use Rattle.pv_code.specs.declared.code.Op.{Op}
 use Rattle.pv_code.specs.declared.code.Op.TheVariants.{One, Two, Relate}
 use Rattle.pv_code.specs.declared.code.Unary.TheVariants.{Neg}
@@ -14,7 +14,7 @@ use Rattle.pv_grammar.specs.declared.symbol.Symbol.TheVariants.{Fixed as FixedTo
 use Rattle.pv_grammar.specs.declared.machine.Item.{Item}
 use Rattle.pv_grammar.specs.declared.machine.Item.TheVariants.{Exactly, MaybeConstants, WantConstant, MoreConstants, MaybeConstant, MaybeSign, WantValue, MaybeFunctions, WantFunctionName, WantParameter, MoreParameters, MaybeSemicolon, WantVariable, MoreVariables, MaybeVariable, MaybeDomain, WantBound, WantRelation, MoreConstraints, MaybeConstraint, WantFactor, MoreFactors, MoreTerms, MaybePower, WantExponent, MoreArguments, Then}
 use Rattle.pv_grammar.specs.Grammar.{Produced, factor, produced, with_more}
-use Rattle.pv_grammar.specs.Limits.{Counting, begins, begun, behind_comma, behind_end, behind_semicolon, counted, in_expression, in_phase, levels, moved, nested, next, operated, operates, with_constraints, with_parameters, with_variables}
+use Rattle.pv_grammar.specs.Limits.{Counting, begins, begins_expression, begun, behind_comma, behind_end, behind_semicolon, counted, in_expression, in_phase, levels, moved, nested, next, operated, operates, with_constraints, with_parameters, with_variables}
 
 -- ---- What of the counts matters to what is to come
 
@@ -185,16 +185,16 @@ levels_gives s c = refl
 nested_gives : (c : Counts) (s : Symbol) → Gives (λ d. seen d ≡ seen c) (nested c s)
 nested_gives c s = gives_if _ (in_expression c.phase) _ _ (λ t. levels_gives s c) refl
 
-counted_gives : (P : Counts → Type 0) (c : Counts) (s : Symbol) → ((d : Counts) → seen d ≡ begun_seen (is_some (factor s)) c.phase (seen c) → Gives P (moved d s)) → Gives P (counted c s)
+counted_gives : (P : Counts → Type 0) (c : Counts) (s : Symbol) → ((d : Counts) → seen d ≡ begun_seen (begins_expression s) c.phase (seen c) → Gives P (moved d s)) → Gives P (counted c s)
 counted_gives P c s h =
-    gives_next P (λ d. seen d ≡ begun_seen (is_some (factor s)) c.phase (seen c)) (begun c s) _ (begun_gives (is_some (factor s)) c)
+    gives_next P (λ d. seen d ≡ begun_seen (begins_expression s) c.phase (seen c)) (begun c s) _ (begun_gives (begins_expression s) c)
     (λ d1 l1. gives_next P (λ d. seen d ≡ seen d1) (operated d1 s) _ (operated_gives d1 s)
     (λ d2 l2. gives_next P (λ d. seen d ≡ seen d2) (nested d2 s) _ (nested_gives d2 s)
     (λ d3 l3. h d3 (l3 ∙ (l2 ∙ l1)))))
 
 -- what is known behind a token that was counted
 pub reads : (P : Counts → Type 0) (c e : Counts) (s : Symbol) → counted c s ≡ Ok e →
-    ((d : Counts) → seen d ≡ begun_seen (is_some (factor s)) c.phase (seen c) → Gives P (moved d s)) → P e
+    ((d : Counts) → seen d ≡ begun_seen (begins_expression s) c.phase (seen c) → Gives P (moved d s)) → P e
 reads P c e s h g = subst (Gives P) h (counted_gives P c s g)
 
 -- ---- Where the counts are
@@ -276,13 +276,13 @@ step_ready op e rest g = (tt, g)
 -- ---- Tokens of expressions
 
 -- a token that begins a factor, and declares nothing
-pub factor_token : (c e : Counts) (s : Symbol) → is_some (factor s) ≡ true → ((d : Counts) → moved d s ≡ Ok d) → counted c s ≡ Ok e → seen e ≡ opened c.phase (seen c)
+pub factor_token : (c e : Counts) (s : Symbol) → begins_expression s ≡ true → ((d : Counts) → moved d s ≡ Ok d) → counted c s ≡ Ok e → seen e ≡ opened c.phase (seen c)
 factor_token c e s b m h =
     reads (λ d. seen d ≡ opened c.phase (seen c)) c e s h
     (λ d l. subst (Gives (λ x. seen x ≡ opened c.phase (seen c))) (sym (m d)) (subst (λ (z : Bool). seen d ≡ begun_seen z c.phase (seen c)) b l))
 
 -- one that begins none
-pub other_token : (c e : Counts) (s : Symbol) → is_some (factor s) ≡ false → ((d : Counts) → moved d s ≡ Ok d) → counted c s ≡ Ok e → seen e ≡ seen c
+pub other_token : (c e : Counts) (s : Symbol) → begins_expression s ≡ false → ((d : Counts) → moved d s ≡ Ok d) → counted c s ≡ Ok e → seen e ≡ seen c
 other_token c e s b m h =
     reads (λ d. seen d ≡ seen c) c e s h
     (λ d l. subst (Gives (λ x. seen x ≡ seen c)) (sym (m d)) (subst (λ (z : Bool). seen d ≡ begun_seen z c.phase (seen c)) b l))

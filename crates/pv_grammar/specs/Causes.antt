@@ -1,14 +1,13 @@
--- Why a token can't stand behind those before it: the grammar refuses it, or the limits and declarations do.
-use Rattle.std.specs.Prelude.{◌≡◌, Bool, true, false, List, [], ◌∷◌, ◌++◌, Err, if◌then◌else◌}
-use Rattle.pv_code.specs.declared.code.Op.{Op}
+-- Why a token can't stand behind those before it: no text of the grammar goes on so, or the limits and declarations forbid it. What
+-- a text is here is said by its tokens, and given as a predicate on them: `IsSystem` or `IsExpression` of `Productions`.
+use Rattle.std.specs.Prelude.{◌≡◌, pos, Bool, true, false, List, [], ◌∷◌, ◌++◌, Err, if◌then◌else◌}
+use Rattle.pv_code.specs.declared.fraction.Fraction.{Fraction}
 use Rattle.pv_grammar.specs.declared.cause.Cause.{Cause}
 use Rattle.pv_grammar.specs.declared.cause.Cause.TheVariants.{EndOfText as TextEnds, BadExponent, Unexpected}
 use Rattle.pv_grammar.specs.declared.counts.Counts.{Counts}
-use Rattle.pv_grammar.specs.declared.machine.Item.{Item}
 use Rattle.pv_grammar.specs.declared.symbol.Fixed.TheVariants.{Caret, EndOfText}
 use Rattle.pv_grammar.specs.declared.symbol.Symbol.{Symbol}
-use Rattle.pv_grammar.specs.declared.symbol.Symbol.TheVariants.{Never, Fixed as FixedToken}
-use Rattle.pv_grammar.specs.Grammar.{Derives}
+use Rattle.pv_grammar.specs.declared.symbol.Symbol.TheVariants.{Never, Fixed as FixedToken, Declared, Constant, Unknown}
 use Rattle.pv_grammar.specs.Limits.{counted, Counted}
 
 -- ---- The cause of a token that the grammar refuses
@@ -31,21 +30,24 @@ refusal behind s = if behind then BadExponent else Unexpected
 
 -- ---- Texts that go on behind these tokens
 
--- a text of the items begins with these tokens
-pub record Begins (items : List Item) (ss : List Symbol) : Type 0 where
-  pub rest : List Symbol
-  pub steps : List Op
-  pub derived : Derives items (ss ++ rest) steps
+-- a text begins with these tokens
+abbrev pub Begins : (List Symbol → Type 0) → List Symbol → Type 0
+Begins IsText ss = (rest : List Symbol) × IsText (ss ++ rest)
 
--- a text of the items within the limits begins with these tokens
-pub record BeginsWithin (start : Counts) (items : List Item) (ss : List Symbol) : Type 0 where
-  pub rest : List Symbol
-  pub steps : List Op
-  pub counts : Counts
-  pub derived : Derives items (ss ++ rest) steps
-  pub within : Counted start (ss ++ rest) counts
+-- a text within the limits begins with these tokens
+abbrev pub BeginsWithin : Counts → (List Symbol → Type 0) → List Symbol → Type 0
+BeginsWithin start IsText ss = (rest : List Symbol) × (counts : Counts) × IsText (ss ++ rest) × Counted start (ss ++ rest) counts
 
--- a token behind these: the grammar refuses it, or the limits and declarations do where the grammar, with them left aside, takes it
-pub data IsCause (items : List Item) (before : List Symbol) (counts : Counts) (s : Symbol) (cause : Cause) : Type 0 where
-  not_allowed : ¬ Begins items (before ++ s ∷ []) → cause ≡ refusal (behind_caret before) s → IsCause items before counts s cause
-  beyond : Begins items (before ++ s ∷ []) → counted counts s ≡ Err cause → IsCause items before counts s cause
+abbrev pub nought : Fraction
+nought = record { p = pos 0; q = 1 }
+
+-- whether the grammar allows a name does not depend on what is declared: an undeclared one counts as a constant's, a taken one as new
+abbrev pub as_known : Symbol → Symbol
+as_known Unknown = Constant nought
+as_known (Declared taken) = Declared false
+as_known s = s
+
+-- why a token can't stand behind these: the grammar does not allow it, or it does, and the limits or the declarations forbid it
+pub data IsCause (IsText : List Symbol → Type 0) (before : List Symbol) (counts : Counts) (s : Symbol) (cause : Cause) : Type 0 where
+  not_allowed : ¬ Begins IsText (before ++ as_known s ∷ []) → cause ≡ refusal (behind_caret before) s → IsCause IsText before counts s cause
+  beyond : Begins IsText (before ++ as_known s ∷ []) → counted counts s ≡ Err cause → IsCause IsText before counts s cause

@@ -1,9 +1,11 @@
--- The grammar, as the machine follows it. A text is a list of items. Each item has at most one way to begin with a given token:
--- `produced` says what must come behind that token, and which steps of the expression's code are written. An item may be left out
--- where `MayEnd` says so. So `MoreTerms` stands for { ("+" | "-") term }, and `MaybeDomain` for an optional domain.
+-- The grammar, as the machine follows it. It is for the machine and its proofs: no public contract of the reader cites it, and who
+-- wants to know what a text is reads `Productions`, which has the same grammar as data types, and `Trees`, what a tree means.
 --
--- `Productions` has the same grammar as data types, a constructor for each production, and `Trees` what a tree means. A reader may
--- begin there: `laws::trees` says that the items have the same texts, each of one tree, and that the code of a text means what its
+-- A text is a list of items. Each item has at most one way to begin with a given token: `produced` says what must come behind that
+-- token, and which steps of the expression's code are written. An item may be left out where `MayEnd` says so. So `MoreTerms`
+-- stands for { ("+" | "-") term }, and `MaybeDomain` for an optional domain.
+--
+-- `laws::trees` says that the items have the same texts as the trees, each of one tree, and that the code of a text means what its
 -- tree means. The items take a little more: a token with an undeclared name, or with a name that is taken, since it is the limits
 -- that forbid it and give the cause. No text that is within the limits has such a token.
 use Rattle.std.specs.Prelude.{◌≡◌, ◌≢◌, Bool, true, false, ℕ, zero, suc, ◌-◌, List, [], ◌∷◌, ◌++◌, Option, Some, None, reverse}
@@ -18,10 +20,6 @@ use Rattle.pv_grammar.specs.declared.symbol.Symbol.{Symbol}
 use Rattle.pv_grammar.specs.declared.symbol.Symbol.TheVariants.{Fixed as FixedToken, Relation as RelationToken, Number, Declared, Constant as ConstantName, Variable as VariableName, Parameter as ParameterName, Function as FunctionName, Unknown}
 use Rattle.pv_grammar.specs.declared.machine.Item.{Item}
 use Rattle.pv_grammar.specs.declared.machine.Item.TheVariants.{Exactly, MaybeConstants, WantConstant, MoreConstants, MaybeConstant, WantEquals, MaybeSign, WantValue, MaybeFunctions, WantFunctionName, WantParameter, MoreParameters, MaybeSemicolon, WantVariable, MoreVariables, MaybeVariable, MaybeDomain, WantBound, WantRelation, MoreConstraints, MaybeConstraint, WantFactor, MoreFactors, MoreTerms, MaybePower, WantExponent, MoreArguments, Then}
-
-abbrev pub is_minus : Symbol → Bool
-is_minus (FixedToken Minus) = true
-is_minus s = false
 
 -- what follows a token, and the steps that it writes
 abbrev pub Produced : Type 0

@@ -1,3 +1,4 @@
+pub mod ByItems
 pub mod Causes
 pub mod Grammar
 pub mod Limits

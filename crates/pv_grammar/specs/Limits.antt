@@ -1,6 +1,6 @@
 -- The limits of a text, counted token by token: how the counts go on behind a token, or the cause that forbids it.
 -- The grammar is left aside here: a token that it refuses may be counted in any way.
-use Rattle.std.specs.Prelude.{◌≡◌, ℕ, ◌+◌, ◌-◌, nat_lt, Bool, true, false, List, [], ◌∷◌, ◌⊎◌, Result, Ok, Err, is_some, if◌then◌else◌}
+use Rattle.std.specs.Prelude.{◌≡◌, ℕ, ◌+◌, ◌-◌, nat_lt, Bool, true, false, List, [], ◌∷◌, Result, Ok, Err, if◌then◌else◌}
 use Rattle.pv_grammar.specs.declared.cause.Cause.{Cause}
 use Rattle.pv_grammar.specs.declared.cause.Cause.TheVariants.{UnknownName, DuplicateName, TooManyVariables, TooManyConstraints, TooManyFunctions, TooDeep, Unexpected}
 use Rattle.pv_grammar.specs.declared.counts.Phase.{Phase}
@@ -9,9 +9,7 @@ use Rattle.pv_grammar.specs.declared.counts.Counts.{Counts}
 use Rattle.pv_grammar.specs.declared.symbol.Fixed.{Fixed}
 use Rattle.pv_grammar.specs.declared.symbol.Fixed.TheVariants.{Plus, Minus, Star, Slash, Caret, Open, Close, OpenBracket, CloseBracket, Comma, Semicolon, Constants as ConstantsWord, Variables as VariablesWord, Constraints, Function as FunctionWord, Return, End}
 use Rattle.pv_grammar.specs.declared.symbol.Symbol.{Symbol}
-use Rattle.pv_grammar.specs.declared.symbol.Symbol.TheVariants.{Fixed as FixedToken, Declared, Function as Call, Unknown}
-use Rattle.pv_grammar.specs.declared.machine.Item.{Item}
-use Rattle.pv_grammar.specs.Grammar.{expression_items, factor, system_items}
+use Rattle.pv_grammar.specs.declared.symbol.Symbol.TheVariants.{Fixed as FixedToken, Number, Declared, Constant as ConstantName, Variable, Parameter, Function as Call, Unknown}
 
 abbrev pub Counting : Type 0
 Counting = Result Counts Cause
@@ -50,9 +48,22 @@ abbrev pub begins : Phase → Counts → Counting
 begins NextConstraint c = where_below c.constraints 64 TooManyConstraints (in_phase Sides (with_constraints (c.constraints + 1) c))
 begins p c = Ok c
 
--- where a constraint may begin, a token that can begin an expression begins one
+-- a token that can begin an expression
+abbrev pub begins_expression : Symbol → Bool
+begins_expression (FixedToken Plus) = true
+begins_expression (FixedToken Minus) = true
+begins_expression (FixedToken Open) = true
+begins_expression (Number value exponent) = true
+begins_expression (ConstantName value) = true
+begins_expression (Variable i) = true
+begins_expression (Parameter i) = true
+begins_expression (Call op arity) = true
+begins_expression Unknown = true
+begins_expression s = false
+
+-- where a constraint may begin, such a token begins one
 abbrev pub begun : Counts → Symbol → Counting
-begun c s = if is_some (factor s) then begins c.phase c else Ok c
+begun c s = if begins_expression s then begins c.phase c else Ok c
 
 -- ---- Expressions: at most 1,000 operations, and 100 levels
 
@@ -69,6 +80,10 @@ operates (FixedToken Slash) = true
 operates (FixedToken Caret) = true
 operates (Call op arity) = true
 operates s = false
+
+abbrev pub is_minus : Symbol → Bool
+is_minus (FixedToken Minus) = true
+is_minus s = false
 
 abbrev pub operated : Counts → Symbol → Counting
 operated c s =
@@ -145,7 +160,3 @@ counted c s = next (begun c s) (λ d. next (operated d s) (λ e. next (nested e 
 abbrev pub Counted : Counts → List Symbol → Counts → Type 0
 Counted c [] d = c ≡ d
 Counted c (s ∷ ss) d = (e : Counts) × (counted c s ≡ Ok e) × Counted e ss d
-
--- the text of a system begins between its blocks, and that of an expression within it
-abbrev pub IsStart : Counts → List Item → Type 0
-IsStart c items = ((c ≡ nothing Between) × (items ≡ system_items)) ⊎ ((c ≡ nothing Sides) × (items ≡ expression_items))

@@ -4,7 +4,7 @@
 --
 -- A name is a token with what it stands for: a constant's value, the place of a variable or of a parameter, the number of a
 -- function. So no tree has a name that is not declared for its use, or a declaration of a name that is taken.
-use Rattle.std.specs.Prelude.{ℕ, suc, List, ◌∷◌, false, Option, Some}
+use Rattle.std.specs.Prelude.{◌≡◌, ℕ, suc, List, [], ◌∷◌, false, Option, Some}
 use Rattle.pv_expr.specs.declared.constraint.Relation.{Relation}
 use Rattle.pv_expr.specs.declared.constraint.Relation.TheVariants.{Eq}
 use Rattle.pv_code.specs.declared.code.Op.TheVariants.{One, Two, Call}
@@ -278,3 +278,13 @@ abbrev pub system_symbols : System → List Symbol → List Symbol
 system_symbols (system_of block before v vs behind c cs) k =
     constant_block_symbols block (functions_symbols before (FixedToken VariablesWord ∷ variable_symbols v (variables_symbols vs
     (functions_symbols behind (FixedToken ConstraintsWord ∷ constraint_symbols c (constraints_symbols cs (FixedToken End ∷ k)))))))
+
+-- ---- Texts, by their tokens
+
+-- the tokens of a system's tree
+abbrev pub IsSystem : List Symbol → Type 0
+IsSystem ss = (x : System) × (ss ≡ system_symbols x [])
+
+-- the tokens of an expression's tree
+abbrev pub IsExpression : List Symbol → Type 0
+IsExpression ss = (e : Expression) × (ss ≡ expression_symbols e [])

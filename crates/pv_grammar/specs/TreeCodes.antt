@@ -1,4 +1,5 @@
--- How trees and the items of `Grammar` say the same: the code of a tree, and the laws that tie both.
+-- How trees and the items of `Grammar` say the same: the code of a tree, and the laws that tie both. It is for the machine's proofs: no
+-- public contract of the reader cites it.
 use Rattle.std.specs.Prelude.{◌≡◌, ◌↔◌, ℕ, zero, suc, List, [], ◌∷◌, true}
 use Rattle.pv_expr.specs.Terms.{Term}
 use Rattle.pv_code.specs.declared.code.Op.{Op}

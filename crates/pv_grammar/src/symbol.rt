@@ -1,9 +1,9 @@
 // Tokens as the grammar sees them: names are resolved.
 
-ghost use Rattle.std.specs.Prelude.{◌≡◌, ◌≢◌, None, is_some};
+ghost use Rattle.std.specs.Prelude.{◌≡◌, ◌≢◌, None};
 ghost use Rattle.std.specs.Bool.{OnTrue, OnFalse};
-ghost use Rattle.pv_grammar.specs.Grammar.{factor, is_minus};
-ghost use Rattle.pv_grammar.specs.Limits.{operates};
+ghost use Rattle.pv_grammar.specs.Grammar.{factor};
+ghost use Rattle.pv_grammar.specs.Limits.{begins_expression, is_minus, operates};
 
 use crate::cause::Cause;
 use pv_code::{Fraction, Op};
@@ -67,7 +67,7 @@ impl Symbol {
     pub fn begins(self) -> bool
         ensures no { OnFalse result (factor self ≡ None) }
         ensures yes { OnTrue result (factor self ≢ None) }
-        ensures test { result ≡ is_some (factor self) }
+        ensures test { result ≡ begins_expression self }
     {
         match self {
             Symbol::Fixed(Fixed::Plus | Fixed::Minus | Fixed::Open) => true,

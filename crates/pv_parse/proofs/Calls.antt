@@ -1,5 +1,5 @@
 -- A call in a sentence has at most 12 arguments.
-use Rattle.std.proofs.Common.{◌≡◌, ℕ, ◌+◌, ◌-◌, ◌≤◌, nat_lt, Bool, true, false, List, [], ◌∷◌, Option, Some, None, Ok, Err, cond, if◌then◌else◌, is_some, refl, sym, subst, arith, rules, tests}
+use Rattle.std.proofs.Common.{◌≡◌, ℕ, ◌+◌, ◌-◌, ◌≤◌, nat_lt, Bool, true, false, List, [], ◌∷◌, Option, Some, None, Ok, Err, cond, if◌then◌else◌, refl, sym, subst, arith, rules, tests}
 use Rattle.std.specs.Prelude.{All}
 use Rattle.std.specs.Str.{bytes_eq}
 use Rattle.pv_code.specs.declared.code.Op.{Op}
@@ -13,8 +13,8 @@ use Rattle.pv_grammar.specs.declared.symbol.Fixed.{Fixed}
 use Rattle.pv_grammar.specs.declared.symbol.Fixed.TheVariants.{Open, Close, Comma, Semicolon, Function as FunctionWord, End}
 use Rattle.pv_grammar.specs.declared.symbol.Symbol.{Symbol}
 use Rattle.pv_grammar.specs.declared.symbol.Symbol.TheVariants.{Fixed as FixedToken, Number, Declared, Unknown, Function as Call}
-use Rattle.pv_grammar.specs.Grammar.{factor, system_items}
-use Rattle.pv_grammar.specs.Limits.{Counting, begins, begun, behind_comma, behind_end, behind_semicolon, counted, declared, in_expression, levels, moved, nested, next, nothing, operated, operates, turned}
+use Rattle.pv_grammar.specs.Grammar.{system_items}
+use Rattle.pv_grammar.specs.Limits.{Counting, begins, begins_expression, begun, behind_comma, behind_end, behind_semicolon, counted, declared, in_expression, levels, moved, nested, next, nothing, operated, operates, turned}
 use Rattle.pv_grammar.proofs.Steps.{AllWrite, MayRaise, Own, Writes, derived-steps}
 use Rattle.pv_tokens.specs.declared.keyword.Word.{Word}
 use Rattle.pv_tokens.specs.declared.keyword.Word.TheVariants.{Constants as ConstantsWord', Variables as VariablesWord', Constraints as ConstraintsWord', Function as FunctionBlock, Return as ReturnWord, End as EndWord, In as InWord, Oo as OoWord, Abs as AbsWord, Sqr as SqrWord, Min as MinWord, Max as MaxWord, Outside}
@@ -23,8 +23,9 @@ use Rattle.pv_tokens.specs.declared.token.Kind.TheVariants.{Name, Number as Numb
 use Rattle.pv_tokens.specs.Words.{word_in}
 use Rattle.pv_parse.specs.declared.names.Meaning.{Meaning}
 use Rattle.pv_parse.specs.declared.names.Meaning.TheVariants.{Constant as ConstantMeaning, Variable as VariableMeaning, Function as FunctionMeaning}
+use Rattle.pv_parse.specs.ByItems.{IsSentence}
 use Rattle.pv_parse.specs.Meanings.{Names, in_body, in_bounds, learnt, meaning, no_names, told, use_of, with_function, with_name, with_value}
-use Rattle.pv_parse.specs.Sentences.{IsNumberSymbol, IsSentence, SpellsTo, StandsFor, bytes_of, name_symbol, word_symbol}
+use Rattle.pv_parse.specs.Sentences.{IsNumberSymbol, SpellsTo, StandsFor, bytes_of, name_symbol, word_symbol}
 
 -- ---- Counts
 
@@ -87,7 +88,7 @@ moved-few s c h = h
 counted-few : (c d : Counts) (s : Symbol) → counted c s ≡ Ok d → c.parameters ≤ 12 → d.parameters ≤ 12
 counted-few c d s e h =
     subst (λ (r : Counting). Few r) e
-    (few-next (begun c s) _ (few-if (is_some (factor s)) _ _ (λ t. begins-few c.phase c h) h)
+    (few-next (begun c s) _ (few-if (begins_expression s) _ _ (λ t. begins-few c.phase c h) h)
     (λ c1 h1. few-next (operated c1 s) _ (few-if (in_expression c1.phase) _ _ (λ t. few-if (operates s) _ _ (λ u. few-if (nat_lt c1.operations 1000) _ _ (λ v. h1) tt) h1) h1)
     (λ c2 h2. few-next (nested c2 s) _ (few-if (in_expression c2.phase) _ _ (λ t. levels-few s c2 h2) h2)
     (λ c3 h3. moved-few s c3 h3))))

@@ -1,5 +1,5 @@
 -- What is to come has a text that stays within the limits, where the counts fit it.
-use Rattle.std.proofs.Common.{◌≡◌, ℕ, zero, suc, ◌+◌, ◌-◌, nat_lt, Bool, true, false, List, [], ◌∷◌, ◌++◌, refl, sym, ap, ◌∙◌, subst, Some, is_some, if◌then◌else◌, Ok, Err, pos}
+use Rattle.std.proofs.Common.{◌≡◌, ℕ, zero, suc, ◌+◌, ◌-◌, nat_lt, Bool, true, false, List, [], ◌∷◌, ◌++◌, refl, sym, ap, ◌∙◌, subst, Some, if◌then◌else◌, Ok, Err, pos}
 use Rattle.pv_expr.specs.declared.constraint.Relation.TheVariants.{Eq, Le}
 use Rattle.pv_code.specs.declared.code.Op.{Op}
 use Rattle.pv_code.specs.declared.code.Op.TheVariants.{Relate}
@@ -14,11 +14,12 @@ use Rattle.pv_grammar.specs.declared.symbol.Symbol.{Symbol}
 use Rattle.pv_grammar.specs.declared.symbol.Symbol.TheVariants.{Fixed as FixedToken, Relation as RelationToken, Number, Declared}
 use Rattle.pv_grammar.specs.declared.machine.Item.{Item}
 use Rattle.pv_grammar.specs.declared.machine.Item.TheVariants.{Exactly, WantConstant, WantEquals, MaybeSign, WantValue, WantFunctionName, WantParameter, MoreConstraints, MaybeConstraint, MoreParameters, WantVariable, MaybeDomain, WantBound, WantRelation, WantFactor, MoreFactors, MoreTerms, MaybePower, WantExponent, MoreArguments, Then}
-use Rattle.pv_grammar.specs.Grammar.{Derives, MayEnd, Produced, begun as begun_text, done, factor, left_out, produced, step_of}
-use Rattle.pv_grammar.specs.Limits.{Counted, Counting, begins, behind_comma, behind_end, counted, declared, in_expression, in_level, in_phase, levels, moved, nested, next, operated, operates, turned, where_below, with_operations, with_parameters, with_variables}
+use Rattle.pv_grammar.specs.Grammar.{Derives, MayEnd, Produced, begun as begun_text, done, left_out, produced, step_of}
+use Rattle.pv_grammar.specs.Limits.{Counted, Counting, begins, begins_expression, behind_comma, behind_end, counted, declared, in_expression, in_level, in_phase, levels, moved, nested, next, operated, operates, turned, where_below, with_operations, with_parameters, with_variables}
 use Rattle.pv_grammar.proofs.Ready.{FactorRoom, FixedRoom, InExpression, IsStill, Leaves, OpenRoom, Ready, Room, fixed_behind, opened, opened_in, room_in, seen}
 use Rattle.pv_grammar.proofs.Fits.{seen_end}
-use Rattle.pv_parse.specs.Meanings.{AreBounded, Names, learnt}
+use Rattle.pv_parse.specs.ByItems.{AreBounded}
+use Rattle.pv_parse.specs.Meanings.{Names, learnt}
 use Rattle.pv_parse.specs.Sentences.{StandsFor}
 use Rattle.pv_parse.proofs.Pieces.{CanDeclare, IsPiece, Mean, Piece, Plain, at_most_token, close_bracket_token, close_token, comma_token, constraints_token, end_token, equal_token, fresh, fresh_piece, fresh_stands, infinity_token, learnt_bounded, named, open_bracket_token, open_token, return_token, variables_token, zero_token}
 
@@ -81,7 +82,7 @@ same_if true x y e = e
 same_if false x y e = refl
 
 -- a token that begins no factor, counts as no operation and opens no level
-quietly : (c : Counts) (s : Symbol) → is_some (factor s) ≡ false → operates s ≡ false → levels s c ≡ Ok c → counted c s ≡ moved c s
+quietly : (c : Counts) (s : Symbol) → begins_expression s ≡ false → operates s ≡ false → levels s c ≡ Ok c → counted c s ≡ moved c s
 quietly c s b o l =
     ap (λ (z : Bool). next (if z then begins c.phase c else Ok c) (λ d. next (operated d s) (λ e. next (nested e s) (λ f. moved f s)))) b
     ∙ (ap (λ (r : Counting). next r (λ e. next (nested e s) (λ f. moved f s)))
@@ -185,7 +186,7 @@ close_arguments (suc a) n b c rest h g =
 
 -- a token that leads to a phase
 close_phase : (f : Fixed) (x : Plain (FixedToken f)) (n : Names) (b : AreBounded n) (c d : Counts) (rest : List Item) (p : Produced) → produced (Exactly f) (FixedToken f) ≡ Some p → p.0 ≡ [] →
-    is_some (factor (FixedToken f)) ≡ false → operates (FixedToken f) ≡ false → levels (FixedToken f) c ≡ Ok c →
+    begins_expression (FixedToken f) ≡ false → operates (FixedToken f) ≡ false → levels (FixedToken f) c ≡ Ok c →
     turned f c ≡ Ok d → ((m : Names) → AreBounded m → ClosesFrom m d rest) → ClosesFrom n c (Exactly f ∷ rest)
 close_phase f x n b c d rest p e none begins_none operates_not l t g =
     by_token (Exactly f) n b c d rest (FixedToken f) x p e (quietly c (FixedToken f) begins_none operates_not l ∙ t) (λ m k. subst (λ (z : List Item). ClosesFrom m d (z ++ rest)) (sym none) (g m k))

@@ -17,9 +17,9 @@ use Rattle.pv_grammar.specs.declared.symbol.Fixed.TheVariants.{Plus, Minus, Star
 use Rattle.pv_grammar.specs.declared.symbol.Symbol.{Symbol}
 use Rattle.pv_grammar.specs.declared.symbol.Symbol.TheVariants.{Fixed as FixedToken, Relation as RelationToken, Number, Declared, Constant as ConstantName, Variable as VariableName, Parameter as ParameterName, Function as Call, Unknown}
 use Rattle.pv_grammar.specs.Grammar.{Derives, MayEnd, Produced, begun, done, exactly, factor, left_out, produced, step_of, system_items, with_more}
-use Rattle.pv_grammar.specs.Limits.{Counted, Counting, behind_comma, behind_end, behind_semicolon, begins, begun as begun_by, counted, declared, in_expression, levels, moved, nested, next, operated, operates, turned, with_operations}
+use Rattle.pv_grammar.specs.Limits.{Counted, Counting, begins, begins_expression, begun as begun_by, behind_comma, behind_end, behind_semicolon, counted, declared, in_expression, levels, moved, nested, next, operated, operates, turned, with_operations}
+use Rattle.pv_parse.specs.ByItems.{IsSentence}
 use Rattle.pv_parse.specs.Meanings.{Names}
-use Rattle.pv_parse.specs.Sentences.{IsSentence}
 use Rattle.pv_parse.proofs.Starts.{AreCalls, AreEarly, EarlyAfter, IsCall, IsEarly, WordAfter, calls, constraints_count, early_left, early_of, early_others, relates, relates_append, word_of, word_step}
 use Rattle.pv_parse.proofs.VariableCounts.{ok_err, same_ok, steps, where_ok}
 
@@ -183,16 +183,16 @@ between c d s h =
 mild_token : (c d : Counts) (s : Symbol) → IsMild s → InConstraint c.phase → counted c s ≡ Ok d → GoesOn c d
 mild_token c d s mild w h =
     let k = steps c s d h in
-    let b = begun_on (is_some (factor s)) c k.first w k.begins_it in
+    let b = begun_on (begins_expression s) c k.first w k.begins_it in
     let o = between k.first k.second s k.operates_it in
     let n = nested_stays (in_expression k.second.phase) s k.second k.third k.nests_it in
     let m = moved_stays s k.third d mild k.moves_it in
     (subst InConstraint (sym (m.phase ∙ n.phase ∙ o.phase)) b.0, omega (arith, b.1, o.constraints, n.constraints, m.constraints))
 
-first_token : (c d : Counts) (s : Symbol) → IsMild s → is_some (factor s) ≡ true → c.phase ≡ NextConstraint → counted c s ≡ Ok d → GoesUp c d
+first_token : (c d : Counts) (s : Symbol) → IsMild s → begins_expression s ≡ true → c.phase ≡ NextConstraint → counted c s ≡ Ok d → GoesUp c d
 first_token c d s mild is w h =
     let k = steps c s d h in
-    let b = begun_up (is_some (factor s)) c k.first is w k.begins_it in
+    let b = begun_up (begins_expression s) c k.first is w k.begins_it in
     let o = between k.first k.second s k.operates_it in
     let n = nested_stays (in_expression k.second.phase) s k.second k.third k.nests_it in
     let m = moved_stays s k.third d mild k.moves_it in
@@ -377,11 +377,17 @@ plain_behind c d i s items p l h w t e one =
 some_is : (o : Option Produced) (p : Produced) → o ≡ Some p → is_some o ≡ true
 some_is o p e = ap (λ (z : Option Produced). is_some z) e
 
+begins_by : (s : Symbol) → begins_expression s ≡ is_some (factor s)
+begins_by (FixedToken Plus) = refl
+begins_by (FixedToken Minus) = refl
+begins_by (FixedToken Open) = refl
+begins_by s = refl
+
 first_behind : (c d : Counts) (s : Symbol) (p : Produced) → IsCall s → c.phase ≡ NextConstraint → factor s ≡ Some p → counted c s ≡ Ok d →
     Behind c d 0 (factor_behind ++ ending) p
 first_behind c d s p h w e one =
     let k : PlainAfter s (Some p) 0 = plain_of s (factor s) 0 p e (plain_factor s h) in
-    let g = first_token c d s k.0 (some_is (factor s) p e) w one in
+    let g = first_token c d s k.0 (begins_by s ∙ some_is (factor s) p e) w one in
     let a = weight_append p.0 (factor_behind ++ ending) in
     let sums = k.2 in
     let more = g.1 in
@@ -601,7 +607,7 @@ moved_few s c h = h
 counted_few : (c d : Counts) (s : Symbol) → counted c s ≡ Ok d → c.constraints ≤ 64 → d.constraints ≤ 64
 counted_few c d s e h =
     subst (λ (r : Counting). Few r) e
-    (few_next (begun_by c s) _ (few_if (is_some (factor s)) _ _ (λ t. begins_few c.phase c h) h)
+    (few_next (begun_by c s) _ (few_if (begins_expression s) _ _ (λ t. begins_few c.phase c h) h)
     (λ c1 h1. few_next (operated c1 s) _ (few_if (in_expression c1.phase) _ _ (λ t. few_if (operates s) _ _ (λ u. few_if (nat_lt c1.operations 1000) _ _ (λ v. h1) tt) h1) h1)
     (λ c2 h2. few_next (nested c2 s) _ (few_if (in_expression c2.phase) _ _ (λ t. levels_few s c2 h2) h2)
     (λ c3 h3. moved_few s c3 h3))))

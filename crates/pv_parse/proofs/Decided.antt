@@ -14,9 +14,10 @@ use Rattle.pv_grammar.specs.declared.machine.Item.TheVariants.{MaybeConstants, M
 use Rattle.pv_grammar.specs.declared.symbol.Fixed.TheVariants.{Plus, Minus, Star, Slash, Caret, Open, Close, OpenBracket, CloseBracket, Comma, Semicolon, EndOfText}
 use Rattle.pv_grammar.specs.declared.symbol.Symbol.{Symbol}
 use Rattle.pv_grammar.specs.declared.symbol.Symbol.TheVariants.{Never, Fixed as FixedToken, Relation as RelationToken, Number}
+use Rattle.pv_grammar.specs.ByItems.{IsStart}
 use Rattle.pv_grammar.specs.Causes.{refusal}
 use Rattle.pv_grammar.specs.Grammar.{Follows, MayEnd, Produced, Settles, emptied, ended, expression_items, is_exponent, met, produced, step_of, system_items}
-use Rattle.pv_grammar.specs.Limits.{IsStart, counted, nothing}
+use Rattle.pv_grammar.specs.Limits.{counted, nothing}
 use Rattle.pv_tokens.specs.declared.number.Decimal.{Decimal}
 use Rattle.pv_tokens.specs.declared.token.Kind.{Kind}
 use Rattle.pv_tokens.specs.declared.token.Kind.TheVariants.{Name, Number as NumberKind, LessEqual, GreaterEqual, Less, Greater, Equal, Plus as PlusKind, Minus as MinusKind, Star as StarKind, Slash as SlashKind, Caret as CaretKind, Open as OpenKind, Close as CloseKind, OpenBracket as OpenBracketKind, CloseBracket as CloseBracketKind, Comma as CommaKind, Semicolon as SemicolonKind, Bad, End}
@@ -28,11 +29,14 @@ use Rattle.pv_tokens.proofs.Exists.{Next, next_from, digit_or}
 use Rattle.pv_tokens.proofs.OneRatio.{common_within}
 use Rattle.pv_tokens.proofs.Powers.{divided, least_power}
 use Rattle.pv_tokens.proofs.TokenNumbers.{same_numeral, token_numeral}
-use Rattle.pv_parse.specs.Faults.{IsEither, IsExpressionFault, IsFirst, IsSystemFault}
-use Rattle.pv_parse.specs.Meanings.{AreBounded, KnowsVariables, Names, learnt, no_names, variables_from}
-use Rattle.pv_parse.specs.Sentences.{IsExpressionText, IsNumberSymbol, IsSentence, IsSystemText, MayRaise, StandsFor, bytes_of, name_symbol}
+use Rattle.pv_parse.specs.ByItems.{AreBounded, IsFirstByItems, IsSentence}
+use Rattle.pv_parse.specs.Faults.{IsEither, IsExpressionFault, IsSystemFault}
+use Rattle.pv_parse.specs.Meanings.{KnowsVariables, Names, learnt, no_names, variables_from}
+use Rattle.pv_parse.specs.Sentences.{IsExpressionText, IsNumberSymbol, IsSystemText, MayRaise, StandsFor, bytes_of, name_symbol}
+use Rattle.pv_parse.proofs.ByTrees.{expression_first, system_first}
 use Rattle.pv_parse.proofs.Pieces.{known_bounded, none_bounded}
 use Rattle.pv_parse.proofs.Reached.{Reached, forbidden, refused, starts, taken_not_end, taken_on, too_much, whole}
+use Rattle.pv_parse.proofs.TreeTexts.{expression_sentence_tree, sentence_tree}
 
 -- ---- What a token stands for
 
@@ -145,7 +149,7 @@ meets s (i ∷ items) code = meets_by s i items code (produced i s) refl (λ m. 
 
 -- the text is a sentence or has a first fault
 abbrev pub Decides : List ℕ → Names → Counts → List Item → Type 0
-Decides t known start items = ((code : List Op) × IsSentence t known start items [] code) ⊎ ((byte : ℕ) × (cause : Cause) × IsFirst t known start items byte cause)
+Decides t known start items = ((code : List Op) × IsSentence t known start items [] code) ⊎ ((byte : ℕ) × (cause : Cause) × IsFirstByItems t known start items byte cause)
 
 -- what is left of the text behind a place is read in so many steps
 abbrev Reads : ℕ → List ℕ → Names → Counts → List Item → Type 0
@@ -215,12 +219,16 @@ pub decides : (t : List ℕ) (known : Names) (start : Counts) (items : List Item
 decides t known start items is few = reads (length t) t known start items known start items [] 0 (starts t known start items [] is few) (omega arith) (omega arith)
 
 pub decides_system : (t : List ℕ) → IsEither (IsSystemText t) (IsSystemFault t)
-decides_system t = decides t no_names (nothing Between) system_items (inl (refl, refl)) (none_bounded no_names refl)
+decides_system t =
+    ⊎_elim
+    (λ (code, s). let found = sentence_tree t code s in inl (found.0, found.1))
+    (λ (byte, cause, f). inr (byte, cause, system_first t byte cause f))
+    (decides t no_names (nothing Between) system_items (inl (refl, refl)) (none_bounded no_names refl))
 
 pub decides_expression : (variables : List (List ℕ)) (t : List ℕ) → IsEither (IsExpressionText variables t) (IsExpressionFault variables t)
 decides_expression variables t =
     let knows : KnowsVariables variables (variables_from variables 0) = record { known = λ name. refl; parameter = λ name. refl; pending = refl; negative = refl } in
     ⊎_elim
-    (λ (code, s). inl (variables_from variables 0, knows, code, s))
-    (λ (byte, cause, f). inr (byte, cause, (variables_from variables 0, knows, f)))
+    (λ (code, s). let found = expression_sentence_tree variables t (variables_from variables 0) code knows s in inl (variables_from variables 0, knows, found.0, found.1))
+    (λ (byte, cause, f). inr (byte, cause, expression_first variables t (variables_from variables 0) byte cause knows f))
     (decides t (variables_from variables 0) (nothing Sides) expression_items (inr (refl, refl)) (known_bounded variables (variables_from variables 0) knows))

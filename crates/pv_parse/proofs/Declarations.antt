@@ -5,16 +5,15 @@ use Rattle.pv_expr.specs.declared.domain.Bound.{Bound}
 use Rattle.pv_expr.specs.declared.domain.Domain.{Domain}
 use Rattle.pv_grammar.specs.declared.counts.Counts.{Counts}
 use Rattle.pv_grammar.specs.declared.symbol.Symbol.{Symbol}
-use Rattle.pv_grammar.specs.Limits.{counted}
-use Rattle.pv_grammar.specs.Grammar.{is_minus}
+use Rattle.pv_grammar.specs.Limits.{counted, is_minus}
 use Rattle.pv_tokens.specs.declared.token.Token.{Token}
 use Rattle.pv_tokens.specs.Tokens.{IsNext}
 use Rattle.pv_parse.specs.declared.given.Awaited.{Awaited}
 use Rattle.pv_parse.specs.declared.given.Awaited.TheVariants.{Lower, Upper, Neither}
 use Rattle.pv_parse.specs.declared.given.Given.{Given}
-use Rattle.pv_parse.specs.Declarations.{Mark, MarksTo, Variable, bound_at, bounds_of, bracket_behind, bracket_in, bracket_of, declares, domain_in, domain_of, mark_of, name_of, own, starts_from, variable, variables_in}
+use Rattle.pv_parse.specs.Declarations.{Mark, MarksTo, bracket_behind, bracket_of, declares, mark_of, own, starts_from}
 use Rattle.pv_parse.specs.Fractions.{HasFraction, HaveFractions}
-use Rattle.pv_parse.specs.Scopes.{Scoped, all_given_behind, bounded, bracket_given, domain_given, followed, given_behind, nothing_given, scoped_behind, with_bound, with_last}
+use Rattle.pv_parse.specs.Scopes.{Scoped, Variable, all_given_behind, bound_at, bounded, bounds_of, bracket_given, bracket_in, domain_given, domain_in, domain_of, followed, given_behind, name_of, nothing_given, scoped_behind, variable, variables_in, with_bound, with_last}
 use Rattle.pv_parse.proofs.Fractions.{have_one}
 
 -- ---- One token more

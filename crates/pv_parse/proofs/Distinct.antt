@@ -22,8 +22,9 @@ use Rattle.pv_tokens.specs.Words.{word_in}
 use Rattle.pv_tokens.proofs.Unique.{one_next}
 use Rattle.pv_parse.specs.declared.names.Meaning.{Meaning}
 use Rattle.pv_parse.specs.declared.names.Meaning.TheVariants.{Variable as VariableMeaning}
-use Rattle.pv_parse.specs.Declarations.{Mark, MarksTo, Variable, declares, mark_of, name_of, variable, variables_in}
+use Rattle.pv_parse.specs.Declarations.{Mark, MarksTo, declares, mark_of}
 use Rattle.pv_parse.specs.Meanings.{Names, learnt, told, with_function, with_name, with_value}
+use Rattle.pv_parse.specs.Scopes.{Variable, name_of, variable, variables_in}
 use Rattle.pv_parse.specs.Sentences.{SpellsTo, StandsFor, bytes_of, name_symbol, word_symbol}
 use Rattle.pv_parse.proofs.NameBytes.{declared_name, declares_is, is_declared}
 

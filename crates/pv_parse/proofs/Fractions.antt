@@ -14,14 +14,16 @@ use Rattle.pv_grammar.specs.declared.counts.Phase.TheVariants.{Between, Constant
 use Rattle.pv_grammar.specs.declared.symbol.Fixed.TheVariants.{End, Oo}
 use Rattle.pv_grammar.specs.declared.symbol.Symbol.{Symbol}
 use Rattle.pv_grammar.specs.declared.symbol.Symbol.TheVariants.{Fixed as FixedToken, Number, Declared, Constant}
-use Rattle.pv_grammar.specs.Grammar.{is_minus}
+use Rattle.pv_grammar.specs.Limits.{is_minus}
+use Rattle.pv_grammar.specs.Trees.{infinite}
 use Rattle.pv_tokens.specs.declared.keyword.Word.{Word}
 use Rattle.pv_tokens.specs.declared.keyword.Word.TheVariants.{End as EndWord}
 use Rattle.pv_parse.specs.declared.names.Meaning.{Meaning}
 use Rattle.pv_parse.specs.declared.names.Meaning.TheVariants.{Constant as ConstantMeaning, Variable as VariableMeaning, Function as FunctionMeaning}
-use Rattle.pv_parse.specs.Declarations.{AreGood, Mark, Variable, bound_at, bounds_of, declares, domain_in, domain_of, infinite, own, variable, variables_in}
+use Rattle.pv_parse.specs.Declarations.{AreGood, Mark, declares, own}
 use Rattle.pv_parse.specs.Fractions.{HasFraction, HaveFractions, KnowsFractions}
 use Rattle.pv_parse.specs.Meanings.{AreSame, KnowsVariables, Names, in_body, in_bounds, learnt, meaning, no_names, numbered, use_of, variables_from, with_function, with_name, with_value}
+use Rattle.pv_parse.specs.Scopes.{Variable, bound_at, bounds_of, domain_in, domain_of, variable, variables_in}
 use Rattle.pv_parse.specs.Sentences.{name_symbol, word_symbol}
 
 -- ---- What a name stands for

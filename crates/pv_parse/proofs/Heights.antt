@@ -24,8 +24,9 @@ use Rattle.pv_tokens.specs.declared.token.Kind.TheVariants.{Name, Number as Numb
 use Rattle.pv_tokens.specs.Words.{word_in}
 use Rattle.pv_parse.specs.declared.names.Meaning.{Meaning}
 use Rattle.pv_parse.specs.declared.names.Meaning.TheVariants.{Constant as ConstantMeaning, Variable as VariableMeaning, Function as FunctionMeaning}
+use Rattle.pv_parse.specs.ByItems.{IsSentence}
 use Rattle.pv_parse.specs.Meanings.{Names, in_body, in_bounds, learnt, meaning, no_names, use_of}
-use Rattle.pv_parse.specs.Sentences.{IsNumberSymbol, IsSentence, SpellsTo, StandsFor, bytes_of, name_symbol, word_symbol}
+use Rattle.pv_parse.specs.Sentences.{IsNumberSymbol, SpellsTo, StandsFor, bytes_of, name_symbol, word_symbol}
 
 -- ---- What the items do with the values on the stack: at least so many are there
 

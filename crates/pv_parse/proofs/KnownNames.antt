@@ -1,6 +1,6 @@
 -- In a sentence each name is known: none is undeclared or declared twice, and a function is called with its step and as many
 -- arguments as it has parameters, which is one at least.
-use Rattle.std.proofs.Common.{◌≡◌, ◌≢◌, ℕ, zero, suc, ◌+◌, ◌-◌, ◌≤◌, nat_lt, Bool, true, false, List, [], ◌∷◌, ◌++◌, Option, Some, None, Ok, Err, cond, if◌then◌else◌, is_some, refl, sym, subst, append_assoc, arith}
+use Rattle.std.proofs.Common.{◌≡◌, ◌≢◌, ℕ, zero, suc, ◌+◌, ◌-◌, ◌≤◌, nat_lt, Bool, true, false, List, [], ◌∷◌, ◌++◌, Option, Some, None, Ok, Err, cond, if◌then◌else◌, refl, sym, subst, append_assoc, arith}
 use Rattle.std.specs.Str.{bytes_eq}
 use Rattle.pv_expr.specs.declared.constraint.Relation.TheVariants.{Eq}
 use Rattle.pv_code.specs.declared.code.Op.{Op}
@@ -15,10 +15,11 @@ use Rattle.pv_grammar.specs.declared.symbol.Fixed.{Fixed}
 use Rattle.pv_grammar.specs.declared.symbol.Fixed.TheVariants.{Plus, Minus, Star, Slash, Caret, Open, Close, OpenBracket, CloseBracket, Comma, Semicolon, Constants as ConstantsWord, Variables as VariablesWord, Constraints as ConstraintsWord, Function as FunctionWord, Return, End, In, Oo, EndOfText}
 use Rattle.pv_grammar.specs.declared.symbol.Symbol.{Symbol}
 use Rattle.pv_grammar.specs.declared.symbol.Symbol.TheVariants.{Fixed as FixedToken, Relation as RelationToken, Number, Declared, Constant as ConstantToken, Variable as VariableToken, Parameter as ParameterToken, Function as Call, Unknown}
+use Rattle.pv_grammar.specs.Causes.{as_known}
 use Rattle.pv_grammar.specs.Grammar.{Derives, MayEnd, Produced, arguments, begun as begun_by, done, exactly, expression_items, factor, factors, fixed, left_out, produced, relation, system_items, terms, with_more}
-use Rattle.pv_grammar.specs.Limits.{Counting, begins, begun, behind_comma, behind_end, behind_semicolon, counted, declared, in_expression, in_phase, levels, moved, nested, next, nothing, operated, operates, turned}
+use Rattle.pv_grammar.specs.Limits.{Counting, begins, begins_expression, begun, behind_comma, behind_end, behind_semicolon, counted, declared, in_expression, in_phase, levels, moved, nested, next, nothing, operated, operates, turned}
 use Rattle.pv_grammar.specs.TreeCodes.{AreKnown, IsCalled, IsKnown}
-use Rattle.pv_grammar.proofs.Forward.{none_some}
+use Rattle.pv_grammar.proofs.Forward.{head_is, nil_cons, none_some, tail_is}
 use Rattle.pv_tokens.specs.declared.keyword.Word.{Word}
 use Rattle.pv_tokens.specs.declared.keyword.Word.TheVariants.{Constants as ConstantsBlock, Variables as VariablesBlock, Constraints as ConstraintsBlock, Function as FunctionBlock, Return as ReturnWord, End as EndWord, In as InWord, Oo as OoWord, Abs as AbsWord, Sqr as SqrWord, Min as MinWord, Max as MaxWord, Outside}
 use Rattle.pv_tokens.specs.declared.token.Kind.{Kind}
@@ -26,8 +27,9 @@ use Rattle.pv_tokens.specs.declared.token.Kind.TheVariants.{Name, Number as Numb
 use Rattle.pv_tokens.specs.Words.{word_in}
 use Rattle.pv_parse.specs.declared.names.Meaning.{Meaning}
 use Rattle.pv_parse.specs.declared.names.Meaning.TheVariants.{Constant as ConstantMeaning, Variable as VariableMeaning, Function as FunctionMeaning}
+use Rattle.pv_parse.specs.ByItems.{IsSentence}
 use Rattle.pv_parse.specs.Meanings.{KnowsVariables, Names, in_body, in_bounds, learnt, meaning, no_names, numbered, told, use_of, with_function, with_name, with_value}
-use Rattle.pv_parse.specs.Sentences.{IsNumberSymbol, IsSentence, SpellsTo, StandsFor, bytes_of, name_symbol, word_symbol}
+use Rattle.pv_parse.specs.Sentences.{IsNumberSymbol, Spells, SpellsTo, StandsFor, bytes_of, name_symbol, word_symbol}
 
 -- ---- Counts: within a body there is a parameter
 
@@ -116,7 +118,7 @@ moved_fine s c h = h.0
 counted_fine : (c d : Counts) (s : Symbol) → counted c s ≡ Ok d → Fine s c → Bodied d
 counted_fine c d s e h =
     subst (Gives Bodied) e
-    (gives_next (Fine s) Bodied (begun c s) _ (gives_if (Fine s) (is_some (factor s)) _ _ (begins_fine c.phase c s h) h)
+    (gives_next (Fine s) Bodied (begun c s) _ (gives_if (Fine s) (begins_expression s) _ _ (begins_fine c.phase c s h) h)
     (λ c1 h1. gives_next (Fine s) Bodied (operated c1 s) _ (gives_if (Fine s) (in_expression c1.phase) _ _ (gives_if (Fine s) (operates s) _ _ (gives_if (Fine s) (nat_lt c1.operations 1000) _ _ h1 tt) h1) h1)
     (λ c2 h2. gives_next (Fine s) Bodied (nested c2 s) _ (gives_if (Fine s) (in_expression c2.phase) _ _ (levels_fine s c2 s h2) h2)
     (λ c3 h3. moved_fine s c3 h3))))
@@ -484,39 +486,80 @@ all_known items ss code (begun_by i rest s ss' p code' e d) t n c from to m (x, 
       (told_some c s (bytes_of t x) n b k),
 )
 
-pub system_known : (t : List ℕ) (before after : List Op) (s : IsSentence t no_names (nothing Between) system_items before after) → AreKnown s.symbols
-system_known t before after s =
-    all_known system_items s.symbols s.steps s.derived t no_names (nothing Between) 0 s.spelled.0 s.spelled.1 s.spelled.3 (
+-- what is known at the start of a text
+pub record StartsKnown (items : List Item) (c : Counts) (n : Names) : Type 0 where
+  fits : Fits items c.phase c.parameters
+  bodied : Bodied c
+  names : SomeNames n
+
+pub system_start : StartsKnown system_items (nothing Between) no_names
+system_start = record {
+  fits = (
+    tt,
+    λ q m l. (
       tt,
-      λ q m l. (
+      λ q1 m1 l1. (
         tt,
-        λ q1 m1 l1. (
+        λ q2 m2 l2. (
           tt,
-          λ q2 m2 l2. (
+          λ q3 m3 l3. (
             tt,
-            λ q3 m3 l3. (
+            λ q4 m4 l4. (
               tt,
-              λ q4 m4 l4. (
+              λ q5 m5 l5. (
                 tt,
-                λ q5 m5 l5. (
-                  tt,
-                  λ q6 m6 l6.
-                      expression_fits (WantRelation ∷ MoreConstraints ∷ Exactly End ∷ []) (λ q7 m7. (tt, λ q8 m8 l8. (tt, λ q9 m9 l9. (tt, λ q10 m10 l10. tt)))) q6 m6,
-                ),
+                λ q6 m6 l6.
+                    expression_fits (WantRelation ∷ MoreConstraints ∷ Exactly End ∷ []) (λ q7 m7. (tt, λ q8 m8 l8. (tt, λ q9 m9 l9. (tt, λ q10 m10 l10. tt)))) q6 m6,
               ),
             ),
           ),
         ),
       ),
-    )
-    tt (λ name. tt)
+    ),
+  );
+  bodied = tt;
+  names = λ name. tt;
+}
 
 variables_some : (variables : List (List ℕ)) (i : ℕ) (name : List ℕ) → SomeIn (numbered variables i name)
 variables_some [] i name = tt
 variables_some (v ∷ vs) i name = some_cond (bytes_eq v name) (VariableMeaning i) (numbered vs (i + 1) name) tt (variables_some vs (i + 1) name)
 
-pub expression_known : (variables : List (List ℕ)) (t : List ℕ) (n : Names) (before after : List Op) → KnowsVariables variables n →
-    (s : IsSentence t n (nothing Sides) expression_items before after) → AreKnown s.symbols
-expression_known variables t n before after knows s =
-    all_known expression_items s.symbols s.steps s.derived t n (nothing Sides) 0 s.spelled.0 s.spelled.1 s.spelled.3
-    (expression_fits [] (λ q m. tt) Sides 0) tt (λ name. subst SomeIn (sym (knows.known name)) (variables_some variables 0 name))
+pub expression_start : (variables : List (List ℕ)) (n : Names) → KnowsVariables variables n → StartsKnown expression_items (nothing Sides) n
+expression_start variables n knows = record {
+  fits = expression_fits [] (λ q m. tt) Sides 0;
+  bodied = tt;
+  names = λ name. subst SomeIn (sym (knows.known name)) (variables_some variables 0 name);
+}
+
+pub text_known : (items : List Item) (c : Counts) (n : Names) → StartsKnown items c n → (ss : List Symbol) (code : List Op) → Derives items ss code → (t : List ℕ) → Spells t n c ss → AreKnown ss
+text_known items c n start ss code d t spelled = all_known items ss code d t n c 0 spelled.0 spelled.1 spelled.3 start.fits start.bodied start.names
+
+pub sentence_known : (t : List ℕ) (n : Names) (c : Counts) (items : List Item) (before after : List Op) → StartsKnown items c n → (s : IsSentence t n c items before after) → AreKnown s.symbols
+sentence_known t n c items before after start s = text_known items c n start s.symbols s.steps s.derived t s.spelled
+
+-- ---- A token behind the first ones of a text
+
+names_behind : (items : List Item) (all : List Symbol) (code : List Op) → Derives items all code → (ss rest : List Symbol) → all ≡ ss ++ rest →
+    (t : List ℕ) (n : Names) (c : Counts) (from to : ℕ) (m : Names) → SpellsTo t n c from ss to m → Fits items c.phase c.parameters → Bodied c → SomeNames n → SomeNames m
+names_behind items all code (done) [] rest e t n c from to m h f b k = subst SomeNames h.1 k
+names_behind items all code (done) (s ∷ ss) rest e t n c from to m h f b k = absurd (nil_cons e)
+names_behind items all code (left_out i others all' code' may d) ss rest e t n c from to m h f b k =
+    names_behind others all' code' d ss rest e t n c from to m h (f.1 c.phase c.parameters (same_left i c.phase c.parameters may)) b k
+names_behind items all code (begun_by i others s all' p code' made d) [] rest e t n c from to m h f b k = subst SomeNames h.1 k
+names_behind items all code (begun_by i others s all' p code' made d) (r ∷ ss) rest e t n c from to m (x, c', next_is, inside, stands, counts, more) f b k =
+    let made' : produced i r ≡ Some p = subst (λ (z : Symbol). produced i z ≡ Some p) (head_is e) made in
+    names_behind (p.0 ++ others) all' code' d ss rest (tail_is e) t (learnt c r (bytes_of t x) n) c' x.end to m more
+    (subst (λ (o : Option Produced). Fitted o others c'.phase c'.parameters) made' (fits i r others c c' counts f))
+    (counted_fine c c' r counts (b, token_needs i r c.phase c.parameters (λ none. none_some none made') f.0))
+    (told_some c r (bytes_of t x) n b k)
+
+name_known : (s : Symbol) → Called s → IsKnown (as_known s)
+name_known (Call op arity) h = h
+name_known s h = tt
+
+-- such a token is known, where its name counts as one
+pub next_known : (items : List Item) (c : Counts) (n : Names) → StartsKnown items c n → (before rest : List Symbol) (code : List Op) → Derives items (before ++ rest) code →
+    (t : List ℕ) (from : ℕ) (m : Names) → SpellsTo t n c 0 before from m → (p : Phase) (bytes : List ℕ) (k : Kind) (s : Symbol) → StandsFor p m bytes k s → IsKnown (as_known s)
+next_known items c n start before rest code d t from m spelled p bytes k s stands =
+    name_known s (stands_called p m bytes k s stands (names_behind items (before ++ rest) code d before rest refl t n c 0 from m spelled start.fits start.bodied start.names))

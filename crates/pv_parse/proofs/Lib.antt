@@ -1,3 +1,4 @@
+pub mod ByTrees
 pub mod Calls
 pub mod Closings
 pub mod ConstraintCounts

@@ -18,7 +18,7 @@ use Rattle.pv_code.proofs.Constraints.{Made, drop-at}
 use Rattle.pv_grammar.specs.declared.cause.Cause.TheVariants.{TooLarge}
 use Rattle.pv_parse.specs.declared.refused.ParseRefused.{ParseRefused}
 use Rattle.pv_parse.specs.declared.refused.ParseRefused.TheVariants.{Memory, Fault}
-use Rattle.pv_parse.specs.Faults.{IsAt, IsAtStart, IsLargeAt}
+use Rattle.pv_parse.specs.ByItems.{IsAt, IsAtStart, IsLargeAt}
 
 -- ---- Sums and limits of lists
 

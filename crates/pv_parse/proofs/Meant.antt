@@ -3,8 +3,8 @@ use Rattle.std.proofs.Common.{AllPairs, ◌≢◌, ◌≡◌, ℕ, ◌≤◌, Li
 use Rattle.pv_expr.specs.declared.domain.Domain.{Domain}
 use Rattle.pv_expr.specs.Systems.{IsDomain, Parts}
 use Rattle.pv_code.specs.declared.code.Op.{Op}
-use Rattle.pv_code.specs.Expansion.{constraints_of, sides_of}
-use Rattle.pv_code.specs.Sizes.{AreWithin}
+use Rattle.pv_code.specs.Expansion.{Sides, constraints_of, sides_of}
+use Rattle.pv_code.specs.Sizes.{AreWithin, IsFirstLarge}
 use Rattle.pv_code.proofs.Building.{length-map}
 use Rattle.pv_grammar.specs.declared.cause.Cause.TheVariants.{BadBounds}
 use Rattle.pv_grammar.specs.declared.counts.Counts.{Counts}
@@ -15,17 +15,26 @@ use Rattle.pv_grammar.specs.declared.symbol.Symbol.{Symbol}
 use Rattle.pv_grammar.specs.declared.symbol.Symbol.TheVariants.{Fixed as FixedToken, Relation as RelationToken}
 use Rattle.pv_grammar.specs.Grammar.{system_items}
 use Rattle.pv_grammar.specs.Limits.{nothing}
+use Rattle.pv_grammar.specs.TreeCodes.{IsOfSystem}
+use Rattle.pv_grammar.specs.Trees.{system_constraints, system_domains}
+use Rattle.pv_grammar.proofs.TreeBuilding.{system_tree}
+use Rattle.pv_grammar.proofs.TreeRuns.{system_means}
 use Rattle.pv_parse.specs.declared.refused.ParseRefused.{ParseRefused}
 use Rattle.pv_parse.specs.declared.refused.ParseRefused.TheVariants.{Memory, Fault}
 use Rattle.pv_parse.specs.declared.scope.Begun.{Begun}
 use Rattle.pv_parse.specs.declared.scope.Begun.TheVariants.{Outside, Next, At}
-use Rattle.pv_parse.specs.Declarations.{AreGood, IsFirstBad, IsMeaning, Mark, MarksTo, Reading, Variable, begun_at, begun_behind, bracket_behind, bracket_in, bracket_of, declares, domain_in, name_of, own, start_of, starts_from, starts_in, variable, variables_in}
-use Rattle.pv_parse.specs.Faults.{IsAt, IsFirstOf, IsLargeAt, IsRefusal}
+use Rattle.pv_parse.specs.ByItems.{IsAt, IsFirstOfByItems, IsLargeAt}
+use Rattle.pv_parse.specs.Declarations.{AreGood, IsFirstBad, IsMeaning, Mark, Marks, MarksTo, Reading, begun_at, begun_behind, bracket_behind, bracket_of, brackets_in, declares, own, start_of, starts_from, starts_in}
+use Rattle.pv_parse.specs.Faults.{IsRefusal}
 use Rattle.pv_parse.specs.Faults.IsFaultOf.{bounds, first, large}
 use Rattle.pv_parse.specs.Meanings.{Names, no_names}
-use Rattle.pv_parse.specs.Scopes.{IsToldAs, Scoped, bracket_given, domain_given, nothing_scoped}
+use Rattle.pv_parse.specs.Scopes.{IsToldAs, Scoped, Variable, bracket_given, bracket_in, domain_given, domain_in, name_of, nothing_scoped, variable, variables_in}
+use Rattle.pv_parse.specs.Sentences.{Spells}
+use Rattle.pv_parse.proofs.ByTrees.{system_first}
+use Rattle.pv_parse.proofs.KnownNames.{sentence_known, system_start}
 use Rattle.pv_parse.proofs.Starts.{starts_count}
 use Rattle.pv_parse.proofs.Distinct.{names_distinct}
+use Rattle.pv_parse.proofs.TreeDomains.{brackets_named, domains_of_tree, names_named}
 use Rattle.pv_parse.proofs.VariableCounts.{few_variables, some_variable}
 use Rattle.pv_parse.proofs.Fractions.{HaveBounds, domains_at, have_bounds}
 use Rattle.pv_parse.proofs.NameBytes.{begins_within}
@@ -97,28 +106,46 @@ domains_good t known start items code new s good =
 abbrev IsTold : List ℕ → List Op → Scoped → Type 0
 IsTold t code new = IsToldAs t no_names (nothing Between) system_items [] code nothing_scoped new
 
-abbrev read : (t : List ℕ) (code : List Op) (new : Scoped) → IsTold t code new → Reading t
-read t code new s = record { code = code; sentence = s.sentence; marks = s.marks; marked = s.marked }
+abbrev told_tree : (t : List ℕ) (code : List Op) (new : Scoped) (s : IsTold t code new) → IsOfSystem s.sentence.symbols s.sentence.steps
+told_tree t code new s =
+    system_tree s.sentence.symbols s.sentence.steps s.sentence.derived (sentence_known t no_names (nothing Between) system_items [] code system_start s.sentence)
 
-pub first_fault : (t : List ℕ) (e : ParseRefused) → length t ≤ 65536 → IsFirstOf t no_names (nothing Between) system_items e → IsRefusal t e
+abbrev read : (t : List ℕ) (code : List Op) (new : Scoped) → IsTold t code new → Reading t
+read t code new s = record {
+  tree = (told_tree t code new s).0;
+  spelled = subst (Spells t no_names (nothing Between)) (told_tree t code new s).1 s.sentence.spelled;
+  marks = s.marks;
+  marked = subst (λ (z : List Symbol). Marks t (nothing Between) z s.marks) (told_tree t code new s).1 s.marked;
+}
+
+read_domains : (t : List ℕ) (code : List Op) (new : Scoped) (s : IsTold t code new) → map domain_given new.given ≡ system_domains (read t code new s).tree
+read_domains t code new s =
+    domains_are t no_names (nothing Between) system_items code new s ∙ domains_of_tree t (read t code new s).tree s.marks (read t code new s).marked
+
+read_constraints : (t : List ℕ) (code : List Op) (new : Scoped) (s : IsTold t code new) → constraints_of code ≡ system_constraints (read t code new s).tree
+read_constraints t code new s = ap constraints_of (s.sentence.code_is ∙ (told_tree t code new s).2) ∙ system_means (told_tree t code new s).0
+
+pub first_fault : (t : List ℕ) (e : ParseRefused) → length t ≤ 65536 → IsFirstOfByItems t no_names (nothing Between) system_items e → IsRefusal t e
 first_fault t Memory short h = tt
-first_fault t (Fault byte line column cause) short h = first short h
+first_fault t (Fault byte line column cause) short h = first short (system_first t byte cause h)
 
 pub bad_bounds : (t : List ℕ) (code : List Op) (new : Scoped) (byte : ℕ) (e : ParseRefused) → length t ≤ 65536 → IsTold t code new →
     IsFirstBad (map domain_given new.given) (map bracket_given new.given) byte → IsAt byte BadBounds e → IsRefusal t e
 bad_bounds t code new byte Memory short s bad at = absurd at
 bad_bounds t code new byte (Fault byte' line column cause) short s bad at =
+    let tree = (read t code new s).tree in
     bounds short (read t code new s)
-    (subst (λ (n : ℕ). IsFirstBad (map domain_in (variables_in s.marks)) (map bracket_in (variables_in s.marks)) n) (sym at.0)
-    (subst (λ (z : List ℕ). IsFirstBad (map domain_in (variables_in s.marks)) z byte) (brackets_are t no_names (nothing Between) system_items code new s)
-    (subst (λ (z : List Domain). IsFirstBad z (map bracket_given new.given) byte) (domains_are t no_names (nothing Between) system_items code new s) bad)))
+    (subst (λ (n : ℕ). IsFirstBad (system_domains tree) (brackets_in s.marks) n) (sym at.0)
+    (subst (λ (z : List ℕ). IsFirstBad (system_domains tree) z byte) (brackets_are t no_names (nothing Between) system_items code new s ∙ brackets_named s.marks)
+    (subst (λ (z : List Domain). IsFirstBad z (map bracket_given new.given) byte) (read_domains t code new s) bad)))
     at.1
 
 pub too_large : (t : List ℕ) (code : List Op) (new : Scoped) (e : ParseRefused) → length t ≤ 65536 → IsTold t code new → AreGood (map domain_given new.given) → IsLargeAt new.starts code e →
     IsRefusal t e
 too_large t code new Memory short s good h = tt
 too_large t code new (Fault byte line column cause) short s good (is, i, least, at) =
-    large short (read t code new s) (subst AreGood (domains_are t no_names (nothing Between) system_items code new s) good) i least
+    large short (read t code new s) (subst AreGood (read_domains t code new s) good) i
+    (subst (λ (z : List Sides). IsFirstLarge z i) (read_constraints t code new s) least)
     (subst (λ (z : List ℕ). slice_get z i ≡ Some byte) (starts_are t no_names (nothing Between) system_items code new s) at) is
 
 pub meant : (t : List ℕ) (p : Parts) (code : List Op) (new : Scoped) → length t ≤ 65536 → IsTold t code new →
@@ -126,13 +153,13 @@ pub meant : (t : List ℕ) (p : Parts) (code : List Op) (new : Scoped) → lengt
 meant t p code new short s names domains good constraints within = record {
   text = record {
     reading = read t code new s;
-    good = subst AreGood (domains_are t no_names (nothing Between) system_items code new s) good;
-    within = within;
+    good = subst AreGood (read_domains t code new s) good;
+    within = subst AreWithin (read_constraints t code new s) within;
     short = short;
   };
-  names = names ∙ names_are t no_names (nothing Between) system_items code new s;
-  domains = domains ∙ domains_are t no_names (nothing Between) system_items code new s;
-  constraints = constraints;
+  names = names ∙ (names_are t no_names (nothing Between) system_items code new s ∙ names_named s.marks);
+  domains = domains ∙ read_domains t code new s;
+  constraints = constraints ∙ read_constraints t code new s;
 }
 
 -- ---- A bracket stands within the text

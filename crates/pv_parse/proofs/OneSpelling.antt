@@ -1,22 +1,18 @@
--- A text is one list of tokens for the grammar. So a sentence has no first fault, and each other text has at most one.
-use Rattle.std.proofs.Common.{◌≡◌, ℕ, ◌≤◌, ◌^◌, ◌-◌, ◌*◌, List, [], ◌∷◌, ◌++◌, refl, sym, ap, ◌∙◌, subst, append_assoc, Option, Some, None, Result, Ok, Err, arith}
+-- A text is one list of tokens for the grammar. So a text of the grammar has no first fault, and each other one has at most one.
+use Rattle.std.proofs.Common.{◌*◌, ◌++◌, ◌-◌, ◌^◌, ◌∙◌, ◌∷◌, ◌≡◌, ◌≤◌, Err, List, None, Ok, Option, Result, Some, [], ap, append_assoc, arith, refl, subst, sym, take, ℕ}
 use Rattle.std.proofs.lemmas.List.{append-nil}
-use Rattle.pv_code.specs.declared.code.Op.{Op}
 use Rattle.pv_code.specs.declared.fraction.Fraction.{Fraction}
 use Rattle.pv_grammar.specs.declared.cause.Cause.{Cause}
 use Rattle.pv_grammar.specs.declared.cause.Cause.TheVariants.{NumberTooWide}
 use Rattle.pv_grammar.specs.declared.counts.Counts.{Counts}
 use Rattle.pv_grammar.specs.declared.counts.Phase.{Phase}
 use Rattle.pv_grammar.specs.declared.counts.Phase.TheVariants.{Sides}
-use Rattle.pv_grammar.specs.declared.machine.Item.{Item}
 use Rattle.pv_grammar.specs.declared.symbol.Symbol.{Symbol}
 use Rattle.pv_grammar.specs.declared.symbol.Symbol.TheVariants.{Never, Number}
 use Rattle.pv_grammar.specs.Causes.{BeginsWithin, IsCause}
 use Rattle.pv_grammar.specs.Causes.IsCause.{not_allowed, beyond}
-use Rattle.pv_grammar.specs.Grammar.{Derives, expression_items}
 use Rattle.pv_grammar.specs.Limits.{Counted, counted, nothing}
-use Rattle.pv_grammar.proofs.OneReading.{one_way}
-use Rattle.pv_grammar.proofs.Orderly.{Orderly}
+use Rattle.pv_grammar.specs.Productions.{IsExpression, expression_symbols}
 use Rattle.pv_tokens.specs.declared.number.Decimal.{Decimal}
 use Rattle.pv_tokens.specs.declared.token.Kind.{Kind}
 use Rattle.pv_tokens.specs.declared.token.Kind.TheVariants.{Number as NumberKind, End}
@@ -27,9 +23,9 @@ use Rattle.pv_tokens.proofs.OneRatio.{one_lowest}
 use Rattle.pv_tokens.proofs.Powers.{least_power}
 use Rattle.pv_tokens.proofs.TokenNumbers.{same_numeral}
 use Rattle.pv_tokens.proofs.Unique.{one_next}
-use Rattle.pv_parse.specs.Faults.{IsExpressionFault, IsFirst}
+use Rattle.pv_parse.specs.Faults.{ClosesWith, IsExpressionFault, IsFirst}
 use Rattle.pv_parse.specs.Meanings.{AreSame, KnowsVariables, Names, learnt, variables_from}
-use Rattle.pv_parse.specs.Sentences.{IsExpressionText, IsNumberSymbol, IsSentence, MayRaise, Spells, SpellsTo, StandsFor, bytes_of}
+use Rattle.pv_parse.specs.Sentences.{IsExpressionText, IsNumberSymbol, MayRaise, Spells, SpellsTo, StandsFor, bytes_of}
 
 -- ---- Numbers
 
@@ -159,59 +155,59 @@ one_spelling t n c ss ss' (to, m, y, spelled, next, ends) (to', m', y', spelled'
 
 -- ---- First faults
 
--- what is spelled up to a fault does not go on as a sentence does
-fault_inside : (t : List ℕ) (known : Names) (start : Counts) (items : List Item) (byte : ℕ) (cause : Cause) (f : IsFirst t known start items byte cause) (ss : List Symbol) →
-    Ahead t start f.before ss f.from f.names → BeginsWithin start items ss → ⊥
-fault_inside t known start items byte cause f ss a b =
+-- tokens that are spelled are within the limits
+pub counted_of : (t : List ℕ) (n : Names) (c : Counts) (from : ℕ) (ss : List Symbol) (to : ℕ) (m : Names) → SpellsTo t n c from ss to m → (d : Counts) × Counted c ss d
+counted_of t n c from [] to m h = (c, refl)
+counted_of t n c from (s ∷ ss) to m (x, d, next, inside, stands, one, rest) =
+    let more = counted_of t (learnt c s (bytes_of t x) n) d x.end ss to m rest in (more.0, (d, one, more.1))
+
+-- what is spelled up to a fault does not go on as a text does
+fault_inside : (t : List ℕ) (known : Names) (start : Counts) (IsText : List Symbol → Type 0) (byte : ℕ) (cause : Cause) (f : IsFirst t known start IsText byte cause) (ss : List Symbol) →
+    Ahead t start f.before ss f.from f.names → BeginsWithin start IsText ss → ⊥
+fault_inside t known start IsText byte cause f ss a (rest, final, text, within) =
     let token : a.token ≡ f.token = one_next t f.from a.token f.token a.next f.next in
     let counts : a.counts ≡ f.counts = one_count start f.before a.counts f.counts a.counted f.within in
     let stands : StandsFor f.counts.phase f.names (bytes_of t f.token) f.token.kind a.symbol =
     subst (λ (z : Counts). StandsFor z.phase f.names (bytes_of t f.token) f.token.kind a.symbol) counts
     (subst (λ (z : Token). StandsFor a.counts.phase f.names (bytes_of t z) z.kind a.symbol) token a.stands) in
     let symbol : a.symbol ≡ f.symbol = one_symbol f.counts.phase f.names (bytes_of t f.token) f.token.kind a.symbol f.symbol stands f.stands in
-    let cut : ss ++ b.rest ≡ (f.before ++ f.symbol ∷ []) ++ (a.rest ++ b.rest) =
-    ap (λ (z : List Symbol). z ++ b.rest) a.cut ∙ (append_assoc f.before (a.symbol ∷ a.rest) b.rest
-    ∙ (ap (λ (z : Symbol). f.before ++ z ∷ (a.rest ++ b.rest)) symbol ∙ sym (append_assoc f.before (f.symbol ∷ []) (a.rest ++ b.rest)))) in
-    f.none (record {
-      rest = a.rest ++ b.rest;
-      steps = b.steps;
-      counts = b.counts;
-      derived = subst (λ (z : List Symbol). Derives items z b.steps) cut b.derived;
-      within = subst (λ (z : List Symbol). Counted start z b.counts) cut b.within;
-    })
+    let cut : ss ++ rest ≡ (f.before ++ f.symbol ∷ []) ++ (a.rest ++ rest) =
+    ap (λ (z : List Symbol). z ++ rest) a.cut ∙ (append_assoc f.before (a.symbol ∷ a.rest) rest
+    ∙ (ap (λ (z : Symbol). f.before ++ z ∷ (a.rest ++ rest)) symbol ∙ sym (append_assoc f.before (f.symbol ∷ []) (a.rest ++ rest)))) in
+    f.none (a.rest ++ rest, final, subst IsText cut text, subst (λ (z : List Symbol). Counted start z final) cut within)
 
-whole_begins : (start : Counts) (items : List Item) (ss : List Symbol) (steps : List Op) (counts : Counts) → Derives items ss steps → Counted start ss counts → BeginsWithin start items ss
-whole_begins start items ss steps counts d c = record {
-  rest = [];
-  steps = steps;
-  counts = counts;
-  derived = subst (λ (z : List Symbol). Derives items z steps) (sym (append-nil ss)) d;
-  within = subst (λ (z : List Symbol). Counted start z counts) (sym (append-nil ss)) c;
-}
+whole_begins : (start : Counts) (IsText : List Symbol → Type 0) (ss : List Symbol) (counts : Counts) → IsText ss → Counted start ss counts → BeginsWithin start IsText ss
+whole_begins start IsText ss counts text within =
+    ([], counts, subst IsText (sym (append-nil ss)) text, subst (λ (z : List Symbol). Counted start z counts) (sym (append-nil ss)) within)
 
--- a sentence has no fault
-pub no_fault : (t : List ℕ) (known : Names) (start : Counts) (items : List Item) (code after : List Op) (byte : ℕ) (cause : Cause) → IsSentence t known start items code after →
-    IsFirst t known start items byte cause → ⊥
-no_fault t known start items code after byte cause s f =
-    let (to, m, y, spelled, next, ends) = s.spelled in
-    elim (compare t known start 0 f.before f.from f.names s.symbols to m f.spelled spelled) [
+closed_begins : (t : List ℕ) (known : Names) (start : Counts) (IsText : List Symbol → Type 0) (from : ℕ) (before : List Symbol) → ClosesWith t known start IsText from before → BeginsWithin start IsText before
+closed_begins t known start IsText from before c =
+    let counts = counted_of (take from t ++ c.tail) known start 0 (before ++ c.rest) c.spelled.0 c.spelled.1 c.spelled.3 in
+    (c.rest, counts.0, c.text, counts.1)
+
+-- a text of the grammar has no fault
+pub no_fault : (t : List ℕ) (known : Names) (start : Counts) (IsText : List Symbol → Type 0) (ss : List Symbol) (byte : ℕ) (cause : Cause) → Spells t known start ss → IsText ss →
+    IsFirst t known start IsText byte cause → ⊥
+no_fault t known start IsText ss byte cause (to, m, y, spelled, next, ends) text f =
+    elim (compare t known start 0 f.before f.from f.names ss to m f.spelled spelled) [
       | alike e g k ↦
           f.unfinished
           (ap (λ (z : Token). z.kind) (one_next t f.from f.token y f.next (subst (λ (z : ℕ). IsNext t z y) (sym g) next)) ∙ ends)
-          s.steps (subst (λ (z : List Symbol). Derives items z s.steps) (sym e) s.derived)
-      | shorter a ↦ fault_inside t known start items byte cause f s.symbols a (whole_begins start items s.symbols s.steps s.counts s.derived s.within)
-      | longer a ↦ none_ahead t start s.symbols f.before to m y next ends a
+          (subst IsText (sym e) text)
+      | shorter a ↦
+          let counts = counted_of t known start 0 ss to m spelled in fault_inside t known start IsText byte cause f ss a (whole_begins start IsText ss counts.0 text counts.1)
+      | longer a ↦ none_ahead t start ss f.before to m y next ends a
     ]
 
-one_cause : (items : List Item) (before : List Symbol) (counts : Counts) (s : Symbol) (cause cause' : Cause) → IsCause items before counts s cause → IsCause items before counts s cause' → cause ≡ cause'
-one_cause items before counts s cause cause' (not_allowed never is) (not_allowed never' is') = is ∙ sym is'
-one_cause items before counts s cause cause' (not_allowed never is) (beyond begins err) = absurd (never begins)
-one_cause items before counts s cause cause' (beyond begins err) (not_allowed never is) = absurd (never begins)
-one_cause items before counts s cause cause' (beyond begins err) (beyond begins' err') = err_same (counted counts s) err err'
+one_cause : (IsText : List Symbol → Type 0) (before : List Symbol) (counts : Counts) (s : Symbol) (cause cause' : Cause) → IsCause IsText before counts s cause → IsCause IsText before counts s cause' → cause ≡ cause'
+one_cause IsText before counts s cause cause' (not_allowed never is) (not_allowed never' is') = is ∙ sym is'
+one_cause IsText before counts s cause cause' (not_allowed never is) (beyond begins err) = absurd (never begins)
+one_cause IsText before counts s cause cause' (beyond begins err) (not_allowed never is) = absurd (never begins)
+one_cause IsText before counts s cause cause' (beyond begins err) (beyond begins' err') = err_same (counted counts s) err err'
 
-fault_there : (t : List ℕ) (known : Names) (start : Counts) (items : List Item) (byte byte' : ℕ) (cause cause' : Cause) (f : IsFirst t known start items byte cause)
-    (g : IsFirst t known start items byte' cause') → f.before ≡ g.before → f.from ≡ g.from → f.names ≡ g.names → (byte ≡ byte') × (cause ≡ cause')
-fault_there t known start items byte byte' cause cause' f g e k l =
+fault_there : (t : List ℕ) (known : Names) (start : Counts) (IsText : List Symbol → Type 0) (byte byte' : ℕ) (cause cause' : Cause) (f : IsFirst t known start IsText byte cause)
+    (g : IsFirst t known start IsText byte' cause') → f.before ≡ g.before → f.from ≡ g.from → f.names ≡ g.names → (byte ≡ byte') × (cause ≡ cause')
+fault_there t known start IsText byte byte' cause cause' f g e k l =
     let token : g.token ≡ f.token = one_next t f.from g.token f.token (subst (λ (z : ℕ). IsNext t z g.token) (sym k) g.next) f.next in
     let counts : g.counts ≡ f.counts = one_count start f.before g.counts f.counts (subst (λ (z : List Symbol). Counted start z g.counts) (sym e) g.within) f.within in
     let stands : StandsFor f.counts.phase f.names (bytes_of t f.token) f.token.kind g.symbol =
@@ -219,30 +215,21 @@ fault_there t known start items byte byte' cause cause' f g e k l =
     (subst (λ (z : Counts). StandsFor z.phase g.names (bytes_of t f.token) f.token.kind g.symbol) counts
     (subst (λ (z : Token). StandsFor g.counts.phase g.names (bytes_of t z) z.kind g.symbol) token g.stands)) in
     let symbol : g.symbol ≡ f.symbol = one_symbol f.counts.phase f.names (bytes_of t f.token) f.token.kind g.symbol f.symbol stands f.stands in
-    let because : IsCause items f.before f.counts f.symbol cause' =
-    subst (λ (z : List Symbol). IsCause items z f.counts f.symbol cause') (sym e)
-    (subst (λ (z : Counts). IsCause items g.before z f.symbol cause') counts
-    (subst (λ (z : Symbol). IsCause items g.before g.counts z cause') symbol g.because)) in
-    (f.place ∙ (ap (λ (z : Token). z.start) (sym token) ∙ sym g.place), one_cause items f.before f.counts f.symbol cause cause' f.because because)
+    let because : IsCause IsText f.before f.counts f.symbol cause' =
+    subst (λ (z : List Symbol). IsCause IsText z f.counts f.symbol cause') (sym e)
+    (subst (λ (z : Counts). IsCause IsText g.before z f.symbol cause') counts
+    (subst (λ (z : Symbol). IsCause IsText g.before g.counts z cause') symbol g.because)) in
+    (f.place ∙ (ap (λ (z : Token). z.start) (sym token) ∙ sym g.place), one_cause IsText f.before f.counts f.symbol cause cause' f.because because)
 
 -- two first faults of one text are at one token, for one cause
-pub one_fault : (t : List ℕ) (known : Names) (start : Counts) (items : List Item) (byte byte' : ℕ) (cause cause' : Cause) → IsFirst t known start items byte cause →
-    IsFirst t known start items byte' cause' → (byte ≡ byte') × (cause ≡ cause')
-one_fault t known start items byte byte' cause cause' f g =
+pub one_fault : (t : List ℕ) (known : Names) (start : Counts) (IsText : List Symbol → Type 0) (byte byte' : ℕ) (cause cause' : Cause) → IsFirst t known start IsText byte cause →
+    IsFirst t known start IsText byte' cause' → (byte ≡ byte') × (cause ≡ cause')
+one_fault t known start IsText byte byte' cause cause' f g =
     elim (compare t known start 0 f.before f.from f.names g.before g.from g.names f.spelled g.spelled) [
-      | alike e k l ↦ fault_there t known start items byte byte' cause cause' f g e k l
-      | shorter a ↦ absurd (fault_inside t known start items byte cause f g.before a g.begins)
-      | longer a ↦ absurd (fault_inside t known start items byte' cause' g f.before a f.begins)
+      | alike e k l ↦ fault_there t known start IsText byte byte' cause cause' f g e k l
+      | shorter a ↦ absurd (fault_inside t known start IsText byte cause f g.before a (closed_begins t known start IsText g.from g.before g.closes))
+      | longer a ↦ absurd (fault_inside t known start IsText byte' cause' g f.before a (closed_begins t known start IsText f.from f.before f.closes))
     ]
-
--- ---- One code
-
-pub one_code : (t : List ℕ) (known : Names) (start : Counts) (items : List Item) → Orderly items → (code after after' : List Op) → IsSentence t known start items code after →
-    IsSentence t known start items code after' → after ≡ after'
-one_code t known start items o code after after' s s' =
-    let symbols : s'.symbols ≡ s.symbols = one_spelling t known start s'.symbols s.symbols s'.spelled s.spelled in
-    let steps : s.steps ≡ s'.steps = one_way items s.symbols s.steps s.derived o s'.steps (subst (λ (z : List Symbol). Derives items z s'.steps) symbols s'.derived) in
-    s.code_is ∙ (ap (λ (z : List Op). code ++ z) steps ∙ sym s'.code_is)
 
 -- ---- The names of an expression's variables
 
@@ -254,11 +241,11 @@ pub one_known : (variables : List (List ℕ)) (n m : Names) → KnowsVariables v
 one_known variables n m h k = same_names n (variables_from variables 0) h ∙ sym (same_names m (variables_from variables 0) k)
 
 pub expression_apart : (variables : List (List ℕ)) (t : List ℕ) (byte : ℕ) (cause : Cause) → IsExpressionText variables t → IsExpressionFault variables t byte cause → ⊥
-expression_apart variables t byte cause (n, knows, code, s) (m, knows', f) =
-    no_fault t n (nothing Sides) expression_items [] code byte cause s
-    (subst (λ (z : Names). IsFirst t z (nothing Sides) expression_items byte cause) (one_known variables m n knows' knows) f)
+expression_apart variables t byte cause (n, knows, e, spelled) (m, knows', f) =
+    no_fault t n (nothing Sides) IsExpression (expression_symbols e []) byte cause spelled (e, refl)
+    (subst (λ (z : Names). IsFirst t z (nothing Sides) IsExpression byte cause) (one_known variables m n knows' knows) f)
 
 pub expression_fault : (variables : List (List ℕ)) (t : List ℕ) (byte byte' : ℕ) (cause cause' : Cause) → IsExpressionFault variables t byte cause → IsExpressionFault variables t byte' cause' → (byte ≡ byte') × (cause ≡ cause')
 expression_fault variables t byte byte' cause cause' (n, knows, f) (m, knows', g) =
-    one_fault t n (nothing Sides) expression_items byte byte' cause cause' f
-    (subst (λ (z : Names). IsFirst t z (nothing Sides) expression_items byte' cause') (one_known variables m n knows' knows) g)
+    one_fault t n (nothing Sides) IsExpression byte byte' cause cause' f
+    (subst (λ (z : Names). IsFirst t z (nothing Sides) IsExpression byte' cause') (one_known variables m n knows' knows) g)

@@ -2,39 +2,43 @@
 use Rattle.std.proofs.Common.{◌≡◌, ℕ, zero, suc, ◌+◌, ◌<◌, ◌≤◌, ◌⊎◌, inl, inr, ⊎_elim, List, [], ◌∷◌, length, map, take, get_or, slice_get, Some, refl, sym, ap, ◌∙◌, subst, arith, ℤ, pos, ◌*ℤ◌, ◌≤ℤ◌, All, sum_by}
 use Rattle.std.proofs.lemmas.Bool.{cases_lt, cases_order}
 use Rattle.std.proofs.lemmas.Int.{ints, by_lt_z}
-use Rattle.std.proofs.lemmas.List.{take_all}
+use Rattle.std.proofs.lemmas.List.{length-map, take_all}
 use Rattle.std.proofs.lemmas.List.Elements.{All-take}
 use Rattle.std.proofs.lemmas.List.Sums.{sum_by-take-le}
 use Rattle.std.proofs.lemmas.Option.{slice_get-get_or}
 use Rattle.pv_expr.specs.declared.domain.Bound.{Bound}
 use Rattle.pv_expr.specs.declared.domain.Bound.TheVariants.{MinusOo, Value, PlusOo}
 use Rattle.pv_expr.specs.declared.domain.Domain.{Domain}
-use Rattle.pv_expr.specs.Systems.{InOrder}
+use Rattle.pv_expr.specs.Systems.{InOrder, Parts}
 use Rattle.pv_expr.specs.Terms.{depth_of}
-use Rattle.pv_code.specs.declared.code.Op.{Op}
-use Rattle.pv_code.specs.Expansion.{Sides, constraints_of, run, top}
+use Rattle.pv_code.specs.Expansion.{Sides}
 use Rattle.pv_code.specs.Sizes.{AreWithin, IsFirstLarge, IsShallow, nodes_of}
 use Rattle.pv_grammar.specs.declared.cause.Cause.{Cause}
 use Rattle.pv_grammar.specs.declared.cause.Cause.TheVariants.{BadBounds, TextTooLong, TooLarge}
 use Rattle.pv_grammar.specs.declared.counts.Counts.{Counts}
-use Rattle.pv_grammar.specs.declared.counts.Phase.TheVariants.{Between, Sides as SidesPhase}
+use Rattle.pv_grammar.specs.declared.counts.Phase.TheVariants.{Between}
 use Rattle.pv_grammar.specs.declared.symbol.Symbol.{Symbol}
-use Rattle.pv_grammar.specs.Grammar.{expression_items, system_items}
 use Rattle.pv_grammar.specs.Limits.{counted, nothing}
-use Rattle.pv_grammar.proofs.Orderly.{expression_orderly, system_orderly}
+use Rattle.pv_grammar.specs.Productions.{IsSystem, System, system_symbols}
+use Rattle.pv_grammar.specs.TreeCodes.{system_code}
+use Rattle.pv_grammar.specs.Trees.{expression_term, system_constraints, system_domains}
+use Rattle.pv_grammar.proofs.TreeRuns.{system_means}
 use Rattle.pv_tokens.specs.declared.token.Token.{Token}
 use Rattle.pv_tokens.proofs.Unique.{one_next}
-use Rattle.pv_parse.specs.Declarations.{AreGood, IsExpressionSentence, IsFirstBad, IsSystemSentence, Mark, MarksTo, MeansOne, MeansOneTerm, Reading, Variable, bracket_in, domain_in, mark_of, name_of, starts_in, variables_in}
+use Rattle.pv_parse.specs.Declarations.{AreGood, IsExpressionSentence, IsFirstBad, IsMeaning, IsSystemSentence, Mark, MarksTo, MeansOne, MeansOneTerm, Reading, brackets_in, mark_of, names_in, starts_in}
 use Rattle.pv_parse.specs.Faults.{IsEither, IsExpressionFaultOf, IsFaultOf, IsSystemFault}
 use Rattle.pv_parse.specs.Faults.IsExpressionFaultOf.{first as first_text, long as long_text}
 use Rattle.pv_parse.specs.Faults.IsFaultOf.{bounds, first, large, long}
 use Rattle.pv_parse.specs.Meanings.{Names, learnt, no_names}
-use Rattle.pv_parse.specs.Sentences.{IsExpressionText, IsSentence, SpellsTo, bytes_of}
+use Rattle.pv_parse.specs.Scopes.{Variable, bracket_in, domain_in, name_of, variables_in}
+use Rattle.pv_parse.specs.Sentences.{IsExpressionText, IsExpressionTextOf, IsTextOf, SpellsTo, bytes_of}
 use Rattle.pv_parse.proofs.Decided.{decides_expression, decides_system}
-use Rattle.pv_parse.proofs.OneSpelling.{expression_apart, expression_fault, no_fault, ok_same, one_code, one_fault, one_known, one_spelling}
+use Rattle.pv_parse.proofs.OneSpelling.{expression_apart, expression_fault, no_fault, ok_same, one_fault, one_known}
 use Rattle.pv_parse.proofs.Starts.{starts_count}
+use Rattle.pv_parse.proofs.TreeDomains.{brackets_named, domains_of_tree, names_named}
+use Rattle.pv_parse.proofs.TreeTexts.{one_expression_tree_of, one_tree_of, tree_sentence}
 
--- ---- A sentence has one reading
+-- ---- A text has one reading
 
 one_marking : (t : List ℕ) (c : Counts) (from : ℕ) (ss : List Symbol) (ms ms' : List Mark) (to to' : ℕ) (e e' : Counts) → MarksTo t c from ss ms to e → MarksTo t c from ss ms' to' e' → ms ≡ ms'
 one_marking t c from [] ms ms' to to' e e' h k = h.0 ∙ sym k.0
@@ -47,32 +51,28 @@ one_marking t c from (s ∷ ss) ms ms' to to' e e' (x, d, rest, next, one, are, 
     ∙ (ap (λ (z : List Mark). mark_of t c.phase s x ∷ z) (one_marking t d x.end ss rest rest' to to' e e' more more'')
     ∙ (ap (λ (z : Token). mark_of t c.phase s z ∷ rest') (sym token) ∙ sym are'))
 
-one_symbols : (t : List ℕ) (r r' : Reading t) → r'.sentence.symbols ≡ r.sentence.symbols
-one_symbols t r r' = one_spelling t no_names (nothing Between) r'.sentence.symbols r.sentence.symbols r'.sentence.spelled r.sentence.spelled
+one_trees : (t : List ℕ) (r r' : Reading t) → r.tree ≡ r'.tree
+one_trees t r r' = one_tree_of t r.tree r'.tree r.spelled r'.spelled
 
 one_marks : (t : List ℕ) (r r' : Reading t) → r.marks ≡ r'.marks
 one_marks t r r' =
-    one_marking t (nothing Between) 0 r.sentence.symbols r.marks r'.marks r.marked.0 r'.marked.0 r.marked.1 r'.marked.1 r.marked.2
-    (subst (λ (z : List Symbol). MarksTo t (nothing Between) 0 z r'.marks r'.marked.0 r'.marked.1) (one_symbols t r r') r'.marked.2)
+    one_marking t (nothing Between) 0 (system_symbols r.tree []) r.marks r'.marks r.marked.0 r'.marked.0 r.marked.1 r'.marked.1 r.marked.2
+    (subst (λ (x : System). MarksTo t (nothing Between) 0 (system_symbols x []) r'.marks r'.marked.0 r'.marked.1) (sym (one_trees t r r')) r'.marked.2)
 
-code_of_one : (t : List ℕ) (r r' : Reading t) → r.code ≡ r'.code
-code_of_one t r r' = one_code t no_names (nothing Between) system_items system_orderly [] r.code r'.code r.sentence r'.sentence
+same_domains : (t : List ℕ) (r r' : Reading t) → system_domains r.tree ≡ system_domains r'.tree
+same_domains t r r' = ap system_domains (one_trees t r r')
 
-same_domains : (t : List ℕ) (r r' : Reading t) → map domain_in (variables_in r.marks) ≡ map domain_in (variables_in r'.marks)
-same_domains t r r' = ap (λ (z : List Mark). map domain_in (variables_in z)) (one_marks t r r')
-
--- and each sentence has one
+-- and each text of a tree has one
 marks_of : (t : List ℕ) (n : Names) (c : Counts) (from : ℕ) (ss : List Symbol) (to : ℕ) (m : Names) → SpellsTo t n c from ss to m → (marks : List Mark) × (e : Counts) × MarksTo t c from ss marks to e
 marks_of t n c from [] to m h = ([], c, (refl, h.0, refl))
 marks_of t n c from (s ∷ ss) to m (x, d, next, inside, stands, one, rest) =
     let (marks, e, more) = marks_of t (learnt c s (bytes_of t x) n) d x.end ss to m rest in
     (mark_of t c.phase s x ∷ marks, e, (x, d, marks, next, one, refl, more))
 
-reading_of : (t : List ℕ) (code : List Op) → IsSentence t no_names (nothing Between) system_items [] code → Reading t
-reading_of t code s =
-    let (to, m, x, spelled, next, ends) = s.spelled in
-    let (marks, e, marked) = marks_of t no_names (nothing Between) 0 s.symbols to m spelled in
-    record { code = code; sentence = s; marks = marks; marked = (to, e, marked) }
+reading_of : (t : List ℕ) (x : System) → IsTextOf t x → Reading t
+reading_of t x spelled =
+    let (marks, e, marked) = marks_of t no_names (nothing Between) 0 (system_symbols x []) spelled.0 spelled.1 spelled.3 in
+    record { tree = x; spelled = spelled; marks = marks; marked = (spelled.0, e, marked) }
 
 -- ---- Bad domains
 
@@ -180,38 +180,50 @@ large_or cs = ⊎_elim (λ within. inl (subst AreWithin (take_all (length cs) cs
 
 -- ---- Texts of systems
 
-sized : (t : List ℕ) → length t ≤ 65536 → (r : Reading t) → AreGood (map domain_in (variables_in r.marks)) → IsEither (IsSystemSentence t) (IsFaultOf t)
+-- as many constraints begin as the tree has
+starts_many : (t : List ℕ) (r : Reading t) → length (starts_in r.marks) ≡ length (system_constraints r.tree)
+starts_many t r =
+    starts_count t no_names (nothing Between) (system_code r.tree []) (tree_sentence t (system_code r.tree []) r.tree r.spelled refl) r.marks r.marked ∙ ap length (system_means r.tree)
+
+sized : (t : List ℕ) → length t ≤ 65536 → (r : Reading t) → AreGood (system_domains r.tree) → IsEither (IsSystemSentence t) (IsFaultOf t)
 sized t short r good =
     ⊎_elim
     (λ within. inl (record { reading = r; good = good; within = within; short = short }))
     (λ (i, f).
-    let many = starts_count t no_names (nothing Between) r.code r.sentence r.marks r.marked in
+    let many = starts_many t r in
     let present = f.present in
     inr (get_or (starts_in r.marks) i 0, TooLarge, large short r good i f (slice_get-get_or (starts_in r.marks) i 0 (omega (arith, many, present))) refl))
-    (large_or (constraints_of r.code))
+    (large_or (system_constraints r.tree))
 
 read_text : (t : List ℕ) → length t ≤ 65536 → Reading t → IsEither (IsSystemSentence t) (IsFaultOf t)
 read_text t short r =
-    ⊎_elim (λ good. sized t short r good) (λ (byte, bad). inr (byte, BadBounds, bounds short r bad refl)) (domains_or (variables_in r.marks))
+    let domains : map domain_in (variables_in r.marks) ≡ system_domains r.tree = domains_of_tree t r.tree r.marks r.marked in
+    ⊎_elim
+    (λ good. sized t short r (subst AreGood domains good))
+    (λ (byte, bad).
+    let at : IsFirstBad (system_domains r.tree) (brackets_in r.marks) byte =
+    subst (λ (z : List ℕ). IsFirstBad (system_domains r.tree) z byte) (brackets_named r.marks)
+    (subst (λ (z : List Domain). IsFirstBad z (map bracket_in (variables_in r.marks)) byte) domains bad) in
+    inr (byte, BadBounds, bounds short r at refl))
+    (domains_or (variables_in r.marks))
 
 pub system_either : (t : List ℕ) → IsEither (IsSystemSentence t) (IsFaultOf t)
 system_either t =
     ⊎_elim
     (λ more. inr (65536, TextTooLong, long more refl refl))
-    (λ short. ⊎_elim (λ (code, s). read_text t short (reading_of t code s)) (λ (byte, cause, f). inr (byte, cause, first short f)) (decides_system t))
+    (λ short. ⊎_elim (λ (x, spelled). read_text t short (reading_of t x spelled)) (λ (byte, cause, f). inr (byte, cause, first short f)) (decides_system t))
     (cases_lt 65536 (length t))
+
+-- a fault of a tree's text is none of its tokens
+token_fault : (t : List ℕ) (r : Reading t) (byte : ℕ) (cause : Cause) → IsSystemFault t byte cause → ⊥
+token_fault t r byte cause f = no_fault t no_names (nothing Between) IsSystem (system_symbols r.tree []) byte cause r.spelled (r.tree, refl) f
 
 pub system_apart : (t : List ℕ) (byte : ℕ) (cause : Cause) → IsSystemSentence t → IsFaultOf t byte cause → ⊥
 system_apart t byte cause s (long more at is) = let short = s.short in omega (arith, more, short)
-system_apart t byte cause s (first short f) = no_fault t no_names (nothing Between) system_items [] s.reading.code byte cause s.reading.sentence f
-system_apart t byte cause s (bounds short r bad is) =
-    good_not_bad (map domain_in (variables_in r.marks)) (map bracket_in (variables_in r.marks)) byte (subst AreGood (same_domains t s.reading r) s.good) bad
+system_apart t byte cause s (first short f) = token_fault t s.reading byte cause f
+system_apart t byte cause s (bounds short r bad is) = good_not_bad (system_domains r.tree) (brackets_in r.marks) byte (subst AreGood (same_domains t s.reading r) s.good) bad
 system_apart t byte cause s (large short r good i f at is) =
-    within_not_large (constraints_of r.code) i (subst (λ (z : List Op). AreWithin (constraints_of z)) (code_of_one t s.reading r) s.within) f
-
--- a fault of a sentence is none of its tokens
-token_fault : (t : List ℕ) (r : Reading t) (byte : ℕ) (cause : Cause) → IsSystemFault t byte cause → ⊥
-token_fault t r byte cause f = no_fault t no_names (nothing Between) system_items [] r.code byte cause r.sentence f
+    within_not_large (system_constraints r.tree) i (subst (λ (x : System). AreWithin (system_constraints x)) (one_trees t s.reading r) s.within) f
 
 same_some : {a b : ℕ} (xs : List ℕ) (i : ℕ) → slice_get xs i ≡ Some a → slice_get xs i ≡ Some b → a ≡ b
 same_some xs i h k = cc
@@ -222,24 +234,25 @@ system_fault t byte byte' cause cause' (long more at is) (first short g) = absur
 system_fault t byte byte' cause cause' (long more at is) (bounds short r bad is') = absurd (omega (arith, more, short))
 system_fault t byte byte' cause cause' (long more at is) (large short r good i g at' is') = absurd (omega (arith, more, short))
 system_fault t byte byte' cause cause' (first short f) (long more at is) = absurd (omega (arith, more, short))
-system_fault t byte byte' cause cause' (first short f) (first short' g) = one_fault t no_names (nothing Between) system_items byte byte' cause cause' f g
+system_fault t byte byte' cause cause' (first short f) (first short' g) = one_fault t no_names (nothing Between) IsSystem byte byte' cause cause' f g
 system_fault t byte byte' cause cause' (first short f) (bounds short' r bad is) = absurd (token_fault t r byte cause f)
 system_fault t byte byte' cause cause' (first short f) (large short' r good i g at is) = absurd (token_fault t r byte cause f)
 system_fault t byte byte' cause cause' (bounds short r bad is) (long more at is') = absurd (omega (arith, more, short))
 system_fault t byte byte' cause cause' (bounds short r bad is) (first short' g) = absurd (token_fault t r byte' cause' g)
 system_fault t byte byte' cause cause' (bounds short r bad is) (bounds short' r' bad' is') = (
-  one_bad (map domain_in (variables_in r.marks)) (map bracket_in (variables_in r.marks)) byte byte' bad
-      (subst (λ (z : List Mark). IsFirstBad (map domain_in (variables_in z)) (map bracket_in (variables_in z)) byte') (one_marks t r' r) bad'),
+  one_bad (system_domains r.tree) (brackets_in r.marks) byte byte' bad
+      (subst (λ (z : List Domain). IsFirstBad z (brackets_in r.marks) byte') (same_domains t r' r)
+      (subst (λ (z : List Mark). IsFirstBad (system_domains r'.tree) (brackets_in z) byte') (one_marks t r' r) bad')),
   is ∙ sym is',
 )
 system_fault t byte byte' cause cause' (bounds short r bad is) (large short' r' good i g at is') =
-    absurd (good_not_bad (map domain_in (variables_in r.marks)) (map bracket_in (variables_in r.marks)) byte (subst AreGood (same_domains t r' r) good) bad)
+    absurd (good_not_bad (system_domains r.tree) (brackets_in r.marks) byte (subst AreGood (same_domains t r' r) good) bad)
 system_fault t byte byte' cause cause' (large short r good i f at is) (long more at' is') = absurd (omega (arith, more, short))
 system_fault t byte byte' cause cause' (large short r good i f at is) (first short' g) = absurd (token_fault t r byte' cause' g)
 system_fault t byte byte' cause cause' (large short r good i f at is) (bounds short' r' bad is') =
-    absurd (good_not_bad (map domain_in (variables_in r'.marks)) (map bracket_in (variables_in r'.marks)) byte' (subst AreGood (same_domains t r r') good) bad)
+    absurd (good_not_bad (system_domains r'.tree) (brackets_in r'.marks) byte' (subst AreGood (same_domains t r r') good) bad)
 system_fault t byte byte' cause cause' (large short r good i f at is) (large short' r' good' j g at' is') =
-    let same : j ≡ i = one_large (constraints_of r.code) j i (subst (λ (z : List Op). IsFirstLarge (constraints_of z) j) (code_of_one t r' r) g) f in (
+    let same : j ≡ i = one_large (system_constraints r.tree) j i (subst (λ (x : System). IsFirstLarge (system_constraints x) j) (one_trees t r' r) g) f in (
       same_some (starts_in r.marks) i at
           (subst (λ (k : ℕ). slice_get (starts_in r.marks) k ≡ Some byte') same (subst (λ (z : List Mark). slice_get (starts_in z) j ≡ Some byte') (one_marks t r' r) at')),
       is ∙ sym is',
@@ -247,17 +260,24 @@ system_fault t byte byte' cause cause' (large short r good i f at is) (large sho
 
 pub one_system_meant : (t : List ℕ) → MeansOne t
 one_system_meant t s s' m m' =
-    let marks = one_marks t m.text.reading m'.text.reading in
+    let tree = one_trees t m.text.reading m'.text.reading in
     record {
-      names = m.names ∙ (ap (λ (z : List Mark). map name_of (variables_in z)) marks ∙ sym m'.names);
-      domains = m.domains ∙ (ap (λ (z : List Mark). map domain_in (variables_in z)) marks ∙ sym m'.domains);
-      constraints = m.constraints ∙ (ap constraints_of (code_of_one t m.text.reading m'.text.reading) ∙ sym m'.constraints);
+      names = m.names ∙ (ap names_in (one_marks t m.text.reading m'.text.reading) ∙ sym m'.names);
+      domains = m.domains ∙ (ap system_domains tree ∙ sym m'.domains);
+      constraints = m.constraints ∙ (ap system_constraints tree ∙ sym m'.constraints);
     }
+
+-- a system that is meant has a domain for each name
+pub domains_named : (t : List ℕ) (s : Parts) → IsMeaning t s → length s.domains ≡ length s.names
+domains_named t s m =
+    let r = m.text.reading in
+    ap length (m.domains ∙ sym (domains_of_tree t r.tree r.marks r.marked))
+    ∙ (length-map (variables_in r.marks) domain_in ∙ (sym (length-map (variables_in r.marks) name_of) ∙ ap length (names_named r.marks ∙ sym m.names)))
 
 -- ---- Texts of expressions
 
 text_of : (variables : List (List ℕ)) (t : List ℕ) → IsExpressionSentence variables t → IsExpressionText variables t
-text_of variables t s = (s.known, s.knows, s.code, s.sentence)
+text_of variables t s = (s.known, s.knows, s.tree, s.spelled)
 
 pub text_either : (variables : List (List ℕ)) (t : List ℕ) → IsEither (IsExpressionSentence variables t) (IsExpressionFaultOf variables t)
 text_either variables t =
@@ -265,7 +285,7 @@ text_either variables t =
     (λ more. inr (65536, TextTooLong, long_text more refl refl))
     (λ short.
     ⊎_elim
-    (λ (n, knows, code, s). inl (record { known = n; knows = knows; code = code; sentence = s; short = short }))
+    (λ (n, knows, e, spelled). inl (record { known = n; knows = knows; tree = e; spelled = spelled; short = short }))
     (λ (byte, cause, f). inr (byte, cause, first_text short f))
     (decides_expression variables t))
     (cases_lt 65536 (length t))
@@ -283,7 +303,6 @@ text_fault variables t byte byte' cause cause' (first_text short f) (first_text 
 
 pub one_term_meant : (variables : List (List ℕ)) (t : List ℕ) → MeansOneTerm variables t
 one_term_meant variables t x x' m m' =
-    let s' : IsSentence t m.text.known (nothing SidesPhase) expression_items [] m'.text.code =
-    subst (λ (z : Names). IsSentence t z (nothing SidesPhase) expression_items [] m'.text.code) (one_known variables m'.text.known m.text.known m'.text.knows m.text.knows) m'.text.sentence in
-    m.term
-    ∙ (ap (λ (z : List Op). top (run [] [] z [])) (one_code t m.text.known (nothing SidesPhase) expression_items expression_orderly [] m.text.code m'.text.code m.text.sentence s') ∙ sym m'.term)
+    let spelled : IsExpressionTextOf m.text.known t m'.text.tree =
+    subst (λ (z : Names). IsExpressionTextOf z t m'.text.tree) (one_known variables m'.text.known m.text.known m'.text.knows m.text.knows) m'.text.spelled in
+    m.term ∙ (ap (expression_term [] []) (one_expression_tree_of t m.text.known m.text.tree m'.text.tree m.text.spelled spelled) ∙ sym m'.term)

@@ -1,5 +1,5 @@
 -- What is known behind the tokens that were taken: the loop of the reader, in both directions.
-use Rattle.std.proofs.Common.{◌≡◌, ◌≢◌, ℕ, Bool, false, List, [], ◌∷◌, ◌++◌, take, refl, sym, ap, ◌∙◌, subst, append_assoc, Option, Some, None, Result, Ok, Err, ⊎_elim}
+use Rattle.std.proofs.Common.{◌≡◌, ◌≢◌, ℕ, Bool, false, List, [], ◌∷◌, ◌++◌, refl, sym, ap, ◌∙◌, subst, append_assoc, Option, Some, None, Result, Ok, Err, ⊎_elim}
 use Rattle.std.proofs.lemmas.List.{append-nil}
 use Rattle.pv_code.specs.declared.code.Op.{Op}
 use Rattle.pv_grammar.specs.declared.cause.Cause.{Cause}
@@ -10,10 +10,11 @@ use Rattle.pv_grammar.specs.declared.machine.Item.{Item}
 use Rattle.pv_grammar.specs.declared.symbol.Fixed.TheVariants.{EndOfText}
 use Rattle.pv_grammar.specs.declared.symbol.Symbol.{Symbol}
 use Rattle.pv_grammar.specs.declared.symbol.Symbol.TheVariants.{Fixed as FixedToken}
-use Rattle.pv_grammar.specs.Causes.{Begins, BeginsWithin, IsCause, refusal, behind_caret}
-use Rattle.pv_grammar.specs.Causes.IsCause.{not_allowed, beyond}
+use Rattle.pv_grammar.specs.ByItems.{BeginsByItems, IsCauseByItems, IsStart}
+use Rattle.pv_grammar.specs.Causes.{behind_caret, refusal}
+use Rattle.pv_grammar.specs.ByItems.IsCauseByItems.{not_allowed, beyond}
 use Rattle.pv_grammar.specs.Grammar.{Derives, Follows, MayEnd, Produced, Settles, emptied, ended, is_exponent, met, produced, step_of}
-use Rattle.pv_grammar.specs.Limits.{Counted, IsStart, counted, nothing}
+use Rattle.pv_grammar.specs.Limits.{Counted, counted, nothing}
 use Rattle.pv_grammar.proofs.Derivations.{Leads, leads_back, leads_end}
 use Rattle.pv_grammar.proofs.Exponents.{AtExponent, expression_plain, system_plain, IsUsual, Met, behind_last, no_end, settled_met, taken_plain}
 use Rattle.pv_grammar.proofs.Fits.{expression_starts, settled_ready, system_starts, taken_ready}
@@ -24,9 +25,9 @@ use Rattle.pv_tokens.specs.declared.token.Kind.{Kind}
 use Rattle.pv_tokens.specs.declared.token.Kind.TheVariants.{End}
 use Rattle.pv_tokens.specs.declared.token.Token.{Token}
 use Rattle.pv_tokens.specs.Tokens.{IsNext}
-use Rattle.pv_parse.specs.Faults.{ClosesWith, IsFirst}
-use Rattle.pv_parse.specs.Meanings.{AreBounded, AreSame, Names, learnt}
-use Rattle.pv_parse.specs.Sentences.{IsSentence, SpellsTo, StandsFor, bytes_of}
+use Rattle.pv_parse.specs.ByItems.{AreBounded, ClosesByItems, IsFirstByItems, IsSentence}
+use Rattle.pv_parse.specs.Meanings.{AreSame, Names, learnt}
+use Rattle.pv_parse.specs.Sentences.{SpellsTo, StandsFor, bytes_of}
 use Rattle.pv_parse.specs.Declarations.{mark_of}
 use Rattle.pv_parse.specs.Fractions.{HasFraction}
 use Rattle.pv_parse.specs.Scopes.{IsToldAs, Scoped, followed}
@@ -82,9 +83,6 @@ starts t known start items code is few =
     at_start t known start items code b.0 b.1 b.2 few
 
 -- ---- Lists of tokens, with one more behind them
-
-ok_err : {c : Counts} {cause : Cause} (r : Result Counts Cause) → r ≡ Ok c → r ≡ Err cause → ⊥
-ok_err r e f = cc
 
 ok_same : {v w : Counts} (r : Result Counts Cause) → r ≡ Ok v → r ≡ Ok w → v ≡ w
 ok_same r e f = cc
@@ -211,26 +209,19 @@ whole_told t known names start counts first initial items code from r x s rest c
 
 -- ---- A token is refused
 
-record BeginsHere (t : List ℕ) (known : Names) (start : Counts) (first : List Item) (before : List Symbol) (from : ℕ) : Type 0 where
-  begins : BeginsWithin start first before
-  closes : ClosesWith t known start first from before
-
-begins_here : (t : List ℕ) (known names : Names) (start counts : Counts) (first : List Item) (initial : List Op) (items : List Item) (code : List Op) (from : ℕ) →
-    (r : Reached t known names start counts first initial items code from) → BeginsHere t known start first r.before from
-begins_here t known names start counts first initial items code from r =
+closes_here : (t : List ℕ) (known names : Names) (start counts : Counts) (first : List Item) (initial : List Op) (items : List Item) (code : List Op) (from : ℕ) →
+    (r : Reached t known names start counts first initial items code from) → ClosesByItems t known start first from r.before
+closes_here t known names start counts first initial items code from r =
     let c : ClosesFrom names counts items = closes names r.bounded counts items r.ready in
     let l : Leads first (r.before ++ c.symbols) initial (code ++ c.steps) = r.back c.symbols (code ++ c.steps) (record { steps = c.steps; derived = c.derived; code_is = refl }) in
     let limits : Counted start (r.before ++ c.symbols) c.counts = counted_all start r.before counts c.symbols c.counts r.within c.within in
-    record {
-      begins = record { rest = c.symbols; steps = l.steps; counts = c.counts; derived = l.derived; within = limits };
-      closes = continued t known names start counts c.counts first r.before c.symbols l.steps from c.pieces r.spelled r.within c.spelled l.derived limits;
-    }
+    continued t known names start counts c.counts first r.before c.symbols l.steps from c.pieces r.spelled r.within c.spelled l.derived limits
 
 -- a token that the grammar takes
 begins_with : (t : List ℕ) (known names : Names) (start counts : Counts) (first : List Item) (initial : List Op) (items : List Item) (code : List Op) (from : ℕ) →
     (r : Reached t known names start counts first initial items code from) →
     (s : Symbol) (i : Item) (rest : List Item) (code' : List Op) (items'' : List Item) (code'' : List Op) →
-    Settles s items code (Some i) rest code' → Follows (produced i s) rest code' items'' code'' → Begins first (r.before ++ s ∷ [])
+    Settles s items code (Some i) rest code' → Follows (produced i s) rest code' items'' code'' → BeginsByItems first (r.before ++ s ∷ [])
 begins_with t known names start counts first initial items code from r s i rest code' items'' code'' settles follows =
     let c : Closing items'' = closing items'' in
     let here : Leads items'' c.symbols code'' (code'' ++ c.steps) = record { steps = c.steps; derived = c.derived; code_is = refl } in
@@ -244,7 +235,7 @@ begins_with t known names start counts first initial items code from r s i rest 
 
 -- what is left of a text that begins with one token more
 left_over : (t : List ℕ) (known names : Names) (start counts : Counts) (first : List Item) (initial : List Op) (items : List Item) (code : List Op) (from : ℕ) →
-    (r : Reached t known names start counts first initial items code from) (s : Symbol) → (b : Begins first (r.before ++ s ∷ [])) → GoesOn items (s ∷ b.rest)
+    (r : Reached t known names start counts first initial items code from) (s : Symbol) → (b : BeginsByItems first (r.before ++ s ∷ [])) → GoesOn items (s ∷ b.rest)
 left_over t known names start counts first initial items code from r s b =
     r.forth (s ∷ b.rest) (subst (GoesOn first) (append_assoc r.before (s ∷ []) b.rest) (record { steps = b.steps; derived = b.derived }))
 
@@ -257,24 +248,11 @@ settles_meets s items code o rest code' (emptied ops) = tt
 settles_meets s items code o rest code' (met i items' ops meets) = meets
 settles_meets s items code o rest code' (ended i items' ops o' rest' more may never k) = settles_meets s items' (ops ++ step_of i) o' rest' more k
 
-counted_split : (c : Counts) (ss : List Symbol) (d : Counts) (s : Symbol) (rest : List Symbol) (e : Counts) (cause : Cause) → Counted c ss d → counted d s ≡ Err cause →
-    Counted c (ss ++ s ∷ rest) e → ⊥
-counted_split c [] d s rest e cause same err (m, one, more) = ok_err (counted c s) one (ap (λ (x : Counts). counted x s) same ∙ err)
-counted_split c (r ∷ ss) d s rest e cause (m, first, to) err (m', first', more) =
-    counted_split m ss d s rest e cause to err (subst (λ (x : Counts). Counted x (ss ++ s ∷ rest) e) (ok_same (counted c r) first' first) more)
-
-none_begins : (c : Counts) (items : List Item) (before : List Symbol) (d : Counts) (s : Symbol) (cause : Cause) → Counted c before d → IsCause items before d s cause →
-    ¬ BeginsWithin c items (before ++ s ∷ [])
-none_begins c items before d s cause within (not_allowed never is) b = never (record { rest = b.rest; steps = b.steps; derived = b.derived })
-none_begins c items before d s cause within (beyond begins err) b =
-    counted_split c before d s b.rest b.counts cause within err (subst (λ (z : List Symbol). Counted c z b.counts) (append_assoc before (s ∷ []) b.rest) b.within)
-
 first_fault : (t : List ℕ) (known names : Names) (start counts : Counts) (first : List Item) (initial : List Op) (items : List Item) (code : List Op) (from : ℕ) →
     (r : Reached t known names start counts first initial items code from) →
-    (x : Token) (s : Symbol) (cause : Cause) → IsNext t from x → StandsFor counts.phase names (bytes_of t x) x.kind s → IsCause first r.before counts s cause →
-    (x.kind ≡ End → (steps : List Op) → Derives first r.before steps → ⊥) → IsFirst t known start first x.start cause
+    (x : Token) (s : Symbol) (cause : Cause) → IsNext t from x → StandsFor counts.phase names (bytes_of t x) x.kind s → IsCauseByItems first r.before counts s cause →
+    (x.kind ≡ End → (steps : List Op) → Derives first r.before steps → ⊥) → IsFirstByItems t known start first x.start cause
 first_fault t known names start counts first initial items code from r x s cause is_next stands because no_whole =
-    let here : BeginsHere t known start first r.before from = begins_here t known names start counts first initial items code from r in
     record {
       before = r.before;
       from = from;
@@ -287,9 +265,7 @@ first_fault t known names start counts first initial items code from r x s cause
       place = refl;
       stands = stands;
       within = r.within;
-      begins = here.begins;
-      closes = here.closes;
-      none = none_begins start first r.before counts s cause r.within because;
+      closes = closes_here t known names start counts first initial items code from r;
       unfinished = no_whole;
       because = because;
     }
@@ -305,7 +281,7 @@ pub refused : (t : List ℕ) (known names : Names) (start counts : Counts) (firs
     Reached t known names start counts first initial items code from →
     (x : Token) (s : Symbol) (i : Item) (rest : List Item) (code' : List Op) (b : Bool) →
     IsNext t from x → StandsFor counts.phase names (bytes_of t x) x.kind s → Settles s items code (Some i) rest code' → produced i s ≡ None → is_exponent i ≡ b →
-    IsFirst t known start first x.start (refusal b s)
+    IsFirstByItems t known start first x.start (refusal b s)
 refused t known names start counts first initial items code from r x s i rest code' b is_next stands settles never wanted =
     let m : Met (behind_caret r.before) (Some i) rest = settled_met (behind_caret r.before) s items code (Some i) rest code' settles r.exponent in
     first_fault t known names start counts first initial items code from r x s (refusal b s) is_next stands
@@ -321,7 +297,7 @@ pub too_much : (t : List ℕ) (known names : Names) (start counts : Counts) (fir
     Reached t known names start counts first initial items code from →
     (x : Token) (s : Symbol) (rest : List Item) (code' : List Op) →
     IsNext t from x → StandsFor counts.phase names (bytes_of t x) x.kind s → Settles s items code None rest code' → ¬ (x.kind ≡ End) →
-    IsFirst t known start first x.start (refusal false s)
+    IsFirstByItems t known start first x.start (refusal false s)
 too_much t known names start counts first initial items code from r x s rest code' is_next stands settles inside =
     let m : Met (behind_caret r.before) None rest = settled_met (behind_caret r.before) s items code None rest code' settles r.exponent in
     first_fault t known names start counts first initial items code from r x s (refusal false s) is_next stands
@@ -335,7 +311,7 @@ pub forbidden : (t : List ℕ) (known names : Names) (start counts : Counts) (fi
     Reached t known names start counts first initial items code from →
     (x : Token) (s : Symbol) (i : Item) (rest : List Item) (code' : List Op) (items'' : List Item) (code'' : List Op) (cause : Cause) →
     IsNext t from x → StandsFor counts.phase names (bytes_of t x) x.kind s → Settles s items code (Some i) rest code' → Follows (produced i s) rest code' items'' code'' →
-    counted counts s ≡ Err cause → IsFirst t known start first x.start cause
+    counted counts s ≡ Err cause → IsFirstByItems t known start first x.start cause
 forbidden t known names start counts first initial items code from r x s i rest code' items'' code'' cause is_next stands settles follows one =
     first_fault t known names start counts first initial items code from r x s cause is_next stands
     (beyond (begins_with t known names start counts first initial items code from r s i rest code' items'' code'' settles follows) one)

@@ -1,5 +1,5 @@
 -- What a refused text's answer says.
-use Rattle.std.proofs.Common.{◌≡◌, ℕ, ◌≤◌, List, [], length, sym, subst, Result, Ok, Err, IfErr, IsOk, OnOk, Bool, true, false, Option, None, rules}
+use Rattle.std.proofs.Common.{◌∙◌, ◌≡◌, ◌≤◌, Bool, Err, IfErr, IsOk, List, None, Ok, OnOk, Option, Result, [], ap, false, length, rules, subst, sym, true, ℕ}
 use Rattle.pv_expr.specs.Terms.{Term}
 use Rattle.pv_code.specs.declared.code.Op.{Op}
 use Rattle.pv_code.specs.Expansion.{run, top}
@@ -9,19 +9,22 @@ use Rattle.pv_grammar.specs.declared.counts.Phase.TheVariants.{Sides}
 use Rattle.pv_grammar.specs.declared.machine.Item.{Item}
 use Rattle.pv_grammar.specs.Grammar.{Follows, Produced, Takes, expression_items}
 use Rattle.pv_grammar.specs.Limits.{nothing}
+use Rattle.pv_grammar.proofs.TreeRuns.{expression_means}
 use Rattle.pv_parse.specs.declared.refused.ParseRefused.{ParseRefused}
 use Rattle.pv_parse.specs.declared.refused.ParseRefused.TheVariants.{Memory, Fault}
+use Rattle.pv_parse.specs.ByItems.{IsAt, IsFirstByItems, IsFirstOfByItems, IsLong, IsSentence}
 use Rattle.pv_parse.specs.Declarations.{IsExpressionMeaning}
-use Rattle.pv_parse.specs.Faults.{IsAt, IsExpressionRefusal, IsFirst, IsFirstOf, IsLong, IsRefusal}
+use Rattle.pv_parse.specs.Faults.{IsExpressionRefusal, IsRefusal}
 use Rattle.pv_parse.specs.Faults.IsExpressionFaultOf.{first as first_text, long as long_text}
 use Rattle.pv_parse.specs.Faults.IsFaultOf.{long}
 use Rattle.pv_parse.specs.Meanings.{KnowsVariables, Names}
-use Rattle.pv_parse.specs.Sentences.{IsSentence}
+use Rattle.pv_parse.proofs.ByTrees.{expression_first}
+use Rattle.pv_parse.proofs.TreeTexts.{expression_sentence_tree}
 
-pub first_at : (t : List ℕ) (known : Names) (start : Counts) (items : List Item) (byte : ℕ) (cause : Cause) (e : ParseRefused) → IsAt byte cause e → IsFirst t known start items byte cause → IsFirstOf t known start items e
+pub first_at : (t : List ℕ) (known : Names) (start : Counts) (items : List Item) (byte : ℕ) (cause : Cause) (e : ParseRefused) → IsAt byte cause e → IsFirstByItems t known start items byte cause → IsFirstOfByItems t known start items e
 first_at t known start items byte cause Memory h f = absurd h
 first_at t known start items byte cause (Fault byte' line column cause') h f =
-    subst (λ (n : ℕ). IsFirst t known start items n cause') (sym h.0) (subst (λ (k : Cause). IsFirst t known start items byte k) (sym h.1) f)
+    subst (λ (n : ℕ). IsFirstByItems t known start items n cause') (sym h.0) (subst (λ (k : Cause). IsFirstByItems t known start items byte k) (sym h.1) f)
 
 pub if_err : {V E : Type 0} (P Q : E → Type 0) (r : Result V E) → ((e : E) → P e → Q e) → IfErr r P → IfErr r Q
 if_err P Q (Ok v) f h = h
@@ -52,16 +55,18 @@ long_expression variables t Memory h = tt
 long_expression variables t (Fault byte line column cause) h = long_text h.0 h.1 h.2
 
 pub first_expression : (variables : List (List ℕ)) (t : List ℕ) (n : Names) (e : ParseRefused) → length t ≤ 65536 → KnowsVariables variables n →
-    IsFirstOf t n (nothing Sides) expression_items e → IsExpressionRefusal variables t e
+    IsFirstOfByItems t n (nothing Sides) expression_items e → IsExpressionRefusal variables t e
 first_expression variables t n Memory short knows h = tt
-first_expression variables t n (Fault byte line column cause) short knows h = first_text short (n, knows, h)
+first_expression variables t n (Fault byte line column cause) short knows h = first_text short (expression_first variables t n byte cause knows h)
 
 pub expression_meant : (variables : List (List ℕ)) (t : List ℕ) (n : Names) (code : List Op) (x : Term) → length t ≤ 65536 → KnowsVariables variables n →
     IsSentence t n (nothing Sides) expression_items [] code → x ≡ top (run [] [] code []) → IsExpressionMeaning variables t x
-expression_meant variables t n code x short knows s e = record {
-  text = record { known = n; knows = knows; code = code; sentence = s; short = short };
-  term = e;
-}
+expression_meant variables t n code x short knows s e =
+    let found = expression_sentence_tree variables t n code knows s in
+    record {
+      text = record { known = n; knows = knows; tree = found.0; spelled = found.1; short = short };
+      term = e ∙ (ap (λ (z : List Op). top (run [] [] z [])) found.2 ∙ ap top (expression_means found.0 [] []));
+    }
 
 pub sentence_at : (t : List ℕ) (known : Names) (start start' : Counts) (items items' : List Item) (code code' after : List Op) → start ≡ start' → items ≡ items' → code ≡ code' →
     IsSentence t known start items code after → IsSentence t known start' items' code' after

@@ -20,7 +20,7 @@ use Rattle.pv_grammar.specs.declared.symbol.Fixed.{Fixed}
 use Rattle.pv_grammar.specs.declared.symbol.Fixed.TheVariants.{End}
 use Rattle.pv_grammar.specs.declared.symbol.Symbol.{Symbol}
 use Rattle.pv_grammar.specs.declared.symbol.Symbol.TheVariants.{Fixed as FixedToken, Number, Declared}
-use Rattle.pv_grammar.specs.Grammar.{is_minus}
+use Rattle.pv_grammar.specs.Limits.{is_minus}
 use Rattle.pv_tokens.specs.declared.keyword.Word.{Word}
 use Rattle.pv_tokens.specs.declared.token.Kind.{Kind}
 use Rattle.pv_tokens.specs.declared.token.Kind.TheVariants.{Name}

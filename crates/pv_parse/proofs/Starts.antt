@@ -25,9 +25,10 @@ use Rattle.pv_parse.specs.declared.scope.Begun.{Begun}
 use Rattle.pv_parse.specs.declared.scope.Begun.TheVariants.{Outside, Next, At}
 use Rattle.pv_parse.specs.declared.names.Meaning.{Meaning}
 use Rattle.pv_parse.specs.declared.names.Meaning.TheVariants.{Constant as ConstantMeaning, Variable as VariableMeaning, Function as FunctionMeaning}
+use Rattle.pv_parse.specs.ByItems.{IsSentence}
 use Rattle.pv_parse.specs.Declarations.{Mark, Marks, MarksTo, begun_at, begun_behind, start_of, starts_from, starts_in}
 use Rattle.pv_parse.specs.Meanings.{Names, in_body, in_bounds, learnt, meaning, use_of}
-use Rattle.pv_parse.specs.Sentences.{IsNumberSymbol, IsSentence, SpellsTo, StandsFor, bytes_of, name_symbol, word_symbol}
+use Rattle.pv_parse.specs.Sentences.{IsNumberSymbol, SpellsTo, StandsFor, bytes_of, name_symbol, word_symbol}
 
 -- ---- Counts
 

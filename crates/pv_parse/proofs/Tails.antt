@@ -12,8 +12,8 @@ use Rattle.pv_tokens.specs.declared.token.Token.{Token}
 use Rattle.pv_tokens.specs.Tokens.{IsNext}
 use Rattle.pv_tokens.specs.Tokens.Separates.{blank}
 use Rattle.pv_tokens.proofs.Slices.{byte_in, length_slice}
+use Rattle.pv_parse.specs.ByItems.{ClosesByItems}
 use Rattle.pv_parse.specs.Meanings.{Names, learnt}
-use Rattle.pv_parse.specs.Faults.{ClosesWith}
 use Rattle.pv_parse.specs.Sentences.{SpellsTo, StandsFor, bytes_of}
 use Rattle.pv_parse.proofs.Continued.{IsGap, Shares, next_end, spells_all, spells_shared, spells_within, stops_at}
 use Rattle.pv_parse.proofs.Pieces.{IsPiece, Mean, Piece, Placed}
@@ -121,7 +121,7 @@ shares t v f l =
 -- the tokens of a text up to a place, and some more, are a sentence of their own
 pub continued : (t : List ℕ) (known names : Names) (start counts final : Counts) (items : List Item) (before ss : List Symbol) (steps : List Op) (from : ℕ) (xs : List Piece) →
     SpellsTo t known start 0 before from names → Counted start before counts → Mean names counts xs ss → Derives items (before ++ ss) steps → Counted start (before ++ ss) final →
-    ClosesWith t known start items from before
+    ClosesByItems t known start items from before
 continued t known names start counts final items before ss steps from xs spelled within means derived limits =
     let inside : from ≤ length t = spells_within t known start 0 before from names (omega arith) spelled in
     let cut : length (take from t) ≡ from = length-take-le from t inside in

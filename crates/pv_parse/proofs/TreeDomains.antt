@@ -1,5 +1,5 @@
 -- The domains that a text declares between its brackets are those of its tree.
-use Rattle.std.proofs.Common.{◌≡◌, ℕ, Bool, true, false, List, [], ◌∷◌, ◌++◌, map, Option, None, Ok, if◌then◌else◌, is_some, nat_lt, refl, sym, ap, ◌∙◌, subst}
+use Rattle.std.proofs.Common.{◌≡◌, ℕ, Bool, true, false, List, [], ◌∷◌, ◌++◌, map, Option, None, Ok, if◌then◌else◌, nat_lt, refl, sym, ap, ◌∙◌, subst}
 use Rattle.std.specs.Prelude.{option_to_list}
 use Rattle.pv_expr.specs.declared.domain.Bound.{Bound}
 use Rattle.pv_expr.specs.declared.domain.Domain.{Domain}
@@ -10,11 +10,11 @@ use Rattle.pv_grammar.specs.declared.symbol.Fixed.{Fixed}
 use Rattle.pv_grammar.specs.declared.symbol.Fixed.TheVariants.{Plus, Minus, Open, Close, OpenBracket, CloseBracket, Comma, Semicolon as SemicolonToken, Constants as ConstantsWord, Variables as VariablesWord, Constraints as ConstraintsWord, Function as FunctionWord, Return, End, In, Oo}
 use Rattle.pv_grammar.specs.declared.symbol.Symbol.{Symbol}
 use Rattle.pv_grammar.specs.declared.symbol.Symbol.TheVariants.{Fixed as FixedToken, Relation as RelationToken, Number, Declared, Constant as ConstantToken, Function as Call, Unknown}
-use Rattle.pv_grammar.specs.Grammar.{factor, is_minus}
-use Rattle.pv_grammar.specs.Limits.{begins, begun, behind_comma, behind_end, behind_semicolon, counted, declared, in_expression, in_phase, levels, moved, nested, nothing, operated, operates, turned}
+use Rattle.pv_grammar.specs.Limits.{begins, begins_expression, begun, behind_comma, behind_end, behind_semicolon, counted, declared, in_expression, in_phase, is_minus, levels, moved, nested, nothing, operated, operates, turned}
 use Rattle.pv_grammar.specs.Productions.{Arguments, Bound as BoundTree, ConstantBlock, Constant, Constants, Constraint, Constraints, Domain as DomainTree, Expression, Factor, Factors, Functions, Limit, Parameters, Power, Primary, Semicolon, Separator, Sign, System, Term, Terms, Variables, absolute_of, argument, between, bound_of, call, comma, constant_and, constant_limit, constant_named, constant_of, constants, constants_separator, constraint_and, constraints_semicolon, function_and, function_of, greatest_of, infinite_limit, least_of, minus, minus_sign, negative, no_argument, no_constant, no_constants, no_constraint, no_domain, no_factor, no_function, no_parameter, no_power, no_semicolon, no_sign, no_term, no_variable, number, number_limit, one_semicolon, over, parameter_and, parameter_at, parentheses, plus, plus_sign, positive, product_of, raised, relates, semicolon, square_of, sum_of, system_of, times, to_power, variable_and, variable_at, variable_of, variables_separator, arguments_symbols, constant_block_symbols, constant_symbols, constants_symbols, constraint_symbols, constraints_symbols, bound_symbols, domain_symbols, expression_symbols, factor_symbols, factors_symbols, functions_symbols, limit_symbol, parameters_symbols, power_symbols, primary_symbols, semicolon_symbols, separator_symbol, sign_symbols, system_symbols, term_symbols, terms_symbols, variables_symbols}
 use Rattle.pv_grammar.specs.Trees.{domain_of as tree_domain, end_of, limit_of, system_domains, variables_domains}
-use Rattle.pv_parse.specs.Declarations.{Mark, Marks, MarksTo, bound_at, bounds_of, declares, domain_in, domain_of, mark_of, own, variable, variables_in}
+use Rattle.pv_parse.specs.Declarations.{Mark, Marks, MarksTo, brackets_in, declares, mark_of, names_in, own}
+use Rattle.pv_parse.specs.Scopes.{Variable as Declaration, bound_at, bounds_of, bracket_in, domain_in, domain_of, name_of, variable, variables_in}
 use Rattle.pv_parse.proofs.KnownNames.{At, Gives, given, gives_any, gives_if, gives_next, where_phase}
 
 -- ---- What marks declare
@@ -106,7 +106,7 @@ moved_away s c q h = h
 stays_away : (c d : Counts) (s : Symbol) → counted c s ≡ Ok d → IsQuiet s → Away c → Away d
 stays_away c d s e q h =
     subst (Gives Away) e
-    (gives_next Away Away (begun c s) _ (gives_if Away (is_some (factor s)) _ _ (begins_away c.phase c h) h)
+    (gives_next Away Away (begun c s) _ (gives_if Away (begins_expression s) _ _ (begins_away c.phase c h) h)
     (λ c1 h1. gives_next Away Away (operated c1 s) _ (gives_if Away (in_expression c1.phase) _ _ (gives_if Away (operates s) _ _ (gives_if Away (nat_lt c1.operations 1000) _ _ h1 tt) h1) h1)
     (λ c2 h2. gives_next Away Away (nested c2 s) _ (gives_if Away (in_expression c2.phase) _ _ (levels_away s c2 h2) h2)
     (λ c3 h3. moved_away s c3 q h3))))
@@ -489,3 +489,21 @@ domains_of_tree t (system_of block before (variable_of d) vs behind c cs) marks 
     let follow = variable_declares d t (variables_symbols vs rest) to e (variables_domains vs) (variables_declare vs t rest to e (functions_end behind t sides to e ending)) in
     let start = pass words (constant_block_symbols block (functions_symbols before words)) (block_passes block words (functions_symbols before words) (functions_pass before words words here)) t (nothing Between) 0 marks to e m tt in
     start.same ∙ word_domains t names start.counts start.from start.rest to e (tree_domain d ∷ variables_domains vs) start.marked start.away follow
+
+-- ---- Names and brackets
+
+names_step : (b : Bool) (v : Declaration) (vs : List Declaration) (names : List (List ℕ)) → map name_of vs ≡ names → map name_of (if b then v ∷ vs else vs) ≡ (if b then v.name ∷ names else names)
+names_step true v vs names h = ap (λ (z : List (List ℕ)). v.name ∷ z) h
+names_step false v vs names h = h
+
+pub names_named : (ms : List Mark) → map name_of (variables_in ms) ≡ names_in ms
+names_named [] = refl
+names_named (m ∷ ms) = names_step (declares m.phase m.symbol) (variable m.bytes ms) (variables_in ms) (names_in ms) (names_named ms)
+
+brackets_step : (b : Bool) (v : Declaration) (vs : List Declaration) (places : List ℕ) → map bracket_in vs ≡ places → map bracket_in (if b then v ∷ vs else vs) ≡ (if b then v.bracket ∷ places else places)
+brackets_step true v vs places h = ap (λ (z : List ℕ). v.bracket ∷ z) h
+brackets_step false v vs places h = h
+
+pub brackets_named : (ms : List Mark) → map bracket_in (variables_in ms) ≡ brackets_in ms
+brackets_named [] = refl
+brackets_named (m ∷ ms) = brackets_step (declares m.phase m.symbol) (variable m.bytes ms) (variables_in ms) (brackets_in ms) (brackets_named ms)

@@ -1,5 +1,5 @@
 -- A text declares from 1 to 12 variables.
-use Rattle.std.proofs.Common.{◌≡◌, ℕ, ◌+◌, ◌<◌, ◌≤◌, ◌∙◌, ◌⊎◌, inl, inr, ⊎_elim, Bool, true, false, List, [], ◌∷◌, ◌++◌, length, refl, sym, ap, subst, arith, Option, Some, None, Ok, Err, if◌then◌else◌, nat_lt, is_some}
+use Rattle.std.proofs.Common.{◌≡◌, ℕ, ◌+◌, ◌<◌, ◌≤◌, ◌∙◌, ◌⊎◌, inl, inr, ⊎_elim, Bool, true, false, List, [], ◌∷◌, ◌++◌, length, refl, sym, ap, subst, arith, Option, Some, None, Ok, Err, if◌then◌else◌, nat_lt}
 use Rattle.std.proofs.lemmas.Bool.{false≢true}
 use Rattle.std.proofs.lemmas.Bool.Decides.{Decides-ltb}
 use Rattle.pv_code.specs.declared.code.Op.{Op}
@@ -14,9 +14,10 @@ use Rattle.pv_grammar.specs.declared.symbol.Fixed.{Fixed}
 use Rattle.pv_grammar.specs.declared.symbol.Fixed.TheVariants.{Open, Close, Comma, Semicolon, Variables as VariablesWord, Function as FunctionWord, End}
 use Rattle.pv_grammar.specs.declared.symbol.Symbol.{Symbol}
 use Rattle.pv_grammar.specs.declared.symbol.Symbol.TheVariants.{Fixed as FixedToken, Declared, Function as Call, Unknown}
-use Rattle.pv_grammar.specs.Grammar.{Derives, done, left_out, begun, MayEnd, Produced, declared, exactly, factor, produced, system_items}
-use Rattle.pv_grammar.specs.Limits.{Counting, behind_comma, behind_end, behind_semicolon, begins, begun as begun_by, counted, declared as declared_as, in_expression, in_phase, levels, moved, nested, next, operated, operates, turned, with_operations}
-use Rattle.pv_parse.specs.Declarations.{Mark, MarksTo, Variable, declares, mark_of, variable, variables_in}
+use Rattle.pv_grammar.specs.Grammar.{Derives, done, left_out, begun, MayEnd, Produced, declared, exactly, produced, system_items}
+use Rattle.pv_grammar.specs.Limits.{Counting, begins, begins_expression, begun as begun_by, behind_comma, behind_end, behind_semicolon, counted, declared as declared_as, in_expression, in_phase, levels, moved, nested, next, operated, operates, turned, with_operations}
+use Rattle.pv_parse.specs.Declarations.{Mark, MarksTo, declares, mark_of}
+use Rattle.pv_parse.specs.Scopes.{Variable, variable, variables_in}
 use Rattle.pv_parse.proofs.NameBytes.{is_declared}
 
 abbrev one_if : Bool → ℕ
@@ -162,7 +163,7 @@ steps c s d h =
 counted_adds : (s : Symbol) (c d : Counts) → counted c s ≡ Ok d → Adds (one_if (declares c.phase s)) c d
 counted_adds s c d h =
     let k = steps c s d h in
-    adds_behind s c k.first d (begun_keeps (is_some (factor s)) c k.first k.begins_it)
+    adds_behind s c k.first d (begun_keeps (begins_expression s) c k.first k.begins_it)
     (adds_behind s k.first k.second d
     (operated_keeps (in_expression k.first.phase) (operates s) (nat_lt k.first.operations 1000) TooDeep k.first (with_operations (k.first.operations + 1) k.first) k.second
     (record { variables = refl; declares = λ r. refl }) k.operates_it)

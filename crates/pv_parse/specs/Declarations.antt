@@ -1,29 +1,25 @@
--- What a text declares beside the meaning of names: its variables with their domains, and where its constraints begin.
-use Rattle.std.specs.Prelude.{◌≡◌, ℕ, ◌++◌, ◌≤◌, Bool, true, false, List, [], ◌∷◌, length, Option, Some, None, Ok, map, if◌then◌else◌, option_to_list, ◌⊎◌}
-use Rattle.pv_expr.specs.declared.domain.Bound.{Bound}
-use Rattle.pv_expr.specs.declared.domain.Bound.TheVariants.{MinusOo, Value, PlusOo}
+-- What a text means: the names of its variables, where their domains and its constraints begin, and the system of its tree.
+use Rattle.std.specs.Prelude.{◌≡◌, ℕ, ◌++◌, ◌≤◌, Bool, true, false, List, [], ◌∷◌, length, Ok, map, if◌then◌else◌, ◌⊎◌}
 use Rattle.pv_expr.specs.declared.domain.Domain.{Domain}
 use Rattle.pv_expr.specs.Systems.{InOrder, Parts}
 use Rattle.pv_expr.specs.Terms.{Term}
-use Rattle.pv_code.specs.declared.code.Op.{Op}
-use Rattle.pv_code.specs.declared.fraction.Fraction.{Fraction}
-use Rattle.pv_code.specs.Expansion.{constraints_of, run, sides_of, top}
-use Rattle.pv_code.specs.Fractions.{signed}
+use Rattle.pv_code.specs.Expansion.{sides_of}
 use Rattle.pv_code.specs.Sizes.{AreWithin}
 use Rattle.pv_grammar.specs.declared.counts.Counts.{Counts}
 use Rattle.pv_grammar.specs.declared.counts.Phase.{Phase}
-use Rattle.pv_grammar.specs.declared.counts.Phase.TheVariants.{Between, Bounds, Sides, Variables}
-use Rattle.pv_grammar.specs.declared.symbol.Fixed.TheVariants.{Constraints, Semicolon, OpenBracket, Oo}
+use Rattle.pv_grammar.specs.declared.counts.Phase.TheVariants.{Between, Variables}
+use Rattle.pv_grammar.specs.declared.symbol.Fixed.TheVariants.{Constraints, Semicolon, OpenBracket}
 use Rattle.pv_grammar.specs.declared.symbol.Symbol.{Symbol}
-use Rattle.pv_grammar.specs.declared.symbol.Symbol.TheVariants.{Fixed as FixedToken, Relation as RelationToken, Number, Declared, Constant}
-use Rattle.pv_grammar.specs.Grammar.{expression_items, system_items, is_minus}
+use Rattle.pv_grammar.specs.declared.symbol.Symbol.TheVariants.{Fixed as FixedToken, Relation as RelationToken, Declared}
 use Rattle.pv_grammar.specs.Limits.{counted, nothing}
+use Rattle.pv_grammar.specs.Productions.{Expression, System, system_symbols}
+use Rattle.pv_grammar.specs.Trees.{expression_term, system_constraints, system_domains}
 use Rattle.pv_tokens.specs.declared.token.Token.{Token}
 use Rattle.pv_tokens.specs.Tokens.{IsNext}
 use Rattle.pv_parse.specs.declared.scope.Begun.{Begun}
 use Rattle.pv_parse.specs.declared.scope.Begun.TheVariants.{Outside, Next, At}
-use Rattle.pv_parse.specs.Meanings.{KnowsVariables, Names, no_names}
-use Rattle.pv_parse.specs.Sentences.{IsSentence, bytes_of}
+use Rattle.pv_parse.specs.Meanings.{KnowsVariables, Names}
+use Rattle.pv_parse.specs.Sentences.{IsExpressionTextOf, IsTextOf, bytes_of}
 
 -- ---- The tokens of a sentence, each in its place
 
@@ -50,46 +46,20 @@ Marks t c ss marks = (to : ℕ) × (e : Counts) × MarksTo t c 0 ss marks to e
 
 -- ---- Variables
 
--- a variable's declaration; the bracket is where the `[` of its domain stands
-pub record Variable : Type 0 where
-  pub name : List ℕ
-  pub domain : Domain
-  pub bracket : ℕ
-
 -- a name declares a variable in the block of variables
 abbrev pub declares : Phase → Symbol → Bool
 declares Variables (Declared taken) = true
 declares p s = false
 
+-- the names of the variables that these tokens declare, in order
+abbrev pub names_in : List Mark → List (List ℕ)
+names_in [] = []
+names_in (m ∷ ms) = if declares m.phase m.symbol then m.bytes ∷ names_in ms else names_in ms
+
 -- the tokens up to the name of the next variable
 abbrev pub own : List Mark → List Mark
 own [] = []
 own (m ∷ ms) = if declares m.phase m.symbol then [] else m ∷ own ms
-
-abbrev pub value_of : Fraction → Bound
-value_of v = Value v.p v.q
-
-abbrev pub infinite : Bool → Bound
-infinite true = MinusOo
-infinite false = PlusOo
-
--- the bound that a token between brackets is, where `-` stands before it or doesn't: a number, a constant's value, or `oo`
-abbrev pub bound_at : Phase → Symbol → Bool → Option Bound
-bound_at Bounds (Number v exponent) negative = Some (value_of (signed negative v))
-bound_at Bounds (Constant v) negative = Some (value_of (signed negative v))
-bound_at Bounds (FixedToken Oo) negative = Some (infinite negative)
-bound_at p s negative = None
-
--- the bounds among these tokens, in order
-abbrev pub bounds_of : Bool → List Mark → List Bound
-bounds_of negative [] = []
-bounds_of negative (m ∷ ms) = option_to_list (bound_at m.phase m.symbol negative) ++ bounds_of (is_minus m.symbol) ms
-
--- an omitted domain is [-oo, oo], else the lower bound is written first
-abbrev pub domain_of : List Bound → Domain
-domain_of [] = record { lo = MinusOo; hi = PlusOo }
-domain_of (lo ∷ []) = record { lo = lo; hi = PlusOo }
-domain_of (lo ∷ (hi ∷ more)) = record { lo = lo; hi = hi }
 
 abbrev pub bracket_behind : Symbol → ℕ → ℕ → ℕ
 bracket_behind (FixedToken OpenBracket) start bracket = start
@@ -100,23 +70,10 @@ abbrev pub bracket_of : ℕ → List Mark → ℕ
 bracket_of bracket [] = bracket
 bracket_of bracket (m ∷ ms) = bracket_of (bracket_behind m.symbol m.start bracket) ms
 
--- a variable of a name, with what is written up to the next one
-abbrev pub variable : List ℕ → List Mark → Variable
-variable name ms = record { name = name; domain = domain_of (bounds_of false (own ms)); bracket = bracket_of 0 (own ms) }
-
--- the variables that these tokens declare, in order
-abbrev pub variables_in : List Mark → List Variable
-variables_in [] = []
-variables_in (m ∷ ms) = if declares m.phase m.symbol then variable m.bytes ms ∷ variables_in ms else variables_in ms
-
-abbrev pub name_of : Variable → List ℕ
-name_of v = v.name
-
-abbrev pub domain_in : Variable → Domain
-domain_in v = v.domain
-
-abbrev pub bracket_in : Variable → ℕ
-bracket_in v = v.bracket
+-- where the `[` of each variable's domain stands, or 0 where it has none
+abbrev pub brackets_in : List Mark → List ℕ
+brackets_in [] = []
+brackets_in (m ∷ ms) = if declares m.phase m.symbol then bracket_of 0 (own ms) ∷ brackets_in ms else brackets_in ms
 
 -- ---- Bad domains
 
@@ -161,26 +118,26 @@ starts_in ms = starts_from Outside ms
 
 -- ---- The system that a text means
 
--- the text is a sentence of the grammar for systems, within the limits that are counted token by token
+-- the tree of a text, and its tokens, each in its place
 pub record Reading (t : List ℕ) : Type 0 where
-  pub code : List Op
-  pub sentence : IsSentence t no_names (nothing Between) system_items [] code
+  pub tree : System
+  pub spelled : IsTextOf t tree
   pub marks : List Mark
-  pub marked : Marks t (nothing Between) sentence.symbols marks
+  pub marked : Marks t (nothing Between) (system_symbols tree []) marks
 
--- the text is a system's: such a sentence, with good domains and constraints within the limits, and no longer than is read
+-- the text is a system's: that of a tree, with good domains and constraints within the limits, and no longer than is read
 pub record IsSystemSentence (t : List ℕ) : Type 0 where
   pub reading : Reading t
-  pub good : AreGood (map domain_in (variables_in reading.marks))
-  pub within : AreWithin (constraints_of reading.code)
+  pub good : AreGood (system_domains reading.tree)
+  pub within : AreWithin (system_constraints reading.tree)
   pub short : length t ≤ 65536
 
 -- the text is a system's, and these are its names, domains and constraints
 pub record IsMeaning (t : List ℕ) (s : Parts) : Type 0 where
   pub text : IsSystemSentence t
-  pub names : s.names ≡ map name_of (variables_in text.reading.marks)
-  pub domains : s.domains ≡ map domain_in (variables_in text.reading.marks)
-  pub constraints : map sides_of s.constraints ≡ constraints_of text.reading.code
+  pub names : s.names ≡ names_in text.reading.marks
+  pub domains : s.domains ≡ system_domains text.reading.tree
+  pub constraints : map sides_of s.constraints ≡ system_constraints text.reading.tree
 
 -- two systems have the same names, domains and constraints
 pub record AreAlike (s s' : Parts) : Type 0 where
@@ -198,14 +155,14 @@ MeansOne t = (s s' : Parts) → IsMeaning t s → IsMeaning t s' → AreAlike s 
 pub record IsExpressionSentence (variables : List (List ℕ)) (t : List ℕ) : Type 0 where
   pub known : Names
   pub knows : KnowsVariables variables known
-  pub code : List Op
-  pub sentence : IsSentence t known (nothing Sides) expression_items [] code
+  pub tree : Expression
+  pub spelled : IsExpressionTextOf known t tree
   pub short : length t ≤ 65536
 
 -- and this is its term
 pub record IsExpressionMeaning (variables : List (List ℕ)) (t : List ℕ) (x : Term) : Type 0 where
   pub text : IsExpressionSentence variables t
-  pub term : x ≡ top (run [] [] text.code [])
+  pub term : x ≡ expression_term [] [] text.tree
 
 -- a text means one term
 abbrev pub MeansOneTerm : List (List ℕ) → List ℕ → Type 0

@@ -1,4 +1,5 @@
--- Numbers of a text are fractions in lowest terms, within the limits on constants.
+-- Numbers of a text are fractions in lowest terms, within the limits on constants. It is for the proofs of the reader: no public
+-- contract cites it.
 use Rattle.std.specs.Prelude.{◌≡◌, ℕ, List, [], ◌∷◌, Some}
 use Rattle.pv_code.specs.declared.fraction.Fraction.{Fraction}
 use Rattle.pv_code.specs.Fractions.{IsLowest}

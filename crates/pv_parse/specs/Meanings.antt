@@ -1,5 +1,5 @@
 -- What names stand for: what each was declared as so far, and what it then is in each part of the text.
-use Rattle.std.specs.Prelude.{◌≡◌, ◌<◌, ◌≤◌, length, ℕ, ◌+◌, ◌-◌, Bool, true, false, List, [], ◌∷◌, Option, Some, None, is_some, if◌then◌else◌}
+use Rattle.std.specs.Prelude.{◌≡◌, ℕ, ◌+◌, ◌-◌, Bool, true, false, List, [], ◌∷◌, Option, Some, None, is_some, if◌then◌else◌}
 use Rattle.std.specs.Str.{bytes_eq}
 use Rattle.std.specs.Map.{update}
 use Rattle.pv_code.specs.declared.code.Op.TheVariants.{Call}
@@ -11,7 +11,7 @@ use Rattle.pv_grammar.specs.declared.counts.Phase.TheVariants.{Between, Constant
 use Rattle.pv_grammar.specs.declared.symbol.Fixed.TheVariants.{End}
 use Rattle.pv_grammar.specs.declared.symbol.Symbol.{Symbol}
 use Rattle.pv_grammar.specs.declared.symbol.Symbol.TheVariants.{Fixed as FixedToken, Number, Declared, Constant, Variable, Parameter, Function, Unknown}
-use Rattle.pv_grammar.specs.Grammar.{is_minus}
+use Rattle.pv_grammar.specs.Limits.{is_minus}
 use Rattle.pv_parse.specs.declared.names.Meaning.{Meaning}
 use Rattle.pv_parse.specs.declared.names.Meaning.TheVariants.{Constant as ConstantMeaning, Variable as VariableMeaning, Function as FunctionMeaning}
 
@@ -130,13 +130,3 @@ variables_from variables i = record { known = numbered variables i; parameter = 
 
 abbrev pub KnowsVariables : List (List ℕ) → Names → Type 0
 KnowsVariables variables n = AreSame n (variables_from variables 0)
-
--- no name that is longer than this is declared
-pub record AreWithin (n : Names) (most : ℕ) : Type 0 where
-  pub known : (name : List ℕ) → most < length name → n.known name ≡ None
-  pub parameter : (name : List ℕ) → most < length name → n.parameter name ≡ None
-  pub pending : length n.pending ≤ most
-
--- so there is always a fresh name
-abbrev pub AreBounded : Names → Type 0
-AreBounded n = (most : ℕ) × AreWithin n most

@@ -1,24 +1,73 @@
--- How the declarations that the reader keeps go on behind a token.
-use Rattle.std.specs.Prelude.{◌≡◌, ℕ, ◌++◌, false, List, [], ◌∷◌, Option, Some, None, map, if◌then◌else◌, string_bytes}
+-- How the declarations that the reader keeps go on behind a token. It is for the proofs of the reader: no public contract cites it.
+use Rattle.std.specs.Prelude.{if◌then◌else◌, ◌++◌, ◌∷◌, ◌≡◌, Bool, List, None, Option, Some, [], false, map, option_to_list, string_bytes, ℕ}
 use Rattle.pv_expr.specs.declared.domain.Bound.{Bound}
 use Rattle.pv_expr.specs.declared.domain.Bound.TheVariants.{MinusOo, PlusOo}
 use Rattle.pv_expr.specs.declared.domain.Domain.{Domain}
 use Rattle.pv_code.specs.declared.code.Op.{Op}
+use Rattle.pv_code.specs.Fractions.{signed}
 use Rattle.pv_grammar.specs.declared.counts.Counts.{Counts}
 use Rattle.pv_grammar.specs.declared.counts.Phase.{Phase}
 use Rattle.pv_grammar.specs.declared.machine.Item.{Item}
 use Rattle.pv_grammar.specs.declared.symbol.Symbol.{Symbol}
-use Rattle.pv_grammar.specs.Grammar.{is_minus}
+use Rattle.pv_grammar.specs.Limits.{is_minus}
+use Rattle.pv_grammar.specs.Trees.{infinite, value_of}
+use Rattle.pv_grammar.specs.declared.counts.Phase.TheVariants.{Bounds}
+use Rattle.pv_grammar.specs.declared.symbol.Fixed.TheVariants.{Oo}
+use Rattle.pv_grammar.specs.declared.symbol.Symbol.TheVariants.{Constant, Fixed as FixedToken, Number}
 use Rattle.pv_parse.specs.declared.given.Awaited.{Awaited}
 use Rattle.pv_parse.specs.declared.given.Awaited.TheVariants.{Lower, Upper, Neither}
 use Rattle.pv_parse.specs.declared.scope.Begun.{Begun}
 use Rattle.pv_parse.specs.declared.scope.Begun.TheVariants.{Outside}
 use Rattle.pv_parse.specs.declared.given.Given.{Given}
 use Rattle.pv_parse.specs.declared.scope.Scope.{Scope}
-use Rattle.pv_parse.specs.Declarations.{Mark, Marks, begun_at, begun_behind, bound_at, bracket_behind, declares, start_of}
+use Rattle.pv_parse.specs.ByItems.{IsSentence}
+use Rattle.pv_parse.specs.Declarations.{Mark, Marks, begun_at, begun_behind, bracket_behind, bracket_of, declares, own, start_of}
 use Rattle.pv_parse.specs.Fractions.{HaveFractions}
 use Rattle.pv_parse.specs.Meanings.{Names}
-use Rattle.pv_parse.specs.Sentences.{IsSentence}
+
+-- ---- Variables with what is written behind their names
+
+-- a variable's declaration; the bracket is where the `[` of its domain stands
+pub record Variable : Type 0 where
+  pub name : List ℕ
+  pub domain : Domain
+  pub bracket : ℕ
+
+-- the bound that a token between brackets is, where `-` stands before it or doesn't: a number, a constant's value, or `oo`
+abbrev pub bound_at : Phase → Symbol → Bool → Option Bound
+bound_at Bounds (Number v exponent) negative = Some (value_of (signed negative v))
+bound_at Bounds (Constant v) negative = Some (value_of (signed negative v))
+bound_at Bounds (FixedToken Oo) negative = Some (infinite negative)
+bound_at p s negative = None
+
+-- the bounds among these tokens, in order
+abbrev pub bounds_of : Bool → List Mark → List Bound
+bounds_of negative [] = []
+bounds_of negative (m ∷ ms) = option_to_list (bound_at m.phase m.symbol negative) ++ bounds_of (is_minus m.symbol) ms
+
+-- an omitted domain is [-oo, oo], else the lower bound is written first
+abbrev pub domain_of : List Bound → Domain
+domain_of [] = record { lo = MinusOo; hi = PlusOo }
+domain_of (lo ∷ []) = record { lo = lo; hi = PlusOo }
+domain_of (lo ∷ (hi ∷ more)) = record { lo = lo; hi = hi }
+
+-- a variable of a name, with what is written up to the next one
+abbrev pub variable : List ℕ → List Mark → Variable
+variable name ms = record { name = name; domain = domain_of (bounds_of false (own ms)); bracket = bracket_of 0 (own ms) }
+
+-- the variables that these tokens declare, in order
+abbrev pub variables_in : List Mark → List Variable
+variables_in [] = []
+variables_in (m ∷ ms) = if declares m.phase m.symbol then variable m.bytes ms ∷ variables_in ms else variables_in ms
+
+abbrev pub name_of : Variable → List ℕ
+name_of v = v.name
+
+abbrev pub domain_in : Variable → Domain
+domain_in v = v.domain
+
+abbrev pub bracket_in : Variable → ℕ
+bracket_in v = v.bracket
 
 -- ---- What is written behind a variable's name
 

@@ -1,7 +1,6 @@
--- Which texts are sentences of the grammar.
-use Rattle.std.specs.Prelude.{◌≡◌, ℕ, ◌++◌, List, [], ◌∷◌, Option, Some, None, Ok, slice_range}
+-- Which tokens a text has for the grammar, and of which tree it is a text.
+use Rattle.std.specs.Prelude.{◌≡◌, ℕ, List, [], ◌∷◌, Option, Some, None, Ok, slice_range}
 use Rattle.pv_expr.specs.declared.constraint.Relation.TheVariants.{Eq, Le, Ge, Lt, Gt}
-use Rattle.pv_code.specs.declared.code.Op.{Op}
 use Rattle.pv_code.specs.declared.code.Op.TheVariants.{One, Two}
 use Rattle.pv_code.specs.declared.code.Unary.TheVariants.{Abs, Pow}
 use Rattle.pv_code.specs.declared.code.Binary.TheVariants.{Min, Max}
@@ -9,12 +8,11 @@ use Rattle.pv_grammar.specs.declared.cause.Cause.TheVariants.{BadByte, NumberToo
 use Rattle.pv_grammar.specs.declared.symbol.Fixed.TheVariants.{Plus, Minus, Star, Slash, Caret, Open, Close, OpenBracket, CloseBracket, Comma, Semicolon, Constants, Variables, Constraints, Function as FunctionWord, Return, End, In, Oo, EndOfText}
 use Rattle.pv_grammar.specs.declared.symbol.Symbol.{Symbol}
 use Rattle.pv_grammar.specs.declared.symbol.Symbol.TheVariants.{Never, Fixed as FixedToken, Relation as RelationToken, Number, Function as FunctionName}
-use Rattle.pv_grammar.specs.declared.machine.Item.{Item}
 use Rattle.pv_grammar.specs.declared.counts.Counts.{Counts}
 use Rattle.pv_grammar.specs.declared.counts.Phase.{Phase}
 use Rattle.pv_grammar.specs.declared.counts.Phase.TheVariants.{Between, Sides}
-use Rattle.pv_grammar.specs.Grammar.{Derives, system_items, expression_items}
-use Rattle.pv_grammar.specs.Limits.{nothing, counted, Counted}
+use Rattle.pv_grammar.specs.Limits.{nothing, counted}
+use Rattle.pv_grammar.specs.Productions.{Expression, System, expression_symbols, system_symbols}
 use Rattle.pv_tokens.specs.declared.token.Kind.{Kind}
 use Rattle.pv_tokens.specs.declared.token.Kind.TheVariants.{Name, Number as NumberKind, LessEqual, GreaterEqual, Less, Greater, Equal, Plus as PlusKind, Minus as MinusKind, Star as StarKind, Slash as SlashKind, Caret as CaretKind, Open as OpenKind, Close as CloseKind, OpenBracket as OpenBracketKind, CloseBracket as CloseBracketKind, Comma as CommaKind, Semicolon as SemicolonKind, Bad, End as EndKind}
 use Rattle.pv_tokens.specs.declared.token.Token.{Token}
@@ -101,26 +99,27 @@ Spells t n c ss = (to : ℕ) × (m : Names) × (x : Token) × SpellsTo t n c 0 s
 abbrev pub IsSpelledOnce : List ℕ → Names → Counts → Type 0
 IsSpelledOnce t n c = (ss ss' : List Symbol) → Spells t n c ss → Spells t n c ss' → ss ≡ ss'
 
--- the text is a sentence of the items within the limits, where these names are declared before it, and its steps lead from one
--- code to the other
-pub record IsSentence (t : List ℕ) (known : Names) (start : Counts) (items : List Item) (before after : List Op) : Type 0 where
-  pub symbols : List Symbol
-  pub steps : List Op
-  pub counts : Counts
-  pub spelled : Spells t known start symbols
-  pub within : Counted start symbols counts
-  pub derived : Derives items symbols steps
-  pub code_is : after ≡ before ++ steps
+-- ---- Texts of trees
 
--- a sentence has one code
-abbrev pub HasOneCode : List ℕ → Names → Counts → List Item → Type 0
-HasOneCode t n c items = (code code' : List Op) → IsSentence t n c items [] code → IsSentence t n c items [] code' → code ≡ code'
+-- the tokens of the text are the tree's, each within the limits, and each name stands for what it was declared as
+abbrev pub IsTextOf : List ℕ → System → Type 0
+IsTextOf t x = Spells t no_names (nothing Between) (system_symbols x [])
 
--- the text is a sentence of the grammar within the limits, where each name stands for what it was declared as
+-- the same of an expression, where these names are known
+abbrev pub IsExpressionTextOf : Names → List ℕ → Expression → Type 0
+IsExpressionTextOf known t e = Spells t known (nothing Sides) (expression_symbols e [])
+
+-- a text is that of one tree
+abbrev pub HasOneTree : List ℕ → Type 0
+HasOneTree t = (x y : System) → IsTextOf t x → IsTextOf t y → x ≡ y
+
+abbrev pub HasOneExpressionTree : Names → List ℕ → Type 0
+HasOneExpressionTree known t = (d e : Expression) → IsExpressionTextOf known t d → IsExpressionTextOf known t e → d ≡ e
+
+-- the text is that of a system, within the limits that are counted token by token
 abbrev pub IsSystemText : List ℕ → Type 0
-IsSystemText t = (code : List Op) × IsSentence t no_names (nothing Between) system_items [] code
+IsSystemText t = (x : System) × IsTextOf t x
 
 -- the same of one expression, where the variables are known
 abbrev pub IsExpressionText : List (List ℕ) → List ℕ → Type 0
-IsExpressionText variables t =
-    (n : Names) × KnowsVariables variables n × (code : List Op) × IsSentence t n (nothing Sides) expression_items [] code
+IsExpressionText variables t = (n : Names) × KnowsVariables variables n × (e : Expression) × IsExpressionTextOf n t e

@@ -1,4 +1,4 @@
--- The names that the reader keeps, as functions.
+-- The names that the reader keeps, as functions. It is for the proofs of the reader: no public contract cites it.
 use Rattle.std.specs.Prelude.{ℕ, List, Option, Vec}
 use Rattle.std.specs.Global.{Global}
 use Rattle.std.specs.Cmp.Lexicographic.{slice_cmp}

@@ -4,9 +4,10 @@ ghost use Rattle.std.specs.Bool.{OnTrue, OnFalse};
 ghost use Rattle.std.specs.Prelude.{◌≡◌, List, ◌≤◌, ◌-◌, drop, length, map, IfOk, IfSome, IsNone};
 ghost use Rattle.pv_expr.specs.Systems.{InOrder};
 ghost use Rattle.pv_code.specs.Fractions.{IsLowest, signed};
-ghost use Rattle.pv_parse.specs.Declarations.{AreGood, IsFirstBad, IsGood, bound_at, bracket_behind, infinite, value_of};
+ghost use Rattle.pv_grammar.specs.Trees.{infinite, value_of};
+ghost use Rattle.pv_parse.specs.Declarations.{AreGood, IsFirstBad, IsGood, bracket_behind};
 ghost use Rattle.pv_parse.specs.Fractions.{HasFraction};
-ghost use Rattle.pv_parse.specs.Scopes.{bounded, bracket_given, domain_given, given_behind, nothing_given, with_bound};
+ghost use Rattle.pv_parse.specs.Scopes.{bound_at, bounded, bracket_given, domain_given, given_behind, nothing_given, with_bound};
 
 use pv_code::{Fraction, is_quotient_at_most};
 use pv_expr::{Bound, Domain};

@@ -1,20 +1,18 @@
-//! That a text means one system or has one fault, as contracts.
+//! That a text has one tree and means what it says, or has one fault, as contracts.
 ghost use Rattle.std.specs.Prelude.{◌≡◌, ℕ, List};
-ghost use Rattle.pv_grammar.specs.Grammar.{system_items, expression_items};
 ghost use Rattle.pv_grammar.specs.Limits.{nothing};
 ghost use Rattle.pv_parse.specs.Declarations.{IsExpressionSentence, IsSystemSentence, MeansOne, MeansOneTerm};
 ghost use Rattle.pv_parse.specs.Faults.{Excludes, IsAtMostOne, IsEither, IsExpressionFault, IsExpressionFaultOf, IsFaultOf, IsSystemFault};
 ghost use Rattle.pv_parse.specs.Meanings.{KnowsVariables, Names, no_names};
-ghost use Rattle.pv_parse.specs.Sentences.{HasOneCode, IsExpressionText, IsSpelledOnce, IsSystemText};
-ghost use Rattle.pv_parse.specs.TreeTexts.{ExpressionSentencesAgree, HasOneExpressionTree, HasOneTree, MeansByTree, MeansTermByTree, SentencesAgree};
+ghost use Rattle.pv_parse.specs.Sentences.{HasOneExpressionTree, HasOneTree, IsExpressionText, IsSpelledOnce, IsSystemText};
 
 use pv_grammar::Phase;
 
-/// A text of a system is at most one list of tokens. It is a sentence, and has one code then, or it has a first fault, at one
+/// A text of a system is at most one list of tokens. It is the text of a tree, and of one alone then, or it has a first fault, at one
 /// place and with one cause; and never both. It holds by its contract alone; the call does nothing.
 pub fn one_system()
     ensures spelled { (t : List ℕ) → IsSpelledOnce t no_names (nothing Phase.Between) }
-    ensures code { (t : List ℕ) → HasOneCode t no_names (nothing Phase.Between) system_items }
+    ensures tree { (t : List ℕ) → HasOneTree t }
     ensures either { (t : List ℕ) → IsEither (IsSystemText t) (IsSystemFault t) }
     ensures apart { (t : List ℕ) → Excludes (IsSystemText t) (IsSystemFault t) }
     ensures fault { (t : List ℕ) → IsAtMostOne (IsSystemFault t) }
@@ -25,8 +23,7 @@ pub fn one_expression()
     ensures names { (variables : List (List ℕ)) (n m : Names) → KnowsVariables variables n →
         KnowsVariables variables m → n ≡ m }
     ensures spelled { (t : List ℕ) (n : Names) → IsSpelledOnce t n (nothing Phase.Sides) }
-    ensures code { (t : List ℕ) (n : Names) →
-        HasOneCode t n (nothing Phase.Sides) expression_items }
+    ensures tree { (t : List ℕ) (n : Names) → HasOneExpressionTree n t }
     ensures either { (variables : List (List ℕ)) (t : List ℕ) →
         IsEither (IsExpressionText variables t) (IsExpressionFault variables t) }
     ensures apart { (variables : List (List ℕ)) (t : List ℕ) →
@@ -53,20 +50,4 @@ pub fn one_expression_outcome()
     ensures fault { (variables : List (List ℕ)) (t : List ℕ) →
         IsAtMostOne (IsExpressionFaultOf variables t) }
     ensures term { (variables : List (List ℕ)) (t : List ℕ) → MeansOneTerm variables t }
-{}
-
-/// The sentences of the grammar for systems are the texts of trees, each of one tree; and what a text means by its tree, with the
-/// terms and constraints read off it, is what it means for `parse`. It holds by its contract alone; the call does nothing.
-pub fn tree_texts()
-    ensures sentences { (t : List ℕ) → SentencesAgree t }
-    ensures one { (t : List ℕ) → HasOneTree t }
-    ensures meaning { (t : List ℕ) → MeansByTree t }
-{}
-
-/// The same of the text of an expression over some variables, and of `parse_expr`.
-pub fn tree_expressions()
-    ensures sentences { (variables : List (List ℕ)) (t : List ℕ) →
-        ExpressionSentencesAgree variables t }
-    ensures one { (t : List ℕ) (known : Names) → HasOneExpressionTree known t }
-    ensures term { (variables : List (List ℕ)) (t : List ℕ) → MeansTermByTree variables t }
 {}

@@ -6,17 +6,15 @@ ghost use Rattle.pv_expr.specs.Systems.{IsOver};
 ghost use Rattle.pv_code.specs.declared.code.Op.{Op};
 ghost use Rattle.pv_code.specs.Expansion.{AreParts, sides_of, constraints_of};
 ghost use Rattle.pv_code.specs.Sizes.{AreWithin, IsShortCall};
+ghost use Rattle.pv_grammar.specs.ByItems.{IsStart};
 ghost use Rattle.pv_grammar.specs.Causes.{refusal};
-ghost use Rattle.pv_grammar.specs.Limits.{IsStart};
 ghost use Rattle.pv_grammar.specs.Grammar.{pile};
-ghost use Rattle.pv_parse.specs.Faults.{IsAt, IsAtStart, IsLargeAt, IsLong, IsExpressionRefusal, IsPlaced, IsFirstOf, IsRefusal, SaysTooLong};
-ghost use Rattle.pv_parse.specs.Meanings.{AreBounded};
+ghost use Rattle.pv_parse.specs.ByItems.{AreBounded, IsAt, IsAtStart, IsFirstOfByItems, IsLargeAt, IsLong, IsSentence};
+ghost use Rattle.pv_parse.specs.Faults.{IsExpressionRefusal, IsPlaced, IsRefusal, SaysTooLong};
 ghost use Rattle.pv_parse.specs.Declarations.{IsExpressionMeaning, IsMeaning};
 ghost use Rattle.pv_parse.specs.Fractions.{KnowsFractions};
 ghost use Rattle.pv_parse.specs.Scopes.{IsToldAs, scoped};
 ghost use Rattle.pv_parse.specs.Views.{view};
-ghost use Rattle.pv_parse.specs.Sentences.{IsSentence};
-ghost use Rattle.pv_parse.specs.TreeTexts.{IsTreeMeaning, IsTreeTerm};
 
 use crate::given::{domains_of, first_bad};
 use crate::names::Names;
@@ -39,7 +37,6 @@ const MAX_TEXT: usize = 65536;
 #[tactic(auto, using(crate::proofs::Refusals::long_system, crate::proofs::Meant::first_fault))]
 pub fn parse(alloc: Global, text: &[u8]) -> Result<System, ParseRefused>
     ensures means { IfOk result (λ s. IsMeaning text.now s) }
-    ensures tree { IfOk result (λ s. IsTreeMeaning text.now s) }
     ensures placed { IfErr result (λ e. IsPlaced text.now e) }
     ensures long { 65536 < length text.now → IsErrAnd result SaysTooLong }
     ensures fault { IfErr result (IsRefusal text.now) }
@@ -75,7 +72,6 @@ pub fn parse(alloc: Global, text: &[u8]) -> Result<System, ParseRefused>
 pub fn parse_expr(alloc: Global, system: &System, text: &[u8]) -> Result<Expr, ParseRefused>
     ensures over { IfOk result (λ e. IsOver (length system.now.names) (term_of e)) }
     ensures means { IfOk result (λ e. IsExpressionMeaning system.now.names text.now (term_of e)) }
-    ensures tree { IfOk result (λ e. IsTreeTerm system.now.names text.now (term_of e)) }
     ensures placed { IfErr result (λ e. IsPlaced text.now e) }
     ensures long { 65536 < length text.now → IsErrAnd result SaysTooLong }
     ensures fault { IfErr result (IsExpressionRefusal system.now.names text.now) }
@@ -143,7 +139,7 @@ fn read_tokens(
     ensures told { OnOk result (IsToldAs text.now (view names.old) start
         (pile machine.old.stack.items) machine.old.code.items machine.new.code.items
         (scoped scope.old) (scoped scope.new)) }
-    ensures fault { IfErr result (λ e. IsFirstOf text.now (view names.old) start
+    ensures fault { IfErr result (λ e. IsFirstOfByItems text.now (view names.old) start
         (pile machine.old.stack.items) e) }
 {
     let mut from = 0;

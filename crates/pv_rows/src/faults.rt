@@ -27,7 +27,7 @@ struct Case {
 const NODES: &str =
     "settled 5 cut 2 removed 0 inner 2 small 1 open 0\nC 0 1:-1 0:0 1:0\nC 0 1:-2 0:0 1:-1\nS 0:0 1:-2\nI 1:-2 1:-1\nI 1:-1 1:0\n";
 
-const CASES: [Case; 10] = [
+const CASES: [Case; 11] = [
     Case {
         words: "check s",
         status: 0,
@@ -107,6 +107,14 @@ const CASES: [Case; 10] = [
         status: 0,
         out: HALF,
         lines: &["read fault: square\n", "read fault: left\n"],
+        file: "",
+        holds: "",
+    },
+    Case {
+        words: "least s --eps 0.25 --of x",
+        status: 0,
+        out: "lower 0:0\nupper 1:-2\npoint 1:-2\n",
+        lines: &["read fault: s\n"],
         file: "",
         holds: "",
     },

@@ -12,6 +12,8 @@ mod faults;
 #[cfg(test)]
 mod files;
 #[cfg(test)]
+mod least_values;
+#[cfg(test)]
 mod numbers;
 #[cfg(test)]
 mod pictures;

@@ -1,6 +1,7 @@
 // The worked examples: the words behind the program's name, the text of the system `s`, and what comes of them.
 
 /// One call of the program.
+#[derive(Clone, Copy)]
 pub(crate) struct Row {
     pub words: &'static str,
     pub system: &'static str,

@@ -60,7 +60,7 @@ fn call<R: Threads + Wait + Sync>(
     Ok(Answer { status, out, err })
 }
 
-fn check<R: Abort + Threads + Wait + Sync>(
+pub(crate) fn check<R: Abort + Threads + Wait + Sync>(
     rt: &R,
     alloc: Global,
     rows: &[Row],

@@ -8,11 +8,12 @@ use crate::calling::{paver, paver_at};
 use crate::files::{PART, SUMMARY, SYSTEM, WHOLE};
 use crate::settings::settler_of;
 use crate::tests::{TWO_DISCS, words_of};
+use pv_box::IBox;
 use pv_cli::{Gate, NoGate, Status, pave};
 use pv_io::{Folder, MemFolder, MemSink};
-use pv_num::Memory;
+use pv_num::{Memory, Num};
 use pv_settle::SystemSettler;
-use pv_tree::{Path, Paving};
+use pv_tree::{Outcome, Path, Paving, Settler};
 use std::alloc::Global;
 use std::collections::BTreeMap;
 use std::process::Abort;
@@ -208,7 +209,8 @@ fn a_budget_ends_eight_workers(rt: HostRuntime) -> Result<(), Fail> {
     Ok(())
 }
 
-// A gate at which a path that begins low waits for one that begins high, and the other way round, for a bounded time.
+// Two marks, each of which is set by one that then waits for the other, for a bounded time. As a gate it lets a path that begins
+// low wait for one that begins high, and the other way round.
 #[derive(Drop)]
 struct Meeting<'a, C> {
     clock: &'a C,
@@ -218,6 +220,15 @@ struct Meeting<'a, C> {
 }
 
 impl<'a, C: Clock> Meeting<'a, C> {
+    fn of(clock: &'a C) -> Meeting<'a, C> {
+        Meeting {
+            clock,
+            low: AtomicBool::new(false),
+            high: AtomicBool::new(false),
+            missed: AtomicBool::new(false),
+        }
+    }
+
     fn meet(&self, mine: &AtomicBool, other: &AtomicBool) {
         mine.store(true, Ordering::SeqCst);
         for _ in 0..100_000u32 {
@@ -250,12 +261,7 @@ fn two_workers_meet_at_a_gate(rt: HostRuntime) -> Result<(), Fail> {
     let list = words_of(alloc, "run s --eps 0.25 --workers 2 --out b")?;
     let mut out = MemSink::new(alloc, Vec::new(alloc));
     let mut err = MemSink::new(alloc, Vec::new(alloc));
-    let gate = Meeting {
-        clock: &rt,
-        low: AtomicBool::new(false),
-        high: AtomicBool::new(false),
-        missed: AtomicBool::new(false),
-    };
+    let gate = Meeting::of(&rt);
     let status = paver_at(&rt, alloc, &list, &mut folder, &mut out, &mut err, &gate);
     assert_eq!(rt; status.code(), 0);
     assert!(rt; !gate.missed.load(Ordering::SeqCst));
@@ -291,4 +297,80 @@ fn hands_stages_in<R: Threads + Wait + Sync>(rt: &R, alloc: Global) -> Option<bo
 #[test]
 fn one_worker_hands_stages_in(rt: HostRuntime) {
     assert_eq!(rt; hands_stages_in(&rt, rt.alloc()), Some(true));
+}
+
+// A settler that hands on another one. Its boxes in the two halves of [0,1] wait for each other.
+#[derive(Drop)]
+struct Halves<'a, S, C> {
+    settler: S,
+    meeting: Meeting<'a, C>,
+}
+
+impl<'a, S: Settler, C: Clock> Settler for Halves<'a, S, C> {
+    ghost dims = { λ s. S.dims s.settler };
+
+    ghost depth_of = { λ s. S.depth_of s.settler };
+
+    ghost settle_of = { λ s. S.settle_of s.settler };
+
+    ghost inside = { λ s. S.inside s.settler };
+
+    fn depth(&self) -> u32 {
+        self.settler.depth()
+    }
+
+    fn settle(
+        &self,
+        alloc: Global,
+        bx: &IBox,
+        depth_left: u32,
+        path_len: u32,
+    ) -> Result<Outcome, Memory> {
+        let _places = bx.dims();
+        let first = bx.get(0);
+        let half = Num::fin(1, -1).unwrap_or(Num::ZERO);
+        if first.hi() <= half {
+            self.meeting.meet(&self.meeting.low, &self.meeting.high);
+        }
+        if half <= first.lo() {
+            self.meeting.meet(&self.meeting.high, &self.meeting.low);
+        }
+        self.settler.settle(alloc, bx, depth_left, path_len)
+    }
+
+    ghost dims_fit = { λ s. S.dims_fit s.settler };
+
+    ghost depth_fits = { λ s. S.depth_fits s.settler };
+
+    ghost fits = { λ s. S.fits s.settler };
+
+    ghost keeps_box = { λ s. S.keeps_box s.settler };
+
+    ghost ends = { λ s. S.ends s.settler };
+
+    ghost sound = { λ s. S.sound s.settler };
+}
+
+// Whether boxes of both halves were settled at the same time, and the paving has five settled nodes.
+fn meets_in_a_settler<R: Threads + Wait + Clock + Sync>(rt: &R, alloc: Global) -> Option<bool> {
+    let settler = Halves {
+        settler: settler_of(alloc, SYSTEM, -2)?,
+        meeting: Meeting::of(rt),
+    };
+    let opening = opened(alloc, &settler.settler).ok()?;
+    let paved = pave(rt, alloc, &settler, opening, 20000, 2, &NoGate).ok()?;
+    let counts = paved.paving.counts();
+    Some(
+        !settler.meeting.missed.load(Ordering::SeqCst)
+            && counts.cut == 2
+            && counts.removed == 0
+            && counts.inner == 2
+            && counts.small == 1
+            && counts.open_leaves == 0,
+    )
+}
+
+#[test]
+fn two_workers_meet_in_a_settler(rt: HostRuntime) {
+    assert_eq!(rt; meets_in_a_settler(&rt, rt.alloc()), Some(true));
 }

@@ -1,9 +1,9 @@
 -- A budget is enough exactly where the full tree needs no more of it.
-use Rattle.std.proofs.Common.{◌≡◌, inl, inr, ℕ, suc, ◌+◌, ◌-◌, ◌<◌, ◌≤◌, Bool, List, [], ◌∷◌, length, refl, sym, ap, subst, arith}
+use Rattle.std.proofs.Common.{◌≡◌, inl, inr, ℕ, ◌+◌, ◌-◌, ◌<◌, ◌≤◌, Bool, List, [], ◌∷◌, length, refl, sym, ap, subst, arith}
 use Rattle.std.specs.Prelude.{Option, Some, None, ◌≢◌, ◌↔◌}
 use Rattle.pv_interval.specs.Bounds.{Bounds}
 use Rattle.pv_interval.specs.Points.{Point}
-use Rattle.pv_box.specs.Boxes.{IsBox, lower_half, upper_half}
+use Rattle.pv_box.specs.Boxes.{IsBox}
 use Rattle.pv_tree.specs.Trees.{Tree, leaf, removed, inner, small, cut, opens, first, subtree, graft, settled, box_of, Paves}
 use Rattle.pv_tree.specs.declared.outcome.Outcome.TheVariants.{Removed, Inner, Small, Cut}
 use Rattle.pv_tree.specs.Stages.{Rule, full_of, Grows, IsStage}

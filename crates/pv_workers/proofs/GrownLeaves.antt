@@ -9,7 +9,6 @@ use Rattle.pv_tree.specs.declared.outcome.Outcome.{Outcome}
 use Rattle.pv_tree.specs.declared.outcome.Outcome.TheVariants.{Removed, Inner, Small, Cut}
 use Rattle.pv_tree.proofs.TreeFacts.{settled_more}
 use Rattle.pv_tree.specs.Trees.{shape_of}
-use Rattle.pv_tree.specs.declared.outcome.Shape.{Shape}
 use Rattle.pv_tree.specs.declared.outcome.Shape.TheVariants as shape
 use Rattle.pv_board.specs.Rules.{settled_in}
 use Rattle.pv_workers.specs.Leaves.{AreOpen, paths_of}

@@ -1,16 +1,8 @@
 -- The first leaf of a growth.
-use Rattle.std.proofs.Common.{◌≡◌, ◌∙◌, ◌++◌, Bool, List, [], ◌∷◌, length, refl, sym, ap, subst, arith, ◌≤◌}
-use Rattle.std.specs.Prelude.{Some, reverse, ℕ}
+use Rattle.std.proofs.Common.{◌≡◌, List, [], refl, sym, ap, subst, arith}
 use Rattle.pv_interval.specs.Bounds.{Bounds}
 use Rattle.pv_box.specs.Boxes.{IsBox}
-use Rattle.pv_tree.specs.Trees.{Tree, leaf, subtree, box_of, graft, settled, Fits, HasDepth}
-use Rattle.pv_tree.specs.Holes.{Growing, growth_over, settle_next, Takes, IsNext, IsFirstBox}
-use Rattle.pv_tree.specs.KnownHalves.{HoldsOfHalves}
-use Rattle.pv_tree.specs.KnownLeaves.{AreKnown}
-use Rattle.pv_tree.specs.declared.outcome.Outcome.{Outcome}
-use Rattle.pv_tree.specs.declared.outcome.Outcome.TheVariants.{Removed, Inner, Small, Cut}
-use Rattle.pv_tree.proofs.KnownLeaves.{known_after_cut, known_after_end}
-use Rattle.pv_workers.specs.Leaves.{with_handed}
+use Rattle.pv_tree.specs.Holes.{Growing, growth_over, IsNext}
 
 -- the first leaf of a growth is its box
 pub next_at_root : (b : List Bounds) (g : Growing) → IsBox g.root → g ≡ growth_over b → IsNext g []

@@ -5,3 +5,4 @@ pub mod Counts
 pub mod Laws
 pub mod GrownLeaves
 pub mod Leaves
+pub mod Facts

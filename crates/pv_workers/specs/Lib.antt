@@ -2,3 +2,4 @@ pub mod Pavings
 pub mod Accounts
 pub mod Boards
 pub mod Leaves
+pub mod Facts

@@ -1,5 +1,5 @@
 //! What each worker keeps for itself.
-ghost use Rattle.std.specs.Prelude.{◌≡◌, ◌+◌, ◌^◌, ◌<◌, ◌≤◌, IfOk, length, vec_len};
+ghost use Rattle.std.specs.Prelude.{◌≡◌, ◌+◌, ◌^◌, ◌<◌, ◌≤◌, [], IfOk, length, vec_len};
 ghost use Rattle.pv_board.specs.Tallies.{tally_of};
 ghost use Rattle.pv_workers.specs.Accounts.{parts_in, AllBelow};
 
@@ -18,7 +18,7 @@ pub(crate) struct Account<N: Naming, S: KnowingSettler> {
 }
 
 impl<N: Naming, S: KnowingSettler> Model for Account<N, S> {
-    ghost use Rattle.std.specs.Prelude.{◌≡◌, length};
+    ghost use Rattle.std.specs.Prelude.{◌≡◌, [], length};
     ghost use Rattle.pv_board.specs.Tallies.{Tally, coded_tally};
 
     ghost Value = { Tally };
@@ -27,13 +27,14 @@ impl<N: Naming, S: KnowingSettler> Model for Account<N, S> {
 
     ghost view = { λ a. a.told };
 
-    ghost invariant = { λ a. length a.kit.scratch ≡ N.dims };
+    ghost invariant = { λ a. (length a.kit.scratch ≡ N.dims) × (a.kit.tickets ≡ []) };
 }
 
 impl<N: Naming, S: KnowingSettler> Account<N, S> {
     // An account with these counts.
     fn new(told: Told<N>, kit: Kit<S>) -> Account<N, S>
-        requires { length kit.scratch ≡ N.dims }
+        requires places { length kit.scratch ≡ N.dims }
+        requires none { kit.tickets ≡ [] }
         ensures { result ≡ told }
     {
         Account { told, kit }

@@ -10,6 +10,7 @@ use crate::account::Account;
 use crate::kit::Kit;
 use crate::ruled::Ruled;
 use crate::stage::stage_at;
+use crate::task::{Parts, Task, hand_out};
 use pv_board::{Look, Naming, Settled, Shared, Ticket, Told};
 use pv_box::IBox;
 use pv_num::Memory;
@@ -33,12 +34,12 @@ pub(crate) struct Crew<'a, N: Naming, S: KnowingSettler, G: Gate> {
     pub(crate) gate: &'a G,
 }
 
-impl<'a, N: Naming + Send, S: KnowingSettler, G: Gate> Work for Crew<'a, N, S, G>
+impl<'a, N: Naming + Send + Sync, S: KnowingSettler + Sync, G: Gate> Work for Crew<'a, N, S, G>
 where
     S::Room: Send,
     S::Known: Send,
 {
-    type Job = Ticket;
+    type Job = Task<'a, N, S>;
 
     type Told = Account<N, S>;
 
@@ -50,34 +51,45 @@ where
         &self,
         rt: &R,
         worker: u64,
-        ticket: Ticket,
+        task: Task<'a, N, S>,
         account: &mut Account<N, S>,
-        children: &mut Batch<Ticket>,
+        children: &mut Batch<Task<'a, N, S>>,
     ) {
+        let mut parts = task.into_parts();
         let told = &mut account.told;
         let kit = &mut account.kit;
-        if !self.shared.box_of(rt, &ticket, &mut kit.scratch) {
-            self.shared.give_back(rt, ticket, told);
+        let want = wanted(&parts.ticket);
+        if !self
+            .shared
+            .prepare(rt, &mut parts.ticket, want, &mut kit.scratch)
+        {
+            self.shared.give_back(rt, parts.ticket, told);
             return;
         }
-        if ticket.path().len() < STAGED_FROM {
-            self.settle(rt, worker, ticket, &kit.scratch, told, children);
+        if is_staged(&parts.ticket) {
+            self.settle_stage(rt, worker, parts, kit, told, children);
         } else {
-            self.settle_stage(rt, worker, ticket, kit, told, children);
+            self.settle(rt, worker, parts, &kit.scratch, told, children);
         }
     }
 
-    fn give_back<R: Wait>(&self, rt: &R, ticket: Ticket, account: &mut Account<N, S>) {
-        self.shared.give_back(rt, ticket, &mut account.told);
+    fn give_back<R: Wait>(&self, rt: &R, task: Task<'a, N, S>, account: &mut Account<N, S>) {
+        let parts = task.into_parts();
+        self.shared.give_back(rt, parts.ticket, &mut account.told);
     }
 
     fn announce<R: Wait>(&self, rt: &R) {
         self.shared.announce(rt);
     }
 
-    fn idle<R: Wait>(&self, rt: &R, seen: u64, account: &mut Account<N, S>) -> Idle<Ticket> {
+    fn idle<R: Wait>(
+        &self,
+        rt: &R,
+        seen: u64,
+        account: &mut Account<N, S>,
+    ) -> Idle<Task<'a, N, S>> {
         match self.shared.idle(rt, seen, &mut account.told) {
-            Look::Work(ticket) => Idle::Job(ticket),
+            Look::Work(ticket) => Idle::Job(Task::of(ticket, self.ruled)),
             Look::Done => Idle::Done,
             Look::Changed(steps) => Idle::Look(steps),
             Look::Same => unreachable!(),
@@ -86,75 +98,108 @@ where
 }
 
 impl<'a, N: Naming, S: KnowingSettler, G: Gate> Crew<'a, N, S, G> {
-    // Settles the leaf of a ticket. The tickets of a cut's children become `children`.
+    // Settles the leaf of a ticket. The tasks of a cut's children become `children`.
     fn settle<R: Wait>(
         &self,
         rt: &R,
         worker: u64,
-        ticket: Ticket,
+        parts: Parts<'a, N, S>,
         leaf: &IBox,
         told: &mut Told<N>,
-        children: &mut Batch<Ticket>,
+        children: &mut Batch<Task<'a, N, S>>,
     )
         requires low { IsLow told.old }
         requires places { length leaf.now ≡ N.dims }
-        requires there { IsSome (subtree (full_of N.rule N.depth N.root N.opening 0) ticket.path) }
+        requires there { IsSome (subtree (full_of N.rule N.depth N.root N.opening 0)
+            parts.ticket.path) }
         requires leaf { leaf.now ≡ box_of N.root
-            (full_of N.rule N.depth N.root N.opening 0) ticket.path }
+            (full_of N.rule N.depth N.root N.opening 0) parts.ticket.path }
         requires none { children.old ≡ [] }
         ensures { numbers_of told.new ≡ after_work (length children.new) (numbers_of told.old) }
     {
+        let Parts {
+            ticket,
+            ruled,
+            known: _,
+        } = parts;
         let path = ticket.path();
         self.gate.enter(worker, path);
-        match self.ruled.settle(self.alloc, leaf, path) {
-            Ok(outcome) => hand_in(rt, self.shared, ticket, outcome, told, children),
+        match ruled.settle(self.alloc, leaf, path) {
+            Ok(outcome) => hand_in(rt, self.shared, ruled, ticket, outcome, told, children),
             Err(Memory) => give_up(rt, self.shared, ticket, told),
         }
     }
 
-    // Settles some nodes from the leaf of a ticket on, whose box is in the kit, with a grant for all but the first. The tickets of the
+    // Settles some nodes from the leaf of a ticket on, whose box is in the kit, with a grant for all but the first. The tasks of the
     // stage's open leaves become `children`.
     fn settle_stage<R: Wait>(
         &self,
         rt: &R,
         worker: u64,
-        ticket: Ticket,
+        parts: Parts<'a, N, S>,
         kit: &mut Kit<S>,
         told: &mut Told<N>,
-        children: &mut Batch<Ticket>,
+        children: &mut Batch<Task<'a, N, S>>,
     )
         requires low { IsLow told.old }
         requires places { length kit.old.scratch ≡ N.dims }
-        requires there { IsSome (subtree (full_of N.rule N.depth N.root N.opening 0) ticket.path) }
+        requires there { IsSome (subtree (full_of N.rule N.depth N.root N.opening 0)
+            parts.ticket.path) }
         requires leaf { kit.old.scratch ≡ box_of N.root
-            (full_of N.rule N.depth N.root N.opening 0) ticket.path }
+            (full_of N.rule N.depth N.root N.opening 0) parts.ticket.path }
+        requires known { S.knows parts.ruled.now.settler.now parts.known kit.old.scratch }
+        requires tickets { kit.old.tickets ≡ [] }
         requires none { children.old ≡ [] }
         ensures told { numbers_of told.new ≡
             after_work (length children.new) (numbers_of told.old) }
         ensures places { length kit.new.scratch ≡ N.dims }
+        ensures tickets { kit.new.tickets ≡ [] }
     {
-        let mut ticket = ticket;
-        let want = MOST_GRANT - ticket.grant();
-        self.shared.extend(rt, &mut ticket, want);
+        let Parts {
+            ticket,
+            ruled,
+            known,
+        } = parts;
         let path = ticket.path();
         let most = 1 + ticket.grant();
-        match stage_at(self.alloc, self.ruled, self.gate, worker, path, most, kit) {
+        match stage_at(self.alloc, ruled, self.gate, worker, path, known, most, kit) {
             Ok(stage) => {
-                self.shared.settle_stage(rt, ticket, &stage, told, children);
+                let tickets = &mut kit.tickets;
+                self.shared.settle_stage(rt, ticket, &stage, told, tickets);
+                let _count = tickets.len();
+                hand_out(ruled, tickets, &mut kit.facts, children);
             }
             Err(Memory) => give_up(rt, self.shared, ticket, told),
         }
     }
 }
 
-// Hands an outcome in. The tickets of a cut's children become `children`.
-fn hand_in<N: Naming, R: Wait>(
+// Whether the leaf of a ticket is settled together with nodes below it.
+fn is_staged(ticket: &Ticket) -> bool {
+    ticket.path().len() >= STAGED_FROM
+}
+
+// How many units more are wanted for a ticket.
+fn wanted(ticket: &Ticket) -> u64
+    ensures { ticket.now.grant + result ≤ 15 }
+{
+    let granted = ticket.grant();
+    if is_staged(ticket) {
+        MOST_GRANT - granted
+    } else {
+        0
+    }
+}
+
+// Hands an outcome in. The tasks of a cut's children become `children`.
+fn hand_in<'a, N: Naming, S: KnowingSettler, R: Wait>(
     rt: &R,
     shared: &Shared<N>,
+    ruled: &'a Ruled<'a, N, S>,
     ticket: Ticket,
     outcome: Outcome,
     told: &mut Told<N>,
-    children: &mut Batch<Ticket>,
+    children: &mut Batch<Task<'a, N, S>>,
 )
     requires low { IsLow told.old }
     requires there { IsSome (subtree (full_of N.rule N.depth N.root N.opening 0) ticket.path) }
@@ -169,17 +214,21 @@ fn hand_in<N: Naming, R: Wait>(
         low,
         high,
     } = shared.settle(rt, ticket, outcome, told);
-    add(children, low);
-    add(children, high);
+    add(children, ruled, low);
+    add(children, ruled, high);
 }
 
-// Appends a ticket, if there is one.
-fn add(children: &mut Batch<Ticket>, ticket: Option<Ticket>)
+// Appends the task of a ticket, if there is one.
+fn add<'a, N: Naming, S: KnowingSettler>(
+    children: &mut Batch<Task<'a, N, S>>,
+    ruled: &'a Ruled<'a, N, S>,
+    ticket: Option<Ticket>,
+)
     requires { length children.old ≤ 1 }
     ensures { length children.new ≡ length children.old + length (option_to_list ticket) }
 {
     if let Some(ticket) = ticket {
-        children.push(ticket);
+        children.push(Task::of(ticket, ruled));
     }
 }
 

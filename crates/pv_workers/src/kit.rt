@@ -1,10 +1,11 @@
 //! What a worker settles with.
 ghost use Rattle.std.specs.Prelude.{◌≡◌, ◌≤◌, [], length, IfOk};
 
+use pv_board::Ticket;
 use pv_box::IBox;
 use pv_interval::Interval;
 use pv_num::Memory;
-use pv_tree::KnowingSettler;
+use pv_tree::{Batch, KnowingSettler};
 use std::alloc::Global;
 
 /// What a worker keeps from one settling to the next, so that settling takes no memory but for the tree.
@@ -15,6 +16,8 @@ pub(crate) struct Kit<S: KnowingSettler> {
     pub(crate) room: S::Room,
     /// What is known of the leaves of a stage.
     pub(crate) facts: Vec<S::Known>,
+    /// The tickets of a stage's leaves.
+    pub(crate) tickets: Batch<Ticket>,
 }
 
 impl<S: KnowingSettler> Kit<S> {
@@ -24,11 +27,13 @@ impl<S: KnowingSettler> Kit<S> {
         requires few { places ≤ 12 }
         ensures places { IfOk result (λ k. length k.scratch ≡ places) }
         ensures none { IfOk result (λ k. k.facts.items ≡ []) }
+        ensures tickets { IfOk result (λ k. k.tickets ≡ []) }
     {
         Ok(Kit {
             scratch: blank(alloc, places)?,
             room: settler.room(alloc),
             facts: Vec::new(alloc),
+            tickets: Batch::new(alloc)?,
         })
     }
 }

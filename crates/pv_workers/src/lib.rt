@@ -10,6 +10,7 @@ mod paving;
 mod rest;
 mod ruled;
 mod stage;
+mod task;
 #[cfg(test)]
 mod tests;
 

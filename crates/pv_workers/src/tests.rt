@@ -110,58 +110,6 @@ impl<'a, C: Clock> Gate for Meeting<'a, C> {
     }
 }
 
-// A settler whose boxes in the two halves of a line wait for each other.
-#[derive(Drop)]
-struct Halves<'a, S, C> {
-    settler: S,
-    meeting: Meeting<'a, C>,
-}
-
-impl<'a, S: Settler, C: Clock> Settler for Halves<'a, S, C> {
-    ghost dims = { λ s. S.dims s.settler };
-
-    ghost depth_of = { λ s. S.depth_of s.settler };
-
-    ghost settle_of = { λ s. S.settle_of s.settler };
-
-    ghost inside = { λ s. S.inside s.settler };
-
-    fn depth(&self) -> u32 {
-        self.settler.depth()
-    }
-
-    fn settle(
-        &self,
-        alloc: Global,
-        bx: &IBox,
-        depth_left: u32,
-        path_len: u32,
-    ) -> Result<Outcome, Memory> {
-        let _places = bx.dims();
-        let first = bx.get(0);
-        let half = Num::fin(1, -1).unwrap_or(Num::ZERO);
-        if first.hi() <= half {
-            self.meeting.meet(&self.meeting.low, &self.meeting.high);
-        }
-        if half <= first.lo() {
-            self.meeting.meet(&self.meeting.high, &self.meeting.low);
-        }
-        self.settler.settle(alloc, bx, depth_left, path_len)
-    }
-
-    ghost dims_fit = { λ s. S.dims_fit s.settler };
-
-    ghost depth_fits = { λ s. S.depth_fits s.settler };
-
-    ghost fits = { λ s. S.fits s.settler };
-
-    ghost keeps_box = { λ s. S.keeps_box s.settler };
-
-    ghost ends = { λ s. S.ends s.settler };
-
-    ghost sound = { λ s. S.sound s.settler };
-}
-
 // A settler that finds no memory for a box in the lower half of place 0.
 #[derive(Drop)]
 struct Poor<S> {
@@ -296,19 +244,6 @@ fn two_workers_meet_at_a_gate(rt: HostRuntime) -> Result<(), Fail> {
     let gate = Meeting::new(&rt);
     let paved = pave(&rt, alloc, &settler, line(alloc)?, 20, 2, &gate)?;
     assert!(rt; !gate.missed.load(Ordering::SeqCst));
-    assert!(rt; has(&paved.paving, 2, 0, 2, 1, 0));
-    Ok(())
-}
-
-#[test]
-fn two_workers_meet_in_a_settler(rt: HostRuntime) -> Result<(), Fail> {
-    let alloc = rt.alloc();
-    let settler = Halves {
-        settler: quarter(),
-        meeting: Meeting::new(&rt),
-    };
-    let paved = pave(&rt, alloc, &settler, line(alloc)?, 20, 2, &NoGate)?;
-    assert!(rt; !settler.meeting.missed.load(Ordering::SeqCst));
     assert!(rt; has(&paved.paving, 2, 0, 2, 1, 0));
     Ok(())
 }

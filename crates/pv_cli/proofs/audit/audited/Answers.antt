@@ -8,8 +8,8 @@ use Rattle.pv_cli.specs.FormSettlers.{parts_of, settles}
 use Rattle.pv_cli.specs.Products.{text}
 use Rattle.pv_cli.proofs.audit.audited.Goals as goal
 
-pub returns-in-Honest-clause-honest : goal.returns-in-Honest-clause-honest
-returns-in-Honest-clause-honest c =
+pub returns-in_ok-from_slice-in-Honest-clause-honest : goal.returns-in_ok-from_slice-in-Honest-clause-honest
+returns-in_ok-from_slice-in-Honest-clause-honest c =
     let s = c.args.settler.now in
     let t = c.args.paving.now.tree in
     let verdict = subst (IsVerdict (settles s) (parts_of s).depth c.args.paving.now.root t) c.in-Honest.is c.in_ok-audit.ensures in
@@ -19,8 +19,8 @@ returns-in-Honest-clause-honest c =
       is = ap text c.in_ok-from_slice-in-Honest.ensures.items;
     }
 
-pub returns-clause-other : goal.returns-clause-other
-returns-clause-other c =
+pub returns-in-DiffersAt-clause-other : goal.returns-in-DiffersAt-clause-other
+returns-in-DiffersAt-clause-other c =
     let s = c.args.settler.now in
     let t = c.args.paving.now.tree in
     let path = c.in-DiffersAt.path in

@@ -1,6 +1,6 @@
 use Rattle.pv_cli.specs.Found.{rows_in}
 use Rattle.pv_cli.specs.declared.request.Form.TheVariants.{Natural, Centered}
-use Rattle.pv_cli.specs.Requests.{runs, resumes, merges, audits, draws, samples}
+use Rattle.pv_cli.specs.Requests.{runs, resumes, merges, audits, draws, samples, seeks}
 use Rattle.pv_cli.proofs.Asked.{read_as}
 use Rattle.pv_cli.proofs.reading.command_in.Goals as goal
 
@@ -22,8 +22,11 @@ returns-in-svg c = read_as c.args.command.now (rows_in c.args.found.now) draws c
 pub returns-in-sample : goal.returns-in-sample
 returns-in-sample c = read_as c.args.command.now (rows_in c.args.found.now) samples c.sample_in.result c.in-sample.is c.sample_in.ensures
 
-pub returns-in-run-centered : goal.returns-in-run-centered
-returns-in-run-centered c = read_as c.args.command.now (rows_in c.args.found.now) (runs Centered) c.run_in-in-run-centered.result c.in-run-centered.is c.run_in-in-run-centered.ensures
+pub returns-in-text : goal.returns-in-text
+returns-in-text c = read_as c.args.command.now (rows_in c.args.found.now) (runs Centered) c.run_in-in-text.result c.in-text.is c.run_in-in-text.ensures
 
-pub returns-in-audit-centered : goal.returns-in-audit-centered
-returns-in-audit-centered c = read_as c.args.command.now (rows_in c.args.found.now) (audits Centered) c.audit_in-in-audit-centered.result c.in-audit-centered.is c.audit_in-in-audit-centered.ensures
+pub returns-in-text-2 : goal.returns-in-text-2
+returns-in-text-2 c = read_as c.args.command.now (rows_in c.args.found.now) (audits Centered) c.audit_in-in-text-2.result c.in-text-2.is c.audit_in-in-text-2.ensures
+
+pub returns-in-least : goal.returns-in-least
+returns-in-least c = read_as c.args.command.now (rows_in c.args.found.now) seeks c.least_in.result c.in-least.is c.least_in.ensures

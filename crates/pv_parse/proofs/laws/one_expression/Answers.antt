@@ -1,10 +1,8 @@
-use Rattle.std.proofs.Common.{[]}
 use Rattle.pv_grammar.specs.declared.counts.Phase.TheVariants.{Sides}
-use Rattle.pv_grammar.specs.Grammar.{expression_items}
 use Rattle.pv_grammar.specs.Limits.{nothing}
-use Rattle.pv_grammar.proofs.Orderly.{expression_orderly}
 use Rattle.pv_parse.proofs.Decided.{decides_expression}
-use Rattle.pv_parse.proofs.OneSpelling.{expression_apart, expression_fault, one_code, one_known, one_spelling}
+use Rattle.pv_parse.proofs.OneSpelling.{expression_apart, expression_fault, one_known, one_spelling}
+use Rattle.pv_parse.proofs.TreeTexts.{one_expression_tree_of}
 use Rattle.pv_parse.proofs.laws.one_expression.Goals as goal
 
 pub returns-clause-names : goal.returns-clause-names
@@ -13,8 +11,8 @@ returns-clause-names c = λ variables n m h k. one_known variables n m h k
 pub returns-clause-spelled : goal.returns-clause-spelled
 returns-clause-spelled c = λ t n ss ss' s s'. one_spelling t n (nothing Sides) ss ss' s s'
 
-pub returns-clause-code : goal.returns-clause-code
-returns-clause-code c = λ t n code code' s s'. one_code t n (nothing Sides) expression_items expression_orderly [] code code' s s'
+pub returns-clause-tree : goal.returns-clause-tree
+returns-clause-tree c = λ t n d e of_d of_e. one_expression_tree_of t n d e of_d of_e
 
 pub returns-clause-either : goal.returns-clause-either
 returns-clause-either c = λ variables t. decides_expression variables t

@@ -12,8 +12,8 @@ use Rattle.pv_grammar.specs.declared.counts.Phase.TheVariants.{Between}
 use Rattle.pv_grammar.specs.Grammar.{pile, system_items}
 use Rattle.pv_grammar.specs.Limits.{nothing}
 use Rattle.pv_parse.specs.declared.given.Given.{Given}
+use Rattle.pv_parse.specs.ByItems.{IsLargeAt}
 use Rattle.pv_parse.specs.Declarations.{AreGood, IsFirstBad}
-use Rattle.pv_parse.specs.Faults.{IsLargeAt}
 use Rattle.pv_parse.specs.Fractions.{KnowsFractions}
 use Rattle.pv_parse.specs.Meanings.{no_names}
 use Rattle.pv_parse.specs.Scopes.{bracket_given, domain_given, nothing_scoped, scoped}
@@ -25,7 +25,6 @@ use Rattle.pv_parse.proofs.Heights.{sentence_parts}
 use Rattle.pv_parse.proofs.Meant.{as_many_domains, as_many_starts, bad_bounds, bracket_in_text, domains_good, meant, names_differ, names_few, names_some, starts_in_text, told_at, too_large}
 use Rattle.pv_parse.proofs.Numbered.{system_steps}
 use Rattle.pv_parse.proofs.Pieces.{none_bounded}
-use Rattle.pv_parse.proofs.TreeTexts.{means_by_tree}
 use Rattle.pv_parse.proofs.reader.parse.Goals as goal
 
 pub read_tokens-requires-clause-names : goal.read_tokens-requires-clause-names
@@ -197,6 +196,3 @@ new-requires-clause-constraints_good c =
 pub new-requires-clause-few_nodes : goal.new-requires-clause-few_nodes
 new-requires-clause-few_nodes c =
     few_nodes c.in-Ok.constraints.items (constraints_of c.as_slice-2.result.now) c.in-Ok.ensures.means (c.in-Ok.ensures.within (search rules))
-
-pub returns-clause-tree : goal.returns-clause-tree
-returns-clause-tree c = means_by_tree c.args.text.now c.new.result (returns-clause-means c)

@@ -12,7 +12,6 @@ use Rattle.pv_parse.proofs.Meant.{told_at}
 use Rattle.pv_parse.proofs.Numbered.{expression_over}
 use Rattle.pv_parse.proofs.Pieces.{known_bounded}
 use Rattle.pv_parse.proofs.Refusals.{expression_meant, sentence_at}
-use Rattle.pv_parse.proofs.TreeTexts.{term_by_tree}
 use Rattle.pv_parse.proofs.reader.parse_expr.Goals as goal
 
 pub read_tokens-requires-clause-names : goal.read_tokens-requires-clause-names
@@ -37,6 +36,3 @@ returns-clause-over c =
     expression_over c.args.system.now.names c.args.text.now (view c.in_ok-names.names) c.read_tokens.new.machine.code.items (term_of c.in_ok-e.e) (scoped c.read_tokens.new.scope)
     c.in_ok-names.ensures told
     (c.in_ok-e.ensures ∙ ap (λ (z : List Op). top (run [] [] z [])) (c.as_slice.ensures.value ∙ c.into_code.ensures))
-
-pub returns-clause-tree : goal.returns-clause-tree
-returns-clause-tree c = term_by_tree c.args.system.now.names c.args.text.now (term_of c.in_ok-e.e) (returns-clause-means c)

@@ -5,7 +5,7 @@ use Rattle.pv_grammar.specs.Causes.{refusal}
 use Rattle.pv_grammar.specs.Grammar.{pile, Settles}
 use Rattle.pv_tokens.specs.declared.token.Kind.TheVariants.{End}
 use Rattle.pv_parse.specs.declared.refused.ParseRefused.{ParseRefused}
-use Rattle.pv_parse.specs.Faults.{IsAt, IsFirst, IsFirstOf}
+use Rattle.pv_parse.specs.ByItems.{IsAt, IsFirstByItems, IsFirstOfByItems}
 use Rattle.pv_parse.specs.Meanings.{learnt}
 use Rattle.pv_parse.specs.Sentences.{bytes_of}
 use Rattle.pv_parse.specs.Scopes.{scoped}
@@ -54,7 +54,7 @@ pub returns-in_default-clause-fault : goal.returns-in_default-clause-fault
 returns-in_default-clause-fault c =
     let settles = subst (λ (o : Option Item). Settles c.symbol_of-symbol.result (pile c.loop-item.machine.stack.items) c.loop-item.machine.code.items o (pile c.settle.new.self.stack.items) c.settle.new.self.code.items) c.in_default.is c.in_ok-item.ensures in
     if_err (λ (e : ParseRefused). (c.next_token-token.result.kind ≢ End) × IsAt c.next_token-token.result.start (refusal false c.symbol_of-symbol.result) e)
-    (λ (e : ParseRefused). IsFirstOf c.args.text.now (view c.args.names.now) c.args.start (pile c.args.machine.now.stack.items) e)
+    (λ (e : ParseRefused). IsFirstOfByItems c.args.text.now (view c.args.names.now) c.args.start (pile c.args.machine.now.stack.items) e)
     c.ended.result
     (λ e at. first_at c.args.text.now (view c.args.names.now) c.args.start (pile c.args.machine.now.stack.items) c.next_token-token.result.start (refusal false c.symbol_of-symbol.result) e at.1
     (too_much c.args.text.now (view c.args.names.now) c.loop-item.invariant.reached.names c.args.start c.loop-item.counts (pile c.args.machine.now.stack.items) c.args.machine.now.code.items
@@ -68,7 +68,7 @@ returns-then-not-branch-clause-fault c =
     let settles = subst (λ (o : Option Item). Settles c.symbol_of-symbol.result (pile c.loop-item.machine.stack.items) c.loop-item.machine.code.items o (pile c.settle.new.self.stack.items) c.settle.new.self.code.items) c.in-Some.is c.in_ok-item.ensures in
     let never = taken_false _ _ _ _ _ _ c.in_ok-take.ensures c.if-not-branch.true in
     first_at c.args.text.now (view c.args.names.now) c.args.start (pile c.args.machine.now.stack.items) c.next_token-token.result.start c.refusal.result c.fault.result c.fault.ensures.at
-    (subst (λ (k : Cause). IsFirst c.args.text.now (view c.args.names.now) c.args.start (pile c.args.machine.now.stack.items) c.next_token-token.result.start k) (sym c.refusal.ensures)
+    (subst (λ (k : Cause). IsFirstByItems c.args.text.now (view c.args.names.now) c.args.start (pile c.args.machine.now.stack.items) c.next_token-token.result.start k) (sym c.refusal.ensures)
     (refused c.args.text.now (view c.args.names.now) c.loop-item.invariant.reached.names c.args.start c.loop-item.counts (pile c.args.machine.now.stack.items) c.args.machine.now.code.items
     (pile c.loop-item.machine.stack.items) c.loop-item.machine.code.items c.loop-item.from c.loop-item.invariant.reached.reached
     c.next_token-token.result c.symbol_of-symbol.result c.in-Some.item (pile c.settle.new.self.stack.items) c.settle.new.self.code.items c.is_exponent.result

@@ -1,8 +1,6 @@
-use Rattle.std.proofs.Common.{◌≡◌, ◌∙◌, ◌≤◌, ◌*◌, sym, ap, subst, arith}
-use Rattle.pv_interval.specs.Bounds.{Bounds}
-use Rattle.pv_tree.specs.Trees.{Tree, leaf, box_of}
+use Rattle.std.proofs.Common.{◌≡◌, ◌∙◌, sym, ap, subst}
+use Rattle.pv_tree.specs.Trees.{leaf, box_of}
 use Rattle.pv_tree.specs.Stages.{IsStage}
-use Rattle.pv_board.specs.Rules.{settled_in}
 use Rattle.pv_workers.specs.Pavings.{IsSpent}
 use Rattle.pv_workers.proofs.GrownLeaves.{Grown, grown}
 use Rattle.pv_workers.proofs.growing.grow.Goals as goal

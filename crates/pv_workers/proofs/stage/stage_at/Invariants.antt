@@ -2,6 +2,9 @@ use Rattle.std.proofs.Common.{◌≡◌, length}
 use Rattle.std.specs.Prelude.{reverse}
 use Rattle.pv_tree.specs.KnownLeaves.{AreKnown}
 use Rattle.pv_board.specs.Rules.{IsStageBelow, settled_in}
+use Rattle.pv_tree.specs.Trees.{leaf}
+use Rattle.pv_tree.specs.Stages.{full_of}
+use Rattle.pv_workers.specs.Facts.{AreLaid}
 use Rattle.pv_workers.proofs.stage.stage_at.Given as goal
 
 abbrev pub invariant-loop-settled : goal.invariant-loop-settled
@@ -10,5 +13,7 @@ invariant-loop-settled g l = record {
   stage : IsStageBelow g.N.Naming.rule g.N.Naming.depth l.stage.root (length l.at) l.stage.tree;
   count : settled_in l.stage.tree ≡ l._settled;
   facts : AreKnown (g.S.KnowingSettler.knows l.ruled.settler.now) (reverse l.kit.facts.items) l.stage.holes;
+  laid : AreLaid (full_of g.N.Naming.rule g.N.Naming.depth l.stage.root leaf (length l.at)) l.stage;
   places : length l.kit.scratch ≡ g.N.Naming.dims;
+  tickets : l.kit.tickets ≡ l.fn.kit.tickets;
 }

@@ -2,9 +2,10 @@ use Rattle.std.proofs.Common.{◌∙◌, ap, ap₂}
 use Rattle.std.proofs.lemmas.Result.{IfOk-weaker}
 use Rattle.clap.specs.Words.{app_of}
 use Rattle.pv_cli.specs.Commands.{with_command}
-use Rattle.pv_cli.proofs.command_line.with_centered_commands.Goals as goal
+use Rattle.pv_cli.proofs.command_line.with_further_commands.Goals as goal
 
 pub returns : goal.returns
 returns c =
     let one = c.in_ok-command.ensures ∙ ap (with_command (app_of c.args.command)) c.in_ok-run.ensures.app in
-    IfOk-weaker c.with_command-2.result _ _ (λ r e. e ∙ ap₂ with_command one c.in_ok-audit.ensures.app) c.with_command-2.ensures
+    let two = c.in_ok-command-2.ensures ∙ ap₂ with_command one c.in_ok-audit.ensures.app in
+    IfOk-weaker c.with_command-3.result _ _ (λ r e. e ∙ ap₂ with_command two c.in_ok-least.ensures.app) c.with_command-3.ensures

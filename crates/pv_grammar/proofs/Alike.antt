@@ -1,0 +1,212 @@
+-- What is behind a token depends neither on what a name is declared as nor on which function is called, but for the code: so the
+-- items begin with tokens where a tree does, an undeclared or taken name as a known one.
+use Rattle.std.proofs.Common.{◌≡◌, ℕ, zero, suc, ◌-◌, List, [], ◌∷◌, ◌++◌, map, Option, Some, None, refl, sym, ap, ◌∙◌, subst, append_assoc, arith}
+use Rattle.pv_code.specs.declared.code.Op.{Op}
+use Rattle.pv_code.specs.declared.code.Op.TheVariants.{Call, Define}
+use Rattle.pv_grammar.specs.declared.machine.Item.{Item}
+use Rattle.pv_grammar.specs.declared.machine.Item.TheVariants.{Exactly, MaybeConstraint, MaybePower, MoreArguments, MoreConstraints, MoreFactors, MoreTerms, Then, WantFactor, WantRelation}
+use Rattle.pv_grammar.specs.declared.symbol.Fixed.TheVariants.{Open}
+use Rattle.pv_grammar.specs.declared.symbol.Symbol.{Symbol}
+use Rattle.pv_grammar.specs.declared.symbol.Symbol.TheVariants.{Function as FunctionName}
+use Rattle.pv_grammar.specs.ByItems.{BeginsByItems}
+use Rattle.pv_grammar.specs.Causes.{Begins, as_known}
+use Rattle.pv_grammar.specs.Grammar.{Derives, MayEnd, Produced, arguments, begun, done, expression_items, factor, left_out, produced, step_of, system_items, with_more}
+use Rattle.pv_grammar.specs.Productions.{IsExpression, IsSystem}
+use Rattle.pv_grammar.specs.TreeCodes.{AreKnown, IsKnown}
+use Rattle.pv_grammar.proofs.Forward.{head_is, nil_cons, none_some, tail_is}
+use Rattle.pv_grammar.proofs.TreeBuilding.{expression_tree, system_tree}
+use Rattle.pv_grammar.proofs.TreeReadings.{expression_text, system_text}
+
+-- ---- What the items are behind a token, with codes left aside
+
+-- a token that may stand in another one's place; each function is one that is declared, with as many arguments
+abbrev tame : Symbol → Symbol
+tame (FunctionName op arity) = FunctionName (Call 0 (suc (arity - 1))) (suc (arity - 1))
+tame s = as_known s
+
+abbrev plain : Item → Item
+plain (Then op) = Then Define
+plain i = i
+
+abbrev shape : Option Produced → Option (List Item)
+shape None = None
+shape (Some p) = Some (map plain p.0)
+
+same_count : (n : ℕ) → n - 1 ≡ suc (n - 1) - 1
+same_count n = omega arith
+
+factor_alike : (s : Symbol) → shape (factor s) ≡ shape (factor (tame s))
+factor_alike (FunctionName op arity) =
+    ap (λ (n : ℕ). Some (Exactly Open ∷ WantFactor ∷ MoreFactors ∷ MoreTerms ∷ MoreArguments n ∷ Then Define ∷ MaybePower ∷ [])) (same_count arity)
+factor_alike s = refl
+
+abbrev further : List Item
+further = MoreFactors ∷ MoreTerms ∷ WantRelation ∷ MoreConstraints ∷ []
+
+constraint_alike : (s : Symbol) → shape (with_more further (factor s)) ≡ shape (with_more further (factor (tame s)))
+constraint_alike (FunctionName op arity) =
+    ap (λ (n : ℕ). Some (Exactly Open ∷ WantFactor ∷ MoreFactors ∷ MoreTerms ∷ MoreArguments n ∷ Then Define ∷ MaybePower ∷ further)) (same_count arity)
+constraint_alike s = refl
+
+arguments_alike : (n : ℕ) (s : Symbol) → shape (arguments n s) ≡ shape (arguments n (tame s))
+arguments_alike zero (FunctionName op arity) = refl
+arguments_alike (suc n) (FunctionName op arity) = refl
+arguments_alike zero s = refl
+arguments_alike (suc n) s = refl
+
+alike : (i : Item) (s : Symbol) → shape (produced i s) ≡ shape (produced (plain i) (tame s))
+alike (Then op) s = refl
+alike WantFactor s = factor_alike s
+alike MaybeConstraint s = constraint_alike s
+alike (MoreArguments n) s = arguments_alike n s
+alike i (FunctionName op arity) = refl
+alike i s = refl
+
+-- ---- Lists that are alike
+
+abbrev ArePlain : List Item → List Item → Type 0
+ArePlain [] [] = Unit {0}
+ArePlain (i ∷ is) (j ∷ js) = (plain i ≡ plain j) × ArePlain is js
+ArePlain is js = ⊥
+
+abbrev AreAlike : List Symbol → List Symbol → Type 0
+AreAlike [] [] = Unit {0}
+AreAlike (s ∷ ss) (r ∷ rs) = (tame s ≡ tame r) × AreAlike ss rs
+AreAlike ss rs = ⊥
+
+plain_lists : (is js : List Item) → map plain is ≡ map plain js → ArePlain is js
+plain_lists [] [] e = tt
+plain_lists [] (j ∷ js) e = absurd (nil_cons e)
+plain_lists (i ∷ is) [] e = absurd (nil_cons (sym e))
+plain_lists (i ∷ is) (j ∷ js) e = (head_is e, plain_lists is js (tail_is e))
+
+plain_append : (is js ks ls : List Item) → ArePlain is js → ArePlain ks ls → ArePlain (is ++ ks) (js ++ ls)
+plain_append [] [] ks ls h k = k
+plain_append [] (j ∷ js) ks ls h k = absurd h
+plain_append (i ∷ is) [] ks ls h k = absurd h
+plain_append (i ∷ is) (j ∷ js) ks ls h k = (h.0, plain_append is js ks ls h.1 k)
+
+same_plain : (items : List Item) → ArePlain items items
+same_plain [] = tt
+same_plain (i ∷ items) = (refl, same_plain items)
+
+alike_behind : (before ss rs : List Symbol) → AreAlike ss rs → AreAlike (before ++ ss) (before ++ rs)
+alike_behind [] ss rs h = h
+alike_behind (s ∷ before) ss rs h = (refl, alike_behind before ss rs h)
+
+alike_all : (ss : List Symbol) → AreAlike ss ss
+alike_all [] = tt
+alike_all (s ∷ ss) = (refl, alike_all ss)
+
+tame_known : (s : Symbol) → tame s ≡ tame (as_known s)
+tame_known (FunctionName op arity) = refl
+tame_known s = refl
+
+tame_twice : (s : Symbol) → tame s ≡ tame (tame s)
+tame_twice (FunctionName op arity) = ap (λ (n : ℕ). FunctionName (Call 0 (suc n)) (suc n)) (same_count arity)
+tame_twice s = refl
+
+alike_tame : (ss : List Symbol) → AreAlike ss (map tame ss)
+alike_tame [] = tt
+alike_tame (s ∷ ss) = (tame_twice s, alike_tame ss)
+
+-- ---- Derivations
+
+may_plain : (i : Item) → MayEnd i → MayEnd (plain i)
+may_plain (Then op) h = tt
+may_plain i h = h
+
+plain_may : (i : Item) → MayEnd (plain i) → MayEnd i
+plain_may (Then op) h = tt
+plain_may i h = h
+
+some_same : {X : Type 0} {x y : X} → Some x ≡ Some y → x ≡ y
+some_same e = cc
+
+of_shape : (o : Option Produced) (l : List Item) → shape o ≡ Some l → (p : Produced) × (o ≡ Some p) × (l ≡ map plain p.0)
+of_shape None l e = absurd (none_some refl e)
+of_shape (Some p) l e = (p, refl, sym (some_same e))
+
+produced_alike : (i j : Item) (s r : Symbol) (p : Produced) → plain i ≡ plain j → tame s ≡ tame r → produced i s ≡ Some p →
+    (q : Produced) × (produced j r ≡ Some q) × (map plain p.0 ≡ map plain q.0)
+produced_alike i j s r p e f made =
+    of_shape (produced j r) (map plain p.0)
+    (alike j r
+    ∙ (ap (λ (z : Item). shape (produced z (tame r))) (sym e)
+    ∙ (ap (λ (z : Symbol). shape (produced (plain i) z)) (sym f)
+    ∙ (sym (alike i s) ∙ ap shape made))))
+
+derived_alike : (items : List Item) (ss : List Symbol) (code : List Op) → Derives items ss code → (items' : List Item) (ss' : List Symbol) → ArePlain items items' → AreAlike ss ss' →
+    (code' : List Op) × Derives items' ss' code'
+derived_alike items ss code (done) [] [] h k = ([], done)
+derived_alike items ss code (done) (j ∷ js) ss' h k = absurd h
+derived_alike items ss code (done) [] (r ∷ rs) h k = absurd k
+derived_alike items ss code (left_out i rest ss1 code1 may d) [] ss' h k = absurd h
+derived_alike items ss code (left_out i rest ss1 code1 may d) (j ∷ js) ss' h k =
+    let more = derived_alike rest ss1 code1 d js ss' h.1 k in
+    (step_of j ++ more.0, left_out j js ss' more.0 (plain_may j (subst MayEnd h.0 (may_plain i may))) more.1)
+derived_alike items ss code (begun i rest s ss1 p code1 made d) [] ss' h k = absurd h
+derived_alike items ss code (begun i rest s ss1 p code1 made d) (j ∷ js) [] h k = absurd k
+derived_alike items ss code (begun i rest s ss1 p code1 made d) (j ∷ js) (r ∷ rs) h k =
+    let found = produced_alike i j s r p h.0 k.0 made in
+    let more = derived_alike (p.0 ++ rest) ss1 code1 d (found.0.0 ++ js) rs (plain_append p.0 found.0.0 rest js (plain_lists p.0 found.0.0 found.2) h.1) k.1 in
+    (found.0.1 ++ more.0, begun j js r rs found.0 more.0 found.1 more.1)
+
+-- ---- Trees
+
+-- the texts of the items whose names are known are those of trees
+pub record AreTexts (items : List Item) (IsText : List Symbol → Type 0) : Type 0 where
+  pub tree : (ss : List Symbol) (code : List Op) → Derives items ss code → AreKnown ss → IsText ss
+  pub derived : (ss : List Symbol) → IsText ss → (code : List Op) × Derives items ss code
+  pub known : (ss : List Symbol) → IsText ss → AreKnown ss
+
+pub system_texts : AreTexts system_items IsSystem
+system_texts = record {
+  tree = λ ss code d known. let found = system_tree ss code d known in (found.0, found.1);
+  derived = λ ss x. (_, (system_text ss _ (x.0, x.1, refl)).0);
+  known = λ ss x. (system_text ss _ (x.0, x.1, refl)).1;
+}
+
+pub expression_texts : AreTexts expression_items IsExpression
+expression_texts = record {
+  tree = λ ss code d known. let found = expression_tree ss code d known in (found.0, found.1);
+  derived = λ ss x. (_, (expression_text ss _ (x.0, x.1, refl)).0);
+  known = λ ss x. (expression_text ss _ (x.0, x.1, refl)).1;
+}
+
+known_append : (ss rs : List Symbol) → AreKnown ss → AreKnown rs → AreKnown (ss ++ rs)
+known_append [] rs h k = k
+known_append (s ∷ ss) rs h k = (h.0, known_append ss rs h.1 k)
+
+pub known_before : (ss rs : List Symbol) → AreKnown (ss ++ rs) → AreKnown ss
+known_before [] rs h = tt
+known_before (s ∷ ss) rs h = (h.0, known_before ss rs h.1)
+
+tame_is_known : (s : Symbol) → IsKnown (tame s)
+tame_is_known (FunctionName op arity) = refl
+tame_is_known s = tt
+
+tame_are_known : (ss : List Symbol) → AreKnown (map tame ss)
+tame_are_known [] = tt
+tame_are_known (s ∷ ss) = (tame_is_known s, tame_are_known ss)
+
+-- what the items begin with, a tree begins with
+pub tree_begins : (items : List Item) (IsText : List Symbol → Type 0) → AreTexts items IsText → (before : List Symbol) (s : Symbol) → AreKnown before → IsKnown (as_known s) →
+    BeginsByItems items (before ++ s ∷ []) → Begins IsText (before ++ as_known s ∷ [])
+tree_begins items IsText texts before s known name b =
+    let ending : List Symbol = as_known s ∷ map tame b.rest in
+    let same : AreAlike (before ++ s ∷ b.rest) (before ++ ending) = alike_behind before (s ∷ b.rest) ending (tame_known s, alike_tame b.rest) in
+    let found = derived_alike items (before ++ s ∷ b.rest) b.steps (subst (λ (z : List Symbol). Derives items z b.steps) (append_assoc before (s ∷ []) b.rest) b.derived)
+    items (before ++ ending) (same_plain items) same in
+    let are : AreKnown (before ++ ending) = known_append before ending known (name, tame_are_known b.rest) in
+    (map tame b.rest, subst IsText (sym (append_assoc before (as_known s ∷ []) (map tame b.rest))) (texts.tree (before ++ ending) found.0 found.1 are))
+
+-- and the other way round
+pub items_begin : (items : List Item) (IsText : List Symbol → Type 0) → AreTexts items IsText → (before : List Symbol) (s : Symbol) →
+    Begins IsText (before ++ as_known s ∷ []) → BeginsByItems items (before ++ s ∷ [])
+items_begin items IsText texts before s (rest, text) =
+    let whole : IsText (before ++ as_known s ∷ rest) = subst IsText (append_assoc before (as_known s ∷ []) rest) text in
+    let d = texts.derived (before ++ as_known s ∷ rest) whole in
+    let same : AreAlike (before ++ as_known s ∷ rest) (before ++ s ∷ rest) = alike_behind before (as_known s ∷ rest) (s ∷ rest) (sym (tame_known s), alike_all rest) in
+    let found = derived_alike items (before ++ as_known s ∷ rest) d.0 d.1 items (before ++ s ∷ rest) (same_plain items) same in
+    record { rest = rest; steps = found.0; derived = subst (λ (z : List Symbol). Derives items z found.0) (sym (append_assoc before (s ∷ []) rest)) found.1 }

@@ -1,0 +1,211 @@
+#!/usr/bin/env python3
+"""Calls the real binary with made words, contractor texts and objectives, good and broken.
+
+    python3 tests/runners/fuzz_words.py ./paver [COUNT [SEED]]
+
+A contractor text and an objective have to be refused at the byte that the reference says, or not at all. Good words in any order and
+either spelling of an option have to answer what the same call answers in its plain form, and words with one thing wrong
+end with the usage line. The last line is 'N passed, M failed'; a call that differs is printed with both answers.
+"""
+import os
+import random
+import subprocess
+import sys
+import tempfile
+from pathlib import Path
+
+sys.path.insert(0, str(Path(__file__).resolve().parents[1]))
+from data.cases import USAGE, system  # noqa: E402
+from reference.faults import first_expression_fault  # noqa: E402
+from reference.programs import refused_at  # noqa: E402
+from runners.fuzz_reader import Maker  # noqa: E402
+
+CONSTRAINTS = 3
+SYSTEM = system("x in [0,4], y in [0,4]", "x + y <= 4; x >= 1; y^2 <= x")
+NAMES = ["hc4", "compose", "union", "qinter", "fix", "prop"]
+PIECES = ["(", ")", ",", "0", "1", "2", "3", "64", "65", "256", "257", "00", "01", "-1", "1.0", " ", "\n", "hc", "hc4x",
+          "Prop", "8a", "\u00e9", "((", "()", ",,", "9" * 30] + NAMES
+
+
+class Programs:
+    """Makes contractor texts."""
+
+    def __init__(self, source):
+        self.source = source
+
+    def good(self, depth):
+        kind = self.source.choice(NAMES if depth else ["hc4", "prop"])
+        if kind == "hc4":
+            return f"hc4({self.source.randrange(CONSTRAINTS)})"
+        if kind == "prop":
+            return f"prop({self.source.choice([1, 2, 8, 64])})"
+        if kind == "fix":
+            return f"fix({self.source.choice([1, 3, 64])},{self.good(depth - 1)})"
+        parts = [self.good(depth - 1) for _ in range(self.source.choice([1, 2, 3, 5]))]
+        head = f"{self.source.randint(1, len(parts))}," if kind == "qinter" else ""
+        return f"{kind}({head}{','.join(parts)})"
+
+    def broken(self, text):
+        for _ in range(self.source.choice([1, 1, 2])):
+            at = self.source.randrange(len(text) + 1)
+            to = min(len(text), at + self.source.choice([0, 0, 1, 1, 2, 6]))
+            text = text[:at] + self.source.choice(PIECES + [""]) + text[to:]
+        return text[:self.source.randrange(len(text) + 1)] if self.source.random() < 0.1 else text
+
+    def limits(self):
+        for count in (255, 256, 257, 400):
+            yield "union(" + ",".join(["hc4(0)"] * (count - 1)) + ")"
+            yield "fix(1," * (count - 1) + "hc4(0)" + ")" * (count - 1)
+            yield f"qinter({count}," + ",".join(["hc4(0)"] * 200) + ")"
+        for bytes_ in (4095, 4096, 4097, 5000):
+            yield "prop(8)" + ")" * (bytes_ - 7)
+            yield "(" * bytes_
+
+    def texts(self, count):
+        yield from self.limits()
+        for _ in range(count):
+            text = self.good(self.source.randrange(4))
+            yield text if self.source.random() < 0.2 else self.broken(text)
+
+
+class Words:
+    """Makes the words of a run, as options with their values and in their plain form. The budget is always enough, since
+    several workers settle other leaves each time where it isn't."""
+
+    VALUES = {"eps": ["0.5", "1", "2", "1e0", "0.25", "100"], "depth": ["1", "5", "60", "200", "0000000007"],
+              "bisect": ["largest", "round"], "contract": ["prop(8)", "prop(1)", "hc4(0)", "union(hc4(0),hc4(1))"],
+              "workers": ["1", "2", "16"], "boxes": ["5000", "20000", "100000"]}
+    BAD = {"eps": ["", "-1", "+1", "x", "1e", "0x1", "1 ", " 1", ".5", "1e37", "oo", "1/2"],
+           "depth": ["0", "201", "-1", "", "1.0", "00000000001", "x", "4294967297"],
+           "bisect": ["", "Largest", "rounds", "both"], "workers": ["0", "17", "", "1e0", "-2"],
+           "boxes": ["0", "100001", "", "99999999999", "1_000"]}
+
+    def __init__(self, source):
+        self.source = source
+
+    def spelled(self, name, value):
+        if value.startswith("-") or self.source.random() < 0.5:
+            return [f"--{name}={value}"]
+        return [f"--{name}", value]
+
+    def options(self):
+        names = self.source.sample(sorted(self.VALUES), self.source.randrange(5))
+        return {name: self.source.choice(self.VALUES[name]) for name in names}
+
+    def shuffled(self, groups):
+        self.source.shuffle(groups)
+        return [word for group in groups for word in group]
+
+    def good(self):
+        """Words of a good call, and the same in its plain form."""
+        options = self.options()
+        groups = [self.spelled(name, value) for name, value in options.items()]
+        words = self.shuffled(groups + [["s"]])
+        if self.source.random() < 0.2:
+            words = self.shuffled(groups) + ["--", "s"]
+        plain = [f"--{name}={options[name]}" for name in sorted(options)]
+        return ["run", *words], ["run", "s", *plain]
+
+    def bad(self):
+        """Words of a good call with one thing wrong."""
+        options = self.options()
+        groups = [self.spelled(name, value) for name, value in options.items()] + [["s"]]
+        kind = self.source.randrange(7)
+        if kind == 0:
+            name = self.source.choice(sorted(self.BAD))
+            groups = [group for group in groups if not group[0].startswith(f"--{name}")]
+            groups.append([f"--{name}={self.source.choice(self.BAD[name])}"])
+        elif kind == 1:
+            name = self.source.choice(sorted(self.VALUES))
+            groups = [group for group in groups if not group[0].startswith(f"--{name}")]
+            groups += [self.spelled(name, self.source.choice(self.VALUES[name])) for _ in range(2)]
+        elif kind == 2:
+            groups.append([self.source.choice(["--verbose", "--e=1", "-e", "--Eps=1", "--x=a", "--rounds=1", "--help",
+                                               "--seed=1", "-", "t", "--eps1=2", "--version", "-h"])])
+        elif kind == 3:
+            groups.remove(["s"])
+        elif kind == 4:
+            return ["run", *self.shuffled(groups), f"--{self.source.choice(['eps', 'depth', 'out', 'workers'])}"]
+        elif kind == 5:
+            return [self.source.choice(["Run", "runs", "", "ru", "--run", "help", "run "]), *self.shuffled(groups)]
+        else:
+            return ["run", *self.shuffled(groups), "--", "--eps=1"]
+        return ["run", *self.shuffled(groups)]
+
+    def bytes_that_are_no_text(self):
+        words = [word.encode() for word in self.good()[0]]
+        at = self.source.randrange(1, len(words) + 1)
+        return words[:at] + [self.source.choice([b"\xff", b"--eps=\xc3", b"s\x80"])] + words[at:]
+
+
+class Calls:
+    """Calls of the binary, and how many of them answered as they should."""
+
+    def __init__(self, paver, folder):
+        self.paver, self.folder, self.passed, self.failed = paver, folder, 0, 0
+
+    def answer(self, words):
+        done = subprocess.run([self.paver, *words], cwd=self.folder, capture_output=True, timeout=60, check=False)
+        return done.returncode, done.stdout, done.stderr
+
+    def check(self, words, given, wanted):
+        good = given == wanted
+        self.passed, self.failed = self.passed + good, self.failed + (not good)
+        if not good and self.failed < 6:
+            print(f"{words}\n  given {str(given)[:300]}\n  wanted {str(wanted)[:300]}")
+
+    def program(self, text):
+        words = ["run", "s", "--boxes=1", f"--contract={text}"]
+        status, out, err = self.answer(words)
+        place = refused_at(text.encode(), CONSTRAINTS)
+        if place is None:
+            self.check(words, (status in (0, 1), err), (True, b""))
+        else:
+            self.check(words, (status, out, err), (2, b"", f"contract: refused at byte {place}\n".encode()))
+
+
+    def objective(self, text):
+        words = ["least", "s", "--boxes=1", "--eps=4", f"--of={text}"]
+        status, out, err = self.answer(words)
+        fault = first_expression_fault(text.encode(), ["x", "y"])
+        if fault is None:
+            self.check(words, (status in (0, 1), err), (True, b""))
+        else:
+            self.check(words, (status, out, err), (2, b"", "objective: byte {}: {}\n".format(*fault).encode()))
+
+
+def objectives(source, count):
+    """Texts of expressions over two variables, and what is left of them when a piece is exchanged."""
+    maker = Maker(source)
+    yield from ("", "x", "y+", "(" * 101 + "x", "x" + "+1" * 1000, "x" + "+1" * 1001, "x^33", "z", "x y", "x;", "x<=1")
+    for _ in range(count):
+        text = maker.expression(3, ["x", "y"])
+        yield text if source.random() < 0.3 else maker.broken(text)
+
+
+def main():
+    count, seed = (int(word) for word in (sys.argv[2:] + ["600", "1"][len(sys.argv) - 2:])[:2])
+    source = random.Random(seed)
+    words = Words(source)
+    with tempfile.TemporaryDirectory() as folder:
+        (Path(folder) / "s").write_bytes(SYSTEM)
+        calls = Calls(os.path.abspath(sys.argv[1]), folder)
+        for text in Programs(source).texts(count // 4):
+            calls.program(text)
+        for text in objectives(source, count // 4):
+            calls.objective(text)
+        for _ in range(count // 4):
+            made, plain = words.good()
+            calls.check(made, calls.answer(made), calls.answer(plain))
+        for _ in range(count // 4):
+            made = words.bad()
+            calls.check(made, calls.answer(made), (2, b"", USAGE))
+        for _ in range(10):
+            made = words.bytes_that_are_no_text()
+            calls.check(made, calls.answer(made), (2, b"", USAGE))
+    print(f"{calls.passed} passed, {calls.failed} failed")
+    return calls.failed > 0
+
+
+if __name__ == "__main__":
+    sys.exit(1 if main() else 0)
