@@ -1,5 +1,5 @@
 #!/usr/bin/env python3
-"""Cases of centered forms, on boxes of two variables, and of boxes settled by them, worked out by the plain paver of
+"""Cases of slopes and centered forms, on boxes of two variables, and of boxes settled by them, worked out by the plain paver of
 tests/reference, which computes on whole numbers and shares nothing with the program.
 
 Writes crates/pv_ranges/src/table.rt. A number is written as a mantissa and an exponent; the exponent 999 stands for an
@@ -17,7 +17,7 @@ sys.path.insert(0, str(Path(__file__).resolve().parents[1]))
 from reference import minibex  # noqa: E402
 from reference.numbers import DOWN, UP, as_fraction, is_finite  # noqa: E402
 from reference.paver import Constraint, bound  # noqa: E402
-from reference.slopes import CenteredSettler, gap, ranged  # noqa: E402
+from reference.slopes import Centered, CenteredSettler, gap, ranged  # noqa: E402
 
 # x, y, constraint: ten cases a group
 GROUPS = {
@@ -137,11 +137,24 @@ def check(constraint, box, found):
             assert value is None or (found is not None and held(value, found[0])), (constraint, point)
 
 
-def row(x, y, text):
+def asked(x, y, text):
+    """The text of a system, its constraint and its box."""
     system = f"Variables x in {x}, y in {y}; Constraints {text}; End"
     read = minibex.read(system)
-    box = [(bound(low, DOWN), bound(high, UP)) for low, high in read.domains]
-    constraint = Constraint(read.constraints[0])
+    return system, Constraint(read.constraints[0]), [(bound(low, DOWN), bound(high, UP)) for low, high in read.domains]
+
+
+def slope_row(i, x, y, text):
+    """The slope for variable i; None where an end is infinite or a divisor's interval holds 0."""
+    system, constraint, box = asked(x, y, text)
+    found = ranged(constraint, box)
+    if found is None or not found[1] or not all(is_finite(end) for z in box for end in z):
+        return f'    ("{system}", {i}, None),'
+    return f'    ("{system}", {i}, Some({ends(Centered(constraint, box).slope(gap(constraint), i))})),'
+
+
+def row(x, y, text):
+    system, constraint, box = asked(x, y, text)
     found = ranged(constraint, box)
     check(constraint, box, found)
     answer = "None" if found is None else f"Some({ends(found[0])})"
@@ -158,10 +171,11 @@ def settled_row(x, text, program, depth_left):
 
 
 HEADING = (
-    "//! Cases of centered forms. Written by tests/generators/slope_vectors.py: change them there.\n"
+    "//! Cases of slopes and centered forms. Written by tests/generators/slope_vectors.py: change them there.\n"
     "use crate::ranges::Case;\n"
     "use crate::settled::As::{Cut, Inner, Removed, Small};\n"
     "use crate::settled::Settled;\n"
+    "use crate::slopes::Slope;\n"
 )
 
 
@@ -169,6 +183,9 @@ def main():
     path = os.path.join(os.path.dirname(__file__), "../../crates/pv_ranges/src/table.rt")
     case_table.write(path, HEADING, GROUPS, row)
     with open(path, "a") as out:
+        cases = [case for group in GROUPS.values() for case in group]
+        out.write(f"\npub(crate) static SLOPES: [Slope; {len(cases)}] = [\n")
+        out.write("\n".join(slope_row(k % 2, *case) for k, case in enumerate(cases)) + "\n];\n")
         out.write(f"\npub(crate) static SETTLED: [Settled; {len(SETTLED)}] = [\n")
         out.write("\n".join(settled_row(*case) for case in SETTLED) + "\n];\n")
 

@@ -52,10 +52,7 @@ fn with_paving_commands<'a>(command: Command<'a>, alloc: Global) -> Result<Comma
     with_command(command, sample(alloc)?)
 }
 
-fn with_further_commands<'a>(
-    command: Command<'a>,
-    alloc: Global,
-) -> Result<Command<'a>, AllocError>
+fn with_further_commands<'a>(command: Command<'a>, alloc: Global) -> Result<Command<'a>, AllocError>
     ensures { IfOk result (λ c. app_of c ≡ further_commands (app_of command.entry)) }
 {
     let command = with_command(command, run(alloc, "run-centered")?)?;

@@ -7,4 +7,6 @@ mod ranges;
 #[cfg(test)]
 mod settled;
 #[cfg(test)]
+mod slopes;
+#[cfg(test)]
 mod table;

@@ -30,7 +30,7 @@ pub(crate) fn interval((lo, hi): Ends) -> Option<Interval> {
     Interval::new(number(lo)?, number(hi)?)
 }
 
-fn first_slopes(alloc: Global, system: &System) -> Option<Slopes>
+pub(crate) fn first_slopes(alloc: Global, system: &System) -> Option<Slopes>
     ensures { IfSome result (λ s. s.dims ≡ length system.now.names) }
 {
     if system.constraint_count() == 0 {

@@ -18,7 +18,8 @@ use Rattle.pv_hc4.proofs.Revising.{part_none}
 use Rattle.pv_hc4.proofs.Sureness.{value_defined}
 use Rattle.pv_hc4.proofs.Totals.{part_partial}
 use Rattle.pv_slope.specs.declared.slopes.Ranged.{Ranged}
-use Rattle.pv_slope.specs.Centered.{has_finite_ends, linear_of, centered_from, centered_of}
+use Rattle.pv_slope.specs.SlopeTable.{slope_of}
+use Rattle.pv_slope.specs.Centered.{has_finite_ends, linear_of, centered_from, centered_of, slope_where}
 use Rattle.pv_slope.specs.Flat.{IsFlat}
 use Rattle.pv_slope.specs.Ranges.{ranged_of}
 use Rattle.pv_slope.proofs.Centring.{both_true, centre_point, centre_in_box}
@@ -49,6 +50,10 @@ ranged_some b t f x r e h k =
 
 pub ranged_nothing : (b : List Bounds) (t : Term) (f : Bounds) → forward_of b t ≡ Some f → None ≡ centered_from b t f → ranged_of b t ≡ None
 ranged_nothing b t f e h = ranged_from b t f e ∙ sym (ap (λ o. chain o (λ y. Some (record { interval = y; total = total_of b t }))) h)
+
+-- there is no slope where a divisor is [0,0]
+pub slope_none : (b : List Bounds) (i : ℕ) (t : Term) → forward_of b t ≡ None → None ≡ slope_where b i t
+slope_none b i t e = sym (ap (λ o. chain o (λ f. if has_finite_ends b && total_of b t then Some (slope_of b i t) else None)) e)
 
 one_range : (q r : Ranged) → Some q ≡ Some r → q ≡ r
 one_range q r e = cc

@@ -1,5 +1,5 @@
 -- The centered form of an expression on a box.
-use Rattle.std.specs.Prelude.{◌≡◌, ℕ, zero, suc, Bool, true, false, ◌&&◌, List, [], ◌∷◌, length, Option, Some, if◌then◌else◌}
+use Rattle.std.specs.Prelude.{◌≡◌, ℕ, zero, suc, Bool, true, false, ◌&&◌, List, [], ◌∷◌, length, Option, Some, None, if◌then◌else◌}
 use Rattle.pv_num.specs.Extended.{Extended, NegInf, Fin, PosInf}
 use Rattle.pv_interval.specs.Bounds.{Bounds}
 use Rattle.pv_interval.specs.Fractions.{Fraction}
@@ -33,6 +33,10 @@ from_centre x = difference_of x (exactly (centre_of x))
 abbrev pub linear_of : List Bounds → Term → ℕ → Bounds
 linear_of b t zero = at_centre b t
 linear_of b t (suc n) = sum_of (linear_of b t n) (product_of (slope_of b n t) (from_centre (at b n)))
+
+-- the slope for variable i; None where an end is infinite or a divisor's interval contains 0
+abbrev pub slope_where : List Bounds → ℕ → Term → Option Bounds
+slope_where b i t = chain (forward_of b t) (λ f. if has_finite_ends b && total_of b t then Some (slope_of b i t) else None)
 
 -- the forward interval f, met with the linear one where all ends are finite and no divisor's interval contains 0
 abbrev pub centered_from : List Bounds → Term → Bounds → Option Bounds

@@ -73,7 +73,7 @@ fn slope(
 }
 
 // Gives each node its slope for variable `i`.
-fn slope_all(
+pub(crate) fn slope_all(
     nodes: &[Node],
     i: u8,
     values: &[Interval],

@@ -8,13 +8,13 @@ ghost use Rattle.pv_hc4.specs.Graphs.{sides_named, AreValues, AreReady};
 ghost use Rattle.pv_hc4.specs.Nodes.{AreOrdered, terms, term_at};
 ghost use Rattle.pv_hc4.specs.Chain.{at};
 ghost use Rattle.pv_hc4.specs.Totality.{total_of};
-ghost use Rattle.pv_slope.specs.Centered.{centered_of, centered_from, gap_of, Encloses};
+ghost use Rattle.pv_slope.specs.Centered.{centered_of, centered_from, slope_where, gap_of, Encloses};
 ghost use Rattle.pv_slope.specs.Flat.{term_in, IsFlat};
 ghost use Rattle.pv_slope.specs.Ranges.{ranged_of};
 
 use crate::centre::{centre_all, has_finite_ends};
 use crate::columns::Columns;
-use crate::passes::{factor_all, linear};
+use crate::passes::{factor_all, linear, slope_all};
 use pv_box::IBox;
 use pv_expr::{Constraint, Relation};
 use pv_hc4::builder::Builder;
@@ -96,6 +96,28 @@ impl Slopes {
         }
     }
 
+    /// The slope on a box of the left side minus the right side for variable `i`. From the box's
+    /// centre to any of its points the difference changes by a number of each slope times the change
+    /// of its variable, summed. None where an end of the box is infinite or a divisor's interval
+    /// contains 0.
+    pub fn slope(&self, alloc: Global, bx: &IBox, i: u8) -> Result<Option<Interval>, Memory>
+        requires { length bx.now ≡ self.now.dims }
+        ensures { IfOk result (λ s. s ≡ slope_where bx.now i (term_in self.now)) }
+    {
+        let mut columns = Columns::new(alloc);
+        fill_columns(&mut columns, &self.ready)?;
+        Ok(slope_at(
+            &self.nodes,
+            self.root,
+            bx,
+            i,
+            &mut columns.values,
+            &mut columns.centres,
+            &mut columns.factors,
+            &mut columns.slopes,
+        ))
+    }
+
     // The expression is over the constraint's variables. It holds by its contract alone; the call
     // does nothing.
     fn learn(&self)
@@ -113,10 +135,7 @@ impl Slopes {
         requires { length bx.now ≡ self.now.dims }
         ensures { IfOk result (λ r. r ≡ ranged_of bx.now (term_in self.now)) }
     {
-        fill(&mut columns.values, &self.ready)?;
-        fill(&mut columns.centres, &self.ready)?;
-        fill(&mut columns.factors, &self.ready)?;
-        fill(&mut columns.slopes, &self.ready)?;
+        fill_columns(columns, &self.ready)?;
         Ok(range_of(
             &self.nodes,
             self.root,
@@ -127,6 +146,19 @@ impl Slopes {
             &mut columns.slopes,
         ))
     }
+}
+
+// Gives each column the constants' intervals.
+fn fill_columns(columns: &mut Columns, ready: &[Interval]) -> Result<(), Memory>
+    ensures values { OnOk result (columns.new.values.items ≡ ready.now) }
+    ensures centres { OnOk result (columns.new.centres.items ≡ ready.now) }
+    ensures factors { OnOk result (columns.new.factors.items ≡ ready.now) }
+    ensures slopes { OnOk result (columns.new.slopes.items ≡ ready.now) }
+{
+    fill(&mut columns.values, ready)?;
+    fill(&mut columns.centres, ready)?;
+    fill(&mut columns.factors, ready)?;
+    fill(&mut columns.slopes, ready)
 }
 
 // Whether no divisor's interval contains 0 in the expression of node `root`.
@@ -197,4 +229,37 @@ fn range_of(
         Some(interval) => Some(Ranged { interval, total }),
         None => None,
     }
+}
+
+// The slope of node `root` for variable `i`. At the entry the columns have the constants' intervals.
+fn slope_at(
+    nodes: &[Node],
+    root: usize,
+    bx: &IBox,
+    i: u8,
+    values: &mut [Interval],
+    centres: &mut [Interval],
+    factors: &mut [Interval],
+    slopes: &mut [Interval],
+) -> Option<Interval>
+    requires flat { IsFlat nodes.now root (length bx.now) }
+    requires values { AreReady nodes.now values.old }
+    requires centres { AreReady nodes.now centres.old }
+    requires factors { AreReady nodes.now factors.old }
+    requires slopes { AreReady nodes.now slopes.old }
+    ensures { result ≡ slope_where bx.now i (term_at (terms nodes.now) root) }
+{
+    if !forward_all(nodes, bx, values) {
+        return None;
+    }
+    if !has_finite_ends(bx) {
+        return None;
+    }
+    if !root_is_total(nodes, root, values, bx) {
+        return None;
+    }
+    centre_all(nodes, bx, values, centres);
+    factor_all(nodes, bx.dims(), values, centres, factors);
+    slope_all(nodes, i, values, centres, factors, bx, slopes);
+    Some(slopes[root])
 }

@@ -42,7 +42,7 @@ returns-clause-comes g c =
     let identity = c.in_ok-identity.ensures ∙ ap (λ (f : Form). identity_as f rule) c.in-Ok.ensures.form in
     let box = c.in_ok-root.ensures.intervals in
     let held = paving_before before mid c.in-Ok.ensures.read (identity_as form rule) (search_box rule) c.args.name.now t
-        (by_key (λ i b. HoldsPaving mid i b c.args.name.now t) (identity_as form rule) (search_box rule) _ identity box c.in-Ok-paving_in.ensures.paving) in
+    (by_key (λ i b. HoldsPaving mid i b c.args.name.now t) (identity_as form rule) (search_box rule) _ identity box c.in-Ok-paving_in.ensures.paving) in
     IfOk-weaker c.audited.result _ _
     (λ p e.
     let found = subst (λ (f : Form). IsFoundHonest f rule t (made p)) c.in-Ok.ensures.form e in
@@ -65,7 +65,7 @@ returns-clause-refused g c =
     let identity = c.in_ok-identity.ensures ∙ ap (λ (f : Form). identity_as f rule) c.in-Ok.ensures.form in
     let box = c.in_ok-root.ensures.intervals in
     let held = paving_before before mid c.in-Ok.ensures.read (identity_as form rule) (search_box rule) c.args.name.now t
-        (by_key (λ i b. HoldsPaving mid i b c.args.name.now t) (identity_as form rule) (search_box rule) _ identity box c.in-Ok-paving_in.ensures.paving) in
+    (by_key (λ i b. HoldsPaving mid i b c.args.name.now t) (identity_as form rule) (search_box rule) _ identity box c.in-Ok-paving_in.ensures.paving) in
     IfErr-weaker c.audited.result _ _
     (λ r e. found_other form before c.args.system.now c.args.name.now c.args.settings.now rule t _ r c.in-Ok.ensures.rule held
     (subst (λ (f : Form). IsFoundOther f rule t r) c.in-Ok.ensures.form e)) c.audited.ensures.other
