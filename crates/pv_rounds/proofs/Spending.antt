@@ -1,0 +1,140 @@
+-- Budgets that are spent one after another.
+use Rattle.std.proofs.Common.{◌≡◌, ◌⊎◌, inl, inr, ℕ, suc, ◌+◌, ◌*◌, ◌<◌, ◌≤◌, Bool, List, [], ◌∷◌, length, refl, sym, ◌∙◌, ap, subst, arith}
+use Rattle.std.specs.Prelude.{Option, Some, None, ◌≢◌, ◌↔◌}
+use Rattle.pv_interval.specs.Bounds.{Bounds}
+use Rattle.pv_interval.specs.Points.{Point}
+use Rattle.pv_box.specs.Boxes.{IsBox, lower_half, upper_half}
+use Rattle.pv_tree.specs.Trees.{Tree, leaf, removed, inner, small, cut, opens, outcome_at, IsPaving, Paves}
+use Rattle.pv_tree.specs.declared.outcome.Outcome.{Outcome}
+use Rattle.pv_tree.specs.Stages.{Rule, full_of, Grows, IsStage}
+use Rattle.pv_tree.specs.Sets.{Covers}
+use Rattle.pv_tree.specs.Laws.{IsLawful}
+use Rattle.pv_tree.proofs.StageLaws.{grows_self, grows_leaf, grows_cut, whole_stage}
+use Rattle.pv_tree.proofs.Earlier.{stage_on}
+use Rattle.pv_workers.proofs.Budgets.{fits_of, spent_of}
+use Rattle.pv_board.specs.Rules.{settled_in}
+use Rattle.pv_workers.specs.Pavings.{IsSpent, IsPaved, FullFits}
+use Rattle.pv_join.specs.Joins.{IsJoin, settled_side}
+use Rattle.pv_join.proofs.JoinFacts.{join_unique}
+use Rattle.pv_keep.specs.Keeping.{Kept, untold, absent, holds}
+use Rattle.pv_keep.specs.Campaigns.{KeepsTree, IsSaved}
+use Rattle.pv_rounds.specs.Going.{AddUp}
+
+-- ---- A stage of what it begins with
+
+full_grows : (rule : Rule) (depth : ℕ) (b : List Bounds) (t : Tree) (k : ℕ) → Grows t (full_of rule depth b t k)
+unfolding full_of
+full_grows rule depth b leaf k = grows_leaf (full_of rule depth b leaf k)
+full_grows rule depth b removed k = grows_self removed
+full_grows rule depth b (inner to) k = grows_self (inner to)
+full_grows rule depth b (small to) k = grows_self (small to)
+full_grows rule depth b (cut to v a low high) k =
+    grows_cut to v a low high (full_of rule depth (lower_half to v a) low (suc k)) (full_of rule depth (upper_half to v a) high (suc k))
+    (full_grows rule depth (lower_half to v a) low (suc k)) (full_grows rule depth (upper_half to v a) high (suc k))
+
+pub own_stage : (rule : Rule) (depth : ℕ) (b : List Bounds) (t : Tree) → IsStage rule depth b t t
+own_stage rule depth b t = record { grown = grows_self t; grows = full_grows rule depth b t 0 }
+
+cons_nil : {A : Type 0} (x : A) (xs : List A) → x ∷ xs ≡ [] → ⊥
+cons_nil x xs e = cc
+
+none_or_some : (ps : List (List Bool)) → (ps ≡ []) ⊎ (ps ≢ [])
+none_or_some [] = inl refl
+none_or_some (p ∷ ps) = inr (cons_nil p ps)
+
+-- ---- What has been spent
+
+at_most : (rule : Rule) (depth : ℕ) (b : List Bounds) (opening t : Tree) (budget : ℕ) → IsPaved rule depth b opening budget t → opens t ≡ [] → settled_in t ≤ settled_in opening + budget
+at_most rule depth b opening t budget p none =
+    let fits : FullFits rule depth b opening budget = p.fits.0 none in
+    let same : settled_in t ≡ settled_in (full_of rule depth b opening 0) = ap settled_in (p.full none) in
+    omega arith
+
+pub few_settled : (rule : Rule) (depth : ℕ) (b : List Bounds) (opening t : Tree) (budget : ℕ) → IsPaved rule depth b opening budget t → settled_in t ≤ settled_in opening + budget
+few_settled rule depth b opening t budget p = by (none_or_some (opens t))
+  where
+    by : (opens t ≡ []) ⊎ (opens t ≢ []) → settled_in t ≤ settled_in opening + budget
+    by (inl none) = at_most rule depth b opening t budget p none
+    by (inr some) = let spent = p.spent some in omega arith
+
+module _ (rule : Rule) (depth dims : ℕ) (inside : Point → Type 0) (laws : IsLawful rule depth dims inside) (b : List Bounds) (box : IsBox b) (over : length b ≡ dims) where
+  pub no_budget : (t : Tree) → IsPaving b t → Covers b t → IsPaved rule depth b t 0 t
+  no_budget t paving covers =
+      let stage : IsStage rule depth b t t = own_stage rule depth b t in
+      let spent : IsSpent 0 t t = inl (omega arith) in
+      record {
+        paving = paving;
+        covers = covers;
+        stage = stage;
+        fits = fits_of rule depth dims inside laws b t t 0 box over paving.paves stage spent;
+        full = λ none. whole_stage rule depth dims inside laws b t t stage none;
+        spent = spent_of 0 t t spent;
+      }
+
+  both_spent : (opening middle t : Tree) (spent budget : ℕ) → IsPaved rule depth b opening spent middle → opens middle ≢ [] → IsPaved rule depth b middle budget t
+      → IsSpent (spent + budget) opening t
+  both_spent opening middle t spent budget p some q =
+      let first : settled_in middle ≡ settled_in opening + spent = p.spent some in
+      by first (none_or_some (opens t))
+    where
+      by : settled_in middle ≡ settled_in opening + spent → (opens t ≡ []) ⊎ (opens t ≢ []) → IsSpent (spent + budget) opening t
+      by first (inl none) = let few : settled_in t ≤ settled_in middle + budget = at_most rule depth b middle t budget q none in inr (none, omega arith)
+      by first (inr left) = let more : settled_in t ≡ settled_in middle + budget = q.spent left in inl (omega arith)
+
+  paved_on : (opening middle t : Tree) (spent budget : ℕ) → Paves b opening → IsPaved rule depth b opening spent middle → opens middle ≢ []
+      → IsPaved rule depth b middle budget t → IsPaved rule depth b opening (spent + budget) t
+  paved_on opening middle t spent budget paves p some q =
+      let stage : IsStage rule depth b opening t = stage_on rule depth dims inside laws b opening middle t box over paves p.stage q.stage in
+      let all : IsSpent (spent + budget) opening t = both_spent opening middle t spent budget p some q in
+      record {
+        paving = q.paving;
+        covers = q.covers;
+        stage = stage;
+        fits = fits_of rule depth dims inside laws b opening t (spent + budget) box over paves stage all;
+        full = λ none. whole_stage rule depth dims inside laws b opening t stage none;
+        spent = spent_of (spent + budget) opening t all;
+      }
+
+  pub add_up : AddUp rule depth b
+  add_up = record {
+    stages = λ earlier opening t paves s z. stage_on rule depth dims inside laws b earlier opening t box over paves s z;
+    paved = λ opening middle t spent budget paves p some q. paved_on opening middle t spent budget paves p some q;
+  }
+
+-- where no leaf is open a greater budget does no more
+pub enough : (rule : Rule) (depth : ℕ) (b : List Bounds) (opening t : Tree) (budget more : ℕ) → budget ≤ more → opens t ≡ [] → IsPaved rule depth b opening budget t
+    → IsPaved rule depth b opening more t
+enough rule depth b opening t budget more less none p =
+    let fits : FullFits rule depth b opening budget = p.fits.0 none in
+    let wider : FullFits rule depth b opening more = omega arith in
+    record { paving = p.paving; covers = p.covers; stage = p.stage; fits = (λ _. wider, λ _. none); full = p.full; spent = λ some. absurd (some none) }
+
+-- ---- A stage as a join
+
+side : (s t : Tree) (p : List Bool) (o : Option Outcome) → Grows s t → outcome_at s p ≡ o → outcome_at t p ≡ settled_side o (outcome_at t p)
+side s t p None h e = refl
+side s t p (Some o) h e = h p o e
+
+agree : (s t : Tree) → Grows s t → (p : List Bool) (o u : Outcome) → outcome_at s p ≡ Some o → outcome_at t p ≡ Some u → o ≡ u
+agree s t h p o u e f = let same : Some o ≡ Some u = sym (h p o e) ∙ f in cc
+
+-- what a tree grew to is its join with it
+grown_join : (s t : Tree) → Grows s t → IsJoin s t t
+grown_join s t h = record { agree = agree s t h; takes = λ p. side s t p (outcome_at s p) h refl }
+
+pub join_is : (s t u : Tree) → Grows s t → IsJoin s t u → u ≡ t
+join_is s t u h j = join_unique s t u t j (grown_join s t h)
+
+-- ---- What is kept of a name
+
+-- the rows of a tree are its own
+pub saved_now : (k : Kept) (t : Tree) → KeepsTree k t → IsSaved k k t
+saved_now untold t h = refl
+saved_now absent t h = h
+saved_now (holds identity rows) t h = ap (holds identity) h
+
+-- what was saved of one tree and then of another is that of the other
+pub saved_on : (k0 k1 k2 : Kept) (s t : Tree) → IsSaved k0 k1 s → IsSaved k1 k2 t → IsSaved k0 k2 t
+saved_on untold k1 k2 s t h j = subst (λ (k : Kept). IsSaved k k2 t) h j
+saved_on absent k1 k2 s t h j = h
+saved_on (holds identity rows) k1 k2 s t h j = subst (λ (k : Kept). IsSaved k k2 t) h j

@@ -1,0 +1,6 @@
+//! Rounds of a campaign: each settles what a budget allows of the kept paving, and is saved before the next begins.
+#![tactic(auto)]
+
+mod rounds;
+
+pub use rounds::{go_on, learn_rounds};

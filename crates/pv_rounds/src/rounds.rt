@@ -1,0 +1,162 @@
+//! The rounds of a campaign.
+ghost use Rattle.std.specs.Prelude.{◌≡◌, ◌≢◌, ◌+◌, ◌*◌, ◌≤◌, List, ℕ, Some, IsSome, IfOk, OnOk, OnErr, IsErrOf, length};
+ghost use Rattle.pv_io.specs.Outside.{Rose};
+ghost use Rattle.pv_board.specs.Rules.{settled_in};
+ghost use Rattle.pv_workers.specs.Pavings.{IsPaved};
+ghost use Rattle.pv_keep.specs.Campaigns.{KeepsTree, IsSaved};
+ghost use Rattle.pv_rounds.specs.Going.{AddUp, HasGoneOn, HasStopped};
+
+use pv_keep::{Campaign, Keeper, SaveRefused};
+use pv_num::Memory;
+use pv_pool::Gate;
+use pv_tree::{KnowingSettler, Paving, Settler};
+use pv_workers::pave_knowing;
+use std::alloc::Global;
+use std::sync::Wait;
+use std::thread::Threads;
+
+/// Does nothing. A paving of which nothing more is settled has spent the budget 0. Stages of stages are stages, and
+/// budgets that are spent one after another add up.
+pub fn learn_rounds<S: Settler>(paving: &Paving, settler: &S)
+    requires { length paving.now.root ≡ S.dims settler.now }
+    ensures none { IsPaved (S.settle_of settler.now)
+        (S.depth_of settler.now) paving.now.root paving.now.tree 0 paving.now.tree }
+    ensures further { AddUp (S.settle_of settler.now) (S.depth_of settler.now) paving.now.root }
+{
+    let _places = paving.dims();
+    let _depth = settler.depth();
+}
+
+/// Goes on with a campaign, round by round, until `count` rounds are over or no leaf is open. Each round settles at
+/// most `boxes` nodes by so many workers, and is saved before the next one begins, so what is kept after a refusal is
+/// what the rounds before it left.
+///
+/// # Errors
+///
+/// Want of memory, or the keeper failed in this call.
+pub fn go_on<P: Keeper, S: KnowingSettler + Sync, G: Gate + Sync, R: Threads + Wait + Sync>(
+    rt: &R,
+    alloc: Global,
+    settler: &S,
+    campaign: &mut Campaign,
+    keeper: &mut P,
+    count: u32,
+    boxes: u64,
+    workers: u32,
+    gate: &G,
+) -> Result<(), SaveRefused>
+where
+    S::Room: Send,
+    S::Known: Send,
+    requires dims { length campaign.old.root ≡ S.dims settler.now }
+    requires some { 1 ≤ boxes }
+    requires few { boxes ≤ 100000 }
+    requires limit { settled_in campaign.old.tree + count * boxes ≤ 100000 }
+    requires one { 1 ≤ workers }
+    requires sixteen { workers ≤ 16 }
+    requires begun { IsSome (P.begun keeper.old) }
+    requires kept { (name : List ℕ) → P.begun keeper.old ≡ Some name
+        → KeepsTree (P.kept keeper.old name) campaign.old.tree }
+    ensures root { campaign.new.root ≡ campaign.old.root }
+    ensures gone { (name : List ℕ) → P.begun keeper.old ≡ Some name → OnOk result
+        (HasGoneOn (S.settle_of settler.now) (S.depth_of settler.now) campaign.old.root
+        campaign.old.tree (count * boxes) (P.kept keeper.old name) (P.kept keeper.new name)
+        campaign.new.tree) }
+    ensures stopped { (name : List ℕ) → P.begun keeper.old ≡ Some name → OnErr result
+        (HasStopped (S.settle_of settler.now) (S.depth_of settler.now) campaign.old.root
+        campaign.old.tree boxes count (P.kept keeper.old name) (P.kept keeper.new name)) }
+    ensures cause { IsErrOf result SaveRefused.Failed
+        → Rose (P.faults keeper.old) (P.faults keeper.new) }
+    ensures others { (name other : List ℕ) → P.begun keeper.old ≡ Some name
+        → other ≢ name → P.kept keeper.new other ≡ P.kept keeper.old other }
+    ensures counts_on { P.faults keeper.old ≤ P.faults keeper.new }
+{
+    learn_rounds(campaign.paving(), settler);
+    for _ in 0..count {
+        if campaign.paving().first_open().is_none() {
+            return Ok(());
+        }
+        match round(rt, alloc, settler, campaign, keeper, boxes, workers, gate) {
+            Ok(()) => {}
+            Err(refused) => return Err(refused),
+        }
+    }
+    Ok(())
+}
+
+// Settles what the budget allows of a campaign's paving, and saves it.
+fn round<P: Keeper, S: KnowingSettler + Sync, G: Gate + Sync, R: Threads + Wait + Sync>(
+    rt: &R,
+    alloc: Global,
+    settler: &S,
+    campaign: &mut Campaign,
+    keeper: &mut P,
+    boxes: u64,
+    workers: u32,
+    gate: &G,
+) -> Result<(), SaveRefused>
+where
+    S::Room: Send,
+    S::Known: Send,
+    requires dims { length campaign.old.root ≡ S.dims settler.now }
+    requires some { 1 ≤ boxes }
+    requires few { boxes ≤ 100000 }
+    requires limit { settled_in campaign.old.tree + boxes ≤ 100000 }
+    requires one { 1 ≤ workers }
+    requires sixteen { workers ≤ 16 }
+    requires begun { IsSome (P.begun keeper.old) }
+    requires kept { (name : List ℕ) → P.begun keeper.old ≡ Some name
+        → KeepsTree (P.kept keeper.old name) campaign.old.tree }
+    ensures root { campaign.new.root ≡ campaign.old.root }
+    ensures paved { OnOk result
+        (IsPaved (S.settle_of settler.now) (S.depth_of settler.now)
+        campaign.old.root campaign.old.tree boxes campaign.new.tree) }
+    ensures saved { (name : List ℕ) → P.begun keeper.old ≡ Some name
+        → OnOk result (IsSaved (P.kept keeper.old name) (P.kept keeper.new name) campaign.new.tree) }
+    ensures kept { (name : List ℕ) → P.begun keeper.old ≡ Some name
+        → KeepsTree (P.kept keeper.new name) campaign.new.tree }
+    ensures unchanged { OnErr result (campaign.new ≡ campaign.old) }
+    ensures kept_on { (name : List ℕ) → P.begun keeper.old ≡ Some name
+        → OnErr result (P.kept keeper.new name ≡ P.kept keeper.old name) }
+    ensures others { (name other : List ℕ) → P.begun keeper.old ≡ Some name
+        → other ≢ name → P.kept keeper.new other ≡ P.kept keeper.old other }
+    ensures begun { P.begun keeper.new ≡ P.begun keeper.old }
+    ensures cause { IsErrOf result SaveRefused.Failed
+        → Rose (P.faults keeper.old) (P.faults keeper.new) }
+    ensures counts_on { P.faults keeper.old ≤ P.faults keeper.new }
+{
+    let stage = stage_of(rt, alloc, settler, campaign.paving(), boxes, workers, gate)?;
+    match campaign.save_round(alloc, keeper, &stage) {
+        Ok(_) => Ok(()),
+        Err(refused) => Err(refused),
+    }
+}
+
+// What the budget settles of a paving.
+fn stage_of<S: KnowingSettler + Sync, G: Gate + Sync, R: Threads + Wait + Sync>(
+    rt: &R,
+    alloc: Global,
+    settler: &S,
+    opening: &Paving,
+    boxes: u64,
+    workers: u32,
+    gate: &G,
+) -> Result<Paving, Memory>
+where
+    S::Room: Send,
+    S::Known: Send,
+    requires dims { length opening.now.root ≡ S.dims settler.now }
+    requires some { 1 ≤ boxes }
+    requires few { boxes ≤ 100000 }
+    requires limit { settled_in opening.now.tree + boxes ≤ 100000 }
+    requires one { 1 ≤ workers }
+    requires sixteen { workers ≤ 16 }
+    ensures root { IfOk result (λ p. p.root ≡ opening.now.root) }
+    ensures paved { IfOk result
+        (λ p. IsPaved (S.settle_of settler.now) (S.depth_of settler.now)
+        opening.now.root opening.now.tree boxes p.tree) }
+{
+    let opening = opening.clone_of(alloc)?;
+    let paved = pave_knowing(rt, alloc, settler, opening, boxes, workers, gate)?;
+    Ok(paved.paving)
+}
