@@ -13,3 +13,4 @@ pub mod TreeBuilding
 pub mod TreeExamples
 pub mod TreeReadings
 pub mod TreeRuns
+pub mod Within

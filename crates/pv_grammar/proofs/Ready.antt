@@ -14,7 +14,8 @@ use Rattle.pv_grammar.specs.declared.symbol.Symbol.TheVariants.{Fixed as FixedTo
 use Rattle.pv_grammar.specs.declared.machine.Item.{Item}
 use Rattle.pv_grammar.specs.declared.machine.Item.TheVariants.{Exactly, MaybeConstants, WantConstant, MoreConstants, MaybeConstant, MaybeSign, WantValue, MaybeFunctions, WantFunctionName, WantParameter, MoreParameters, MaybeSemicolon, WantVariable, MoreVariables, MaybeVariable, MaybeDomain, WantBound, WantRelation, MoreConstraints, MaybeConstraint, WantFactor, MoreFactors, MoreTerms, MaybePower, WantExponent, MoreArguments, Then}
 use Rattle.pv_grammar.specs.Grammar.{Produced, factor, produced, with_more}
-use Rattle.pv_grammar.specs.Limits.{Counting, begins, begins_expression, begun, behind_comma, behind_end, behind_semicolon, counted, in_expression, in_phase, levels, moved, nested, next, operated, operates, with_constraints, with_parameters, with_variables}
+use Rattle.pv_grammar.specs.Counting.{Counting, begins, begun, behind_comma, behind_end, behind_semicolon, counted, in_expression, in_phase, levels, moved, nested, next, operated, operates, with_constraints, with_parameters, with_variables}
+use Rattle.pv_grammar.specs.Standings.{begins_expression}
 
 -- ---- What of the counts matters to what is to come
 

@@ -8,7 +8,7 @@ use Rattle.pv_grammar.specs.declared.counts.Counts.{Counts}
 use Rattle.pv_grammar.specs.declared.symbol.Fixed.TheVariants.{Caret, EndOfText}
 use Rattle.pv_grammar.specs.declared.symbol.Symbol.{Symbol}
 use Rattle.pv_grammar.specs.declared.symbol.Symbol.TheVariants.{Never, Fixed as FixedToken, Declared, Constant, Unknown}
-use Rattle.pv_grammar.specs.Limits.{counted, Counted}
+use Rattle.pv_grammar.specs.Counting.{counted, Counted}
 
 -- ---- The cause of a token that the grammar refuses
 

@@ -1,7 +1,9 @@
 pub mod ByItems
 pub mod Causes
 pub mod Grammar
+pub mod Counting
 pub mod Limits
+pub mod Standings
 pub mod Messages
 pub mod Productions
 pub mod TreeCodes

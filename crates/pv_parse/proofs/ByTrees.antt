@@ -10,7 +10,7 @@ use Rattle.pv_grammar.specs.ByItems.IsCauseByItems.{beyond as beyond_items, not_
 use Rattle.pv_grammar.specs.Causes.{BeginsWithin, IsCause, as_known}
 use Rattle.pv_grammar.specs.Causes.IsCause.{beyond, not_allowed}
 use Rattle.pv_grammar.specs.Grammar.{Derives, expression_items, system_items}
-use Rattle.pv_grammar.specs.Limits.{Counted, counted, nothing}
+use Rattle.pv_grammar.specs.Counting.{Counted, counted, nothing}
 use Rattle.pv_grammar.specs.TreeCodes.{AreKnown, IsKnown}
 use Rattle.pv_grammar.proofs.Alike.{AreTexts, expression_texts, items_begin, known_before, system_texts, tree_begins}
 use Rattle.pv_parse.specs.ByItems.{IsFirstByItems}

@@ -14,7 +14,7 @@ use Rattle.pv_grammar.specs.declared.symbol.Fixed.TheVariants.{Open, Close, Comm
 use Rattle.pv_grammar.specs.declared.symbol.Symbol.{Symbol}
 use Rattle.pv_grammar.specs.declared.symbol.Symbol.TheVariants.{Fixed as FixedToken, Number, Declared, Unknown, Function as Call}
 use Rattle.pv_grammar.specs.Grammar.{system_items}
-use Rattle.pv_grammar.specs.Limits.{Counting, begins, begins_expression, begun, behind_comma, behind_end, behind_semicolon, counted, declared, in_expression, levels, moved, nested, next, nothing, operated, operates, turned}
+use Rattle.pv_grammar.specs.Counting.{Counting, begins, begun, behind_comma, behind_end, behind_semicolon, counted, declared, in_expression, levels, moved, nested, next, nothing, operated, operates, turned}
 use Rattle.pv_grammar.proofs.Steps.{AllWrite, MayRaise, Own, Writes, derived-steps}
 use Rattle.pv_tokens.specs.declared.keyword.Word.{Word}
 use Rattle.pv_tokens.specs.declared.keyword.Word.TheVariants.{Constants as ConstantsWord', Variables as VariablesWord', Constraints as ConstraintsWord', Function as FunctionBlock, Return as ReturnWord, End as EndWord, In as InWord, Oo as OoWord, Abs as AbsWord, Sqr as SqrWord, Min as MinWord, Max as MaxWord, Outside}
@@ -26,6 +26,7 @@ use Rattle.pv_parse.specs.declared.names.Meaning.TheVariants.{Constant as Consta
 use Rattle.pv_parse.specs.ByItems.{IsSentence}
 use Rattle.pv_parse.specs.Meanings.{Names, in_body, in_bounds, learnt, meaning, no_names, told, use_of, with_function, with_name, with_value}
 use Rattle.pv_parse.specs.Sentences.{IsNumberSymbol, SpellsTo, StandsFor, bytes_of, name_symbol, word_symbol}
+use Rattle.pv_grammar.specs.Standings.{begins_expression}
 
 -- ---- Counts
 

@@ -15,13 +15,14 @@ use Rattle.pv_grammar.specs.declared.symbol.Symbol.TheVariants.{Fixed as FixedTo
 use Rattle.pv_grammar.specs.declared.machine.Item.{Item}
 use Rattle.pv_grammar.specs.declared.machine.Item.TheVariants.{Exactly, WantConstant, WantEquals, MaybeSign, WantValue, WantFunctionName, WantParameter, MoreConstraints, MaybeConstraint, MoreParameters, WantVariable, MaybeDomain, WantBound, WantRelation, WantFactor, MoreFactors, MoreTerms, MaybePower, WantExponent, MoreArguments, Then}
 use Rattle.pv_grammar.specs.Grammar.{Derives, MayEnd, Produced, begun as begun_text, done, left_out, produced, step_of}
-use Rattle.pv_grammar.specs.Limits.{Counted, Counting, begins, begins_expression, behind_comma, behind_end, counted, declared, in_expression, in_level, in_phase, levels, moved, nested, next, operated, operates, turned, where_below, with_operations, with_parameters, with_variables}
+use Rattle.pv_grammar.specs.Counting.{Counted, Counting, begins, behind_comma, behind_end, counted, declared, in_expression, in_level, in_phase, levels, moved, nested, next, operated, operates, turned, where_below, with_operations, with_parameters, with_variables}
 use Rattle.pv_grammar.proofs.Ready.{FactorRoom, FixedRoom, InExpression, IsStill, Leaves, OpenRoom, Ready, Room, fixed_behind, opened, opened_in, room_in, seen}
 use Rattle.pv_grammar.proofs.Fits.{seen_end}
 use Rattle.pv_parse.specs.ByItems.{AreBounded}
 use Rattle.pv_parse.specs.Meanings.{Names, learnt}
 use Rattle.pv_parse.specs.Sentences.{StandsFor}
 use Rattle.pv_parse.proofs.Pieces.{CanDeclare, IsPiece, Mean, Piece, Plain, at_most_token, close_bracket_token, close_token, comma_token, constraints_token, end_token, equal_token, fresh, fresh_piece, fresh_stands, infinity_token, learnt_bounded, named, open_bracket_token, open_token, return_token, variables_token, zero_token}
+use Rattle.pv_grammar.specs.Standings.{begins_expression}
 
 -- a text of the items, which leads from some counts to others, and can be spelled where some names are declared
 pub record ClosesFrom (n : Names) (c : Counts) (items : List Item) : Type 0 where

@@ -17,7 +17,7 @@ use Rattle.pv_grammar.specs.declared.symbol.Symbol.TheVariants.{Never, Fixed as 
 use Rattle.pv_grammar.specs.ByItems.{IsStart}
 use Rattle.pv_grammar.specs.Causes.{refusal}
 use Rattle.pv_grammar.specs.Grammar.{Follows, MayEnd, Produced, Settles, emptied, ended, expression_items, is_exponent, met, produced, step_of, system_items}
-use Rattle.pv_grammar.specs.Limits.{counted, nothing}
+use Rattle.pv_grammar.specs.Counting.{counted, nothing}
 use Rattle.pv_tokens.specs.declared.number.Decimal.{Decimal}
 use Rattle.pv_tokens.specs.declared.token.Kind.{Kind}
 use Rattle.pv_tokens.specs.declared.token.Kind.TheVariants.{Name, Number as NumberKind, LessEqual, GreaterEqual, Less, Greater, Equal, Plus as PlusKind, Minus as MinusKind, Star as StarKind, Slash as SlashKind, Caret as CaretKind, Open as OpenKind, Close as CloseKind, OpenBracket as OpenBracketKind, CloseBracket as CloseBracketKind, Comma as CommaKind, Semicolon as SemicolonKind, Bad, End}

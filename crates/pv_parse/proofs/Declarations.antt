@@ -5,7 +5,7 @@ use Rattle.pv_expr.specs.declared.domain.Bound.{Bound}
 use Rattle.pv_expr.specs.declared.domain.Domain.{Domain}
 use Rattle.pv_grammar.specs.declared.counts.Counts.{Counts}
 use Rattle.pv_grammar.specs.declared.symbol.Symbol.{Symbol}
-use Rattle.pv_grammar.specs.Limits.{counted, is_minus}
+use Rattle.pv_grammar.specs.Counting.{counted}
 use Rattle.pv_tokens.specs.declared.token.Token.{Token}
 use Rattle.pv_tokens.specs.Tokens.{IsNext}
 use Rattle.pv_parse.specs.declared.given.Awaited.{Awaited}
@@ -15,6 +15,7 @@ use Rattle.pv_parse.specs.Declarations.{Mark, MarksTo, bracket_behind, bracket_o
 use Rattle.pv_parse.specs.Fractions.{HasFraction, HaveFractions}
 use Rattle.pv_parse.specs.Scopes.{Scoped, Variable, all_given_behind, bound_at, bounded, bounds_of, bracket_given, bracket_in, domain_given, domain_in, domain_of, followed, given_behind, name_of, nothing_given, scoped_behind, variable, variables_in, with_bound, with_last}
 use Rattle.pv_parse.proofs.Fractions.{have_one}
+use Rattle.pv_grammar.specs.Standings.{is_minus}
 
 -- ---- One token more
 

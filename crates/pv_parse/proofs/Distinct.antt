@@ -12,7 +12,7 @@ use Rattle.pv_grammar.specs.declared.counts.Phase.TheVariants.{Constants, Body, 
 use Rattle.pv_grammar.specs.declared.symbol.Fixed.TheVariants.{End}
 use Rattle.pv_grammar.specs.declared.symbol.Symbol.{Symbol}
 use Rattle.pv_grammar.specs.declared.symbol.Symbol.TheVariants.{Fixed as FixedToken, Number, Declared}
-use Rattle.pv_grammar.specs.Limits.{counted}
+use Rattle.pv_grammar.specs.Counting.{counted}
 use Rattle.pv_tokens.specs.declared.keyword.Word.{Word}
 use Rattle.pv_tokens.specs.declared.keyword.Word.TheVariants.{End as EndWord}
 use Rattle.pv_tokens.specs.declared.token.Kind.{Kind}

@@ -14,7 +14,6 @@ use Rattle.pv_grammar.specs.declared.counts.Phase.TheVariants.{Between, Constant
 use Rattle.pv_grammar.specs.declared.symbol.Fixed.TheVariants.{End, Oo}
 use Rattle.pv_grammar.specs.declared.symbol.Symbol.{Symbol}
 use Rattle.pv_grammar.specs.declared.symbol.Symbol.TheVariants.{Fixed as FixedToken, Number, Declared, Constant}
-use Rattle.pv_grammar.specs.Limits.{is_minus}
 use Rattle.pv_grammar.specs.Trees.{infinite}
 use Rattle.pv_tokens.specs.declared.keyword.Word.{Word}
 use Rattle.pv_tokens.specs.declared.keyword.Word.TheVariants.{End as EndWord}
@@ -25,6 +24,7 @@ use Rattle.pv_parse.specs.Fractions.{HasFraction, HaveFractions, KnowsFractions}
 use Rattle.pv_parse.specs.Meanings.{AreSame, KnowsVariables, Names, in_body, in_bounds, learnt, meaning, no_names, numbered, use_of, variables_from, with_function, with_name, with_value}
 use Rattle.pv_parse.specs.Scopes.{Variable, bound_at, bounds_of, domain_in, domain_of, variable, variables_in}
 use Rattle.pv_parse.specs.Sentences.{name_symbol, word_symbol}
+use Rattle.pv_grammar.specs.Standings.{is_minus}
 
 -- ---- What a name stands for
 

@@ -16,7 +16,7 @@ use Rattle.pv_grammar.specs.declared.symbol.Symbol.TheVariants.{Fixed as FixedTo
 use Rattle.pv_grammar.specs.declared.machine.Item.{Item}
 use Rattle.pv_grammar.specs.declared.machine.Item.TheVariants.{Exactly, MaybeConstants, WantConstant, MoreConstants, MaybeConstant, WantEquals, MaybeSign, WantValue, MaybeFunctions, WantFunctionName, WantParameter, MoreParameters, MaybeSemicolon, WantVariable, MoreVariables, MaybeVariable, MaybeDomain, WantBound, WantRelation, MoreConstraints, MaybeConstraint, WantFactor, MoreFactors, MoreTerms, MaybePower, WantExponent, MoreArguments, Then}
 use Rattle.pv_grammar.specs.Grammar.{Derives, MayEnd, Produced, arguments, begun, done, exactly, exponent, factor, factors, fixed, left_out, power, produced, relation, step_of, system_items, terms, with_more}
-use Rattle.pv_grammar.specs.Limits.{Counting, begun as counts_begun, counted, nested, next, nothing, operated}
+use Rattle.pv_grammar.specs.Counting.{Counting, begun as counts_begun, counted, nested, next, nothing, operated}
 use Rattle.pv_tokens.specs.declared.keyword.Word.{Word}
 use Rattle.pv_tokens.specs.declared.keyword.Word.TheVariants.{Constants as ConstantsWord, Variables as VariablesWord, Constraints as ConstraintsWord, Function as FunctionBlock, Return as ReturnWord, End as EndWord, In as InWord, Oo as OoWord, Abs as AbsWord, Sqr as SqrWord, Min as MinWord, Max as MaxWord, Outside}
 use Rattle.pv_tokens.specs.declared.token.Kind.{Kind}

@@ -17,7 +17,7 @@ use Rattle.pv_grammar.specs.declared.symbol.Symbol.{Symbol}
 use Rattle.pv_grammar.specs.declared.symbol.Symbol.TheVariants.{Fixed as FixedToken, Relation as RelationToken, Number, Declared, Constant as ConstantToken, Variable as VariableToken, Parameter as ParameterToken, Function as Call, Unknown}
 use Rattle.pv_grammar.specs.Causes.{as_known}
 use Rattle.pv_grammar.specs.Grammar.{Derives, MayEnd, Produced, arguments, begun as begun_by, done, exactly, expression_items, factor, factors, fixed, left_out, produced, relation, system_items, terms, with_more}
-use Rattle.pv_grammar.specs.Limits.{Counting, begins, begins_expression, begun, behind_comma, behind_end, behind_semicolon, counted, declared, in_expression, in_phase, levels, moved, nested, next, nothing, operated, operates, turned}
+use Rattle.pv_grammar.specs.Counting.{Counting, begins, begun, behind_comma, behind_end, behind_semicolon, counted, declared, in_expression, in_phase, levels, moved, nested, next, nothing, operated, operates, turned}
 use Rattle.pv_grammar.specs.TreeCodes.{AreKnown, IsCalled, IsKnown}
 use Rattle.pv_grammar.proofs.Forward.{head_is, nil_cons, none_some, tail_is}
 use Rattle.pv_tokens.specs.declared.keyword.Word.{Word}
@@ -30,6 +30,7 @@ use Rattle.pv_parse.specs.declared.names.Meaning.TheVariants.{Constant as Consta
 use Rattle.pv_parse.specs.ByItems.{IsSentence}
 use Rattle.pv_parse.specs.Meanings.{KnowsVariables, Names, in_body, in_bounds, learnt, meaning, no_names, numbered, told, use_of, with_function, with_name, with_value}
 use Rattle.pv_parse.specs.Sentences.{IsNumberSymbol, Spells, SpellsTo, StandsFor, bytes_of, name_symbol, word_symbol}
+use Rattle.pv_grammar.specs.Standings.{begins_expression}
 
 -- ---- Counts: within a body there is a parameter
 

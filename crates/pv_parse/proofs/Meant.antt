@@ -14,7 +14,7 @@ use Rattle.pv_grammar.specs.declared.symbol.Fixed.TheVariants.{Constraints, Open
 use Rattle.pv_grammar.specs.declared.symbol.Symbol.{Symbol}
 use Rattle.pv_grammar.specs.declared.symbol.Symbol.TheVariants.{Fixed as FixedToken, Relation as RelationToken}
 use Rattle.pv_grammar.specs.Grammar.{system_items}
-use Rattle.pv_grammar.specs.Limits.{nothing}
+use Rattle.pv_grammar.specs.Counting.{nothing}
 use Rattle.pv_grammar.specs.TreeCodes.{IsOfSystem}
 use Rattle.pv_grammar.specs.Trees.{system_constraints, system_domains}
 use Rattle.pv_grammar.proofs.TreeBuilding.{system_tree}

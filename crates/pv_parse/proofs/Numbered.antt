@@ -18,7 +18,7 @@ use Rattle.pv_grammar.specs.declared.symbol.Fixed.TheVariants.{Open, End}
 use Rattle.pv_grammar.specs.declared.symbol.Symbol.{Symbol}
 use Rattle.pv_grammar.specs.declared.symbol.Symbol.TheVariants.{Fixed as FixedToken, Number, Declared, Never}
 use Rattle.pv_grammar.specs.Grammar.{Derives, Produced, begun, done, expression_items, left_out, produced, system_items}
-use Rattle.pv_grammar.specs.Limits.{counted, nothing}
+use Rattle.pv_grammar.specs.Counting.{counted, nothing}
 use Rattle.pv_grammar.proofs.Steps.{AllWrite, MayRaise, Own, Writes, derived-steps}
 use Rattle.pv_tokens.specs.declared.keyword.Word.{Word}
 use Rattle.pv_tokens.specs.declared.keyword.Word.TheVariants.{Sqr as SqrWord}

@@ -11,7 +11,7 @@ use Rattle.pv_grammar.specs.declared.symbol.Symbol.{Symbol}
 use Rattle.pv_grammar.specs.declared.symbol.Symbol.TheVariants.{Never, Number}
 use Rattle.pv_grammar.specs.Causes.{BeginsWithin, IsCause}
 use Rattle.pv_grammar.specs.Causes.IsCause.{not_allowed, beyond}
-use Rattle.pv_grammar.specs.Limits.{Counted, counted, nothing}
+use Rattle.pv_grammar.specs.Counting.{Counted, counted, nothing}
 use Rattle.pv_grammar.specs.Productions.{IsExpression, expression_symbols}
 use Rattle.pv_tokens.specs.declared.number.Decimal.{Decimal}
 use Rattle.pv_tokens.specs.declared.token.Kind.{Kind}

@@ -18,7 +18,7 @@ use Rattle.pv_grammar.specs.declared.cause.Cause.TheVariants.{BadBounds, TextToo
 use Rattle.pv_grammar.specs.declared.counts.Counts.{Counts}
 use Rattle.pv_grammar.specs.declared.counts.Phase.TheVariants.{Between}
 use Rattle.pv_grammar.specs.declared.symbol.Symbol.{Symbol}
-use Rattle.pv_grammar.specs.Limits.{counted, nothing}
+use Rattle.pv_grammar.specs.Counting.{counted, nothing}
 use Rattle.pv_grammar.specs.Productions.{IsSystem, System, system_symbols}
 use Rattle.pv_grammar.specs.TreeCodes.{system_code}
 use Rattle.pv_grammar.specs.Trees.{expression_term, system_constraints, system_domains}

@@ -14,7 +14,7 @@ use Rattle.pv_grammar.specs.declared.symbol.Fixed.{Fixed}
 use Rattle.pv_grammar.specs.declared.symbol.Fixed.TheVariants.{Open as OpenMark, Close as CloseMark, OpenBracket as OpenBracketMark, CloseBracket as CloseBracketMark, Comma as CommaMark, Variables as VariablesWord, Constraints as ConstraintsWord, Return as ReturnWord, End as EndWord, Oo}
 use Rattle.pv_grammar.specs.declared.symbol.Symbol.{Symbol}
 use Rattle.pv_grammar.specs.declared.symbol.Symbol.TheVariants.{Fixed as FixedToken, Relation as RelationToken, Number, Declared}
-use Rattle.pv_grammar.specs.Limits.{counted, is_minus}
+use Rattle.pv_grammar.specs.Counting.{counted}
 use Rattle.pv_tokens.specs.declared.number.Decimal.{Decimal}
 use Rattle.pv_tokens.specs.declared.numeral.Parts.{Parts}
 use Rattle.pv_tokens.specs.declared.token.Kind.{Kind}
@@ -28,6 +28,7 @@ use Rattle.pv_parse.specs.declared.names.Meaning.TheVariants.{Variable as Variab
 use Rattle.pv_parse.specs.ByItems.{AreBounded, AreWithin}
 use Rattle.pv_parse.specs.Meanings.{KnowsVariables, Names, no_names, numbered, behind_sign, is_function, is_taken, learnt, meaning, told, with_function, with_known, with_name, with_parameter, with_pending, with_value, without_parameters}
 use Rattle.pv_parse.specs.Sentences.{StandsFor}
+use Rattle.pv_grammar.specs.Standings.{is_minus}
 
 -- ---- Names stay bounded
 

@@ -14,7 +14,7 @@ use Rattle.pv_grammar.specs.ByItems.{BeginsByItems, IsCauseByItems, IsStart}
 use Rattle.pv_grammar.specs.Causes.{behind_caret, refusal}
 use Rattle.pv_grammar.specs.ByItems.IsCauseByItems.{not_allowed, beyond}
 use Rattle.pv_grammar.specs.Grammar.{Derives, Follows, MayEnd, Produced, Settles, emptied, ended, is_exponent, met, produced, step_of}
-use Rattle.pv_grammar.specs.Limits.{Counted, counted, nothing}
+use Rattle.pv_grammar.specs.Counting.{Counted, counted, nothing}
 use Rattle.pv_grammar.proofs.Derivations.{Leads, leads_back, leads_end}
 use Rattle.pv_grammar.proofs.Exponents.{AtExponent, expression_plain, system_plain, IsUsual, Met, behind_last, no_end, settled_met, taken_plain}
 use Rattle.pv_grammar.proofs.Fits.{expression_starts, settled_ready, system_starts, taken_ready}

@@ -20,7 +20,6 @@ use Rattle.pv_grammar.specs.declared.symbol.Fixed.{Fixed}
 use Rattle.pv_grammar.specs.declared.symbol.Fixed.TheVariants.{End}
 use Rattle.pv_grammar.specs.declared.symbol.Symbol.{Symbol}
 use Rattle.pv_grammar.specs.declared.symbol.Symbol.TheVariants.{Fixed as FixedToken, Number, Declared}
-use Rattle.pv_grammar.specs.Limits.{is_minus}
 use Rattle.pv_tokens.specs.declared.keyword.Word.{Word}
 use Rattle.pv_tokens.specs.declared.token.Kind.{Kind}
 use Rattle.pv_tokens.specs.declared.token.Kind.TheVariants.{Name}
@@ -30,6 +29,7 @@ use Rattle.pv_parse.specs.declared.names.Meaning.TheVariants.{Constant as Consta
 use Rattle.pv_parse.specs.Meanings.{AreSame, Names, behind_sign, in_body, in_bounds, is_function, is_taken, learnt, meaning, no_names, told, use_of, variables_from, with_function, with_known, with_name, with_parameter, with_pending, with_value, without_parameters}
 use Rattle.pv_parse.specs.Sentences.{StandsFor, name_symbol}
 use Rattle.pv_parse.specs.Views.{found}
+use Rattle.pv_grammar.specs.Standings.{is_minus}
 
 pub same_refl : (n : Names) → AreSame n n
 same_refl n = record { known = λ name. refl; parameter = λ name. refl; pending = refl; negative = refl }

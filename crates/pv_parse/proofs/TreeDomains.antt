@@ -10,12 +10,13 @@ use Rattle.pv_grammar.specs.declared.symbol.Fixed.{Fixed}
 use Rattle.pv_grammar.specs.declared.symbol.Fixed.TheVariants.{Plus, Minus, Open, Close, OpenBracket, CloseBracket, Comma, Semicolon as SemicolonToken, Constants as ConstantsWord, Variables as VariablesWord, Constraints as ConstraintsWord, Function as FunctionWord, Return, End, In, Oo}
 use Rattle.pv_grammar.specs.declared.symbol.Symbol.{Symbol}
 use Rattle.pv_grammar.specs.declared.symbol.Symbol.TheVariants.{Fixed as FixedToken, Relation as RelationToken, Number, Declared, Constant as ConstantToken, Function as Call, Unknown}
-use Rattle.pv_grammar.specs.Limits.{begins, begins_expression, begun, behind_comma, behind_end, behind_semicolon, counted, declared, in_expression, in_phase, is_minus, levels, moved, nested, nothing, operated, operates, turned}
+use Rattle.pv_grammar.specs.Counting.{begins, begun, behind_comma, behind_end, behind_semicolon, counted, declared, in_expression, in_phase, levels, moved, nested, nothing, operated, operates, turned}
 use Rattle.pv_grammar.specs.Productions.{Arguments, Bound as BoundTree, ConstantBlock, Constant, Constants, Constraint, Constraints, Domain as DomainTree, Expression, Factor, Factors, Functions, Limit, Parameters, Power, Primary, Semicolon, Separator, Sign, System, Term, Terms, Variables, absolute_of, argument, between, bound_of, call, comma, constant_and, constant_limit, constant_named, constant_of, constants, constants_separator, constraint_and, constraints_semicolon, function_and, function_of, greatest_of, infinite_limit, least_of, minus, minus_sign, negative, no_argument, no_constant, no_constants, no_constraint, no_domain, no_factor, no_function, no_parameter, no_power, no_semicolon, no_sign, no_term, no_variable, number, number_limit, one_semicolon, over, parameter_and, parameter_at, parentheses, plus, plus_sign, positive, product_of, raised, relates, semicolon, square_of, sum_of, system_of, times, to_power, variable_and, variable_at, variable_of, variables_separator, arguments_symbols, constant_block_symbols, constant_symbols, constants_symbols, constraint_symbols, constraints_symbols, bound_symbols, domain_symbols, expression_symbols, factor_symbols, factors_symbols, functions_symbols, limit_symbol, parameters_symbols, power_symbols, primary_symbols, semicolon_symbols, separator_symbol, sign_symbols, system_symbols, term_symbols, terms_symbols, variables_symbols}
 use Rattle.pv_grammar.specs.Trees.{domain_of as tree_domain, end_of, limit_of, system_domains, variables_domains}
 use Rattle.pv_parse.specs.Declarations.{Mark, Marks, MarksTo, brackets_in, declares, mark_of, names_in, own}
 use Rattle.pv_parse.specs.Scopes.{Variable as Declaration, bound_at, bounds_of, bracket_in, domain_in, domain_of, name_of, variable, variables_in}
 use Rattle.pv_parse.proofs.KnownNames.{At, Gives, given, gives_any, gives_if, gives_next, where_phase}
+use Rattle.pv_grammar.specs.Standings.{begins_expression, is_minus}
 
 -- ---- What marks declare
 

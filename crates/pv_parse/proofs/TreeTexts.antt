@@ -3,7 +3,7 @@ use Rattle.std.proofs.Common.{◌≡◌, ℕ, List, [], ◌∙◌, subst}
 use Rattle.pv_code.specs.declared.code.Op.{Op}
 use Rattle.pv_grammar.specs.declared.counts.Phase.TheVariants.{Between, Sides as SidesPhase}
 use Rattle.pv_grammar.specs.Grammar.{expression_items, system_items}
-use Rattle.pv_grammar.specs.Limits.{nothing}
+use Rattle.pv_grammar.specs.Counting.{nothing}
 use Rattle.pv_grammar.specs.Productions.{Expression, System, expression_symbols, system_symbols}
 use Rattle.pv_grammar.specs.TreeCodes.{expression_code, system_code}
 use Rattle.pv_grammar.proofs.OneTree.{one_expression_tree, one_system_tree}

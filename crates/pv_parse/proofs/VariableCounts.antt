@@ -15,10 +15,11 @@ use Rattle.pv_grammar.specs.declared.symbol.Fixed.TheVariants.{Open, Close, Comm
 use Rattle.pv_grammar.specs.declared.symbol.Symbol.{Symbol}
 use Rattle.pv_grammar.specs.declared.symbol.Symbol.TheVariants.{Fixed as FixedToken, Declared, Function as Call, Unknown}
 use Rattle.pv_grammar.specs.Grammar.{Derives, done, left_out, begun, MayEnd, Produced, declared, exactly, produced, system_items}
-use Rattle.pv_grammar.specs.Limits.{Counting, begins, begins_expression, begun as begun_by, behind_comma, behind_end, behind_semicolon, counted, declared as declared_as, in_expression, in_phase, levels, moved, nested, next, operated, operates, turned, with_operations}
+use Rattle.pv_grammar.specs.Counting.{Counting, begins, begun as begun_by, behind_comma, behind_end, behind_semicolon, counted, declared as declared_as, in_expression, in_phase, levels, moved, nested, next, operated, operates, turned, with_operations}
 use Rattle.pv_parse.specs.Declarations.{Mark, MarksTo, declares, mark_of}
 use Rattle.pv_parse.specs.Scopes.{Variable, variable, variables_in}
 use Rattle.pv_parse.proofs.NameBytes.{is_declared}
+use Rattle.pv_grammar.specs.Standings.{begins_expression}
 
 abbrev one_if : Bool → ℕ
 one_if true = 1

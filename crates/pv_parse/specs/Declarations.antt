@@ -11,7 +11,7 @@ use Rattle.pv_grammar.specs.declared.counts.Phase.TheVariants.{Between, Variable
 use Rattle.pv_grammar.specs.declared.symbol.Fixed.TheVariants.{Constraints, Semicolon, OpenBracket}
 use Rattle.pv_grammar.specs.declared.symbol.Symbol.{Symbol}
 use Rattle.pv_grammar.specs.declared.symbol.Symbol.TheVariants.{Fixed as FixedToken, Relation as RelationToken, Declared}
-use Rattle.pv_grammar.specs.Limits.{counted, nothing}
+use Rattle.pv_grammar.specs.Counting.{counted, nothing}
 use Rattle.pv_grammar.specs.Productions.{Expression, System, system_symbols}
 use Rattle.pv_grammar.specs.Trees.{expression_term, system_constraints, system_domains}
 use Rattle.pv_tokens.specs.declared.token.Token.{Token}

@@ -7,7 +7,7 @@ use Rattle.pv_grammar.specs.declared.counts.Counts.{Counts}
 use Rattle.pv_grammar.specs.declared.counts.Phase.TheVariants.{Between, Sides}
 use Rattle.pv_grammar.specs.declared.symbol.Symbol.{Symbol}
 use Rattle.pv_grammar.specs.Causes.{BeginsWithin, IsCause}
-use Rattle.pv_grammar.specs.Limits.{Counted, nothing}
+use Rattle.pv_grammar.specs.Counting.{Counted, nothing}
 use Rattle.pv_grammar.specs.Productions.{IsExpression, IsSystem}
 use Rattle.pv_grammar.specs.Trees.{system_constraints, system_domains}
 use Rattle.pv_tokens.specs.declared.token.Kind.TheVariants.{End}

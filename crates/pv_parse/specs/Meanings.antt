@@ -11,9 +11,9 @@ use Rattle.pv_grammar.specs.declared.counts.Phase.TheVariants.{Between, Constant
 use Rattle.pv_grammar.specs.declared.symbol.Fixed.TheVariants.{End}
 use Rattle.pv_grammar.specs.declared.symbol.Symbol.{Symbol}
 use Rattle.pv_grammar.specs.declared.symbol.Symbol.TheVariants.{Fixed as FixedToken, Number, Declared, Constant, Variable, Parameter, Function, Unknown}
-use Rattle.pv_grammar.specs.Limits.{is_minus}
 use Rattle.pv_parse.specs.declared.names.Meaning.{Meaning}
 use Rattle.pv_parse.specs.declared.names.Meaning.TheVariants.{Constant as ConstantMeaning, Variable as VariableMeaning, Function as FunctionMeaning}
+use Rattle.pv_grammar.specs.Standings.{is_minus}
 
 pub record Names : Type 0 where
   -- what a name was declared as, a function from the end of its text on

@@ -9,7 +9,6 @@ use Rattle.pv_grammar.specs.declared.counts.Counts.{Counts}
 use Rattle.pv_grammar.specs.declared.counts.Phase.{Phase}
 use Rattle.pv_grammar.specs.declared.machine.Item.{Item}
 use Rattle.pv_grammar.specs.declared.symbol.Symbol.{Symbol}
-use Rattle.pv_grammar.specs.Limits.{is_minus}
 use Rattle.pv_grammar.specs.Trees.{infinite, value_of}
 use Rattle.pv_grammar.specs.declared.counts.Phase.TheVariants.{Bounds}
 use Rattle.pv_grammar.specs.declared.symbol.Fixed.TheVariants.{Oo}
@@ -24,6 +23,7 @@ use Rattle.pv_parse.specs.ByItems.{IsSentence}
 use Rattle.pv_parse.specs.Declarations.{Mark, Marks, begun_at, begun_behind, bracket_behind, bracket_of, declares, own, start_of}
 use Rattle.pv_parse.specs.Fractions.{HaveFractions}
 use Rattle.pv_parse.specs.Meanings.{Names}
+use Rattle.pv_grammar.specs.Standings.{is_minus}
 
 -- ---- Variables with what is written behind their names
 

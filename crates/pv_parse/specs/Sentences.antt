@@ -11,7 +11,7 @@ use Rattle.pv_grammar.specs.declared.symbol.Symbol.TheVariants.{Never, Fixed as 
 use Rattle.pv_grammar.specs.declared.counts.Counts.{Counts}
 use Rattle.pv_grammar.specs.declared.counts.Phase.{Phase}
 use Rattle.pv_grammar.specs.declared.counts.Phase.TheVariants.{Between, Sides}
-use Rattle.pv_grammar.specs.Limits.{nothing, counted}
+use Rattle.pv_grammar.specs.Counting.{nothing, counted}
 use Rattle.pv_grammar.specs.Productions.{Expression, System, expression_symbols, system_symbols}
 use Rattle.pv_tokens.specs.declared.token.Kind.{Kind}
 use Rattle.pv_tokens.specs.declared.token.Kind.TheVariants.{Name, Number as NumberKind, LessEqual, GreaterEqual, Less, Greater, Equal, Plus as PlusKind, Minus as MinusKind, Star as StarKind, Slash as SlashKind, Caret as CaretKind, Open as OpenKind, Close as CloseKind, OpenBracket as OpenBracketKind, CloseBracket as CloseBracketKind, Comma as CommaKind, Semicolon as SemicolonKind, Bad, End as EndKind}

@@ -1,6 +1,6 @@
 //! That a text has one tree and means what it says, or has one fault, as contracts.
 ghost use Rattle.std.specs.Prelude.{◌≡◌, ℕ, List};
-ghost use Rattle.pv_grammar.specs.Limits.{nothing};
+ghost use Rattle.pv_grammar.specs.Counting.{nothing};
 ghost use Rattle.pv_parse.specs.Declarations.{IsExpressionSentence, IsSystemSentence, MeansOne, MeansOneTerm};
 ghost use Rattle.pv_parse.specs.Faults.{Excludes, IsAtMostOne, IsEither, IsExpressionFault, IsExpressionFaultOf, IsFaultOf, IsSystemFault};
 ghost use Rattle.pv_parse.specs.Meanings.{KnowsVariables, Names, no_names};

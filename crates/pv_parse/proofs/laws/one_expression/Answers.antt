@@ -1,5 +1,5 @@
 use Rattle.pv_grammar.specs.declared.counts.Phase.TheVariants.{Sides}
-use Rattle.pv_grammar.specs.Limits.{nothing}
+use Rattle.pv_grammar.specs.Counting.{nothing}
 use Rattle.pv_parse.proofs.Decided.{decides_expression}
 use Rattle.pv_parse.proofs.OneSpelling.{expression_apart, expression_fault, one_known, one_spelling}
 use Rattle.pv_parse.proofs.TreeTexts.{one_expression_tree_of}

@@ -1,6 +1,6 @@
 use Rattle.std.proofs.Common.{[], refl}
 use Rattle.pv_grammar.specs.declared.counts.Phase.TheVariants.{Between}
-use Rattle.pv_grammar.specs.Limits.{nothing}
+use Rattle.pv_grammar.specs.Counting.{nothing}
 use Rattle.pv_grammar.specs.Productions.{IsSystem, system_symbols}
 use Rattle.pv_parse.specs.Meanings.{no_names}
 use Rattle.pv_parse.proofs.Decided.{decides_system}
