@@ -14,3 +14,5 @@ pub mod TreeExamples
 pub mod TreeReadings
 pub mod TreeRuns
 pub mod Within
+pub mod Following
+pub mod Beyond

@@ -154,7 +154,7 @@ pub gives_if : (P : Counts → Type 0) (b : Bool) (x y : Counting) → (b ≡ tr
 gives_if P true x y g h = g refl
 gives_if P false x y g h = h
 
-gives_next : (P Q : Counts → Type 0) (r : Counting) (f : Counts → Counting) → Gives Q r → ((d : Counts) → Q d → Gives P (f d)) → Gives P (next r f)
+pub gives_next : (P Q : Counts → Type 0) (r : Counting) (f : Counts → Counting) → Gives Q r → ((d : Counts) → Q d → Gives P (f d)) → Gives P (next r f)
 gives_next P Q (Err cause) f g h = tt
 gives_next P Q (Ok d) f g h = h d g
 

@@ -14,9 +14,10 @@ use Rattle.pv_grammar.specs.declared.symbol.Fixed.TheVariants.{Plus, Minus, Star
 use Rattle.pv_grammar.specs.declared.symbol.Symbol.{Symbol}
 use Rattle.pv_grammar.specs.declared.symbol.Symbol.TheVariants.{Fixed as FixedToken, Relation as RelationToken, Number, Declared, Constant as ConstantName, Variable as VariableName, Parameter as ParameterName, Function as Call}
 use Rattle.pv_grammar.specs.Counting.{AreCounted, Counted, Counting, begins, counted, in_phase, moved, nested, next, nothing, operated, where_below, with_constraints}
-use Rattle.pv_grammar.specs.Limits.{AreConstraintsWithin, AreFunctionsWithin, IsConstraintWithin, IsExpressionWithin, IsFunctionWithin, IsSystemWithin, arguments_depth, arguments_operations, constraints_count, expression_depth, expression_operations, factor_depth, factor_operations, factors_depth, factors_operations, functions_count, parameters_count, power_operations, primary_depth, primary_operations, term_depth, term_operations, terms_depth, terms_operations, variables_count}
-use Rattle.pv_grammar.specs.Productions.{Arguments, Bound, Constant, ConstantBlock, Constants, Constraint, Constraints, Domain, Expression, Factor, Factors, Function, Functions, Limit, Parameters, Power, Primary, Semicolon, Separator, Sign, System, Term, Terms, Variable, Variables, absolute_of, argument, arguments_symbols, between, bound_of, bound_symbols, call, comma, constant_and, constant_block_symbols, constant_limit, constant_named, constant_of, constant_symbols, constants, constants_separator, constants_symbols, constraint_and, constraint_symbols, constraints_semicolon, constraints_symbols, domain_symbols, expression_symbols, factor_symbols, factors_symbols, function_and, function_of, function_symbols, functions_symbols, greatest_of, infinite_limit, least_of, limit_symbol, minus, minus_sign, negative, no_argument, no_constant, no_constants, no_constraint, no_domain, no_factor, no_function, no_parameter, no_power, no_semicolon, no_sign, no_term, no_variable, number, number_limit, one_semicolon, over, parameter_and, parameter_at, parameters_symbols, parentheses, plus, plus_sign, positive, power_symbols, primary_symbols, product_of, raised, relates, semicolon, semicolon_symbols, separator_symbol, sign_symbols, square_of, sum_of, system_of, system_symbols, term_symbols, terms_symbols, times, to_power, variable_and, variable_at, variable_of, variable_symbols, variables_separator, variables_symbols}
+use Rattle.pv_grammar.specs.Limits.{AreConstraintsWithin, AreFunctionsWithin, IsConstraintWithin, IsExpressionWithin, IsFunctionWithin, IsLimitedExpression, IsLimitedSystem, IsSystemWithin, arguments_depth, arguments_operations, constraints_count, expression_depth, expression_operations, factor_depth, factor_operations, factors_depth, factors_operations, functions_count, parameters_count, power_operations, primary_depth, primary_operations, term_depth, term_operations, terms_depth, terms_operations, variables_count}
+use Rattle.pv_grammar.specs.Productions.{Arguments, Bound, Constant, ConstantBlock, Constants, Constraint, Constraints, Domain, Expression, Factor, Factors, Function, Functions, IsExpression, IsSystem, Limit, Parameters, Power, Primary, Semicolon, Separator, Sign, System, Term, Terms, Variable, Variables, absolute_of, argument, arguments_symbols, between, bound_of, bound_symbols, call, comma, constant_and, constant_block_symbols, constant_limit, constant_named, constant_of, constant_symbols, constants, constants_separator, constants_symbols, constraint_and, constraint_symbols, constraints_semicolon, constraints_symbols, domain_symbols, expression_symbols, factor_symbols, factors_symbols, function_and, function_of, function_symbols, functions_symbols, greatest_of, infinite_limit, least_of, limit_symbol, minus, minus_sign, negative, no_argument, no_constant, no_constants, no_constraint, no_domain, no_factor, no_function, no_parameter, no_power, no_semicolon, no_sign, no_term, no_variable, number, number_limit, one_semicolon, over, parameter_and, parameter_at, parameters_symbols, parentheses, plus, plus_sign, positive, power_symbols, primary_symbols, product_of, raised, relates, semicolon, semicolon_symbols, separator_symbol, sign_symbols, square_of, sum_of, system_of, system_symbols, term_symbols, terms_symbols, times, to_power, variable_and, variable_at, variable_of, variable_symbols, variables_separator, variables_symbols}
 use Rattle.pv_grammar.specs.Standings.{begins_expression}
+use Rattle.pv_grammar.proofs.Following.{IsCalm}
 use Rattle.pv_grammar.proofs.Ready.{InExpression}
 
 -- ---- Parts of a text
@@ -78,7 +79,7 @@ bounded n most cause c e s k one = record {
 
 -- ---- Expressions
 
-abbrev made : Phase → ℕ → ℕ → ℕ → ℕ → ℕ → ℕ → Counts
+abbrev pub made : Phase → ℕ → ℕ → ℕ → ℕ → ℕ → ℕ → Counts
 made p l o a f v k = record { phase = p; level = l; operations = o; parameters = a; functions = f; variables = v; constraints = k }
 
 -- these counts, at another level and behind other operations
@@ -93,7 +94,7 @@ pass : (b : Bool) (x y : Counts) (cause : Cause) (f : Counts → Counting) → f
 pass true x y cause f e = e
 pass false x y cause f e = refl
 
-abbrev IsOperator : Symbol → Type 0
+abbrev pub IsOperator : Symbol → Type 0
 IsOperator (FixedToken Plus) = Unit {0}
 IsOperator (FixedToken Minus) = Unit {0}
 IsOperator (FixedToken Star) = Unit {0}
@@ -101,7 +102,7 @@ IsOperator (FixedToken Slash) = Unit {0}
 IsOperator (FixedToken Caret) = Unit {0}
 IsOperator s = ⊥
 
-operator_is : (p : Phase) (s : Symbol) → InExpression p → IsOperator s → (l o a f v k : ℕ) → counted (made p l o a f v k) s ≡ where_below o 1000 TooDeep (made p l (o + 1) a f v k)
+pub operator_is : (p : Phase) (s : Symbol) → InExpression p → IsOperator s → (l o a f v k : ℕ) → counted (made p l o a f v k) s ≡ where_below o 1000 TooDeep (made p l (o + 1) a f v k)
 operator_is Body (FixedToken Plus) i t l o a f v k = pass (nat_lt o 1000) _ _ TooDeep (asked (FixedToken Plus)) refl
 operator_is Body (FixedToken Minus) i t l o a f v k = pass (nat_lt o 1000) _ _ TooDeep (asked (FixedToken Minus)) refl
 operator_is Body (FixedToken Star) i t l o a f v k = pass (nat_lt o 1000) _ _ TooDeep (asked (FixedToken Star)) refl
@@ -142,7 +143,7 @@ quiet_is Body s i t l o a f v k = absurd t
 quiet_is Sides s i t l o a f v k = absurd t
 quiet_is p s i t l o a f v k = absurd i
 
-open_is : (p : Phase) → InExpression p → (l o a f v k : ℕ) → counted (made p l o a f v k) (FixedToken Open) ≡ where_below l 100 TooDeep (made p (l + 1) o a f v k)
+pub open_is : (p : Phase) → InExpression p → (l o a f v k : ℕ) → counted (made p l o a f v k) (FixedToken Open) ≡ where_below l 100 TooDeep (made p (l + 1) o a f v k)
 open_is Body i l o a f v k = pass (nat_lt l 100) _ _ TooDeep (λ g. moved g (FixedToken Open)) refl
 open_is Sides i l o a f v k = pass (nat_lt l 100) _ _ TooDeep (λ g. moved g (FixedToken Open)) refl
 open_is p i l o a f v k = absurd i
@@ -160,7 +161,7 @@ twice : (b t : Bool) (x y : Counts) (c d : Cause) (f g : Counts → Counting) �
 twice true t x y c d f g e h = e ∙ pass t x y d g h
 twice false t x y c d f g e h = refl
 
-call_is : (p : Phase) → InExpression p → (op : Op) (n l o a f v k : ℕ) →
+pub call_is : (p : Phase) → InExpression p → (op : Op) (n l o a f v k : ℕ) →
     counted (made p l o a f v k) (Call op n) ≡ (if nat_lt o 1000 then where_below l 100 Unexpected (made p l (o + 1) a f v k) else Err TooDeep)
 call_is Body i op n l o a f v k = twice (nat_lt o 1000) (nat_lt l 100) _ _ TooDeep Unexpected (asked (Call op n)) (λ g. moved g (Call op n)) refl refl
 call_is Sides i op n l o a f v k = twice (nat_lt o 1000) (nat_lt l 100) _ _ TooDeep Unexpected (asked (Call op n)) (λ g. moved g (Call op n)) refl refl
@@ -789,3 +790,28 @@ expression_within e (d, h) = ((whole_passes e (nothing Sides) tt []).forth d h).
 
 pub within_expression : (e : Expression) → IsExpressionWithin e → AreCounted (nothing Sides) (expression_symbols e [])
 within_expression e h = (at (nothing Sides) 0 (expression_operations e), (whole_passes e (nothing Sides) tt []).back _ h refl)
+
+-- ---- Texts within the limits
+
+-- texts that are within the limits are those that can be counted
+pub record AreLimited (start : Counts) (IsText IsLimited : List Symbol → Type 0) : Type 0 where
+  pub limited : (ss : List Symbol) → IsText ss → AreCounted start ss → IsLimited ss
+  pub text : (ss : List Symbol) → IsLimited ss → IsText ss
+  pub counted : (ss : List Symbol) → IsLimited ss → AreCounted start ss
+  pub calm : IsCalm start
+
+pub system_limited : AreLimited (nothing Between) IsSystem IsLimitedSystem
+system_limited = record {
+  limited = λ ss (x, e) h. (x, e, system_within x (subst (AreCounted (nothing Between)) e h));
+  text = λ ss (x, e, within). (x, e);
+  counted = λ ss (x, e, within). subst (AreCounted (nothing Between)) (sym e) (within_system x within);
+  calm = tt;
+}
+
+pub expression_limited : AreLimited (nothing Sides) IsExpression IsLimitedExpression
+expression_limited = record {
+  limited = λ ss (x, e) h. (x, e, expression_within x (subst (AreCounted (nothing Sides)) e h));
+  text = λ ss (x, e, within). (x, e);
+  counted = λ ss (x, e, within). subst (AreCounted (nothing Sides)) (sym e) (within_expression x within);
+  calm = tt;
+}
