@@ -1,9 +1,5 @@
 //! That the grammar reads tokens in one way, and that its items and its trees say the same, as contracts.
-ghost use Rattle.std.specs.Prelude.{[], ◌↔◌, ◌≡◌, Ok};
-ghost use Rattle.pv_grammar.specs.declared.counts.Counts.{Counts};
-ghost use Rattle.pv_grammar.specs.declared.symbol.Symbol.{Symbol};
-ghost use Rattle.pv_grammar.specs.Counting.{counted, standing_of};
-ghost use Rattle.pv_grammar.specs.Standings.{standing_behind};
+ghost use Rattle.std.specs.Prelude.{[], ◌↔◌};
 ghost use Rattle.pv_grammar.specs.Counting.{AreCounted, nothing};
 ghost use Rattle.pv_grammar.specs.Limits.{IsExpressionWithin, IsSystemWithin};
 ghost use Rattle.pv_grammar.specs.Productions.{Expression, System, expression_symbols, system_symbols};
@@ -34,9 +30,4 @@ pub fn trees()
 pub fn limits()
     ensures systems { (x : System) → AreCounted (nothing Phase.Between) (system_symbols x []) ↔ IsSystemWithin x }
     ensures expressions { (e : Expression) → AreCounted (nothing Phase.Sides) (expression_symbols e []) ↔ IsExpressionWithin e }
-{}
-
-pub fn trying()
-    ensures a { (c d : Counts) (s : Symbol) → counted c s ≡ Ok d → standing_of d ≡ standing_behind (standing_of c) s }
-    ensures b { (c d : Counts) (s : Symbol) → counted c s ≡ Ok d → standing_of d ≡ standing_behind (standing_of c) s }
 {}

@@ -16,9 +16,10 @@ use Rattle.pv_grammar.proofs.Alike.{AreTexts, expression_texts, items_begin, kno
 use Rattle.pv_parse.specs.ByItems.{IsFirstByItems}
 use Rattle.pv_parse.specs.Faults.{IsExpressionFault, IsFirst, IsSystemFault}
 use Rattle.pv_parse.specs.Meanings.{KnowsVariables, Names, no_names}
-use Rattle.pv_parse.specs.Sentences.{Spells, bytes_of}
+use Rattle.pv_parse.specs.Sentences.{bytes_of}
 use Rattle.pv_parse.proofs.KnownNames.{StartsKnown, expression_start, next_known, system_start, text_known}
 use Rattle.pv_parse.proofs.OneSpelling.{ok_same}
+use Rattle.pv_parse.specs.ByCounts.{SpellsWithin}
 
 ok_err : {c : Counts} {cause : Cause} (r : Result Counts Cause) → r ≡ Ok c → r ≡ Err cause → ⊥
 ok_err r e f = cc
@@ -49,7 +50,7 @@ first_by_trees t known start items IsText texts starts byte cause f =
     let s = f.closes.sentence in
     let all : List Symbol = f.before ++ f.closes.rest in
     let derived : Derives items all s.steps = subst (λ (z : List Symbol). Derives items z s.steps) f.closes.tokens s.derived in
-    let spelled : Spells (take f.from t ++ f.closes.tail) known start all = subst (Spells (take f.from t ++ f.closes.tail) known start) f.closes.tokens s.spelled in
+    let spelled : SpellsWithin (take f.from t ++ f.closes.tail) known start all = subst (SpellsWithin (take f.from t ++ f.closes.tail) known start) f.closes.tokens s.spelled in
     let are : AreKnown all = text_known items start known starts all s.steps derived (take f.from t ++ f.closes.tail) spelled in
     let before : AreKnown f.before = known_before f.before f.closes.rest are in
     let name : IsKnown (as_known f.symbol) =

@@ -11,7 +11,7 @@ use Rattle.pv_grammar.specs.declared.symbol.Symbol.{Symbol}
 use Rattle.pv_grammar.specs.declared.symbol.Symbol.TheVariants.{Never, Number}
 use Rattle.pv_grammar.specs.Causes.{BeginsWithin, IsCause}
 use Rattle.pv_grammar.specs.Causes.IsCause.{not_allowed, beyond}
-use Rattle.pv_grammar.specs.Counting.{Counted, counted, nothing}
+use Rattle.pv_grammar.specs.Counting.{Counted, counted, nothing, standing_of}
 use Rattle.pv_grammar.specs.Productions.{IsExpression, expression_symbols}
 use Rattle.pv_tokens.specs.declared.number.Decimal.{Decimal}
 use Rattle.pv_tokens.specs.declared.token.Kind.{Kind}
@@ -134,12 +134,12 @@ compare t n c from (s ∷ xs) to m (s' ∷ ys) to' m' (x, d, next, inside, stand
     let token : x' ≡ x = one_next t from x' x next' next in
     let symbol : s' ≡ s = one_symbol c.phase n (bytes_of t x) x.kind s' s (subst (λ (z : Token). StandsFor c.phase n (bytes_of t z) z.kind s') token stands') stands in
     let counts : d' ≡ d = ok_same (counted c s) (subst (λ (z : Symbol). counted c z ≡ Ok d') symbol one') one in
-    let rest'' : SpellsTo t (learnt c s (bytes_of t x) n) d x.end ys to' m' =
-    subst (λ (z : Counts). SpellsTo t (learnt c s (bytes_of t x) n) z x.end ys to' m') counts
-    (subst (λ (z : Symbol). SpellsTo t (learnt c z (bytes_of t x) n) d' x.end ys to' m') symbol
-    (subst (λ (z : Token). SpellsTo t (learnt c s' (bytes_of t z) n) d' z.end ys to' m') token rest')) in
+    let rest'' : SpellsTo t (learnt (standing_of c) s (bytes_of t x) n) d x.end ys to' m' =
+    subst (λ (z : Counts). SpellsTo t (learnt (standing_of c) s (bytes_of t x) n) z x.end ys to' m') counts
+    (subst (λ (z : Symbol). SpellsTo t (learnt (standing_of c) z (bytes_of t x) n) d' x.end ys to' m') symbol
+    (subst (λ (z : Token). SpellsTo t (learnt (standing_of c) s' (bytes_of t z) n) d' z.end ys to' m') token rest')) in
     subst (λ (z : Symbol). Compared t c (s ∷ xs) (z ∷ ys) to to' m m') (sym symbol)
-    (compared_behind t c d s xs ys to to' m m' one (compare t (learnt c s (bytes_of t x) n) d x.end xs to m ys to' m' rest rest''))
+    (compared_behind t c d s xs ys to to' m m' one (compare t (learnt (standing_of c) s (bytes_of t x) n) d x.end xs to m ys to' m' rest rest''))
 
 -- nothing goes on behind the end of the text
 none_ahead : (t : List ℕ) (c : Counts) (xs ys : List Symbol) (to : ℕ) (m : Names) (y : Token) → IsNext t to y → y.kind ≡ End → Ahead t c xs ys to m → ⊥
@@ -159,7 +159,7 @@ one_spelling t n c ss ss' (to, m, y, spelled, next, ends) (to', m', y', spelled'
 pub counted_of : (t : List ℕ) (n : Names) (c : Counts) (from : ℕ) (ss : List Symbol) (to : ℕ) (m : Names) → SpellsTo t n c from ss to m → (d : Counts) × Counted c ss d
 counted_of t n c from [] to m h = (c, refl)
 counted_of t n c from (s ∷ ss) to m (x, d, next, inside, stands, one, rest) =
-    let more = counted_of t (learnt c s (bytes_of t x) n) d x.end ss to m rest in (more.0, (d, one, more.1))
+    let more = counted_of t (learnt (standing_of c) s (bytes_of t x) n) d x.end ss to m rest in (more.0, (d, one, more.1))
 
 -- what is spelled up to a fault does not go on as a text does
 fault_inside : (t : List ℕ) (known : Names) (start : Counts) (IsText : List Symbol → Type 0) (byte : ℕ) (cause : Cause) (f : IsFirst t known start IsText byte cause) (ss : List Symbol) →

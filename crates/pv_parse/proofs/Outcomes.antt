@@ -18,35 +18,36 @@ use Rattle.pv_grammar.specs.declared.cause.Cause.TheVariants.{BadBounds, TextToo
 use Rattle.pv_grammar.specs.declared.counts.Counts.{Counts}
 use Rattle.pv_grammar.specs.declared.counts.Phase.TheVariants.{Between}
 use Rattle.pv_grammar.specs.declared.symbol.Symbol.{Symbol}
-use Rattle.pv_grammar.specs.Counting.{counted, nothing}
+use Rattle.pv_grammar.specs.Counting.{counted, nothing, standing_of}
 use Rattle.pv_grammar.specs.Productions.{IsSystem, System, system_symbols}
 use Rattle.pv_grammar.specs.TreeCodes.{system_code}
 use Rattle.pv_grammar.specs.Trees.{expression_term, system_constraints, system_domains}
 use Rattle.pv_grammar.proofs.TreeRuns.{system_means}
 use Rattle.pv_tokens.specs.declared.token.Token.{Token}
 use Rattle.pv_tokens.proofs.Unique.{one_next}
-use Rattle.pv_parse.specs.Declarations.{AreGood, IsExpressionSentence, IsFirstBad, IsMeaning, IsSystemSentence, Mark, MarksTo, MeansOne, MeansOneTerm, Reading, brackets_in, mark_of, names_in, starts_in}
+use Rattle.pv_parse.specs.Declarations.{AreGood, IsExpressionSentence, IsFirstBad, IsMeaning, IsSystemSentence, Mark, MeansOne, MeansOneTerm, Reading, brackets_in, mark_of, names_in, starts_in}
 use Rattle.pv_parse.specs.Faults.{IsEither, IsExpressionFaultOf, IsFaultOf, IsSystemFault}
 use Rattle.pv_parse.specs.Faults.IsExpressionFaultOf.{first as first_text, long as long_text}
 use Rattle.pv_parse.specs.Faults.IsFaultOf.{bounds, first, large, long}
 use Rattle.pv_parse.specs.Meanings.{Names, learnt, no_names}
 use Rattle.pv_parse.specs.Scopes.{Variable, bracket_in, domain_in, name_of, variables_in}
-use Rattle.pv_parse.specs.Sentences.{IsExpressionText, IsExpressionTextOf, IsTextOf, SpellsTo, bytes_of}
+use Rattle.pv_parse.specs.Sentences.{IsExpressionText, IsExpressionTextOf, IsTextOf, bytes_of}
 use Rattle.pv_parse.proofs.Decided.{decides_expression, decides_system}
 use Rattle.pv_parse.proofs.OneSpelling.{expression_apart, expression_fault, no_fault, ok_same, one_fault, one_known}
 use Rattle.pv_parse.proofs.Starts.{starts_count}
 use Rattle.pv_parse.proofs.TreeDomains.{brackets_named, domains_of_tree, names_named}
 use Rattle.pv_parse.proofs.TreeTexts.{one_expression_tree_of, one_tree_of, tree_sentence}
+use Rattle.pv_parse.specs.ByCounts.{MarksToWithin, SpellsToWithin}
 
 -- ---- A text has one reading
 
-one_marking : (t : List ℕ) (c : Counts) (from : ℕ) (ss : List Symbol) (ms ms' : List Mark) (to to' : ℕ) (e e' : Counts) → MarksTo t c from ss ms to e → MarksTo t c from ss ms' to' e' → ms ≡ ms'
+one_marking : (t : List ℕ) (c : Counts) (from : ℕ) (ss : List Symbol) (ms ms' : List Mark) (to to' : ℕ) (e e' : Counts) → MarksToWithin t c from ss ms to e → MarksToWithin t c from ss ms' to' e' → ms ≡ ms'
 one_marking t c from [] ms ms' to to' e e' h k = h.0 ∙ sym k.0
 one_marking t c from (s ∷ ss) ms ms' to to' e e' (x, d, rest, next, one, are, more) (x', d', rest', next', one', are', more') =
     let token : x' ≡ x = one_next t from x' x next' next in
     let counts : d' ≡ d = ok_same (counted c s) one' one in
-    let more'' : MarksTo t d x.end ss rest' to' e' =
-    subst (λ (z : Counts). MarksTo t z x.end ss rest' to' e') counts (subst (λ (z : Token). MarksTo t d' z.end ss rest' to' e') token more') in
+    let more'' : MarksToWithin t d x.end ss rest' to' e' =
+    subst (λ (z : Counts). MarksToWithin t z x.end ss rest' to' e') counts (subst (λ (z : Token). MarksToWithin t d' z.end ss rest' to' e') token more') in
     are
     ∙ (ap (λ (z : List Mark). mark_of t c.phase s x ∷ z) (one_marking t d x.end ss rest rest' to to' e e' more more'')
     ∙ (ap (λ (z : Token). mark_of t c.phase s z ∷ rest') (sym token) ∙ sym are'))
@@ -57,16 +58,16 @@ one_trees t r r' = one_tree_of t r.tree r'.tree r.spelled r'.spelled
 one_marks : (t : List ℕ) (r r' : Reading t) → r.marks ≡ r'.marks
 one_marks t r r' =
     one_marking t (nothing Between) 0 (system_symbols r.tree []) r.marks r'.marks r.marked.0 r'.marked.0 r.marked.1 r'.marked.1 r.marked.2
-    (subst (λ (x : System). MarksTo t (nothing Between) 0 (system_symbols x []) r'.marks r'.marked.0 r'.marked.1) (sym (one_trees t r r')) r'.marked.2)
+    (subst (λ (x : System). MarksToWithin t (nothing Between) 0 (system_symbols x []) r'.marks r'.marked.0 r'.marked.1) (sym (one_trees t r r')) r'.marked.2)
 
 same_domains : (t : List ℕ) (r r' : Reading t) → system_domains r.tree ≡ system_domains r'.tree
 same_domains t r r' = ap system_domains (one_trees t r r')
 
 -- and each text of a tree has one
-marks_of : (t : List ℕ) (n : Names) (c : Counts) (from : ℕ) (ss : List Symbol) (to : ℕ) (m : Names) → SpellsTo t n c from ss to m → (marks : List Mark) × (e : Counts) × MarksTo t c from ss marks to e
+marks_of : (t : List ℕ) (n : Names) (c : Counts) (from : ℕ) (ss : List Symbol) (to : ℕ) (m : Names) → SpellsToWithin t n c from ss to m → (marks : List Mark) × (e : Counts) × MarksToWithin t c from ss marks to e
 marks_of t n c from [] to m h = ([], c, (refl, h.0, refl))
 marks_of t n c from (s ∷ ss) to m (x, d, next, inside, stands, one, rest) =
-    let (marks, e, more) = marks_of t (learnt c s (bytes_of t x) n) d x.end ss to m rest in
+    let (marks, e, more) = marks_of t (learnt (standing_of c) s (bytes_of t x) n) d x.end ss to m rest in
     (mark_of t c.phase s x ∷ marks, e, (x, d, marks, next, one, refl, more))
 
 reading_of : (t : List ℕ) (x : System) → IsTextOf t x → Reading t

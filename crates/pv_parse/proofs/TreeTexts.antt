@@ -11,16 +11,17 @@ use Rattle.pv_grammar.proofs.TreeBuilding.{expression_tree, system_tree}
 use Rattle.pv_grammar.proofs.TreeReadings.{system_reads}
 use Rattle.pv_parse.specs.ByItems.{IsSentence}
 use Rattle.pv_parse.specs.Meanings.{KnowsVariables, Names, no_names}
-use Rattle.pv_parse.specs.Sentences.{IsExpressionTextOf, IsTextOf, Spells}
+use Rattle.pv_parse.specs.Sentences.{IsExpressionTextOf, IsTextOf}
 use Rattle.pv_parse.proofs.KnownNames.{expression_start, sentence_known, system_start}
 use Rattle.pv_parse.proofs.OneSpelling.{counted_of, one_spelling}
+use Rattle.pv_parse.specs.ByCounts.{SpellsWithin}
 
 -- ---- Systems
 
 pub sentence_tree : (t : List ℕ) (code : List Op) → IsSentence t no_names (nothing Between) system_items [] code → (x : System) × IsTextOf t x × (code ≡ system_code x [])
 sentence_tree t code s =
     let found = system_tree s.symbols s.steps s.derived (sentence_known t no_names (nothing Between) system_items [] code system_start s) in
-    (found.0, subst (Spells t no_names (nothing Between)) found.1 s.spelled, s.code_is ∙ found.2)
+    (found.0, subst (SpellsWithin t no_names (nothing Between)) found.1 s.spelled, s.code_is ∙ found.2)
 
 abbrev pub tree_sentence : (t : List ℕ) (code : List Op) (x : System) → IsTextOf t x → code ≡ system_code x [] → IsSentence t no_names (nothing Between) system_items [] code
 tree_sentence t code x spelled is =
@@ -44,7 +45,7 @@ pub expression_sentence_tree : (variables : List (List ℕ)) (t : List ℕ) (kno
     IsSentence t known (nothing SidesPhase) expression_items [] code → (e : Expression) × IsExpressionTextOf known t e × (code ≡ expression_code e [])
 expression_sentence_tree variables t known code knows s =
     let found = expression_tree s.symbols s.steps s.derived (sentence_known t known (nothing SidesPhase) expression_items [] code (expression_start variables known knows) s) in
-    (found.0, subst (Spells t known (nothing SidesPhase)) found.1 s.spelled, s.code_is ∙ found.2)
+    (found.0, subst (SpellsWithin t known (nothing SidesPhase)) found.1 s.spelled, s.code_is ∙ found.2)
 
 pub one_expression_tree_of : (t : List ℕ) (known : Names) (d e : Expression) → IsExpressionTextOf known t d → IsExpressionTextOf known t e → d ≡ e
 one_expression_tree_of t known d e of_d of_e =

@@ -16,10 +16,11 @@ use Rattle.pv_grammar.specs.declared.symbol.Symbol.{Symbol}
 use Rattle.pv_grammar.specs.declared.symbol.Symbol.TheVariants.{Fixed as FixedToken, Declared, Function as Call, Unknown}
 use Rattle.pv_grammar.specs.Grammar.{Derives, done, left_out, begun, MayEnd, Produced, declared, exactly, produced, system_items}
 use Rattle.pv_grammar.specs.Counting.{Counting, begins, begun as begun_by, behind_comma, behind_end, behind_semicolon, counted, declared as declared_as, in_expression, in_phase, levels, moved, nested, next, operated, operates, turned, with_operations}
-use Rattle.pv_parse.specs.Declarations.{Mark, MarksTo, declares, mark_of}
+use Rattle.pv_parse.specs.Declarations.{Mark, declares, mark_of}
 use Rattle.pv_parse.specs.Scopes.{Variable, variable, variables_in}
 use Rattle.pv_parse.proofs.NameBytes.{is_declared}
 use Rattle.pv_grammar.specs.Standings.{begins_expression}
+use Rattle.pv_parse.specs.ByCounts.{MarksToWithin}
 
 abbrev one_if : Bool → ℕ
 one_if true = 1
@@ -177,7 +178,7 @@ count_step : (b : Bool) (v : Variable) (vs : List Variable) (n m k : ℕ) → m 
 count_step true v vs n m k e h = omega (arith, e, h)
 count_step false v vs n m k e h = omega (arith, e, h)
 
-pub variables_count : (t : List ℕ) (c : Counts) (from : ℕ) (ss : List Symbol) (marks : List Mark) (to : ℕ) (e : Counts) → MarksTo t c from ss marks to e →
+pub variables_count : (t : List ℕ) (c : Counts) (from : ℕ) (ss : List Symbol) (marks : List Mark) (to : ℕ) (e : Counts) → MarksToWithin t c from ss marks to e →
     (e.variables ≡ c.variables + length (variables_in marks)) × (c.variables ≤ 12 → e.variables ≤ 12)
 unfolding Adds
 variables_count t c from [] marks to e (none, same, is) =
@@ -193,7 +194,7 @@ variables_count t c from (s ∷ ss) marks to e (x, d, rest, next, one, are, more
     )
 
 -- behind a declaration there are more than before it
-pub room_here : (t : List ℕ) (c : Counts) (from : ℕ) (s : Symbol) (ss : List Symbol) (marks : List Mark) (to : ℕ) (e : Counts) → declares c.phase s ≡ true → MarksTo t c from (s ∷ ss) marks to e →
+pub room_here : (t : List ℕ) (c : Counts) (from : ℕ) (s : Symbol) (ss : List Symbol) (marks : List Mark) (to : ℕ) (e : Counts) → declares c.phase s ≡ true → MarksToWithin t c from (s ∷ ss) marks to e →
     c.variables < e.variables
 unfolding Adds
 room_here t c from s ss marks to e is (x, d, rest, next, one, are, more) =
@@ -205,7 +206,7 @@ room_here t c from s ss marks to e is (x, d, rest, next, one, are, more) =
 pub one_count : (c d e : Counts) (s : Symbol) → counted c s ≡ Ok d → counted c s ≡ Ok e → d ≡ e
 one_count c d e s h k = same_ok d e (sym h ∙ k)
 
-pub few_variables : (t : List ℕ) (c : Counts) (ss : List Symbol) (marks : List Mark) (to : ℕ) (e : Counts) → c.variables ≡ 0 → MarksTo t c 0 ss marks to e → length (variables_in marks) ≤ 12
+pub few_variables : (t : List ℕ) (c : Counts) (ss : List Symbol) (marks : List Mark) (to : ℕ) (e : Counts) → c.variables ≡ 0 → MarksToWithin t c 0 ss marks to e → length (variables_in marks) ≤ 12
 few_variables t c ss marks to e none h =
     let k = variables_count t c 0 ss marks to e h in
     let a = k.0 in
@@ -290,13 +291,13 @@ later_step : (b : Bool) (v : Variable) (vs : List Variable) → 0 < length vs �
 later_step true v vs h = omega arith
 later_step false v vs h = h
 
-some_named : (t : List ℕ) (c : Counts) (from : ℕ) (ss : List Symbol) (marks : List Mark) (to : ℕ) (e : Counts) → c.phase ≡ Variables → IsName ss → MarksTo t c from ss marks to e → 0 < length (variables_in marks)
+some_named : (t : List ℕ) (c : Counts) (from : ℕ) (ss : List Symbol) (marks : List Mark) (to : ℕ) (e : Counts) → c.phase ≡ Variables → IsName ss → MarksToWithin t c from ss marks to e → 0 < length (variables_in marks)
 some_named t c from [] marks to e phase name h = absurd name
 some_named t c from (s ∷ ss) marks to e phase name (x, d, rest, next, one, are, more) =
     subst (λ (ms : List Mark). 0 < length (variables_in ms)) (sym are)
     (here_step (declares c.phase s) (variable (mark_of t c.phase s x).bytes rest) (variables_in rest) (declares_name c.phase s phase name))
 
-some_in : (t : List ℕ) (c : Counts) (from : ℕ) (ss : List Symbol) (marks : List Mark) (to : ℕ) (e : Counts) → HasPair ss → MarksTo t c from ss marks to e → 0 < length (variables_in marks)
+some_in : (t : List ℕ) (c : Counts) (from : ℕ) (ss : List Symbol) (marks : List Mark) (to : ℕ) (e : Counts) → HasPair ss → MarksToWithin t c from ss marks to e → 0 < length (variables_in marks)
 some_in t c from [] marks to e pair h = absurd pair
 some_in t c from (s ∷ ss) marks to e pair (x, d, rest, next, one, are, more) =
     subst (λ (ms : List Mark). 0 < length (variables_in ms)) (sym are)
@@ -306,5 +307,5 @@ some_in t c from (s ∷ ss) marks to e pair (x, d, rest, next, one, are, more) =
     (λ later. some_in t d x.end ss rest to e later more)
     pair))
 
-pub some_variable : (t : List ℕ) (c : Counts) (ss : List Symbol) (ops : List Op) (marks : List Mark) (to : ℕ) (e : Counts) → Derives system_items ss ops → MarksTo t c 0 ss marks to e → 0 < length (variables_in marks)
+pub some_variable : (t : List ℕ) (c : Counts) (ss : List Symbol) (ops : List Op) (marks : List Mark) (to : ℕ) (e : Counts) → Derives system_items ss ops → MarksToWithin t c 0 ss marks to e → 0 < length (variables_in marks)
 some_variable t c ss ops marks to e d h = some_in t c 0 ss marks to e (has_pair system_items ss ops d (inr (inr (inl (refl, tt))))) h
