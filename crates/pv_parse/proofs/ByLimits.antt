@@ -23,7 +23,7 @@ use Rattle.pv_grammar.proofs.Beyond.{call_at, limit_at, name_at, sign_begins}
 use Rattle.pv_grammar.proofs.Fits.{kept, left}
 use Rattle.pv_grammar.proofs.Following.{IsCalm, calm_after, stands_behind}
 use Rattle.pv_grammar.proofs.Forward.{head_is, nil_cons, tail_is}
-use Rattle.pv_grammar.proofs.Ready.{Gives, Ready, ReadyAfter, gives_if, reads}
+use Rattle.pv_grammar.proofs.Ready.{Ready, ReadyAfter}
 use Rattle.pv_grammar.proofs.Within.{AreLimited}
 use Rattle.pv_tokens.specs.declared.token.Token.{Token}
 use Rattle.pv_parse.specs.ByCounts.{MarksToWithin, MarksWithin, SpellsToWithin, SpellsWithin}
@@ -31,8 +31,10 @@ use Rattle.pv_parse.specs.Declarations.{Mark, Marks, MarksTo, mark_of}
 use Rattle.pv_parse.specs.Meanings.{Names, learnt, no_names}
 use Rattle.pv_parse.specs.Sentences.{Spells, SpellsTo, bytes_of}
 use Rattle.pv_parse.proofs.Closings.{closes}
+use Rattle.pv_parse.proofs.Continued.{ok_same}
+use Rattle.pv_parse.proofs.KnownNames.{not_taken, not_unknown}
 use Rattle.pv_parse.proofs.Pieces.{none_bounded}
-use Rattle.pv_parse.proofs.Reached.{counted_all, counted_one, ok_same}
+use Rattle.pv_parse.proofs.Reached.{counted_all, counted_one}
 
 -- ---- Tokens with and without counts
 
@@ -105,7 +107,7 @@ out i others ss e may g = record { rest = g.rest; code = step_of i ++ g.code; co
 -- tokens that were counted, with which a text of the items begins, begin one that stays within the limits
 goes_by : (items : List Item) (all : List Symbol) (code : List Op) → Derives items all code → (c : Counts) → Ready c items → (ss rest : List Symbol) (e : Counts) → all ≡ ss ++ rest → Counted c ss e → GoesWithin items ss e
 goes_by items all code d c r [] rest e same is =
-    let z = closes no_names none_bounded c items r in
+    let z = closes no_names (none_bounded no_names refl) c items r in
     record { rest = z.symbols; code = z.steps; counts = z.counts; derived = z.derived; within = subst (λ (x : Counts). Counted x z.symbols z.counts) is z.within }
 goes_by items all code (done) c r (s ∷ ss) rest e same h = absurd (nil_cons same)
 goes_by items all code (left_out i others all' code' may d) c r (s ∷ ss) rest e same h = out i others (s ∷ ss) e may (goes_by others all' code' d c (left i c others may r) (s ∷ ss) rest e same h)
@@ -115,15 +117,10 @@ goes_by items all code (begun i others s' all' p code' made d) c r (s ∷ ss) re
     let g = goes_by (p.0 ++ others) all' code' d m ready ss rest e (tail_is same) more in
     record { rest = g.rest; code = p.1 ++ g.code; counts = g.counts; derived = begun i others s (ss ++ g.rest) p g.code made' g.derived; within = g.within }
 
-taken_none : (p : Phase) (d : Counts) → Gives (λ x. ⊥) (declared p d true)
-taken_none Variables d = gives_if _ (nat_lt d.variables 12) _ _ (λ t. tt) tt
-taken_none Parameters d = gives_if _ (nat_lt d.parameters 12) _ _ (λ t. tt) tt
-taken_none p d = tt
-
 tame_one : (s : Symbol) (c d : Counts) → counted c s ≡ Ok d → counted c (tame s) ≡ Ok d
 tame_one (Call op n) c d h = h
-tame_one Unknown c d h = absurd (reads (λ x. ⊥) c d Unknown h (λ e l. tt))
-tame_one (Declared true) c d h = absurd (reads (λ x. ⊥) c d (Declared true) h (λ e l. taken_none e.phase e))
+tame_one Unknown c d h = absurd (not_unknown c d h)
+tame_one (Declared true) c d h = absurd (not_taken c d h)
 tame_one (Declared false) c d h = h
 tame_one s c d h = h
 

@@ -59,7 +59,7 @@ one-more n e = search (rules, tests)
 declared-few : (p : Phase) (c : Counts) (taken : Bool) → c.parameters ≤ 12 → Few (declared p c taken)
 declared-few Variables c taken h = few-if (nat_lt c.variables 12) _ _ (λ t. few-if taken _ _ (λ u. tt) h) tt
 declared-few FunctionName c taken h = few-if taken _ _ (λ t. tt) h
-declared-few Parameters c taken h = few-if taken _ _ (λ t. tt) (few-if (nat_lt c.parameters 12) _ _ (λ t. one-more c.parameters t) tt)
+declared-few Parameters c taken h = few-if (nat_lt c.parameters 12) _ _ (λ t. few-if taken _ _ (λ u. tt) (one-more c.parameters t)) tt
 declared-few p c taken h = few-if taken _ _ (λ t. tt) h
 
 comma-few : (p : Phase) (c : Counts) → c.parameters ≤ 12 → Few (behind_comma p c)

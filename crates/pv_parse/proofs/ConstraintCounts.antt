@@ -577,7 +577,7 @@ levels_few s c h = h
 declared_few : (p : Phase) (c : Counts) (taken : Bool) → c.constraints ≤ 64 → Few (declared p c taken)
 declared_few Variables c taken h = few_if (nat_lt c.variables 12) _ _ (λ t. few_if taken _ _ (λ u. tt) h) tt
 declared_few FunctionName c taken h = few_if taken _ _ (λ t. tt) h
-declared_few Parameters c taken h = few_if taken _ _ (λ t. tt) (few_if (nat_lt c.parameters 12) _ _ (λ t. h) tt)
+declared_few Parameters c taken h = few_if (nat_lt c.parameters 12) _ _ (λ t. few_if taken _ _ (λ u. tt) h) tt
 declared_few p c taken h = few_if taken _ _ (λ t. tt) h
 
 comma_few : (p : Phase) (c : Counts) → c.constraints ≤ 64 → Few (behind_comma p c)

@@ -1,10 +1,10 @@
 -- A text that is cut behind a token, and goes on with a blank or ends there, has the same tokens up to there.
-use Rattle.std.proofs.Common.{◌≡◌, ℕ, zero, suc, ◌+◌, ◌-◌, ◌<◌, ◌≤◌, ◌⊎◌, inl, inr, List, [], ◌∷◌, ◌++◌, length, get_or, refl, sym, ap, ◌∙◌, subst, arith, ⊎_elim}
+use Rattle.std.proofs.Common.{Ok, ◌≡◌, ℕ, zero, suc, ◌+◌, ◌-◌, ◌<◌, ◌≤◌, ◌⊎◌, inl, inr, List, [], ◌∷◌, ◌++◌, length, get_or, refl, sym, ap, ◌∙◌, subst, arith, ⊎_elim}
 use Rattle.std.proofs.str.Laws.{order}
 use Rattle.std.proofs.lemmas.List.{ext_get_or, get_or_past}
 use Rattle.pv_grammar.specs.declared.counts.Counts.{Counts}
 use Rattle.pv_grammar.specs.declared.symbol.Symbol.{Symbol}
-use Rattle.pv_grammar.specs.Counting.{Counted, counted, standing_of}
+use Rattle.pv_grammar.specs.Counting.{Counted, Counting, counted, standing_of}
 use Rattle.pv_tokens.specs.declared.numeral.Parts.{Parts}
 use Rattle.pv_tokens.specs.declared.token.Kind.{Kind}
 use Rattle.pv_tokens.specs.declared.token.Kind.TheVariants.{End}
@@ -18,7 +18,6 @@ use Rattle.pv_tokens.proofs.Numerals.{exponent_on, exponent_longer, fraction_on,
 use Rattle.pv_tokens.proofs.Slices.{byte_in, length_slice}
 use Rattle.pv_parse.specs.Meanings.{Names, learnt}
 use Rattle.pv_parse.specs.Sentences.{StandsFor, bytes_of}
-use Rattle.pv_parse.proofs.OneSpelling.{ok_same}
 use Rattle.pv_parse.specs.ByCounts.{SpellsToWithin}
 
 -- two texts share their first bytes
@@ -45,6 +44,10 @@ gap_letter b h l = ⊎_elim (λ x. gap_digit b h (absurd (⊎_elim (λ y. omega 
 
 gap_named : (b : ℕ) → IsGap b → IsNamed b → ⊥
 gap_named b h n = ⊎_elim (λ l. gap_letter b h l) (λ d. gap_digit b h d) n
+
+-- what is counted is counted once
+pub ok_same : {v w : Counts} (r : Counting) → r ≡ Ok v → r ≡ Ok w → v ≡ w
+ok_same r e f = cc
 
 -- ---- Words
 

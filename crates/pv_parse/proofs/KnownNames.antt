@@ -83,7 +83,7 @@ levels_fine r c s h = h
 declared_fine : (p : Phase) (c : Counts) (taken : Bool) → Bodied c → Gives Bodied (declared p c taken)
 declared_fine Variables c taken h = gives_if Bodied (nat_lt c.variables 12) _ _ (gives_if Bodied taken _ _ tt h) tt
 declared_fine FunctionName c taken h = gives_if Bodied taken _ _ tt tt
-declared_fine Parameters c taken h = gives_if Bodied taken _ _ tt (gives_if Bodied (nat_lt c.parameters 12) _ _ (one_more c.phase c.parameters h) tt)
+declared_fine Parameters c taken h = gives_if Bodied (nat_lt c.parameters 12) _ _ (gives_if Bodied taken _ _ tt (one_more c.phase c.parameters h)) tt
 declared_fine p c taken h = gives_if Bodied taken _ _ tt h
 
 comma_fine : (p : Phase) (c : Counts) → Bodied c → Gives Bodied (behind_comma p c)
@@ -200,7 +200,7 @@ given P c d s e h = subst (Gives P) e h
 parameter_named : (c d : Counts) (taken : Bool) → counted c (Declared taken) ≡ Ok d → c.phase ≡ Parameters → (d.phase ≡ Parameters) × (1 ≤ d.parameters)
 parameter_named c d taken e is =
     let P : Counts → Type 0 = λ x. (x.phase ≡ Parameters) × (1 ≤ x.parameters) in
-    given P c d (Declared taken) e (where_phase P c (Declared taken) Parameters is (gives_if P taken _ _ tt (gives_if P (nat_lt c.parameters 12) _ _ (refl, omega arith) tt)))
+    given P c d (Declared taken) e (where_phase P c (Declared taken) Parameters is (gives_if P (nat_lt c.parameters 12) _ _ (gives_if P taken _ _ tt (refl, omega arith)) tt))
 
 function_named : (c d : Counts) (taken : Bool) → counted c (Declared taken) ≡ Ok d → c.phase ≡ FunctionName → d.phase ≡ Parameters
 function_named c d taken e is =
@@ -453,16 +453,17 @@ stands_called p n bytes NumberKind s h f = number_called bytes s h
 stands_called p n bytes k s h f = subst Called (sym h) tt
 
 -- the limits forbid a name that is not declared, or is declared once more
-not_unknown : (c d : Counts) → counted c Unknown ≡ Ok d → ⊥
+pub not_unknown : (c d : Counts) → counted c Unknown ≡ Ok d → ⊥
 not_unknown c d e =
     given (λ x. ⊥) c d Unknown e
     (gives_any (λ x. ⊥) (begun c Unknown) _ (λ c1. gives_any (λ x. ⊥) (operated c1 Unknown) _ (λ c2. gives_any (λ x. ⊥) (nested c2 Unknown) _ (λ c3. tt))))
 
 declared_taken : (p : Phase) (c : Counts) → Gives (λ x. ⊥) (declared p c true)
 declared_taken Variables c = gives_if (λ x. ⊥) (nat_lt c.variables 12) _ _ tt tt
+declared_taken Parameters c = gives_if (λ x. ⊥) (nat_lt c.parameters 12) _ _ tt tt
 declared_taken p c = tt
 
-not_taken : (c d : Counts) → counted c (Declared true) ≡ Ok d → ⊥
+pub not_taken : (c d : Counts) → counted c (Declared true) ≡ Ok d → ⊥
 not_taken c d e =
     given (λ x. ⊥) c d (Declared true) e
     (gives_any (λ x. ⊥) (operated c (Declared true)) _ (λ c2. gives_any (λ x. ⊥) (nested c2 (Declared true)) _ (λ c3. declared_taken c3.phase c3)))

@@ -16,6 +16,7 @@ use Rattle.pv_grammar.specs.declared.symbol.Symbol.TheVariants.{Fixed as FixedTo
 use Rattle.pv_grammar.specs.Grammar.{system_items}
 use Rattle.pv_grammar.specs.Counting.{nothing}
 use Rattle.pv_grammar.specs.TreeCodes.{IsOfSystem}
+use Rattle.pv_grammar.specs.Productions.{system_symbols}
 use Rattle.pv_grammar.specs.Trees.{system_constraints, system_domains}
 use Rattle.pv_grammar.proofs.TreeBuilding.{system_tree}
 use Rattle.pv_grammar.proofs.TreeRuns.{system_means}
@@ -29,7 +30,9 @@ use Rattle.pv_parse.specs.Faults.{IsRefusal}
 use Rattle.pv_parse.specs.Faults.IsFaultOf.{bounds, first, large}
 use Rattle.pv_parse.specs.Meanings.{Names, no_names}
 use Rattle.pv_parse.specs.Scopes.{IsToldAs, Scoped, Variable, bracket_given, bracket_in, domain_given, domain_in, name_of, nothing_scoped, variable, variables_in}
+use Rattle.pv_parse.proofs.ByLimits.{marked_of}
 use Rattle.pv_parse.proofs.ByTrees.{system_first}
+use Rattle.pv_parse.proofs.TreeTexts.{text_of_system}
 use Rattle.pv_parse.proofs.KnownNames.{sentence_known, system_start}
 use Rattle.pv_parse.proofs.Starts.{starts_count}
 use Rattle.pv_parse.proofs.Distinct.{names_distinct}
@@ -110,17 +113,20 @@ abbrev told_tree : (t : List ℕ) (code : List Op) (new : Scoped) (s : IsTold t 
 told_tree t code new s =
     system_tree s.sentence.symbols s.sentence.steps s.sentence.derived (sentence_known t no_names (nothing Between) system_items [] code system_start s.sentence)
 
+abbrev told_marks : (t : List ℕ) (code : List Op) (new : Scoped) (s : IsTold t code new) → MarksWithin t (nothing Between) (system_symbols (told_tree t code new s).0 []) s.marks
+told_marks t code new s = subst (λ (z : List Symbol). MarksWithin t (nothing Between) z s.marks) (told_tree t code new s).1 s.marked
+
 abbrev read : (t : List ℕ) (code : List Op) (new : Scoped) → IsTold t code new → Reading t
 read t code new s = record {
   tree = (told_tree t code new s).0;
-  spelled = subst (SpellsWithin t no_names (nothing Between)) (told_tree t code new s).1 s.sentence.spelled;
+  spelled = text_of_system t (told_tree t code new s).0 (subst (SpellsWithin t no_names (nothing Between)) (told_tree t code new s).1 s.sentence.spelled);
   marks = s.marks;
-  marked = subst (λ (z : List Symbol). MarksWithin t (nothing Between) z s.marks) (told_tree t code new s).1 s.marked;
+  marked = marked_of t (nothing Between) (system_symbols (told_tree t code new s).0 []) s.marks (told_marks t code new s);
 }
 
 read_domains : (t : List ℕ) (code : List Op) (new : Scoped) (s : IsTold t code new) → map domain_given new.given ≡ system_domains (read t code new s).tree
 read_domains t code new s =
-    domains_are t no_names (nothing Between) system_items code new s ∙ domains_of_tree t (read t code new s).tree s.marks (read t code new s).marked
+    domains_are t no_names (nothing Between) system_items code new s ∙ domains_of_tree t (told_tree t code new s).0 s.marks (told_marks t code new s)
 
 read_constraints : (t : List ℕ) (code : List Op) (new : Scoped) (s : IsTold t code new) → constraints_of code ≡ system_constraints (read t code new s).tree
 read_constraints t code new s = ap constraints_of (s.sentence.code_is ∙ (told_tree t code new s).2) ∙ system_means (told_tree t code new s).0

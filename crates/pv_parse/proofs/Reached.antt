@@ -32,6 +32,7 @@ use Rattle.pv_parse.specs.Declarations.{mark_of}
 use Rattle.pv_parse.specs.Fractions.{HasFraction}
 use Rattle.pv_parse.specs.Scopes.{IsToldAs, Scoped, followed}
 use Rattle.pv_parse.proofs.Closings.{ClosesFrom, closes}
+use Rattle.pv_parse.proofs.Continued.{ok_same}
 use Rattle.pv_parse.proofs.Declarations.{Told, told_none, told_one}
 use Rattle.pv_parse.proofs.Pieces.{learnt_bounded}
 use Rattle.pv_parse.proofs.Tails.{continued}
@@ -84,9 +85,6 @@ starts t known start items code is few =
     at_start t known start items code b.0 b.1 b.2 few
 
 -- ---- Lists of tokens, with one more behind them
-
-pub ok_same : {v w : Counts} (r : Result Counts Cause) → r ≡ Ok v → r ≡ Ok w → v ≡ w
-ok_same r e f = cc
 
 pub counted_one : (c : Counts) (ss : List Symbol) (d e : Counts) (s : Symbol) → Counted c ss d → counted d s ≡ Ok e → Counted c (ss ++ s ∷ []) e
 counted_one c [] d e s same one = (e, subst (λ (x : Counts). counted x s ≡ Ok e) (sym same) one, refl)

@@ -71,7 +71,7 @@ levels_away s c h = h
 declared_away : (p : Phase) (c : Counts) (taken : Bool) → IsAway p → Away c → Gives Away (declared p c taken)
 declared_away VariablesPhase c taken a h = absurd a
 declared_away FunctionName c taken a h = gives_if Away taken _ _ tt tt
-declared_away ParametersPhase c taken a h = gives_if Away taken _ _ tt (gives_if Away (nat_lt c.parameters 12) _ _ h tt)
+declared_away ParametersPhase c taken a h = gives_if Away (nat_lt c.parameters 12) _ _ (gives_if Away taken _ _ tt h) tt
 declared_away p c taken a h = gives_if Away taken _ _ tt h
 
 comma_away : (p : Phase) (c : Counts) → Away c → Gives Away (behind_comma p c)

@@ -115,10 +115,10 @@ adds_none : (c d : Counts) → d.variables ≡ c.variables → Adds 0 c d
 unfolding Adds
 adds_none c d e = (omega (arith, e), λ few. omega (arith, e))
 
-declared_by : (b taken : Bool) (k k' : Cause) (c e d : Counts) → (b ≡ true → Adds 1 c e) → (if b then (if taken then Err k else Ok e) else Err k') ≡ Ok d → Adds 1 c d
-declared_by true true k k' c e d a h = absurd (ok_err k d h)
-declared_by true false k k' c e d a h = subst (λ (z : Counts). Adds 1 c z) (same_ok e d h) (a refl)
-declared_by false taken k k' c e d a h = absurd (ok_err k' d h)
+declared_by : (n : ℕ) (b taken : Bool) (k k' : Cause) (c e d : Counts) → (b ≡ true → Adds n c e) → (if b then (if taken then Err k else Ok e) else Err k') ≡ Ok d → Adds n c d
+declared_by n true true k k' c e d a h = absurd (ok_err k d h)
+declared_by n true false k k' c e d a h = subst (λ (z : Counts). Adds n c z) (same_ok e d h) (a refl)
+declared_by n false taken k k' c e d a h = absurd (ok_err k' d h)
 
 other_by : (taken : Bool) (k : Cause) (c d : Counts) (r : Counting) → ((z : Counts) → r ≡ Ok z → z.variables ≡ c.variables) → (if taken then Err k else r) ≡ Ok d → Adds 0 c d
 other_by true k c d r a h = absurd (ok_err k d h)
@@ -127,10 +127,10 @@ other_by false k c d r a h = adds_none c d (a d h)
 declared_adds : (p : Phase) (taken : Bool) (c d : Counts) → declared_as p c taken ≡ Ok d → Adds (one_if (declares p (Declared taken))) c d
 unfolding Adds
 declared_adds Variables taken c d h =
-    declared_by (nat_lt c.variables 12) taken _ _ c _ d
+    declared_by 1 (nat_lt c.variables 12) taken _ _ c _ d
     (λ (room : nat_lt c.variables 12 ≡ true). let below = (Decides-ltb c.variables 12).0 room in (refl, λ few. omega (arith, below))) h
 declared_adds FunctionName taken c d h = other_by taken _ c d _ (λ z e. ap (λ (y : Counts). y.variables) (sym (same_ok _ z e))) h
-declared_adds Parameters taken c d h = other_by taken _ c d _ (λ z e. ap (λ (y : Counts). y.variables) (sym (where_ok (nat_lt c.parameters 12) _ _ z e).0)) h
+declared_adds Parameters taken c d h = declared_by 0 (nat_lt c.parameters 12) taken _ _ c _ d (λ room. adds_none c _ refl) h
 declared_adds p taken c d h = other_by taken _ c d _ (λ z e. ap (λ (y : Counts). y.variables) (sym (same_ok c z e))) h
 
 moved_adds : (s : Symbol) (c d : Counts) → moved c s ≡ Ok d → Adds (one_if (declares c.phase s)) c d
