@@ -1,5 +1,5 @@
 -- The limit that forbids a token, by the part of the text in which it would stand; and a sign may stand where a function's name may.
-use Rattle.std.proofs.Common.{◌≡◌, ℕ, zero, suc, ◌+◌, ◌-◌, nat_lt, Bool, true, false, List, [], ◌∷◌, ◌++◌, refl, sym, ap, ◌∙◌, subst, append_assoc, if◌then◌else◌, ◌⊎◌, inl, inr, Option, Some, None, Result, Ok, Err}
+use Rattle.std.proofs.Common.{◌≡◌, ℕ, zero, suc, ◌+◌, ◌-◌, nat_lt, Bool, true, false, List, [], ◌∷◌, ◌++◌, refl, sym, ap, ◌∙◌, subst, append_assoc, if◌then◌else◌, ◌⊎◌, inl, inr, Some, Ok, Err}
 use Rattle.pv_code.specs.declared.code.Op.{Op}
 use Rattle.pv_code.specs.declared.code.Op.TheVariants.{One}
 use Rattle.pv_code.specs.declared.code.Unary.TheVariants.{Neg}
@@ -17,7 +17,7 @@ use Rattle.pv_grammar.specs.ByItems.{BeginsByItems}
 use Rattle.pv_grammar.specs.Causes.{as_known, limit_cause, name_cause, nought}
 use Rattle.pv_grammar.specs.Counting.{Counting, counted, moved, nested, next, operated}
 use Rattle.pv_grammar.specs.Grammar.{Derives, Produced, begun, done, left_out, produced, step_of}
-use Rattle.pv_grammar.proofs.Following.{CalmAt, IsCalm}
+use Rattle.pv_grammar.proofs.Following.{CalmAt}
 use Rattle.pv_grammar.proofs.Forward.{head_is, nil_cons, none_some, some_is, tail_is}
 use Rattle.pv_grammar.proofs.Within.{call_is, made, open_is, operator_is}
 

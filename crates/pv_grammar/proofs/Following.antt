@@ -1,14 +1,13 @@
 -- What the counts say of where a text stands is what its tokens say; and before a constraint no operation and no level is counted.
-use Rattle.std.proofs.Common.{◌≡◌, ℕ, ◌+◌, nat_lt, Bool, true, false, List, [], ◌∷◌, refl, sym, ap, ◌∙◌, subst, if◌then◌else◌, Result, Ok, Err}
-use Rattle.pv_grammar.specs.declared.cause.Cause.{Cause}
+use Rattle.std.proofs.Common.{◌≡◌, ℕ, ◌+◌, nat_lt, Bool, true, false, List, [], ◌∷◌, refl, sym, ap, ◌∙◌, subst, if◌then◌else◌, Ok, Err}
 use Rattle.pv_grammar.specs.declared.counts.Counts.{Counts}
 use Rattle.pv_grammar.specs.declared.counts.Phase.{Phase}
-use Rattle.pv_grammar.specs.declared.counts.Phase.TheVariants.{Between, Constants, FunctionName, Parameters, Body, Variables, Bounds, NextConstraint, Sides}
+use Rattle.pv_grammar.specs.declared.counts.Phase.TheVariants.{FunctionName, Parameters, Body, Variables, NextConstraint, Sides}
 use Rattle.pv_grammar.specs.declared.symbol.Fixed.{Fixed}
 use Rattle.pv_grammar.specs.declared.symbol.Fixed.TheVariants.{Open, Close, Comma, Semicolon, Constraints, Function as FunctionWord, Return, End, OpenBracket, CloseBracket, Constants as ConstantsWord, Variables as VariablesWord}
 use Rattle.pv_grammar.specs.declared.symbol.Symbol.{Symbol}
 use Rattle.pv_grammar.specs.declared.symbol.Symbol.TheVariants.{Fixed as FixedToken, Declared, Function as Call, Unknown}
-use Rattle.pv_grammar.specs.Counting.{Counted, Counting, begins, begun, behind_comma, behind_end as counts_end, behind_semicolon as counts_semicolon, counted, declared, in_expression, levels, moved, nested, next, nothing, operated, operates, standing_of, turned}
+use Rattle.pv_grammar.specs.Counting.{Counted, Counting, begins, begun, behind_comma, behind_end as counts_end, behind_semicolon as counts_semicolon, counted, declared, in_expression, levels, moved, nested, operated, operates, standing_of, turned}
 use Rattle.pv_grammar.specs.Standings.{Standing, begins_expression, begins_in, behind_end, behind_fixed, behind_name, behind_semicolon, moved_by, moved_to, standing_after, standing_behind}
 use Rattle.pv_grammar.proofs.Ready.{Gives, gives_if, gives_next}
 

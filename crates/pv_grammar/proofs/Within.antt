@@ -1,19 +1,17 @@
 -- The limits of a tree are those that are counted token by token.
-use Rattle.std.proofs.Common.{◌≡◌, ℕ, zero, suc, ◌+◌, ◌-◌, ◌<◌, ◌≤◌, max, nat_lt, Bool, true, false, List, [], ◌∷◌, refl, sym, ap, ◌∙◌, subst, arith, if◌then◌else◌, Option, Some, Ok, Err}
+use Rattle.std.proofs.Common.{◌≡◌, ℕ, suc, ◌+◌, ◌-◌, ◌<◌, ◌≤◌, max, nat_lt, Bool, true, false, List, [], ◌∷◌, refl, sym, ap, ◌∙◌, subst, arith, if◌then◌else◌, Some, Ok, Err}
 use Rattle.std.proofs.lemmas.Bool.{lt-ltb, ltb-true}
 use Rattle.pv_expr.specs.declared.constraint.Relation.TheVariants.{Eq}
 use Rattle.pv_code.specs.declared.code.Op.{Op}
-use Rattle.pv_code.specs.declared.fraction.Fraction.{Fraction}
 use Rattle.pv_grammar.specs.declared.cause.Cause.{Cause}
-use Rattle.pv_grammar.specs.declared.cause.Cause.TheVariants.{DuplicateName, TooManyVariables, TooManyConstraints, TooManyFunctions, TooDeep, Unexpected}
+use Rattle.pv_grammar.specs.declared.cause.Cause.TheVariants.{TooManyVariables, TooManyConstraints, TooManyFunctions, TooDeep, Unexpected}
 use Rattle.pv_grammar.specs.declared.counts.Counts.{Counts}
 use Rattle.pv_grammar.specs.declared.counts.Phase.{Phase}
 use Rattle.pv_grammar.specs.declared.counts.Phase.TheVariants.{Between, Constants as ConstantsPhase, FunctionName as NamePhase, Parameters as ParametersPhase, Body, Variables as VariablesPhase, Bounds, NextConstraint, Sides}
-use Rattle.pv_grammar.specs.declared.symbol.Fixed.{Fixed}
 use Rattle.pv_grammar.specs.declared.symbol.Fixed.TheVariants.{Plus, Minus, Star, Slash, Caret, Open, Close, OpenBracket, CloseBracket, Comma, Semicolon as SemicolonToken, Constants as ConstantsWord, Variables as VariablesWord, Constraints as ConstraintsWord, Function as FunctionWord, Return, End, In, Oo}
 use Rattle.pv_grammar.specs.declared.symbol.Symbol.{Symbol}
 use Rattle.pv_grammar.specs.declared.symbol.Symbol.TheVariants.{Fixed as FixedToken, Relation as RelationToken, Number, Declared, Constant as ConstantName, Variable as VariableName, Parameter as ParameterName, Function as Call}
-use Rattle.pv_grammar.specs.Counting.{AreCounted, Counted, Counting, begins, counted, in_phase, moved, nested, next, nothing, operated, where_below, with_constraints}
+use Rattle.pv_grammar.specs.Counting.{AreCounted, Counted, Counting, begins, counted, moved, nested, next, nothing, operated, where_below}
 use Rattle.pv_grammar.specs.Limits.{AreConstraintsWithin, AreFunctionsWithin, IsConstraintWithin, IsExpressionWithin, IsFunctionWithin, IsLimitedExpression, IsLimitedSystem, IsSystemWithin, arguments_depth, arguments_operations, constraints_count, expression_depth, expression_operations, factor_depth, factor_operations, factors_depth, factors_operations, functions_count, parameters_count, power_operations, primary_depth, primary_operations, term_depth, term_operations, terms_depth, terms_operations, variables_count}
 use Rattle.pv_grammar.specs.Productions.{Arguments, Bound, Constant, ConstantBlock, Constants, Constraint, Constraints, Domain, Expression, Factor, Factors, Function, Functions, IsExpression, IsSystem, Limit, Parameters, Power, Primary, Semicolon, Separator, Sign, System, Term, Terms, Variable, Variables, absolute_of, argument, arguments_symbols, between, bound_of, bound_symbols, call, comma, constant_and, constant_block_symbols, constant_limit, constant_named, constant_of, constant_symbols, constants, constants_separator, constants_symbols, constraint_and, constraint_symbols, constraints_semicolon, constraints_symbols, domain_symbols, expression_symbols, factor_symbols, factors_symbols, function_and, function_of, function_symbols, functions_symbols, greatest_of, infinite_limit, least_of, limit_symbol, minus, minus_sign, negative, no_argument, no_constant, no_constants, no_constraint, no_domain, no_factor, no_function, no_parameter, no_power, no_semicolon, no_sign, no_term, no_variable, number, number_limit, one_semicolon, over, parameter_and, parameter_at, parameters_symbols, parentheses, plus, plus_sign, positive, power_symbols, primary_symbols, product_of, raised, relates, semicolon, semicolon_symbols, separator_symbol, sign_symbols, square_of, sum_of, system_of, system_symbols, term_symbols, terms_symbols, times, to_power, variable_and, variable_at, variable_of, variable_symbols, variables_separator, variables_symbols}
 use Rattle.pv_grammar.specs.Standings.{begins_expression}

@@ -11,7 +11,7 @@ use Rattle.pv_grammar.specs.declared.symbol.Fixed.{Fixed}
 use Rattle.pv_grammar.specs.declared.symbol.Fixed.TheVariants.{Plus, Minus, Star, Slash, Caret, Open, Close, OpenBracket, CloseBracket, Comma, Semicolon, Constants as ConstantsWord, Variables as VariablesWord, Constraints, Function as FunctionWord, Return, End}
 use Rattle.pv_grammar.specs.declared.symbol.Symbol.{Symbol}
 use Rattle.pv_grammar.specs.Standings.{Standing, begins_expression}
-use Rattle.pv_grammar.specs.declared.symbol.Symbol.TheVariants.{Fixed as FixedToken, Number, Declared, Constant as ConstantName, Variable, Parameter, Function as Call, Unknown}
+use Rattle.pv_grammar.specs.declared.symbol.Symbol.TheVariants.{Fixed as FixedToken, Declared, Function as Call, Unknown}
 
 abbrev pub Counting : Type 0
 Counting = Result Counts Cause

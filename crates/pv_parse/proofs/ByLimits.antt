@@ -1,11 +1,10 @@
 -- Tokens that are within the limits, as they are counted, are those of trees within the limits; and what is counted names the cause.
-use Rattle.std.proofs.Common.{◌≡◌, ℕ, nat_lt, Bool, true, false, Option, Some, List, [], ◌∷◌, ◌++◌, map, refl, sym, ap, ◌∙◌, subst, append_assoc, ◌⊎◌, ⊎_elim, Result, Ok, Err}
+use Rattle.std.proofs.Common.{◌≡◌, ℕ, Bool, true, false, Option, Some, List, [], ◌∷◌, ◌++◌, map, refl, sym, ◌∙◌, subst, append_assoc, ⊎_elim, Ok, Err}
 use Rattle.pv_code.specs.declared.code.Op.{Op}
 use Rattle.pv_grammar.specs.declared.cause.Cause.{Cause}
-use Rattle.pv_grammar.specs.declared.cause.Cause.TheVariants.{Unexpected}
 use Rattle.pv_grammar.specs.declared.counts.Counts.{Counts}
 use Rattle.pv_grammar.specs.declared.counts.Phase.{Phase}
-use Rattle.pv_grammar.specs.declared.counts.Phase.TheVariants.{NextConstraint, Parameters, Variables}
+use Rattle.pv_grammar.specs.declared.counts.Phase.TheVariants.{NextConstraint, Variables}
 use Rattle.pv_grammar.specs.declared.machine.Item.{Item}
 use Rattle.pv_grammar.specs.declared.symbol.Fixed.TheVariants.{Minus}
 use Rattle.pv_grammar.specs.declared.symbol.Symbol.{Symbol}
@@ -14,20 +13,19 @@ use Rattle.pv_grammar.specs.ByItems.{BeginsByItems, IsCauseByItems}
 use Rattle.pv_grammar.specs.ByItems.IsCauseByItems.{beyond as beyond_items, not_allowed as not_by_items}
 use Rattle.pv_grammar.specs.Causes.{Begins, IsCause, as_known, limit_cause}
 use Rattle.pv_grammar.specs.Causes.IsCause.{beyond, named, not_allowed, unopened}
-use Rattle.pv_grammar.specs.Counting.{AreCounted, Counted, Counting, counted, declared, standing_of}
+use Rattle.pv_grammar.specs.Counting.{AreCounted, Counted, Counting, counted, standing_of}
 use Rattle.pv_grammar.specs.Grammar.{Derives, MayEnd, Produced, begun, done, left_out, produced, step_of}
 use Rattle.pv_grammar.specs.Standings.{Standing}
 use Rattle.pv_grammar.specs.TreeCodes.{AreKnown, IsKnown}
 use Rattle.pv_grammar.proofs.Alike.{AreTexts, alike_behind, alike_tame, derived_alike, items_begin, known_append, same_plain, tame, tame_are_known, tree_begins}
 use Rattle.pv_grammar.proofs.Beyond.{call_at, limit_at, name_at, sign_begins}
 use Rattle.pv_grammar.proofs.Fits.{kept, left}
-use Rattle.pv_grammar.proofs.Following.{IsCalm, calm_after, stands_behind}
+use Rattle.pv_grammar.proofs.Following.{calm_after, stands_behind}
 use Rattle.pv_grammar.proofs.Forward.{head_is, nil_cons, tail_is}
 use Rattle.pv_grammar.proofs.Ready.{Ready, ReadyAfter}
 use Rattle.pv_grammar.proofs.Within.{AreLimited}
-use Rattle.pv_tokens.specs.declared.token.Token.{Token}
 use Rattle.pv_parse.specs.ByCounts.{MarksToWithin, MarksWithin, SpellsToWithin, SpellsWithin}
-use Rattle.pv_parse.specs.Declarations.{Mark, Marks, MarksTo, mark_of}
+use Rattle.pv_parse.specs.Declarations.{Mark, Marks, MarksTo}
 use Rattle.pv_parse.specs.Meanings.{Names, learnt, no_names}
 use Rattle.pv_parse.specs.Sentences.{Spells, SpellsTo, bytes_of}
 use Rattle.pv_parse.proofs.Closings.{closes}

@@ -1,5 +1,5 @@
 -- What is known behind the tokens that were taken: the loop of the reader, in both directions.
-use Rattle.std.proofs.Common.{◌≡◌, ◌≢◌, ℕ, Bool, false, List, [], ◌∷◌, ◌++◌, refl, sym, ap, ◌∙◌, subst, append_assoc, Option, Some, None, Result, Ok, Err, ⊎_elim}
+use Rattle.std.proofs.Common.{◌≡◌, ◌≢◌, ℕ, Bool, false, List, [], ◌∷◌, ◌++◌, refl, sym, ap, ◌∙◌, subst, append_assoc, Option, Some, None, Ok, Err, ⊎_elim}
 use Rattle.std.proofs.lemmas.List.{append-nil}
 use Rattle.pv_code.specs.declared.code.Op.{Op}
 use Rattle.pv_grammar.specs.declared.cause.Cause.{Cause}

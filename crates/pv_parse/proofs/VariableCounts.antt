@@ -15,7 +15,7 @@ use Rattle.pv_grammar.specs.declared.symbol.Fixed.TheVariants.{Open, Close, Comm
 use Rattle.pv_grammar.specs.declared.symbol.Symbol.{Symbol}
 use Rattle.pv_grammar.specs.declared.symbol.Symbol.TheVariants.{Fixed as FixedToken, Declared, Function as Call, Unknown}
 use Rattle.pv_grammar.specs.Grammar.{Derives, done, left_out, begun, MayEnd, Produced, declared, exactly, produced, system_items}
-use Rattle.pv_grammar.specs.Counting.{Counting, begins, begun as begun_by, behind_comma, behind_end, behind_semicolon, counted, declared as declared_as, in_expression, in_phase, levels, moved, nested, next, operated, operates, turned, with_operations}
+use Rattle.pv_grammar.specs.Counting.{Counting, begins, begun as begun_by, behind_comma, behind_end, behind_semicolon, counted, declared as declared_as, in_expression, in_phase, levels, moved, nested, next, operated, operates, turned, with_operations, with_parameters}
 use Rattle.pv_parse.specs.Declarations.{Mark, declares, mark_of}
 use Rattle.pv_parse.specs.Scopes.{Variable, variable, variables_in}
 use Rattle.pv_parse.proofs.NameBytes.{is_declared}
@@ -130,7 +130,7 @@ declared_adds Variables taken c d h =
     declared_by 1 (nat_lt c.variables 12) taken _ _ c _ d
     (λ (room : nat_lt c.variables 12 ≡ true). let below = (Decides-ltb c.variables 12).0 room in (refl, λ few. omega (arith, below))) h
 declared_adds FunctionName taken c d h = other_by taken _ c d _ (λ z e. ap (λ (y : Counts). y.variables) (sym (same_ok _ z e))) h
-declared_adds Parameters taken c d h = declared_by 0 (nat_lt c.parameters 12) taken _ _ c _ d (λ room. adds_none c _ refl) h
+declared_adds Parameters taken c d h = declared_by 0 (nat_lt c.parameters 12) taken _ _ c (with_parameters (c.parameters + 1) c) d (λ room. adds_none c (with_parameters (c.parameters + 1) c) refl) h
 declared_adds p taken c d h = other_by taken _ c d _ (λ z e. ap (λ (y : Counts). y.variables) (sym (same_ok c z e))) h
 
 moved_adds : (s : Symbol) (c d : Counts) → moved c s ≡ Ok d → Adds (one_if (declares c.phase s)) c d
