@@ -19,7 +19,7 @@ use Rattle.pv_grammar.specs.Counting.{Counting, counted, moved, nested, next, op
 use Rattle.pv_grammar.specs.Grammar.{Derives, Produced, begun, done, left_out, produced, step_of}
 use Rattle.pv_grammar.proofs.Following.{CalmAt}
 use Rattle.pv_grammar.proofs.Forward.{head_is, nil_cons, none_some, some_is, tail_is}
-use Rattle.pv_grammar.proofs.Within.{call_is, made, open_is, operator_is}
+use Rattle.pv_grammar.proofs.Passing.{call_is, made, open_is, operator_is}
 
 -- ---- Which limit forbids a token
 

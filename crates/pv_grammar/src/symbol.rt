@@ -4,11 +4,11 @@ ghost use Rattle.std.specs.Prelude.{◌≡◌, ◌≢◌, None};
 ghost use Rattle.std.specs.Bool.{OnTrue, OnFalse};
 ghost use Rattle.pv_grammar.specs.Grammar.{factor};
 ghost use Rattle.pv_grammar.specs.Counting.{operates};
+ghost use Rattle.pv_grammar.specs.Standings.{begins_expression, is_minus};
 
 use crate::cause::Cause;
 use pv_code::{Fraction, Op};
 use pv_expr::Relation;
-ghost use Rattle.pv_grammar.specs.Standings.{begins_expression, is_minus};
 
 /// A token that is always the same.
 #[derive(Clone, Copy, Debug, PartialEq, Eq)]
