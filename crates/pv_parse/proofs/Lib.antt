@@ -24,4 +24,3 @@ pub mod Starts
 pub mod Tails
 pub mod TreeDomains
 pub mod TreeTexts
-pub mod VariableCounts

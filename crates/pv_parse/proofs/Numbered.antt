@@ -1,5 +1,5 @@
 -- The steps of a sentence write variables that are there, constants within the limits, and powers of at most 32.
-use Rattle.std.proofs.Common.{◌≡◌, ℕ, zero, suc, ◌+◌, ◌<◌, ◌≤◌, Bool, true, false, cond, List, [], ◌∷◌, ◌++◌, Option, Some, None, Ok, length, refl, sym, subst, arith}
+use Rattle.std.proofs.Common.{◌≡◌, ℕ, zero, suc, ◌+◌, ◌<◌, ◌≤◌, Bool, true, false, cond, List, [], ◌∷◌, ◌++◌, Option, Some, None, length, refl, sym, ap, ◌∙◌, subst, arith, if◌then◌else◌}
 use Rattle.std.proofs.lemmas.Bool.{false≢true, true≢false}
 use Rattle.std.specs.Str.{bytes_eq}
 use Rattle.pv_expr.specs.Systems.{IsOver}
@@ -14,11 +14,13 @@ use Rattle.pv_grammar.specs.declared.counts.Phase.{Phase}
 use Rattle.pv_grammar.specs.declared.counts.Phase.TheVariants.{Between, Constants, Body, Variables, Bounds, NextConstraint, Sides}
 use Rattle.pv_grammar.specs.declared.machine.Item.{Item}
 use Rattle.pv_grammar.specs.declared.machine.Item.TheVariants.{Exactly, WantRelation, MoreConstraints, MaybeConstraint, WantFactor, MoreFactors, MoreTerms, MaybePower, WantExponent, MoreArguments, Then}
-use Rattle.pv_grammar.specs.declared.symbol.Fixed.TheVariants.{Open, End}
+use Rattle.pv_grammar.specs.declared.symbol.Fixed.{Fixed}
+use Rattle.pv_grammar.specs.declared.symbol.Fixed.TheVariants.{Open, End, Semicolon}
 use Rattle.pv_grammar.specs.declared.symbol.Symbol.{Symbol}
 use Rattle.pv_grammar.specs.declared.symbol.Symbol.TheVariants.{Fixed as FixedToken, Number, Declared, Never}
 use Rattle.pv_grammar.specs.Grammar.{Derives, Produced, begun, done, expression_items, left_out, produced, system_items}
-use Rattle.pv_grammar.specs.Counting.{counted, nothing, standing_of}
+use Rattle.pv_grammar.specs.Counting.{nothing, standing_of}
+use Rattle.pv_grammar.specs.Standings.{Standing, begins_expression, begins_in, behind_end, behind_fixed, behind_name, behind_semicolon, moved_to, standing_after, standing_behind}
 use Rattle.pv_grammar.proofs.Steps.{AllWrite, MayRaise, Own, Writes, derived-steps}
 use Rattle.pv_tokens.specs.declared.keyword.Word.{Word}
 use Rattle.pv_tokens.specs.declared.keyword.Word.TheVariants.{Sqr as SqrWord}
@@ -27,16 +29,16 @@ use Rattle.pv_tokens.specs.declared.token.Kind.TheVariants.{Name, Number as Numb
 use Rattle.pv_tokens.specs.Words.{word_in}
 use Rattle.pv_parse.specs.declared.names.Meaning.{Meaning}
 use Rattle.pv_parse.specs.declared.names.Meaning.TheVariants.{Constant as ConstantMeaning, Variable as VariableMeaning, Function as FunctionMeaning}
-use Rattle.pv_parse.specs.Declarations.{Mark, declares, mark_of}
+use Rattle.pv_parse.specs.Declarations.{Mark, MarksTo, declares, mark_of}
 use Rattle.pv_parse.specs.Fractions.{HasFraction, HaveFractions}
 use Rattle.pv_parse.specs.Meanings.{KnowsVariables, Names, in_body, in_bounds, learnt, meaning, no_names, numbered, told, use_of, with_function, with_name, with_value}
-use Rattle.pv_parse.specs.Scopes.{IsToldAs, Scoped, nothing_scoped}
-use Rattle.pv_parse.specs.Sentences.{IsNumberSymbol, MayRaise as MayBeRaised, StandsFor, bytes_of, name_symbol, word_symbol}
+use Rattle.pv_parse.specs.Scopes.{IsToldAs, Scoped, Variable, nothing_scoped, variable, variables_in}
+use Rattle.pv_parse.specs.Sentences.{IsNumberSymbol, MayRaise as MayBeRaised, SpellsTo, StandsFor, bytes_of, name_symbol, word_symbol}
 use Rattle.pv_parse.proofs.Meant.{names_length}
 use Rattle.pv_parse.proofs.NameBytes.{is_declared}
-use Rattle.pv_parse.proofs.Starts.{AreCalls, AreLate, IsLate, calls, late_append, late_of, late_step}
-use Rattle.pv_parse.proofs.VariableCounts.{one_count, room_here, variables_count}
-use Rattle.pv_parse.specs.ByCounts.{MarksToWithin, SpellsToWithin}
+use Rattle.pv_parse.proofs.Starts.{one_if, AreCalls, AreLate, IsLate, calls, late_append, late_of, late_step}
+use Rattle.pv_parse.proofs.ByLimits.{marked_of, spelled_to}
+use Rattle.pv_parse.specs.ByCounts.{MarksToWithin}
 
 -- ---- Names
 
@@ -52,23 +54,23 @@ below_cond : (n : ℕ) (b : Bool) (m : Meaning) (o : Option Meaning) → IsBelow
 below_cond n true m o h i = h
 below_cond n false m o h i = i
 
-name_below : (n : ℕ) (p : Phase) (c : Counts) (taken : Bool) (name : List ℕ) (known : Names) → (declares p (Declared taken) ≡ true → c.variables < n) → KnowsBelow n known → KnowsBelow n (with_name p (standing_of c) name known)
-name_below n Variables c taken name known room h = λ q. below_cond n (bytes_eq name q) (VariableMeaning c.variables) (known.known q) (room refl) (h q)
-name_below n p c taken name known room h = h
+name_below : (n : ℕ) (p : Phase) (y : Standing) (taken : Bool) (name : List ℕ) (known : Names) → (declares p (Declared taken) ≡ true → y.variables < n) → KnowsBelow n known → KnowsBelow n (with_name p y name known)
+name_below n Variables y taken name known room h = λ q. below_cond n (bytes_eq name q) (VariableMeaning y.variables) (known.known q) (room refl) (h q)
+name_below n p y taken name known room h = h
 
 value_below : (n : ℕ) (p : Phase) (v : Fraction) (known : Names) → KnowsBelow n known → KnowsBelow n (with_value p v known)
 value_below n Constants v known h = λ q. below_cond n (bytes_eq known.pending q) _ (known.known q) tt (h q)
 value_below n p v known h = h
 
-function_below : (n : ℕ) (p : Phase) (c : Counts) (known : Names) → KnowsBelow n known → KnowsBelow n (with_function p (standing_of c) known)
-function_below n Body c known h = λ q. below_cond n (bytes_eq known.pending q) (FunctionMeaning _ c.parameters) (known.known q) tt (h q)
-function_below n p c known h = h
+function_below : (n : ℕ) (p : Phase) (y : Standing) (known : Names) → KnowsBelow n known → KnowsBelow n (with_function p y known)
+function_below n Body y known h = λ q. below_cond n (bytes_eq known.pending q) (FunctionMeaning _ y.parameters) (known.known q) tt (h q)
+function_below n p y known h = h
 
-told_below : (n : ℕ) (c : Counts) (s : Symbol) (name : List ℕ) (known : Names) → (declares c.phase s ≡ true → c.variables < n) → KnowsBelow n known → KnowsBelow n (told (standing_of c) s name known)
-told_below n c (Declared taken) name known room h = name_below n c.phase c taken name known room h
-told_below n c (Number value exponent) name known room h = value_below n c.phase value known h
-told_below n c (FixedToken End) name known room h = function_below n c.phase c known h
-told_below n c s name known room h = h
+told_below : (n : ℕ) (y : Standing) (s : Symbol) (name : List ℕ) (known : Names) → (declares y.phase s ≡ true → y.variables < n) → KnowsBelow n known → KnowsBelow n (told y s name known)
+told_below n y (Declared taken) name known room h = name_below n y.phase y taken name known room h
+told_below n y (Number value exponent) name known room h = value_below n y.phase value known h
+told_below n y (FixedToken End) name known room h = function_below n y.phase y known h
+told_below n y s name known room h = h
 
 -- ---- Tokens
 
@@ -132,16 +134,16 @@ marked_fractions t c from (s ∷ ss) marks to e (x, d, rest, next, one, are, mor
     (both.0, marked_fractions t d x.end ss rest to e more both.1)
 
 -- each variable that is declared gets a number below n
-abbrev HaveRoom : ℕ → Counts → List Symbol → Type 0
-HaveRoom n c [] = Unit {0}
-HaveRoom n c (s ∷ ss) = (declares c.phase s ≡ true → c.variables < n) × ((d : Counts) → counted c s ≡ Ok d → HaveRoom n d ss)
+abbrev HaveRoom : ℕ → Standing → List Symbol → Type 0
+HaveRoom n y [] = Unit {0}
+HaveRoom n y (s ∷ ss) = (declares y.phase s ≡ true → y.variables < n) × HaveRoom n (standing_behind y s) ss
 
-spelled_steps : (n : ℕ) (t : List ℕ) (known : Names) (c : Counts) (from : ℕ) (ss : List Symbol) (to : ℕ) (m : Names) → SpellsToWithin t known c from ss to m →
-    KnowsBelow n known → AllFractions ss → HaveRoom n c ss → AllWrite (IsStep n) ss
-spelled_steps n t known c from [] to m h below fractions room = tt
-spelled_steps n t known c from (s ∷ ss) to m (x, d, here, inside, stands, one, rest) below fractions room = (
-  stands_step n c.phase known (bytes_of t x) x.kind s stands below fractions.0,
-  spelled_steps n t (learnt (standing_of c) s (bytes_of t x) known) d x.end ss to m rest (told_below n c s (bytes_of t x) known room.0 below) fractions.1 (room.1 d one),
+spelled_steps : (n : ℕ) (t : List ℕ) (known : Names) (y : Standing) (from : ℕ) (ss : List Symbol) (to : ℕ) (m : Names) → SpellsTo t known y from ss to m →
+    KnowsBelow n known → AllFractions ss → HaveRoom n y ss → AllWrite (IsStep n) ss
+spelled_steps n t known y from [] to m h below fractions room = tt
+spelled_steps n t known y from (s ∷ ss) to m (x, here, inside, stands, rest) below fractions room = (
+  stands_step n y.phase known (bytes_of t x) x.kind s stands below fractions.0,
+  spelled_steps n t (learnt y s (bytes_of t x) known) (standing_behind y s) x.end ss to m rest (told_below n y s (bytes_of t x) known room.0 below) fractions.1 room.1,
 )
 
 own_steps : (n : ℕ) → Own (IsStep n)
@@ -149,26 +151,91 @@ own_steps n = record { neg = tt; add = tt; sub = tt; mul = tt; div = tt; define 
 
 -- ---- Systems
 
-counted_room : (t : List ℕ) (c : Counts) (from : ℕ) (ss : List Symbol) (marks : List Mark) (to : ℕ) (e : Counts) → MarksToWithin t c from ss marks to e → HaveRoom e.variables c ss
-counted_room t c from [] marks to e h = tt
-counted_room t c from (s ∷ ss) marks to e (x, d, rest, next, one, are, more) = (
-  λ is. room_here t c from s ss marks to e is (x, d, rest, next, one, are, more),
-  λ d' one'. subst (λ (z : Counts). HaveRoom e.variables z ss) (one_count c d d' s one one') (counted_room t d x.end ss rest to e more),
+no_more : (n : ℕ) → n ≡ n + 0
+no_more n = omega arith
+
+-- a token declares one variable or none
+name_adds : (p : Phase) (y : Standing) (taken : Bool) → (behind_name p y).variables ≡ y.variables + one_if (declares p (Declared taken))
+unfolding one_if
+name_adds Variables y taken = refl
+name_adds p y taken = no_more y.variables
+
+semicolon_adds : (p : Phase) (y : Standing) → (behind_semicolon p y).variables ≡ y.variables
+semicolon_adds Sides y = refl
+semicolon_adds p y = refl
+
+end_adds : (p : Phase) (y : Standing) → (behind_end p y).variables ≡ y.variables
+end_adds Body y = refl
+end_adds p y = refl
+
+fixed_adds : (f : Fixed) (y : Standing) → (behind_fixed f y).variables ≡ y.variables
+fixed_adds Semicolon y = semicolon_adds y.phase y
+fixed_adds End y = end_adds y.phase y
+fixed_adds f y = refl
+
+declares_none : (p : Phase) (s : Symbol) → is_declared s ≡ false → declares p s ≡ false
+declares_none Variables (Declared taken) e = e
+declares_none p s e = refl
+
+none_added : (n m : ℕ) (b : Bool) → m ≡ n → b ≡ false → m ≡ n + one_if b
+unfolding one_if
+none_added n m b e is = let none : one_if b ≡ 0 = ap one_if is in omega (arith, e, none)
+
+adds : (y : Standing) (s : Symbol) → (standing_behind y s).variables ≡ y.variables + one_if (declares y.phase s)
+adds y (Declared taken) = name_adds y.phase y taken
+adds y (FixedToken f) = none_added y.variables _ (declares y.phase (FixedToken f)) (fixed_adds f (moved_to (begins_in (begins_expression (FixedToken f)) y.phase) y)) (declares_none y.phase (FixedToken f) refl)
+adds y s = none_added y.variables _ (declares y.phase s) refl (declares_none y.phase s refl)
+
+grows : (y : Standing) (ss : List Symbol) → y.variables ≤ (standing_after y ss).variables
+unfolding one_if
+grows y [] = omega arith
+grows y (s ∷ ss) = let more = grows (standing_behind y s) ss in let one = adds y s in omega (arith, more, one)
+
+room : (y : Standing) (ss : List Symbol) → HaveRoom (standing_after y ss).variables y ss
+unfolding one_if
+room y [] = tt
+room y (s ∷ ss) = (
+  λ is. let more = grows (standing_behind y s) ss in let one = adds y s in let here : one_if (declares y.phase s) ≡ 1 = ap one_if is in omega (arith, more, one, here),
+  room (standing_behind y s) ss,
 )
+
+one_first : (n : ℕ) → suc n ≡ 1 + n
+one_first n = omega arith
+
+none_first : (n : ℕ) → n ≡ 0 + n
+none_first n = omega arith
+
+count_one : (b : Bool) (v : Variable) (vs : List Variable) → length (if b then v ∷ vs else vs) ≡ one_if b + length vs
+unfolding one_if
+count_one true v vs = one_first (length vs)
+count_one false v vs = none_first (length vs)
+
+counted_variables : (t : List ℕ) (y : Standing) (from : ℕ) (ss : List Symbol) (marks : List Mark) (to : ℕ) → MarksTo t y from ss marks to → (standing_after y ss).variables ≡ y.variables + length (variables_in marks)
+counted_variables t y from [] marks to h = let none : length (variables_in marks) ≡ 0 = ap (λ (z : List Mark). length (variables_in z)) h.0 in omega (arith, none)
+counted_variables t y from (s ∷ ss) marks to (x, rest, next, are, more) =
+    let later = counted_variables t (standing_behind y s) x.end ss rest to more in
+    let one = adds y s in
+    let here : length (variables_in marks) ≡ one_if (declares y.phase s) + length (variables_in rest) =
+    ap (λ (z : List Mark). length (variables_in z)) are ∙ count_one (declares y.phase s) (variable (mark_of t y.phase s x).bytes rest) (variables_in rest) in
+    omega (arith, later, one, here)
 
 pub system_steps : (t : List ℕ) (code : List Op) (new : Scoped) → IsToldAs t no_names (nothing Between) system_items [] code nothing_scoped new → Each (IsStep (length new.names)) code
 system_steps t code new s =
-    let marked = s.marked.2 in
-    let ends : s.marked.1.variables ≡ length new.names =
-    let count = (variables_count t (nothing Between) 0 s.sentence.symbols s.marks s.marked.0 s.marked.1 marked).0 in
+    let ss : List Symbol = s.sentence.symbols in
+    let n : ℕ = length new.names in
+    let start : Standing = standing_of (nothing Between) in
+    let marked = marked_of t (nothing Between) ss s.marks s.marked in
+    let ends : (standing_after start ss).variables ≡ n =
+    let count = counted_variables t start 0 ss s.marks marked.0 marked.1 in
     let names = names_length t no_names (nothing Between) system_items code new s in
     omega (arith, count, names) in
-    subst (Each (IsStep (length new.names))) (sym s.sentence.code_is)
-    (derived-steps (IsStep (length new.names)) (own_steps (length new.names)) system_items s.sentence.symbols s.sentence.steps s.sentence.derived
+    subst (Each (IsStep n)) (sym s.sentence.code_is)
+    (derived-steps (IsStep n) (own_steps n) system_items ss s.sentence.steps s.sentence.derived
     (tt, (tt, (tt, (tt, (tt, (tt, (tt, (tt, (tt, (tt, (tt, (tt, (tt, tt)))))))))))))
-    (spelled_steps (length new.names) t no_names (nothing Between) 0 s.sentence.symbols s.sentence.spelled.0 s.sentence.spelled.1 s.sentence.spelled.3 (λ name. tt)
-    (marked_fractions t (nothing Between) 0 s.sentence.symbols s.marks s.marked.0 s.marked.1 marked s.fractions)
-    (subst (λ (n : ℕ). HaveRoom n (nothing Between) s.sentence.symbols) ends (counted_room t (nothing Between) 0 s.sentence.symbols s.marks s.marked.0 s.marked.1 marked))))
+    (spelled_steps n t no_names start 0 ss s.sentence.spelled.0 s.sentence.spelled.1
+    (spelled_to t no_names (nothing Between) 0 ss s.sentence.spelled.0 s.sentence.spelled.1 s.sentence.spelled.3) (λ name. tt)
+    (marked_fractions t (nothing Between) 0 ss s.marks s.marked.0 s.marked.1 s.marked.2 s.fractions)
+    (subst (λ (k : ℕ). HaveRoom k start ss) ends (room start ss))))
 
 -- ---- One expression, in which nothing is declared
 
@@ -211,9 +278,9 @@ not_declares : (p : Phase) (s : Symbol) → is_declared s ≡ false → declares
 not_declares Variables (Declared taken) e h = true≢false e
 not_declares p s e h = false≢true h
 
-nothing_room : (n : ℕ) (c : Counts) (ss : List Symbol) → DeclareNothing ss → HaveRoom n c ss
-nothing_room n c [] h = tt
-nothing_room n c (s ∷ ss) h = (λ is. absurd (not_declares c.phase s h.0 is), λ d one. nothing_room n d ss h.1)
+nothing_room : (n : ℕ) (y : Standing) (ss : List Symbol) → DeclareNothing ss → HaveRoom n y ss
+nothing_room n y [] h = tt
+nothing_room n y (s ∷ ss) h = (λ is. absurd (not_declares y.phase s h.0 is), nothing_room n (standing_behind y s) ss h.1)
 
 numbered_below : (variables : List (List ℕ)) (i n : ℕ) (name : List ℕ) → length variables + i ≤ n → IsBelow n (numbered variables i name)
 numbered_below [] i n name h = tt
@@ -230,7 +297,8 @@ expression_over variables t known code x new knows s is =
     let are = calls t known (nothing Sides) 0 s.sentence.symbols s.sentence.spelled.0 s.sentence.spelled.1 spelled in
     let none = late_symbols expression_items s.sentence.symbols s.sentence.steps s.sentence.derived (tt, (tt, (tt, tt))) are in
     let steps = derived-steps (IsStep n) (own_steps n) expression_items s.sentence.symbols s.sentence.steps s.sentence.derived (tt, (tt, (tt, tt)))
-    (spelled_steps n t known (nothing Sides) 0 s.sentence.symbols s.sentence.spelled.0 s.sentence.spelled.1 spelled (variables_below variables known knows)
+    (spelled_steps n t known (standing_of (nothing Sides)) 0 s.sentence.symbols s.sentence.spelled.0 s.sentence.spelled.1
+    (spelled_to t known (nothing Sides) 0 s.sentence.symbols s.sentence.spelled.0 s.sentence.spelled.1 spelled) (variables_below variables known knows)
     (marked_fractions t (nothing Sides) 0 s.sentence.symbols s.marks s.marked.0 s.marked.1 s.marked.2 s.fractions)
-    (nothing_room n (nothing Sides) s.sentence.symbols none)) in
+    (nothing_room n (standing_of (nothing Sides)) s.sentence.symbols none)) in
     subst (IsOver n) (sym is) (term_over n code (subst (Each (IsStep n)) (sym s.sentence.code_is) steps))
