@@ -34,7 +34,7 @@ use Rattle.pv_grammar.specs.Counting.{standing_of}
 
 -- ---- Counts
 
-pub one_if : Bool → ℕ
+unfoldable pub one_if : Bool → ℕ
 one_if true = 1
 one_if false = 0
 
