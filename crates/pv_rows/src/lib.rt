@@ -8,6 +8,8 @@ mod centered;
 #[cfg(test)]
 mod damage;
 #[cfg(test)]
+mod fault_cases;
+#[cfg(test)]
 mod faults;
 #[cfg(test)]
 mod files;
