@@ -1,5 +1,6 @@
 #!/usr/bin/env python3
-"""Runs each command of the real binary with its n-th allocation refused, for every n in turn, and with all from the n-th on.
+"""Runs each command of the real binary with its n-th allocation refused, for every n in turn, and with all from the
+n-th on.
 
     python3 tests/runners/allocations.py ./paver [WORD]
 
@@ -45,7 +46,7 @@ def commands():
         "run-centered out": by(4, ["run-centered", "s"], "new"),
         "resume by one": by(1, ["resume", "r", "part"], "new"),
         "resume by four": by(4, ["resume", "r", "part"], "new"),
-        "merge": (0, ["merge", "r", "part", "other", *QUARTER, "--out", "new"], "new"),
+        "merge": (1, ["merge", "r", "part", "other", *QUARTER, "--out", "new"], "new"),
         "merge of two that disagree": (9, ["merge", "r", "other", "foul", *QUARTER], None),
         "audit": (0, ["audit", "r", "whole", *QUARTER], None),
         "audit that differs": (9, ["audit", "r", "foul", *QUARTER], None),

