@@ -20,11 +20,11 @@ use Rattle.pv_grammar.proofs.TreeReadings.{expression_text, system_text}
 -- ---- What the items are behind a token, with codes left aside
 
 -- a token that may stand in another one's place; each function is one that is declared, with as many arguments
-abbrev tame : Symbol → Symbol
+abbrev pub tame : Symbol → Symbol
 tame (FunctionName op arity) = FunctionName (Call 0 (suc (arity - 1))) (suc (arity - 1))
 tame s = as_known s
 
-abbrev plain : Item → Item
+abbrev pub plain : Item → Item
 plain (Then op) = Then Define
 plain i = i
 
@@ -64,12 +64,12 @@ alike i s = refl
 
 -- ---- Lists that are alike
 
-abbrev ArePlain : List Item → List Item → Type 0
+abbrev pub ArePlain : List Item → List Item → Type 0
 ArePlain [] [] = Unit {0}
 ArePlain (i ∷ is) (j ∷ js) = (plain i ≡ plain j) × ArePlain is js
 ArePlain is js = ⊥
 
-abbrev AreAlike : List Symbol → List Symbol → Type 0
+abbrev pub AreAlike : List Symbol → List Symbol → Type 0
 AreAlike [] [] = Unit {0}
 AreAlike (s ∷ ss) (r ∷ rs) = (tame s ≡ tame r) × AreAlike ss rs
 AreAlike ss rs = ⊥
@@ -86,15 +86,15 @@ plain_append [] (j ∷ js) ks ls h k = absurd h
 plain_append (i ∷ is) [] ks ls h k = absurd h
 plain_append (i ∷ is) (j ∷ js) ks ls h k = (h.0, plain_append is js ks ls h.1 k)
 
-same_plain : (items : List Item) → ArePlain items items
+pub same_plain : (items : List Item) → ArePlain items items
 same_plain [] = tt
 same_plain (i ∷ items) = (refl, same_plain items)
 
-alike_behind : (before ss rs : List Symbol) → AreAlike ss rs → AreAlike (before ++ ss) (before ++ rs)
+pub alike_behind : (before ss rs : List Symbol) → AreAlike ss rs → AreAlike (before ++ ss) (before ++ rs)
 alike_behind [] ss rs h = h
 alike_behind (s ∷ before) ss rs h = (refl, alike_behind before ss rs h)
 
-alike_all : (ss : List Symbol) → AreAlike ss ss
+pub alike_all : (ss : List Symbol) → AreAlike ss ss
 alike_all [] = tt
 alike_all (s ∷ ss) = (refl, alike_all ss)
 
@@ -106,7 +106,7 @@ tame_twice : (s : Symbol) → tame s ≡ tame (tame s)
 tame_twice (FunctionName op arity) = ap (λ (n : ℕ). FunctionName (Call 0 (suc n)) (suc n)) (same_count arity)
 tame_twice s = refl
 
-alike_tame : (ss : List Symbol) → AreAlike ss (map tame ss)
+pub alike_tame : (ss : List Symbol) → AreAlike ss (map tame ss)
 alike_tame [] = tt
 alike_tame (s ∷ ss) = (tame_twice s, alike_tame ss)
 
@@ -136,7 +136,7 @@ produced_alike i j s r p e f made =
     ∙ (ap (λ (z : Symbol). shape (produced (plain i) z)) (sym f)
     ∙ (sym (alike i s) ∙ ap shape made))))
 
-derived_alike : (items : List Item) (ss : List Symbol) (code : List Op) → Derives items ss code → (items' : List Item) (ss' : List Symbol) → ArePlain items items' → AreAlike ss ss' →
+pub derived_alike : (items : List Item) (ss : List Symbol) (code : List Op) → Derives items ss code → (items' : List Item) (ss' : List Symbol) → ArePlain items items' → AreAlike ss ss' →
     (code' : List Op) × Derives items' ss' code'
 derived_alike items ss code (done) [] [] h k = ([], done)
 derived_alike items ss code (done) (j ∷ js) ss' h k = absurd h
@@ -174,7 +174,7 @@ expression_texts = record {
   known = λ ss x. (expression_text ss _ (x.0, x.1, refl)).1;
 }
 
-known_append : (ss rs : List Symbol) → AreKnown ss → AreKnown rs → AreKnown (ss ++ rs)
+pub known_append : (ss rs : List Symbol) → AreKnown ss → AreKnown rs → AreKnown (ss ++ rs)
 known_append [] rs h k = k
 known_append (s ∷ ss) rs h k = (h.0, known_append ss rs h.1 k)
 
@@ -186,7 +186,7 @@ tame_is_known : (s : Symbol) → IsKnown (tame s)
 tame_is_known (FunctionName op arity) = refl
 tame_is_known s = tt
 
-tame_are_known : (ss : List Symbol) → AreKnown (map tame ss)
+pub tame_are_known : (ss : List Symbol) → AreKnown (map tame ss)
 tame_are_known [] = tt
 tame_are_known (s ∷ ss) = (tame_is_known s, tame_are_known ss)
 

@@ -14,8 +14,9 @@ use Rattle.pv_grammar.specs.declared.symbol.Symbol.TheVariants.{Fixed as FixedTo
 use Rattle.pv_grammar.specs.declared.machine.Item.{Item}
 use Rattle.pv_grammar.specs.declared.machine.Item.TheVariants.{Exactly, MaybeConstants, WantConstant, MoreConstants, MaybeConstant, WantEquals, MaybeSign, WantValue, MaybeFunctions, WantFunctionName, WantParameter, MoreParameters, MaybeSemicolon, WantVariable, MoreVariables, MaybeVariable, MaybeDomain, WantBound, WantRelation, MoreConstraints, MaybeConstraint, WantFactor, MoreFactors, MoreTerms, MaybePower, WantExponent, MoreArguments, Then}
 use Rattle.pv_grammar.specs.Grammar.{Follows, MayEnd, Produced, Settles, body_items, emptied, ended, exactly, expression_items, fixed, met, produced, step_of, system_items}
-use Rattle.pv_grammar.specs.Limits.{begins_expression, behind_comma, behind_end, behind_semicolon, counted, declared, in_phase, nothing, turned, with_parameters, with_variables}
+use Rattle.pv_grammar.specs.Counting.{behind_comma, behind_end, behind_semicolon, counted, declared, in_phase, nothing, turned, with_parameters, with_variables}
 use Rattle.pv_grammar.proofs.Ready.{Behind, FactorRoom, FixedRoom, Gives, IsApart, IsStill, OpenRoom, Ready, ReadyAfter, aside, begun_seen, constraint_ready, expression_ready, factor_token, fixed_behind, gives_if, in_sides, kept_arguments, kept_constraint, kept_exponent, kept_factor, kept_factors, kept_next, kept_power, kept_relation, kept_terms, may_begin, opened, opened_sides, opened_still, other_token, phase_is, reads, seen}
+use Rattle.pv_grammar.specs.Standings.{begins_expression}
 
 -- ---- Constants
 
@@ -279,7 +280,7 @@ kept_name s c e rest m h g = tt
 parameter_gives : (p : Phase) (c d : Counts) (taken : Bool) → p ≡ Parameters → seen d ≡ seen c → Gives (λ x. without x ≡ without c) (declared p d taken)
 parameter_gives p c d taken e l =
     subst (λ (q : Phase). Gives (λ x. without x ≡ without c) (declared q d taken)) (sym e)
-    (gives_if _ taken _ _ (λ u. tt) (gives_if _ (nat_lt d.parameters 12) _ _ (λ t. ap (with_parameters 0) l) tt))
+    (gives_if _ (nat_lt d.parameters 12) _ _ (λ t. gives_if _ taken _ _ (λ u. tt) (ap (with_parameters 0) l)) tt)
 
 kept_parameter : (s : Symbol) (c e : Counts) (rest : List Item) → c.phase ≡ Parameters → counted c s ≡ Ok e → Behind (λ d. without d ≡ without c) rest → ReadyAfter (produced WantParameter s) e rest
 kept_parameter (Declared taken) c e rest m h g =

@@ -1,11 +1,14 @@
 pub mod Alike
+pub mod Beyond
 pub mod Derivations
 pub mod Exponents
 pub mod Fits
+pub mod Following
 pub mod Forward
 pub mod OneReading
 pub mod OneTree
 pub mod Orderly
+pub mod Passing
 pub mod Piles
 pub mod Ready
 pub mod Steps
@@ -13,3 +16,4 @@ pub mod TreeBuilding
 pub mod TreeExamples
 pub mod TreeReadings
 pub mod TreeRuns
+pub mod Within

@@ -14,7 +14,8 @@ use Rattle.pv_grammar.specs.declared.symbol.Symbol.TheVariants.{Fixed as FixedTo
 use Rattle.pv_grammar.specs.declared.machine.Item.{Item}
 use Rattle.pv_grammar.specs.declared.machine.Item.TheVariants.{Exactly, MaybeConstants, WantConstant, MoreConstants, MaybeConstant, MaybeSign, WantValue, MaybeFunctions, WantFunctionName, WantParameter, MoreParameters, MaybeSemicolon, WantVariable, MoreVariables, MaybeVariable, MaybeDomain, WantBound, WantRelation, MoreConstraints, MaybeConstraint, WantFactor, MoreFactors, MoreTerms, MaybePower, WantExponent, MoreArguments, Then}
 use Rattle.pv_grammar.specs.Grammar.{Produced, factor, produced, with_more}
-use Rattle.pv_grammar.specs.Limits.{Counting, begins, begins_expression, begun, behind_comma, behind_end, behind_semicolon, counted, in_expression, in_phase, levels, moved, nested, next, operated, operates, with_constraints, with_parameters, with_variables}
+use Rattle.pv_grammar.specs.Counting.{Counting, begins, begun, behind_comma, behind_end, behind_semicolon, counted, in_expression, in_phase, levels, moved, nested, next, operated, operates, with_constraints, with_parameters, with_variables}
+use Rattle.pv_grammar.specs.Standings.{begins_expression}
 
 -- ---- What of the counts matters to what is to come
 
@@ -153,7 +154,7 @@ pub gives_if : (P : Counts → Type 0) (b : Bool) (x y : Counting) → (b ≡ tr
 gives_if P true x y g h = g refl
 gives_if P false x y g h = h
 
-gives_next : (P Q : Counts → Type 0) (r : Counting) (f : Counts → Counting) → Gives Q r → ((d : Counts) → Q d → Gives P (f d)) → Gives P (next r f)
+pub gives_next : (P Q : Counts → Type 0) (r : Counting) (f : Counts → Counting) → Gives Q r → ((d : Counts) → Q d → Gives P (f d)) → Gives P (next r f)
 gives_next P Q (Err cause) f g h = tt
 gives_next P Q (Ok d) f g h = h d g
 

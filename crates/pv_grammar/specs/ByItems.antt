@@ -9,7 +9,7 @@ use Rattle.pv_grammar.specs.declared.machine.Item.{Item}
 use Rattle.pv_grammar.specs.declared.symbol.Symbol.{Symbol}
 use Rattle.pv_grammar.specs.Causes.{behind_caret, refusal}
 use Rattle.pv_grammar.specs.Grammar.{Derives, expression_items, system_items}
-use Rattle.pv_grammar.specs.Limits.{counted, nothing}
+use Rattle.pv_grammar.specs.Counting.{counted, nothing}
 
 -- the text of a system begins between its blocks, and that of an expression within it
 abbrev pub IsStart : Counts → List Item → Type 0

@@ -1,8 +1,10 @@
 pub mod ByItems
 pub mod Causes
+pub mod Counting
 pub mod Grammar
 pub mod Limits
 pub mod Messages
 pub mod Productions
+pub mod Standings
 pub mod TreeCodes
 pub mod Trees

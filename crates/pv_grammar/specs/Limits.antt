@@ -1,162 +1,146 @@
--- The limits of a text, counted token by token: how the counts go on behind a token, or the cause that forbids it.
--- The grammar is left aside here: a token that it refuses may be counted in any way.
-use Rattle.std.specs.Prelude.{◌≡◌, ℕ, ◌+◌, ◌-◌, nat_lt, Bool, true, false, List, [], ◌∷◌, Result, Ok, Err, if◌then◌else◌}
-use Rattle.pv_grammar.specs.declared.cause.Cause.{Cause}
-use Rattle.pv_grammar.specs.declared.cause.Cause.TheVariants.{UnknownName, DuplicateName, TooManyVariables, TooManyConstraints, TooManyFunctions, TooDeep, Unexpected}
-use Rattle.pv_grammar.specs.declared.counts.Phase.{Phase}
-use Rattle.pv_grammar.specs.declared.counts.Phase.TheVariants.{Between, Constants, FunctionName, Parameters, Body, Variables, Bounds, NextConstraint, Sides}
-use Rattle.pv_grammar.specs.declared.counts.Counts.{Counts}
-use Rattle.pv_grammar.specs.declared.symbol.Fixed.{Fixed}
-use Rattle.pv_grammar.specs.declared.symbol.Fixed.TheVariants.{Plus, Minus, Star, Slash, Caret, Open, Close, OpenBracket, CloseBracket, Comma, Semicolon, Constants as ConstantsWord, Variables as VariablesWord, Constraints, Function as FunctionWord, Return, End}
+-- The limits of a text, said of its tree: how many operations stand in an expression, how deep its parentheses nest, and how many
+-- variables, constraints, functions and parameters there are.
+use Rattle.std.specs.Prelude.{◌≡◌, ℕ, suc, ◌+◌, ◌≤◌, max, List, []}
 use Rattle.pv_grammar.specs.declared.symbol.Symbol.{Symbol}
-use Rattle.pv_grammar.specs.declared.symbol.Symbol.TheVariants.{Fixed as FixedToken, Number, Declared, Constant as ConstantName, Variable, Parameter, Function as Call, Unknown}
+use Rattle.pv_grammar.specs.Productions.{Arguments, Constraint, Constraints, Expression, Factor, Factors, Function, Functions, Parameters, Power, Primary, System, Term, Terms, Variables, absolute_of, argument, call, constant_named, constraint_and, constraints_semicolon, expression_symbols, function_and, function_of, greatest_of, least_of, minus, negative, no_argument, no_constraint, no_factor, no_function, no_parameter, no_power, no_term, no_variable, number, over, parameter_and, parameter_at, parentheses, plus, positive, product_of, raised, relates, square_of, sum_of, system_of, system_symbols, times, to_power, variable_and, variable_at, variables_separator}
 
-abbrev pub Counting : Type 0
-Counting = Result Counts Cause
+-- ---- Operations: signs, `+ - * / ^`, and the names of functions
 
-abbrev pub nothing : Phase → Counts
-nothing p = record { phase = p; level = 0; operations = 0; parameters = 0; functions = 0; variables = 0; constraints = 0 }
+abbrev pub power_operations : Power → ℕ
+power_operations no_power = 0
+power_operations (to_power value n) = 1
 
-abbrev pub in_phase : Phase → Counts → Counts
-in_phase p c = record { phase = p; level = c.level; operations = c.operations; parameters = c.parameters; functions = c.functions; variables = c.variables; constraints = c.constraints }
+abbrev mutual
+  pub expression_operations : Expression → ℕ
+  expression_operations (sum_of t ts) = term_operations t + terms_operations ts
 
-abbrev pub in_level : ℕ → Counts → Counts
-in_level n c = record { phase = c.phase; level = n; operations = c.operations; parameters = c.parameters; functions = c.functions; variables = c.variables; constraints = c.constraints }
+  pub terms_operations : Terms → ℕ
+  terms_operations no_term = 0
+  terms_operations (plus t ts) = suc (term_operations t + terms_operations ts)
+  terms_operations (minus t ts) = suc (term_operations t + terms_operations ts)
 
-abbrev pub with_operations : ℕ → Counts → Counts
-with_operations n c = record { phase = c.phase; level = c.level; operations = n; parameters = c.parameters; functions = c.functions; variables = c.variables; constraints = c.constraints }
+  pub term_operations : Term → ℕ
+  term_operations (product_of x xs) = factor_operations x + factors_operations xs
 
-abbrev pub with_parameters : ℕ → Counts → Counts
-with_parameters n c = record { phase = c.phase; level = c.level; operations = c.operations; parameters = n; functions = c.functions; variables = c.variables; constraints = c.constraints }
+  pub factors_operations : Factors → ℕ
+  factors_operations no_factor = 0
+  factors_operations (times x xs) = suc (factor_operations x + factors_operations xs)
+  factors_operations (over x xs) = suc (factor_operations x + factors_operations xs)
 
-abbrev pub with_functions : ℕ → Counts → Counts
-with_functions n c = record { phase = c.phase; level = c.level; operations = c.operations; parameters = c.parameters; functions = n; variables = c.variables; constraints = c.constraints }
+  pub factor_operations : Factor → ℕ
+  factor_operations (positive x) = suc (factor_operations x)
+  factor_operations (negative x) = suc (factor_operations x)
+  factor_operations (raised x exponent) = primary_operations x + power_operations exponent
 
-abbrev pub with_variables : ℕ → Counts → Counts
-with_variables n c = record { phase = c.phase; level = c.level; operations = c.operations; parameters = c.parameters; functions = c.functions; variables = n; constraints = c.constraints }
+  pub primary_operations : Primary → ℕ
+  primary_operations (number value exponent) = 0
+  primary_operations (constant_named value) = 0
+  primary_operations (variable_at i) = 0
+  primary_operations (parameter_at i) = 0
+  primary_operations (parentheses e) = expression_operations e
+  primary_operations (absolute_of e) = suc (expression_operations e)
+  primary_operations (square_of e) = suc (expression_operations e)
+  primary_operations (least_of a b) = suc (expression_operations a + expression_operations b)
+  primary_operations (greatest_of a b) = suc (expression_operations a + expression_operations b)
+  primary_operations (call f e more) = suc (expression_operations e + arguments_operations more)
 
-abbrev pub with_constraints : ℕ → Counts → Counts
-with_constraints n c = record { phase = c.phase; level = c.level; operations = c.operations; parameters = c.parameters; functions = c.functions; variables = c.variables; constraints = n }
+  pub arguments_operations : Arguments → ℕ
+  arguments_operations no_argument = 0
+  arguments_operations (argument e more) = expression_operations e + arguments_operations more
 
--- the counts go on while there is room
-abbrev pub where_below : ℕ → ℕ → Cause → Counts → Counting
-where_below n most cause c = if nat_lt n most then Ok c else Err cause
+-- ---- How deep parentheses nest, those of functions among them
 
--- ---- Constraints: at most 64
+abbrev mutual
+  pub expression_depth : Expression → ℕ
+  expression_depth (sum_of t ts) = max (term_depth t) (terms_depth ts)
 
-abbrev pub begins : Phase → Counts → Counting
-begins NextConstraint c = where_below c.constraints 64 TooManyConstraints (in_phase Sides (with_constraints (c.constraints + 1) c))
-begins p c = Ok c
+  pub terms_depth : Terms → ℕ
+  terms_depth no_term = 0
+  terms_depth (plus t ts) = max (term_depth t) (terms_depth ts)
+  terms_depth (minus t ts) = max (term_depth t) (terms_depth ts)
 
--- a token that can begin an expression
-abbrev pub begins_expression : Symbol → Bool
-begins_expression (FixedToken Plus) = true
-begins_expression (FixedToken Minus) = true
-begins_expression (FixedToken Open) = true
-begins_expression (Number value exponent) = true
-begins_expression (ConstantName value) = true
-begins_expression (Variable i) = true
-begins_expression (Parameter i) = true
-begins_expression (Call op arity) = true
-begins_expression Unknown = true
-begins_expression s = false
+  pub term_depth : Term → ℕ
+  term_depth (product_of x xs) = max (factor_depth x) (factors_depth xs)
 
--- where a constraint may begin, such a token begins one
-abbrev pub begun : Counts → Symbol → Counting
-begun c s = if begins_expression s then begins c.phase c else Ok c
+  pub factors_depth : Factors → ℕ
+  factors_depth no_factor = 0
+  factors_depth (times x xs) = max (factor_depth x) (factors_depth xs)
+  factors_depth (over x xs) = max (factor_depth x) (factors_depth xs)
 
--- ---- Expressions: at most 1,000 operations, and 100 levels
+  pub factor_depth : Factor → ℕ
+  factor_depth (positive x) = factor_depth x
+  factor_depth (negative x) = factor_depth x
+  factor_depth (raised x exponent) = primary_depth x
 
-abbrev pub in_expression : Phase → Bool
-in_expression Body = true
-in_expression Sides = true
-in_expression p = false
+  pub primary_depth : Primary → ℕ
+  primary_depth (number value exponent) = 0
+  primary_depth (constant_named value) = 0
+  primary_depth (variable_at i) = 0
+  primary_depth (parameter_at i) = 0
+  primary_depth (parentheses e) = suc (expression_depth e)
+  primary_depth (absolute_of e) = suc (expression_depth e)
+  primary_depth (square_of e) = suc (expression_depth e)
+  primary_depth (least_of a b) = suc (max (expression_depth a) (expression_depth b))
+  primary_depth (greatest_of a b) = suc (max (expression_depth a) (expression_depth b))
+  primary_depth (call f e more) = suc (max (expression_depth e) (arguments_depth more))
 
-abbrev pub operates : Symbol → Bool
-operates (FixedToken Plus) = true
-operates (FixedToken Minus) = true
-operates (FixedToken Star) = true
-operates (FixedToken Slash) = true
-operates (FixedToken Caret) = true
-operates (Call op arity) = true
-operates s = false
+  pub arguments_depth : Arguments → ℕ
+  arguments_depth no_argument = 0
+  arguments_depth (argument e more) = max (expression_depth e) (arguments_depth more)
 
-abbrev pub is_minus : Symbol → Bool
-is_minus (FixedToken Minus) = true
-is_minus s = false
+-- ---- How many there are
 
-abbrev pub operated : Counts → Symbol → Counting
-operated c s =
-    if in_expression c.phase
-    then (if operates s then where_below c.operations 1000 TooDeep (with_operations (c.operations + 1) c) else Ok c)
-    else Ok c
+-- the parameters of a function are one and these
+abbrev pub parameters_count : Parameters → ℕ
+parameters_count no_parameter = 0
+parameters_count (parameter_and more) = suc (parameters_count more)
 
--- a function's name opens no level, but the parenthesis that must follow does
-abbrev pub levels : Symbol → Counts → Counting
-levels (FixedToken Open) c = where_below c.level 100 TooDeep (in_level (c.level + 1) c)
-levels (FixedToken Close) c = Ok (in_level (c.level - 1) c)
-levels (Call op arity) c = where_below c.level 100 Unexpected c
-levels s c = Ok c
+abbrev pub functions_count : Functions → ℕ
+functions_count no_function = 0
+functions_count (function_and f more) = suc (functions_count more)
 
-abbrev pub nested : Counts → Symbol → Counting
-nested c s = if in_expression c.phase then levels s c else Ok c
+abbrev pub variables_count : Variables → ℕ
+variables_count no_variable = 0
+variables_count (variables_separator s) = 0
+variables_count (variable_and s v more) = suc (variables_count more)
 
--- ---- Declarations: at most 12 variables, and 12 parameters
+abbrev pub constraints_count : Constraints → ℕ
+constraints_count no_constraint = 0
+constraints_count constraints_semicolon = 0
+constraints_count (constraint_and c more) = suc (constraints_count more)
 
-abbrev pub declared : Phase → Counts → Bool → Counting
-declared Variables c taken =
-    if nat_lt c.variables 12 then (if taken then Err DuplicateName else Ok (with_variables (c.variables + 1) c)) else Err TooManyVariables
-declared FunctionName c taken = if taken then Err DuplicateName else Ok (in_phase Parameters c)
-declared Parameters c taken = if taken then Err DuplicateName else where_below c.parameters 12 Unexpected (with_parameters (c.parameters + 1) c)
-declared p c taken = if taken then Err DuplicateName else Ok c
+-- ---- The limits
 
--- ---- Parts of the text: at most 64 functions
+abbrev pub IsExpressionWithin : Expression → Type 0
+IsExpressionWithin e = (expression_depth e ≤ 100) × (expression_operations e ≤ 1000)
 
-abbrev pub before_expression : Phase → Counts → Counts
-before_expression p c = in_phase p (with_operations 0 c)
+abbrev pub IsFunctionWithin : Function → Type 0
+IsFunctionWithin (function_of more body inner outer) = (suc (parameters_count more) ≤ 12) × IsExpressionWithin body
 
-abbrev pub behind_comma : Phase → Counts → Counting
-behind_comma Parameters c = where_below c.parameters 12 Unexpected c
-behind_comma p c = Ok c
+abbrev pub AreFunctionsWithin : Functions → Type 0
+AreFunctionsWithin no_function = Unit {0}
+AreFunctionsWithin (function_and f more) = IsFunctionWithin f × AreFunctionsWithin more
 
-abbrev pub behind_semicolon : Phase → Counts → Counts
-behind_semicolon Sides c = before_expression NextConstraint c
-behind_semicolon p c = c
+-- the operations of both sides count together
+abbrev pub IsConstraintWithin : Constraint → Type 0
+IsConstraintWithin (relates left r right) =
+    (expression_depth left ≤ 100) × (expression_depth right ≤ 100) × (expression_operations left + expression_operations right ≤ 1000)
 
-abbrev pub behind_end : Phase → Counts → Counts
-behind_end Body c = in_phase Between (with_parameters 0 c)
-behind_end p c = in_phase Between c
+abbrev pub AreConstraintsWithin : Constraints → Type 0
+AreConstraintsWithin no_constraint = Unit {0}
+AreConstraintsWithin constraints_semicolon = Unit {0}
+AreConstraintsWithin (constraint_and c more) = IsConstraintWithin c × AreConstraintsWithin more
 
-abbrev pub turned : Fixed → Counts → Counting
-turned ConstantsWord c = Ok (in_phase Constants c)
-turned VariablesWord c = Ok (in_phase Variables c)
-turned Constraints c = Ok (before_expression NextConstraint c)
-turned FunctionWord c = where_below c.functions 64 TooManyFunctions (in_phase FunctionName (with_functions (c.functions + 1) c))
-turned Comma c = behind_comma c.phase c
-turned Return c = Ok (before_expression Body c)
-turned End c = Ok (behind_end c.phase c)
-turned Semicolon c = Ok (behind_semicolon c.phase c)
-turned OpenBracket c = Ok (in_phase Bounds c)
-turned CloseBracket c = Ok (in_phase Variables c)
-turned f c = Ok c
+abbrev pub IsSystemWithin : System → Type 0
+IsSystemWithin (system_of block before v vs behind c cs) =
+    (functions_count before + functions_count behind ≤ 64) × AreFunctionsWithin before × AreFunctionsWithin behind
+    × (suc (variables_count vs) ≤ 12)
+    × (suc (constraints_count cs) ≤ 64) × IsConstraintWithin c × AreConstraintsWithin cs
 
-abbrev pub moved : Counts → Symbol → Counting
-moved c Unknown = Err UnknownName
-moved c (Declared taken) = declared c.phase c taken
-moved c (FixedToken f) = turned f c
-moved c s = Ok c
+-- ---- Texts within the limits, by their tokens
 
--- ---- A token
+abbrev pub IsLimitedSystem : List Symbol → Type 0
+IsLimitedSystem ss = (x : System) × (ss ≡ system_symbols x []) × IsSystemWithin x
 
-abbrev pub next : Counting → (Counts → Counting) → Counting
-next (Err cause) f = Err cause
-next (Ok c) f = f c
-
--- the counts behind a token, or the first cause that forbids it
-abbrev pub counted : Counts → Symbol → Counting
-counted c s = next (begun c s) (λ d. next (operated d s) (λ e. next (nested e s) (λ f. moved f s)))
-
--- the tokens are within the limits, and lead from some counts to others
-abbrev pub Counted : Counts → List Symbol → Counts → Type 0
-Counted c [] d = c ≡ d
-Counted c (s ∷ ss) d = (e : Counts) × (counted c s ≡ Ok e) × Counted e ss d
+abbrev pub IsLimitedExpression : List Symbol → Type 0
+IsLimitedExpression ss = (e : Expression) × (ss ≡ expression_symbols e []) × IsExpressionWithin e

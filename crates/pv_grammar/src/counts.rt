@@ -1,7 +1,7 @@
 // The part of the text that a token stands in, and the counts that have limits.
 
 ghost use Rattle.std.specs.Prelude.{◌≡◌};
-ghost use Rattle.pv_grammar.specs.Limits.{begun, counted, declared, in_phase, moved, nested, operated, turned};
+ghost use Rattle.pv_grammar.specs.Counting.{begun, counted, declared, in_phase, moved, nested, operated, turned};
 
 use crate::cause::Cause;
 use crate::symbol::{Fixed, Symbol};
@@ -39,7 +39,7 @@ pub enum Phase {
 #[derive(Clone, Copy)]
 pub struct Counts {
     pub phase: Phase,
-    /// Open parentheses.
+    /// Open parentheses of this constraint or body.
     pub level: u32,
     /// Operations of this constraint or body.
     pub operations: u32,
@@ -55,7 +55,7 @@ pub struct Counts {
 impl Counts {
     /// Nothing is counted yet.
     pub fn none(phase: Phase) -> Counts
-        ensures { result ≡ Rattle.pv_grammar.specs.Limits.nothing phase }
+        ensures { result ≡ Rattle.pv_grammar.specs.Counting.nothing phase }
     {
         Counts {
             phase,
@@ -115,7 +115,7 @@ impl Counts {
     }
 
     fn is_in_expression(self) -> bool
-        ensures { result ≡ Rattle.pv_grammar.specs.Limits.in_expression self.phase }
+        ensures { result ≡ Rattle.pv_grammar.specs.Counting.in_expression self.phase }
     {
         match self.phase {
             Phase::Body | Phase::Sides => true,
@@ -229,10 +229,10 @@ impl Counts {
     fn declared_parameter(self, taken: bool) -> Result<Counts, Cause>
         ensures { result ≡ declared Phase.Parameters self taken }
     {
-        if taken {
-            return Err(Cause::DuplicateName);
-        }
         if self.parameters < MAX_PARAMETERS {
+            if taken {
+                return Err(Cause::DuplicateName);
+            }
             let mut made = self;
             made.parameters += 1;
             Ok(made)
@@ -261,10 +261,11 @@ impl Counts {
 
     // Before the expressions of a constraint or a body.
     fn in_expression(self, phase: Phase) -> Counts
-        ensures { result ≡ Rattle.pv_grammar.specs.Limits.before_expression phase self }
+        ensures { result ≡ Rattle.pv_grammar.specs.Counting.before_expression phase self }
     {
         let mut made = self;
         made.phase = phase;
+        made.level = 0;
         made.operations = 0;
         made
     }
@@ -298,7 +299,7 @@ impl Counts {
     }
 
     fn with_semicolon(self) -> Counts
-        ensures { result ≡ Rattle.pv_grammar.specs.Limits.behind_semicolon self.phase self }
+        ensures { result ≡ Rattle.pv_grammar.specs.Counting.behind_semicolon self.phase self }
     {
         match self.phase {
             Phase::Sides => self.in_expression(Phase::NextConstraint),
@@ -308,7 +309,7 @@ impl Counts {
 
     // Behind the end of a function, or of the text.
     fn ended(self) -> Counts
-        ensures { result ≡ Rattle.pv_grammar.specs.Limits.behind_end self.phase self }
+        ensures { result ≡ Rattle.pv_grammar.specs.Counting.behind_end self.phase self }
     {
         match self.phase {
             Phase::Body => {

@@ -3,7 +3,8 @@
 ghost use Rattle.std.specs.Prelude.{◌≡◌, ◌≢◌, None};
 ghost use Rattle.std.specs.Bool.{OnTrue, OnFalse};
 ghost use Rattle.pv_grammar.specs.Grammar.{factor};
-ghost use Rattle.pv_grammar.specs.Limits.{begins_expression, is_minus, operates};
+ghost use Rattle.pv_grammar.specs.Counting.{operates};
+ghost use Rattle.pv_grammar.specs.Standings.{begins_expression, is_minus};
 
 use crate::cause::Cause;
 use pv_code::{Fraction, Op};

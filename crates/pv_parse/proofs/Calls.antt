@@ -14,7 +14,7 @@ use Rattle.pv_grammar.specs.declared.symbol.Fixed.TheVariants.{Open, Close, Comm
 use Rattle.pv_grammar.specs.declared.symbol.Symbol.{Symbol}
 use Rattle.pv_grammar.specs.declared.symbol.Symbol.TheVariants.{Fixed as FixedToken, Number, Declared, Unknown, Function as Call}
 use Rattle.pv_grammar.specs.Grammar.{system_items}
-use Rattle.pv_grammar.specs.Limits.{Counting, begins, begins_expression, begun, behind_comma, behind_end, behind_semicolon, counted, declared, in_expression, levels, moved, nested, next, nothing, operated, operates, turned}
+use Rattle.pv_grammar.specs.Counting.{Counting, begins, begun, behind_comma, behind_end, behind_semicolon, counted, declared, in_expression, levels, moved, nested, next, nothing, operated, operates, turned, standing_of}
 use Rattle.pv_grammar.proofs.Steps.{AllWrite, MayRaise, Own, Writes, derived-steps}
 use Rattle.pv_tokens.specs.declared.keyword.Word.{Word}
 use Rattle.pv_tokens.specs.declared.keyword.Word.TheVariants.{Constants as ConstantsWord', Variables as VariablesWord', Constraints as ConstraintsWord', Function as FunctionBlock, Return as ReturnWord, End as EndWord, In as InWord, Oo as OoWord, Abs as AbsWord, Sqr as SqrWord, Min as MinWord, Max as MaxWord, Outside}
@@ -25,7 +25,9 @@ use Rattle.pv_parse.specs.declared.names.Meaning.{Meaning}
 use Rattle.pv_parse.specs.declared.names.Meaning.TheVariants.{Constant as ConstantMeaning, Variable as VariableMeaning, Function as FunctionMeaning}
 use Rattle.pv_parse.specs.ByItems.{IsSentence}
 use Rattle.pv_parse.specs.Meanings.{Names, in_body, in_bounds, learnt, meaning, no_names, told, use_of, with_function, with_name, with_value}
-use Rattle.pv_parse.specs.Sentences.{IsNumberSymbol, SpellsTo, StandsFor, bytes_of, name_symbol, word_symbol}
+use Rattle.pv_parse.specs.Sentences.{IsNumberSymbol, StandsFor, bytes_of, name_symbol, word_symbol}
+use Rattle.pv_grammar.specs.Standings.{begins_expression}
+use Rattle.pv_parse.specs.ByCounts.{SpellsToWithin}
 
 -- ---- Counts
 
@@ -57,7 +59,7 @@ one-more n e = search (rules, tests)
 declared-few : (p : Phase) (c : Counts) (taken : Bool) → c.parameters ≤ 12 → Few (declared p c taken)
 declared-few Variables c taken h = few-if (nat_lt c.variables 12) _ _ (λ t. few-if taken _ _ (λ u. tt) h) tt
 declared-few FunctionName c taken h = few-if taken _ _ (λ t. tt) h
-declared-few Parameters c taken h = few-if taken _ _ (λ t. tt) (few-if (nat_lt c.parameters 12) _ _ (λ t. one-more c.parameters t) tt)
+declared-few Parameters c taken h = few-if (nat_lt c.parameters 12) _ _ (λ t. few-if taken _ _ (λ u. tt) (one-more c.parameters t)) tt
 declared-few p c taken h = few-if taken _ _ (λ t. tt) h
 
 comma-few : (p : Phase) (c : Counts) → c.parameters ≤ 12 → Few (behind_comma p c)
@@ -106,7 +108,7 @@ few-cond : (b : Bool) (m : Meaning) (o : Option Meaning) → FewIn (Some m) → 
 few-cond true m o h i = h
 few-cond false m o h i = i
 
-name-few : (p : Phase) (c : Counts) (name : List ℕ) (n : Names) → FewNames n → FewNames (with_name p c name n)
+name-few : (p : Phase) (c : Counts) (name : List ℕ) (n : Names) → FewNames n → FewNames (with_name p (standing_of c) name n)
 name-few Variables c name n h = λ q. few-cond (bytes_eq name q) (VariableMeaning c.variables) (n.known q) tt (h q)
 name-few p c name n h = h
 
@@ -114,11 +116,11 @@ value-few : (p : Phase) (v : Fraction) (n : Names) → FewNames n → FewNames (
 value-few Constants v n h = λ q. few-cond (bytes_eq n.pending q) _ (n.known q) tt (h q)
 value-few p v n h = h
 
-function-few : (p : Phase) (c : Counts) (n : Names) → c.parameters ≤ 12 → FewNames n → FewNames (with_function p c n)
+function-few : (p : Phase) (c : Counts) (n : Names) → c.parameters ≤ 12 → FewNames n → FewNames (with_function p (standing_of c) n)
 function-few Body c n l h = λ q. few-cond (bytes_eq n.pending q) (FunctionMeaning (c.functions - 1) c.parameters) (n.known q) l (h q)
 function-few p c n l h = h
 
-told-few : (c : Counts) (s : Symbol) (name : List ℕ) (n : Names) → c.parameters ≤ 12 → FewNames n → FewNames (told c s name n)
+told-few : (c : Counts) (s : Symbol) (name : List ℕ) (n : Names) → c.parameters ≤ 12 → FewNames n → FewNames (told (standing_of c) s name n)
 told-few c (Declared taken) name n l h = name-few c.phase c name n h
 told-few c (Number value exponent) name n l h = value-few c.phase value n h
 told-few c (FixedToken End) name n l h = function-few c.phase c n l h
@@ -184,11 +186,11 @@ stands-few p n bytes Name s h f = other-few s _ h (symbol-few p n bytes (word_in
 stands-few p n bytes NumberKind s h f = number-few bytes s h
 stands-few p n bytes k s h f = other-few s _ h tt
 
-spelled-few : (t : List ℕ) (n : Names) (c : Counts) (from : ℕ) (ss : List Symbol) (to : ℕ) (m : Names) → SpellsTo t n c from ss to m → FewNames n → c.parameters ≤ 12 → AllWrite IsShortCall ss
+spelled-few : (t : List ℕ) (n : Names) (c : Counts) (from : ℕ) (ss : List Symbol) (to : ℕ) (m : Names) → SpellsToWithin t n c from ss to m → FewNames n → c.parameters ≤ 12 → AllWrite IsShortCall ss
 spelled-few t n c from [] to m h f l = tt
 spelled-few t n c from (s ∷ ss) to m (x, d, here, inside, stands, counts, rest) f l = (
   stands-few c.phase n (bytes_of t x) x.kind s stands f,
-  spelled-few t (learnt c s (bytes_of t x) n) d x.end ss to m rest (told-few c s (bytes_of t x) n l f) (counted-few c d s counts l),
+  spelled-few t (learnt (standing_of c) s (bytes_of t x) n) d x.end ss to m rest (told-few c s (bytes_of t x) n l f) (counted-few c d s counts l),
 )
 
 short-own : Own IsShortCall

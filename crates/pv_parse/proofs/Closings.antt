@@ -15,13 +15,14 @@ use Rattle.pv_grammar.specs.declared.symbol.Symbol.TheVariants.{Fixed as FixedTo
 use Rattle.pv_grammar.specs.declared.machine.Item.{Item}
 use Rattle.pv_grammar.specs.declared.machine.Item.TheVariants.{Exactly, WantConstant, WantEquals, MaybeSign, WantValue, WantFunctionName, WantParameter, MoreConstraints, MaybeConstraint, MoreParameters, WantVariable, MaybeDomain, WantBound, WantRelation, WantFactor, MoreFactors, MoreTerms, MaybePower, WantExponent, MoreArguments, Then}
 use Rattle.pv_grammar.specs.Grammar.{Derives, MayEnd, Produced, begun as begun_text, done, left_out, produced, step_of}
-use Rattle.pv_grammar.specs.Limits.{Counted, Counting, begins, begins_expression, behind_comma, behind_end, counted, declared, in_expression, in_level, in_phase, levels, moved, nested, next, operated, operates, turned, where_below, with_operations, with_parameters, with_variables}
+use Rattle.pv_grammar.specs.Counting.{Counted, Counting, begins, behind_comma, behind_end, counted, declared, in_expression, in_level, in_phase, levels, moved, nested, next, operated, operates, turned, where_below, with_operations, with_parameters, with_variables, standing_of}
 use Rattle.pv_grammar.proofs.Ready.{FactorRoom, FixedRoom, InExpression, IsStill, Leaves, OpenRoom, Ready, Room, fixed_behind, opened, opened_in, room_in, seen}
 use Rattle.pv_grammar.proofs.Fits.{seen_end}
 use Rattle.pv_parse.specs.ByItems.{AreBounded}
 use Rattle.pv_parse.specs.Meanings.{Names, learnt}
 use Rattle.pv_parse.specs.Sentences.{StandsFor}
 use Rattle.pv_parse.proofs.Pieces.{CanDeclare, IsPiece, Mean, Piece, Plain, at_most_token, close_bracket_token, close_token, comma_token, constraints_token, end_token, equal_token, fresh, fresh_piece, fresh_stands, infinity_token, learnt_bounded, named, open_bracket_token, open_token, return_token, variables_token, zero_token}
+use Rattle.pv_grammar.specs.Standings.{begins_expression}
 
 -- a text of the items, which leads from some counts to others, and can be spelled where some names are declared
 pub record ClosesFrom (n : Names) (c : Counts) (items : List Item) : Type 0 where
@@ -49,7 +50,7 @@ out i n c rest may h = record {
 }
 
 by_piece : (i : Item) (n : Names) (c d : Counts) (rest : List Item) (s : Symbol) (x : Piece) (p : Produced) → produced i s ≡ Some p → counted c s ≡ Ok d → IsPiece x → StandsFor c.phase n x.bytes x.kind s →
-    ClosesFrom (learnt c s x.bytes n) d (p.0 ++ rest) → ClosesFrom n c (i ∷ rest)
+    ClosesFrom (learnt (standing_of c) s x.bytes n) d (p.0 ++ rest) → ClosesFrom n c (i ∷ rest)
 by_piece i n c d rest s x p e one is stands h = record {
   symbols = s ∷ h.symbols;
   steps = p.1 ++ h.steps;
@@ -63,14 +64,14 @@ by_piece i n c d rest s x p e one is stands h = record {
 by_token : (i : Item) (n : Names) (b : AreBounded n) (c d : Counts) (rest : List Item) (s : Symbol) (x : Plain s) (p : Produced) → produced i s ≡ Some p → counted c s ≡ Ok d →
     ((m : Names) → AreBounded m → ClosesFrom m d (p.0 ++ rest)) → ClosesFrom n c (i ∷ rest)
 by_token i n b c d rest s x p e one g =
-    by_piece i n c d rest s x.piece p e one x.is_piece (x.stands c.phase n) (g (learnt c s x.piece.bytes n) (learnt_bounded c s x.piece.bytes n b))
+    by_piece i n c d rest s x.piece p e one x.is_piece (x.stands c.phase n) (g (learnt (standing_of c) s x.piece.bytes n) (learnt_bounded c s x.piece.bytes n b))
 
 -- a fresh name
 by_name : (i : Item) (n : Names) (b : AreBounded n) (c d : Counts) (rest : List Item) (p : Produced) → CanDeclare c.phase → produced i (Declared false) ≡ Some p → counted c (Declared false) ≡ Ok d →
     ((m : Names) → AreBounded m → ClosesFrom m d (p.0 ++ rest)) → ClosesFrom n c (i ∷ rest)
 by_name i n (most, b) c d rest p can e one g =
     by_piece i n c d rest (Declared false) (named (fresh most)) p e one (fresh_piece most) (fresh_stands c.phase n most can b)
-    (g (learnt c (Declared false) (fresh most) n) (learnt_bounded c (Declared false) (fresh most) n (most, b)))
+    (g (learnt (standing_of c) (Declared false) (fresh most) n) (learnt_bounded c (Declared false) (fresh most) n (most, b)))
 
 abbrev number : Symbol
 number = Number (record { p = pos 0; q = 1 }) (Some 0)

@@ -17,11 +17,12 @@ use Rattle.pv_grammar.specs.declared.symbol.Fixed.TheVariants.{Plus, Minus, Star
 use Rattle.pv_grammar.specs.declared.symbol.Symbol.{Symbol}
 use Rattle.pv_grammar.specs.declared.symbol.Symbol.TheVariants.{Fixed as FixedToken, Relation as RelationToken, Number, Declared, Constant as ConstantName, Variable as VariableName, Parameter as ParameterName, Function as Call, Unknown}
 use Rattle.pv_grammar.specs.Grammar.{Derives, MayEnd, Produced, begun, done, exactly, factor, left_out, produced, step_of, system_items, with_more}
-use Rattle.pv_grammar.specs.Limits.{Counted, Counting, begins, begins_expression, begun as begun_by, behind_comma, behind_end, behind_semicolon, counted, declared, in_expression, levels, moved, nested, next, operated, operates, turned, with_operations}
+use Rattle.pv_grammar.specs.Counting.{Counted, Counting, begins, begun as begun_by, behind_comma, behind_end, behind_semicolon, counted, declared, in_expression, levels, moved, nested, next, operated, operates, turned, with_operations}
 use Rattle.pv_parse.specs.ByItems.{IsSentence}
 use Rattle.pv_parse.specs.Meanings.{Names}
 use Rattle.pv_parse.proofs.Starts.{AreCalls, AreEarly, EarlyAfter, IsCall, IsEarly, WordAfter, calls, constraints_count, early_left, early_of, early_others, relates, relates_append, word_of, word_step}
 use Rattle.pv_parse.proofs.VariableCounts.{ok_err, same_ok, steps, where_ok}
+use Rattle.pv_grammar.specs.Standings.{begins_expression}
 
 -- ---- The relations that items stand for
 
@@ -576,7 +577,7 @@ levels_few s c h = h
 declared_few : (p : Phase) (c : Counts) (taken : Bool) → c.constraints ≤ 64 → Few (declared p c taken)
 declared_few Variables c taken h = few_if (nat_lt c.variables 12) _ _ (λ t. few_if taken _ _ (λ u. tt) h) tt
 declared_few FunctionName c taken h = few_if taken _ _ (λ t. tt) h
-declared_few Parameters c taken h = few_if taken _ _ (λ t. tt) (few_if (nat_lt c.parameters 12) _ _ (λ t. h) tt)
+declared_few Parameters c taken h = few_if (nat_lt c.parameters 12) _ _ (λ t. few_if taken _ _ (λ u. tt) h) tt
 declared_few p c taken h = few_if taken _ _ (λ t. tt) h
 
 comma_few : (p : Phase) (c : Counts) → c.constraints ≤ 64 → Few (behind_comma p c)

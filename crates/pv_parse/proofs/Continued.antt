@@ -1,10 +1,10 @@
 -- A text that is cut behind a token, and goes on with a blank or ends there, has the same tokens up to there.
-use Rattle.std.proofs.Common.{◌≡◌, ℕ, zero, suc, ◌+◌, ◌-◌, ◌<◌, ◌≤◌, ◌⊎◌, inl, inr, List, [], ◌∷◌, ◌++◌, length, get_or, refl, sym, ap, ◌∙◌, subst, arith, ⊎_elim}
+use Rattle.std.proofs.Common.{Ok, ◌≡◌, ℕ, zero, suc, ◌+◌, ◌-◌, ◌<◌, ◌≤◌, ◌⊎◌, inl, inr, List, [], ◌∷◌, ◌++◌, length, get_or, refl, sym, ap, ◌∙◌, subst, arith, ⊎_elim}
 use Rattle.std.proofs.str.Laws.{order}
 use Rattle.std.proofs.lemmas.List.{ext_get_or, get_or_past}
 use Rattle.pv_grammar.specs.declared.counts.Counts.{Counts}
 use Rattle.pv_grammar.specs.declared.symbol.Symbol.{Symbol}
-use Rattle.pv_grammar.specs.Limits.{Counted, counted}
+use Rattle.pv_grammar.specs.Counting.{Counted, Counting, counted, standing_of}
 use Rattle.pv_tokens.specs.declared.numeral.Parts.{Parts}
 use Rattle.pv_tokens.specs.declared.token.Kind.{Kind}
 use Rattle.pv_tokens.specs.declared.token.Kind.TheVariants.{End}
@@ -17,8 +17,8 @@ use Rattle.pv_tokens.proofs.Exists.{Separator, block_from, line_from}
 use Rattle.pv_tokens.proofs.Numerals.{exponent_on, exponent_longer, fraction_on, inside}
 use Rattle.pv_tokens.proofs.Slices.{byte_in, length_slice}
 use Rattle.pv_parse.specs.Meanings.{Names, learnt}
-use Rattle.pv_parse.specs.Sentences.{SpellsTo, StandsFor, bytes_of}
-use Rattle.pv_parse.proofs.OneSpelling.{ok_same}
+use Rattle.pv_parse.specs.Sentences.{StandsFor, bytes_of}
+use Rattle.pv_parse.specs.ByCounts.{SpellsToWithin}
 
 -- two texts share their first bytes
 pub record Shares (t u : List ℕ) (f : ℕ) : Type 0 where
@@ -44,6 +44,10 @@ gap_letter b h l = ⊎_elim (λ x. gap_digit b h (absurd (⊎_elim (λ y. omega 
 
 gap_named : (b : ℕ) → IsGap b → IsNamed b → ⊥
 gap_named b h n = ⊎_elim (λ l. gap_letter b h l) (λ d. gap_digit b h d) n
+
+-- what is counted is counted once
+pub ok_same : {v w : Counts} (r : Counting) → r ≡ Ok v → r ≡ Ok w → v ≡ w
+ok_same r e f = cc
 
 -- ---- Words
 
@@ -260,19 +264,19 @@ bytes_shared t u f x h l =
     ext_get_or 0 (bytes_of t x) (bytes_of u x) (t_long ∙ sym u_long)
     (λ i b. byte_in t x.start x.end (x.start + i) i refl (omega (arith, t_long)) ∙ (h.same (x.start + i) (omega (arith, t_long)) ∙ sym (byte_in u x.start x.end (x.start + i) i refl (omega (arith, t_long)))))
 
-spells_on : (t : List ℕ) (n : Names) (c : Counts) (from : ℕ) (ss : List Symbol) (to : ℕ) (m : Names) → SpellsTo t n c from ss to m → from ≤ to
+spells_on : (t : List ℕ) (n : Names) (c : Counts) (from : ℕ) (ss : List Symbol) (to : ℕ) (m : Names) → SpellsToWithin t n c from ss to m → from ≤ to
 spells_on t n c from [] to m h = omega (arith, h.0)
 spells_on t n c from (s ∷ ss) to m (x, d, next, inner, stands, one, rest) =
     let first : from ≤ x.start = separated_on t next.separators from x.start next.gap in
     let second : x.start < x.end = word_on t x.start x.kind x.end inner next.longest.word in
-    let third : x.end ≤ to = spells_on t (learnt c s (bytes_of t x) n) d x.end ss to m rest in
+    let third : x.end ≤ to = spells_on t (learnt (standing_of c) s (bytes_of t x) n) d x.end ss to m rest in
     omega arith
 
 pub spells_shared : (t u : List ℕ) (f : ℕ) (n : Names) (c : Counts) (from : ℕ) (ss : List Symbol) (to : ℕ) (m : Names) → Shares t u f → IsGap (get_or u f 0) → to ≤ f →
-    SpellsTo t n c from ss to m → SpellsTo u n c from ss to m
+    SpellsToWithin t n c from ss to m → SpellsToWithin u n c from ss to m
 spells_shared t u f n c from [] to m h g l s = s
 spells_shared t u f n c from (s ∷ ss) to m h g l (x, d, next, inner, stands, one, rest) =
-    let below : x.end ≤ to = spells_on t (learnt c s (bytes_of t x) n) d x.end ss to m rest in
+    let below : x.end ≤ to = spells_on t (learnt (standing_of c) s (bytes_of t x) n) d x.end ss to m rest in
     let bytes : bytes_of t x ≡ bytes_of u x = bytes_shared t u f x h (omega arith) in (
       x,
       d,
@@ -280,7 +284,7 @@ spells_shared t u f n c from (s ∷ ss) to m h g l (x, d, next, inner, stands, o
       inner,
       subst (λ (z : List ℕ). StandsFor c.phase n z x.kind s) bytes stands,
       one,
-      subst (λ (z : List ℕ). SpellsTo u (learnt c s z n) d x.end ss to m) bytes (spells_shared t u f (learnt c s (bytes_of t x) n) d x.end ss to m h g l rest),
+      subst (λ (z : List ℕ). SpellsToWithin u (learnt (standing_of c) s z n) d x.end ss to m) bytes (spells_shared t u f (learnt (standing_of c) s (bytes_of t x) n) d x.end ss to m h g l rest),
     )
 
 -- tokens end within the text
@@ -295,17 +299,17 @@ word_within t i kind j w =
       | finish is at ends ↦ omega arith
     ]
 
-pub spells_within : (t : List ℕ) (n : Names) (c : Counts) (from : ℕ) (ss : List Symbol) (to : ℕ) (m : Names) → from ≤ length t → SpellsTo t n c from ss to m → to ≤ length t
+pub spells_within : (t : List ℕ) (n : Names) (c : Counts) (from : ℕ) (ss : List Symbol) (to : ℕ) (m : Names) → from ≤ length t → SpellsToWithin t n c from ss to m → to ≤ length t
 spells_within t n c from [] to m l h = omega (arith, h.0)
 spells_within t n c from (s ∷ ss) to m l (x, d, next, inner, stands, one, rest) =
-    spells_within t (learnt c s (bytes_of t x) n) d x.end ss to m (word_within t x.start x.kind x.end next.longest.word) rest
+    spells_within t (learnt (standing_of c) s (bytes_of t x) n) d x.end ss to m (word_within t x.start x.kind x.end next.longest.word) rest
 
-pub spells_all : (t : List ℕ) (n : Names) (c : Counts) (from : ℕ) (xs : List Symbol) (mid : ℕ) (k : Names) (d : Counts) (ys : List Symbol) (to : ℕ) (m : Names) → SpellsTo t n c from xs mid k → Counted c xs d →
-    SpellsTo t k d mid ys to m → SpellsTo t n c from (xs ++ ys) to m
+pub spells_all : (t : List ℕ) (n : Names) (c : Counts) (from : ℕ) (xs : List Symbol) (mid : ℕ) (k : Names) (d : Counts) (ys : List Symbol) (to : ℕ) (m : Names) → SpellsToWithin t n c from xs mid k → Counted c xs d →
+    SpellsToWithin t k d mid ys to m → SpellsToWithin t n c from (xs ++ ys) to m
 spells_all t n c from [] mid k d ys to m h e more =
-    subst (λ (z : Counts). SpellsTo t n z from ys to m) (sym e) (subst (λ (z : ℕ). SpellsTo t n d z ys to m) (sym h.0) (subst (λ (z : Names). SpellsTo t z d mid ys to m) (sym h.1) more))
+    subst (λ (z : Counts). SpellsToWithin t n z from ys to m) (sym e) (subst (λ (z : ℕ). SpellsToWithin t n d z ys to m) (sym h.0) (subst (λ (z : Names). SpellsToWithin t z d mid ys to m) (sym h.1) more))
 spells_all t n c from (s ∷ xs) mid k d ys to m (x, g, next, inner, stands, one, rest) (g', one', counts) more =
-    (x, g, next, inner, stands, one, spells_all t (learnt c s (bytes_of t x) n) g x.end xs mid k d ys to m rest (subst (λ (z : Counts). Counted z xs d) (ok_same (counted c s) one' one) counts) more)
+    (x, g, next, inner, stands, one, spells_all t (learnt (standing_of c) s (bytes_of t x) n) g x.end xs mid k d ys to m rest (subst (λ (z : Counts). Counted z xs d) (ok_same (counted c s) one' one) counts) more)
 
 -- the end of a text is its next token there
 separates_inside : (t : List ℕ) (i j : ℕ) → Separates t i j → i < length t

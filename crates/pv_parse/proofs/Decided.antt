@@ -17,7 +17,7 @@ use Rattle.pv_grammar.specs.declared.symbol.Symbol.TheVariants.{Never, Fixed as 
 use Rattle.pv_grammar.specs.ByItems.{IsStart}
 use Rattle.pv_grammar.specs.Causes.{refusal}
 use Rattle.pv_grammar.specs.Grammar.{Follows, MayEnd, Produced, Settles, emptied, ended, expression_items, is_exponent, met, produced, step_of, system_items}
-use Rattle.pv_grammar.specs.Limits.{counted, nothing}
+use Rattle.pv_grammar.specs.Counting.{counted, nothing, standing_of}
 use Rattle.pv_tokens.specs.declared.number.Decimal.{Decimal}
 use Rattle.pv_tokens.specs.declared.token.Kind.{Kind}
 use Rattle.pv_tokens.specs.declared.token.Kind.TheVariants.{Name, Number as NumberKind, LessEqual, GreaterEqual, Less, Greater, Equal, Plus as PlusKind, Minus as MinusKind, Star as StarKind, Slash as SlashKind, Caret as CaretKind, Open as OpenKind, Close as CloseKind, OpenBracket as OpenBracketKind, CloseBracket as CloseBracketKind, Comma as CommaKind, Semicolon as SemicolonKind, Bad, End}
@@ -160,7 +160,7 @@ counted_by : (t : List ℕ) (known names : Names) (start counts : Counts) (first
     Reached t known names start counts first [] items code from → (x : Token) (s : Symbol) (i : Item) (rest : List Item) (code' : List Op) (items'' : List Item) (code'' : List Op) →
     IsNext t from x → StandsFor counts.phase names (bytes_of t x) x.kind s → Settles s items code (Some i) rest code' → Follows (produced i s) rest code' items'' code'' →
     (r : Result Counts Cause) → counted counts s ≡ r →
-    ((d : Counts) → Reached t known (learnt counts s (bytes_of t x) names) start d first [] items'' code'' x.end → Decides t known start first) → Decides t known start first
+    ((d : Counts) → Reached t known (learnt (standing_of counts) s (bytes_of t x) names) start d first [] items'' code'' x.end → Decides t known start first) → Decides t known start first
 counted_by t known names start counts first items code from r x s i rest code' items'' code'' next stands settles follows (Ok d) e go =
     go d (taken_on t known names start counts d first [] items code from r x s i rest code' items'' code'' next stands settles follows e)
 counted_by t known names start counts first items code from r x s i rest code' items'' code'' next stands settles follows (Err cause) e go =
@@ -173,7 +173,7 @@ end_or k = inr (λ e. cc)
 taken_by : (t : List ℕ) (known names : Names) (start counts : Counts) (first : List Item) (items : List Item) (code : List Op) (from : ℕ) →
     (r : Reached t known names start counts first [] items code from) → (x : Token) (s : Symbol) → IsNext t from x → StandsFor counts.phase names (bytes_of t x) x.kind s →
     (i : Item) (rest : List Item) (code' : List Op) → Settles s items code (Some i) rest code' → (o : Option Produced) → produced i s ≡ o →
-    (¬ (x.kind ≡ End) → (d : Counts) (items'' : List Item) (code'' : List Op) → Reached t known (learnt counts s (bytes_of t x) names) start d first [] items'' code'' x.end → Decides t known start first) →
+    (¬ (x.kind ≡ End) → (d : Counts) (items'' : List Item) (code'' : List Op) → Reached t known (learnt (standing_of counts) s (bytes_of t x) names) start d first [] items'' code'' x.end → Decides t known start first) →
     Decides t known start first
 taken_by t known names start counts first items code from r x s next stands i rest code' settles None e go =
     inr (x.start, refusal (is_exponent i) s, refused t known names start counts first [] items code from r x s i rest code' (is_exponent i) next stands settles e refl)
@@ -186,7 +186,7 @@ taken_by t known names start counts first items code from r x s next stands i re
 met_by : (t : List ℕ) (known names : Names) (start counts : Counts) (first : List Item) (items : List Item) (code : List Op) (from : ℕ) →
     (r : Reached t known names start counts first [] items code from) → (x : Token) (s : Symbol) → IsNext t from x → StandsFor counts.phase names (bytes_of t x) x.kind s →
     (o : Option Item) (rest : List Item) (code' : List Op) → Settles s items code o rest code' →
-    (¬ (x.kind ≡ End) → (d : Counts) (items'' : List Item) (code'' : List Op) → Reached t known (learnt counts s (bytes_of t x) names) start d first [] items'' code'' x.end → Decides t known start first) →
+    (¬ (x.kind ≡ End) → (d : Counts) (items'' : List Item) (code'' : List Op) → Reached t known (learnt (standing_of counts) s (bytes_of t x) names) start d first [] items'' code'' x.end → Decides t known start first) →
     Decides t known start first
 met_by t known names start counts first items code from r x s next stands None rest code' settles go =
     ⊎_elim
@@ -209,7 +209,7 @@ step_by n t known start first more names counts items code from r inside few =
     met_by t known names start counts first items code from r a.token b.0 a.next b.1 o rest code' settles
     (λ inner d items'' code'' k.
     let on : from < a.token.end = ⊎_elim (λ ends. absurd (inner ends)) (λ h. h.1) a.onward in
-    go_on n t known start first more (learnt counts b.0 (bytes_of t a.token) names) d items'' code'' from a.token.end k a.within on few)
+    go_on n t known start first more (learnt (standing_of counts) b.0 (bytes_of t a.token) names) d items'' code'' from a.token.end k a.within on few)
 
 reads : (n : ℕ) (t : List ℕ) (known : Names) (start : Counts) (first : List Item) → Reads n t known start first
 reads zero t known start first = step_by zero t known start first (λ m e. absurd (omega arith))

@@ -5,21 +5,23 @@ use Rattle.pv_expr.specs.declared.domain.Bound.{Bound}
 use Rattle.pv_expr.specs.declared.domain.Domain.{Domain}
 use Rattle.pv_grammar.specs.declared.counts.Counts.{Counts}
 use Rattle.pv_grammar.specs.declared.symbol.Symbol.{Symbol}
-use Rattle.pv_grammar.specs.Limits.{counted, is_minus}
+use Rattle.pv_grammar.specs.Counting.{counted}
 use Rattle.pv_tokens.specs.declared.token.Token.{Token}
 use Rattle.pv_tokens.specs.Tokens.{IsNext}
 use Rattle.pv_parse.specs.declared.given.Awaited.{Awaited}
 use Rattle.pv_parse.specs.declared.given.Awaited.TheVariants.{Lower, Upper, Neither}
 use Rattle.pv_parse.specs.declared.given.Given.{Given}
-use Rattle.pv_parse.specs.Declarations.{Mark, MarksTo, bracket_behind, bracket_of, declares, mark_of, own, starts_from}
+use Rattle.pv_parse.specs.Declarations.{Mark, bracket_behind, bracket_of, declares, mark_of, own, starts_from}
 use Rattle.pv_parse.specs.Fractions.{HasFraction, HaveFractions}
 use Rattle.pv_parse.specs.Scopes.{Scoped, Variable, all_given_behind, bound_at, bounded, bounds_of, bracket_given, bracket_in, domain_given, domain_in, domain_of, followed, given_behind, name_of, nothing_given, scoped_behind, variable, variables_in, with_bound, with_last}
 use Rattle.pv_parse.proofs.Fractions.{have_one}
+use Rattle.pv_grammar.specs.Standings.{is_minus}
+use Rattle.pv_parse.specs.ByCounts.{MarksToWithin}
 
 -- ---- One token more
 
 pub marks_one : (t : List ℕ) (c : Counts) (from : ℕ) (ss : List Symbol) (marks : List Mark) (to : ℕ) (d : Counts) (x : Token) (s : Symbol) (e : Counts) →
-    MarksTo t c from ss marks to d → IsNext t to x → counted d s ≡ Ok e → MarksTo t c from (ss ++ s ∷ []) (marks ++ mark_of t d.phase s x ∷ []) x.end e
+    MarksToWithin t c from ss marks to d → IsNext t to x → counted d s ≡ Ok e → MarksToWithin t c from (ss ++ s ∷ []) (marks ++ mark_of t d.phase s x ∷ []) x.end e
 marks_one t c from [] marks to d x s e (none, same, is) next one = (
   x,
   e,
@@ -39,7 +41,7 @@ scoped_one (n ∷ ms) m s = scoped_one ms m (followed n s)
 -- the tokens so far, and the scope that they lead to
 pub record Told (t : List ℕ) (start : Counts) (ss : List Symbol) (from : ℕ) (counts : Counts) (old new : Scoped) : Type 0 where
   pub marks : List Mark
-  pub marked : MarksTo t start 0 ss marks from counts
+  pub marked : MarksToWithin t start 0 ss marks from counts
   pub fractions : HaveFractions marks
   pub scoped : new ≡ scoped_behind marks old
 

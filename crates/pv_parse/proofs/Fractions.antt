@@ -14,7 +14,6 @@ use Rattle.pv_grammar.specs.declared.counts.Phase.TheVariants.{Between, Constant
 use Rattle.pv_grammar.specs.declared.symbol.Fixed.TheVariants.{End, Oo}
 use Rattle.pv_grammar.specs.declared.symbol.Symbol.{Symbol}
 use Rattle.pv_grammar.specs.declared.symbol.Symbol.TheVariants.{Fixed as FixedToken, Number, Declared, Constant}
-use Rattle.pv_grammar.specs.Limits.{is_minus}
 use Rattle.pv_grammar.specs.Trees.{infinite}
 use Rattle.pv_tokens.specs.declared.keyword.Word.{Word}
 use Rattle.pv_tokens.specs.declared.keyword.Word.TheVariants.{End as EndWord}
@@ -25,6 +24,8 @@ use Rattle.pv_parse.specs.Fractions.{HasFraction, HaveFractions, KnowsFractions}
 use Rattle.pv_parse.specs.Meanings.{AreSame, KnowsVariables, Names, in_body, in_bounds, learnt, meaning, no_names, numbered, use_of, variables_from, with_function, with_name, with_value}
 use Rattle.pv_parse.specs.Scopes.{Variable, bound_at, bounds_of, domain_in, domain_of, variable, variables_in}
 use Rattle.pv_parse.specs.Sentences.{name_symbol, word_symbol}
+use Rattle.pv_grammar.specs.Standings.{is_minus}
+use Rattle.pv_grammar.specs.Counting.{standing_of}
 
 -- ---- What a name stands for
 
@@ -90,7 +91,7 @@ other_meaning true (VariableMeaning i) o v h k e = absurd (cc)
 other_meaning true (FunctionMeaning number arity) o v h k e = absurd (cc)
 other_meaning false m o v h k e = k e
 
-name_keeps : (p : Phase) (c : Counts) (bytes : List ℕ) (n : Names) → KnowsFractions n → KnowsFractions (with_name p c bytes n)
+name_keeps : (p : Phase) (c : Counts) (bytes : List ℕ) (n : Names) → KnowsFractions n → KnowsFractions (with_name p (standing_of c) bytes n)
 name_keeps Variables c bytes n h = λ name v e. other_meaning (bytes_eq bytes name) (VariableMeaning c.variables) (n.known name) v (λ w f. absurd (cc)) (h name v) e
 name_keeps p c bytes n h = h
 
@@ -100,11 +101,11 @@ value_keeps Constants value n l h = λ name v e.
     (λ w f. subst IsLowest (same_constant _ w (ap Some f)) (signed_lowest n.negative value l)) (h name v) e
 value_keeps p value n l h = h
 
-function_keeps : (p : Phase) (c : Counts) (n : Names) → KnowsFractions n → KnowsFractions (with_function p c n)
+function_keeps : (p : Phase) (c : Counts) (n : Names) → KnowsFractions n → KnowsFractions (with_function p (standing_of c) n)
 function_keeps Body c n h = λ name v e. other_meaning (bytes_eq n.pending name) (FunctionMeaning _ c.parameters) (n.known name) v (λ w f. absurd (cc)) (h name v) e
 function_keeps p c n h = h
 
-pub learnt_fractions : (c : Counts) (s : Symbol) (bytes : List ℕ) (n : Names) → HasFraction s → KnowsFractions n → KnowsFractions (learnt c s bytes n)
+pub learnt_fractions : (c : Counts) (s : Symbol) (bytes : List ℕ) (n : Names) → HasFraction s → KnowsFractions n → KnowsFractions (learnt (standing_of c) s bytes n)
 learnt_fractions c (Declared taken) bytes n l h = name_keeps c.phase c bytes n h
 learnt_fractions c (Number value exponent) bytes n l h = value_keeps c.phase value n l h
 learnt_fractions c (FixedToken End) bytes n l h = function_keeps c.phase c n h

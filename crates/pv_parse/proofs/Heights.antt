@@ -16,7 +16,7 @@ use Rattle.pv_grammar.specs.declared.symbol.Symbol.TheVariants.{Fixed as FixedTo
 use Rattle.pv_grammar.specs.declared.machine.Item.{Item}
 use Rattle.pv_grammar.specs.declared.machine.Item.TheVariants.{Exactly, MaybeConstants, WantConstant, MoreConstants, MaybeConstant, WantEquals, MaybeSign, WantValue, MaybeFunctions, WantFunctionName, WantParameter, MoreParameters, MaybeSemicolon, WantVariable, MoreVariables, MaybeVariable, MaybeDomain, WantBound, WantRelation, MoreConstraints, MaybeConstraint, WantFactor, MoreFactors, MoreTerms, MaybePower, WantExponent, MoreArguments, Then}
 use Rattle.pv_grammar.specs.Grammar.{Derives, MayEnd, Produced, arguments, begun, done, exactly, exponent, factor, factors, fixed, left_out, power, produced, relation, step_of, system_items, terms, with_more}
-use Rattle.pv_grammar.specs.Limits.{Counting, begun as counts_begun, counted, nested, next, nothing, operated}
+use Rattle.pv_grammar.specs.Counting.{Counting, begun as counts_begun, counted, nested, next, nothing, operated, standing_of}
 use Rattle.pv_tokens.specs.declared.keyword.Word.{Word}
 use Rattle.pv_tokens.specs.declared.keyword.Word.TheVariants.{Constants as ConstantsWord, Variables as VariablesWord, Constraints as ConstraintsWord, Function as FunctionBlock, Return as ReturnWord, End as EndWord, In as InWord, Oo as OoWord, Abs as AbsWord, Sqr as SqrWord, Min as MinWord, Max as MaxWord, Outside}
 use Rattle.pv_tokens.specs.declared.token.Kind.{Kind}
@@ -26,7 +26,8 @@ use Rattle.pv_parse.specs.declared.names.Meaning.{Meaning}
 use Rattle.pv_parse.specs.declared.names.Meaning.TheVariants.{Constant as ConstantMeaning, Variable as VariableMeaning, Function as FunctionMeaning}
 use Rattle.pv_parse.specs.ByItems.{IsSentence}
 use Rattle.pv_parse.specs.Meanings.{Names, in_body, in_bounds, learnt, meaning, no_names, use_of}
-use Rattle.pv_parse.specs.Sentences.{IsNumberSymbol, SpellsTo, StandsFor, bytes_of, name_symbol, word_symbol}
+use Rattle.pv_parse.specs.Sentences.{IsNumberSymbol, StandsFor, bytes_of, name_symbol, word_symbol}
+use Rattle.pv_parse.specs.ByCounts.{SpellsToWithin}
 
 -- ---- What the items do with the values on the stack: at least so many are there
 
@@ -385,11 +386,11 @@ fine (FunctionName op arity) c d h e = h
 fine Unknown c d h e = absurd (not_unknown c d e)
 fine s c d h e = tt
 
-spelled_fine : (t : List ℕ) (n : Names) (c : Counts) (from : ℕ) (ss : List Symbol) (to : ℕ) (m : Names) → SpellsTo t n c from ss to m → AllFine ss
+spelled_fine : (t : List ℕ) (n : Names) (c : Counts) (from : ℕ) (ss : List Symbol) (to : ℕ) (m : Names) → SpellsToWithin t n c from ss to m → AllFine ss
 spelled_fine t n c from [] to m h = tt
 spelled_fine t n c from (s ∷ ss) to m (x, d, here, inside, stands, counts, rest) = (
   fine s c d (stands_called c.phase n (bytes_of t x) x.kind s stands) counts,
-  spelled_fine t (learnt c s (bytes_of t x) n) d x.end ss to m rest,
+  spelled_fine t (learnt (standing_of c) s (bytes_of t x) n) d x.end ss to m rest,
 )
 
 pub sentence_parts : (t : List ℕ) (code : List Op) → IsSentence t no_names (nothing Between) system_items [] code → AreParts 0 code

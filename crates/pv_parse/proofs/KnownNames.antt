@@ -17,7 +17,7 @@ use Rattle.pv_grammar.specs.declared.symbol.Symbol.{Symbol}
 use Rattle.pv_grammar.specs.declared.symbol.Symbol.TheVariants.{Fixed as FixedToken, Relation as RelationToken, Number, Declared, Constant as ConstantToken, Variable as VariableToken, Parameter as ParameterToken, Function as Call, Unknown}
 use Rattle.pv_grammar.specs.Causes.{as_known}
 use Rattle.pv_grammar.specs.Grammar.{Derives, MayEnd, Produced, arguments, begun as begun_by, done, exactly, expression_items, factor, factors, fixed, left_out, produced, relation, system_items, terms, with_more}
-use Rattle.pv_grammar.specs.Limits.{Counting, begins, begins_expression, begun, behind_comma, behind_end, behind_semicolon, counted, declared, in_expression, in_phase, levels, moved, nested, next, nothing, operated, operates, turned}
+use Rattle.pv_grammar.specs.Counting.{Counting, begins, begun, behind_comma, behind_end, behind_semicolon, counted, declared, in_expression, in_phase, levels, moved, nested, next, nothing, operated, operates, turned, standing_of}
 use Rattle.pv_grammar.specs.TreeCodes.{AreKnown, IsCalled, IsKnown}
 use Rattle.pv_grammar.proofs.Forward.{head_is, nil_cons, none_some, tail_is}
 use Rattle.pv_tokens.specs.declared.keyword.Word.{Word}
@@ -29,7 +29,9 @@ use Rattle.pv_parse.specs.declared.names.Meaning.{Meaning}
 use Rattle.pv_parse.specs.declared.names.Meaning.TheVariants.{Constant as ConstantMeaning, Variable as VariableMeaning, Function as FunctionMeaning}
 use Rattle.pv_parse.specs.ByItems.{IsSentence}
 use Rattle.pv_parse.specs.Meanings.{KnowsVariables, Names, in_body, in_bounds, learnt, meaning, no_names, numbered, told, use_of, with_function, with_name, with_value}
-use Rattle.pv_parse.specs.Sentences.{IsNumberSymbol, Spells, SpellsTo, StandsFor, bytes_of, name_symbol, word_symbol}
+use Rattle.pv_parse.specs.Sentences.{IsNumberSymbol, StandsFor, bytes_of, name_symbol, word_symbol}
+use Rattle.pv_grammar.specs.Standings.{begins_expression}
+use Rattle.pv_parse.specs.ByCounts.{SpellsWithin, SpellsToWithin}
 
 -- ---- Counts: within a body there is a parameter
 
@@ -81,7 +83,7 @@ levels_fine r c s h = h
 declared_fine : (p : Phase) (c : Counts) (taken : Bool) → Bodied c → Gives Bodied (declared p c taken)
 declared_fine Variables c taken h = gives_if Bodied (nat_lt c.variables 12) _ _ (gives_if Bodied taken _ _ tt h) tt
 declared_fine FunctionName c taken h = gives_if Bodied taken _ _ tt tt
-declared_fine Parameters c taken h = gives_if Bodied taken _ _ tt (gives_if Bodied (nat_lt c.parameters 12) _ _ (one_more c.phase c.parameters h) tt)
+declared_fine Parameters c taken h = gives_if Bodied (nat_lt c.parameters 12) _ _ (gives_if Bodied taken _ _ tt (one_more c.phase c.parameters h)) tt
 declared_fine p c taken h = gives_if Bodied taken _ _ tt h
 
 comma_fine : (p : Phase) (c : Counts) → Bodied c → Gives Bodied (behind_comma p c)
@@ -198,7 +200,7 @@ given P c d s e h = subst (Gives P) e h
 parameter_named : (c d : Counts) (taken : Bool) → counted c (Declared taken) ≡ Ok d → c.phase ≡ Parameters → (d.phase ≡ Parameters) × (1 ≤ d.parameters)
 parameter_named c d taken e is =
     let P : Counts → Type 0 = λ x. (x.phase ≡ Parameters) × (1 ≤ x.parameters) in
-    given P c d (Declared taken) e (where_phase P c (Declared taken) Parameters is (gives_if P taken _ _ tt (gives_if P (nat_lt c.parameters 12) _ _ (refl, omega arith) tt)))
+    given P c d (Declared taken) e (where_phase P c (Declared taken) Parameters is (gives_if P (nat_lt c.parameters 12) _ _ (gives_if P taken _ _ tt (refl, omega arith)) tt))
 
 function_named : (c d : Counts) (taken : Bool) → counted c (Declared taken) ≡ Ok d → c.phase ≡ FunctionName → d.phase ≡ Parameters
 function_named c d taken e is =
@@ -372,7 +374,7 @@ some_cond : (b : Bool) (m : Meaning) (o : Option Meaning) → SomeIn (Some m) �
 some_cond true m o h i = h
 some_cond false m o h i = i
 
-name_some : (p : Phase) (c : Counts) (name : List ℕ) (n : Names) → SomeNames n → SomeNames (with_name p c name n)
+name_some : (p : Phase) (c : Counts) (name : List ℕ) (n : Names) → SomeNames n → SomeNames (with_name p (standing_of c) name n)
 name_some Variables c name n h = λ q. some_cond (bytes_eq name q) (VariableMeaning c.variables) (n.known q) tt (h q)
 name_some p c name n h = h
 
@@ -380,11 +382,11 @@ value_some : (p : Phase) (v : Fraction) (n : Names) → SomeNames n → SomeName
 value_some Constants v n h = λ q. some_cond (bytes_eq n.pending q) _ (n.known q) tt (h q)
 value_some p v n h = h
 
-function_some : (p : Phase) (c : Counts) (n : Names) → HasOne p c.parameters → SomeNames n → SomeNames (with_function p c n)
+function_some : (p : Phase) (c : Counts) (n : Names) → HasOne p c.parameters → SomeNames n → SomeNames (with_function p (standing_of c) n)
 function_some Body c n l h = λ q. some_cond (bytes_eq n.pending q) (FunctionMeaning (c.functions - 1) c.parameters) (n.known q) l (h q)
 function_some p c n l h = h
 
-told_some : (c : Counts) (s : Symbol) (name : List ℕ) (n : Names) → Bodied c → SomeNames n → SomeNames (told c s name n)
+told_some : (c : Counts) (s : Symbol) (name : List ℕ) (n : Names) → Bodied c → SomeNames n → SomeNames (told (standing_of c) s name n)
 told_some c (Declared taken) name n l h = name_some c.phase c name n h
 told_some c (Number value exponent) name n l h = value_some c.phase value n h
 told_some c (FixedToken End) name n l h = function_some c.phase c n l h
@@ -451,16 +453,17 @@ stands_called p n bytes NumberKind s h f = number_called bytes s h
 stands_called p n bytes k s h f = subst Called (sym h) tt
 
 -- the limits forbid a name that is not declared, or is declared once more
-not_unknown : (c d : Counts) → counted c Unknown ≡ Ok d → ⊥
+pub not_unknown : (c d : Counts) → counted c Unknown ≡ Ok d → ⊥
 not_unknown c d e =
     given (λ x. ⊥) c d Unknown e
     (gives_any (λ x. ⊥) (begun c Unknown) _ (λ c1. gives_any (λ x. ⊥) (operated c1 Unknown) _ (λ c2. gives_any (λ x. ⊥) (nested c2 Unknown) _ (λ c3. tt))))
 
 declared_taken : (p : Phase) (c : Counts) → Gives (λ x. ⊥) (declared p c true)
 declared_taken Variables c = gives_if (λ x. ⊥) (nat_lt c.variables 12) _ _ tt tt
+declared_taken Parameters c = gives_if (λ x. ⊥) (nat_lt c.parameters 12) _ _ tt tt
 declared_taken p c = tt
 
-not_taken : (c d : Counts) → counted c (Declared true) ≡ Ok d → ⊥
+pub not_taken : (c d : Counts) → counted c (Declared true) ≡ Ok d → ⊥
 not_taken c d e =
     given (λ x. ⊥) c d (Declared true) e
     (gives_any (λ x. ⊥) (operated c (Declared true)) _ (λ c2. gives_any (λ x. ⊥) (nested c2 (Declared true)) _ (λ c3. declared_taken c3.phase c3)))
@@ -474,13 +477,13 @@ known s c d h e = tt
 -- ---- Sentences
 
 all_known : (items : List Item) (ss : List Symbol) (code : List Op) → Derives items ss code →
-    (t : List ℕ) (n : Names) (c : Counts) (from to : ℕ) (m : Names) → SpellsTo t n c from ss to m → Fits items c.phase c.parameters → Bodied c → SomeNames n → AreKnown ss
+    (t : List ℕ) (n : Names) (c : Counts) (from to : ℕ) (m : Names) → SpellsToWithin t n c from ss to m → Fits items c.phase c.parameters → Bodied c → SomeNames n → AreKnown ss
 all_known items ss code (done) t n c from to m h f b k = tt
 all_known items ss code (left_out i rest ss' code' may d) t n c from to m h f b k =
     all_known rest ss' code' d t n c from to m h (f.1 c.phase c.parameters (same_left i c.phase c.parameters may)) b k
 all_known items ss code (begun_by i rest s ss' p code' e d) t n c from to m (x, c', next_is, inside, stands, counts, more) f b k = (
   known s c c' (stands_called c.phase n (bytes_of t x) x.kind s stands k) counts,
-  all_known (p.0 ++ rest) ss' code' d t (learnt c s (bytes_of t x) n) c' x.end to m more
+  all_known (p.0 ++ rest) ss' code' d t (learnt (standing_of c) s (bytes_of t x) n) c' x.end to m more
       (subst (λ (o : Option Produced). Fitted o rest c'.phase c'.parameters) e (fits i s rest c c' counts f))
       (counted_fine c c' s counts (b, token_needs i s c.phase c.parameters (λ none. none_some none e) f.0))
       (told_some c s (bytes_of t x) n b k),
@@ -532,7 +535,7 @@ expression_start variables n knows = record {
   names = λ name. subst SomeIn (sym (knows.known name)) (variables_some variables 0 name);
 }
 
-pub text_known : (items : List Item) (c : Counts) (n : Names) → StartsKnown items c n → (ss : List Symbol) (code : List Op) → Derives items ss code → (t : List ℕ) → Spells t n c ss → AreKnown ss
+pub text_known : (items : List Item) (c : Counts) (n : Names) → StartsKnown items c n → (ss : List Symbol) (code : List Op) → Derives items ss code → (t : List ℕ) → SpellsWithin t n c ss → AreKnown ss
 text_known items c n start ss code d t spelled = all_known items ss code d t n c 0 spelled.0 spelled.1 spelled.3 start.fits start.bodied start.names
 
 pub sentence_known : (t : List ℕ) (n : Names) (c : Counts) (items : List Item) (before after : List Op) → StartsKnown items c n → (s : IsSentence t n c items before after) → AreKnown s.symbols
@@ -541,7 +544,7 @@ sentence_known t n c items before after start s = text_known items c n start s.s
 -- ---- A token behind the first ones of a text
 
 names_behind : (items : List Item) (all : List Symbol) (code : List Op) → Derives items all code → (ss rest : List Symbol) → all ≡ ss ++ rest →
-    (t : List ℕ) (n : Names) (c : Counts) (from to : ℕ) (m : Names) → SpellsTo t n c from ss to m → Fits items c.phase c.parameters → Bodied c → SomeNames n → SomeNames m
+    (t : List ℕ) (n : Names) (c : Counts) (from to : ℕ) (m : Names) → SpellsToWithin t n c from ss to m → Fits items c.phase c.parameters → Bodied c → SomeNames n → SomeNames m
 names_behind items all code (done) [] rest e t n c from to m h f b k = subst SomeNames h.1 k
 names_behind items all code (done) (s ∷ ss) rest e t n c from to m h f b k = absurd (nil_cons e)
 names_behind items all code (left_out i others all' code' may d) ss rest e t n c from to m h f b k =
@@ -549,7 +552,7 @@ names_behind items all code (left_out i others all' code' may d) ss rest e t n c
 names_behind items all code (begun_by i others s all' p code' made d) [] rest e t n c from to m h f b k = subst SomeNames h.1 k
 names_behind items all code (begun_by i others s all' p code' made d) (r ∷ ss) rest e t n c from to m (x, c', next_is, inside, stands, counts, more) f b k =
     let made' : produced i r ≡ Some p = subst (λ (z : Symbol). produced i z ≡ Some p) (head_is e) made in
-    names_behind (p.0 ++ others) all' code' d ss rest (tail_is e) t (learnt c r (bytes_of t x) n) c' x.end to m more
+    names_behind (p.0 ++ others) all' code' d ss rest (tail_is e) t (learnt (standing_of c) r (bytes_of t x) n) c' x.end to m more
     (subst (λ (o : Option Produced). Fitted o others c'.phase c'.parameters) made' (fits i r others c c' counts f))
     (counted_fine c c' r counts (b, token_needs i r c.phase c.parameters (λ none. none_some none made') f.0))
     (told_some c r (bytes_of t x) n b k)
@@ -560,6 +563,6 @@ name_known s h = tt
 
 -- such a token is known, where its name counts as one
 pub next_known : (items : List Item) (c : Counts) (n : Names) → StartsKnown items c n → (before rest : List Symbol) (code : List Op) → Derives items (before ++ rest) code →
-    (t : List ℕ) (from : ℕ) (m : Names) → SpellsTo t n c 0 before from m → (p : Phase) (bytes : List ℕ) (k : Kind) (s : Symbol) → StandsFor p m bytes k s → IsKnown (as_known s)
+    (t : List ℕ) (from : ℕ) (m : Names) → SpellsToWithin t n c 0 before from m → (p : Phase) (bytes : List ℕ) (k : Kind) (s : Symbol) → StandsFor p m bytes k s → IsKnown (as_known s)
 next_known items c n start before rest code d t from m spelled p bytes k s stands =
     name_known s (stands_called p m bytes k s stands (names_behind items (before ++ rest) code d before rest refl t n c 0 from m spelled start.fits start.bodied start.names))

@@ -1,3 +1,4 @@
+pub mod ByLimits
 pub mod ByTrees
 pub mod Calls
 pub mod Closings

@@ -14,8 +14,9 @@ use Rattle.pv_grammar.specs.declared.symbol.Fixed.TheVariants.{Constraints, Open
 use Rattle.pv_grammar.specs.declared.symbol.Symbol.{Symbol}
 use Rattle.pv_grammar.specs.declared.symbol.Symbol.TheVariants.{Fixed as FixedToken, Relation as RelationToken}
 use Rattle.pv_grammar.specs.Grammar.{system_items}
-use Rattle.pv_grammar.specs.Limits.{nothing}
+use Rattle.pv_grammar.specs.Counting.{nothing}
 use Rattle.pv_grammar.specs.TreeCodes.{IsOfSystem}
+use Rattle.pv_grammar.specs.Productions.{system_symbols}
 use Rattle.pv_grammar.specs.Trees.{system_constraints, system_domains}
 use Rattle.pv_grammar.proofs.TreeBuilding.{system_tree}
 use Rattle.pv_grammar.proofs.TreeRuns.{system_means}
@@ -24,13 +25,14 @@ use Rattle.pv_parse.specs.declared.refused.ParseRefused.TheVariants.{Memory, Fau
 use Rattle.pv_parse.specs.declared.scope.Begun.{Begun}
 use Rattle.pv_parse.specs.declared.scope.Begun.TheVariants.{Outside, Next, At}
 use Rattle.pv_parse.specs.ByItems.{IsAt, IsFirstOfByItems, IsLargeAt}
-use Rattle.pv_parse.specs.Declarations.{AreGood, IsFirstBad, IsMeaning, Mark, Marks, MarksTo, Reading, begun_at, begun_behind, bracket_behind, bracket_of, brackets_in, declares, own, start_of, starts_from, starts_in}
+use Rattle.pv_parse.specs.Declarations.{AreGood, IsFirstBad, IsMeaning, Mark, Reading, begun_at, begun_behind, bracket_behind, bracket_of, brackets_in, declares, own, start_of, starts_from, starts_in}
 use Rattle.pv_parse.specs.Faults.{IsRefusal}
 use Rattle.pv_parse.specs.Faults.IsFaultOf.{bounds, first, large}
 use Rattle.pv_parse.specs.Meanings.{Names, no_names}
 use Rattle.pv_parse.specs.Scopes.{IsToldAs, Scoped, Variable, bracket_given, bracket_in, domain_given, domain_in, name_of, nothing_scoped, variable, variables_in}
-use Rattle.pv_parse.specs.Sentences.{Spells}
+use Rattle.pv_parse.proofs.ByLimits.{marked_of}
 use Rattle.pv_parse.proofs.ByTrees.{system_first}
+use Rattle.pv_parse.proofs.TreeTexts.{text_of_system}
 use Rattle.pv_parse.proofs.KnownNames.{sentence_known, system_start}
 use Rattle.pv_parse.proofs.Starts.{starts_count}
 use Rattle.pv_parse.proofs.Distinct.{names_distinct}
@@ -39,6 +41,7 @@ use Rattle.pv_parse.proofs.VariableCounts.{few_variables, some_variable}
 use Rattle.pv_parse.proofs.Fractions.{HaveBounds, domains_at, have_bounds}
 use Rattle.pv_parse.proofs.NameBytes.{begins_within}
 use Rattle.pv_parse.proofs.Declarations.{all_brackets, all_domains, all_names, all_starts, same_lengths}
+use Rattle.pv_parse.specs.ByCounts.{MarksWithin, MarksToWithin, SpellsWithin}
 
 pub told_at : (t : List ℕ) (known known' : Names) (start start' : Counts) (items items' : List Item) (code code' after : List Op) (old old' new : Scoped) →
     known ≡ known' → start ≡ start' → items ≡ items' → code ≡ code' → old ≡ old' →
@@ -110,17 +113,20 @@ abbrev told_tree : (t : List ℕ) (code : List Op) (new : Scoped) (s : IsTold t 
 told_tree t code new s =
     system_tree s.sentence.symbols s.sentence.steps s.sentence.derived (sentence_known t no_names (nothing Between) system_items [] code system_start s.sentence)
 
+abbrev told_marks : (t : List ℕ) (code : List Op) (new : Scoped) (s : IsTold t code new) → MarksWithin t (nothing Between) (system_symbols (told_tree t code new s).0 []) s.marks
+told_marks t code new s = subst (λ (z : List Symbol). MarksWithin t (nothing Between) z s.marks) (told_tree t code new s).1 s.marked
+
 abbrev read : (t : List ℕ) (code : List Op) (new : Scoped) → IsTold t code new → Reading t
 read t code new s = record {
   tree = (told_tree t code new s).0;
-  spelled = subst (Spells t no_names (nothing Between)) (told_tree t code new s).1 s.sentence.spelled;
+  spelled = text_of_system t (told_tree t code new s).0 (subst (SpellsWithin t no_names (nothing Between)) (told_tree t code new s).1 s.sentence.spelled);
   marks = s.marks;
-  marked = subst (λ (z : List Symbol). Marks t (nothing Between) z s.marks) (told_tree t code new s).1 s.marked;
+  marked = marked_of t (nothing Between) (system_symbols (told_tree t code new s).0 []) s.marks (told_marks t code new s);
 }
 
 read_domains : (t : List ℕ) (code : List Op) (new : Scoped) (s : IsTold t code new) → map domain_given new.given ≡ system_domains (read t code new s).tree
 read_domains t code new s =
-    domains_are t no_names (nothing Between) system_items code new s ∙ domains_of_tree t (read t code new s).tree s.marks (read t code new s).marked
+    domains_are t no_names (nothing Between) system_items code new s ∙ domains_of_tree t (told_tree t code new s).0 s.marks (told_marks t code new s)
 
 read_constraints : (t : List ℕ) (code : List Op) (new : Scoped) (s : IsTold t code new) → constraints_of code ≡ system_constraints (read t code new s).tree
 read_constraints t code new s = ap constraints_of (s.sentence.code_is ∙ (told_tree t code new s).2) ∙ system_means (told_tree t code new s).0
@@ -202,7 +208,7 @@ first_within n [] bs byte h bad = absurd bad
 first_within n (d ∷ ds) [] byte h bad = absurd bad
 first_within n (d ∷ ds) (b ∷ bs) byte h bad = ⊎_elim (λ (wrong, at). omega (arith, h.0, at)) (λ (good, later). first_within n ds bs byte h.1 later) bad
 
-marks_within : (t : List ℕ) (c : Counts) (from : ℕ) (ss : List Symbol) (marks : List Mark) (to : ℕ) (e : Counts) → MarksTo t c from ss marks to e → AreInText (length t) marks
+marks_within : (t : List ℕ) (c : Counts) (from : ℕ) (ss : List Symbol) (marks : List Mark) (to : ℕ) (e : Counts) → MarksToWithin t c from ss marks to e → AreInText (length t) marks
 marks_within t c from [] marks to e (none, same, is) = subst (AreInText (length t)) (sym none) tt
 marks_within t c from (s ∷ ss) marks to e (x, d, rest, next, one, are, more) =
     subst (AreInText (length t)) (sym are) (begins_within t from x next, marks_within t d x.end ss rest to e more)

@@ -18,7 +18,7 @@ use Rattle.pv_grammar.specs.declared.symbol.Fixed.TheVariants.{Open, End}
 use Rattle.pv_grammar.specs.declared.symbol.Symbol.{Symbol}
 use Rattle.pv_grammar.specs.declared.symbol.Symbol.TheVariants.{Fixed as FixedToken, Number, Declared, Never}
 use Rattle.pv_grammar.specs.Grammar.{Derives, Produced, begun, done, expression_items, left_out, produced, system_items}
-use Rattle.pv_grammar.specs.Limits.{counted, nothing}
+use Rattle.pv_grammar.specs.Counting.{counted, nothing, standing_of}
 use Rattle.pv_grammar.proofs.Steps.{AllWrite, MayRaise, Own, Writes, derived-steps}
 use Rattle.pv_tokens.specs.declared.keyword.Word.{Word}
 use Rattle.pv_tokens.specs.declared.keyword.Word.TheVariants.{Sqr as SqrWord}
@@ -27,15 +27,16 @@ use Rattle.pv_tokens.specs.declared.token.Kind.TheVariants.{Name, Number as Numb
 use Rattle.pv_tokens.specs.Words.{word_in}
 use Rattle.pv_parse.specs.declared.names.Meaning.{Meaning}
 use Rattle.pv_parse.specs.declared.names.Meaning.TheVariants.{Constant as ConstantMeaning, Variable as VariableMeaning, Function as FunctionMeaning}
-use Rattle.pv_parse.specs.Declarations.{Mark, MarksTo, declares, mark_of}
+use Rattle.pv_parse.specs.Declarations.{Mark, declares, mark_of}
 use Rattle.pv_parse.specs.Fractions.{HasFraction, HaveFractions}
 use Rattle.pv_parse.specs.Meanings.{KnowsVariables, Names, in_body, in_bounds, learnt, meaning, no_names, numbered, told, use_of, with_function, with_name, with_value}
 use Rattle.pv_parse.specs.Scopes.{IsToldAs, Scoped, nothing_scoped}
-use Rattle.pv_parse.specs.Sentences.{IsNumberSymbol, MayRaise as MayBeRaised, SpellsTo, StandsFor, bytes_of, name_symbol, word_symbol}
+use Rattle.pv_parse.specs.Sentences.{IsNumberSymbol, MayRaise as MayBeRaised, StandsFor, bytes_of, name_symbol, word_symbol}
 use Rattle.pv_parse.proofs.Meant.{names_length}
 use Rattle.pv_parse.proofs.NameBytes.{is_declared}
 use Rattle.pv_parse.proofs.Starts.{AreCalls, AreLate, IsLate, calls, late_append, late_of, late_step}
 use Rattle.pv_parse.proofs.VariableCounts.{one_count, room_here, variables_count}
+use Rattle.pv_parse.specs.ByCounts.{MarksToWithin, SpellsToWithin}
 
 -- ---- Names
 
@@ -51,7 +52,7 @@ below_cond : (n : ℕ) (b : Bool) (m : Meaning) (o : Option Meaning) → IsBelow
 below_cond n true m o h i = h
 below_cond n false m o h i = i
 
-name_below : (n : ℕ) (p : Phase) (c : Counts) (taken : Bool) (name : List ℕ) (known : Names) → (declares p (Declared taken) ≡ true → c.variables < n) → KnowsBelow n known → KnowsBelow n (with_name p c name known)
+name_below : (n : ℕ) (p : Phase) (c : Counts) (taken : Bool) (name : List ℕ) (known : Names) → (declares p (Declared taken) ≡ true → c.variables < n) → KnowsBelow n known → KnowsBelow n (with_name p (standing_of c) name known)
 name_below n Variables c taken name known room h = λ q. below_cond n (bytes_eq name q) (VariableMeaning c.variables) (known.known q) (room refl) (h q)
 name_below n p c taken name known room h = h
 
@@ -59,11 +60,11 @@ value_below : (n : ℕ) (p : Phase) (v : Fraction) (known : Names) → KnowsBelo
 value_below n Constants v known h = λ q. below_cond n (bytes_eq known.pending q) _ (known.known q) tt (h q)
 value_below n p v known h = h
 
-function_below : (n : ℕ) (p : Phase) (c : Counts) (known : Names) → KnowsBelow n known → KnowsBelow n (with_function p c known)
+function_below : (n : ℕ) (p : Phase) (c : Counts) (known : Names) → KnowsBelow n known → KnowsBelow n (with_function p (standing_of c) known)
 function_below n Body c known h = λ q. below_cond n (bytes_eq known.pending q) (FunctionMeaning _ c.parameters) (known.known q) tt (h q)
 function_below n p c known h = h
 
-told_below : (n : ℕ) (c : Counts) (s : Symbol) (name : List ℕ) (known : Names) → (declares c.phase s ≡ true → c.variables < n) → KnowsBelow n known → KnowsBelow n (told c s name known)
+told_below : (n : ℕ) (c : Counts) (s : Symbol) (name : List ℕ) (known : Names) → (declares c.phase s ≡ true → c.variables < n) → KnowsBelow n known → KnowsBelow n (told (standing_of c) s name known)
 told_below n c (Declared taken) name known room h = name_below n c.phase c taken name known room h
 told_below n c (Number value exponent) name known room h = value_below n c.phase value known h
 told_below n c (FixedToken End) name known room h = function_below n c.phase c known h
@@ -124,7 +125,7 @@ abbrev AllFractions : List Symbol → Type 0
 AllFractions [] = Unit {0}
 AllFractions (s ∷ ss) = HasFraction s × AllFractions ss
 
-marked_fractions : (t : List ℕ) (c : Counts) (from : ℕ) (ss : List Symbol) (marks : List Mark) (to : ℕ) (e : Counts) → MarksTo t c from ss marks to e → HaveFractions marks → AllFractions ss
+marked_fractions : (t : List ℕ) (c : Counts) (from : ℕ) (ss : List Symbol) (marks : List Mark) (to : ℕ) (e : Counts) → MarksToWithin t c from ss marks to e → HaveFractions marks → AllFractions ss
 marked_fractions t c from [] marks to e m h = tt
 marked_fractions t c from (s ∷ ss) marks to e (x, d, rest, next, one, are, more) h =
     let both : HaveFractions (mark_of t c.phase s x ∷ rest) = subst HaveFractions are h in
@@ -135,12 +136,12 @@ abbrev HaveRoom : ℕ → Counts → List Symbol → Type 0
 HaveRoom n c [] = Unit {0}
 HaveRoom n c (s ∷ ss) = (declares c.phase s ≡ true → c.variables < n) × ((d : Counts) → counted c s ≡ Ok d → HaveRoom n d ss)
 
-spelled_steps : (n : ℕ) (t : List ℕ) (known : Names) (c : Counts) (from : ℕ) (ss : List Symbol) (to : ℕ) (m : Names) → SpellsTo t known c from ss to m →
+spelled_steps : (n : ℕ) (t : List ℕ) (known : Names) (c : Counts) (from : ℕ) (ss : List Symbol) (to : ℕ) (m : Names) → SpellsToWithin t known c from ss to m →
     KnowsBelow n known → AllFractions ss → HaveRoom n c ss → AllWrite (IsStep n) ss
 spelled_steps n t known c from [] to m h below fractions room = tt
 spelled_steps n t known c from (s ∷ ss) to m (x, d, here, inside, stands, one, rest) below fractions room = (
   stands_step n c.phase known (bytes_of t x) x.kind s stands below fractions.0,
-  spelled_steps n t (learnt c s (bytes_of t x) known) d x.end ss to m rest (told_below n c s (bytes_of t x) known room.0 below) fractions.1 (room.1 d one),
+  spelled_steps n t (learnt (standing_of c) s (bytes_of t x) known) d x.end ss to m rest (told_below n c s (bytes_of t x) known room.0 below) fractions.1 (room.1 d one),
 )
 
 own_steps : (n : ℕ) → Own (IsStep n)
@@ -148,7 +149,7 @@ own_steps n = record { neg = tt; add = tt; sub = tt; mul = tt; div = tt; define 
 
 -- ---- Systems
 
-counted_room : (t : List ℕ) (c : Counts) (from : ℕ) (ss : List Symbol) (marks : List Mark) (to : ℕ) (e : Counts) → MarksTo t c from ss marks to e → HaveRoom e.variables c ss
+counted_room : (t : List ℕ) (c : Counts) (from : ℕ) (ss : List Symbol) (marks : List Mark) (to : ℕ) (e : Counts) → MarksToWithin t c from ss marks to e → HaveRoom e.variables c ss
 counted_room t c from [] marks to e h = tt
 counted_room t c from (s ∷ ss) marks to e (x, d, rest, next, one, are, more) = (
   λ is. room_here t c from s ss marks to e is (x, d, rest, next, one, are, more),

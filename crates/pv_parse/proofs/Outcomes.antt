@@ -15,11 +15,12 @@ use Rattle.pv_code.specs.Expansion.{Sides}
 use Rattle.pv_code.specs.Sizes.{AreWithin, IsFirstLarge, IsShallow, nodes_of}
 use Rattle.pv_grammar.specs.declared.cause.Cause.{Cause}
 use Rattle.pv_grammar.specs.declared.cause.Cause.TheVariants.{BadBounds, TextTooLong, TooLarge}
-use Rattle.pv_grammar.specs.declared.counts.Counts.{Counts}
 use Rattle.pv_grammar.specs.declared.counts.Phase.TheVariants.{Between}
 use Rattle.pv_grammar.specs.declared.symbol.Symbol.{Symbol}
-use Rattle.pv_grammar.specs.Limits.{counted, nothing}
+use Rattle.pv_grammar.specs.Counting.{nothing}
+use Rattle.pv_grammar.specs.Limits.{IsLimitedSystem}
 use Rattle.pv_grammar.specs.Productions.{IsSystem, System, system_symbols}
+use Rattle.pv_grammar.specs.Standings.{Standing, first_in, standing_behind}
 use Rattle.pv_grammar.specs.TreeCodes.{system_code}
 use Rattle.pv_grammar.specs.Trees.{expression_term, system_constraints, system_domains}
 use Rattle.pv_grammar.proofs.TreeRuns.{system_means}
@@ -32,47 +33,52 @@ use Rattle.pv_parse.specs.Faults.IsFaultOf.{bounds, first, large, long}
 use Rattle.pv_parse.specs.Meanings.{Names, learnt, no_names}
 use Rattle.pv_parse.specs.Scopes.{Variable, bracket_in, domain_in, name_of, variables_in}
 use Rattle.pv_parse.specs.Sentences.{IsExpressionText, IsExpressionTextOf, IsTextOf, SpellsTo, bytes_of}
+use Rattle.pv_grammar.proofs.Within.{system_limited, within_system}
+use Rattle.pv_parse.proofs.ByLimits.{counted_marks}
 use Rattle.pv_parse.proofs.Decided.{decides_expression, decides_system}
-use Rattle.pv_parse.proofs.OneSpelling.{expression_apart, expression_fault, no_fault, ok_same, one_fault, one_known}
+use Rattle.pv_parse.proofs.OneSpelling.{expression_apart, expression_fault, no_fault, one_fault, one_known}
 use Rattle.pv_parse.proofs.Starts.{starts_count}
 use Rattle.pv_parse.proofs.TreeDomains.{brackets_named, domains_of_tree, names_named}
 use Rattle.pv_parse.proofs.TreeTexts.{one_expression_tree_of, one_tree_of, tree_sentence}
+use Rattle.pv_parse.specs.ByCounts.{MarksWithin}
 
 -- ---- A text has one reading
 
-one_marking : (t : List ℕ) (c : Counts) (from : ℕ) (ss : List Symbol) (ms ms' : List Mark) (to to' : ℕ) (e e' : Counts) → MarksTo t c from ss ms to e → MarksTo t c from ss ms' to' e' → ms ≡ ms'
-one_marking t c from [] ms ms' to to' e e' h k = h.0 ∙ sym k.0
-one_marking t c from (s ∷ ss) ms ms' to to' e e' (x, d, rest, next, one, are, more) (x', d', rest', next', one', are', more') =
+one_marking : (t : List ℕ) (y : Standing) (from : ℕ) (ss : List Symbol) (ms ms' : List Mark) (to to' : ℕ) → MarksTo t y from ss ms to → MarksTo t y from ss ms' to' → ms ≡ ms'
+one_marking t y from [] ms ms' to to' h k = h.0 ∙ sym k.0
+one_marking t y from (s ∷ ss) ms ms' to to' (x, rest, next, are, more) (x', rest', next', are', more') =
     let token : x' ≡ x = one_next t from x' x next' next in
-    let counts : d' ≡ d = ok_same (counted c s) one' one in
-    let more'' : MarksTo t d x.end ss rest' to' e' =
-    subst (λ (z : Counts). MarksTo t z x.end ss rest' to' e') counts (subst (λ (z : Token). MarksTo t d' z.end ss rest' to' e') token more') in
+    let more'' : MarksTo t (standing_behind y s) x.end ss rest' to' = subst (λ (z : Token). MarksTo t (standing_behind y s) z.end ss rest' to') token more' in
     are
-    ∙ (ap (λ (z : List Mark). mark_of t c.phase s x ∷ z) (one_marking t d x.end ss rest rest' to to' e e' more more'')
-    ∙ (ap (λ (z : Token). mark_of t c.phase s z ∷ rest') (sym token) ∙ sym are'))
+    ∙ (ap (λ (z : List Mark). mark_of t y.phase s x ∷ z) (one_marking t (standing_behind y s) x.end ss rest rest' to to' more more'')
+    ∙ (ap (λ (z : Token). mark_of t y.phase s z ∷ rest') (sym token) ∙ sym are'))
 
 one_trees : (t : List ℕ) (r r' : Reading t) → r.tree ≡ r'.tree
 one_trees t r r' = one_tree_of t r.tree r'.tree r.spelled r'.spelled
 
 one_marks : (t : List ℕ) (r r' : Reading t) → r.marks ≡ r'.marks
 one_marks t r r' =
-    one_marking t (nothing Between) 0 (system_symbols r.tree []) r.marks r'.marks r.marked.0 r'.marked.0 r.marked.1 r'.marked.1 r.marked.2
-    (subst (λ (x : System). MarksTo t (nothing Between) 0 (system_symbols x []) r'.marks r'.marked.0 r'.marked.1) (sym (one_trees t r r')) r'.marked.2)
+    one_marking t (first_in Between) 0 (system_symbols r.tree []) r.marks r'.marks r.marked.0 r'.marked.0 r.marked.1
+    (subst (λ (x : System). MarksTo t (first_in Between) 0 (system_symbols x []) r'.marks r'.marked.0) (sym (one_trees t r r')) r'.marked.1)
 
 same_domains : (t : List ℕ) (r r' : Reading t) → system_domains r.tree ≡ system_domains r'.tree
 same_domains t r r' = ap system_domains (one_trees t r r')
 
 -- and each text of a tree has one
-marks_of : (t : List ℕ) (n : Names) (c : Counts) (from : ℕ) (ss : List Symbol) (to : ℕ) (m : Names) → SpellsTo t n c from ss to m → (marks : List Mark) × (e : Counts) × MarksTo t c from ss marks to e
-marks_of t n c from [] to m h = ([], c, (refl, h.0, refl))
-marks_of t n c from (s ∷ ss) to m (x, d, next, inside, stands, one, rest) =
-    let (marks, e, more) = marks_of t (learnt c s (bytes_of t x) n) d x.end ss to m rest in
-    (mark_of t c.phase s x ∷ marks, e, (x, d, marks, next, one, refl, more))
+marks_of : (t : List ℕ) (n : Names) (y : Standing) (from : ℕ) (ss : List Symbol) (to : ℕ) (m : Names) → SpellsTo t n y from ss to m → (marks : List Mark) × MarksTo t y from ss marks to
+marks_of t n y from [] to m h = ([], (refl, h.0))
+marks_of t n y from (s ∷ ss) to m (x, next, inside, stands, rest) =
+    let (marks, more) = marks_of t (learnt y s (bytes_of t x) n) (standing_behind y s) x.end ss to m rest in
+    (mark_of t y.phase s x ∷ marks, (x, marks, next, refl, more))
 
 reading_of : (t : List ℕ) (x : System) → IsTextOf t x → Reading t
-reading_of t x spelled =
-    let (marks, e, marked) = marks_of t no_names (nothing Between) 0 (system_symbols x []) spelled.0 spelled.1 spelled.3 in
-    record { tree = x; spelled = spelled; marks = marks; marked = (spelled.0, e, marked) }
+reading_of t x text =
+    let spelled = text.0 in
+    let (marks, marked) = marks_of t no_names (first_in Between) 0 (system_symbols x []) spelled.0 spelled.1 spelled.3 in
+    record { tree = x; spelled = text; marks = marks; marked = (spelled.0, marked) }
+
+counted_reading : (t : List ℕ) (r : Reading t) → MarksWithin t (nothing Between) (system_symbols r.tree []) r.marks
+counted_reading t r = counted_marks t (nothing Between) (system_symbols r.tree []) r.marks r.marked (within_system r.tree r.spelled.1)
 
 -- ---- Bad domains
 
@@ -183,7 +189,7 @@ large_or cs = ⊎_elim (λ within. inl (subst AreWithin (take_all (length cs) cs
 -- as many constraints begin as the tree has
 starts_many : (t : List ℕ) (r : Reading t) → length (starts_in r.marks) ≡ length (system_constraints r.tree)
 starts_many t r =
-    starts_count t no_names (nothing Between) (system_code r.tree []) (tree_sentence t (system_code r.tree []) r.tree r.spelled refl) r.marks r.marked ∙ ap length (system_means r.tree)
+    starts_count t no_names (nothing Between) (system_code r.tree []) (tree_sentence t (system_code r.tree []) r.tree r.spelled refl) r.marks (counted_reading t r) ∙ ap length (system_means r.tree)
 
 sized : (t : List ℕ) → length t ≤ 65536 → (r : Reading t) → AreGood (system_domains r.tree) → IsEither (IsSystemSentence t) (IsFaultOf t)
 sized t short r good =
@@ -197,7 +203,7 @@ sized t short r good =
 
 read_text : (t : List ℕ) → length t ≤ 65536 → Reading t → IsEither (IsSystemSentence t) (IsFaultOf t)
 read_text t short r =
-    let domains : map domain_in (variables_in r.marks) ≡ system_domains r.tree = domains_of_tree t r.tree r.marks r.marked in
+    let domains : map domain_in (variables_in r.marks) ≡ system_domains r.tree = domains_of_tree t r.tree r.marks (counted_reading t r) in
     ⊎_elim
     (λ good. sized t short r (subst AreGood domains good))
     (λ (byte, bad).
@@ -216,7 +222,7 @@ system_either t =
 
 -- a fault of a tree's text is none of its tokens
 token_fault : (t : List ℕ) (r : Reading t) (byte : ℕ) (cause : Cause) → IsSystemFault t byte cause → ⊥
-token_fault t r byte cause f = no_fault t no_names (nothing Between) IsSystem (system_symbols r.tree []) byte cause r.spelled (r.tree, refl) f
+token_fault t r byte cause f = no_fault t no_names (first_in Between) IsSystem IsLimitedSystem (system_symbols r.tree []) byte cause r.spelled.0 (r.tree, refl, r.spelled.1) f
 
 pub system_apart : (t : List ℕ) (byte : ℕ) (cause : Cause) → IsSystemSentence t → IsFaultOf t byte cause → ⊥
 system_apart t byte cause s (long more at is) = let short = s.short in omega (arith, more, short)
@@ -234,7 +240,7 @@ system_fault t byte byte' cause cause' (long more at is) (first short g) = absur
 system_fault t byte byte' cause cause' (long more at is) (bounds short r bad is') = absurd (omega (arith, more, short))
 system_fault t byte byte' cause cause' (long more at is) (large short r good i g at' is') = absurd (omega (arith, more, short))
 system_fault t byte byte' cause cause' (first short f) (long more at is) = absurd (omega (arith, more, short))
-system_fault t byte byte' cause cause' (first short f) (first short' g) = one_fault t no_names (nothing Between) IsSystem byte byte' cause cause' f g
+system_fault t byte byte' cause cause' (first short f) (first short' g) = one_fault t no_names (first_in Between) IsSystem IsLimitedSystem system_limited.text byte byte' cause cause' f g
 system_fault t byte byte' cause cause' (first short f) (bounds short' r bad is) = absurd (token_fault t r byte cause f)
 system_fault t byte byte' cause cause' (first short f) (large short' r good i g at is) = absurd (token_fault t r byte cause f)
 system_fault t byte byte' cause cause' (bounds short r bad is) (long more at is') = absurd (omega (arith, more, short))
@@ -271,7 +277,7 @@ one_system_meant t s s' m m' =
 pub domains_named : (t : List ℕ) (s : Parts) → IsMeaning t s → length s.domains ≡ length s.names
 domains_named t s m =
     let r = m.text.reading in
-    ap length (m.domains ∙ sym (domains_of_tree t r.tree r.marks r.marked))
+    ap length (m.domains ∙ sym (domains_of_tree t r.tree r.marks (counted_reading t r)))
     ∙ (length-map (variables_in r.marks) domain_in ∙ (sym (length-map (variables_in r.marks) name_of) ∙ ap length (names_named r.marks ∙ sym m.names)))
 
 -- ---- Texts of expressions

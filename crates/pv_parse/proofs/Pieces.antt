@@ -14,7 +14,7 @@ use Rattle.pv_grammar.specs.declared.symbol.Fixed.{Fixed}
 use Rattle.pv_grammar.specs.declared.symbol.Fixed.TheVariants.{Open as OpenMark, Close as CloseMark, OpenBracket as OpenBracketMark, CloseBracket as CloseBracketMark, Comma as CommaMark, Variables as VariablesWord, Constraints as ConstraintsWord, Return as ReturnWord, End as EndWord, Oo}
 use Rattle.pv_grammar.specs.declared.symbol.Symbol.{Symbol}
 use Rattle.pv_grammar.specs.declared.symbol.Symbol.TheVariants.{Fixed as FixedToken, Relation as RelationToken, Number, Declared}
-use Rattle.pv_grammar.specs.Limits.{counted, is_minus}
+use Rattle.pv_grammar.specs.Counting.{counted, standing_of}
 use Rattle.pv_tokens.specs.declared.number.Decimal.{Decimal}
 use Rattle.pv_tokens.specs.declared.numeral.Parts.{Parts}
 use Rattle.pv_tokens.specs.declared.token.Kind.{Kind}
@@ -28,6 +28,7 @@ use Rattle.pv_parse.specs.declared.names.Meaning.TheVariants.{Variable as Variab
 use Rattle.pv_parse.specs.ByItems.{AreBounded, AreWithin}
 use Rattle.pv_parse.specs.Meanings.{KnowsVariables, Names, no_names, numbered, behind_sign, is_function, is_taken, learnt, meaning, told, with_function, with_known, with_name, with_parameter, with_pending, with_value, without_parameters}
 use Rattle.pv_parse.specs.Sentences.{StandsFor}
+use Rattle.pv_grammar.specs.Standings.{is_minus}
 
 -- ---- Names stay bounded
 
@@ -58,7 +59,7 @@ pending_within x n most wide h k b = record { known = λ y l. b.known y (omega a
 wider : (n : Names) (most wide : ℕ) → most ≤ wide → AreWithin n most → AreWithin n wide
 wider n most wide h b = record { known = λ y l. b.known y (omega arith); parameter = λ y l. b.parameter y (omega arith); pending = omega (arith, b.pending) }
 
-name_within : (p : Phase) (c : Counts) (x : List ℕ) (n : Names) (most wide : ℕ) → most ≤ wide → length x ≤ wide → AreWithin n most → AreWithin (with_name p c x n) wide
+name_within : (p : Phase) (c : Counts) (x : List ℕ) (n : Names) (most wide : ℕ) → most ≤ wide → length x ≤ wide → AreWithin n most → AreWithin (with_name p (standing_of c) x n) wide
 name_within Constants c x n most wide h k b = pending_within x n most wide h k b
 name_within FunctionName c x n most wide h k b = pending_within x n most wide h k b
 name_within Parameters c x n most wide h k b = parameter_within x c.parameters n most wide h k b
@@ -72,15 +73,15 @@ value_within p v n most wide h b = wider n most wide h b
 cleared_within : (n : Names) (most : ℕ) → AreWithin n most → AreWithin (without_parameters n) most
 cleared_within n most b = record { known = b.known; parameter = λ y l. refl; pending = b.pending }
 
-function_within : (p : Phase) (c : Counts) (n : Names) (most wide : ℕ) → most ≤ wide → AreWithin n most → AreWithin (with_function p c n) wide
+function_within : (p : Phase) (c : Counts) (n : Names) (most wide : ℕ) → most ≤ wide → AreWithin n most → AreWithin (with_function p (standing_of c) n) wide
 function_within Body c n most wide h b = cleared_within _ wide (known_within n.pending _ n most wide h (omega (arith, b.pending)) b)
 function_within p c n most wide h b = wider n most wide h b
 
-fixed_within : (c : Counts) (f : Fixed) (x : List ℕ) (n : Names) (most wide : ℕ) → most ≤ wide → AreWithin n most → AreWithin (told c (FixedToken f) x n) wide
+fixed_within : (c : Counts) (f : Fixed) (x : List ℕ) (n : Names) (most wide : ℕ) → most ≤ wide → AreWithin n most → AreWithin (told (standing_of c) (FixedToken f) x n) wide
 fixed_within c EndWord x n most wide h b = function_within c.phase c n most wide h b
 fixed_within c f x n most wide h b = wider n most wide h b
 
-told_within : (c : Counts) (s : Symbol) (x : List ℕ) (n : Names) (most wide : ℕ) → most ≤ wide → length x ≤ wide → AreWithin n most → AreWithin (told c s x n) wide
+told_within : (c : Counts) (s : Symbol) (x : List ℕ) (n : Names) (most wide : ℕ) → most ≤ wide → length x ≤ wide → AreWithin n most → AreWithin (told (standing_of c) s x n) wide
 told_within c (Declared taken) x n most wide h k b = name_within c.phase c x n most wide h k b
 told_within c (Number value exponent) x n most wide h k b = value_within c.phase value n most wide h b
 told_within c (FixedToken f) x n most wide h k b = fixed_within c f x n most wide h b
@@ -89,8 +90,8 @@ told_within c s x n most wide h k b = wider n most wide h b
 sign_within : (b : Bool) (n : Names) (most : ℕ) → AreWithin n most → AreWithin (behind_sign b n) most
 sign_within b n most h = record { known = h.known; parameter = h.parameter; pending = h.pending }
 
-pub learnt_bounded : (c : Counts) (s : Symbol) (x : List ℕ) (n : Names) → AreBounded n → AreBounded (learnt c s x n)
-learnt_bounded c s x n (most, b) = (most + length x, sign_within (is_minus s) (told c s x n) (most + length x) (told_within c s x n most (most + length x) (omega arith) (omega arith) b))
+pub learnt_bounded : (c : Counts) (s : Symbol) (x : List ℕ) (n : Names) → AreBounded n → AreBounded (learnt (standing_of c) s x n)
+learnt_bounded c s x n (most, b) = (most + length x, sign_within (is_minus s) (told (standing_of c) s x n) (most + length x) (told_within c s x n most (most + length x) (omega arith) (omega arith) b))
 
 -- where a text begins
 pub none_bounded : (n : Names) → n ≡ no_names → AreBounded n
@@ -401,5 +402,5 @@ infinity_token = record { piece = named (codes "oo"); is_piece = name_piece (cod
 -- the tokens are these for the grammar, where the names and the counts begin as given
 abbrev pub Mean : Names → Counts → List Piece → List Symbol → Type 0
 Mean n c [] [] = Unit {0}
-Mean n c (x ∷ xs) (s ∷ ss) = (d : Counts) × IsPiece x × StandsFor c.phase n x.bytes x.kind s × (counted c s ≡ Ok d) × Mean (learnt c s x.bytes n) d xs ss
+Mean n c (x ∷ xs) (s ∷ ss) = (d : Counts) × IsPiece x × StandsFor c.phase n x.bytes x.kind s × (counted c s ≡ Ok d) × Mean (learnt (standing_of c) s x.bytes n) d xs ss
 Mean n c xs ss = ⊥

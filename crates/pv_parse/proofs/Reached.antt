@@ -1,5 +1,5 @@
 -- What is known behind the tokens that were taken: the loop of the reader, in both directions.
-use Rattle.std.proofs.Common.{◌≡◌, ◌≢◌, ℕ, Bool, false, List, [], ◌∷◌, ◌++◌, refl, sym, ap, ◌∙◌, subst, append_assoc, Option, Some, None, Result, Ok, Err, ⊎_elim}
+use Rattle.std.proofs.Common.{◌≡◌, ◌≢◌, ℕ, Bool, false, List, [], ◌∷◌, ◌++◌, refl, sym, ap, ◌∙◌, subst, append_assoc, Option, Some, None, Ok, Err, ⊎_elim}
 use Rattle.std.proofs.lemmas.List.{append-nil}
 use Rattle.pv_code.specs.declared.code.Op.{Op}
 use Rattle.pv_grammar.specs.declared.cause.Cause.{Cause}
@@ -14,7 +14,7 @@ use Rattle.pv_grammar.specs.ByItems.{BeginsByItems, IsCauseByItems, IsStart}
 use Rattle.pv_grammar.specs.Causes.{behind_caret, refusal}
 use Rattle.pv_grammar.specs.ByItems.IsCauseByItems.{not_allowed, beyond}
 use Rattle.pv_grammar.specs.Grammar.{Derives, Follows, MayEnd, Produced, Settles, emptied, ended, is_exponent, met, produced, step_of}
-use Rattle.pv_grammar.specs.Limits.{Counted, counted, nothing}
+use Rattle.pv_grammar.specs.Counting.{Counted, counted, nothing, standing_of}
 use Rattle.pv_grammar.proofs.Derivations.{Leads, leads_back, leads_end}
 use Rattle.pv_grammar.proofs.Exponents.{AtExponent, expression_plain, system_plain, IsUsual, Met, behind_last, no_end, settled_met, taken_plain}
 use Rattle.pv_grammar.proofs.Fits.{expression_starts, settled_ready, system_starts, taken_ready}
@@ -27,18 +27,20 @@ use Rattle.pv_tokens.specs.declared.token.Token.{Token}
 use Rattle.pv_tokens.specs.Tokens.{IsNext}
 use Rattle.pv_parse.specs.ByItems.{AreBounded, ClosesByItems, IsFirstByItems, IsSentence}
 use Rattle.pv_parse.specs.Meanings.{AreSame, Names, learnt}
-use Rattle.pv_parse.specs.Sentences.{SpellsTo, StandsFor, bytes_of}
+use Rattle.pv_parse.specs.Sentences.{StandsFor, bytes_of}
 use Rattle.pv_parse.specs.Declarations.{mark_of}
 use Rattle.pv_parse.specs.Fractions.{HasFraction}
 use Rattle.pv_parse.specs.Scopes.{IsToldAs, Scoped, followed}
 use Rattle.pv_parse.proofs.Closings.{ClosesFrom, closes}
+use Rattle.pv_parse.proofs.Continued.{ok_same}
 use Rattle.pv_parse.proofs.Declarations.{Told, told_none, told_one}
 use Rattle.pv_parse.proofs.Pieces.{learnt_bounded}
 use Rattle.pv_parse.proofs.Tails.{continued}
+use Rattle.pv_parse.specs.ByCounts.{SpellsToWithin}
 
 pub record Reached (t : List ℕ) (known names : Names) (start counts : Counts) (first : List Item) (initial : List Op) (items : List Item) (code : List Op) (from : ℕ) : Type 0 where
   pub before : List Symbol
-  pub spelled : SpellsTo t known start 0 before from names
+  pub spelled : SpellsToWithin t known start 0 before from names
   pub within : Counted start before counts
   pub orderly : Orderly items
   pub ready : Ready counts items
@@ -84,19 +86,16 @@ starts t known start items code is few =
 
 -- ---- Lists of tokens, with one more behind them
 
-ok_same : {v w : Counts} (r : Result Counts Cause) → r ≡ Ok v → r ≡ Ok w → v ≡ w
-ok_same r e f = cc
-
-counted_one : (c : Counts) (ss : List Symbol) (d e : Counts) (s : Symbol) → Counted c ss d → counted d s ≡ Ok e → Counted c (ss ++ s ∷ []) e
+pub counted_one : (c : Counts) (ss : List Symbol) (d e : Counts) (s : Symbol) → Counted c ss d → counted d s ≡ Ok e → Counted c (ss ++ s ∷ []) e
 counted_one c [] d e s same one = (e, subst (λ (x : Counts). counted x s ≡ Ok e) (sym same) one, refl)
 counted_one c (r ∷ ss) d e s (m, first, rest) one = (m, first, counted_one m ss d e s rest one)
 
-counted_all : (c : Counts) (ss : List Symbol) (d : Counts) (rest : List Symbol) (e : Counts) → Counted c ss d → Counted d rest e → Counted c (ss ++ rest) e
+pub counted_all : (c : Counts) (ss : List Symbol) (d : Counts) (rest : List Symbol) (e : Counts) → Counted c ss d → Counted d rest e → Counted c (ss ++ rest) e
 counted_all c [] d rest e same more = subst (λ (x : Counts). Counted x rest e) (sym same) more
 counted_all c (r ∷ ss) d rest e (m, first, to) more = (m, first, counted_all m ss d rest e to more)
 
-spells_one : (t : List ℕ) (n : Names) (c : Counts) (from : ℕ) (ss : List Symbol) (to : ℕ) (m : Names) (x : Token) (s : Symbol) (d e : Counts) → SpellsTo t n c from ss to m → Counted c ss d → IsNext t to x →
-    ¬ (x.kind ≡ End) → StandsFor d.phase m (bytes_of t x) x.kind s → counted d s ≡ Ok e → SpellsTo t n c from (ss ++ s ∷ []) x.end (learnt d s (bytes_of t x) m)
+spells_one : (t : List ℕ) (n : Names) (c : Counts) (from : ℕ) (ss : List Symbol) (to : ℕ) (m : Names) (x : Token) (s : Symbol) (d e : Counts) → SpellsToWithin t n c from ss to m → Counted c ss d → IsNext t to x →
+    ¬ (x.kind ≡ End) → StandsFor d.phase m (bytes_of t x) x.kind s → counted d s ≡ Ok e → SpellsToWithin t n c from (ss ++ s ∷ []) x.end (learnt (standing_of d) s (bytes_of t x) m)
 spells_one t n c from [] to m x s d e same is next inside stands one = (
   x,
   e,
@@ -104,10 +103,10 @@ spells_one t n c from [] to m x s d e same is next inside stands one = (
   inside,
   subst (λ (k : Counts). StandsFor k.phase n (bytes_of t x) x.kind s) (sym is) (subst (λ (k : Names). StandsFor d.phase k (bytes_of t x) x.kind s) (sym same.1) stands),
   subst (λ (k : Counts). counted k s ≡ Ok e) (sym is) one,
-  (refl, ap (λ (k : Counts). learnt k s (bytes_of t x) n) is ∙ ap (λ (k : Names). learnt d s (bytes_of t x) k) same.1),
+  (refl, ap (λ (k : Counts). learnt (standing_of k) s (bytes_of t x) n) is ∙ ap (λ (k : Names). learnt (standing_of d) s (bytes_of t x) k) same.1),
 )
 spells_one t n c from (r ∷ ss) to m x s d e (y, k, next', inside', stands', one', rest) (k', first, more) next inside stands one =
-    (y, k, next', inside', stands', one', spells_one t (learnt c r (bytes_of t y) n) k y.end ss to m x s d e rest (subst (λ (z : Counts). Counted z ss d) (ok_same (counted c r) first one') more) next inside stands one)
+    (y, k, next', inside', stands', one', spells_one t (learnt (standing_of c) r (bytes_of t y) n) k y.end ss to m x s d e rest (subst (λ (z : Counts). Counted z ss d) (ok_same (counted c r) first one') more) next inside stands one)
 
 -- a token that an item takes is not the end of the text
 end_symbol : (p : Phase) (n : Names) (t : List ℕ) (x : Token) (kind : Kind) (s : Symbol) → StandsFor p n (bytes_of t x) kind s → kind ≡ End → s ≡ FixedToken EndOfText
@@ -137,7 +136,7 @@ pub taken_on : (t : List ℕ) (known names : Names) (start counts next : Counts)
     Reached t known names start counts first initial items code from →
     (x : Token) (s : Symbol) (i : Item) (rest : List Item) (code' : List Op) (items'' : List Item) (code'' : List Op) →
     IsNext t from x → StandsFor counts.phase names (bytes_of t x) x.kind s → Settles s items code (Some i) rest code' → Follows (produced i s) rest code' items'' code'' →
-    counted counts s ≡ Ok next → Reached t known (learnt counts s (bytes_of t x) names) start next first initial items'' code'' x.end
+    counted counts s ≡ Ok next → Reached t known (learnt (standing_of counts) s (bytes_of t x) names) start next first initial items'' code'' x.end
 taken_on t known names start counts next first initial items code from r x s i rest code' items'' code'' is_next stands settles follows one =
     let m : Met (behind_caret r.before) (Some i) rest = settled_met (behind_caret r.before) s items code (Some i) rest code' settles r.exponent in
     let o : Orderly (i ∷ rest) = settled_orderly s items code (Some i) rest code' settles r.orderly in

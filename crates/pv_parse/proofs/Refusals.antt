@@ -8,7 +8,7 @@ use Rattle.pv_grammar.specs.declared.counts.Counts.{Counts}
 use Rattle.pv_grammar.specs.declared.counts.Phase.TheVariants.{Sides}
 use Rattle.pv_grammar.specs.declared.machine.Item.{Item}
 use Rattle.pv_grammar.specs.Grammar.{Follows, Produced, Takes, expression_items}
-use Rattle.pv_grammar.specs.Limits.{nothing}
+use Rattle.pv_grammar.specs.Counting.{nothing}
 use Rattle.pv_grammar.proofs.TreeRuns.{expression_means}
 use Rattle.pv_parse.specs.declared.refused.ParseRefused.{ParseRefused}
 use Rattle.pv_parse.specs.declared.refused.ParseRefused.TheVariants.{Memory, Fault}

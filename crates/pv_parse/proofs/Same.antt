@@ -20,7 +20,6 @@ use Rattle.pv_grammar.specs.declared.symbol.Fixed.{Fixed}
 use Rattle.pv_grammar.specs.declared.symbol.Fixed.TheVariants.{End}
 use Rattle.pv_grammar.specs.declared.symbol.Symbol.{Symbol}
 use Rattle.pv_grammar.specs.declared.symbol.Symbol.TheVariants.{Fixed as FixedToken, Number, Declared}
-use Rattle.pv_grammar.specs.Limits.{is_minus}
 use Rattle.pv_tokens.specs.declared.keyword.Word.{Word}
 use Rattle.pv_tokens.specs.declared.token.Kind.{Kind}
 use Rattle.pv_tokens.specs.declared.token.Kind.TheVariants.{Name}
@@ -30,6 +29,8 @@ use Rattle.pv_parse.specs.declared.names.Meaning.TheVariants.{Constant as Consta
 use Rattle.pv_parse.specs.Meanings.{AreSame, Names, behind_sign, in_body, in_bounds, is_function, is_taken, learnt, meaning, no_names, told, use_of, variables_from, with_function, with_known, with_name, with_parameter, with_pending, with_value, without_parameters}
 use Rattle.pv_parse.specs.Sentences.{StandsFor, name_symbol}
 use Rattle.pv_parse.specs.Views.{found}
+use Rattle.pv_grammar.specs.Standings.{is_minus}
+use Rattle.pv_grammar.specs.Counting.{standing_of}
 
 pub same_refl : (n : Names) → AreSame n n
 same_refl n = record { known = λ name. refl; parameter = λ name. refl; pending = refl; negative = refl }
@@ -124,7 +125,7 @@ pending_same name n m h = record { known = h.known; parameter = h.parameter; pen
 pub sign_same : (b : Bool) (n m : Names) → AreSame n m → AreSame (behind_sign b n) (behind_sign b m)
 sign_same b n m h = record { known = h.known; parameter = h.parameter; pending = h.pending; negative = refl }
 
-name_same : (p : Phase) (c : Counts) (name : List ℕ) (n m : Names) → AreSame n m → AreSame (with_name p c name n) (with_name p c name m)
+name_same : (p : Phase) (c : Counts) (name : List ℕ) (n m : Names) → AreSame n m → AreSame (with_name p (standing_of c) name n) (with_name p (standing_of c) name m)
 name_same Constants c name n m h = pending_same name n m h
 name_same FunctionName c name n m h = pending_same name n m h
 name_same Parameters c name n m h = parameter_same name _ n m h
@@ -138,25 +139,25 @@ value_same Constants v n m h =
     (known_same n.pending (ConstantMeaning (signed n.negative v)) n m h))
 value_same p v n m h = h
 
-function_same : (p : Phase) (c : Counts) (n m : Names) → AreSame n m → AreSame (with_function p c n) (with_function p c m)
+function_same : (p : Phase) (c : Counts) (n m : Names) → AreSame n m → AreSame (with_function p (standing_of c) n) (with_function p (standing_of c) m)
 function_same Body c n m h =
     cleared_same _ _
     (subst (λ (z : List ℕ). AreSame (with_known n.pending (FunctionMeaning (c.functions - 1) c.parameters) n) (with_known z (FunctionMeaning (c.functions - 1) c.parameters) m)) h.pending
     (known_same n.pending _ n m h))
 function_same p c n m h = h
 
-fixed_same : (c : Counts) (f : Fixed) (name : List ℕ) (n m : Names) → AreSame n m → AreSame (told c (FixedToken f) name n) (told c (FixedToken f) name m)
+fixed_same : (c : Counts) (f : Fixed) (name : List ℕ) (n m : Names) → AreSame n m → AreSame (told (standing_of c) (FixedToken f) name n) (told (standing_of c) (FixedToken f) name m)
 fixed_same c End name n m h = function_same c.phase c n m h
 fixed_same c f name n m h = h
 
-told_same : (c : Counts) (s : Symbol) (name : List ℕ) (n m : Names) → AreSame n m → AreSame (told c s name n) (told c s name m)
+told_same : (c : Counts) (s : Symbol) (name : List ℕ) (n m : Names) → AreSame n m → AreSame (told (standing_of c) s name n) (told (standing_of c) s name m)
 told_same c (Declared taken) name n m h = name_same c.phase c name n m h
 told_same c (Number value exponent) name n m h = value_same c.phase value n m h
 told_same c (FixedToken f) name n m h = fixed_same c f name n m h
 told_same c s name n m h = h
 
-pub learnt_same : (c : Counts) (s : Symbol) (name : List ℕ) (n m : Names) → AreSame n m → AreSame (learnt c s name n) (learnt c s name m)
-learnt_same c s name n m h = sign_same (is_minus s) (told c s name n) (told c s name m) (told_same c s name n m h)
+pub learnt_same : (c : Counts) (s : Symbol) (name : List ℕ) (n m : Names) → AreSame n m → AreSame (learnt (standing_of c) s name n) (learnt (standing_of c) s name m)
+learnt_same c s name n m h = sign_same (is_minus s) (told (standing_of c) s name n) (told (standing_of c) s name m) (told_same c s name n m h)
 
 -- ---- The variables of a system, the last one first
 

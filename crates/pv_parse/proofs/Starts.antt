@@ -26,9 +26,11 @@ use Rattle.pv_parse.specs.declared.scope.Begun.TheVariants.{Outside, Next, At}
 use Rattle.pv_parse.specs.declared.names.Meaning.{Meaning}
 use Rattle.pv_parse.specs.declared.names.Meaning.TheVariants.{Constant as ConstantMeaning, Variable as VariableMeaning, Function as FunctionMeaning}
 use Rattle.pv_parse.specs.ByItems.{IsSentence}
-use Rattle.pv_parse.specs.Declarations.{Mark, Marks, MarksTo, begun_at, begun_behind, start_of, starts_from, starts_in}
+use Rattle.pv_parse.specs.Declarations.{Mark, begun_at, begun_behind, start_of, starts_from, starts_in}
 use Rattle.pv_parse.specs.Meanings.{Names, in_body, in_bounds, learnt, meaning, use_of}
-use Rattle.pv_parse.specs.Sentences.{IsNumberSymbol, SpellsTo, StandsFor, bytes_of, name_symbol, word_symbol}
+use Rattle.pv_parse.specs.Sentences.{IsNumberSymbol, StandsFor, bytes_of, name_symbol, word_symbol}
+use Rattle.pv_parse.specs.ByCounts.{MarksWithin, MarksToWithin, SpellsToWithin}
+use Rattle.pv_grammar.specs.Counting.{standing_of}
 
 -- ---- Counts
 
@@ -490,7 +492,7 @@ starts_outside : (ms : List Mark) → length (starts_from Outside ms) ≡ relati
 starts_outside [] = refl
 starts_outside (m ∷ ms) = outside_at m.symbol ms (starts_outside ms)
 
-marked_symbols : (t : List ℕ) (c : Counts) (from : ℕ) (ss : List Symbol) (marks : List Mark) (to : ℕ) (e : Counts) → MarksTo t c from ss marks to e → map symbol_in marks ≡ ss
+marked_symbols : (t : List ℕ) (c : Counts) (from : ℕ) (ss : List Symbol) (marks : List Mark) (to : ℕ) (e : Counts) → MarksToWithin t c from ss marks to e → map symbol_in marks ≡ ss
 marked_symbols t c from [] marks to e (none, same, is) = ap (map symbol_in) none
 marked_symbols t c from (s ∷ ss) marks to e (x, d, rest, next, one, are, more) = ap (map symbol_in) are ∙ ap (λ z. s ∷ z) (marked_symbols t d x.end ss rest to e more)
 
@@ -539,10 +541,10 @@ call_stands p n bytes NameKind s e = subst IsCall (sym e) (call_name p n bytes (
 call_stands p n bytes NumberKind s e = call_number bytes s e
 call_stands p n bytes kind s e = subst IsCall (sym e) tt
 
-pub calls : (t : List ℕ) (n : Names) (c : Counts) (from : ℕ) (ss : List Symbol) (to : ℕ) (m : Names) → SpellsTo t n c from ss to m → AreCalls ss
+pub calls : (t : List ℕ) (n : Names) (c : Counts) (from : ℕ) (ss : List Symbol) (to : ℕ) (m : Names) → SpellsToWithin t n c from ss to m → AreCalls ss
 calls t n c from [] to m h = tt
 calls t n c from (s ∷ ss) to m (x, d, next, inside, stands, one, rest) =
-    (call_stands c.phase n (bytes_of t x) x.kind s stands, calls t (learnt c s (bytes_of t x) n) d x.end ss to m rest)
+    (call_stands c.phase n (bytes_of t x) x.kind s stands, calls t (learnt (standing_of c) s (bytes_of t x) n) d x.end ss to m rest)
 
 -- ---- As many constraints as places
 
@@ -552,7 +554,7 @@ constraints_count ms part (Define ∷ code) = constraints_count (ms ++ body_mean
 constraints_count ms part (Relate r ∷ code) = let h = constraints_count ms [] code in omega (arith, h)
 constraints_count ms part (o ∷ code) = constraints_count ms (part ++ o ∷ []) code
 
-pub starts_count : (t : List ℕ) (known : Names) (start : Counts) (code : List Op) (s : IsSentence t known start system_items [] code) (marks : List Mark) → Marks t start s.symbols marks →
+pub starts_count : (t : List ℕ) (known : Names) (start : Counts) (code : List Op) (s : IsSentence t known start system_items [] code) (marks : List Mark) → MarksWithin t start s.symbols marks →
     length (starts_in marks) ≡ length (constraints_of code)
 starts_count t known start code s marks h =
     let symbols = marked_symbols t start 0 s.symbols marks h.0 h.1 h.2 in

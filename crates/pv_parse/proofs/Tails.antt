@@ -6,7 +6,7 @@ use Rattle.pv_grammar.specs.declared.counts.Counts.{Counts}
 use Rattle.pv_grammar.specs.declared.machine.Item.{Item}
 use Rattle.pv_grammar.specs.declared.symbol.Symbol.{Symbol}
 use Rattle.pv_grammar.specs.Grammar.{Derives}
-use Rattle.pv_grammar.specs.Limits.{Counted, counted}
+use Rattle.pv_grammar.specs.Counting.{Counted, counted, standing_of}
 use Rattle.pv_tokens.specs.declared.token.Kind.TheVariants.{End}
 use Rattle.pv_tokens.specs.declared.token.Token.{Token}
 use Rattle.pv_tokens.specs.Tokens.{IsNext}
@@ -14,9 +14,10 @@ use Rattle.pv_tokens.specs.Tokens.Separates.{blank}
 use Rattle.pv_tokens.proofs.Slices.{byte_in, length_slice}
 use Rattle.pv_parse.specs.ByItems.{ClosesByItems}
 use Rattle.pv_parse.specs.Meanings.{Names, learnt}
-use Rattle.pv_parse.specs.Sentences.{SpellsTo, StandsFor, bytes_of}
+use Rattle.pv_parse.specs.Sentences.{StandsFor, bytes_of}
 use Rattle.pv_parse.proofs.Continued.{IsGap, Shares, next_end, spells_all, spells_shared, spells_within, stops_at}
 use Rattle.pv_parse.proofs.Pieces.{IsPiece, Mean, Piece, Placed}
+use Rattle.pv_parse.specs.ByCounts.{SpellsToWithin}
 
 abbrev text_of : List Piece → List ℕ
 text_of [] = []
@@ -79,33 +80,33 @@ bytes_there u x v =
 
 -- the names that are known at the end, and the tokens up to there
 abbrev Tail : List ℕ → Names → Counts → List Piece → List Symbol → Type 0
-Tail u n c xs ss = (m : Names) × SpellsTo (u ++ text_of xs) n c (length u) ss (length (u ++ text_of xs)) m
+Tail u n c xs ss = (m : Names) × SpellsToWithin (u ++ text_of xs) n c (length u) ss (length (u ++ text_of xs)) m
 
 one_more : (u : List ℕ) (n : Names) (c d : Counts) (x : Piece) (xs : List Piece) (s : Symbol) (ss : List Symbol) → IsPiece x → StandsFor c.phase n x.bytes x.kind s → counted c s ≡ Ok d →
-    Tail (u ++ 32 ∷ x.bytes) (learnt c s x.bytes n) d xs ss → Tail u n c (x ∷ xs) (s ∷ ss)
+    Tail (u ++ 32 ∷ x.bytes) (learnt (standing_of c) s x.bytes n) d xs ss → Tail u n c (x ∷ xs) (s ∷ ss)
 one_more u n c d x xs s ss is stands one (m, rest) =
     let ends : length (u ++ 32 ∷ x.bytes) ≡ length u + 1 + length x.bytes = longer u x.bytes in
     let bytes : x.bytes ≡ bytes_of ((u ++ 32 ∷ x.bytes) ++ text_of xs) (token_of u x) = bytes_there u x (text_of xs) in
     let gap : IsGap (get_or ((u ++ 32 ∷ x.bytes) ++ text_of xs) (length u + 1 + length x.bytes) 0) = subst (λ (k : ℕ). IsGap (get_or ((u ++ 32 ∷ x.bytes) ++ text_of xs) k 0)) ends (gap_behind (u ++ 32 ∷ x.bytes) xs) in
-    let rest' : SpellsTo ((u ++ 32 ∷ x.bytes) ++ text_of xs) (learnt c s x.bytes n) d (length u + 1 + length x.bytes) ss (length ((u ++ 32 ∷ x.bytes) ++ text_of xs)) m =
-    subst (λ (k : ℕ). SpellsTo ((u ++ 32 ∷ x.bytes) ++ text_of xs) (learnt c s x.bytes n) d k ss (length ((u ++ 32 ∷ x.bytes) ++ text_of xs)) m) ends rest in
-    let all : SpellsTo ((u ++ 32 ∷ x.bytes) ++ text_of xs) n c (length u) (s ∷ ss) (length ((u ++ 32 ∷ x.bytes) ++ text_of xs)) m = (
+    let rest' : SpellsToWithin ((u ++ 32 ∷ x.bytes) ++ text_of xs) (learnt (standing_of c) s x.bytes n) d (length u + 1 + length x.bytes) ss (length ((u ++ 32 ∷ x.bytes) ++ text_of xs)) m =
+    subst (λ (k : ℕ). SpellsToWithin ((u ++ 32 ∷ x.bytes) ++ text_of xs) (learnt (standing_of c) s x.bytes n) d k ss (length ((u ++ 32 ∷ x.bytes) ++ text_of xs)) m) ends rest in
+    let all : SpellsToWithin ((u ++ 32 ∷ x.bytes) ++ text_of xs) n c (length u) (s ∷ ss) (length ((u ++ 32 ∷ x.bytes) ++ text_of xs)) m = (
       token_of u x,
       d,
       next_piece u x (text_of xs) is gap,
       is.inner,
       subst (λ (z : List ℕ). StandsFor c.phase n z x.kind s) bytes stands,
       one,
-      subst (λ (z : List ℕ). SpellsTo ((u ++ 32 ∷ x.bytes) ++ text_of xs) (learnt c s z n) d (length u + 1 + length x.bytes) ss (length ((u ++ 32 ∷ x.bytes) ++ text_of xs)) m) bytes rest',
+      subst (λ (z : List ℕ). SpellsToWithin ((u ++ 32 ∷ x.bytes) ++ text_of xs) (learnt (standing_of c) s z n) d (length u + 1 + length x.bytes) ss (length ((u ++ 32 ∷ x.bytes) ++ text_of xs)) m) bytes rest',
     ) in
-    (m, subst (λ (z : List ℕ). SpellsTo z n c (length u) (s ∷ ss) (length z) m) (append_assoc u (32 ∷ x.bytes) (text_of xs)) all)
+    (m, subst (λ (z : List ℕ). SpellsToWithin z n c (length u) (s ∷ ss) (length z) m) (append_assoc u (32 ∷ x.bytes) (text_of xs)) all)
 
 spells_tail : (xs : List Piece) (ss : List Symbol) (u : List ℕ) (n : Names) (c : Counts) → Mean n c xs ss → Tail u n c xs ss
 spells_tail [] [] u n c h = (n, (ap length (sym (append-nil u)), refl))
 spells_tail [] (s ∷ ss) u n c h = absurd h
 spells_tail (x ∷ xs) [] u n c h = absurd h
 spells_tail (x ∷ xs) (s ∷ ss) u n c (d, is, stands, one, rest) =
-    one_more u n c d x xs s ss is stands one (spells_tail xs ss (u ++ 32 ∷ x.bytes) (learnt c s x.bytes n) d rest)
+    one_more u n c d x xs s ss is stands one (spells_tail xs ss (u ++ 32 ∷ x.bytes) (learnt (standing_of c) s x.bytes n) d rest)
 
 -- a text up to a place, and other bytes behind
 shares : (t v : List ℕ) (f : ℕ) → f ≤ length t → Shares t (take f t ++ v) f
@@ -120,17 +121,17 @@ shares t v f l =
 
 -- the tokens of a text up to a place, and some more, are a sentence of their own
 pub continued : (t : List ℕ) (known names : Names) (start counts final : Counts) (items : List Item) (before ss : List Symbol) (steps : List Op) (from : ℕ) (xs : List Piece) →
-    SpellsTo t known start 0 before from names → Counted start before counts → Mean names counts xs ss → Derives items (before ++ ss) steps → Counted start (before ++ ss) final →
+    SpellsToWithin t known start 0 before from names → Counted start before counts → Mean names counts xs ss → Derives items (before ++ ss) steps → Counted start (before ++ ss) final →
     ClosesByItems t known start items from before
 continued t known names start counts final items before ss steps from xs spelled within means derived limits =
     let inside : from ≤ length t = spells_within t known start 0 before from names (omega arith) spelled in
     let cut : length (take from t) ≡ from = length-take-le from t inside in
     let gap : IsGap (get_or (take from t ++ text_of xs) from 0) = subst (λ (k : ℕ). IsGap (get_or (take from t ++ text_of xs) k 0)) cut (gap_behind (take from t) xs) in
-    let first : SpellsTo (take from t ++ text_of xs) known start 0 before from names =
+    let first : SpellsToWithin (take from t ++ text_of xs) known start 0 before from names =
     spells_shared t (take from t ++ text_of xs) from known start 0 before from names (shares t (text_of xs) from inside) gap (omega arith) spelled in
     let (m, last) = spells_tail xs ss (take from t) names counts means in
-    let last' : SpellsTo (take from t ++ text_of xs) names counts from ss (length (take from t ++ text_of xs)) m =
-    subst (λ (k : ℕ). SpellsTo (take from t ++ text_of xs) names counts k ss (length (take from t ++ text_of xs)) m) cut last in
+    let last' : SpellsToWithin (take from t ++ text_of xs) names counts from ss (length (take from t ++ text_of xs)) m =
+    subst (λ (k : ℕ). SpellsToWithin (take from t ++ text_of xs) names counts k ss (length (take from t ++ text_of xs)) m) cut last in
     record {
       tail = text_of xs;
       code = steps;

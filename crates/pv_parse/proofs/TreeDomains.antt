@@ -10,12 +10,14 @@ use Rattle.pv_grammar.specs.declared.symbol.Fixed.{Fixed}
 use Rattle.pv_grammar.specs.declared.symbol.Fixed.TheVariants.{Plus, Minus, Open, Close, OpenBracket, CloseBracket, Comma, Semicolon as SemicolonToken, Constants as ConstantsWord, Variables as VariablesWord, Constraints as ConstraintsWord, Function as FunctionWord, Return, End, In, Oo}
 use Rattle.pv_grammar.specs.declared.symbol.Symbol.{Symbol}
 use Rattle.pv_grammar.specs.declared.symbol.Symbol.TheVariants.{Fixed as FixedToken, Relation as RelationToken, Number, Declared, Constant as ConstantToken, Function as Call, Unknown}
-use Rattle.pv_grammar.specs.Limits.{begins, begins_expression, begun, behind_comma, behind_end, behind_semicolon, counted, declared, in_expression, in_phase, is_minus, levels, moved, nested, nothing, operated, operates, turned}
+use Rattle.pv_grammar.specs.Counting.{begins, begun, behind_comma, behind_end, behind_semicolon, counted, declared, in_expression, in_phase, levels, moved, nested, nothing, operated, operates, turned}
 use Rattle.pv_grammar.specs.Productions.{Arguments, Bound as BoundTree, ConstantBlock, Constant, Constants, Constraint, Constraints, Domain as DomainTree, Expression, Factor, Factors, Functions, Limit, Parameters, Power, Primary, Semicolon, Separator, Sign, System, Term, Terms, Variables, absolute_of, argument, between, bound_of, call, comma, constant_and, constant_limit, constant_named, constant_of, constants, constants_separator, constraint_and, constraints_semicolon, function_and, function_of, greatest_of, infinite_limit, least_of, minus, minus_sign, negative, no_argument, no_constant, no_constants, no_constraint, no_domain, no_factor, no_function, no_parameter, no_power, no_semicolon, no_sign, no_term, no_variable, number, number_limit, one_semicolon, over, parameter_and, parameter_at, parentheses, plus, plus_sign, positive, product_of, raised, relates, semicolon, square_of, sum_of, system_of, times, to_power, variable_and, variable_at, variable_of, variables_separator, arguments_symbols, constant_block_symbols, constant_symbols, constants_symbols, constraint_symbols, constraints_symbols, bound_symbols, domain_symbols, expression_symbols, factor_symbols, factors_symbols, functions_symbols, limit_symbol, parameters_symbols, power_symbols, primary_symbols, semicolon_symbols, separator_symbol, sign_symbols, system_symbols, term_symbols, terms_symbols, variables_symbols}
 use Rattle.pv_grammar.specs.Trees.{domain_of as tree_domain, end_of, limit_of, system_domains, variables_domains}
-use Rattle.pv_parse.specs.Declarations.{Mark, Marks, MarksTo, brackets_in, declares, mark_of, names_in, own}
+use Rattle.pv_parse.specs.Declarations.{Mark, brackets_in, declares, mark_of, names_in, own}
 use Rattle.pv_parse.specs.Scopes.{Variable as Declaration, bound_at, bounds_of, bracket_in, domain_in, domain_of, name_of, variable, variables_in}
 use Rattle.pv_parse.proofs.KnownNames.{At, Gives, given, gives_any, gives_if, gives_next, where_phase}
+use Rattle.pv_grammar.specs.Standings.{begins_expression, is_minus}
+use Rattle.pv_parse.specs.ByCounts.{MarksWithin, MarksToWithin}
 
 -- ---- What marks declare
 
@@ -69,7 +71,7 @@ levels_away s c h = h
 declared_away : (p : Phase) (c : Counts) (taken : Bool) → IsAway p → Away c → Gives Away (declared p c taken)
 declared_away VariablesPhase c taken a h = absurd a
 declared_away FunctionName c taken a h = gives_if Away taken _ _ tt tt
-declared_away ParametersPhase c taken a h = gives_if Away taken _ _ tt (gives_if Away (nat_lt c.parameters 12) _ _ h tt)
+declared_away ParametersPhase c taken a h = gives_if Away (nat_lt c.parameters 12) _ _ (gives_if Away taken _ _ tt h) tt
 declared_away p c taken a h = gives_if Away taken _ _ tt h
 
 comma_away : (p : Phase) (c : Counts) → Away c → Gives Away (behind_comma p c)
@@ -128,12 +130,12 @@ record Behind (t : List ℕ) (k : List Symbol) (to : ℕ) (e : Counts) (marks : 
   counts : Counts
   from : ℕ
   rest : List Mark
-  marked : MarksTo t counts from k rest to e
+  marked : MarksToWithin t counts from k rest to e
   away : Away counts
   same : domains marks ≡ domains rest
   none : ((b : Bool) → bounds b rest ≡ []) → (b : Bool) → bounds b marks ≡ []
 
-pass : (k ss : List Symbol) → Passes k ss → (t : List ℕ) (c : Counts) (from : ℕ) (marks : List Mark) (to : ℕ) (e : Counts) → MarksTo t c from ss marks to e → Away c → Behind t k to e marks
+pass : (k ss : List Symbol) → Passes k ss → (t : List ℕ) (c : Counts) (from : ℕ) (marks : List Mark) (to : ℕ) (e : Counts) → MarksToWithin t c from ss marks to e → Away c → Behind t k to e marks
 pass k ss here t c from marks to e m a = record { counts = c; from = from; rest = marks; marked = m; away = a; same = refl; none = λ h. h }
 pass k ss (passing s ss' q p) t c from marks to e (x, d, more, next, one, are, m) a =
     let b = pass k ss' p t d x.end more to e m (stays_away c d s one q a) in
@@ -246,12 +248,12 @@ record Token (t : List ℕ) (p q : Phase) (s : Symbol) (ss : List Symbol) (marks
   counts : Counts
   from : ℕ
   rest : List Mark
-  marked : MarksTo t counts from ss rest to e
+  marked : MarksToWithin t counts from ss rest to e
   phase : counts.phase ≡ q
   same : domains marks ≡ domains rest
   found : (b : Bool) → bounds b marks ≡ option_to_list (bound_at p s b) ++ bounds (is_minus s) rest
 
-take : (t : List ℕ) (p q : Phase) (s : Symbol) (ss : List Symbol) (c : Counts) (from : ℕ) (marks : List Mark) (to : ℕ) (e : Counts) → MarksTo t c from (s ∷ ss) marks to e → c.phase ≡ p →
+take : (t : List ℕ) (p q : Phase) (s : Symbol) (ss : List Symbol) (c : Counts) (from : ℕ) (marks : List Mark) (to : ℕ) (e : Counts) → MarksToWithin t c from (s ∷ ss) marks to e → c.phase ≡ p →
     At (λ x. x.phase ≡ q) (in_phase p c) s → declares p s ≡ false → Token t p q s ss marks to e
 take t p q s ss c from marks to e (x, d, more, next, one, are, m) is leads no_name =
     let mark = mark_of t c.phase s x in
@@ -273,12 +275,12 @@ record Named (t : List ℕ) (ss : List Symbol) (marks : List Mark) (to : ℕ) (e
   counts : Counts
   from : ℕ
   rest : List Mark
-  marked : MarksTo t counts from ss rest to e
+  marked : MarksToWithin t counts from ss rest to e
   phase : counts.phase ≡ VariablesPhase
   one : domains marks ≡ domain_of (bounds false rest) ∷ domains rest
   none : (b : Bool) → bounds b marks ≡ []
 
-named : (t : List ℕ) (ss : List Symbol) (c : Counts) (from : ℕ) (marks : List Mark) (to : ℕ) (e : Counts) → MarksTo t c from (Declared false ∷ ss) marks to e → c.phase ≡ VariablesPhase → Named t ss marks to e
+named : (t : List ℕ) (ss : List Symbol) (c : Counts) (from : ℕ) (marks : List Mark) (to : ℕ) (e : Counts) → MarksToWithin t c from (Declared false ∷ ss) marks to e → c.phase ≡ VariablesPhase → Named t ss marks to e
 named t ss c from marks to e (x, d, more, next, one, are, m) is =
     let mark = mark_of t c.phase (Declared false) x in
     let a_name : declares c.phase (Declared false) ≡ true = ap (λ (z : Phase). declares z (Declared false)) is in
@@ -299,13 +301,13 @@ record Ends (t : List ℕ) (q : Phase) (k : List Symbol) (marks : List Mark) (to
   counts : Counts
   from : ℕ
   rest : List Mark
-  marked : MarksTo t counts from k rest to e
+  marked : MarksToWithin t counts from k rest to e
   phase : counts.phase ≡ q
   same : domains marks ≡ domains rest
   found : bounds false marks ≡ bs ++ bounds false rest
 
 -- a bound behind its sign
-limit_ends : (x : Limit) (t : List ℕ) (k : List Symbol) (c : Counts) (from : ℕ) (marks : List Mark) (to : ℕ) (e : Counts) → MarksTo t c from (limit_symbol x ∷ k) marks to e → c.phase ≡ Bounds → Token t Bounds Bounds (limit_symbol x) k marks to e
+limit_ends : (x : Limit) (t : List ℕ) (k : List Symbol) (c : Counts) (from : ℕ) (marks : List Mark) (to : ℕ) (e : Counts) → MarksToWithin t c from (limit_symbol x ∷ k) marks to e → c.phase ≡ Bounds → Token t Bounds Bounds (limit_symbol x) k marks to e
 limit_ends (number_limit value exponent) t k c from marks to e m is = take t Bounds Bounds (Number value exponent) k c from marks to e m is refl refl
 limit_ends infinite_limit t k c from marks to e m is = take t Bounds Bounds (FixedToken Oo) k c from marks to e m is refl refl
 limit_ends (constant_limit value) t k c from marks to e m is = take t Bounds Bounds (ConstantToken value) k c from marks to e m is refl refl
@@ -316,7 +318,7 @@ limit_found infinite_limit true rest = refl
 limit_found infinite_limit false rest = refl
 limit_found (constant_limit value) b rest = refl
 
-bound_ends : (x : BoundTree) (t : List ℕ) (k : List Symbol) (c : Counts) (from : ℕ) (marks : List Mark) (to : ℕ) (e : Counts) → MarksTo t c from (bound_symbols x k) marks to e → c.phase ≡ Bounds →
+bound_ends : (x : BoundTree) (t : List ℕ) (k : List Symbol) (c : Counts) (from : ℕ) (marks : List Mark) (to : ℕ) (e : Counts) → MarksToWithin t c from (bound_symbols x k) marks to e → c.phase ≡ Bounds →
     Ends t Bounds k marks to e (end_of x ∷ [])
 bound_ends (bound_of no_sign x) t k c from marks to e m is =
     let limit = limit_ends x t k c from marks to e m is in
@@ -377,7 +379,7 @@ after_bound {b} x y = record {
 
 -- from a place in a domain on
 abbrev Finish : List ℕ → Phase → List Symbol → List Symbol → List Bound → Type 0
-Finish t p ss k bs = (c : Counts) (from : ℕ) (marks : List Mark) (to : ℕ) (e : Counts) → MarksTo t c from ss marks to e → c.phase ≡ p → Ends t VariablesPhase k marks to e bs
+Finish t p ss k bs = (c : Counts) (from : ℕ) (marks : List Mark) (to : ℕ) (e : Counts) → MarksToWithin t c from ss marks to e → c.phase ≡ p → Ends t VariablesPhase k marks to e bs
 
 token_finishes : (t : List ℕ) (p q : Phase) (s : Symbol) (ss k : List Symbol) (bs : List Bound) → ((c : Counts) → At (λ x. x.phase ≡ q) (in_phase p c) s) → declares p s ≡ false →
     ((rest : List Mark) → option_to_list (bound_at p s false) ++ bounds (is_minus s) rest ≡ bounds false rest) → Finish t q ss k bs → Finish t p (s ∷ ss) k bs
@@ -417,7 +419,7 @@ record Declares (marks : List Mark) (ds : List Domain) : Type 0 where
   none : (b : Bool) → bounds b marks ≡ []
 
 abbrev Follow : List ℕ → List Symbol → ℕ → Counts → List Domain → Type 0
-Follow t k to e ds = (c : Counts) (from : ℕ) (marks : List Mark) → MarksTo t c from k marks to e → c.phase ≡ VariablesPhase → Declares marks ds
+Follow t k to e ds = (c : Counts) (from : ℕ) (marks : List Mark) → MarksToWithin t c from k marks to e → c.phase ≡ VariablesPhase → Declares marks ds
 
 variable_declares : (x : DomainTree) (t : List ℕ) (k : List Symbol) (to : ℕ) (e : Counts) (ds : List Domain) → Follow t k to e ds → Follow t (Declared false ∷ domain_symbols x k) to e (tree_domain x ∷ ds)
 variable_declares x t k to e ds follow c from marks m is =
@@ -473,13 +475,13 @@ variables_begin c d e =
     (gives_any P (operated c (FixedToken VariablesWord)) _ (λ c2. gives_any P (nested c2 (FixedToken VariablesWord)) _ (λ c3. refl)))
 
 -- the word before the variables
-word_domains : (t : List ℕ) (ss : List Symbol) (c : Counts) (from : ℕ) (marks : List Mark) (to : ℕ) (e : Counts) (ds : List Domain) → MarksTo t c from (FixedToken VariablesWord ∷ ss) marks to e → Away c →
+word_domains : (t : List ℕ) (ss : List Symbol) (c : Counts) (from : ℕ) (marks : List Mark) (to : ℕ) (e : Counts) (ds : List Domain) → MarksToWithin t c from (FixedToken VariablesWord ∷ ss) marks to e → Away c →
     Follow t ss to e ds → domains marks ≡ ds
 word_domains t ss c from marks to e ds (x, d, more, next, one, are, m) away follow =
     ap domains are ∙ domains_step (mark_of t c.phase (FixedToken VariablesWord) x) more (away_declares c.phase (FixedToken VariablesWord) away)
     ∙ (follow d x.end more m (variables_begin c d one)).domains_are
 
-pub domains_of_tree : (t : List ℕ) (x : System) (marks : List Mark) → Marks t (nothing Between) (system_symbols x []) marks → domains marks ≡ system_domains x
+pub domains_of_tree : (t : List ℕ) (x : System) (marks : List Mark) → MarksWithin t (nothing Between) (system_symbols x []) marks → domains marks ≡ system_domains x
 domains_of_tree t (system_of block before (variable_of d) vs behind c cs) marks (to, e, m) =
     let sides : List Symbol = constraint_symbols c (constraints_symbols cs (FixedToken End ∷ [])) in
     let rest : List Symbol = functions_symbols behind (FixedToken ConstraintsWord ∷ sides) in

@@ -3,7 +3,7 @@ use Rattle.std.proofs.Common.{◌≡◌, ℕ, List, [], ◌∙◌, subst}
 use Rattle.pv_code.specs.declared.code.Op.{Op}
 use Rattle.pv_grammar.specs.declared.counts.Phase.TheVariants.{Between, Sides as SidesPhase}
 use Rattle.pv_grammar.specs.Grammar.{expression_items, system_items}
-use Rattle.pv_grammar.specs.Limits.{nothing}
+use Rattle.pv_grammar.specs.Counting.{nothing}
 use Rattle.pv_grammar.specs.Productions.{Expression, System, expression_symbols, system_symbols}
 use Rattle.pv_grammar.specs.TreeCodes.{expression_code, system_code}
 use Rattle.pv_grammar.proofs.OneTree.{one_expression_tree, one_system_tree}
@@ -11,41 +11,57 @@ use Rattle.pv_grammar.proofs.TreeBuilding.{expression_tree, system_tree}
 use Rattle.pv_grammar.proofs.TreeReadings.{system_reads}
 use Rattle.pv_parse.specs.ByItems.{IsSentence}
 use Rattle.pv_parse.specs.Meanings.{KnowsVariables, Names, no_names}
-use Rattle.pv_parse.specs.Sentences.{IsExpressionTextOf, IsTextOf, Spells}
+use Rattle.pv_parse.specs.Sentences.{IsExpressionTextOf, IsTextOf}
 use Rattle.pv_parse.proofs.KnownNames.{expression_start, sentence_known, system_start}
-use Rattle.pv_parse.proofs.OneSpelling.{counted_of, one_spelling}
+use Rattle.pv_grammar.specs.Standings.{first_in}
+use Rattle.pv_grammar.proofs.Within.{expression_within, system_within, within_system}
+use Rattle.pv_parse.proofs.ByLimits.{counted_of, spelled_of, within_of}
+use Rattle.pv_parse.proofs.OneSpelling.{one_spelling}
+use Rattle.pv_parse.specs.ByCounts.{SpellsWithin}
 
 -- ---- Systems
+
+-- the tokens of a text that are a tree's, within the limits
+pub text_of_system : (t : List ℕ) (x : System) → SpellsWithin t no_names (nothing Between) (system_symbols x []) → IsTextOf t x
+text_of_system t x spelled =
+    (spelled_of t no_names (nothing Between) (system_symbols x []) spelled, system_within x (counted_of t no_names (nothing Between) 0 (system_symbols x []) spelled.0 spelled.1 spelled.3))
+
+pub system_spelled : (t : List ℕ) (x : System) → IsTextOf t x → SpellsWithin t no_names (nothing Between) (system_symbols x [])
+system_spelled t x text = within_of t no_names (nothing Between) (system_symbols x []) text.0 (within_system x text.1)
 
 pub sentence_tree : (t : List ℕ) (code : List Op) → IsSentence t no_names (nothing Between) system_items [] code → (x : System) × IsTextOf t x × (code ≡ system_code x [])
 sentence_tree t code s =
     let found = system_tree s.symbols s.steps s.derived (sentence_known t no_names (nothing Between) system_items [] code system_start s) in
-    (found.0, subst (Spells t no_names (nothing Between)) found.1 s.spelled, s.code_is ∙ found.2)
+    (found.0, text_of_system t found.0 (subst (SpellsWithin t no_names (nothing Between)) found.1 s.spelled), s.code_is ∙ found.2)
 
 abbrev pub tree_sentence : (t : List ℕ) (code : List Op) (x : System) → IsTextOf t x → code ≡ system_code x [] → IsSentence t no_names (nothing Between) system_items [] code
-tree_sentence t code x spelled is =
-    let counts = counted_of t no_names (nothing Between) 0 (system_symbols x []) spelled.0 spelled.1 spelled.3 in
+tree_sentence t code x text is =
+    let counts = within_system x text.1 in
     record {
       symbols = system_symbols x [];
       steps = system_code x [];
       counts = counts.0;
-      spelled = spelled;
+      spelled = system_spelled t x text;
       within = counts.1;
       derived = (system_reads x).derived;
       code_is = is;
     }
 
 pub one_tree_of : (t : List ℕ) (x y : System) → IsTextOf t x → IsTextOf t y → x ≡ y
-one_tree_of t x y of_x of_y = one_system_tree x y (one_spelling t no_names (nothing Between) (system_symbols x []) (system_symbols y []) of_x of_y)
+one_tree_of t x y of_x of_y = one_system_tree x y (one_spelling t no_names (first_in Between) (system_symbols x []) (system_symbols y []) of_x.0 of_y.0)
 
 -- ---- Expressions
+
+text_of_expression : (t : List ℕ) (known : Names) (e : Expression) → SpellsWithin t known (nothing SidesPhase) (expression_symbols e []) → IsExpressionTextOf known t e
+text_of_expression t known e spelled =
+    (spelled_of t known (nothing SidesPhase) (expression_symbols e []) spelled, expression_within e (counted_of t known (nothing SidesPhase) 0 (expression_symbols e []) spelled.0 spelled.1 spelled.3))
 
 pub expression_sentence_tree : (variables : List (List ℕ)) (t : List ℕ) (known : Names) (code : List Op) → KnowsVariables variables known →
     IsSentence t known (nothing SidesPhase) expression_items [] code → (e : Expression) × IsExpressionTextOf known t e × (code ≡ expression_code e [])
 expression_sentence_tree variables t known code knows s =
     let found = expression_tree s.symbols s.steps s.derived (sentence_known t known (nothing SidesPhase) expression_items [] code (expression_start variables known knows) s) in
-    (found.0, subst (Spells t known (nothing SidesPhase)) found.1 s.spelled, s.code_is ∙ found.2)
+    (found.0, text_of_expression t known found.0 (subst (SpellsWithin t known (nothing SidesPhase)) found.1 s.spelled), s.code_is ∙ found.2)
 
 pub one_expression_tree_of : (t : List ℕ) (known : Names) (d e : Expression) → IsExpressionTextOf known t d → IsExpressionTextOf known t e → d ≡ e
 one_expression_tree_of t known d e of_d of_e =
-    one_expression_tree d e (one_spelling t known (nothing SidesPhase) (expression_symbols d []) (expression_symbols e []) of_d of_e)
+    one_expression_tree d e (one_spelling t known (first_in SidesPhase) (expression_symbols d []) (expression_symbols e []) of_d.0 of_e.0)

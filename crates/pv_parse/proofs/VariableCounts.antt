@@ -15,10 +15,12 @@ use Rattle.pv_grammar.specs.declared.symbol.Fixed.TheVariants.{Open, Close, Comm
 use Rattle.pv_grammar.specs.declared.symbol.Symbol.{Symbol}
 use Rattle.pv_grammar.specs.declared.symbol.Symbol.TheVariants.{Fixed as FixedToken, Declared, Function as Call, Unknown}
 use Rattle.pv_grammar.specs.Grammar.{Derives, done, left_out, begun, MayEnd, Produced, declared, exactly, produced, system_items}
-use Rattle.pv_grammar.specs.Limits.{Counting, begins, begins_expression, begun as begun_by, behind_comma, behind_end, behind_semicolon, counted, declared as declared_as, in_expression, in_phase, levels, moved, nested, next, operated, operates, turned, with_operations}
-use Rattle.pv_parse.specs.Declarations.{Mark, MarksTo, declares, mark_of}
+use Rattle.pv_grammar.specs.Counting.{Counting, begins, begun as begun_by, behind_comma, behind_end, behind_semicolon, counted, declared as declared_as, in_expression, in_phase, levels, moved, nested, next, operated, operates, turned, with_operations, with_parameters}
+use Rattle.pv_parse.specs.Declarations.{Mark, declares, mark_of}
 use Rattle.pv_parse.specs.Scopes.{Variable, variable, variables_in}
 use Rattle.pv_parse.proofs.NameBytes.{is_declared}
+use Rattle.pv_grammar.specs.Standings.{begins_expression}
+use Rattle.pv_parse.specs.ByCounts.{MarksToWithin}
 
 abbrev one_if : Bool → ℕ
 one_if true = 1
@@ -113,10 +115,10 @@ adds_none : (c d : Counts) → d.variables ≡ c.variables → Adds 0 c d
 unfolding Adds
 adds_none c d e = (omega (arith, e), λ few. omega (arith, e))
 
-declared_by : (b taken : Bool) (k k' : Cause) (c e d : Counts) → (b ≡ true → Adds 1 c e) → (if b then (if taken then Err k else Ok e) else Err k') ≡ Ok d → Adds 1 c d
-declared_by true true k k' c e d a h = absurd (ok_err k d h)
-declared_by true false k k' c e d a h = subst (λ (z : Counts). Adds 1 c z) (same_ok e d h) (a refl)
-declared_by false taken k k' c e d a h = absurd (ok_err k' d h)
+declared_by : (n : ℕ) (b taken : Bool) (k k' : Cause) (c e d : Counts) → (b ≡ true → Adds n c e) → (if b then (if taken then Err k else Ok e) else Err k') ≡ Ok d → Adds n c d
+declared_by n true true k k' c e d a h = absurd (ok_err k d h)
+declared_by n true false k k' c e d a h = subst (λ (z : Counts). Adds n c z) (same_ok e d h) (a refl)
+declared_by n false taken k k' c e d a h = absurd (ok_err k' d h)
 
 other_by : (taken : Bool) (k : Cause) (c d : Counts) (r : Counting) → ((z : Counts) → r ≡ Ok z → z.variables ≡ c.variables) → (if taken then Err k else r) ≡ Ok d → Adds 0 c d
 other_by true k c d r a h = absurd (ok_err k d h)
@@ -125,10 +127,10 @@ other_by false k c d r a h = adds_none c d (a d h)
 declared_adds : (p : Phase) (taken : Bool) (c d : Counts) → declared_as p c taken ≡ Ok d → Adds (one_if (declares p (Declared taken))) c d
 unfolding Adds
 declared_adds Variables taken c d h =
-    declared_by (nat_lt c.variables 12) taken _ _ c _ d
+    declared_by 1 (nat_lt c.variables 12) taken _ _ c _ d
     (λ (room : nat_lt c.variables 12 ≡ true). let below = (Decides-ltb c.variables 12).0 room in (refl, λ few. omega (arith, below))) h
 declared_adds FunctionName taken c d h = other_by taken _ c d _ (λ z e. ap (λ (y : Counts). y.variables) (sym (same_ok _ z e))) h
-declared_adds Parameters taken c d h = other_by taken _ c d _ (λ z e. ap (λ (y : Counts). y.variables) (sym (where_ok (nat_lt c.parameters 12) _ _ z e).0)) h
+declared_adds Parameters taken c d h = declared_by 0 (nat_lt c.parameters 12) taken _ _ c (with_parameters (c.parameters + 1) c) d (λ room. adds_none c (with_parameters (c.parameters + 1) c) refl) h
 declared_adds p taken c d h = other_by taken _ c d _ (λ z e. ap (λ (y : Counts). y.variables) (sym (same_ok c z e))) h
 
 moved_adds : (s : Symbol) (c d : Counts) → moved c s ≡ Ok d → Adds (one_if (declares c.phase s)) c d
@@ -176,7 +178,7 @@ count_step : (b : Bool) (v : Variable) (vs : List Variable) (n m k : ℕ) → m 
 count_step true v vs n m k e h = omega (arith, e, h)
 count_step false v vs n m k e h = omega (arith, e, h)
 
-pub variables_count : (t : List ℕ) (c : Counts) (from : ℕ) (ss : List Symbol) (marks : List Mark) (to : ℕ) (e : Counts) → MarksTo t c from ss marks to e →
+pub variables_count : (t : List ℕ) (c : Counts) (from : ℕ) (ss : List Symbol) (marks : List Mark) (to : ℕ) (e : Counts) → MarksToWithin t c from ss marks to e →
     (e.variables ≡ c.variables + length (variables_in marks)) × (c.variables ≤ 12 → e.variables ≤ 12)
 unfolding Adds
 variables_count t c from [] marks to e (none, same, is) =
@@ -192,7 +194,7 @@ variables_count t c from (s ∷ ss) marks to e (x, d, rest, next, one, are, more
     )
 
 -- behind a declaration there are more than before it
-pub room_here : (t : List ℕ) (c : Counts) (from : ℕ) (s : Symbol) (ss : List Symbol) (marks : List Mark) (to : ℕ) (e : Counts) → declares c.phase s ≡ true → MarksTo t c from (s ∷ ss) marks to e →
+pub room_here : (t : List ℕ) (c : Counts) (from : ℕ) (s : Symbol) (ss : List Symbol) (marks : List Mark) (to : ℕ) (e : Counts) → declares c.phase s ≡ true → MarksToWithin t c from (s ∷ ss) marks to e →
     c.variables < e.variables
 unfolding Adds
 room_here t c from s ss marks to e is (x, d, rest, next, one, are, more) =
@@ -204,7 +206,7 @@ room_here t c from s ss marks to e is (x, d, rest, next, one, are, more) =
 pub one_count : (c d e : Counts) (s : Symbol) → counted c s ≡ Ok d → counted c s ≡ Ok e → d ≡ e
 one_count c d e s h k = same_ok d e (sym h ∙ k)
 
-pub few_variables : (t : List ℕ) (c : Counts) (ss : List Symbol) (marks : List Mark) (to : ℕ) (e : Counts) → c.variables ≡ 0 → MarksTo t c 0 ss marks to e → length (variables_in marks) ≤ 12
+pub few_variables : (t : List ℕ) (c : Counts) (ss : List Symbol) (marks : List Mark) (to : ℕ) (e : Counts) → c.variables ≡ 0 → MarksToWithin t c 0 ss marks to e → length (variables_in marks) ≤ 12
 few_variables t c ss marks to e none h =
     let k = variables_count t c 0 ss marks to e h in
     let a = k.0 in
@@ -289,13 +291,13 @@ later_step : (b : Bool) (v : Variable) (vs : List Variable) → 0 < length vs �
 later_step true v vs h = omega arith
 later_step false v vs h = h
 
-some_named : (t : List ℕ) (c : Counts) (from : ℕ) (ss : List Symbol) (marks : List Mark) (to : ℕ) (e : Counts) → c.phase ≡ Variables → IsName ss → MarksTo t c from ss marks to e → 0 < length (variables_in marks)
+some_named : (t : List ℕ) (c : Counts) (from : ℕ) (ss : List Symbol) (marks : List Mark) (to : ℕ) (e : Counts) → c.phase ≡ Variables → IsName ss → MarksToWithin t c from ss marks to e → 0 < length (variables_in marks)
 some_named t c from [] marks to e phase name h = absurd name
 some_named t c from (s ∷ ss) marks to e phase name (x, d, rest, next, one, are, more) =
     subst (λ (ms : List Mark). 0 < length (variables_in ms)) (sym are)
     (here_step (declares c.phase s) (variable (mark_of t c.phase s x).bytes rest) (variables_in rest) (declares_name c.phase s phase name))
 
-some_in : (t : List ℕ) (c : Counts) (from : ℕ) (ss : List Symbol) (marks : List Mark) (to : ℕ) (e : Counts) → HasPair ss → MarksTo t c from ss marks to e → 0 < length (variables_in marks)
+some_in : (t : List ℕ) (c : Counts) (from : ℕ) (ss : List Symbol) (marks : List Mark) (to : ℕ) (e : Counts) → HasPair ss → MarksToWithin t c from ss marks to e → 0 < length (variables_in marks)
 some_in t c from [] marks to e pair h = absurd pair
 some_in t c from (s ∷ ss) marks to e pair (x, d, rest, next, one, are, more) =
     subst (λ (ms : List Mark). 0 < length (variables_in ms)) (sym are)
@@ -305,5 +307,5 @@ some_in t c from (s ∷ ss) marks to e pair (x, d, rest, next, one, are, more) =
     (λ later. some_in t d x.end ss rest to e later more)
     pair))
 
-pub some_variable : (t : List ℕ) (c : Counts) (ss : List Symbol) (ops : List Op) (marks : List Mark) (to : ℕ) (e : Counts) → Derives system_items ss ops → MarksTo t c 0 ss marks to e → 0 < length (variables_in marks)
+pub some_variable : (t : List ℕ) (c : Counts) (ss : List Symbol) (ops : List Op) (marks : List Mark) (to : ℕ) (e : Counts) → Derives system_items ss ops → MarksToWithin t c 0 ss marks to e → 0 < length (variables_in marks)
 some_variable t c ss ops marks to e d h = some_in t c 0 ss marks to e (has_pair system_items ss ops d (inr (inr (inl (refl, tt))))) h

@@ -11,14 +11,15 @@ use Rattle.pv_grammar.specs.declared.machine.Item.{Item}
 use Rattle.pv_grammar.specs.declared.symbol.Symbol.{Symbol}
 use Rattle.pv_grammar.specs.ByItems.{IsCauseByItems}
 use Rattle.pv_grammar.specs.Grammar.{Derives}
-use Rattle.pv_grammar.specs.Limits.{Counted}
+use Rattle.pv_grammar.specs.Counting.{Counted}
 use Rattle.pv_tokens.specs.declared.token.Kind.TheVariants.{End}
 use Rattle.pv_tokens.specs.declared.token.Token.{Token}
 use Rattle.pv_tokens.specs.Tokens.{IsNext}
 use Rattle.pv_parse.specs.declared.refused.ParseRefused.{ParseRefused}
 use Rattle.pv_parse.specs.declared.refused.ParseRefused.TheVariants.{Memory, Fault}
 use Rattle.pv_parse.specs.Meanings.{Names}
-use Rattle.pv_parse.specs.Sentences.{Spells, SpellsTo, StandsFor, bytes_of}
+use Rattle.pv_parse.specs.Sentences.{StandsFor, bytes_of}
+use Rattle.pv_parse.specs.ByCounts.{SpellsWithin, SpellsToWithin}
 
 -- ---- Texts of items
 
@@ -28,7 +29,7 @@ pub record IsSentence (t : List ℕ) (known : Names) (start : Counts) (items : L
   pub symbols : List Symbol
   pub steps : List Op
   pub counts : Counts
-  pub spelled : Spells t known start symbols
+  pub spelled : SpellsWithin t known start symbols
   pub within : Counted start symbols counts
   pub derived : Derives items symbols steps
   pub code_is : after ≡ before ++ steps
@@ -49,7 +50,7 @@ pub record IsFirstByItems (t : List ℕ) (known : Names) (start : Counts) (items
   pub symbol : Symbol
   pub counts : Counts
   pub names : Names
-  pub spelled : SpellsTo t known start 0 before from names
+  pub spelled : SpellsToWithin t known start 0 before from names
   pub next : IsNext t from token
   pub place : byte ≡ token.start
   pub stands : StandsFor counts.phase names (bytes_of t token) token.kind symbol

@@ -1,18 +1,17 @@
 -- What a text means: the names of its variables, where their domains and its constraints begin, and the system of its tree.
-use Rattle.std.specs.Prelude.{◌≡◌, ℕ, ◌++◌, ◌≤◌, Bool, true, false, List, [], ◌∷◌, length, Ok, map, if◌then◌else◌, ◌⊎◌}
+use Rattle.std.specs.Prelude.{◌≡◌, ℕ, ◌++◌, ◌≤◌, Bool, true, false, List, [], ◌∷◌, length, map, if◌then◌else◌, ◌⊎◌}
 use Rattle.pv_expr.specs.declared.domain.Domain.{Domain}
 use Rattle.pv_expr.specs.Systems.{InOrder, Parts}
 use Rattle.pv_expr.specs.Terms.{Term}
 use Rattle.pv_code.specs.Expansion.{sides_of}
 use Rattle.pv_code.specs.Sizes.{AreWithin}
-use Rattle.pv_grammar.specs.declared.counts.Counts.{Counts}
 use Rattle.pv_grammar.specs.declared.counts.Phase.{Phase}
 use Rattle.pv_grammar.specs.declared.counts.Phase.TheVariants.{Between, Variables}
 use Rattle.pv_grammar.specs.declared.symbol.Fixed.TheVariants.{Constraints, Semicolon, OpenBracket}
 use Rattle.pv_grammar.specs.declared.symbol.Symbol.{Symbol}
 use Rattle.pv_grammar.specs.declared.symbol.Symbol.TheVariants.{Fixed as FixedToken, Relation as RelationToken, Declared}
-use Rattle.pv_grammar.specs.Limits.{counted, nothing}
 use Rattle.pv_grammar.specs.Productions.{Expression, System, system_symbols}
+use Rattle.pv_grammar.specs.Standings.{Standing, first_in, standing_behind}
 use Rattle.pv_grammar.specs.Trees.{expression_term, system_constraints, system_domains}
 use Rattle.pv_tokens.specs.declared.token.Token.{Token}
 use Rattle.pv_tokens.specs.Tokens.{IsNext}
@@ -33,16 +32,15 @@ pub record Mark : Type 0 where
 abbrev pub mark_of : List ℕ → Phase → Symbol → Token → Mark
 mark_of t p s x = record { symbol = s; phase = p; start = x.start; bytes = bytes_of t x }
 
--- the tokens from one place up to another that are these for the grammar, and the counts behind them
-abbrev pub MarksTo : List ℕ → Counts → ℕ → List Symbol → List Mark → ℕ → Counts → Type 0
-MarksTo t c from [] marks to e = (marks ≡ []) × (from ≡ to) × (c ≡ e)
-MarksTo t c from (s ∷ ss) marks to e =
-    (x : Token) × (d : Counts) × (rest : List Mark) × IsNext t from x × (counted c s ≡ Ok d) × (marks ≡ mark_of t c.phase s x ∷ rest)
-    × MarksTo t d x.end ss rest to e
+-- the tokens from one place up to another that are these for the grammar
+abbrev pub MarksTo : List ℕ → Standing → ℕ → List Symbol → List Mark → ℕ → Type 0
+MarksTo t y from [] marks to = (marks ≡ []) × (from ≡ to)
+MarksTo t y from (s ∷ ss) marks to =
+    (x : Token) × (rest : List Mark) × IsNext t from x × (marks ≡ mark_of t y.phase s x ∷ rest) × MarksTo t (standing_behind y s) x.end ss rest to
 
 -- the tokens of a text that are these for the grammar
-abbrev pub Marks : List ℕ → Counts → List Symbol → List Mark → Type 0
-Marks t c ss marks = (to : ℕ) × (e : Counts) × MarksTo t c 0 ss marks to e
+abbrev pub Marks : List ℕ → Standing → List Symbol → List Mark → Type 0
+Marks t y ss marks = (to : ℕ) × MarksTo t y 0 ss marks to
 
 -- ---- Variables
 
@@ -123,7 +121,7 @@ pub record Reading (t : List ℕ) : Type 0 where
   pub tree : System
   pub spelled : IsTextOf t tree
   pub marks : List Mark
-  pub marked : Marks t (nothing Between) (system_symbols tree []) marks
+  pub marked : Marks t (first_in Between) (system_symbols tree []) marks
 
 -- the text is a system's: that of a tree, with good domains and constraints within the limits, and no longer than is read
 pub record IsSystemSentence (t : List ℕ) : Type 0 where

@@ -3,12 +3,12 @@ use Rattle.std.specs.Prelude.{◌≡◌, ℕ, ◌≤◌, ◌<◌, ◌⊎◌, Lis
 use Rattle.pv_code.specs.Sizes.{IsFirstLarge}
 use Rattle.pv_grammar.specs.declared.cause.Cause.{Cause}
 use Rattle.pv_grammar.specs.declared.cause.Cause.TheVariants.{TextTooLong, BadBounds, TooLarge}
-use Rattle.pv_grammar.specs.declared.counts.Counts.{Counts}
 use Rattle.pv_grammar.specs.declared.counts.Phase.TheVariants.{Between, Sides}
 use Rattle.pv_grammar.specs.declared.symbol.Symbol.{Symbol}
-use Rattle.pv_grammar.specs.Causes.{BeginsWithin, IsCause}
-use Rattle.pv_grammar.specs.Limits.{Counted, nothing}
+use Rattle.pv_grammar.specs.Causes.{Begins, IsCause}
+use Rattle.pv_grammar.specs.Limits.{IsLimitedExpression, IsLimitedSystem}
 use Rattle.pv_grammar.specs.Productions.{IsExpression, IsSystem}
+use Rattle.pv_grammar.specs.Standings.{Standing, first_in, standing_after}
 use Rattle.pv_grammar.specs.Trees.{system_constraints, system_domains}
 use Rattle.pv_tokens.specs.declared.token.Kind.TheVariants.{End}
 use Rattle.pv_tokens.specs.declared.token.Token.{Token}
@@ -32,40 +32,38 @@ SaysTooLong (Fault byte line column cause) = (byte ≡ 65536) × (cause ≡ Text
 
 -- ---- The first fault
 
--- a text whose bytes begin with those of this one up to a place, and whose tokens begin with these
-pub record ClosesWith (t : List ℕ) (known : Names) (start : Counts) (IsText : List Symbol → Type 0) (from : ℕ) (before : List Symbol) : Type 0 where
+-- a text within the limits whose bytes begin with those of this one up to a place, and whose tokens begin with these
+pub record ClosesWith (t : List ℕ) (known : Names) (start : Standing) (IsLimited : List Symbol → Type 0) (from : ℕ) (before : List Symbol) : Type 0 where
   pub tail : List ℕ
   pub rest : List Symbol
   pub spelled : Spells (take from t ++ tail) known start (before ++ rest)
-  pub text : IsText (before ++ rest)
+  pub text : IsLimited (before ++ rest)
 
 -- the token at the byte is the first such that no text within the limits begins with the tokens up to and with it: the text up to
 -- the end of the token before it, with other bytes after that, is a text that begins with the tokens before it (`closes`), and no
 -- tokens after it make one (`none`); where it is the end of the text, the tokens before it are none
-pub record IsFirst (t : List ℕ) (known : Names) (start : Counts) (IsText : List Symbol → Type 0) (byte : ℕ) (cause : Cause) : Type 0 where
+pub record IsFirst (t : List ℕ) (known : Names) (start : Standing) (IsText IsLimited : List Symbol → Type 0) (byte : ℕ) (cause : Cause) : Type 0 where
   pub before : List Symbol
   pub from : ℕ
   pub token : Token
   pub symbol : Symbol
-  pub counts : Counts
   pub names : Names
   pub spelled : SpellsTo t known start 0 before from names
   pub next : IsNext t from token
   pub place : byte ≡ token.start
-  pub stands : StandsFor counts.phase names (bytes_of t token) token.kind symbol
-  pub within : Counted start before counts
-  pub closes : ClosesWith t known start IsText from before
-  pub none : ¬ BeginsWithin start IsText (before ++ symbol ∷ [])
-  pub unfinished : token.kind ≡ End → ¬ IsText before
-  pub because : IsCause IsText before counts symbol cause
+  pub stands : StandsFor (standing_after start before).phase names (bytes_of t token) token.kind symbol
+  pub closes : ClosesWith t known start IsLimited from before
+  pub none : ¬ Begins IsLimited (before ++ symbol ∷ [])
+  pub unfinished : token.kind ≡ End → ¬ IsLimited before
+  pub because : IsCause IsText IsLimited before (standing_after start before).phase symbol cause
 
 -- the first fault of the text of a system
 abbrev pub IsSystemFault : List ℕ → ℕ → Cause → Type 0
-IsSystemFault t byte cause = IsFirst t no_names (nothing Between) IsSystem byte cause
+IsSystemFault t byte cause = IsFirst t no_names (first_in Between) IsSystem IsLimitedSystem byte cause
 
 -- and of the text of an expression, where the variables are known
 abbrev pub IsExpressionFault : List (List ℕ) → List ℕ → ℕ → Cause → Type 0
-IsExpressionFault variables t byte cause = (n : Names) × KnowsVariables variables n × IsFirst t n (nothing Sides) IsExpression byte cause
+IsExpressionFault variables t byte cause = (n : Names) × KnowsVariables variables n × IsFirst t n (first_in Sides) IsExpression IsLimitedExpression byte cause
 
 -- something holds, or a place is a fault
 abbrev pub IsEither : Type 0 → (ℕ → Cause → Type 0) → Type 0

@@ -1,3 +1,4 @@
+pub mod ByCounts
 pub mod ByItems
 pub mod Declarations
 pub mod Faults

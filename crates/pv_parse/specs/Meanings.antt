@@ -5,15 +5,14 @@ use Rattle.std.specs.Map.{update}
 use Rattle.pv_code.specs.declared.code.Op.TheVariants.{Call}
 use Rattle.pv_code.specs.declared.fraction.Fraction.{Fraction}
 use Rattle.pv_code.specs.Fractions.{signed}
-use Rattle.pv_grammar.specs.declared.counts.Counts.{Counts}
 use Rattle.pv_grammar.specs.declared.counts.Phase.{Phase}
 use Rattle.pv_grammar.specs.declared.counts.Phase.TheVariants.{Between, Constants, FunctionName, Parameters, Body, Variables, Bounds, NextConstraint, Sides}
 use Rattle.pv_grammar.specs.declared.symbol.Fixed.TheVariants.{End}
 use Rattle.pv_grammar.specs.declared.symbol.Symbol.{Symbol}
 use Rattle.pv_grammar.specs.declared.symbol.Symbol.TheVariants.{Fixed as FixedToken, Number, Declared, Constant, Variable, Parameter, Function, Unknown}
-use Rattle.pv_grammar.specs.Limits.{is_minus}
 use Rattle.pv_parse.specs.declared.names.Meaning.{Meaning}
 use Rattle.pv_parse.specs.declared.names.Meaning.TheVariants.{Constant as ConstantMeaning, Variable as VariableMeaning, Function as FunctionMeaning}
+use Rattle.pv_grammar.specs.Standings.{Standing, is_minus}
 
 pub record Names : Type 0 where
   -- what a name was declared as, a function from the end of its text on
@@ -86,12 +85,12 @@ abbrev pub behind_sign : Bool → Names → Names
 behind_sign b n = record { known = n.known; parameter = n.parameter; pending = n.pending; negative = b }
 
 -- a variable's number is the count of those before it, and so is a parameter's
-abbrev pub with_name : Phase → Counts → List ℕ → Names → Names
-with_name Constants c name n = with_pending name n
-with_name FunctionName c name n = with_pending name n
-with_name Parameters c name n = with_parameter name c.parameters n
-with_name Variables c name n = with_known name (VariableMeaning c.variables) n
-with_name p c name n = n
+abbrev pub with_name : Phase → Standing → List ℕ → Names → Names
+with_name Constants x name n = with_pending name n
+with_name FunctionName x name n = with_pending name n
+with_name Parameters x name n = with_parameter name x.parameters n
+with_name Variables x name n = with_known name (VariableMeaning x.variables) n
+with_name p x name n = n
 
 -- a constant has its value
 abbrev pub with_value : Phase → Fraction → Names → Names
@@ -99,19 +98,19 @@ with_value Constants v n = with_known n.pending (ConstantMeaning (signed n.negat
 with_value p v n = n
 
 -- a function's text ends; the counted functions are those before it and itself
-abbrev pub with_function : Phase → Counts → Names → Names
-with_function Body c n = without_parameters (with_known n.pending (FunctionMeaning (c.functions - 1) c.parameters) n)
-with_function p c n = n
+abbrev pub with_function : Phase → Standing → Names → Names
+with_function Body x n = without_parameters (with_known n.pending (FunctionMeaning (x.functions - 1) x.parameters) n)
+with_function p x n = n
 
-abbrev pub told : Counts → Symbol → List ℕ → Names → Names
-told c (Declared taken) name n = with_name c.phase c name n
-told c (Number value exponent) name n = with_value c.phase value n
-told c (FixedToken End) name n = with_function c.phase c n
-told c s name n = n
+abbrev pub told : Standing → Symbol → List ℕ → Names → Names
+told x (Declared taken) name n = with_name x.phase x name n
+told x (Number value exponent) name n = with_value x.phase value n
+told x (FixedToken End) name n = with_function x.phase x n
+told x s name n = n
 
 -- the names behind a token with these bytes
-abbrev pub learnt : Counts → Symbol → List ℕ → Names → Names
-learnt c s name n = behind_sign (is_minus s) (told c s name n)
+abbrev pub learnt : Standing → Symbol → List ℕ → Names → Names
+learnt x s name n = behind_sign (is_minus s) (told x s name n)
 
 -- the same names are declared
 pub record AreSame (n m : Names) : Type 0 where

@@ -9,7 +9,6 @@ use Rattle.pv_grammar.specs.declared.counts.Counts.{Counts}
 use Rattle.pv_grammar.specs.declared.counts.Phase.{Phase}
 use Rattle.pv_grammar.specs.declared.machine.Item.{Item}
 use Rattle.pv_grammar.specs.declared.symbol.Symbol.{Symbol}
-use Rattle.pv_grammar.specs.Limits.{is_minus}
 use Rattle.pv_grammar.specs.Trees.{infinite, value_of}
 use Rattle.pv_grammar.specs.declared.counts.Phase.TheVariants.{Bounds}
 use Rattle.pv_grammar.specs.declared.symbol.Fixed.TheVariants.{Oo}
@@ -21,9 +20,11 @@ use Rattle.pv_parse.specs.declared.scope.Begun.TheVariants.{Outside}
 use Rattle.pv_parse.specs.declared.given.Given.{Given}
 use Rattle.pv_parse.specs.declared.scope.Scope.{Scope}
 use Rattle.pv_parse.specs.ByItems.{IsSentence}
-use Rattle.pv_parse.specs.Declarations.{Mark, Marks, begun_at, begun_behind, bracket_behind, bracket_of, declares, own, start_of}
+use Rattle.pv_parse.specs.Declarations.{Mark, begun_at, begun_behind, bracket_behind, bracket_of, declares, own, start_of}
 use Rattle.pv_parse.specs.Fractions.{HaveFractions}
 use Rattle.pv_parse.specs.Meanings.{Names}
+use Rattle.pv_grammar.specs.Standings.{is_minus}
+use Rattle.pv_parse.specs.ByCounts.{MarksWithin}
 
 -- ---- Variables with what is written behind their names
 
@@ -139,6 +140,6 @@ scoped_behind (m ∷ ms) s = scoped_behind ms (followed m s)
 pub record IsToldAs (t : List ℕ) (known : Names) (start : Counts) (items : List Item) (before after : List Op) (old new : Scoped) : Type 0 where
   pub sentence : IsSentence t known start items before after
   pub marks : List Mark
-  pub marked : Marks t start sentence.symbols marks
+  pub marked : MarksWithin t start sentence.symbols marks
   pub fractions : HaveFractions marks
   pub scoped : new ≡ scoped_behind marks old

@@ -1,5 +1,5 @@
 -- Which tokens a text has for the grammar, and of which tree it is a text.
-use Rattle.std.specs.Prelude.{◌≡◌, ℕ, List, [], ◌∷◌, Option, Some, None, Ok, slice_range}
+use Rattle.std.specs.Prelude.{◌≡◌, ℕ, List, [], ◌∷◌, Option, Some, None, slice_range}
 use Rattle.pv_expr.specs.declared.constraint.Relation.TheVariants.{Eq, Le, Ge, Lt, Gt}
 use Rattle.pv_code.specs.declared.code.Op.TheVariants.{One, Two}
 use Rattle.pv_code.specs.declared.code.Unary.TheVariants.{Abs, Pow}
@@ -8,11 +8,11 @@ use Rattle.pv_grammar.specs.declared.cause.Cause.TheVariants.{BadByte, NumberToo
 use Rattle.pv_grammar.specs.declared.symbol.Fixed.TheVariants.{Plus, Minus, Star, Slash, Caret, Open, Close, OpenBracket, CloseBracket, Comma, Semicolon, Constants, Variables, Constraints, Function as FunctionWord, Return, End, In, Oo, EndOfText}
 use Rattle.pv_grammar.specs.declared.symbol.Symbol.{Symbol}
 use Rattle.pv_grammar.specs.declared.symbol.Symbol.TheVariants.{Never, Fixed as FixedToken, Relation as RelationToken, Number, Function as FunctionName}
-use Rattle.pv_grammar.specs.declared.counts.Counts.{Counts}
 use Rattle.pv_grammar.specs.declared.counts.Phase.{Phase}
 use Rattle.pv_grammar.specs.declared.counts.Phase.TheVariants.{Between, Sides}
-use Rattle.pv_grammar.specs.Limits.{nothing, counted}
+use Rattle.pv_grammar.specs.Limits.{IsExpressionWithin, IsSystemWithin}
 use Rattle.pv_grammar.specs.Productions.{Expression, System, expression_symbols, system_symbols}
+use Rattle.pv_grammar.specs.Standings.{Standing, first_in, standing_behind}
 use Rattle.pv_tokens.specs.declared.token.Kind.{Kind}
 use Rattle.pv_tokens.specs.declared.token.Kind.TheVariants.{Name, Number as NumberKind, LessEqual, GreaterEqual, Less, Greater, Equal, Plus as PlusKind, Minus as MinusKind, Star as StarKind, Slash as SlashKind, Caret as CaretKind, Open as OpenKind, Close as CloseKind, OpenBracket as OpenBracketKind, CloseBracket as CloseBracketKind, Comma as CommaKind, Semicolon as SemicolonKind, Bad, End as EndKind}
 use Rattle.pv_tokens.specs.declared.token.Token.{Token}
@@ -83,31 +83,31 @@ StandsFor p n bytes EndKind s = s ≡ FixedToken EndOfText
 abbrev pub bytes_of : List ℕ → Token → List ℕ
 bytes_of t x = slice_range t x.start x.end
 
--- the tokens from one place up to another, the end of the text not among them, are these for the grammar, where the names and
--- the counts begin as given; behind them these names are declared
-abbrev pub SpellsTo : List ℕ → Names → Counts → ℕ → List Symbol → ℕ → Names → Type 0
-SpellsTo t n c from [] to m = (from ≡ to) × (n ≡ m)
-SpellsTo t n c from (s ∷ ss) to m =
-    (x : Token) × (d : Counts) × IsNext t from x × (¬ (x.kind ≡ EndKind)) × StandsFor c.phase n (bytes_of t x) x.kind s × (counted c s ≡ Ok d)
-    × SpellsTo t (learnt c s (bytes_of t x) n) d x.end ss to m
+-- the tokens from one place up to another, the end of the text not among them, are these for the grammar, where the names and the
+-- standing begin as given; behind them these names are declared
+abbrev pub SpellsTo : List ℕ → Names → Standing → ℕ → List Symbol → ℕ → Names → Type 0
+SpellsTo t n y from [] to m = (from ≡ to) × (n ≡ m)
+SpellsTo t n y from (s ∷ ss) to m =
+    (x : Token) × IsNext t from x × (¬ (x.kind ≡ EndKind)) × StandsFor y.phase n (bytes_of t x) x.kind s
+    × SpellsTo t (learnt y s (bytes_of t x) n) (standing_behind y s) x.end ss to m
 
 -- the tokens of the whole text
-abbrev pub Spells : List ℕ → Names → Counts → List Symbol → Type 0
-Spells t n c ss = (to : ℕ) × (m : Names) × (x : Token) × SpellsTo t n c 0 ss to m × IsNext t to x × (x.kind ≡ EndKind)
+abbrev pub Spells : List ℕ → Names → Standing → List Symbol → Type 0
+Spells t n y ss = (to : ℕ) × (m : Names) × (x : Token) × SpellsTo t n y 0 ss to m × IsNext t to x × (x.kind ≡ EndKind)
 
 -- a text is one list of tokens for the grammar
-abbrev pub IsSpelledOnce : List ℕ → Names → Counts → Type 0
-IsSpelledOnce t n c = (ss ss' : List Symbol) → Spells t n c ss → Spells t n c ss' → ss ≡ ss'
+abbrev pub IsSpelledOnce : List ℕ → Names → Standing → Type 0
+IsSpelledOnce t n y = (ss ss' : List Symbol) → Spells t n y ss → Spells t n y ss' → ss ≡ ss'
 
 -- ---- Texts of trees
 
--- the tokens of the text are the tree's, each within the limits, and each name stands for what it was declared as
+-- the tokens of the text are the tree's, where each name stands for what it was declared as, and the tree is within the limits
 abbrev pub IsTextOf : List ℕ → System → Type 0
-IsTextOf t x = Spells t no_names (nothing Between) (system_symbols x [])
+IsTextOf t x = Spells t no_names (first_in Between) (system_symbols x []) × IsSystemWithin x
 
 -- the same of an expression, where these names are known
 abbrev pub IsExpressionTextOf : Names → List ℕ → Expression → Type 0
-IsExpressionTextOf known t e = Spells t known (nothing Sides) (expression_symbols e [])
+IsExpressionTextOf known t e = Spells t known (first_in Sides) (expression_symbols e []) × IsExpressionWithin e
 
 -- a text is that of one tree
 abbrev pub HasOneTree : List ℕ → Type 0
@@ -116,7 +116,7 @@ HasOneTree t = (x y : System) → IsTextOf t x → IsTextOf t y → x ≡ y
 abbrev pub HasOneExpressionTree : Names → List ℕ → Type 0
 HasOneExpressionTree known t = (d e : Expression) → IsExpressionTextOf known t d → IsExpressionTextOf known t e → d ≡ e
 
--- the text is that of a system, within the limits that are counted token by token
+-- the text is that of a system
 abbrev pub IsSystemText : List ℕ → Type 0
 IsSystemText t = (x : System) × IsTextOf t x
 

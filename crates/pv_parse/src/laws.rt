@@ -1,6 +1,6 @@
 //! That a text has one tree and means what it says, or has one fault, as contracts.
 ghost use Rattle.std.specs.Prelude.{◌≡◌, ℕ, List};
-ghost use Rattle.pv_grammar.specs.Limits.{nothing};
+ghost use Rattle.pv_grammar.specs.Standings.{first_in};
 ghost use Rattle.pv_parse.specs.Declarations.{IsExpressionSentence, IsSystemSentence, MeansOne, MeansOneTerm};
 ghost use Rattle.pv_parse.specs.Faults.{Excludes, IsAtMostOne, IsEither, IsExpressionFault, IsExpressionFaultOf, IsFaultOf, IsSystemFault};
 ghost use Rattle.pv_parse.specs.Meanings.{KnowsVariables, Names, no_names};
@@ -11,7 +11,7 @@ use pv_grammar::Phase;
 /// A text of a system is at most one list of tokens. It is the text of a tree, and of one alone then, or it has a first fault, at one
 /// place and with one cause; and never both. It holds by its contract alone; the call does nothing.
 pub fn one_system()
-    ensures spelled { (t : List ℕ) → IsSpelledOnce t no_names (nothing Phase.Between) }
+    ensures spelled { (t : List ℕ) → IsSpelledOnce t no_names (first_in Phase.Between) }
     ensures tree { (t : List ℕ) → HasOneTree t }
     ensures either { (t : List ℕ) → IsEither (IsSystemText t) (IsSystemFault t) }
     ensures apart { (t : List ℕ) → Excludes (IsSystemText t) (IsSystemFault t) }
@@ -22,7 +22,7 @@ pub fn one_system()
 pub fn one_expression()
     ensures names { (variables : List (List ℕ)) (n m : Names) → KnowsVariables variables n →
         KnowsVariables variables m → n ≡ m }
-    ensures spelled { (t : List ℕ) (n : Names) → IsSpelledOnce t n (nothing Phase.Sides) }
+    ensures spelled { (t : List ℕ) (n : Names) → IsSpelledOnce t n (first_in Phase.Sides) }
     ensures tree { (t : List ℕ) (n : Names) → HasOneExpressionTree n t }
     ensures either { (variables : List (List ℕ)) (t : List ℕ) →
         IsEither (IsExpressionText variables t) (IsExpressionFault variables t) }

@@ -8,6 +8,7 @@ ghost use Rattle.pv_parse.specs.Fractions.{HasFraction, KnowsFractions};
 ghost use Rattle.pv_parse.specs.Meanings.{AreSame, KnowsVariables, in_body, in_bounds, is_function, is_taken, learnt, meaning, no_names, told, use_of, with_known, with_name, with_parameter, with_value, with_function};
 ghost use Rattle.pv_parse.specs.Sentences.{IsNumberSymbol, StandsFor, bytes_of, name_symbol, word_symbol};
 ghost use Rattle.pv_parse.specs.Views.{found, view};
+ghost use Rattle.pv_grammar.specs.Counting.{standing_of};
 
 use pv_code::{Binary, Fraction, Op, Unary};
 use pv_expr::{Relation, System};
@@ -198,7 +199,7 @@ impl Names {
         requires within { token.end ≤ length text.now }
         requires fraction { HasFraction symbol }
         ensures { OnOk result (AreSame (view self.new)
-            (learnt counts symbol (bytes_of text.now token) (view self.old))) }
+            (learnt (standing_of counts) symbol (bytes_of text.now token) (view self.old))) }
     {
         self.tell(symbol, counts, &text[token.start..token.end])?;
         self.negative = symbol.is_minus();
@@ -208,7 +209,7 @@ impl Names {
     fn tell(&mut self, symbol: Symbol, counts: Counts, name: &[u8]) -> Result<(), Memory>
         requires { HasFraction symbol }
         ensures { OnOk result (AreSame (view self.new)
-            (told counts symbol name.now (view self.old))) }
+            (told (standing_of counts) symbol name.now (view self.old))) }
     {
         match symbol {
             Symbol::Declared { .. } => self.declare(name, counts),
@@ -220,7 +221,7 @@ impl Names {
 
     fn declare(&mut self, name: &[u8], counts: Counts) -> Result<(), Memory>
         ensures { OnOk result (AreSame (view self.new)
-            (with_name counts.phase counts name.now (view self.old))) }
+            (with_name counts.phase (standing_of counts) name.now (view self.old))) }
     {
         let own = Vec::from_slice(self.alloc, name)?;
         match counts.phase {
@@ -250,7 +251,7 @@ impl Names {
 
     fn end_function(&mut self, counts: Counts) -> Result<(), Memory>
         ensures { OnOk result (AreSame (view self.new)
-            (with_function counts.phase counts (view self.old))) }
+            (with_function counts.phase (standing_of counts) (view self.old))) }
     {
         match counts.phase {
             Phase::Body => {

@@ -10,7 +10,7 @@ use Rattle.pv_code.proofs.Building.{length-map}
 use Rattle.pv_code.proofs.Over.{constraints_good, few_nodes, sides_over}
 use Rattle.pv_grammar.specs.declared.counts.Phase.TheVariants.{Between}
 use Rattle.pv_grammar.specs.Grammar.{pile, system_items}
-use Rattle.pv_grammar.specs.Limits.{nothing}
+use Rattle.pv_grammar.specs.Counting.{nothing}
 use Rattle.pv_parse.specs.declared.given.Given.{Given}
 use Rattle.pv_parse.specs.ByItems.{IsLargeAt}
 use Rattle.pv_parse.specs.Declarations.{AreGood, IsFirstBad}

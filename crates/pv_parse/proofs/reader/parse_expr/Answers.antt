@@ -4,7 +4,7 @@ use Rattle.pv_code.specs.declared.code.Op.{Op}
 use Rattle.pv_code.specs.Expansion.{run, top}
 use Rattle.pv_grammar.specs.declared.counts.Phase.TheVariants.{Sides}
 use Rattle.pv_grammar.specs.Grammar.{expression_items, pile}
-use Rattle.pv_grammar.specs.Limits.{nothing}
+use Rattle.pv_grammar.specs.Counting.{nothing}
 use Rattle.pv_parse.specs.Scopes.{nothing_scoped, scoped}
 use Rattle.pv_parse.specs.Views.{view}
 use Rattle.pv_parse.proofs.Fractions.{variables_fractions}

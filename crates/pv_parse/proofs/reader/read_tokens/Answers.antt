@@ -16,6 +16,7 @@ use Rattle.pv_parse.proofs.Same.{learnt_same, same_refl, same_trans, stands_same
 use Rattle.pv_parse.proofs.Reached.{forbidden, refused, starts, starts_told, taken_not_end, taken_on, taken_told, too_much, whole, whole_told}
 use Rattle.pv_parse.proofs.Refusals.{first_at, if_err, on_ok, taken_false, taken_true}
 use Rattle.pv_parse.proofs.reader.read_tokens.Goals as goal
+use Rattle.pv_grammar.specs.Counting.{standing_of}
 
 pub loop-item-init : goal.loop-item-init
 loop-item-init c = record {
@@ -104,7 +105,7 @@ loop-item-preserved c =
       fractions = same_fractions _ _ c.in_ok-take_in-in-Ok.ensures (learnt_fractions c.loop-item.counts c.symbol_of-symbol.result (bytes_of c.args.text.now c.next_token-token.result) (view c.loop-item.names) c.symbol_of-symbol.ensures.fraction c.loop-item.invariant.fractions);
       within = c.next_token-token.ensures.within;
       reached = record {
-        names = learnt c.loop-item.counts c.symbol_of-symbol.result (bytes_of c.args.text.now c.next_token-token.result) c.loop-item.invariant.reached.names;
+        names = learnt (standing_of c.loop-item.counts) c.symbol_of-symbol.result (bytes_of c.args.text.now c.next_token-token.result) c.loop-item.invariant.reached.names;
         same = same_trans _ _ _ c.in_ok-take_in-in-Ok.ensures
             (learnt_same c.loop-item.counts c.symbol_of-symbol.result (bytes_of c.args.text.now c.next_token-token.result) (view c.loop-item.names) c.loop-item.invariant.reached.names c.loop-item.invariant.reached.same);
         reached = taken_on c.args.text.now (view c.args.names.now) c.loop-item.invariant.reached.names c.args.start c.loop-item.counts c.in-Ok.next (pile c.args.machine.now.stack.items) c.args.machine.now.code.items

@@ -1,0 +1,244 @@
+-- The limit that forbids a token, by the part of the text in which it would stand; and a sign may stand where a function's name may.
+use Rattle.std.proofs.Common.{◌≡◌, ℕ, zero, suc, ◌+◌, ◌-◌, nat_lt, Bool, true, false, List, [], ◌∷◌, ◌++◌, refl, sym, ap, ◌∙◌, subst, append_assoc, if◌then◌else◌, ◌⊎◌, inl, inr, Some, Ok, Err}
+use Rattle.pv_code.specs.declared.code.Op.{Op}
+use Rattle.pv_code.specs.declared.code.Op.TheVariants.{One}
+use Rattle.pv_code.specs.declared.code.Unary.TheVariants.{Neg}
+use Rattle.pv_grammar.specs.declared.cause.Cause.{Cause}
+use Rattle.pv_grammar.specs.declared.cause.Cause.TheVariants.{UnknownName, DuplicateName, TooManyVariables, TooManyConstraints, TooManyFunctions, TooDeep, Unexpected}
+use Rattle.pv_grammar.specs.declared.counts.Counts.{Counts}
+use Rattle.pv_grammar.specs.declared.counts.Phase.{Phase}
+use Rattle.pv_grammar.specs.declared.counts.Phase.TheVariants.{Between, Constants, FunctionName, Parameters, Body, Variables, Bounds, NextConstraint, Sides}
+use Rattle.pv_grammar.specs.declared.machine.Item.{Item}
+use Rattle.pv_grammar.specs.declared.machine.Item.TheVariants.{Exactly, MaybeConstraint, MaybePower, MoreArguments, MoreConstraints, MoreFactors, MoreTerms, Then, WantFactor, WantRelation}
+use Rattle.pv_grammar.specs.declared.symbol.Fixed.TheVariants.{Plus, Minus, Star, Slash, Caret, Open, Comma, Function as FunctionWord}
+use Rattle.pv_grammar.specs.declared.symbol.Symbol.{Symbol}
+use Rattle.pv_grammar.specs.declared.symbol.Symbol.TheVariants.{Fixed as FixedToken, Number, Declared, Constant as ConstantName, Variable as VariableName, Parameter as ParameterName, Function as Call, Unknown}
+use Rattle.pv_grammar.specs.ByItems.{BeginsByItems}
+use Rattle.pv_grammar.specs.Causes.{as_known, limit_cause, name_cause, nought}
+use Rattle.pv_grammar.specs.Counting.{Counting, counted, moved, nested, next, operated}
+use Rattle.pv_grammar.specs.Grammar.{Derives, Produced, begun, done, left_out, produced, step_of}
+use Rattle.pv_grammar.proofs.Following.{CalmAt}
+use Rattle.pv_grammar.proofs.Forward.{head_is, nil_cons, none_some, some_is, tail_is}
+use Rattle.pv_grammar.proofs.Passing.{call_is, made, open_is, operator_is}
+
+-- ---- Which limit forbids a token
+
+ok_not_err : {x : Counts} {cause : Cause} → Ok x ≡ Err cause → ⊥
+ok_not_err e = cc
+
+abbrev failed : Cause → Counting
+failed c = Err c
+
+err_is : {c d : Cause} → failed c ≡ failed d → d ≡ c
+err_is e = cc
+
+below_err : (b : Bool) (x : Counts) (c cause : Cause) → (if b then Ok x else Err c) ≡ Err cause → cause ≡ c
+below_err true x c cause e = absurd (ok_not_err e)
+below_err false x c cause e = err_is e
+
+-- where what is asked behind a first limit is granted, that limit forbids the token
+first_err : (b : Bool) (x y : Counts) (c cause : Cause) (f : Counts → Counting) → f x ≡ Ok y → next (if b then Ok x else Err c) f ≡ Err cause → (b ≡ false) × (cause ≡ c)
+first_err true x y c cause f e h = absurd (ok_not_err (sym e ∙ h))
+first_err false x y c cause f e h = (refl, err_is h)
+
+abbrev asked : Symbol → Counts → Counting
+asked s d = next (operated d s) (λ e. next (nested e s) (λ g. moved g s))
+
+-- a constraint that begins
+begun_err : (s : Symbol) (a f v k : ℕ) (cause : Cause) (y : Counts) → asked s (made Sides 0 0 a f v (k + 1)) ≡ Ok y →
+    next (if nat_lt k 64 then Ok (made Sides 0 0 a f v (k + 1)) else Err TooManyConstraints) (asked s) ≡ Err cause → cause ≡ TooManyConstraints
+begun_err s a f v k cause y granted h = (first_err (nat_lt k 64) (made Sides 0 0 a f v (k + 1)) y TooManyConstraints cause (asked s) granted h).1
+
+calm : (s : Symbol) (l o a f v k : ℕ) (cause : Cause) → (l ≡ 0) × (o ≡ 0) → counted (made NextConstraint l o a f v k) s ≡ Err cause → counted (made NextConstraint 0 0 a f v k) s ≡ Err cause
+calm s l o a f v k cause h e =
+    subst (λ (n : ℕ). counted (made NextConstraint 0 n a f v k) s ≡ Err cause) h.1 (subst (λ (n : ℕ). counted (made NextConstraint n o a f v k) s ≡ Err cause) h.0 e)
+
+abbrev IsPlainToken : Symbol → Type 0
+IsPlainToken Unknown = ⊥
+IsPlainToken (Declared true) = ⊥
+IsPlainToken (Call op n) = ⊥
+IsPlainToken s = Unit {0}
+
+operator_err : (p : Phase) (s : Symbol) (l o a f v k : ℕ) (cause : Cause) → counted (made p l o a f v k) s ≡ (if nat_lt o 1000 then Ok (made p l (o + 1) a f v k) else Err TooDeep) →
+    counted (made p l o a f v k) s ≡ Err cause → cause ≡ TooDeep
+operator_err p s l o a f v k cause is h = below_err (nat_lt o 1000) (made p l (o + 1) a f v k) TooDeep cause (sym is ∙ h)
+
+pub limit_at : (p : Phase) (s : Symbol) (l o a f v k : ℕ) (cause : Cause) → IsPlainToken s → CalmAt p l o → counted (made p l o a f v k) s ≡ Err cause → cause ≡ limit_cause p s
+limit_at Between (FixedToken FunctionWord) l o a f v k cause t h e = below_err (nat_lt f 64) _ TooManyFunctions cause e
+limit_at Between (Declared true) l o a f v k cause t h e = absurd t
+limit_at Between Unknown l o a f v k cause t h e = absurd t
+limit_at Between (Call op n) l o a f v k cause t h e = absurd t
+limit_at Between s l o a f v k cause t h e = absurd (ok_not_err e)
+limit_at Constants (FixedToken FunctionWord) l o a f v k cause t h e = below_err (nat_lt f 64) _ TooManyFunctions cause e
+limit_at Constants (Declared true) l o a f v k cause t h e = absurd t
+limit_at Constants Unknown l o a f v k cause t h e = absurd t
+limit_at Constants (Call op n) l o a f v k cause t h e = absurd t
+limit_at Constants s l o a f v k cause t h e = absurd (ok_not_err e)
+limit_at FunctionName (FixedToken FunctionWord) l o a f v k cause t h e = below_err (nat_lt f 64) _ TooManyFunctions cause e
+limit_at FunctionName (Declared true) l o a f v k cause t h e = absurd t
+limit_at FunctionName Unknown l o a f v k cause t h e = absurd t
+limit_at FunctionName (Call op n) l o a f v k cause t h e = absurd t
+limit_at FunctionName s l o a f v k cause t h e = absurd (ok_not_err e)
+limit_at Bounds (FixedToken FunctionWord) l o a f v k cause t h e = below_err (nat_lt f 64) _ TooManyFunctions cause e
+limit_at Bounds (Declared true) l o a f v k cause t h e = absurd t
+limit_at Bounds Unknown l o a f v k cause t h e = absurd t
+limit_at Bounds (Call op n) l o a f v k cause t h e = absurd t
+limit_at Bounds s l o a f v k cause t h e = absurd (ok_not_err e)
+limit_at Variables (FixedToken FunctionWord) l o a f v k cause t h e = below_err (nat_lt f 64) _ TooManyFunctions cause e
+limit_at Variables (Declared false) l o a f v k cause t h e = below_err (nat_lt v 12) _ TooManyVariables cause e
+limit_at Variables (Declared true) l o a f v k cause t h e = absurd t
+limit_at Variables Unknown l o a f v k cause t h e = absurd t
+limit_at Variables (Call op n) l o a f v k cause t h e = absurd t
+limit_at Variables s l o a f v k cause t h e = absurd (ok_not_err e)
+limit_at Parameters (FixedToken FunctionWord) l o a f v k cause t h e = below_err (nat_lt f 64) _ TooManyFunctions cause e
+limit_at Parameters (FixedToken Comma) l o a f v k cause t h e = below_err (nat_lt a 12) _ Unexpected cause e
+limit_at Parameters (Declared false) l o a f v k cause t h e = below_err (nat_lt a 12) _ Unexpected cause e
+limit_at Parameters (Declared true) l o a f v k cause t h e = absurd t
+limit_at Parameters Unknown l o a f v k cause t h e = absurd t
+limit_at Parameters (Call op n) l o a f v k cause t h e = absurd t
+limit_at Parameters s l o a f v k cause t h e = absurd (ok_not_err e)
+limit_at Body (FixedToken FunctionWord) l o a f v k cause t h e = below_err (nat_lt f 64) _ TooManyFunctions cause e
+limit_at Body (FixedToken Plus) l o a f v k cause t h e = operator_err Body (FixedToken Plus) l o a f v k cause (operator_is Body (FixedToken Plus) tt tt l o a f v k) e
+limit_at Body (FixedToken Minus) l o a f v k cause t h e = operator_err Body (FixedToken Minus) l o a f v k cause (operator_is Body (FixedToken Minus) tt tt l o a f v k) e
+limit_at Body (FixedToken Star) l o a f v k cause t h e = operator_err Body (FixedToken Star) l o a f v k cause (operator_is Body (FixedToken Star) tt tt l o a f v k) e
+limit_at Body (FixedToken Slash) l o a f v k cause t h e = operator_err Body (FixedToken Slash) l o a f v k cause (operator_is Body (FixedToken Slash) tt tt l o a f v k) e
+limit_at Body (FixedToken Caret) l o a f v k cause t h e = operator_err Body (FixedToken Caret) l o a f v k cause (operator_is Body (FixedToken Caret) tt tt l o a f v k) e
+limit_at Body (FixedToken Open) l o a f v k cause t h e = below_err (nat_lt l 100) (made Body (l + 1) o a f v k) TooDeep cause (sym (open_is Body tt l o a f v k) ∙ e)
+limit_at Body (Declared true) l o a f v k cause t h e = absurd t
+limit_at Body Unknown l o a f v k cause t h e = absurd t
+limit_at Body (Call op n) l o a f v k cause t h e = absurd t
+limit_at Body s l o a f v k cause t h e = absurd (ok_not_err e)
+limit_at Sides (FixedToken FunctionWord) l o a f v k cause t h e = below_err (nat_lt f 64) _ TooManyFunctions cause e
+limit_at Sides (FixedToken Plus) l o a f v k cause t h e = operator_err Sides (FixedToken Plus) l o a f v k cause (operator_is Sides (FixedToken Plus) tt tt l o a f v k) e
+limit_at Sides (FixedToken Minus) l o a f v k cause t h e = operator_err Sides (FixedToken Minus) l o a f v k cause (operator_is Sides (FixedToken Minus) tt tt l o a f v k) e
+limit_at Sides (FixedToken Star) l o a f v k cause t h e = operator_err Sides (FixedToken Star) l o a f v k cause (operator_is Sides (FixedToken Star) tt tt l o a f v k) e
+limit_at Sides (FixedToken Slash) l o a f v k cause t h e = operator_err Sides (FixedToken Slash) l o a f v k cause (operator_is Sides (FixedToken Slash) tt tt l o a f v k) e
+limit_at Sides (FixedToken Caret) l o a f v k cause t h e = operator_err Sides (FixedToken Caret) l o a f v k cause (operator_is Sides (FixedToken Caret) tt tt l o a f v k) e
+limit_at Sides (FixedToken Open) l o a f v k cause t h e = below_err (nat_lt l 100) (made Sides (l + 1) o a f v k) TooDeep cause (sym (open_is Sides tt l o a f v k) ∙ e)
+limit_at Sides (Declared true) l o a f v k cause t h e = absurd t
+limit_at Sides Unknown l o a f v k cause t h e = absurd t
+limit_at Sides (Call op n) l o a f v k cause t h e = absurd t
+limit_at Sides s l o a f v k cause t h e = absurd (ok_not_err e)
+limit_at NextConstraint (FixedToken FunctionWord) l o a f v k cause t h e = below_err (nat_lt f 64) _ TooManyFunctions cause e
+limit_at NextConstraint (Number value exponent) l o a f v k cause t h e = begun_err (Number value exponent) a f v k cause _ refl (calm (Number value exponent) l o a f v k cause h e)
+limit_at NextConstraint (ConstantName value) l o a f v k cause t h e = begun_err (ConstantName value) a f v k cause _ refl (calm (ConstantName value) l o a f v k cause h e)
+limit_at NextConstraint (VariableName i) l o a f v k cause t h e = begun_err (VariableName i) a f v k cause _ refl (calm (VariableName i) l o a f v k cause h e)
+limit_at NextConstraint (ParameterName i) l o a f v k cause t h e = begun_err (ParameterName i) a f v k cause _ refl (calm (ParameterName i) l o a f v k cause h e)
+limit_at NextConstraint (FixedToken Plus) l o a f v k cause t h e = begun_err (FixedToken Plus) a f v k cause _ refl (calm (FixedToken Plus) l o a f v k cause h e)
+limit_at NextConstraint (FixedToken Minus) l o a f v k cause t h e = begun_err (FixedToken Minus) a f v k cause _ refl (calm (FixedToken Minus) l o a f v k cause h e)
+limit_at NextConstraint (FixedToken Open) l o a f v k cause t h e = begun_err (FixedToken Open) a f v k cause _ refl (calm (FixedToken Open) l o a f v k cause h e)
+limit_at NextConstraint (Declared true) l o a f v k cause t h e = absurd t
+limit_at NextConstraint Unknown l o a f v k cause t h e = absurd t
+limit_at NextConstraint (Call op n) l o a f v k cause t h e = absurd t
+limit_at NextConstraint s l o a f v k cause t h e = absurd (ok_not_err e)
+
+-- ---- Which limit forbids a function's name
+
+-- a sign is forbidden in its place too; or it is not, and the name is for the parenthesis behind it
+abbrev CallErr : Phase → Counts → Op → ℕ → Cause → Type 0
+CallErr p c op n cause = ((cause ≡ limit_cause p (Call op n)) × ((d : Counts) → counted c (FixedToken Minus) ≡ Ok d → ⊥)) ⊎ ((cause ≡ Unexpected) × ((d : Counts) × (counted c (FixedToken Minus) ≡ Ok d)))
+
+call_by : (b u : Bool) (x y : Counts) (cause : Cause) (r : Counting) → (if b then (if u then Ok x else Err Unexpected) else Err TooDeep) ≡ Err cause → r ≡ (if b then Ok y else Err TooDeep) →
+    ((cause ≡ TooDeep) × ((d : Counts) → r ≡ Ok d → ⊥)) ⊎ ((cause ≡ Unexpected) × ((d : Counts) × (r ≡ Ok d)))
+call_by true true x y cause r e is = absurd (ok_not_err e)
+call_by true false x y cause r e is = inr (err_is e, (y, is))
+call_by false u x y cause r e is = inl (err_is e, λ d same. ok_not_err (sym same ∙ is))
+
+next_false : (b : Bool) (x d : Counts) (c : Cause) (f : Counts → Counting) → b ≡ false → next (if b then Ok x else Err c) f ≡ Ok d → ⊥
+next_false true x d c f e h = cc
+next_false false x d c f e h = ok_not_err (sym h)
+
+pub call_at : (p : Phase) (op : Op) (n : ℕ) (l o a f v k : ℕ) (cause : Cause) → CalmAt p l o → counted (made p l o a f v k) (Call op n) ≡ Err cause → CallErr p (made p l o a f v k) op n cause
+call_at Body op n l o a f v k cause h e =
+    call_by (nat_lt o 1000) (nat_lt l 100) (made Body l (o + 1) a f v k) (made Body l (o + 1) a f v k) cause _ (sym (call_is Body tt op n l o a f v k) ∙ e) (operator_is Body (FixedToken Minus) tt tt l o a f v k)
+call_at Sides op n l o a f v k cause h e =
+    call_by (nat_lt o 1000) (nat_lt l 100) (made Sides l (o + 1) a f v k) (made Sides l (o + 1) a f v k) cause _ (sym (call_is Sides tt op n l o a f v k) ∙ e) (operator_is Sides (FixedToken Minus) tt tt l o a f v k)
+call_at NextConstraint op n l o a f v k cause h e =
+    let found = first_err (nat_lt k 64) (made Sides 0 0 a f v (k + 1)) _ TooManyConstraints cause (asked (Call op n)) refl (calm (Call op n) l o a f v k cause h e) in
+    inl (found.1, λ d one. next_false (nat_lt k 64) (made Sides l o a f v (k + 1)) d TooManyConstraints (asked (FixedToken Minus)) found.0 one)
+call_at p op n l o a f v k cause h e = absurd (ok_not_err e)
+
+-- ---- Names
+
+-- a name is forbidden as a known one would be, or only for what it is declared as
+abbrev NameErr : Counts → Symbol → Cause → Type 0
+NameErr c s cause = (counted c (as_known s) ≡ Err cause) ⊎ (((d : Counts) × (counted c (as_known s) ≡ Ok d)) × (cause ≡ name_cause s))
+
+unknown_by : (b : Bool) (x y : Counts) (c cause : Cause) (f g : Counts → Counting) → f x ≡ Err UnknownName → g x ≡ Ok y → next (if b then Ok x else Err c) f ≡ Err cause →
+    (next (if b then Ok x else Err c) g ≡ Err cause) ⊎ (((d : Counts) × (next (if b then Ok x else Err c) g ≡ Ok d)) × (cause ≡ UnknownName))
+unknown_by true x y c cause f g e h k = inr ((y, h), err_is (sym e ∙ k))
+unknown_by false x y c cause f g e h k = inl k
+
+unknown_at : (p : Phase) (l o a f v k : ℕ) (cause : Cause) → counted (made p l o a f v k) Unknown ≡ Err cause → NameErr (made p l o a f v k) Unknown cause
+unknown_at NextConstraint l o a f v k cause e = unknown_by (nat_lt k 64) (made Sides l o a f v (k + 1)) _ TooManyConstraints cause (asked Unknown) (asked (ConstantName nought)) refl refl e
+unknown_at p l o a f v k cause e = inr ((_, refl), err_is e)
+
+taken_by : (b : Bool) (x : Counts) (c cause : Cause) → (if b then Err DuplicateName else Err c) ≡ failed cause →
+    ((if b then Ok x else Err c) ≡ Err cause) ⊎ (((d : Counts) × ((if b then Ok x else Err c) ≡ Ok d)) × (cause ≡ DuplicateName))
+taken_by true x c cause e = inr ((x, refl), err_is e)
+taken_by false x c cause e = inl e
+
+taken_at : (p : Phase) (l o a f v k : ℕ) (cause : Cause) → counted (made p l o a f v k) (Declared true) ≡ Err cause → NameErr (made p l o a f v k) (Declared true) cause
+taken_at Variables l o a f v k cause e = taken_by (nat_lt v 12) _ TooManyVariables cause e
+taken_at Parameters l o a f v k cause e = taken_by (nat_lt a 12) _ Unexpected cause e
+taken_at p l o a f v k cause e = inr ((_, refl), err_is e)
+
+pub name_at : (c : Counts) (s : Symbol) (cause : Cause) → counted c s ≡ Err cause → NameErr c s cause
+name_at c Unknown cause e = unknown_at c.phase c.level c.operations c.parameters c.functions c.variables c.constraints cause e
+name_at c (Declared true) cause e = taken_at c.phase c.level c.operations c.parameters c.functions c.variables c.constraints cause e
+name_at c (Declared false) cause e = inl e
+name_at c s cause e = inl e
+
+-- ---- A sign in front of a function's name
+
+-- a step can be put anywhere
+put_in : (all : List Item) (ss : List Symbol) (ops : List Op) → Derives all ss ops → (op : Op) (xs items : List Item) → all ≡ xs ++ items → (ops' : List Op) × Derives (xs ++ Then op ∷ items) ss ops'
+put_in all ss ops d op [] items e = (op ∷ ops, left_out (Then op) items ss ops tt (subst (λ (z : List Item). Derives z ss ops) e d))
+put_in all ss ops (done) op (x ∷ xs) items e = absurd (nil_cons e)
+put_in all ss ops (left_out i rest ss' ops' may d) op (x ∷ xs) items e =
+    let more = put_in rest ss' ops' d op xs items (tail_is e) in
+    subst (λ (z : Item). (code : List Op) × Derives (z ∷ xs ++ Then op ∷ items) ss code) (head_is e) (step_of i ++ more.0, left_out i (xs ++ Then op ∷ items) ss' more.0 may more.1)
+put_in all ss ops (begun i rest s ss' p ops' made d) op (x ∷ xs) items e =
+    let more = put_in (p.0 ++ rest) ss' ops' d op (p.0 ++ xs) items (ap (λ (z : List Item). p.0 ++ z) (tail_is e) ∙ sym (append_assoc p.0 xs items)) in
+    subst (λ (z : Item). (code : List Op) × Derives (z ∷ xs ++ Then op ∷ items) ss code) (head_is e)
+    (p.1 ++ more.0, begun i (xs ++ Then op ∷ items) s ss' p more.0 made (subst (λ (z : List Item). Derives z ss' more.0) (append_assoc p.0 xs (Then op ∷ items)) more.1))
+
+abbrev further : List Item
+further = MoreFactors ∷ MoreTerms ∷ WantRelation ∷ MoreConstraints ∷ []
+
+-- where a factor begins with the name, it begins with a sign and the name
+signed_item : (i : Item) (op : Op) (n : ℕ) (p : Produced) (items : List Item) (rest : List Symbol) (ops : List Op) → produced i (Call op n) ≡ Some p → Derives (p.0 ++ items) rest ops →
+    (ops' : List Op) × Derives (i ∷ items) (FixedToken Minus ∷ Call op n ∷ rest) ops'
+signed_item WantFactor op n p items rest ops made d =
+    let more = put_in (p.0 ++ items) rest ops d (One Neg) p.0 items refl in
+    (_, begun WantFactor items (FixedToken Minus) (Call op n ∷ rest) _ _ refl (begun WantFactor (Then (One Neg) ∷ items) (Call op n) rest p more.0 made more.1))
+signed_item MaybeConstraint op n p items rest ops made d =
+    let q : List Item = Exactly Open ∷ WantFactor ∷ MoreFactors ∷ MoreTerms ∷ MoreArguments (n - 1) ∷ Then op ∷ MaybePower ∷ [] in
+    let whole : Derives (q ++ (further ++ items)) rest ops = subst (λ (z : Produced). Derives (z.0 ++ items) rest ops) (sym (some_is made)) d in
+    let more = put_in (q ++ (further ++ items)) rest ops whole (One Neg) q (further ++ items) refl in
+    (_, begun MaybeConstraint items (FixedToken Minus) (Call op n ∷ rest) _ _ refl (begun WantFactor (Then (One Neg) ∷ (further ++ items)) (Call op n) rest (q, []) more.0 refl more.1))
+signed_item (MoreArguments zero) op n p items rest ops made d = absurd (none_some refl made)
+signed_item (MoreArguments (suc m)) op n p items rest ops made d = absurd (none_some refl made)
+signed_item i op n p items rest ops made d = absurd (none_some refl made)
+
+signed_text : (items : List Item) (all : List Symbol) (ops : List Op) → Derives items all ops → (before : List Symbol) (op : Op) (n : ℕ) (rest : List Symbol) → all ≡ before ++ Call op n ∷ rest →
+    (ops' : List Op) × Derives items (before ++ FixedToken Minus ∷ Call op n ∷ rest) ops'
+signed_text items all ops (done) [] op n rest e = absurd (nil_cons e)
+signed_text items all ops (done) (b ∷ before) op n rest e = absurd (nil_cons e)
+signed_text items all ops (left_out i others ss ops' may d) before op n rest e =
+    let more = signed_text others ss ops' d before op n rest e in (step_of i ++ more.0, left_out i others _ more.0 may more.1)
+signed_text items all ops (begun i others s ss p ops' made d) [] op n rest e =
+    signed_item i op n p others rest ops' (subst (λ (z : Symbol). produced i z ≡ Some p) (head_is e) made) (subst (λ (z : List Symbol). Derives (p.0 ++ others) z ops') (tail_is e) d)
+signed_text items all ops (begun i others s ss p ops' made d) (b ∷ before) op n rest e =
+    let more = signed_text (p.0 ++ others) ss ops' d before op n rest (tail_is e) in
+    subst (λ (z : Symbol). (code : List Op) × Derives (i ∷ others) (z ∷ before ++ FixedToken Minus ∷ Call op n ∷ rest) code) (head_is e) (p.1 ++ more.0, begun i others s _ p more.0 made more.1)
+
+-- where a text goes on with a function's name, one goes on with a sign
+pub sign_begins : (items : List Item) (before : List Symbol) (op : Op) (n : ℕ) → BeginsByItems items (before ++ Call op n ∷ []) → BeginsByItems items (before ++ FixedToken Minus ∷ [])
+sign_begins items before op n b =
+    let found = signed_text items ((before ++ Call op n ∷ []) ++ b.rest) b.steps b.derived before op n b.rest (append_assoc before (Call op n ∷ []) b.rest) in
+    record {
+      rest = Call op n ∷ b.rest;
+      steps = found.0;
+      derived = subst (λ (z : List Symbol). Derives items z found.0) (sym (append_assoc before (FixedToken Minus ∷ []) (Call op n ∷ b.rest))) found.1;
+    }
