@@ -1,7 +1,7 @@
 //! Calls of the top call over a folder and streams in memory, with a gate or with none, and a keeper in memory.
 use pv_cli::{Gate, NoGate, Status, paver_main};
 use pv_io::{MemFolder, MemSink};
-use pv_keep::MemKeeper;
+use pv_keep::{Keeper, MemKeeper};
 use std::alloc::Global;
 use std::sync::Wait;
 use std::thread::Threads;
@@ -33,14 +33,14 @@ pub(crate) fn paver_at<R: Threads + Wait + Sync, G: Gate + Sync>(
 }
 
 /// What the words come to over a keeper, with no gate.
-pub(crate) fn paver_keeping<R: Threads + Wait + Sync>(
+pub(crate) fn paver_keeping<R: Threads + Wait + Sync, P: Keeper>(
     rt: &R,
     alloc: Global,
     words: &[String],
     folder: &mut MemFolder,
     out: &mut MemSink,
     err: &mut MemSink,
-    keeper: &mut MemKeeper,
+    keeper: &mut P,
 ) -> Status {
     paver_main(rt, alloc, words, folder, out, err, &NoGate, keeper)
 }

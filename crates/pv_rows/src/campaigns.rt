@@ -1,6 +1,10 @@
 //! Worked examples of campaigns over a keeper in memory: their rounds, why they are refused, and what is kept.
+ghost use Rattle.std.specs.Prelude.{◌≡◌};
+ghost use Rattle.pv_keep.specs.Keeping.{absent};
+
 use crate::calling::paver_keeping;
 use crate::files::{SUMMARY, SYSTEM};
+use crate::giving::{Giving, rows_of};
 use crate::tests::words_of;
 use pv_io::{MemFolder, MemSink};
 use pv_keep::{BeginRefused, Keeper, Line, MemKeeper, Row, Rows};
@@ -88,10 +92,10 @@ fn kept(alloc: Global, keeper: &mut MemKeeper, name: &str) -> Result<Vec<u8>, Fa
     }
 }
 
-fn take<R: Abort + Threads + Wait + Sync>(
+fn take<R: Abort + Threads + Wait + Sync, P: Keeper>(
     rt: &R,
     alloc: Global,
-    keeper: &mut MemKeeper,
+    keeper: &mut P,
     turn: Turn,
 ) -> Result<(), Fail> {
     let list = words_of(alloc, turn.words)?;
@@ -328,14 +332,16 @@ fn tree_limit(rt: HostRuntime) -> Result<(), Fail> {
     check(&rt, rt.alloc(), &[], &LIMITS)
 }
 
-// Keeps one row under a name.
+// Keeps one row under a name that is absent.
 fn keep_row<P: Keeper>(
     alloc: Global,
     keeper: &mut P,
     name: &str,
     path: Path,
     line: &[u8],
-) -> Result<(), Fail> {
+) -> Result<(), Fail>
+    requires { P.kept keeper.old name.now ≡ absent }
+{
     let line = match Line::of(alloc, line) {
         Ok(Some(line)) => line,
         _ => return Err("no line")?,
@@ -369,5 +375,33 @@ fn bad_row(rt: HostRuntime) -> Result<(), Fail> {
     take(&rt, alloc, &mut keeper, turn)?;
     let rows = kept(alloc, &mut keeper, "k")?;
     assert_eq!(rt; rows.as_slice(), turn.rows.as_bytes());
+    Ok(())
+}
+
+// How many rows are kept, the status and the line. The second row of the root is bad.
+const ROWS_OF_THE_ROOT: [(u32, &str); 2] = [
+    (100_001, "paving k: too many rows\n"),
+    (2, "paving k: bad row 1\n"),
+];
+
+#[test]
+fn many_rows(rt: HostRuntime) -> Result<(), Fail> {
+    let alloc = rt.alloc();
+    for (count, err) in ROWS_OF_THE_ROOT {
+        let mut keeper = Giving {
+            alloc,
+            rows: rows_of(alloc, count)?,
+            begun: None,
+        };
+        let turn = Turn {
+            words: "campaign s --eps 0.25 --keep k",
+            status: 4,
+            out: "",
+            err,
+            name: "k",
+            rows: "",
+        };
+        take(&rt, alloc, &mut keeper, turn)?;
+    }
     Ok(())
 }

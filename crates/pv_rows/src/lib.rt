@@ -16,6 +16,8 @@ mod faults;
 #[cfg(test)]
 mod files;
 #[cfg(test)]
+mod giving;
+#[cfg(test)]
 mod least_values;
 #[cfg(test)]
 mod numbers;
