@@ -10,6 +10,7 @@ pub mod Views
 pub mod Forms
 pub mod FormSettlers
 pub mod Leasts
+pub mod Campaigns
 pub mod Products
 pub mod Made
 pub mod Ends
