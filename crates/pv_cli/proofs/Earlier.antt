@@ -15,7 +15,7 @@ use Rattle.pv_cli.specs.declared.pavings.Key.{Key}
 use Rattle.pv_cli.specs.declared.refusal.FileFault.{FileFault}
 use Rattle.pv_cli.specs.declared.refusal.FileFault.TheVariants.{TooLong, WrongIdentity, BadLine, TooManyNodes}
 use Rattle.pv_cli.specs.declared.refusal.Refusal.{Refusal}
-use Rattle.pv_cli.specs.declared.refusal.Refusal.TheVariants.{Usage, System, Contract, Objective, NoFile, ReadFault, Paving, NotStored, NotPrinted, Memory, TreeLimit, Disagree, Differs}
+use Rattle.pv_cli.specs.declared.refusal.Refusal.TheVariants.{Usage, System, Contract, Objective, NoFile, ReadFault, Paving, NotStored, KeeperFault, NotPrinted, Memory, TreeLimit, Disagree, Differs}
 
 pub only_read_on : (a b c : Files) → AreOnlyRead a b → AreOnlyRead b c → AreOnlyRead a c
 only_read_on a b c h k = record {
@@ -51,6 +51,7 @@ module _ (a b : Files) (read : AreOnlyRead a b) where
   fetch_before c name (Objective byte cause) h = h
   fetch_before c name (Paving n f) h = h
   fetch_before c name (NotStored n) h = h
+  fetch_before c name (KeeperFault n) h = h
   fetch_before c name NotPrinted h = h
   fetch_before c name (TreeLimit n) h = h
   fetch_before c name (Disagree p x y) h = h
@@ -75,6 +76,7 @@ module _ (a b : Files) (read : AreOnlyRead a b) where
   refused_before c identity root name (Contract byte) h = h
   refused_before c identity root name (Objective byte cause) h = h
   refused_before c identity root name (NotStored n) h = h
+  refused_before c identity root name (KeeperFault n) h = h
   refused_before c identity root name NotPrinted h = h
   refused_before c identity root name (TreeLimit n) h = h
   refused_before c identity root name (Disagree p x y) h = h

@@ -13,7 +13,9 @@ pub mod Joined
 pub mod Earlier
 pub mod Refused
 pub mod Merges
+pub mod Stocks
 pub mod StatusLaws
+pub mod CampaignLaws
 pub mod Levels
 pub mod Drawn
 pub mod Planes

@@ -23,3 +23,4 @@ pub mod Resumed
 pub mod Audited
 pub mod Merges
 pub mod StatusLaws
+pub mod CampaignLaws

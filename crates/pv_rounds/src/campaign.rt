@@ -109,7 +109,17 @@ where
         Ok(campaign) => campaign,
         Err(refused) => return Err(refused),
     };
-    match go_on(rt, alloc, settler, &mut campaign, keeper, count, boxes, workers, gate) {
+    match go_on(
+        rt,
+        alloc,
+        settler,
+        &mut campaign,
+        keeper,
+        count,
+        boxes,
+        workers,
+        gate,
+    ) {
         Ok(()) => Ok(campaign),
         Err(refused) => Err(refused.into()),
     }

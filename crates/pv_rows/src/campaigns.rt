@@ -96,7 +96,10 @@ fn take<R: Abort + Threads + Wait + Sync>(
 ) -> Result<(), Fail> {
     let list = words_of(alloc, turn.words)?;
     let mut files = BTreeMap::new(alloc);
-    files.insert(String::from_str(alloc, "s")?, SYSTEM.as_bytes().to_vec(alloc)?)?;
+    files.insert(
+        String::from_str(alloc, "s")?,
+        SYSTEM.as_bytes().to_vec(alloc)?,
+    )?;
     files.insert(String::from_str(alloc, "bad")?, b"Variables".to_vec(alloc)?)?;
     let mut folder = MemFolder::new(alloc, files, Vec::new(alloc));
     let mut out = MemSink::new(alloc, Vec::new(alloc));
