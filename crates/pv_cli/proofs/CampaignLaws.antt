@@ -29,20 +29,11 @@ use Rattle.pv_cli.specs.declared.refusal.Refusal.{Refusal}
 use Rattle.pv_cli.specs.declared.refusal.Refusal.TheVariants.{Usage, System, Contract, Objective, NoFile, ReadFault, Paving, NotStored, KeeperFault, NotPrinted, Memory, TreeLimit, Disagree, Differs}
 use Rattle.pv_cli.specs.declared.status.Status.{Status}
 use Rattle.pv_cli.specs.declared.status.Status.TheVariants as status
+use Rattle.pv_cli.proofs.Campaigned.{held_broken}
 use Rattle.pv_cli.proofs.Stocks.{left_stays, opened_stays, same_rows, all_rows}
 use Rattle.pv_cli.proofs.StatusLaws.{no_files, is_answer}
 
 -- ---- What is kept behind a refusal
-
--- a campaign whose rounds are over was interrupted behind its last round
-pub held_broken : (rule : Rule) (depth : ℕ) (b : List Bounds) (identity : List ℕ) (boxes count : ℕ) (k0 k1 : Kept) (t : Tree) → IsHeld rule depth b identity (count * boxes) k0 k1 t
-    → IsBroken rule depth b identity boxes count k0 k1
-held_broken rule depth b identity boxes count k0 k1 t h = record {
-  opening = h.opening;
-  middle = h.middle;
-  opened = h.opened;
-  stopped = record { rounds = count; few = omega arith; tree = t; gone = h.gone };
-}
 
 abbrev Remains : Rule → ℕ → List Bounds → List ℕ → ℕ → ℕ → Kept → Kept → Type 0
 Remains rule depth b identity boxes count k0 k1 = RowsStay k0 k1 ⊎ IsInterrupted rule depth b identity boxes count k0 k1
@@ -143,11 +134,11 @@ module _ (before after : Files) (u v : Stock) where
   work_failed (Run form system settings effort out) n h = absurd h
   work_failed (Resume system pavings settings effort out) n (inl h) = absurd h
   work_failed (Resume system pavings settings effort out) n (inr (inl h)) =
-      absurd (no_files before after u v h.rule (KeeperFault n) (fault_or_memory n) (λ m k. k) (names_in pavings.items) h.refused)
+      absurd (no_files before after h.rule (KeeperFault n) (fault_or_memory n) (λ m k. k) (names_in pavings.items) h.refused)
   work_failed (Resume system pavings settings effort out) n (inr (inr h)) = absurd h.refused
   work_failed (Merge system pavings settings out) n (inl h) = absurd h
   work_failed (Merge system pavings settings out) n (inr (inl h)) =
-      absurd (no_files before after u v h.rule (KeeperFault n) (fault_or_memory n) (λ m k. k) (names_in pavings.items) h.refused)
+      absurd (no_files before after h.rule (KeeperFault n) (fault_or_memory n) (λ m k. k) (names_in pavings.items) h.refused)
   work_failed (Merge system pavings settings out) n (inr (inr h)) = absurd h.refused
   work_failed (Audit form system paving settings) n (inl h) = absurd h
   work_failed (Audit form system paving settings) n (inr h) = absurd h.refused

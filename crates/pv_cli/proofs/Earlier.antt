@@ -13,7 +13,7 @@ use Rattle.pv_file.specs.Readings.{IsFirstBadLine, IsOneTooMany}
 use Rattle.pv_cli.specs.Reads.{AreRead, AreOver, IsKeyOf, trees_of}
 use Rattle.pv_cli.specs.declared.pavings.Key.{Key}
 use Rattle.pv_cli.specs.declared.refusal.FileFault.{FileFault}
-use Rattle.pv_cli.specs.declared.refusal.FileFault.TheVariants.{TooLong, WrongIdentity, BadLine, TooManyNodes}
+use Rattle.pv_cli.specs.declared.refusal.FileFault.TheVariants.{TooLong, WrongIdentity, BadLine, TooManyNodes, BadRow, TooManyRows}
 use Rattle.pv_cli.specs.declared.refusal.Refusal.{Refusal}
 use Rattle.pv_cli.specs.declared.refusal.Refusal.TheVariants.{Usage, System, Contract, Objective, NoFile, ReadFault, Paving, NotStored, KeeperFault, NotPrinted, Memory, TreeLimit, Disagree, Differs}
 
@@ -40,6 +40,8 @@ module _ (a b : Files) (read : AreOnlyRead a b) where
   fault_before identity root name WrongIdentity h = other_before name _ h
   fault_before identity root name (BadLine n) h = other_before name _ h
   fault_before identity root name (TooManyNodes n) h = other_before name _ h
+  fault_before identity root name (BadRow n) h = h
+  fault_before identity root name TooManyRows h = h
 
   fetch_before : (c : Files) (name : List ℕ) (r : Refusal) → RefusesFetch b c name r → RefusesFetch a c name r
   fetch_before c name (NoFile n) h = (h.0, subst (λ (x : Content). MayBeAbsent x) (read.content name) h.1)

@@ -15,6 +15,7 @@ pub mod Refused
 pub mod Merges
 pub mod Stocks
 pub mod StatusLaws
+pub mod Campaigned
 pub mod CampaignLaws
 pub mod Levels
 pub mod Drawn

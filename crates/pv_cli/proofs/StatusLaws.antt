@@ -321,12 +321,13 @@ is_written (hold.TreeLimit n) name = tt
 not_written : (refused : HoldRefused) (name : Bor Text) (r : Refusal) → r ≡ campaign_refusal name refused → IsWritable r
 not_written refused name r e = subst IsWritable (sym e) (is_written refused name)
 
-module _ (before after : Files) (u v : Stock) where
+module _ (before after : Files) where
   pub no_files : (rule : SettlerParts) (r : Refusal) → (r ≡ Memory → ⊥) → ((n : Text) → RefusesPaving before after rule n r → ⊥) → (names : List Text) → RefusesPavings before after rule names r → ⊥
   no_files rule r memory one [] h = memory h
   no_files rule r memory one (n ∷ names) (inl h) = one n h
   no_files rule r memory one (n ∷ names) (inr h) = no_files rule r memory one names h.2
 
+module _ (before after : Files) (u v : Stock) where
   stored_or_memory : (n : Bor Text) → NotStored n ≡ Memory → ⊥
   stored_or_memory n e = cc
 
@@ -334,10 +335,10 @@ module _ (before after : Files) (u v : Stock) where
   no_work_stored (Check system) m h = h
   no_work_stored (Run form system settings effort out) m h = h
   no_work_stored (Resume system pavings settings effort out) m (inl h) = h
-  no_work_stored (Resume system pavings settings effort out) m (inr (inl h)) = no_files h.rule (NotStored m) (stored_or_memory m) (λ n k. k) (names_in pavings.items) h.refused
+  no_work_stored (Resume system pavings settings effort out) m (inr (inl h)) = no_files before after h.rule (NotStored m) (stored_or_memory m) (λ n k. k) (names_in pavings.items) h.refused
   no_work_stored (Resume system pavings settings effort out) m (inr (inr h)) = h.refused
   no_work_stored (Merge system pavings settings out) m (inl h) = h
-  no_work_stored (Merge system pavings settings out) m (inr (inl h)) = no_files h.rule (NotStored m) (stored_or_memory m) (λ n k. k) (names_in pavings.items) h.refused
+  no_work_stored (Merge system pavings settings out) m (inr (inl h)) = no_files before after h.rule (NotStored m) (stored_or_memory m) (λ n k. k) (names_in pavings.items) h.refused
   no_work_stored (Merge system pavings settings out) m (inr (inr h)) = h.refused
   no_work_stored (Audit form system paving settings) m (inl h) = h
   no_work_stored (Audit form system paving settings) m (inr h) = h.refused
@@ -355,10 +356,10 @@ module _ (before after : Files) (u v : Stock) where
   no_work_printed (Check system) h = h
   no_work_printed (Run form system settings effort out) h = h
   no_work_printed (Resume system pavings settings effort out) (inl h) = h
-  no_work_printed (Resume system pavings settings effort out) (inr (inl h)) = no_files h.rule NotPrinted printed_or_memory (λ n k. k) (names_in pavings.items) h.refused
+  no_work_printed (Resume system pavings settings effort out) (inr (inl h)) = no_files before after h.rule NotPrinted printed_or_memory (λ n k. k) (names_in pavings.items) h.refused
   no_work_printed (Resume system pavings settings effort out) (inr (inr h)) = h.refused
   no_work_printed (Merge system pavings settings out) (inl h) = h
-  no_work_printed (Merge system pavings settings out) (inr (inl h)) = no_files h.rule NotPrinted printed_or_memory (λ n k. k) (names_in pavings.items) h.refused
+  no_work_printed (Merge system pavings settings out) (inr (inl h)) = no_files before after h.rule NotPrinted printed_or_memory (λ n k. k) (names_in pavings.items) h.refused
   no_work_printed (Merge system pavings settings out) (inr (inr h)) = h.refused
   no_work_printed (Audit form system paving settings) (inl h) = h
   no_work_printed (Audit form system paving settings) (inr h) = h.refused
