@@ -31,3 +31,16 @@ pub(crate) fn paver_at<R: Threads + Wait + Sync, G: Gate + Sync>(
     let mut keeper = MemKeeper::new(alloc, Vec::new(alloc));
     paver_main(rt, alloc, words, folder, out, err, gate, &mut keeper)
 }
+
+/// What the words come to over a keeper, with no gate.
+pub(crate) fn paver_keeping<R: Threads + Wait + Sync>(
+    rt: &R,
+    alloc: Global,
+    words: &[String],
+    folder: &mut MemFolder,
+    out: &mut MemSink,
+    err: &mut MemSink,
+    keeper: &mut MemKeeper,
+) -> Status {
+    paver_main(rt, alloc, words, folder, out, err, &NoGate, keeper)
+}

@@ -4,6 +4,8 @@
 #[cfg(test)]
 mod calling;
 #[cfg(test)]
+mod campaigns;
+#[cfg(test)]
 mod centered;
 #[cfg(test)]
 mod damage;
