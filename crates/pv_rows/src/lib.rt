@@ -16,6 +16,8 @@ mod faults;
 #[cfg(test)]
 mod files;
 #[cfg(test)]
+mod keeper_faults;
+#[cfg(test)]
 mod least_values;
 #[cfg(test)]
 mod numbers;
