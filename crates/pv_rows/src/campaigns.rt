@@ -33,16 +33,16 @@ const IDENTITY: [u8; 32] = [
     0xef, 0xf5, 0x86, 0x22, 0xab, 0x1c, 0x9a, 0x05, 0x3f, 0x3f, 0xcb, 0xdf, 0x68, 0x52, 0xf8, 0x1a,
 ];
 
-const ROOT: &str = ". C 0 1:-1 0:0 1:0\n";
+pub(crate) const ROOT: &str = ". C 0 1:-1 0:0 1:0\n";
 
-const TWO: &str = ". C 0 1:-1 0:0 1:0\n0 C 0 1:-2 0:0 1:-1\n";
+pub(crate) const TWO: &str = ". C 0 1:-1 0:0 1:0\n0 C 0 1:-2 0:0 1:-1\n";
 
-const THREE: &str = ". C 0 1:-1 0:0 1:0\n0 C 0 1:-2 0:0 1:-1\n00 S 0:0 1:-2\n";
+pub(crate) const THREE: &str = ". C 0 1:-1 0:0 1:0\n0 C 0 1:-2 0:0 1:-1\n00 S 0:0 1:-2\n";
 
-const ALL: &str =
+pub(crate) const ALL: &str =
     ". C 0 1:-1 0:0 1:0\n0 C 0 1:-2 0:0 1:-1\n00 S 0:0 1:-2\n01 I 1:-2 1:-1\n1 I 1:-1 1:0\n";
 
-const ONE_SETTLED: &str = "settled 1 cut 1 removed 0 inner 0 small 0 open 2\n";
+pub(crate) const ONE_SETTLED: &str = "settled 1 cut 1 removed 0 inner 0 small 0 open 2\n";
 
 const USAGE: &str = "usage: paver COMMAND SYSTEM [OPTIONS] [PAVING..]\n";
 
@@ -78,7 +78,7 @@ fn loaded<P: Keeper>(
 }
 
 // What is kept under a name, or "none" where nothing is.
-fn kept(alloc: Global, keeper: &mut MemKeeper, name: &str) -> Result<Vec<u8>, Fail> {
+pub(crate) fn kept(alloc: Global, keeper: &mut MemKeeper, name: &str) -> Result<Vec<u8>, Fail> {
     let mut out = Vec::new(alloc);
     match keeper.begin(name, [0; 32]) {
         Err(BeginRefused::OtherIdentity { kept }) => {

@@ -23,7 +23,7 @@ const ONE: &str = "settled 1 cut 0 removed 0 inner 1 small 0 open 0\n";
 
 const ONE_NODE: &str = "settled 1 cut 0 removed 0 inner 1 small 0 open 0\nI 0:0 1:0\n";
 
-pub(crate) const CASES: [Case; 33] = [
+pub(crate) const CASES: [Case; 36] = [
     Case {
         words: "check s",
         status: 0,
@@ -309,6 +309,33 @@ pub(crate) const CASES: [Case; 33] = [
         status: 2,
         out: "",
         err: "objective: byte 2: EndOfText\n",
+        lines: &["read fault: s\n"],
+        file: "",
+        holds: "",
+    },
+    Case {
+        words: "campaign s --eps 0.25 --keep k",
+        status: 0,
+        out: SUMMARY,
+        err: "",
+        lines: &["read fault: s\n"],
+        file: "",
+        holds: "",
+    },
+    Case {
+        words: "campaign s --eps 0.25 --keep k --boxes 1",
+        status: 1,
+        out: "settled 1 cut 1 removed 0 inner 0 small 0 open 2\n",
+        err: "",
+        lines: &["read fault: s\n"],
+        file: "",
+        holds: "",
+    },
+    Case {
+        words: "campaign s --eps 0.25 --keep k --boxes 1001 --rounds 100",
+        status: 8,
+        out: "",
+        err: "tree limit: 0 settled\n",
         lines: &["read fault: s\n"],
         file: "",
         holds: "",

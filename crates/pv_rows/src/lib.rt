@@ -18,6 +18,8 @@ mod files;
 #[cfg(test)]
 mod giving;
 #[cfg(test)]
+mod keeper_faults;
+#[cfg(test)]
 mod least_values;
 #[cfg(test)]
 mod numbers;
