@@ -65,6 +65,7 @@ fuzz: paver
 	python3 tests/runners/fuzz_words.py ./paver $(COUNT)
 	python3 tests/runners/fuzz_files.py ./paver $(COUNT)
 	python3 tests/runners/allocations.py ./paver
+	python3 tests/runners/campaign_allocations.py ./paver
 
 install: paver
 	install -d $(DESTDIR)$(PREFIX)/bin $(SHARE)/man/man1 $(SHARE)/bash-completion/completions

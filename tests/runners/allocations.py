@@ -104,10 +104,13 @@ class Tried:
         tried = [n for n in range(1, count + 1) if n <= EACH or n % 7 == 0]
         for how in ("refuse", "refuse_from"):
             for n in tried:
-                if stored:
-                    (self.folder / "files" / stored).unlink(missing_ok=True)
+                self.remove(stored)
                 got = self.call(words, **{how: n})
                 self.judge(words, how, n, got, wanted, before, stored, new)
+
+    def remove(self, stored):
+        if stored:
+            (self.folder / "files" / stored).unlink(missing_ok=True)
 
     def judge(self, words, how, n, got, wanted, before, stored, new):
         status, out, err = got
@@ -123,24 +126,32 @@ class Tried:
                                f"files kept {kept}, stored whole {held}")
 
 
-def main():
-    paver, word = os.path.abspath(sys.argv[1]), sys.argv[2] if len(sys.argv) > 2 else ""
-    compiler = shutil.which("cc")
+def built_shim(folder):
+    """The shared object that refuses allocations; None where there is no C compiler."""
+    compiler, shim = shutil.which("cc"), Path(folder) / "refuse.so"
     if not compiler:
-        print("skipped: there is no C compiler here")
-        print("0 passed, 0 failed")
-        return 0
+        return None
+    source = Path(__file__).with_name("refuse_allocation.c")
+    subprocess.run([compiler, "-O1", "-shared", "-fPIC", str(source), "-o", str(shim)], check=True)
+    return shim
+
+
+def tried_all(kind, listed):
+    """Tries the commands whose names contain a word, each in a folder of its own."""
+    paver, word = os.path.abspath(sys.argv[1]), sys.argv[2] if len(sys.argv) > 2 else ""
     passed = failed = 0
     with tempfile.TemporaryDirectory() as made:
-        shim = Path(made) / "refuse.so"
-        source = Path(__file__).with_name("refuse_allocation.c")
-        subprocess.run([compiler, "-O1", "-shared", "-fPIC", str(source), "-o", str(shim)], check=True)
-        for name, (status, words, stored) in commands().items():
+        shim = built_shim(made)
+        if not shim:
+            print("skipped: there is no C compiler here")
+            print("0 passed, 0 failed")
+            return 0
+        for name, (status, words, stored) in listed.items():
             if word not in name:
                 continue
             folder = Path(made) / name.replace(" ", "_")
             folder.mkdir()
-            tried = Tried(paver, shim, folder)
+            tried = kind(paver, shim, folder)
             tried.prepare()
             try:
                 tried.try_command(status, words, stored)
@@ -154,4 +165,4 @@ def main():
 
 
 if __name__ == "__main__":
-    sys.exit(main())
+    sys.exit(tried_all(Tried, commands()))

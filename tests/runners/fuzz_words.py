@@ -86,6 +86,7 @@ COMMANDS = {
     "audit-centered": ((1, 1), [], SETTINGS),
     "svg": ((1, 1), ["x", "y"], SETTINGS),
     "least": ((0, 0), ["of"], [*SETTINGS, "boxes"]),
+    "campaign": ((0, 0), ["keep"], [*SETTINGS, "workers", "boxes", "rounds"]),
 }
 
 
@@ -96,11 +97,11 @@ class Words:
     VALUES = {"eps": ["0.5", "1", "2", "1e0", "0.25", "100"], "depth": ["1", "5", "60", "200", "0000000007"],
               "bisect": ["largest", "round"], "contract": ["prop(8)", "prop(1)", "hc4(0)", "union(hc4(0),hc4(1))"],
               "workers": ["1", "2", "16"], "boxes": ["5000", "20000", "100000"], "out": ["o"], "x": ["x"], "y": ["y"],
-              "of": ["x+y", "-x*y", "sqr(x-1)"]}
+              "of": ["x+y", "-x*y", "sqr(x-1)"], "keep": ["k"], "rounds": ["1", "2", "100", "0000000003"]}
     BAD = {"eps": ["", "-1", "+1", "x", "1e", "0x1", "1 ", " 1", ".5", "1e37", "oo", "1/2"],
            "depth": ["0", "201", "-1", "", "1.0", "00000000001", "x", "4294967297"],
            "bisect": ["", "Largest", "rounds", "both"], "workers": ["0", "17", "", "1e0", "-2"],
-           "boxes": ["0", "100001", "", "99999999999", "1_000"]}
+           "boxes": ["0", "100001", "", "99999999999", "1_000"], "rounds": ["0", "101", "", "-1", "+1", "1.0"]}
 
     def __init__(self, source):
         self.source = source
@@ -155,7 +156,7 @@ class Words:
             twice = [self.spelled(name, self.source.choice(self.VALUES[name])) for _ in range(2)]
             return [command, *self.shuffled(self.groups(options) + twice, places)]
         if kind == 2:
-            odd = self.source.choice(["--verbose", "--e=1", "-e", "--Eps=1", "--z=a", "--rounds=1", "--help", "--seed=1",
+            odd = self.source.choice(["--verbose", "--e=1", "-e", "--Eps=1", "--z=a", "--round=1", "--help", "--seed=1",
                                       "--eps1=2", "--version", "-h"])
             return [command, *self.shuffled(self.groups(options) + [[odd]], places)]
         if kind == 3:
@@ -200,6 +201,9 @@ class Calls:
         self.wide = called(eps=Fraction(4)).settler
 
     def answer(self, words):
+        """The answer of a call that finds no campaign."""
+        for kept in Path(self.folder).glob("k*"):
+            kept.unlink()
         done = subprocess.run([self.paver, *words], cwd=self.folder, capture_output=True, timeout=60, check=False)
         return done.returncode, done.stdout, done.stderr
 

@@ -111,6 +111,26 @@ def full_and_broken_streams(f):
                 assert f.refused(words, status, None, stderr=stream).stdout == b"", words
 
 
+def campaigns_on_bad_streams(f):
+    """A campaign saves all its rounds before it prints: a call after the fault finds them, and has nothing left to do."""
+    prepared(f)
+    summary = f.run("run", "s").stdout.split(b"\n")[0] + b"\n"
+    kept = ["k", "k-wal", "k-shm", "k-journal"]
+    words = ["campaign", "s", "--keep", "k"]
+    for made in (lambda: open("/dev/full", "wb"), broken):
+        for name in kept:
+            (f.path / name).unlink(missing_ok=True)
+        with made() as stream:
+            f.refused(words, 6, PRINT_FAULT, changed=kept, stdout=stream)
+        done = f.run(*words, "--boxes", "1")
+        assert (done.returncode, done.stdout, done.stderr) == (0, summary, b""), done
+    words = ["campaign", "s", "--keep", "no/such"]
+    f.refused(words, 10, b"keeper fault: no/such\n")
+    with open("/dev/full", "wb") as full:
+        f.refused(words, 10, None, stderr=full)
+        f.refused(words, 10, b"keeper fault: no/such\n", stdout=full)
+
+
 def reader_that_leaves(f):
     """A reader that takes a part and goes: the fault comes in the middle of what is printed."""
     f.put("s", RING)
@@ -246,7 +266,7 @@ def no_words(f):
     f.refused([b"\xff\xfe"], 2, USAGE)
 
 
-CHECKS = [closed_streams, full_and_broken_streams, reader_that_leaves, slow_reader, files_without_an_end, growing_file,
+CHECKS = [closed_streams, full_and_broken_streams, campaigns_on_bad_streams, reader_that_leaves, slow_reader, files_without_an_end, growing_file,
           growing_system, text_from_a_pipe, odd_names, links_and_devices, no_words]
 
 
