@@ -28,6 +28,7 @@ held_broken rule depth b identity boxes count k0 k1 t h = record {
   opening = h.opening;
   middle = h.middle;
   opened = h.opened;
+  few = h.few;
   stopped = record { rounds = count; few = omega arith; tree = t; gone = h.gone };
 }
 

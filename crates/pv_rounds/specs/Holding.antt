@@ -22,11 +22,12 @@ pub record IsHeld (rule : Rule) (depth : ℕ) (b : List Bounds) (identity : List
   pub few : settled_in opening + budget ≤ 100000
   pub gone : HasGoneOn rule depth b opening budget middle after t
 
--- A campaign was opened, and so many of its rounds at most were saved.
+-- A campaign was opened that all its rounds keep within the limit, and so many of them at most were saved.
 pub record IsBroken (rule : Rule) (depth : ℕ) (b : List Bounds) (identity : List ℕ) (boxes count : ℕ) (before after : Kept) : Type 0 where
   pub opening : Tree
   pub middle : Kept
   pub opened : IsOpened before middle identity b opening
+  pub few : settled_in opening + count * boxes ≤ 100000
   pub stopped : HasStopped rule depth b opening boxes count middle after
 
 -- An opening has so many settled nodes, and with the budget too many.

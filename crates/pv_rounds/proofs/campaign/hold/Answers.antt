@@ -1,4 +1,4 @@
-use Rattle.std.proofs.Common.{◌∙◌}
+use Rattle.std.proofs.Common.{◌∙◌, rules}
 use Rattle.pv_rounds.proofs.Interrupted.{stopped_refuses}
 use Rattle.pv_rounds.proofs.campaign.hold.Goals as goal
 
@@ -10,7 +10,7 @@ pub returns-in-Err-go_on-clause-refused : goal.returns-in-Err-go_on-clause-refus
 returns-in-Err-go_on-clause-refused g c =
     stopped_refuses (g.S.Settler.settle_of c.args.settler.now) (g.S.Settler.depth_of c.args.settler.now) c.args.root c.in-Ok.campaign.root c.args.identity c.args.boxes c.args.count
     (g.P.Keeper.kept c.args.keeper.now c.args.name.now) (g.P.Keeper.kept c.opened.new.keeper c.args.name.now) (g.P.Keeper.kept c.go_on.new.keeper c.args.name.now)
-    c.in-Ok.campaign.tree c.in-Err-go_on.refused c.into.result c.in-Ok.ensures.root c.in-Ok.ensures.opened
+    c.in-Ok.campaign.tree c.in-Err-go_on.refused c.into.result c.in-Ok.ensures.root c.in-Ok.ensures.opened (search rules)
     (c.in-Err-go_on.ensures.stopped c.args.name.now c.in-Ok.ensures.begun) c.into.ensures
 
 pub returns-in-Err-go_on-clause-others : goal.returns-in-Err-go_on-clause-others
