@@ -1,5 +1,5 @@
 //! Keepers over databases in memory, good ones and ones that were made otherwise.
-ghost use Rattle.std.specs.Prelude.{◌×◌, OnOk, IfOk};
+ghost use Rattle.std.specs.Prelude.{◌≡◌, IfOk};
 ghost use Rattle.pv_keep.specs.Rows.{AreDistinct};
 
 use super::*;
