@@ -1,5 +1,5 @@
 //! Keepers over databases in memory, good ones and ones that were made otherwise.
-ghost use Rattle.std.specs.Prelude.{◌≡◌, IfOk};
+ghost use Rattle.std.specs.Prelude.{◌≡◌, ◌≢◌, IfOk};
 ghost use Rattle.pv_keep.specs.Rows.{AreDistinct};
 
 use super::*;
@@ -108,15 +108,30 @@ fn one_row(alloc: Global, path: Path, line: &str) -> Result<Rows, Fail>
     }
 }
 
+fn two_rows(alloc: Global, first: Row, second: Row) -> Result<Rows, Fail>
+    requires { second.path ≢ first.path }
+    ensures { IfOk result (λ rows. AreDistinct rows) }
+{
+    let mut rows = Rows::new(alloc);
+    if rows.push(first).is_err() {
+        return Err("no memory")?;
+    }
+    match rows.push(second) {
+        Ok(()) => Ok(rows),
+        Err(_) => Err("no memory")?,
+    }
+}
+
 // Rows of both halves of a cut root, the high one first.
 fn both_halves(alloc: Global) -> Result<Rows, Fail>
     ensures { IfOk result (λ rows. AreDistinct rows) }
 {
-    let mut rows = one_row(alloc, Path::root().high(), "S 1:-1 1:0")?;
-    match rows.push(row(alloc, Path::root().low(), "X")?) {
-        Ok(()) => Ok(rows),
-        Err(_) => Err("no memory")?,
+    let high = row(alloc, Path::root().high(), "S 1:-1 1:0")?;
+    let low = row(alloc, Path::root().low(), "X")?;
+    if low.path == high.path {
+        return Err("one half")?;
     }
+    two_rows(alloc, high, low)
 }
 
 fn keeper_over(alloc: Global, sql: &str) -> Result<ConnectionKeeper<MemStore>, Fail> {
@@ -262,18 +277,14 @@ fn a_row_that_no_node_has_fails_the_load(rt: HostRuntime) -> Result<(), Fail> {
     for path in ["2", "01 ", "x", ".", "0\n"] {
         assert_eq!(rt; loaded_one(alloc, path, "X")?, failed, "at {path}");
     }
-    let digits = zeros(alloc, 201)?;
-    assert_eq!(rt; loaded_one(alloc, digits.as_str(), "X")?, failed);
-    assert_eq!(rt;
-        loaded_one(alloc, &digits.as_str()[..200], "X")?,
-        (Ok(()), false)
-    );
-    let line = zeros(alloc, 661)?;
-    assert_eq!(rt; loaded_one(alloc, "0", line.as_str())?, failed);
-    assert_eq!(rt;
-        loaded_one(alloc, "0", &line.as_str()[..660])?,
-        (Ok(()), false)
-    );
+    for (digits, answer) in [(200, (Ok(()), false)), (201, failed)] {
+        let path = zeros(alloc, digits)?;
+        assert_eq!(rt; loaded_one(alloc, path.as_str(), "X")?, answer);
+    }
+    for (bytes, answer) in [(660, (Ok(()), false)), (661, failed)] {
+        let line = zeros(alloc, bytes)?;
+        assert_eq!(rt; loaded_one(alloc, "0", line.as_str())?, answer);
+    }
     Ok(())
 }
 
