@@ -214,11 +214,10 @@ def databases_that_hold_no_campaign(f):
         f.refused(name)
     (f.path / "text").write_bytes(b"Variables x in [0,1];\n" * 400)
     f.refused("text")
-    (f.path / "one byte").write_bytes(b"S")
-    f.run(10, b"", b"keeper fault: one byte\n", name="one byte") if False else None
-    os.symlink("elsewhere", f.path / "link")
+    make(f.path / "twice", ROWS, identity)
+    os.link(f.path / "twice", f.path / "second name")
     os.mkfifo(f.path / "pipe")
-    for name in ("pipe", "/dev/null"):
+    for name in ("twice", "second name", "pipe", "/dev/null"):
         f.refused(name)
 
 
@@ -249,14 +248,14 @@ def locked_databases(f):
 
 
 def one_campaign_at_a_time(f):
-    words = f.words(100, 1, DISC_EPS, "k", DISC)
+    words = f.words(100, 50, DISC_EPS, "k", DISC)
     first = subprocess.Popen(words, cwd=f.path, stdout=subprocess.DEVNULL, stderr=subprocess.DEVNULL)
     while not (f.path / "k").exists() or (f.path / "k").stat().st_size == 0:
         time.sleep(0.001)
     os.kill(first.pid, 19)
     f.run(10, b"", FAULT, options=DISC_EPS, text=DISC)
     os.kill(first.pid, 18)
-    if first.wait(timeout=SECONDS) != 1 or len(stock(f.path, "k")[2]) != 100:
+    if first.wait(timeout=SECONDS) != 1 or len(stock(f.path, "k")[2]) != 5000:
         f.faults.append("the first campaign did not come to its end")
 
 
