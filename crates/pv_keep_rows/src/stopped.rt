@@ -23,7 +23,7 @@ struct Stops {
 
 /// What a campaign over two disks came to.
 #[derive(Drop)]
-struct Run {
+struct Ended {
     /// None where the connection wasn't opened.
     status: Option<u8>,
     saves: u64,
@@ -52,14 +52,14 @@ fn files_of(connection: Connection<FileStore<Fuse<Memory>>>) -> Files<Fuse<Memor
 }
 
 // A campaign of five rounds over disks that stop.
-fn run<R: Threads + Wait + Sync>(rt: &R, alloc: Global, stops: Stops) -> Result<Run, Fail> {
+fn run<R: Threads + Wait + Sync>(rt: &R, alloc: Global, stops: Stops) -> Result<Ended, Fail> {
     let disks = Files {
         log: Fuse::new(Memory::new(alloc), stops.log),
         db: Fuse::new(Memory::new(alloc), stops.db),
     };
     match open(alloc, disks) {
         Opened::Connection(connection) => run_over(rt, alloc, connection),
-        Opened::Disks(files) => Ok(Run {
+        Opened::Disks(files) => Ok(Ended {
             status: None,
             saves: 0,
             files,
@@ -71,11 +71,11 @@ fn run_over<R: Threads + Wait + Sync>(
     rt: &R,
     alloc: Global,
     connection: Connection<FileStore<Fuse<Memory>>>,
-) -> Result<Run, Fail> {
+) -> Result<Ended, Fail> {
     let mut keeper = Counting::new(ConnectionKeeper::new(alloc, connection));
     let answer = campaign(rt, alloc, &mut keeper, "5")?;
     let saves = keeper.saves();
-    Ok(Run {
+    Ok(Ended {
         status: Some(answer.status),
         saves,
         files: files_of(keeper.into_connection()),
@@ -125,7 +125,7 @@ fn status_over<R: Abort + Threads + Wait + Sync>(
     alloc: Global,
     stops: Stops,
 ) -> Result<Option<u8>, Fail> {
-    let Run {
+    let Ended {
         status,
         saves,
         files,
