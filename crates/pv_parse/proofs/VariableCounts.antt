@@ -1,21 +1,16 @@
 -- A text declares from 1 to 12 variables.
-use Rattle.std.proofs.Common.{◌≡◌, ℕ, ◌+◌, ◌<◌, ◌≤◌, ◌∙◌, ◌⊎◌, inl, inr, ⊎_elim, Bool, true, false, List, [], ◌∷◌, ◌++◌, length, refl, sym, ap, subst, arith, Option, Some, None, Ok, Err, if◌then◌else◌, nat_lt}
-use Rattle.std.proofs.lemmas.Bool.{false≢true}
+use Rattle.std.proofs.Common.{◌≡◌, ℕ, ◌+◌, ◌<◌, ◌≤◌, ◌∙◌, Bool, true, false, List, [], ◌∷◌, length, refl, sym, ap, subst, arith, Ok, Err, if◌then◌else◌, nat_lt}
 use Rattle.std.proofs.lemmas.Bool.Decides.{Decides-ltb}
-use Rattle.pv_code.specs.declared.code.Op.{Op}
 use Rattle.pv_grammar.specs.declared.cause.Cause.{Cause}
 use Rattle.pv_grammar.specs.declared.cause.Cause.TheVariants.{TooDeep}
 use Rattle.pv_grammar.specs.declared.counts.Counts.{Counts}
 use Rattle.pv_grammar.specs.declared.counts.Phase.{Phase}
 use Rattle.pv_grammar.specs.declared.counts.Phase.TheVariants.{Body, FunctionName, NextConstraint, Parameters, Sides, Variables}
-use Rattle.pv_grammar.specs.declared.machine.Item.{Item}
-use Rattle.pv_grammar.specs.declared.machine.Item.TheVariants.{Exactly, WantVariable}
 use Rattle.pv_grammar.specs.declared.symbol.Fixed.{Fixed}
-use Rattle.pv_grammar.specs.declared.symbol.Fixed.TheVariants.{Open, Close, Comma, Semicolon, Variables as VariablesWord, Function as FunctionWord, End}
+use Rattle.pv_grammar.specs.declared.symbol.Fixed.TheVariants.{Open, Close, Comma, Semicolon, Function as FunctionWord, End}
 use Rattle.pv_grammar.specs.declared.symbol.Symbol.{Symbol}
 use Rattle.pv_grammar.specs.declared.symbol.Symbol.TheVariants.{Fixed as FixedToken, Declared, Function as Call, Unknown}
-use Rattle.pv_grammar.specs.Grammar.{Derives, done, left_out, begun, MayEnd, Produced, declared, exactly, produced, system_items}
-use Rattle.pv_grammar.specs.Counting.{Counting, begins, begun as begun_by, behind_comma, behind_end, behind_semicolon, counted, declared as declared_as, in_expression, in_phase, levels, moved, nested, next, operated, operates, turned, with_operations, with_parameters}
+use Rattle.pv_grammar.specs.Counting.{Counting, begins, begun as begun_by, behind_comma, behind_end, behind_semicolon, counted, declared as declared_as, in_expression, levels, moved, nested, next, operated, operates, turned, with_operations, with_parameters}
 use Rattle.pv_parse.specs.Declarations.{Mark, declares, mark_of}
 use Rattle.pv_parse.specs.Scopes.{Variable, variable, variables_in}
 use Rattle.pv_parse.proofs.NameBytes.{is_declared}
