@@ -2,7 +2,6 @@ pub mod ByLimits
 pub mod ByTrees
 pub mod Calls
 pub mod Closings
-pub mod ConstraintCounts
 pub mod Continued
 pub mod Decided
 pub mod Declarations

@@ -32,12 +32,11 @@ use Rattle.pv_parse.specs.Meanings.{Names, no_names}
 use Rattle.pv_parse.specs.Scopes.{IsToldAs, Scoped, Variable, bracket_given, bracket_in, domain_given, domain_in, name_of, nothing_scoped, variable, variables_in}
 use Rattle.pv_parse.proofs.ByLimits.{marked_of}
 use Rattle.pv_parse.proofs.ByTrees.{system_first}
-use Rattle.pv_parse.proofs.TreeTexts.{text_of_system}
+use Rattle.pv_parse.proofs.TreeTexts.{text_of_system, variables_many}
 use Rattle.pv_parse.proofs.KnownNames.{sentence_known, system_start}
 use Rattle.pv_parse.proofs.Starts.{starts_count}
 use Rattle.pv_parse.proofs.Distinct.{names_distinct}
 use Rattle.pv_parse.proofs.TreeDomains.{brackets_named, domains_of_tree, names_named}
-use Rattle.pv_parse.proofs.VariableCounts.{few_variables, some_variable}
 use Rattle.pv_parse.proofs.Fractions.{HaveBounds, domains_at, have_bounds}
 use Rattle.pv_parse.proofs.NameBytes.{begins_within}
 use Rattle.pv_parse.proofs.Declarations.{all_brackets, all_domains, all_names, all_starts, same_lengths}
@@ -85,20 +84,6 @@ pub names_length : (t : List ℕ) (known : Names) (start : Counts) (items : List
     length new.names ≡ length (variables_in s.marks)
 names_length t known start items code new s = ap length (names_are t known start items code new s) ∙ length-map name_of (variables_in s.marks)
 
-pub names_few : (t : List ℕ) (known : Names) (items : List Item) (code : List Op) (new : Scoped) → IsToldAs t known (nothing Between) items [] code nothing_scoped new →
-    length new.names ≤ 12
-names_few t known items code new s =
-    let same = names_length t known (nothing Between) items code new s in
-    let few = few_variables t (nothing Between) s.sentence.symbols s.marks s.marked.0 s.marked.1 refl s.marked.2 in
-    omega (arith, same, few)
-
-pub names_some : (t : List ℕ) (known : Names) (start : Counts) (code : List Op) (new : Scoped) → IsToldAs t known start system_items [] code nothing_scoped new →
-    0 < length new.names
-names_some t known start code new s =
-    let same = names_length t known start system_items code new s in
-    let some = some_variable t start s.sentence.symbols s.sentence.steps s.marks s.marked.0 s.marked.1 s.sentence.derived s.marked.2 in
-    omega (arith, same, some)
-
 pub domains_good : (t : List ℕ) (known : Names) (start : Counts) (items : List Item) (code : List Op) (new : Scoped) → IsToldAs t known start items [] code nothing_scoped new →
     AreGood (map domain_given new.given) → (k : ℕ) (d : Domain) → k < length (map domain_given new.given) → IsDomain (get_or (map domain_given new.given) k d)
 domains_good t known start items code new s good =
@@ -127,6 +112,15 @@ read t code new s = record {
 read_domains : (t : List ℕ) (code : List Op) (new : Scoped) (s : IsTold t code new) → map domain_given new.given ≡ system_domains (read t code new s).tree
 read_domains t code new s =
     domains_are t no_names (nothing Between) system_items code new s ∙ domains_of_tree t (told_tree t code new s).0 s.marks (told_marks t code new s)
+
+-- as many names as the tree has domains
+pub names_many : (t : List ℕ) (code : List Op) (new : Scoped) → IsTold t code new → (1 ≤ length new.names) × (length new.names ≤ 12)
+names_many t code new s =
+    let r = read t code new s in
+    let same : length new.names ≡ length (system_domains r.tree) =
+    names_length t no_names (nothing Between) system_items code new s
+    ∙ (sym (length-map domain_in (variables_in s.marks)) ∙ ap length (domains_of_tree t (told_tree t code new s).0 s.marks (told_marks t code new s))) in
+    subst (λ (n : ℕ). (1 ≤ n) × (n ≤ 12)) (sym same) (variables_many r.tree r.spelled.1)
 
 read_constraints : (t : List ℕ) (code : List Op) (new : Scoped) (s : IsTold t code new) → constraints_of code ≡ system_constraints (read t code new s).tree
 read_constraints t code new s = ap constraints_of (s.sentence.code_is ∙ (told_tree t code new s).2) ∙ system_means (told_tree t code new s).0

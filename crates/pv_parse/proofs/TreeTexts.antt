@@ -1,10 +1,14 @@
 -- The texts of trees are the sentences of the grammar's items, with the tree's code.
-use Rattle.std.proofs.Common.{◌≡◌, ℕ, List, [], ◌∙◌, subst}
+use Rattle.std.proofs.Common.{◌≡◌, ℕ, suc, ◌≤◌, List, [], length, refl, sym, ap, ◌∙◌, subst, arith}
 use Rattle.pv_code.specs.declared.code.Op.{Op}
 use Rattle.pv_grammar.specs.declared.counts.Phase.TheVariants.{Between, Sides as SidesPhase}
 use Rattle.pv_grammar.specs.Grammar.{expression_items, system_items}
 use Rattle.pv_grammar.specs.Counting.{nothing}
-use Rattle.pv_grammar.specs.Productions.{Expression, System, expression_symbols, system_symbols}
+use Rattle.pv_code.specs.Expansion.{Meaning, Sides, constraints_of}
+use Rattle.pv_grammar.specs.Limits.{IsSystemWithin, constraints_count, variables_count}
+use Rattle.pv_grammar.specs.Productions.{Constraints, Expression, System, Variables, constraint_and, constraints_semicolon, expression_symbols, no_constraint, no_variable, system_of, system_symbols, variable_and, variables_separator}
+use Rattle.pv_grammar.specs.Trees.{constraints_sides, functions_behind, system_constraints, system_domains, variables_domains}
+use Rattle.pv_grammar.proofs.TreeRuns.{system_means}
 use Rattle.pv_grammar.specs.TreeCodes.{expression_code, system_code}
 use Rattle.pv_grammar.proofs.OneTree.{one_expression_tree, one_system_tree}
 use Rattle.pv_grammar.proofs.TreeBuilding.{expression_tree, system_tree}
@@ -49,6 +53,33 @@ tree_sentence t code x text is =
 
 pub one_tree_of : (t : List ℕ) (x y : System) → IsTextOf t x → IsTextOf t y → x ≡ y
 one_tree_of t x y of_x of_y = one_system_tree x y (one_spelling t no_names (first_in Between) (system_symbols x []) (system_symbols y []) of_x.0 of_y.0)
+
+constraints_length : (fs : List Meaning) (cs : Constraints) → length (constraints_sides fs cs) ≡ constraints_count cs
+constraints_length fs no_constraint = refl
+constraints_length fs constraints_semicolon = refl
+constraints_length fs (constraint_and c more) = ap suc (constraints_length fs more)
+
+constraints_many : (x : System) → IsSystemWithin x → (1 ≤ length (system_constraints x)) × (length (system_constraints x) ≤ 64)
+constraints_many (system_of block before v vs behind c cs) h =
+    let many = constraints_length (functions_behind behind (functions_behind before [])) cs in
+    let few = h.4 in
+    (omega arith, omega (arith, many, few))
+
+pub sentence_constraints : (t : List ℕ) (code : List Op) → IsSentence t no_names (nothing Between) system_items [] code → (1 ≤ length (constraints_of code)) × (length (constraints_of code) ≤ 64)
+sentence_constraints t code s =
+    let (x, text, is) = sentence_tree t code s in
+    subst (λ (z : List Sides). (1 ≤ length z) × (length z ≤ 64)) (sym (ap constraints_of is ∙ system_means x)) (constraints_many x text.1)
+
+variables_length : (vs : Variables) → length (variables_domains vs) ≡ variables_count vs
+variables_length no_variable = refl
+variables_length (variables_separator s) = refl
+variables_length (variable_and s v more) = ap suc (variables_length more)
+
+pub variables_many : (x : System) → IsSystemWithin x → (1 ≤ length (system_domains x)) × (length (system_domains x) ≤ 12)
+variables_many (system_of block before v vs behind c cs) h =
+    let many = variables_length vs in
+    let few = h.3 in
+    (omega arith, omega (arith, many, few))
 
 -- ---- Expressions
 

@@ -1,21 +1,16 @@
 -- A text declares from 1 to 12 variables.
-use Rattle.std.proofs.Common.{◌≡◌, ℕ, ◌+◌, ◌<◌, ◌≤◌, ◌∙◌, ◌⊎◌, inl, inr, ⊎_elim, Bool, true, false, List, [], ◌∷◌, ◌++◌, length, refl, sym, ap, subst, arith, Option, Some, None, Ok, Err, if◌then◌else◌, nat_lt}
-use Rattle.std.proofs.lemmas.Bool.{false≢true}
+use Rattle.std.proofs.Common.{◌≡◌, ℕ, ◌+◌, ◌<◌, ◌≤◌, ◌∙◌, Bool, true, false, List, [], ◌∷◌, length, refl, sym, ap, subst, arith, Ok, Err, if◌then◌else◌, nat_lt}
 use Rattle.std.proofs.lemmas.Bool.Decides.{Decides-ltb}
-use Rattle.pv_code.specs.declared.code.Op.{Op}
 use Rattle.pv_grammar.specs.declared.cause.Cause.{Cause}
 use Rattle.pv_grammar.specs.declared.cause.Cause.TheVariants.{TooDeep}
 use Rattle.pv_grammar.specs.declared.counts.Counts.{Counts}
 use Rattle.pv_grammar.specs.declared.counts.Phase.{Phase}
 use Rattle.pv_grammar.specs.declared.counts.Phase.TheVariants.{Body, FunctionName, NextConstraint, Parameters, Sides, Variables}
-use Rattle.pv_grammar.specs.declared.machine.Item.{Item}
-use Rattle.pv_grammar.specs.declared.machine.Item.TheVariants.{Exactly, WantVariable}
 use Rattle.pv_grammar.specs.declared.symbol.Fixed.{Fixed}
-use Rattle.pv_grammar.specs.declared.symbol.Fixed.TheVariants.{Open, Close, Comma, Semicolon, Variables as VariablesWord, Function as FunctionWord, End}
+use Rattle.pv_grammar.specs.declared.symbol.Fixed.TheVariants.{Open, Close, Comma, Semicolon, Function as FunctionWord, End}
 use Rattle.pv_grammar.specs.declared.symbol.Symbol.{Symbol}
 use Rattle.pv_grammar.specs.declared.symbol.Symbol.TheVariants.{Fixed as FixedToken, Declared, Function as Call, Unknown}
-use Rattle.pv_grammar.specs.Grammar.{Derives, done, left_out, begun, MayEnd, Produced, declared, exactly, produced, system_items}
-use Rattle.pv_grammar.specs.Counting.{Counting, begins, begun as begun_by, behind_comma, behind_end, behind_semicolon, counted, declared as declared_as, in_expression, in_phase, levels, moved, nested, next, operated, operates, turned, with_operations, with_parameters}
+use Rattle.pv_grammar.specs.Counting.{Counting, begins, begun as begun_by, behind_comma, behind_end, behind_semicolon, counted, declared as declared_as, in_expression, levels, moved, nested, next, operated, operates, turned, with_operations, with_parameters}
 use Rattle.pv_parse.specs.Declarations.{Mark, declares, mark_of}
 use Rattle.pv_parse.specs.Scopes.{Variable, variable, variables_in}
 use Rattle.pv_parse.proofs.NameBytes.{is_declared}
@@ -205,107 +200,3 @@ room_here t c from s ss marks to e is (x, d, rest, next, one, are, more) =
 
 pub one_count : (c d e : Counts) (s : Symbol) → counted c s ≡ Ok d → counted c s ≡ Ok e → d ≡ e
 one_count c d e s h k = same_ok d e (sym h ∙ k)
-
-pub few_variables : (t : List ℕ) (c : Counts) (ss : List Symbol) (marks : List Mark) (to : ℕ) (e : Counts) → c.variables ≡ 0 → MarksToWithin t c 0 ss marks to e → length (variables_in marks) ≤ 12
-few_variables t c ss marks to e none h =
-    let k = variables_count t c 0 ss marks to e h in
-    let a = k.0 in
-    let b = k.1 (omega (arith, none)) in
-    omega (arith, a, b, none)
-
--- ---- At least one
-
-abbrev Starts : List Item → Type 0
-Starts (WantVariable ∷ items) = Unit {0}
-Starts items = ⊥
-
-abbrev Holds : List Item → Type 0
-Holds [] = ⊥
-Holds (i ∷ items) = ((i ≡ Exactly VariablesWord) × Starts items) ⊎ Holds items
-
-abbrev IsName : List Symbol → Type 0
-IsName [] = ⊥
-IsName (s ∷ ss) = is_declared s ≡ true
-
--- the word `variables` stands before a declared name
-abbrev HasPair : List Symbol → Type 0
-HasPair [] = ⊥
-HasPair (s ∷ ss) = ((s ≡ FixedToken VariablesWord) × IsName ss) ⊎ HasPair ss
-
-holds_append : (a b : List Item) → Holds b → Holds (a ++ b)
-holds_append [] b h = h
-holds_append (i ∷ a) b h = inr (holds_append a b h)
-
-starts_is : (i : Item) (items : List Item) → Starts (i ∷ items) → i ≡ WantVariable
-starts_is WantVariable items h = refl
-starts_is i items h = absurd h
-
-none_some : {p : Produced} (o : Option Produced) → o ≡ None → o ≡ Some p → ⊥
-none_some o e f = cc
-
-items_of : Option Produced → List Item
-items_of None = []
-items_of (Some p) = p.0
-
-declared_only : (items : List Item) (s : Symbol) (p : Produced) → declared items s ≡ Some p → is_declared s ≡ true
-declared_only items (Declared taken) p e = refl
-declared_only items s p e = absurd (none_some None refl e)
-
-name_first : (items : List Item) (ss : List Symbol) (ops : List Op) → Derives items ss ops → Starts items → IsName ss
-name_first items ss ops done h = absurd h
-name_first items ss ops (left_out i rest ss' ops' may d) h = absurd (subst MayEnd (starts_is i rest h) may)
-name_first items ss ops (begun i rest s ss' p ops' e d) h = declared_only _ s p (subst (λ (j : Item). produced j s ≡ Some p) (starts_is i rest h) e)
-
-word_only : (s : Symbol) (p : Produced) → exactly VariablesWord s ≡ Some p → (s ≡ FixedToken VariablesWord) × (p.0 ≡ [])
-unfolding items_of
-word_only (FixedToken VariablesWord) p e = (refl, ap items_of (sym e))
-word_only s p e = absurd (none_some None refl e)
-
-has_pair : (items : List Item) (ss : List Symbol) (ops : List Op) → Derives items ss ops → Holds items → HasPair ss
-has_pair items ss ops done h = h
-has_pair items ss ops (left_out i rest ss' ops' may d) h =
-    ⊎_elim (λ (e, more). absurd (subst MayEnd e may)) (λ later. has_pair rest ss' ops' d later) h
-has_pair items ss ops (begun i rest s ss' p ops' e d) h =
-    ⊎_elim
-    (λ (is, more).
-    let w = word_only s p (subst (λ (j : Item). produced j s ≡ Some p) is e) in
-    inl (w.0, name_first rest ss' ops' (subst (λ (z : List Item). Derives (z ++ rest) ss' ops') w.1 d) more))
-    (λ later. inr (has_pair (p.0 ++ rest) ss' ops' d (holds_append p.0 rest later)))
-    h
-
-word_phase : (c d : Counts) → counted c (FixedToken VariablesWord) ≡ Ok d → d.phase ≡ Variables
-word_phase c d h =
-    let k = steps c (FixedToken VariablesWord) d h in
-    ap (λ (z : Counts). z.phase) (sym (same_ok (in_phase Variables k.third) d k.moves_it))
-
-declares_name : (p : Phase) (s : Symbol) → p ≡ Variables → is_declared s ≡ true → declares p s ≡ true
-declares_name Variables (Declared taken) e is = refl
-declares_name p (Declared taken) e is = cc
-declares_name p s e is = absurd (false≢true is)
-
-here_step : (b : Bool) (v : Variable) (vs : List Variable) → b ≡ true → 0 < length (if b then v ∷ vs else vs)
-here_step true v vs e = omega arith
-here_step false v vs e = absurd (false≢true e)
-
-later_step : (b : Bool) (v : Variable) (vs : List Variable) → 0 < length vs → 0 < length (if b then v ∷ vs else vs)
-later_step true v vs h = omega arith
-later_step false v vs h = h
-
-some_named : (t : List ℕ) (c : Counts) (from : ℕ) (ss : List Symbol) (marks : List Mark) (to : ℕ) (e : Counts) → c.phase ≡ Variables → IsName ss → MarksToWithin t c from ss marks to e → 0 < length (variables_in marks)
-some_named t c from [] marks to e phase name h = absurd name
-some_named t c from (s ∷ ss) marks to e phase name (x, d, rest, next, one, are, more) =
-    subst (λ (ms : List Mark). 0 < length (variables_in ms)) (sym are)
-    (here_step (declares c.phase s) (variable (mark_of t c.phase s x).bytes rest) (variables_in rest) (declares_name c.phase s phase name))
-
-some_in : (t : List ℕ) (c : Counts) (from : ℕ) (ss : List Symbol) (marks : List Mark) (to : ℕ) (e : Counts) → HasPair ss → MarksToWithin t c from ss marks to e → 0 < length (variables_in marks)
-some_in t c from [] marks to e pair h = absurd pair
-some_in t c from (s ∷ ss) marks to e pair (x, d, rest, next, one, are, more) =
-    subst (λ (ms : List Mark). 0 < length (variables_in ms)) (sym are)
-    (later_step (declares c.phase s) (variable (mark_of t c.phase s x).bytes rest) (variables_in rest)
-    (⊎_elim
-    (λ (is, name). some_named t d x.end ss rest to e (word_phase c d (subst (λ (z : Symbol). counted c z ≡ Ok d) is one)) name more)
-    (λ later. some_in t d x.end ss rest to e later more)
-    pair))
-
-pub some_variable : (t : List ℕ) (c : Counts) (ss : List Symbol) (ops : List Op) (marks : List Mark) (to : ℕ) (e : Counts) → Derives system_items ss ops → MarksToWithin t c 0 ss marks to e → 0 < length (variables_in marks)
-some_variable t c ss ops marks to e d h = some_in t c 0 ss marks to e (has_pair system_items ss ops d (inr (inr (inl (refl, tt))))) h

@@ -19,12 +19,12 @@ use Rattle.pv_parse.specs.Meanings.{no_names}
 use Rattle.pv_parse.specs.Scopes.{bracket_given, domain_given, nothing_scoped, scoped}
 use Rattle.pv_parse.specs.Views.{view}
 use Rattle.pv_parse.proofs.Calls.{short-calls}
-use Rattle.pv_parse.proofs.ConstraintCounts.{few_constraints, some_constraints}
 use Rattle.pv_parse.proofs.Fractions.{no_fractions}
 use Rattle.pv_parse.proofs.Heights.{sentence_parts}
-use Rattle.pv_parse.proofs.Meant.{as_many_domains, as_many_starts, bad_bounds, bracket_in_text, domains_good, meant, names_differ, names_few, names_some, starts_in_text, told_at, too_large}
+use Rattle.pv_parse.proofs.Meant.{as_many_domains, as_many_starts, bad_bounds, bracket_in_text, domains_good, meant, names_differ, names_many, starts_in_text, told_at, too_large}
 use Rattle.pv_parse.proofs.Numbered.{system_steps}
 use Rattle.pv_parse.proofs.Pieces.{none_bounded}
+use Rattle.pv_parse.proofs.TreeTexts.{sentence_constraints}
 use Rattle.pv_parse.proofs.reader.parse.Goals as goal
 
 pub read_tokens-requires-clause-names : goal.read_tokens-requires-clause-names
@@ -133,7 +133,7 @@ new-requires-clause-few_names c =
     let told = told_at c.args.text.now (view c.new-names.result) no_names c.none.result (nothing Between) (pile c.in_ok-machine.machine.stack.items) system_items c.in_ok-machine.machine.code.items [] c.read_tokens.new.machine.code.items
     (scoped c.new-scope.result) nothing_scoped (scoped c.read_tokens.new.scope)
     c.new-names.ensures c.none.ensures c.in_ok-machine.ensures.stack c.in_ok-machine.ensures.code c.new-scope.ensures c.in_ok-read_tokens.ensures.told in
-    let few = names_few c.args.text.now no_names system_items c.read_tokens.new.machine.code.items (scoped c.read_tokens.new.scope) told in
+    let few = (names_many c.args.text.now c.read_tokens.new.machine.code.items (scoped c.read_tokens.new.scope) told).1 in
     let same = length-map string_bytes c.read_tokens.new.scope.variables.items in
     omega (arith, few, same)
 
@@ -142,7 +142,7 @@ new-requires-clause-some_names c =
     let told = told_at c.args.text.now (view c.new-names.result) no_names c.none.result (nothing Between) (pile c.in_ok-machine.machine.stack.items) system_items c.in_ok-machine.machine.code.items [] c.read_tokens.new.machine.code.items
     (scoped c.new-scope.result) nothing_scoped (scoped c.read_tokens.new.scope)
     c.new-names.ensures c.none.ensures c.in_ok-machine.ensures.stack c.in_ok-machine.ensures.code c.new-scope.ensures c.in_ok-read_tokens.ensures.told in
-    let some = names_some c.args.text.now no_names (nothing Between) c.read_tokens.new.machine.code.items (scoped c.read_tokens.new.scope) told in
+    let some = (names_many c.args.text.now c.read_tokens.new.machine.code.items (scoped c.read_tokens.new.scope) told).0 in
     let same = length-map string_bytes c.read_tokens.new.scope.variables.items in
     omega (arith, some, same)
 
@@ -166,7 +166,7 @@ new-requires-clause-some_constraints c =
     c.new-names.ensures c.none.ensures c.in_ok-machine.ensures.stack c.in_ok-machine.ensures.code c.new-scope.ensures c.in_ok-read_tokens.ensures.told in
     let many = ap length (c.in-Ok.ensures.means ∙ ap constraints_of (c.as_slice-2.ensures.value ∙ c.into_code-code.ensures)) in
     let same = length-map sides_of c.in-Ok.constraints.items in
-    let some = some_constraints c.args.text.now no_names (nothing Between) c.read_tokens.new.machine.code.items told.sentence in
+    let some = (sentence_constraints c.args.text.now c.read_tokens.new.machine.code.items told.sentence).0 in
     omega (arith, many, same, some)
 
 pub new-requires-clause-few_constraints : goal.new-requires-clause-few_constraints
@@ -176,7 +176,7 @@ new-requires-clause-few_constraints c =
     c.new-names.ensures c.none.ensures c.in_ok-machine.ensures.stack c.in_ok-machine.ensures.code c.new-scope.ensures c.in_ok-read_tokens.ensures.told in
     let many = ap length (c.in-Ok.ensures.means ∙ ap constraints_of (c.as_slice-2.ensures.value ∙ c.into_code-code.ensures)) in
     let same = length-map sides_of c.in-Ok.constraints.items in
-    let few = few_constraints c.args.text.now no_names (nothing Between) c.read_tokens.new.machine.code.items (omega arith) told.sentence in
+    let few = (sentence_constraints c.args.text.now c.read_tokens.new.machine.code.items told.sentence).1 in
     omega (arith, many, same, few)
 
 pub new-requires-clause-constraints_good : goal.new-requires-clause-constraints_good
