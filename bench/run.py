@@ -8,6 +8,7 @@
     python3 bench/run.py printing           the share of instructions that printing takes, where there is valgrind
     python3 bench/run.py growth             how the time grows as --eps is halved
     python3 bench/run.py files              a large paving file: stored, joined with itself and in eight parts, audited
+    python3 bench/run.py campaigns          what a campaign costs beside the plain run: its rounds, its opening and its file
     python3 bench/run.py workers            how much faster 2, 3, 4 and 16 workers are than one, on six systems
     python3 bench/run.py tickets            what the pool's jobs and the board's tickets cost
     python3 bench/run.py trees              milliseconds for settling, counting, copying, joining and auditing a large tree
@@ -17,6 +18,7 @@ Each figure is the best of five runs or more. Needs rustc for the yardstick; wit
 import re
 import resource
 import shutil
+import sqlite3
 import subprocess
 import sys
 import tempfile
@@ -202,6 +204,28 @@ def files(folder):
         print(f"{work:30} {seconds([paver, *words])[0] * 1000:8.1f} ms")
 
 
+def campaigns(folder):
+    """Processor milliseconds of rounds beside plain runs of as many nodes, and of a campaign that only opens its file."""
+    kept = Path(folder) / "kept"
+    for title, file, words in PAVINGS:
+        if title not in ("Gough slice, 12 constraints", "planar arm", "strict order, a deep tree"):
+            continue
+        words = paving_of(folder, file, words)[:-1]
+        for boxes in (1000, 20_000, 50_000):
+            best = dict.fromkeys(("plain", "round", "opening"), float("inf"))
+            for _ in range(TURNS):
+                for name in (kept, Path(f"{kept}-wal")):
+                    name.unlink(missing_ok=True)
+                campaign = ["campaign", *words, str(boxes), "--keep", kept]
+                runs = {"plain": ["run", *words, str(boxes), "--out", Path(folder) / "paving"], "round": campaign,
+                        "opening": [*campaign[:-3], "1", "--keep", kept]}
+                for work, run in runs.items():
+                    best[work] = min(best[work], processor_seconds([TOP / "paver", *run, "--workers", "1"])[0])
+            settled = len(sqlite3.connect(kept).execute("SELECT path FROM node").fetchall())
+            costs = ", ".join(f"{work} {spent * 1000:5.0f} ms" for work, spent in best.items())
+            print(f"{title:28} {settled:6} rows: {costs}, {kept.stat().st_size / 1e6:.1f} MB", flush=True)
+
+
 def trees(_):
     program = TOP / "crates/pv_tree_bench/out/pv_tree_bench"
     built, _ = seconds([program, "none", 0])
@@ -227,7 +251,7 @@ def tickets(_):
 
 def main():
     parts = {"numbers": numbers, "calls": calls, "paving": paving, "printing": printing, "growth": growth, "files": files,
-             "workers": workers,
+             "workers": workers, "campaigns": campaigns,
              "tickets": tickets, "trees": trees}
     with tempfile.TemporaryDirectory() as folder:
         for part in sys.argv[1:] or parts:

@@ -4,14 +4,14 @@ _paver() {
     local settings="--eps --depth --bisect --contract"
     COMPREPLY=()
     if [ "$COMP_CWORD" -eq 1 ]; then
-        mapfile -t COMPREPLY < <(compgen -W "check run resume merge audit svg sample run-centered audit-centered least" -- "$word")
+        mapfile -t COMPREPLY < <(compgen -W "check run resume merge audit svg sample run-centered audit-centered least campaign" -- "$word")
         return
     fi
     case $before in
         --bisect) mapfile -t COMPREPLY < <(compgen -W "largest round" -- "$word"); return ;;
         --contract) mapfile -t COMPREPLY < <(compgen -W "prop(8) hc4( compose( union( qinter( fix( prop(" -- "$word"); return ;;
-        --eps|--depth|--boxes|--workers|--x|--y|--at|--seed|--count|--of) return ;;
-        --out) mapfile -t COMPREPLY < <(compgen -f -- "$word"); return ;;
+        --eps|--depth|--boxes|--workers|--x|--y|--at|--seed|--count|--of|--rounds) return ;;
+        --out|--keep) mapfile -t COMPREPLY < <(compgen -f -- "$word"); return ;;
     esac
     if [[ $word == -* ]]; then
         case $command in
@@ -20,6 +20,7 @@ _paver() {
             audit|audit-centered) mapfile -t COMPREPLY < <(compgen -W "$settings" -- "$word") ;;
             svg) mapfile -t COMPREPLY < <(compgen -W "$settings --x --y --at" -- "$word") ;;
             sample) mapfile -t COMPREPLY < <(compgen -W "--seed --count" -- "$word") ;;
+            campaign) mapfile -t COMPREPLY < <(compgen -W "$settings --boxes --workers --keep --rounds" -- "$word") ;;
             least) mapfile -t COMPREPLY < <(compgen -W "$settings --boxes --of" -- "$word") ;;
         esac
         return

@@ -1,5 +1,5 @@
 # Completion of paver's words for fish.
-set -l commands check run resume merge audit svg sample run-centered audit-centered least
+set -l commands check run resume merge audit svg sample run-centered audit-centered least campaign
 complete -c paver -n "not __fish_seen_subcommand_from $commands" -f
 complete -c paver -n "not __fish_seen_subcommand_from $commands" -a check -d 'Print the system as it was understood'
 complete -c paver -n "not __fish_seen_subcommand_from $commands" -a run -d 'Pave a system'
@@ -11,13 +11,14 @@ complete -c paver -n "not __fish_seen_subcommand_from $commands" -a sample -d 'P
 complete -c paver -n "not __fish_seen_subcommand_from $commands" -a run-centered -d 'Pave a system by centered forms'
 complete -c paver -n "not __fish_seen_subcommand_from $commands" -a audit-centered -d 'Recompute every node by centered forms'
 complete -c paver -n "not __fish_seen_subcommand_from $commands" -a least -d 'Bound the least value of an expression'
-set -l settled run resume merge audit svg run-centered audit-centered least
+complete -c paver -n "not __fish_seen_subcommand_from $commands" -a campaign -d 'Pave a system in rounds that are kept'
+set -l settled run resume merge audit svg run-centered audit-centered least campaign
 complete -c paver -n "__fish_seen_subcommand_from $settled" -l eps -x -d 'A box with no greater width is small'
 complete -c paver -n "__fish_seen_subcommand_from $settled" -l depth -x -d 'Cuts on a way down, 1 to 200'
 complete -c paver -n "__fish_seen_subcommand_from $settled" -l bisect -x -a 'largest round' -d 'Which variable is cut'
 complete -c paver -n "__fish_seen_subcommand_from $settled" -l contract -x -a "'prop(8)'" -d 'The contractor program'
-complete -c paver -n "__fish_seen_subcommand_from run resume run-centered least" -l boxes -x -d 'Settle at most this many nodes'
-complete -c paver -n "__fish_seen_subcommand_from run resume run-centered" -l workers -x -d 'Threads, 1 to 16'
+complete -c paver -n "__fish_seen_subcommand_from run resume run-centered least campaign" -l boxes -x -d 'Settle at most this many nodes'
+complete -c paver -n "__fish_seen_subcommand_from run resume run-centered campaign" -l workers -x -d 'Threads, 1 to 16'
 complete -c paver -n "__fish_seen_subcommand_from run resume merge run-centered" -l out -r -d 'Store the paving in this file'
 complete -c paver -n "__fish_seen_subcommand_from svg" -l x -x -d 'The variable that goes to the right'
 complete -c paver -n "__fish_seen_subcommand_from svg" -l y -x -d 'The variable that goes up'
@@ -25,3 +26,5 @@ complete -c paver -n "__fish_seen_subcommand_from svg" -l at -x -d 'The numbers 
 complete -c paver -n "__fish_seen_subcommand_from sample" -f -l seed -x -d 'The number that makes the system'
 complete -c paver -n "__fish_seen_subcommand_from sample" -f -l count -x -d 'Its circles, 1 to 16'
 complete -c paver -n "__fish_seen_subcommand_from least" -l of -x -d 'The expression'
+complete -c paver -n "__fish_seen_subcommand_from campaign" -l keep -r -d 'Keep the paving under this name'
+complete -c paver -n "__fish_seen_subcommand_from campaign" -l rounds -x -d 'Rounds, 1 to 100'

@@ -4,7 +4,7 @@ A tree is a tuple: ("O",), ("X",), ("I", to), ("S", to) or ("C", to, variable, a
 """
 import re
 
-from .numbers import NEG_INF, POS_INF, TOP, spelling
+from .numbers import NEG_INF, POS_INF, TOP, is_grid, spelling
 from .paver import halves, node_line
 
 MOST_SETTLED = 100_000
@@ -86,7 +86,7 @@ def number(word):
     if not -512 <= exponent <= 511:
         return None
     value = mantissa << (exponent + 512)
-    return value if abs(value) <= TOP and spelling(value) == word else None
+    return value if abs(value) <= TOP and is_grid(value) and spelling(value) == word else None
 
 
 def new_end(word, old, version):

@@ -1,5 +1,6 @@
 #!/usr/bin/env python3
-"""Runs each command of the real binary with its n-th allocation refused, for every n in turn, and with all from the n-th on.
+"""Runs each command of the real binary with its n-th allocation refused, for every n in turn, and with all from the
+n-th on.
 
     python3 tests/runners/allocations.py ./paver [WORD]
 
@@ -16,6 +17,7 @@ from pathlib import Path
 
 sys.path.insert(0, str(Path(__file__).resolve().parents[1]))
 from data.cases import RECIPROCAL, system  # noqa: E402
+from paving_files import TWO_DISCS  # noqa: E402
 
 SECONDS = 60
 # Beyond so many allocations of one command every 7th is refused.
@@ -24,24 +26,40 @@ QUARTER = ["--eps", "0.25"]
 SOLID = system("x in [-2,2], y in [-2,2]", "x^2 + y^2 <= 2; x * y >= 0")
 
 
+def by(workers, words, stored=None):
+    """The status of a command with so many workers, its words, and the file that it stores."""
+    return 0, [*words, *QUARTER, "--workers", str(workers), *(["--out", stored] if stored else [])], stored
+
+
 def commands():
+    """The status of each where nothing is refused, its words, and the file that it stores."""
     return {
-        "check": (["check", "s"], None),
-        "check of a refused text": (["check", "bad"], None),
-        "run": (["run", "s", *QUARTER, "--boxes", "400"], None),
-        "run by four": (["run", "s", *QUARTER, "--boxes", "400", "--workers", "4"], None),
-        "run out": (["run", "s", *QUARTER, "--out", "new"], "new"),
-        "resume": (["resume", "r", "part", *QUARTER, "--out", "new"], "new"),
-        "merge": (["merge", "r", "part", "other", *QUARTER, "--out", "new"], "new"),
-        "merge of two that disagree": (["merge", "r", "other", "foul", *QUARTER], None),
-        "audit": (["audit", "r", "whole", *QUARTER], None),
-        "a bad file": (["audit", "r", "bad", *QUARTER], None),
-        "no file": (["run", "no"], None),
-        "sample": (["sample", "--seed", "7", "--count", "1"], None),
-        "least": (["least", "s", *QUARTER, "--boxes", "400", "--of", "x+y*y"], None),
-        "a refused expression": (["least", "s", "--of", "x+"], None),
-        "words": (["run", "s", "--eps"], None),
-        "a contract": (["run", "s", "--contract", "union(hc4(0),prop(3),q)"], None),
+        "check": (0, ["check", "s"], None),
+        "check of a refused text": (3, ["check", "bad"], None),
+        "run by one": by(1, ["run", "s", "--boxes", "400"]),
+        "run by four": by(4, ["run", "s", "--boxes", "400"]),
+        "two discs by two": by(2, ["run", "d"]),
+        "run out by one": by(1, ["run", "s"], "new"),
+        "run out by four": by(4, ["run", "s"], "new"),
+        "run-centered by one": by(1, ["run-centered", "s"]),
+        "run-centered by four": by(4, ["run-centered", "s"]),
+        "run-centered out": by(4, ["run-centered", "s"], "new"),
+        "resume by one": by(1, ["resume", "r", "part"], "new"),
+        "resume by four": by(4, ["resume", "r", "part"], "new"),
+        "merge": (1, ["merge", "r", "part", "other", *QUARTER, "--out", "new"], "new"),
+        "merge of two that disagree": (9, ["merge", "r", "other", "foul", *QUARTER], None),
+        "audit": (0, ["audit", "r", "whole", *QUARTER], None),
+        "audit that differs": (9, ["audit", "r", "foul", *QUARTER], None),
+        "audit-centered": (0, ["audit-centered", "s", "centered", *QUARTER], None),
+        "a bad file": (4, ["audit", "r", "bad", *QUARTER], None),
+        "no file": (11, ["run", "no"], None),
+        "svg": (0, ["svg", "s", "plane", *QUARTER, "--x", "x", "--y", "y"], None),
+        "sample": (0, ["sample", "--seed", "7", "--count", "1"], None),
+        "least": (0, ["least", "s", *QUARTER, "--boxes", "400", "--of", "x+y*y"], None),
+        "least with no end": (1, ["least", "s", *QUARTER, "--boxes", "3", "--of", "x+y*y"], None),
+        "a refused expression": (2, ["least", "s", "--of", "x+"], None),
+        "words": (2, ["run", "s", "--eps"], None),
+        "a contract": (2, ["run", "s", "--contract", "union(hc4(0),prop(3),q)"], None),
     }
 
 
@@ -67,24 +85,32 @@ class Tried:
         files.mkdir()
         (files / "s").write_bytes(SOLID)
         (files / "r").write_bytes(RECIPROCAL)
+        (files / "d").write_bytes(TWO_DISCS)
         (files / "bad").write_bytes(b"Variables x in [0,4]; Constraints x <= ; end\n")
         for name, budget in (("part", "1"), ("other", "2"), ("whole", "100")):
             self.call(["run", "r", *QUARTER, "--boxes", budget, "--out", name])
+        self.call(["run", "s", *QUARTER, "--out", "plane"])
+        self.call(["run-centered", "s", *QUARTER, "--out", "centered"])
         head = (files / "whole").read_bytes().split(b"\n")[:2]
         (files / "foul").write_bytes(b"\n".join([*head, b"I = =", b""]))
 
-    def try_command(self, words, stored):
+    def try_command(self, status, words, stored):
         before = self.files()
         wanted = self.call(words)
         count, after = self.count(), self.files()
         new = after.get(stored)
+        if wanted[0] != status or (stored and not new):
+            self.faults.append(f"{' '.join(words)}: status {wanted[0]} where nothing is refused, {wanted[2]!r}")
         tried = [n for n in range(1, count + 1) if n <= EACH or n % 7 == 0]
         for how in ("refuse", "refuse_from"):
             for n in tried:
-                if stored:
-                    (self.folder / "files" / stored).unlink(missing_ok=True)
+                self.remove(stored)
                 got = self.call(words, **{how: n})
                 self.judge(words, how, n, got, wanted, before, stored, new)
+
+    def remove(self, stored):
+        if stored:
+            (self.folder / "files" / stored).unlink(missing_ok=True)
 
     def judge(self, words, how, n, got, wanted, before, stored, new):
         status, out, err = got
@@ -100,27 +126,35 @@ class Tried:
                                f"files kept {kept}, stored whole {held}")
 
 
-def main():
-    paver, word = os.path.abspath(sys.argv[1]), sys.argv[2] if len(sys.argv) > 2 else ""
-    compiler = shutil.which("cc")
+def built_shim(folder):
+    """The shared object that refuses allocations; None where there is no C compiler."""
+    compiler, shim = shutil.which("cc"), Path(folder) / "refuse.so"
     if not compiler:
-        print("skipped: there is no C compiler here")
-        print("0 passed, 0 failed")
-        return 0
+        return None
+    source = Path(__file__).with_name("refuse_allocation.c")
+    subprocess.run([compiler, "-O1", "-shared", "-fPIC", str(source), "-o", str(shim)], check=True)
+    return shim
+
+
+def tried_all(kind, listed):
+    """Tries the commands whose names contain a word, each in a folder of its own."""
+    paver, word = os.path.abspath(sys.argv[1]), sys.argv[2] if len(sys.argv) > 2 else ""
     passed = failed = 0
     with tempfile.TemporaryDirectory() as made:
-        shim = Path(made) / "refuse.so"
-        source = Path(__file__).with_name("refuse_allocation.c")
-        subprocess.run([compiler, "-O1", "-shared", "-fPIC", str(source), "-o", str(shim)], check=True)
-        for name, (words, stored) in commands().items():
+        shim = built_shim(made)
+        if not shim:
+            print("skipped: there is no C compiler here")
+            print("0 passed, 0 failed")
+            return 0
+        for name, (status, words, stored) in listed.items():
             if word not in name:
                 continue
             folder = Path(made) / name.replace(" ", "_")
             folder.mkdir()
-            tried = Tried(paver, shim, folder)
+            tried = kind(paver, shim, folder)
             tried.prepare()
             try:
-                tried.try_command(words, stored)
+                tried.try_command(status, words, stored)
             except (subprocess.TimeoutExpired, OSError, ValueError) as fault:
                 tried.faults.append(str(fault))
             passed, failed = passed + (not tried.faults), failed + bool(tried.faults)
@@ -131,4 +165,4 @@ def main():
 
 
 if __name__ == "__main__":
-    sys.exit(main())
+    sys.exit(tried_all(Tried, commands()))

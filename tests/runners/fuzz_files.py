@@ -1,6 +1,6 @@
 #!/usr/bin/env python3
-"""Compares `merge`, `resume` and `audit` with the reference's on made paving files: good ones, cut out of full trees,
-and random edits of them.
+"""Compares `merge`, `resume`, `audit` and `audit-centered` with the reference's on made paving files: good ones, cut out
+of full trees, and random edits of them; and one file of each version with each byte replaced and cut at each.
 
     python3 tests/runners/fuzz_files.py ./paver [COUNT [SEED]]
 
@@ -27,7 +27,8 @@ SYSTEMS = [
      {"eps": Fraction(1), "depth": 5, "bisector": "round"}),
 ]
 WORDS = ["0:0", "1:0", "1:-1", "3:-2", "-1:0", "+oo", "-oo", "=", "O", "X", "I", "S", "C", "0", "1", "2:0", "", "01",
-         "4611686018427387903:450", "1:511", "1:512", "1:-512", "1:-513"]
+         "4611686018427387903:450", "4611686018427387905:0", "16304772281661597777:-60", "1:511", "1:512", "1:-512", "1:-513"]
+CENTERED = (system("x in [0,1], y in [-1,2]", "x - x*y <= 0.5; x + y >= 0"), ["--eps", "0.5"], {"eps": Fraction(1, 2)})
 
 
 def pruned(tree, source, chance):
@@ -53,9 +54,17 @@ def altered(tree, source):
     return source.choice("IS"), to
 
 
+def moved(word, source):
+    """An end that is a number, half a unit of its own away; another word as it is."""
+    mantissa, colon, exponent = word.partition(b":")
+    if not colon or not mantissa.lstrip(b"-").isdigit() or not exponent.lstrip(b"-").isdigit():
+        return word
+    return b"%d:%d" % (2 * int(mantissa) + source.choice([-1, 1]), int(exponent) - 1)
+
+
 def edited(data, source):
     """The bytes with one random change."""
-    kind = source.randrange(7)
+    kind = source.randrange(9)
     if kind == 0:
         at = source.randrange(len(data) + 1)
         return data[:at]
@@ -71,10 +80,17 @@ def edited(data, source):
     elif kind == 4:
         other = source.randrange(len(rows))
         rows[at], rows[other] = rows[other], rows[at]
+    elif kind == 5:
+        words = rows[at].split(b" ")
+        place = source.randrange(len(words))
+        words[place] = moved(words[place], source)
+        rows[at] = b" ".join(words)
+    elif kind == 6:
+        rows[0] = source.choice([b"paving 1", b"paving 2", b"paving 3", b"paving 02", b"Paving 2", b"paving 1\r"])
     else:
         words = rows[at].split(b" ")
         place = source.randrange(len(words))
-        words[place] = source.choice(WORDS).encode() if kind == 5 else source.choice(source.choice(rows).split(b" "))
+        words[place] = source.choice(WORDS).encode() if kind == 7 else source.choice(source.choice(rows).split(b" "))
         rows[at] = b" ".join(words)
     return b"\n".join(rows)
 
@@ -83,13 +99,28 @@ class Maker:
     def __init__(self, source):
         self.source = source
         self.calls = [(text, options, call(text, **settings)) for text, options, settings in SYSTEMS]
+        text, options, settings = CENTERED
+        self.calls.append((text, options, call(text, centered=True, **settings)))
         self.full = [files.go_on(c.settler, ("O",), 200) for _, _, c in self.calls]
+        text, _, settings = SYSTEMS[0]
+        others = [{"eps": Fraction(1, 8)}, {**settings, "depth": 59}, {**settings, "bisector": "round"},
+                  {**settings, "contract": "prop(7)"}, {**settings, "contract": "hc4(0)"}, {**settings, "centered": True}]
+        self.identities = [c.identity for _, _, c in self.calls] + [call(text, **other).identity for other in others]
+
+    def other_identity(self, data):
+        """The file under another system's or other settings' name, or one that is no identity."""
+        rows = data.split(b"\n")
+        word = self.source.choice(self.identities)
+        rows[1] = b"identity " + self.source.choice([word, word, word.upper(), word[:-1], word + "0", "0" * 64]).encode()
+        return b"\n".join(rows)
 
     def file(self, reference, full):
         tree = pruned(full, self.source, self.source.choice([0, 0.05, 0.2]))
         if self.source.random() < 0.3:
             tree = altered(tree, self.source)
         data = reference.write(tree, self.source.choice([1, 2]))
+        if self.source.random() < 0.05:
+            data = self.other_identity(data)
         for _ in range(self.source.choice([0, 0, 0, 0, 1, 1, 2])):
             data = edited(data, self.source)
         return data
@@ -104,6 +135,8 @@ class Maker:
         kept = ["--out", out] if out else []
         names = [name for name, _ in named]
         kind = self.source.randrange(3)
+        if at == len(SYSTEMS):
+            return ["audit-centered", "s", names[0], *options], made, lambda: reference.audit(*named[0])
         if kind == 0:
             return ["merge", "s", *names, *options, *kept], made, lambda: reference.merge(named, out)
         if kind == 1:
@@ -111,6 +144,21 @@ class Maker:
             words = ["resume", "s", *names, *options, *kept, "--boxes", str(budget)]
             return words, made, lambda: reference.resume(named, budget, out)
         return ["audit", "s", names[0], *options], made, lambda: reference.audit(*named[0])
+
+    def damages(self):
+        """The audit of one file of each version with each byte replaced, and cut at each."""
+        text, options, reference = self.calls[0]
+        for version in (1, 2):
+            data = reference.write(self.full[0], version)
+            for at in range(len(data)):
+                other = bytes([self.source.choice([b for b in range(256) if b != data[at]])])
+                for bad in (data[:at], data[:at] + other + data[at + 1:]):
+                    yield ["audit", "s", "f", *options], {"s": text, "f": bad}, lambda bad=bad: reference.audit("f", bad)
+
+    def works(self, count):
+        yield from self.damages()
+        for _ in range(count):
+            yield self.work()
 
 
 def are_same(words, got, wanted):
@@ -129,8 +177,7 @@ def main():
     passed = failed = 0
     with tempfile.TemporaryDirectory() as name:
         folder = Path(name)
-        for _ in range(count):
-            words, made, work = maker.work()
+        for words, made, work in maker.works(count):
             (folder / "o").unlink(missing_ok=True)
             for file, data in made.items():
                 (folder / file).write_bytes(data)

@@ -1,5 +1,6 @@
 #!/usr/bin/env python3
-"""Compares `paver check` with the reference's first fault on made texts, good and broken.
+"""Compares `paver check` with the reference's first fault and canonical text on made texts: good, broken, in odd
+encodings, of random bytes, and with sizes round the limits.
 
     python3 tests/runners/fuzz_reader.py ./paver [COUNT [SEED]]
 
@@ -14,6 +15,7 @@ import threading
 from pathlib import Path
 
 sys.path.insert(0, str(Path(__file__).resolve().parents[1]))
+from data.reader_cases import canonical  # noqa: E402
 from reference.faults import line_of  # noqa: E402
 
 NAMES = ["x", "y", "z", "k", "f", "g", "a", "b", "_t", "x1", "in", "oo", "min", "sqr", "sin", "pi", "End", "end",
@@ -79,11 +81,52 @@ class Maker:
             text = text[:at] + self.pick([self.pick(PIECES), self.pick(NAMES), "", f" {self.pick(NAMES)} "]) + text[to:]
         return text[:self.source.randrange(len(text) + 1)] if self.source.random() < 0.1 else text
 
+    def odd(self, text):
+        """Bytes that no editor meant: other encodings of the text, bytes of its own exchanged, or no text at all."""
+        kind, data = self.source.randrange(7), text.encode()
+        if kind == 0:
+            return text.encode(self.pick(["utf-16", "utf-16-le", "utf-16-be", "utf-8-sig", "utf-32"]))
+        if kind == 1:
+            return data.replace(b"\n", self.pick([b"\r\n", b"\r", b"\x0b", b"\x0c", b"\xc2\x85"]))
+        if kind == 2:
+            return self.source.randbytes(self.pick([1, 3, 40, 400]))
+        at = self.source.randrange(len(data))
+        if kind == 3:
+            return data[:at] + self.pick([b"\0", b"\xff", b"\xc3", b"\xe2\x82\xac", b"\xef\xbb\xbf", b"\x1b[31m"]) + data[at:]
+        if kind == 4:
+            return data[:at] + bytes([self.source.randrange(256)]) + data[at + 1:]
+        if kind == 5:
+            return data[:at] + bytes([data[at] ^ (1 << self.source.randrange(8))]) + data[at + 1:]
+        to = self.source.randrange(len(data))
+        return data[:min(at, to)] + data[max(at, to):] + data[min(at, to):max(at, to)]
+
+    def data(self):
+        text, kind = self.text(), self.source.random()
+        if kind < 0.15:
+            return text.encode()
+        return self.odd(text) if kind < 0.35 else self.broken(text).encode()
+
+
+def padded():
+    """Good texts and one that is refused at its end, of sizes round the limit."""
+    good, bad = system("x", "x<=1"), "Variables x; Constraints x<=1; end x"
+    for size in (65535, 65536, 65537):
+        for text in (good, bad):
+            room = size - len(text)
+            yield " " * room + text
+            yield text + "\n" * room
+            yield "/*" + "*" * (room - 4) + "*/" + text
+            yield text + "//" + "x" * (room - 2)
+    yield "Variables " + "x" * 65000 + "; Constraints " + "x" * 500 + "<=1; end"
+
+
+def system(domains, constraints):
+    return f"Variables {domains}; Constraints {constraints}; end\n"
+
 
 def limits():
     """Texts at the limits of the profile."""
-    def system(domains, constraints):
-        return f"Variables {domains}; Constraints {constraints}; end\n"
+    yield from padded()
     for levels in (99, 100, 101):
         yield system("x", "(" * levels + "x" + ")" * levels + "<=1")
         yield system("x", "(" * levels + "abs(x)" + ")" * levels + "<=1")
@@ -125,10 +168,17 @@ def limits():
 
 def texts(count, seed):
     maker = Maker(random.Random(seed))
-    yield from limits()
+    yield from (text.encode() for text in limits())
     for _ in range(count):
-        text = maker.text()
-        yield text if maker.source.random() < 0.15 else maker.broken(text)
+        yield maker.data()
+
+
+def wanted_of(data):
+    """Status, standard output and standard error."""
+    line = line_of(data)
+    if line:
+        return 3, b"", line.encode() + b"\n"
+    return 0, canonical(data.decode("latin-1")), b""
 
 
 def main():
@@ -136,16 +186,14 @@ def main():
     count, seed = (int(word) for word in (sys.argv[2:] + ["800", "1"][len(sys.argv) - 2:])[:2])
     passed = failed = 0
     with tempfile.TemporaryDirectory() as folder:
-        for text in texts(count, seed):
-            data = text.encode()
+        for data in texts(count, seed):
             (Path(folder) / "s").write_bytes(data)
-            answer = subprocess.run([paver, "check", "s"], cwd=folder, capture_output=True, timeout=60)
-            wanted = line_of(data)
-            given = answer.stderr.decode().rstrip("\n") if answer.returncode else None
-            same = given == wanted and answer.returncode == (3 if wanted else 0)
+            done = subprocess.run([paver, "check", "s"], cwd=folder, capture_output=True, timeout=60)
+            given, wanted = (done.returncode, done.stdout, done.stderr), wanted_of(data)
+            same = given == wanted
             passed, failed = passed + same, failed + (not same)
             if not same and failed < 6:
-                print(f"{data[:600]!r}\n  given {given}, wanted {wanted}")
+                print(f"{data[:600]!r}\n  given {str(given)[:400]}\n  wanted {str(wanted)[:400]}")
     print(f"{passed} passed, {failed} failed")
     return failed > 0
 

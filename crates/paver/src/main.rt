@@ -3,7 +3,7 @@
 
 use pv_cli::{Unread, paver_main, tell_unread};
 use pv_io::{RealFolder, RealSink};
-use pv_keep::MemKeeper;
+use pv_keep_sql::FileKeeper;
 use pv_pool::NoGate;
 use std::env;
 use std::env::Env;
@@ -17,8 +17,8 @@ fn main(rt: HostRuntime) -> ExitCode {
             let mut folder = RealFolder::new(&rt);
             let mut out = RealSink::new(rt.stdout());
             let alloc = rt.alloc();
-            let mut keeper = MemKeeper::new(alloc, Vec::new(alloc));
-            paver_main(
+            let mut keeper = FileKeeper::new(&rt);
+            let status = paver_main(
                 &rt,
                 alloc,
                 &words,
@@ -27,7 +27,9 @@ fn main(rt: HostRuntime) -> ExitCode {
                 &mut err,
                 &NoGate,
                 &mut keeper,
-            )
+            );
+            keeper.close();
+            status
         }
         Err(why) => tell_unread(&mut err, why),
     };

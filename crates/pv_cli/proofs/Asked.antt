@@ -12,7 +12,7 @@ use Rattle.pv_cli.specs.Found.{IsNoCommand, RefusesValues, RefusesCommand, Refus
 use Rattle.pv_cli.specs.Ends.{RefusesWords}
 use Rattle.pv_cli.specs.declared.request.Request.{Request}
 use Rattle.pv_cli.specs.declared.refusal.Refusal.{Refusal}
-use Rattle.pv_cli.specs.declared.refusal.Refusal.TheVariants.{Usage, System, Contract, Objective, NoFile, ReadFault, Paving, NotStored, NotPrinted, Memory, TreeLimit, Disagree, Differs}
+use Rattle.pv_cli.specs.declared.refusal.Refusal.TheVariants.{Usage, System, Contract, Objective, NoFile, ReadFault, Paving, NotStored, KeeperFault, NotPrinted, Memory, TreeLimit, Disagree, Differs}
 use Rattle.pv_cli.proofs.Known.{IsACommand, IsKnown, known}
 
 paver_free : is_simple_and_free paver_app ≡ true
@@ -69,6 +69,7 @@ refuses_value name rows c (NoFile n) e bad = bad
 refuses_value name rows c (ReadFault n) e bad = bad
 refuses_value name rows c (Paving n fault) e bad = bad
 refuses_value name rows c (NotStored n) e bad = bad
+refuses_value name rows c (KeeperFault n) e bad = bad
 refuses_value name rows c NotPrinted e bad = bad
 refuses_value name rows c (TreeLimit n) e bad = bad
 refuses_value name rows c (Disagree path a b) e bad = bad
@@ -90,6 +91,7 @@ refuses_command words p (NoFile n) e is h = h
 refuses_command words p (ReadFault n) e is h = h
 refuses_command words p (Paving n fault) e is h = h
 refuses_command words p (NotStored n) e is h = h
+refuses_command words p (KeeperFault n) e is h = h
 refuses_command words p NotPrinted e is h = h
 refuses_command words p (TreeLimit n) e is h = h
 refuses_command words p (Disagree path a b) e is h = h

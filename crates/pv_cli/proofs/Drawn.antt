@@ -8,7 +8,7 @@ use Rattle.pv_cli.specs.Scenes.{RefusesScene}
 use Rattle.pv_cli.specs.declared.request.Settings.{Settings}
 use Rattle.pv_cli.specs.declared.request.View.{View}
 use Rattle.pv_cli.specs.declared.refusal.Refusal.{Refusal}
-use Rattle.pv_cli.specs.declared.refusal.Refusal.TheVariants.{Usage, System, Contract, Objective, NoFile, ReadFault, Paving, NotStored, NotPrinted, Memory, TreeLimit, Disagree, Differs}
+use Rattle.pv_cli.specs.declared.refusal.Refusal.TheVariants.{Usage, System, Contract, Objective, NoFile, ReadFault, Paving, NotStored, KeeperFault, NotPrinted, Memory, TreeLimit, Disagree, Differs}
 
 module _ (before after : Files) (system : Text) (s : Settings) (v : View) where
   pub scene_refused : (name : Text) (r : Refusal) → RefusesScene before after system s v r → RefusesSvg before after system name s v r
@@ -20,6 +20,7 @@ module _ (before after : Files) (system : Text) (s : Settings) (v : View) where
   scene_refused name (ReadFault n) h = inl h
   scene_refused name (Paving n f) h = inl h
   scene_refused name (NotStored n) h = inl h
+  scene_refused name (KeeperFault n) h = inl h
   scene_refused name NotPrinted h = inl h
   scene_refused name Memory h = inl h
   scene_refused name (TreeLimit n) h = inl h
@@ -35,6 +36,7 @@ module _ (before after : Files) (system : Text) (s : Settings) (v : View) where
   picture_refused name (ReadFault n) h = inr h
   picture_refused name (Paving n f) h = inr h
   picture_refused name (NotStored n) h = inr h
+  picture_refused name (KeeperFault n) h = inr h
   picture_refused name NotPrinted h = inr h
   picture_refused name Memory h = inr h
   picture_refused name (TreeLimit n) h = inr h

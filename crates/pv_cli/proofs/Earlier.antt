@@ -13,9 +13,9 @@ use Rattle.pv_file.specs.Readings.{IsFirstBadLine, IsOneTooMany}
 use Rattle.pv_cli.specs.Reads.{AreRead, AreOver, IsKeyOf, trees_of}
 use Rattle.pv_cli.specs.declared.pavings.Key.{Key}
 use Rattle.pv_cli.specs.declared.refusal.FileFault.{FileFault}
-use Rattle.pv_cli.specs.declared.refusal.FileFault.TheVariants.{TooLong, WrongIdentity, BadLine, TooManyNodes}
+use Rattle.pv_cli.specs.declared.refusal.FileFault.TheVariants.{TooLong, WrongIdentity, BadLine, TooManyNodes, BadRow, TooManyRows}
 use Rattle.pv_cli.specs.declared.refusal.Refusal.{Refusal}
-use Rattle.pv_cli.specs.declared.refusal.Refusal.TheVariants.{Usage, System, Contract, Objective, NoFile, ReadFault, Paving, NotStored, NotPrinted, Memory, TreeLimit, Disagree, Differs}
+use Rattle.pv_cli.specs.declared.refusal.Refusal.TheVariants.{Usage, System, Contract, Objective, NoFile, ReadFault, Paving, NotStored, KeeperFault, NotPrinted, Memory, TreeLimit, Disagree, Differs}
 
 pub only_read_on : (a b c : Files) → AreOnlyRead a b → AreOnlyRead b c → AreOnlyRead a c
 only_read_on a b c h k = record {
@@ -40,6 +40,8 @@ module _ (a b : Files) (read : AreOnlyRead a b) where
   fault_before identity root name WrongIdentity h = other_before name _ h
   fault_before identity root name (BadLine n) h = other_before name _ h
   fault_before identity root name (TooManyNodes n) h = other_before name _ h
+  fault_before identity root name (BadRow n) h = h
+  fault_before identity root name TooManyRows h = h
 
   fetch_before : (c : Files) (name : List ℕ) (r : Refusal) → RefusesFetch b c name r → RefusesFetch a c name r
   fetch_before c name (NoFile n) h = (h.0, subst (λ (x : Content). MayBeAbsent x) (read.content name) h.1)
@@ -51,6 +53,7 @@ module _ (a b : Files) (read : AreOnlyRead a b) where
   fetch_before c name (Objective byte cause) h = h
   fetch_before c name (Paving n f) h = h
   fetch_before c name (NotStored n) h = h
+  fetch_before c name (KeeperFault n) h = h
   fetch_before c name NotPrinted h = h
   fetch_before c name (TreeLimit n) h = h
   fetch_before c name (Disagree p x y) h = h
@@ -75,6 +78,7 @@ module _ (a b : Files) (read : AreOnlyRead a b) where
   refused_before c identity root name (Contract byte) h = h
   refused_before c identity root name (Objective byte cause) h = h
   refused_before c identity root name (NotStored n) h = h
+  refused_before c identity root name (KeeperFault n) h = h
   refused_before c identity root name NotPrinted h = h
   refused_before c identity root name (TreeLimit n) h = h
   refused_before c identity root name (Disagree p x y) h = h

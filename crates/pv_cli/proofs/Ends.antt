@@ -8,14 +8,15 @@ use Rattle.pv_io.specs.Outside.{Content, Rose, appended, stored, AppendsFront}
 use Rattle.pv_parse.specs.Faults.{IsPlaced, IsRefusal, SaysTooLong}
 use Rattle.pv_parse.specs.declared.refused.ParseRefused.{ParseRefused}
 use Rattle.pv_parse.specs.declared.refused.ParseRefused.TheVariants as parse
-use Rattle.pv_cli.specs.Requests.{Asks, AreRefused, out_of}
+use Rattle.pv_cli.specs.Requests.{Asks, AreRefused, out_of, campaign_of}
+use Rattle.pv_cli.specs.Campaigns.{Stock, IsSameStock, LeavesStock}
 use Rattle.pv_cli.specs.Systems.{Files, AreOnlyRead}
 use Rattle.pv_cli.specs.Printing.{RefusesPrint}
 use Rattle.pv_cli.specs.Products.{Product, text, unfinished, paved, printed_of, HasStatus, ComesOf, RefusesWork}
 use Rattle.pv_cli.specs.Ends.{Stream, Outside, AreUntouched, AreOthersKept, IsStored, IsKept, IsDelivered, IsCutOff, RefusesDelivery, IsAnswered, RefusesRequest, RefusesWords, IsRefusedSo, in_words, in_request, Tells, IsEnd}
 use Rattle.pv_cli.specs.declared.request.Request.{Request}
 use Rattle.pv_cli.specs.declared.refusal.Refusal.{Refusal}
-use Rattle.pv_cli.specs.declared.refusal.Refusal.TheVariants.{Usage, System, Contract, Objective, NoFile, ReadFault, Paving, NotStored, NotPrinted, Memory, TreeLimit, Disagree, Differs}
+use Rattle.pv_cli.specs.declared.refusal.Refusal.TheVariants.{Usage, System, Contract, Objective, NoFile, ReadFault, Paving, NotStored, KeeperFault, NotPrinted, Memory, TreeLimit, Disagree, Differs}
 use Rattle.pv_cli.specs.declared.status.Status.{Status}
 use Rattle.pv_cli.proofs.Earlier.{only_read_on}
 
@@ -33,6 +34,7 @@ text_delivered None t f x y printed = record { files = same_files f; out = print
 text_delivered (Some name) t f x y printed = record { files = same_files f; out = printed }
 
 pub text_undelivered : (out : Option Text) (t : List ℕ) (f : Files) (x y : Stream) (r : Refusal) → RefusesPrint x y t r → RefusesDelivery out (text t) f f x y r
+text_undelivered out t f x y (KeeperFault n) h = h
 text_undelivered out t f x y NotPrinted h = (front_printed out t f x y h.0, h.1)
 text_undelivered out t f x y Memory h = inr (front_printed out t f x y h)
 text_undelivered out t f x y Usage h = h
@@ -49,7 +51,7 @@ text_undelivered out t f x y (Differs path u v) h = h
 
 -- ---- A delivery that begins where files were only read
 
-module _ (a b c : Files) (read : AreOnlyRead a b) (x y : Stream) where
+module _ (a b c : Files) (read : AreOnlyRead a b) (u v : Stock) (x y : Stream) where
   others_on : (name : Text) → AreOthersKept name b c → AreOthersKept name a c
   others_on name h = record {
     others = λ other n. h.others other n ∙ read.content other;
@@ -82,6 +84,7 @@ module _ (a b c : Files) (read : AreOnlyRead a b) (x y : Stream) where
     out = h.out;
     rose = subst (λ (n : ℕ). Rose n c.store_faults) read.store_faults h.rose;
   }
+  delivery_on out p (KeeperFault n) h = h
   delivery_on out p NotPrinted h = (cut_on out p h.0, h.1)
   delivery_on out p Memory (inl same) = inl (record { files = only_read_on a b c read same.files; out = same.out })
   delivery_on out p Memory (inr cut) = inr (cut_on out p cut)
@@ -96,8 +99,8 @@ module _ (a b c : Files) (read : AreOnlyRead a b) (x y : Stream) where
   delivery_on out p (Disagree path u v) h = h
   delivery_on out p (Differs path u v) h = h
 
-  pub when_delivered : (r : Result Status Refusal) (q : Request) (p : Product) (file : Option Text) → file ≡ out_of q → ComesOf a q p → IfOk r (HasStatus p)
-      → OnOk r (IsDelivered file p b c x y) → IfOk r (IsAnswered q a c x y)
+  pub when_delivered : (r : Result Status Refusal) (q : Request) (p : Product) (file : Option Text) → file ≡ out_of q → ComesOf a u v q p → IfOk r (HasStatus p)
+      → OnOk r (IsDelivered file p b c x y) → IfOk r (IsAnswered q a c u v x y)
   when_delivered (Ok s) q p file same comes is delivered = record {
     product = p;
     comes = comes;
@@ -106,8 +109,8 @@ module _ (a b c : Files) (read : AreOnlyRead a b) (x y : Stream) where
   }
   when_delivered (Err e) q p file same comes is delivered = tt
 
-  pub when_undelivered : (r : Result Status Refusal) (q : Request) (p : Product) (file : Option Text) → file ≡ out_of q → ComesOf a q p
-      → IfErr r (RefusesDelivery file p b c x y) → IfErr r (RefusesRequest q a c x y)
+  pub when_undelivered : (r : Result Status Refusal) (q : Request) (p : Product) (file : Option Text) → file ≡ out_of q → ComesOf a u v q p
+      → IfErr r (RefusesDelivery file p b c x y) → IfErr r (RefusesRequest q a c u v x y)
   when_undelivered (Ok s) q p file same comes h = tt
   when_undelivered (Err e) q p file same comes h = inr (record {
     product = p;
@@ -119,13 +122,15 @@ module _ (a b c : Files) (read : AreOnlyRead a b) (x y : Stream) where
 
 -- the words were refused
 pub words_refused : (words : List Text) (before after : Outside) (r : Refusal) (status : Status) → RefusesWords words r
-    → AreUntouched before.files after.files before.out after.out → Tells r status before.err after.err → IsEnd words before after status
-words_refused words before after r status h same told = inr (record { refusal = r; so = in_words h same; told = told })
+    → AreUntouched before.files after.files before.out after.out → IsSameStock before.stock after.stock → Tells r status before.err after.err
+    → IsEnd words before after status
+words_refused words before after r status h same kept told = inr (record { refusal = r; so = in_words h same kept; told = told })
 
 -- what they ask for was refused
 pub request_refused : (words : List Text) (before after : Outside) (r : Refusal) (status : Status) (q : Request) → Asks words q
-    → RefusesRequest q before.files after.files before.out after.out r → Tells r status before.err after.err → IsEnd words before after status
-request_refused words before after r status q asks h told = inr (record { refusal = r; so = in_request q asks h; told = told })
+    → RefusesRequest q before.files after.files before.stock after.stock before.out after.out r → LeavesStock (campaign_of q) before.stock after.stock
+    → Tells r status before.err after.err → IsEnd words before after status
+request_refused words before after r status q asks h kept told = inr (record { refusal = r; so = in_request q asks h kept; told = told })
 
 -- ---- A store
 

@@ -14,7 +14,7 @@ use Rattle.pv_join.proofs.JoinFacts.{side_some, side_left, top_is}
 use Rattle.pv_cli.specs.Files.{AllTrees, AnyTree, IsJoinOf, RefusesJoin}
 use Rattle.pv_cli.specs.Reads.{IsLineAt, IsDisagree, AreOver, trees_of}
 use Rattle.pv_cli.specs.declared.refusal.Refusal.{Refusal}
-use Rattle.pv_cli.specs.declared.refusal.Refusal.TheVariants.{Usage, System, Contract, Objective, NoFile, ReadFault, Paving, NotStored, NotPrinted, Memory, TreeLimit, Disagree, Differs}
+use Rattle.pv_cli.specs.declared.refusal.Refusal.TheVariants.{Usage, System, Contract, Objective, NoFile, ReadFault, Paving, NotStored, KeeperFault, NotPrinted, Memory, TreeLimit, Disagree, Differs}
 
 -- ---- Lists of trees
 
@@ -107,6 +107,7 @@ disagreement ts us joined next path (NoFile n) j first h = h
 disagreement ts us joined next path (ReadFault n) j first h = h
 disagreement ts us joined next path (Paving n f) j first h = h
 disagreement ts us joined next path (NotStored n) j first h = h
+disagreement ts us joined next path (KeeperFault n) j first h = h
 disagreement ts us joined next path NotPrinted j first h = h
 disagreement ts us joined next path (TreeLimit n) j first h = h
 disagreement ts us joined next path (Differs p a b) j first h = h

@@ -15,7 +15,7 @@ use Rattle.pv_tokens.specs.declared.number.Decimal.{Decimal}
 use Rattle.pv_cli.specs.Requests.{IsLevel, IsWidth, AreLevels, AreLevelsIn, AreGiven, HasBadLevels, words_between, has_minus, behind_minus, with_minus}
 use Rattle.pv_cli.specs.Found.{RefusesValues, EndsWithLevel}
 use Rattle.pv_cli.specs.declared.refusal.Refusal.{Refusal}
-use Rattle.pv_cli.specs.declared.refusal.Refusal.TheVariants.{Usage, System, Contract, Objective, NoFile, ReadFault, Paving, NotStored, NotPrinted, Memory, TreeLimit, Disagree, Differs}
+use Rattle.pv_cli.specs.declared.refusal.Refusal.TheVariants.{Usage, System, Contract, Objective, NoFile, ReadFault, Paving, NotStored, KeeperFault, NotPrinted, Memory, TreeLimit, Disagree, Differs}
 
 -- ---- The words
 
@@ -94,6 +94,7 @@ module _ (words : List Text) where
   refused_at word rest (ReadFault n) has h = h
   refused_at word rest (Paving n f) has h = h
   refused_at word rest (NotStored n) has h = h
+  refused_at word rest (KeeperFault n) has h = h
   refused_at word rest NotPrinted has h = h
   refused_at word rest (TreeLimit n) has h = h
   refused_at word rest (Disagree p a b) has h = h

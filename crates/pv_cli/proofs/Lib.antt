@@ -13,7 +13,10 @@ pub mod Joined
 pub mod Earlier
 pub mod Refused
 pub mod Merges
+pub mod Stocks
 pub mod StatusLaws
+pub mod Campaigned
+pub mod CampaignLaws
 pub mod Levels
 pub mod Drawn
 pub mod Planes

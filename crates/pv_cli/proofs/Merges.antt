@@ -34,6 +34,7 @@ use Rattle.pv_cli.specs.Refusals.{status_of}
 use Rattle.pv_cli.specs.Systems.{Files, IsFetched, HasSystem, IsRuleFor, HasRule, search_box}
 use Rattle.pv_cli.specs.Pavings.{settled_in}
 use Rattle.pv_cli.specs.Files.{HasPaving, HavePavings, AllTrees, AnyTree, IsJoinOf, HasOpening, IsDisagreement}
+use Rattle.pv_cli.specs.Campaigns.{Stock}
 use Rattle.pv_cli.specs.Products.{Product, text, unfinished, paved, HasStatus, ComesOf, ComesOfMerge, IsOverLimit, RefusesJoined, RefusesWork}
 use Rattle.pv_cli.specs.Ends.{Stream, Outside, IsKept, IsDelivered, IsAnswered, RefusesDelivery, RefusesWords, IsRefusedSo, in_words, in_request, Tells}
 use Rattle.pv_cli.specs.Merges.{IsTree, AreSameTrees, JoinAlike, IsNamed, AreSameNames, AreSameSettings, AreSameMerge, AskForSameMerge, AreTold, EndAlike, MergesEndAlike, MergesAreTakenAlike}
@@ -41,7 +42,7 @@ use Rattle.pv_cli.specs.declared.request.Settings.{Settings}
 use Rattle.pv_cli.specs.declared.request.Request.{Request}
 use Rattle.pv_cli.specs.declared.request.Request.TheVariants.{Check, Run, Resume, Merge, Audit}
 use Rattle.pv_cli.specs.declared.refusal.Refusal.{Refusal}
-use Rattle.pv_cli.specs.declared.refusal.Refusal.TheVariants.{Usage, System, Contract, Objective, NoFile, ReadFault, Paving, NotStored, NotPrinted, Memory, TreeLimit, Disagree, Differs}
+use Rattle.pv_cli.specs.declared.refusal.Refusal.TheVariants.{Usage, System, Contract, Objective, NoFile, ReadFault, Paving, NotStored, KeeperFault, NotPrinted, Memory, TreeLimit, Disagree, Differs}
 use Rattle.pv_cli.specs.declared.status.Status.{Status}
 use Rattle.pv_cli.specs.declared.status.Status.TheVariants as status
 use Rattle.pv_cli.proofs.Ends.{same_or_other}
@@ -233,14 +234,14 @@ same_merge before system names others x y p q told names_are same h k =
 
 -- ---- Two commands
 
-product_alike : (before : Files) (q r : Request) (p other : Product) → AreTold before → AreSameMerge q r → ComesOf before q p → ComesOf before r other
+product_alike : (before : Files) (u v w : Stock) (q r : Request) (p other : Product) → AreTold before → AreSameMerge q r → ComesOf before u v q p → ComesOf before u w r other
     → (p ≡ other) × (out_of q ≡ out_of r)
-product_alike before (Merge system pavings s out) (Merge system' pavings' s' out') p other told h c d = (
+product_alike before u v w (Merge system pavings s out) (Merge system' pavings' s' out') p other told h c d = (
   same_merge before system.now (names_in pavings.items) (names_in pavings'.items) s s' p other told h.1 h.2 c
       (subst (λ (n : Text). ComesOfMerge before n (names_in pavings'.items) s' other) (sym h.0) d),
   h.3,
 )
-product_alike before q r p other told h c d = absurd h
+product_alike before u v w q r p other told h c d = absurd h
 
 kept_alike : (out : Option Text) (p : Product) (before one other : Files) → IsKept out p before one → IsKept out p before other → (name : Text) → one.content name ≡ other.content name
 kept_alike None p before one other h k name = h.content name ∙ sym (k.content name)
@@ -261,9 +262,9 @@ one_status (paved identity b t) s other (inr h) (inl k) = absurd (h.1 k.1)
 one_status (paved identity b t) s other (inr h) (inr k) = h.0 ∙ sym k.0
 
 answered_alike : (q r : Request) (before one other : Outside) (s s' : Status) → AreTold before.files → AreSameMerge q r
-    → IsAnswered q before.files one.files before.out one.out s → IsAnswered r before.files other.files before.out other.out s' → EndAlike one other s s'
+    → IsAnswered q before.files one.files before.stock one.stock before.out one.out s → IsAnswered r before.files other.files before.stock other.stock before.out other.out s' → EndAlike one other s s'
 answered_alike q r before one other s s' told same h k =
-    let alike = product_alike before.files q r h.product k.product told same h.comes k.comes in
+    let alike = product_alike before.files before.stock one.stock other.stock q r h.product k.product told same h.comes k.comes in
     let there : IsDelivered (out_of q) h.product before.files other.files before.out other.out =
     subst (λ (f : Option Text). IsDelivered f h.product before.files other.files before.out other.out) (sym alike.1)
     (subst (λ (p : Product). IsDelivered (out_of r) p before.files other.files before.out other.out) (sym alike.0) k.delivered) in
@@ -348,14 +349,16 @@ module _ (before after : Files) (system : Text) (names others : List Text) (x y 
   not_refused (ReadFault n) over k = over
   not_refused (Paving n f) over k = over
   not_refused (NotStored n) over k = over
+  not_refused (KeeperFault n) over k = over
   not_refused NotPrinted over k = over
   not_refused Memory over k = over
 
-work_taken : (before after : Files) (q r : Request) (p : Product) (e : Refusal) → AreTold before → AreSameMerge q r → ComesOf before q p → IsOver (status_of e) → RefusesWork before after r e → ⊥
-work_taken before after (Merge system pavings s out) (Merge system' pavings' s' out') p e told h c over w =
+work_taken : (before after : Files) (u v w : Stock) (q r : Request) (p : Product) (e : Refusal) → AreTold before → AreSameMerge q r → ComesOf before u v q p → IsOver (status_of e)
+    → RefusesWork before after u w r e → ⊥
+work_taken before after u v w (Merge system pavings s out) (Merge system' pavings' s' out') p e told h c over k =
     not_refused before after system.now (names_in pavings.items) (names_in pavings'.items) s s' p told h.1 h.2 c e over
-    (subst (λ (n : Text). RefusesJoined before after n (names_in pavings'.items) s' 0 e) (sym h.0) w)
-work_taken before after q r p e told h c over w = absurd h
+    (subst (λ (n : Text). RefusesJoined before after n (names_in pavings'.items) s' 0 e) (sym h.0) k)
+work_taken before after u v w q r p e told h c over k = absurd h
 
 words_over : (words : List Text) (r : Refusal) → IsOver (status_of r) → RefusesWords words r → ⊥
 words_over words (TreeLimit n) over h = h
@@ -369,6 +372,7 @@ words_over words (NoFile n) over h = over
 words_over words (ReadFault n) over h = over
 words_over words (Paving n f) over h = over
 words_over words (NotStored n) over h = over
+words_over words (KeeperFault n) over h = over
 words_over words NotPrinted over h = over
 words_over words Memory over h = over
 
@@ -384,24 +388,25 @@ delivery_over out p before after x y (NoFile n) over h = over
 delivery_over out p before after x y (ReadFault n) over h = over
 delivery_over out p before after x y (Paving n f) over h = over
 delivery_over out p before after x y (NotStored n) over h = over
+delivery_over out p before after x y (KeeperFault n) over h = over
 delivery_over out p before after x y NotPrinted over h = over
 delivery_over out p before after x y Memory over h = over
 
-refusal_taken : (words others : List Text) (before other : Outside) (q : Request) (p : Product) (e : Refusal) → AreTold before.files → AskForSameMerge words others → Asks words q
-    → ComesOf before.files q p → IsOver (status_of e) → IsRefusedSo others before other e → ⊥
-refusal_taken words others before other q p e told ask asks comes over (in_words h same) = words_over others e over h
-refusal_taken words others before other q p e told ask asks comes over (in_request r asked (inl work)) =
-    work_taken before.files other.files q r p e told (ask q r asks asked) comes over work.0
-refusal_taken words others before other q p e told ask asks comes over (in_request r asked (inr f)) =
+refusal_taken : (words others : List Text) (before other : Outside) (v : Stock) (q : Request) (p : Product) (e : Refusal) → AreTold before.files → AskForSameMerge words others → Asks words q
+    → ComesOf before.files before.stock v q p → IsOver (status_of e) → IsRefusedSo others before other e → ⊥
+refusal_taken words others before other v q p e told ask asks comes over (in_words h same kept) = words_over others e over h
+refusal_taken words others before other v q p e told ask asks comes over (in_request r asked (inl work) kept) =
+    work_taken before.files other.files before.stock v other.stock q r p e told (ask q r asks asked) comes over work.0
+refusal_taken words others before other v q p e told ask asks comes over (in_request r asked (inr f) kept) =
     delivery_over (out_of r) f.product before.files other.files before.out other.out e over f.refused
 
-told_taken : (words others : List Text) (before other : Outside) (q : Request) (p : Product) (e : Refusal) (s : Status) → AreTold before.files → AskForSameMerge words others → Asks words q
-    → ComesOf before.files q p → IsOver s → IsRefusedSo others before other e → Tells e s before.err other.err → ⊥
-told_taken words others before other q p e s told ask asks comes over so (inl line) =
-    refusal_taken words others before other q p e told ask asks comes (subst IsOver line.0 over) so
-told_taken words others before other q p e s told ask asks comes over so (inr memory) = subst IsOver memory.0 over
+told_taken : (words others : List Text) (before other : Outside) (v : Stock) (q : Request) (p : Product) (e : Refusal) (s : Status) → AreTold before.files → AskForSameMerge words others → Asks words q
+    → ComesOf before.files before.stock v q p → IsOver s → IsRefusedSo others before other e → Tells e s before.err other.err → ⊥
+told_taken words others before other v q p e s told ask asks comes over so (inl line) =
+    refusal_taken words others before other v q p e told ask asks comes (subst IsOver line.0 over) so
+told_taken words others before other v q p e s told ask asks comes over so (inr memory) = subst IsOver memory.0 over
 
 pub merges_are_taken_alike : MergesAreTakenAlike
 merges_are_taken_alike words others before one other s s' told ask d r =
-    let none = told_taken words others before other d.request d.answered.product r.refusal s' told ask d.asks d.answered.comes in
+    let none = told_taken words others before other one.stock d.request d.answered.product r.refusal s' told ask d.asks d.answered.comes in
     (λ e. none (subst IsOver (sym e) tt) r.so r.told, λ e. none (subst IsOver (sym e) tt) r.so r.told)

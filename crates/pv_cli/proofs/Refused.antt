@@ -16,7 +16,7 @@ use Rattle.pv_cli.specs.Products.{RefusesJoined, HasBadPaving, RefusesAudit}
 use Rattle.pv_cli.specs.declared.request.Form.{Form}
 use Rattle.pv_cli.specs.declared.request.Settings.{Settings}
 use Rattle.pv_cli.specs.declared.refusal.Refusal.{Refusal}
-use Rattle.pv_cli.specs.declared.refusal.Refusal.TheVariants.{Usage, System, Contract, Objective, NoFile, ReadFault, Paving, NotStored, NotPrinted, Memory, TreeLimit, Disagree, Differs}
+use Rattle.pv_cli.specs.declared.refusal.Refusal.TheVariants.{Usage, System, Contract, Objective, NoFile, ReadFault, Paving, NotStored, KeeperFault, NotPrinted, Memory, TreeLimit, Disagree, Differs}
 
 -- the tree is too large, or the paving differs
 abbrev IsLate : Refusal → Type 0
@@ -28,6 +28,7 @@ IsLate (NoFile n) = ⊥
 IsLate (ReadFault n) = ⊥
 IsLate (Paving n f) = ⊥
 IsLate (NotStored n) = ⊥
+IsLate (KeeperFault n) = ⊥
 IsLate NotPrinted = ⊥
 IsLate Memory = ⊥
 IsLate (TreeLimit n) = Unit {0}
@@ -43,6 +44,7 @@ no_one before after identity root name (NoFile n) late h = late
 no_one before after identity root name (ReadFault n) late h = late
 no_one before after identity root name (Paving m f) late h = late
 no_one before after identity root name (NotStored n) late h = late
+no_one before after identity root name (KeeperFault n) late h = late
 no_one before after identity root name NotPrinted late h = late
 no_one before after identity root name Memory late h = late
 no_one before after identity root name (TreeLimit n) late h = h
@@ -58,6 +60,7 @@ no_rule before after system s (NoFile n) late h = late
 no_rule before after system s (ReadFault n) late h = late
 no_rule before after system s (Paving n f) late h = late
 no_rule before after system s (NotStored n) late h = late
+no_rule before after system s (KeeperFault n) late h = late
 no_rule before after system s NotPrinted late h = late
 no_rule before after system s Memory late h = late
 no_rule before after system s (TreeLimit n) late h = h
@@ -89,6 +92,7 @@ opening_refused before after system names s budget (NoFile n) h = h
 opening_refused before after system names s budget (ReadFault n) h = h
 opening_refused before after system names s budget (Paving n f) h = h
 opening_refused before after system names s budget (NotStored n) h = h
+opening_refused before after system names s budget (KeeperFault n) h = h
 opening_refused before after system names s budget NotPrinted h = h
 opening_refused before after system names s budget Memory h = h
 opening_refused before after system names s budget (Disagree p a b) h = h
@@ -118,6 +122,7 @@ difference form before system name s rule t path due after (NoFile n) read held 
 difference form before system name s rule t path due after (ReadFault n) read held verdict told = absurd told
 difference form before system name s rule t path due after (Paving n f) read held verdict told = absurd told
 difference form before system name s rule t path due after (NotStored n) read held verdict told = absurd told
+difference form before system name s rule t path due after (KeeperFault n) read held verdict told = absurd told
 difference form before system name s rule t path due after NotPrinted read held verdict told = absurd told
 difference form before system name s rule t path due after (TreeLimit n) read held verdict told = absurd told
 difference form before system name s rule t path due after (Disagree p a b) read held verdict told = absurd told
@@ -146,6 +151,7 @@ audit_refused form before after system name s (NoFile n) h = h
 audit_refused form before after system name s (ReadFault n) h = h
 audit_refused form before after system name s (Paving n f) h = h
 audit_refused form before after system name s (NotStored n) h = h
+audit_refused form before after system name s (KeeperFault n) h = h
 audit_refused form before after system name s NotPrinted h = h
 audit_refused form before after system name s Memory h = h
 audit_refused form before after system name s (TreeLimit n) h = h

@@ -25,7 +25,7 @@ use Rattle.pv_cli.specs.Samples.{IsMadeRule}
 use Rattle.pv_cli.specs.declared.request.Circles.{Circles}
 use Rattle.pv_cli.specs.declared.request.Settings.{Settings}
 use Rattle.pv_cli.specs.declared.refusal.Refusal.{Refusal}
-use Rattle.pv_cli.specs.declared.refusal.Refusal.TheVariants.{Usage, System, Contract, Objective, NoFile, ReadFault, Paving, NotStored, NotPrinted, Memory, TreeLimit, Disagree, Differs}
+use Rattle.pv_cli.specs.declared.refusal.Refusal.TheVariants.{Usage, System, Contract, Objective, NoFile, ReadFault, Paving, NotStored, KeeperFault, NotPrinted, Memory, TreeLimit, Disagree, Differs}
 
 -- ---- The width
 
@@ -62,6 +62,7 @@ no_rule c s system (NoFile n) for means h = h
 no_rule c s system (ReadFault n) for means h = h
 no_rule c s system (Paving n f) for means h = h
 no_rule c s system (NotStored n) for means h = h
+no_rule c s system (KeeperFault n) for means h = h
 no_rule c s system NotPrinted for means h = h
 no_rule c s system (TreeLimit n) for means h = h
 no_rule c s system (Disagree p a b) for means h = h

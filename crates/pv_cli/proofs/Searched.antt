@@ -21,7 +21,7 @@ use Rattle.pv_cli.specs.Products.{Product, ComesOfLeast, report_as}
 use Rattle.pv_cli.specs.declared.request.Settings.{Settings}
 use Rattle.pv_cli.specs.declared.request.Search.{Search}
 use Rattle.pv_cli.specs.declared.refusal.Refusal.{Refusal}
-use Rattle.pv_cli.specs.declared.refusal.Refusal.TheVariants.{Usage, System, Contract, Objective, NoFile, ReadFault, Paving, NotStored, NotPrinted, Memory as WantOfMemory, TreeLimit, Disagree, Differs}
+use Rattle.pv_cli.specs.declared.refusal.Refusal.TheVariants.{Usage, System, Contract, Objective, NoFile, ReadFault, Paving, NotStored, KeeperFault, NotPrinted, Memory as WantOfMemory, TreeLimit, Disagree, Differs}
 
 -- ---- The bounds
 
@@ -97,6 +97,7 @@ module _ (before after : Files) (system : Text) (s : Settings) (of : Text) where
   rule_refused (ReadFault n) h = h
   rule_refused (Paving n f) h = h
   rule_refused (NotStored n) h = h
+  rule_refused (KeeperFault n) h = h
   rule_refused NotPrinted h = h
   rule_refused WantOfMemory h = h
   rule_refused (TreeLimit n) h = h
@@ -114,6 +115,7 @@ module _ (before after : Files) (system : Text) (s : Settings) (of : Text) where
   objective_refused rule (ReadFault n) read h = absurd h
   objective_refused rule (Paving n f) read h = absurd h
   objective_refused rule (NotStored n) read h = absurd h
+  objective_refused rule (KeeperFault n) read h = absurd h
   objective_refused rule NotPrinted read h = absurd h
   objective_refused rule (TreeLimit n) read h = absurd h
   objective_refused rule (Disagree p a b) read h = absurd h

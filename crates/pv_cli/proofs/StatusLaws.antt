@@ -1,35 +1,41 @@
 -- What each status says, by the cases of how a command ends.
 use Rattle.std.proofs.Common.{◌≡◌, ◌⊎◌, inl, inr, ℕ, ◌<◌, ◌≤◌, if◌then◌else◌, Bool, true, false, List, [], ◌∷◌, map, length, refl, sym, ◌∙◌, ap, subst, arith}
-use Rattle.std.specs.Prelude.{◌≢◌, Option, Some, None, codes, unwrap_or}
+use Rattle.std.specs.Prelude.{◌≢◌, ◌*◌, is_none, Option, Some, None, codes, unwrap_or}
 use Rattle.std.specs.Str.{bytes_eq}
 use Rattle.std.specs.Borrow.{Bor}
 use Rattle.std.proofs.lemmas.List.{length-map}
 use Rattle.std.proofs.lemmas.Bool.{false≢true}
 use Rattle.clap.specs.Words.{Row, Text, fault_of, subcommand_of}
-use Rattle.pv_tree.specs.Trees.{Tree, leaf, opens}
+use Rattle.pv_tree.specs.Trees.{Tree, leaf, opens, first, counts_of}
 use Rattle.pv_settle.specs.Rules.{SettlerParts}
 use Rattle.pv_settle.specs.Spelling.{identity_of}
 use Rattle.pv_cli.specs.Commands.{paver_app}
-use Rattle.pv_cli.specs.Requests.{names_in, out_of, paving_names, AreSettings, IsEffort, ArePavings, HasBadSetting, bad_eps, bad_depth, bad_bisector, HasBadEffort, bad_workers, bad_boxes, HasManyPavings, AreCircles, HasBadCircles, bad_seed, bad_count, Command, checks, runs, resumes, merges, audits, draws, samples, seeks, name_of, HasBadValueFor, HasBadValue, IsAskedBy, IsAsked, Asks, HasBadValueIn, AreRefused}
+use Rattle.pv_cli.specs.Requests.{names_in, out_of, paving_names, AreSettings, IsEffort, ArePavings, HasBadSetting, bad_eps, bad_depth, bad_bisector, HasBadEffort, bad_workers, bad_boxes, HasManyPavings, AreCircles, HasBadCircles, bad_seed, bad_count, Command, checks, runs, resumes, merges, audits, draws, samples, seeks, keeps, name_of, HasBadValueFor, HasBadValue, IsAskedBy, IsAsked, Asks, HasBadValueIn, AreRefused}
 use Rattle.pv_cli.specs.Refusals.{status_of, line_of}
 use Rattle.pv_settle.specs.Settling.{settle_by}
 use Rattle.pv_cli.specs.Forms.{settle_as, identity_as}
 use Rattle.pv_cli.specs.Systems.{Files, HasRule, search_box}
 use Rattle.pv_cli.specs.Files.{RefusesPaving, RefusesPavings}
 use Rattle.pv_cli.specs.Leasts.{least_text}
-use Rattle.pv_cli.specs.Products.{Product, text, unfinished, paved, HasStatus, IsHonestBy, AreStages, full_as, full_by, report_as, ComesOf, ComesOfRun, ComesOfResume, ComesOfMerge, ComesOfLeast, RefusesWork}
+use Rattle.pv_cli.specs.Campaigns.{Stock, AllRowsStay, campaign_refusal, is_done}
+use Rattle.pv_rounds.specs.declared.campaign.HoldRefused.{HoldRefused}
+use Rattle.pv_rounds.specs.declared.campaign.HoldRefused.TheVariants as hold
+use Rattle.pv_cli.proofs.Stocks.{same_rows, early_rows}
+use Rattle.pv_keep.specs.Campaigns.{IsSaved}
+use Rattle.pv_cli.specs.Products.{Product, text, unfinished, paved, HasStatus, IsHonest, IsHonestBy, AreStages, full_as, full_by, report_as, ComesOf, ComesOfRun, ComesOfResume, ComesOfMerge, ComesOfLeast, ComesOfCampaign, summary_of, RefusesWork}
 use Rattle.pv_cli.specs.Ends.{Stream, Outside, AreUntouched, IsKept, RefusesDelivery, RefusesWords, IsRefusedSo, in_words, in_request, IsTold, Tells}
-use Rattle.pv_cli.specs.StatusLaws.{IsFullRun, IsFullResume, IsClosedJoin, IsFinalLeast, IsWhole, DoneIsWhole, IsPartRun, IsPartResume, IsOpenJoin, IsPartLeast, IsPart, OpenLeftIsPart, IsEarly, IsCause, IsRefusedEarly, EarlyIsUntouched, IsUnstored, IsUnprinted, IsUnwritten, WriteFaultIsUnwritten, IsCutOffText, MemoryLeaves, OthersStay, AskingIsNotRefused, IsWordsRefused, RefusedWordsEnd, HasBadContract, HasBadExpression, HasBadPlane, HaveBadText, UsageIsOfWords}
+use Rattle.pv_cli.specs.StatusLaws.{IsFullRun, IsFullResume, IsClosedJoin, IsFinalLeast, IsFullCampaign, IsWhole, DoneIsWhole, IsPartRun, IsPartResume, IsOpenJoin, IsPartLeast, IsPartCampaign, IsPart, OpenLeftIsPart, IsEarly, IsCause, IsRefusedEarly, EarlyIsUntouched, IsUnstored, IsUnprinted, IsUnwritten, WriteFaultIsUnwritten, IsCutOffText, MemoryLeaves, OthersStay, AskingIsNotRefused, IsWordsRefused, RefusedWordsEnd, HasBadContract, HasBadExpression, HasBadPlane, HaveBadText, UsageIsOfWords}
 use Rattle.pv_cli.specs.declared.request.Form.{Form}
 use Rattle.pv_cli.specs.declared.request.Form.TheVariants.{Natural, Centered}
 use Rattle.pv_cli.specs.declared.request.Settings.{Settings}
 use Rattle.pv_cli.specs.declared.request.Effort.{Effort}
 use Rattle.pv_cli.specs.declared.request.Circles.{Circles}
 use Rattle.pv_cli.specs.declared.request.Search.{Search}
+use Rattle.pv_cli.specs.declared.request.Rounds.{Rounds}
 use Rattle.pv_cli.specs.declared.request.Request.{Request}
-use Rattle.pv_cli.specs.declared.request.Request.TheVariants.{Check, Run, Resume, Merge, Audit, Svg, Sample, Least}
+use Rattle.pv_cli.specs.declared.request.Request.TheVariants.{Check, Run, Resume, Merge, Audit, Svg, Sample, Least, Campaign}
 use Rattle.pv_cli.specs.declared.refusal.Refusal.{Refusal}
-use Rattle.pv_cli.specs.declared.refusal.Refusal.TheVariants.{Usage, System, Contract, Objective, NoFile, ReadFault, Paving, NotStored, NotPrinted, Memory, TreeLimit, Disagree, Differs}
+use Rattle.pv_cli.specs.declared.refusal.Refusal.TheVariants.{Usage, System, Contract, Objective, NoFile, ReadFault, Paving, NotStored, KeeperFault, NotPrinted, Memory, TreeLimit, Disagree, Differs}
 use Rattle.pv_cli.specs.declared.status.Status.{Status}
 use Rattle.pv_cli.specs.declared.status.Status.TheVariants as status
 
@@ -58,6 +64,7 @@ no_answer (NoFile n) h = h
 no_answer (ReadFault n) h = h
 no_answer (Paving n f) h = h
 no_answer (NotStored n) h = h
+no_answer (KeeperFault n) h = h
 no_answer NotPrinted h = h
 no_answer Memory h = h
 no_answer (TreeLimit n) h = h
@@ -69,7 +76,7 @@ not_told r s before after h (inl told) = no_answer r (subst IsAnswer told.0 h)
 not_told r s before after h (inr memory) = subst IsAnswer memory.0 h
 
 -- what was delivered has an answer's status
-is_answer : (p : Product) (s : Status) → HasStatus p s → IsAnswer s
+pub is_answer : (p : Product) (s : Status) → HasStatus p s → IsAnswer s
 is_answer (text t) s h = subst IsAnswer (sym h) tt
 is_answer (unfinished t) s h = subst IsAnswer (sym h) tt
 is_answer (paved identity b t) s (inl h) = subst IsAnswer (sym h.0) tt
@@ -136,22 +143,44 @@ final_least before system s search p h done =
       is = h.is ∙ ap (report_as (least_text h.least)) final;
     }
 
-whole_of : (before : Files) (q : Request) (p : Product) → ComesOf before q p → HasStatus p status.Done → IsWhole before q p
-whole_of before (Check system) p h done = h
-whole_of before (Run form system settings effort out) p h done = full_run form before _ settings _ p h done
-whole_of before (Resume system pavings settings effort out) p h done = full_resume before _ _ settings _ p h done
-whole_of before (Merge system pavings settings out) p h done = closed_join before _ _ settings p h done
-whole_of before (Audit form system paving settings) p h done = h
-whole_of before (Svg system paving settings view) p h done = h
-whole_of before (Sample circles) p h done = h
-whole_of before (Least system settings search) p h done = final_least before _ settings search p h done
+none_open : (ps : List (List Bool)) → is_none (first ps) ≡ true → ps ≡ []
+none_open [] e = refl
+none_open (p ∷ ps) e = absurd (false≢true e)
+
+full_campaign : (before : Files) (u v : Stock) (system : Text) (s : Settings) (boxes : ℕ) (rounds : Rounds) (p : Product) → ComesOfCampaign before u v system s boxes rounds p
+    → HasStatus p status.Done → IsFullCampaign before u v system s rounds p
+full_campaign before u v system s boxes rounds p h done =
+    let report = summary_of (counts_of h.tree) in
+    let flag : is_done h.tree ≡ true = is_final report (is_done h.tree) (subst (λ (x : Product). HasStatus x status.Done) h.is done) in
+    let full : h.tree ≡ full_by h.rule h.held.opening = h.held.gone.run.full (none_open (opens h.tree) flag) in
+    record {
+      rule = h.rule;
+      read = h.read;
+      opening = h.held.opening;
+      middle = h.held.middle;
+      opened = h.held.opened;
+      kept = subst (IsSaved h.held.middle (v.kept rounds.name.now)) full h.held.gone.saved;
+      honest = λ stage. subst (IsHonest s h.rule) full (h.honest stage);
+      is = h.is ∙ ap (report_as report) flag ∙ ap (λ (t : Tree). text (summary_of (counts_of t))) full;
+    }
+
+whole_of : (before : Files) (u v : Stock) (q : Request) (p : Product) → ComesOf before u v q p → HasStatus p status.Done → IsWhole before u v q p
+whole_of before u v (Check system) p h done = h
+whole_of before u v (Run form system settings effort out) p h done = full_run form before _ settings _ p h done
+whole_of before u v (Resume system pavings settings effort out) p h done = full_resume before _ _ settings _ p h done
+whole_of before u v (Merge system pavings settings out) p h done = closed_join before _ _ settings p h done
+whole_of before u v (Audit form system paving settings) p h done = h
+whole_of before u v (Svg system paving settings view) p h done = h
+whole_of before u v (Sample circles) p h done = h
+whole_of before u v (Least system settings search) p h done = final_least before _ settings search p h done
+whole_of before u v (Campaign system settings effort rounds) p h done = full_campaign before u v _ settings _ rounds p h done
 
 pub done_is_whole : DoneIsWhole
 done_is_whole words before after (inl d) = record {
   request = d.request;
   asks = d.asks;
   product = d.answered.product;
-  says_so = whole_of before.files d.request d.answered.product d.answered.comes d.answered.is;
+  says_so = whole_of before.files before.stock after.stock d.request d.answered.product d.answered.comes d.answered.is;
   delivered = d.answered.delivered;
   quiet = d.quiet;
 }
@@ -227,22 +256,47 @@ part_least before system s search p h left =
       is = h.is ∙ ap (report_as (least_text h.least)) short;
     }
 
-part_of : (before : Files) (q : Request) (p : Product) → ComesOf before q p → HasStatus p status.OpenLeft → IsPart before q p
-part_of before (Check system) p h left = no_text p _ h.is left
-part_of before (Run form system settings effort out) p h left = part_run form before _ settings _ p h left
-part_of before (Resume system pavings settings effort out) p h left = part_resume before _ _ settings _ p h left
-part_of before (Merge system pavings settings out) p h left = open_join before _ _ settings p h left
-part_of before (Audit form system paving settings) p h left = no_text p _ h.is left
-part_of before (Svg system paving settings view) p h left = no_text p _ h.is left
-part_of before (Sample circles) p h left = no_text p _ h.is left
-part_of before (Least system settings search) p h left = part_least before _ settings search p h left
+not_closed : (ps : List (List Bool)) → is_none (first ps) ≡ false → ps ≢ []
+not_closed [] e = absurd (false≢true (sym e))
+not_closed (p ∷ ps) e = λ none. cc
+
+part_campaign : (before : Files) (u v : Stock) (system : Text) (s : Settings) (boxes : ℕ) (rounds : Rounds) (p : Product) → ComesOfCampaign before u v system s boxes rounds p
+    → HasStatus p status.OpenLeft → IsPartCampaign before u v system s boxes rounds p
+part_campaign before u v system s boxes rounds p h left =
+    let report = summary_of (counts_of h.tree) in
+    let flag : is_done h.tree ≡ false = is_cut_short report (is_done h.tree) (subst (λ (x : Product). HasStatus x status.OpenLeft) h.is left) in
+    let open_left : opens h.tree ≢ [] = not_closed (opens h.tree) flag in
+    let run = h.held.gone.run in
+    record {
+      rule = h.rule;
+      read = h.read;
+      opening = h.held.opening;
+      middle = h.held.middle;
+      opened = h.held.opened;
+      tree = h.tree;
+      part = record { open_left = open_left; spent = run.spent open_left; short = λ fits. open_left (run.fits.1 fits) };
+      kept = h.held.gone.saved;
+      honest = h.honest;
+      is = h.is ∙ ap (report_as report) flag;
+    }
+
+part_of : (before : Files) (u v : Stock) (q : Request) (p : Product) → ComesOf before u v q p → HasStatus p status.OpenLeft → IsPart before u v q p
+part_of before u v (Check system) p h left = no_text p _ h.is left
+part_of before u v (Run form system settings effort out) p h left = part_run form before _ settings _ p h left
+part_of before u v (Resume system pavings settings effort out) p h left = part_resume before _ _ settings _ p h left
+part_of before u v (Merge system pavings settings out) p h left = open_join before _ _ settings p h left
+part_of before u v (Audit form system paving settings) p h left = no_text p _ h.is left
+part_of before u v (Svg system paving settings view) p h left = no_text p _ h.is left
+part_of before u v (Sample circles) p h left = no_text p _ h.is left
+part_of before u v (Least system settings search) p h left = part_least before _ settings search p h left
+part_of before u v (Campaign system settings effort rounds) p h left = part_campaign before u v _ settings _ rounds p h left
 
 pub open_left_is_part : OpenLeftIsPart
 open_left_is_part words before after (inl d) = record {
   request = d.request;
   asks = d.asks;
   product = d.answered.product;
-  says_so = part_of before.files d.request d.answered.product d.answered.comes d.answered.is;
+  says_so = part_of before.files before.stock after.stock d.request d.answered.product d.answered.comes d.answered.is;
   delivered = d.answered.delivered;
   quiet = d.quiet;
 }
@@ -250,23 +304,41 @@ open_left_is_part words before after (inr r) = absurd (not_told r.refusal status
 
 -- ---- What refuses no work, and what refuses no delivery
 
+-- no store or write failed
+abbrev IsWritable : Refusal → Type 0
+IsWritable (NotStored m) = ⊥
+IsWritable NotPrinted = ⊥
+IsWritable r = Unit {0}
+
+is_written : (refused : HoldRefused) (name : Bor Text) → IsWritable (campaign_refusal name refused)
+is_written hold.Memory name = tt
+is_written hold.Failed name = tt
+is_written (hold.OtherIdentity found) name = tt
+is_written hold.TooMany name = tt
+is_written (hold.BadRow n) name = tt
+is_written (hold.TreeLimit n) name = tt
+
+not_written : (refused : HoldRefused) (name : Bor Text) (r : Refusal) → r ≡ campaign_refusal name refused → IsWritable r
+not_written refused name r e = subst IsWritable (sym e) (is_written refused name)
+
 module _ (before after : Files) where
   pub no_files : (rule : SettlerParts) (r : Refusal) → (r ≡ Memory → ⊥) → ((n : Text) → RefusesPaving before after rule n r → ⊥) → (names : List Text) → RefusesPavings before after rule names r → ⊥
   no_files rule r memory one [] h = memory h
   no_files rule r memory one (n ∷ names) (inl h) = one n h
   no_files rule r memory one (n ∷ names) (inr h) = no_files rule r memory one names h.2
 
+module _ (before after : Files) (u v : Stock) where
   stored_or_memory : (n : Bor Text) → NotStored n ≡ Memory → ⊥
   stored_or_memory n e = cc
 
-  no_work_stored : (q : Request) (m : Bor Text) → RefusesWork before after q (NotStored m) → ⊥
+  no_work_stored : (q : Request) (m : Bor Text) → RefusesWork before after u v q (NotStored m) → ⊥
   no_work_stored (Check system) m h = h
   no_work_stored (Run form system settings effort out) m h = h
   no_work_stored (Resume system pavings settings effort out) m (inl h) = h
-  no_work_stored (Resume system pavings settings effort out) m (inr (inl h)) = no_files h.rule (NotStored m) (stored_or_memory m) (λ n k. k) (names_in pavings.items) h.refused
+  no_work_stored (Resume system pavings settings effort out) m (inr (inl h)) = no_files before after h.rule (NotStored m) (stored_or_memory m) (λ n k. k) (names_in pavings.items) h.refused
   no_work_stored (Resume system pavings settings effort out) m (inr (inr h)) = h.refused
   no_work_stored (Merge system pavings settings out) m (inl h) = h
-  no_work_stored (Merge system pavings settings out) m (inr (inl h)) = no_files h.rule (NotStored m) (stored_or_memory m) (λ n k. k) (names_in pavings.items) h.refused
+  no_work_stored (Merge system pavings settings out) m (inr (inl h)) = no_files before after h.rule (NotStored m) (stored_or_memory m) (λ n k. k) (names_in pavings.items) h.refused
   no_work_stored (Merge system pavings settings out) m (inr (inr h)) = h.refused
   no_work_stored (Audit form system paving settings) m (inl h) = h
   no_work_stored (Audit form system paving settings) m (inr h) = h.refused
@@ -274,18 +346,20 @@ module _ (before after : Files) where
   no_work_stored (Svg system paving settings view) m (inr h) = h.refused
   no_work_stored (Sample circles) m h = h
   no_work_stored (Least system settings search) m h = h
+  no_work_stored (Campaign system settings effort rounds) m (inl h) = h.0
+  no_work_stored (Campaign system settings effort rounds) m (inr h) = not_written h.refused.refused rounds.name (NotStored m) h.refused.is
 
   printed_or_memory : NotPrinted ≡ Memory → ⊥
   printed_or_memory e = cc
 
-  no_work_printed : (q : Request) → RefusesWork before after q NotPrinted → ⊥
+  no_work_printed : (q : Request) → RefusesWork before after u v q NotPrinted → ⊥
   no_work_printed (Check system) h = h
   no_work_printed (Run form system settings effort out) h = h
   no_work_printed (Resume system pavings settings effort out) (inl h) = h
-  no_work_printed (Resume system pavings settings effort out) (inr (inl h)) = no_files h.rule NotPrinted printed_or_memory (λ n k. k) (names_in pavings.items) h.refused
+  no_work_printed (Resume system pavings settings effort out) (inr (inl h)) = no_files before after h.rule NotPrinted printed_or_memory (λ n k. k) (names_in pavings.items) h.refused
   no_work_printed (Resume system pavings settings effort out) (inr (inr h)) = h.refused
   no_work_printed (Merge system pavings settings out) (inl h) = h
-  no_work_printed (Merge system pavings settings out) (inr (inl h)) = no_files h.rule NotPrinted printed_or_memory (λ n k. k) (names_in pavings.items) h.refused
+  no_work_printed (Merge system pavings settings out) (inr (inl h)) = no_files before after h.rule NotPrinted printed_or_memory (λ n k. k) (names_in pavings.items) h.refused
   no_work_printed (Merge system pavings settings out) (inr (inr h)) = h.refused
   no_work_printed (Audit form system paving settings) (inl h) = h
   no_work_printed (Audit form system paving settings) (inr h) = h.refused
@@ -293,6 +367,8 @@ module _ (before after : Files) where
   no_work_printed (Svg system paving settings view) (inr h) = h.refused
   no_work_printed (Sample circles) h = h
   no_work_printed (Least system settings search) h = h
+  no_work_printed (Campaign system settings effort rounds) (inl h) = h.0
+  no_work_printed (Campaign system settings effort rounds) (inr h) = not_written h.refused.refused rounds.name NotPrinted h.refused.is
 
   no_delivery : (out : Option Text) (p : Product) (x y : Stream) (r : Refusal) → IsEarly (status_of r) → RefusesDelivery out p before after x y r → ⊥
   no_delivery out p x y Usage early h = h
@@ -303,6 +379,7 @@ module _ (before after : Files) where
   no_delivery out p x y (ReadFault n) early h = h
   no_delivery out p x y (Paving n f) early h = h
   no_delivery out p x y (NotStored n) early h = early
+  no_delivery out p x y (KeeperFault n) early h = early
   no_delivery out p x y NotPrinted early h = early
   no_delivery out p x y Memory early h = early
   no_delivery out p x y (TreeLimit n) early h = h
@@ -325,7 +402,7 @@ no_early status.Disagree early h = h
 no_early status.KeeperFault early h = h
 no_early status.NoFile early h = h
 
-words_cause : (words : List Text) (before after : Files) (r : Refusal) → IsEarly (status_of r) → RefusesWords words r → IsCause words before after r
+words_cause : (words : List Text) (before after : Outside) (r : Refusal) → IsEarly (status_of r) → RefusesWords words r → IsCause words before after r
 words_cause words before after Usage early h = inl (refl, h)
 words_cause words before after Memory early h = absurd early
 words_cause words before after (System line column byte cause) early h = absurd h
@@ -335,22 +412,25 @@ words_cause words before after (NoFile n) early h = absurd h
 words_cause words before after (ReadFault n) early h = absurd h
 words_cause words before after (Paving n f) early h = absurd h
 words_cause words before after (NotStored n) early h = absurd h
+words_cause words before after (KeeperFault n) early h = absurd h
 words_cause words before after NotPrinted early h = absurd h
 words_cause words before after (TreeLimit n) early h = absurd h
 words_cause words before after (Disagree p a b) early h = absurd h
 words_cause words before after (Differs p a b) early h = absurd h
 
 early_so : (words : List Text) (before after : Outside) (r : Refusal) → IsEarly (status_of r) → IsRefusedSo words before after r
-    → AreUntouched before.files after.files before.out after.out × IsCause words before.files after.files r
-early_so words before after r early (in_words h same) = (same, words_cause words before.files after.files r early h)
-early_so words before after r early (in_request q asks (inl work)) = (work.1, inr (q, (asks, work.0)))
-early_so words before after r early (in_request q asks (inr f)) = absurd (no_delivery before.files after.files (out_of q) f.product before.out after.out r early f.refused)
+    → AreUntouched before.files after.files before.out after.out × AllRowsStay before.stock after.stock × IsCause words before after r
+early_so words before after r early (in_words h same kept) = (same, same_rows before.stock after.stock kept, words_cause words before after r early h)
+early_so words before after r early (in_request q asks (inl work) kept) =
+    (work.1, early_rows before.files after.files before.stock after.stock q r early work.0 kept, inr (q, (asks, work.0)))
+early_so words before after r early (in_request q asks (inr f) kept) =
+    absurd (no_delivery before.files after.files before.stock after.stock (out_of q) f.product before.out after.out r early f.refused)
 
 early_told : (words : List Text) (before after : Outside) (r : Refusal) (s : Status) → IsEarly s → IsRefusedSo words before after r → Tells r s before.err after.err
     → IsRefusedEarly words before after s
 early_told words before after r s early so (inl told) =
     let both = early_so words before after r (subst IsEarly told.0 early) so in
-    record { untouched = both.0; refusal = r; cause = both.1; status_is = told.0; told = told.1 }
+    record { untouched = both.0; kept = both.1; refusal = r; cause = both.2; status_is = told.0; told = told.1 }
 early_told words before after r s early so (inr memory) = absurd (subst IsEarly memory.0 early)
 
 pub early_is_untouched : EarlyIsUntouched
@@ -374,18 +454,18 @@ IsWrite status.KeeperFault = ⊥
 IsWrite status.NoFile = ⊥
 
 unwritten : (words : List Text) (before after : Outside) (r : Refusal) → IsWrite (status_of r) → IsRefusedSo words before after r → IsUnwritten words before after
-unwritten words before after (NotStored n) w (in_words h same) = absurd h
-unwritten words before after (NotStored n) w (in_request q asks (inl work)) = absurd (no_work_stored before.files after.files q n work.0)
-unwritten words before after (NotStored n) w (in_request q asks (inr f)) = record {
+unwritten words before after (NotStored n) w (in_words h same kept) = absurd h
+unwritten words before after (NotStored n) w (in_request q asks (inl work) kept) = absurd (no_work_stored before.files after.files before.stock after.stock q n work.0)
+unwritten words before after (NotStored n) w (in_request q asks (inr f) kept) = record {
   request = q;
   asks = asks;
   product = f.product;
   comes = f.comes;
   not_written = inl (record { name = n.now; lost = f.refused });
 }
-unwritten words before after NotPrinted w (in_words h same) = absurd h
-unwritten words before after NotPrinted w (in_request q asks (inl work)) = absurd (no_work_printed before.files after.files q work.0)
-unwritten words before after NotPrinted w (in_request q asks (inr f)) = record {
+unwritten words before after NotPrinted w (in_words h same kept) = absurd h
+unwritten words before after NotPrinted w (in_request q asks (inl work) kept) = absurd (no_work_printed before.files after.files before.stock after.stock q work.0)
+unwritten words before after NotPrinted w (in_request q asks (inr f) kept) = record {
   request = q;
   asks = asks;
   product = f.product;
@@ -393,6 +473,7 @@ unwritten words before after NotPrinted w (in_request q asks (inr f)) = record {
   not_written = inr (record { cut = f.refused.0; rose = f.refused.1 });
 }
 unwritten words before after Usage w so = absurd w
+unwritten words before after (KeeperFault n) w so = absurd w
 unwritten words before after (System line column byte cause) w so = absurd w
 unwritten words before after (Contract byte) w so = absurd w
 unwritten words before after (Objective byte cause) w so = absurd w
@@ -416,7 +497,7 @@ abbrev Leaves : List Text → Outside → Outside → Type 0
 Leaves words before after =
     AreUntouched before.files after.files before.out after.out ⊎ (IsCutOffText words before after ⊎ IsUnwritten words before after)
 
-undelivered : (words : List Text) (before after : Outside) (q : Request) (p : Product) (r : Refusal) → Asks words q → ComesOf before.files q p
+undelivered : (words : List Text) (before after : Outside) (q : Request) (p : Product) (r : Refusal) → Asks words q → ComesOf before.files before.stock after.stock q p
     → RefusesDelivery (out_of q) p before.files after.files before.out after.out r → Leaves words before after
 undelivered words before after q p (NotStored n) asks comes h =
     inr (inr (record { request = q; asks = asks; product = p; comes = comes; not_written = inl (record { name = n.now; lost = h }) }))
@@ -425,6 +506,7 @@ undelivered words before after q p NotPrinted asks comes h =
 undelivered words before after q p Memory asks comes (inl same) = inl same
 undelivered words before after q p Memory asks comes (inr cut) = inr (inl (record { request = q; asks = asks; product = p; comes = comes; cut = cut }))
 undelivered words before after q p Usage asks comes h = absurd h
+undelivered words before after q p (KeeperFault n) asks comes h = absurd h
 undelivered words before after q p (System line column byte cause) asks comes h = absurd h
 undelivered words before after q p (Contract byte) asks comes h = absurd h
 undelivered words before after q p (Objective byte cause) asks comes h = absurd h
@@ -436,9 +518,9 @@ undelivered words before after q p (Disagree path a b) asks comes h = absurd h
 undelivered words before after q p (Differs path a b) asks comes h = absurd h
 
 leaves : (words : List Text) (before after : Outside) (r : Refusal) → IsRefusedSo words before after r → Leaves words before after
-leaves words before after r (in_words h same) = inl same
-leaves words before after r (in_request q asks (inl work)) = inl work.1
-leaves words before after r (in_request q asks (inr f)) = undelivered words before after q f.product r asks f.comes f.refused
+leaves words before after r (in_words h same kept) = inl same
+leaves words before after r (in_request q asks (inl work) kept) = inl work.1
+leaves words before after r (in_request q asks (inr f) kept) = undelivered words before after q f.product r asks f.comes f.refused
 
 pub memory_leaves : MemoryLeaves
 memory_leaves words before after (inl d) = absurd (is_answer d.answered.product status.WantOfMemory d.answered.is)
@@ -507,6 +589,7 @@ command_in t =
     else if bytes_eq t (codes "run-centered") then Some (runs Centered)
     else if bytes_eq t (codes "audit-centered") then Some (audits Centered)
     else if bytes_eq t (codes "least") then Some seeks
+    else if bytes_eq t (codes "campaign") then Some keeps
     else None
 
 named : (c : Command) → command_in (name_of c) ≡ Some c
@@ -521,6 +604,7 @@ named (audits Centered) = refl
 named draws = refl
 named samples = refl
 named seeks = refl
+named keeps = refl
 
 one_command : (name : Text) (c d : Command) → name ≡ name_of c → name ≡ name_of d → c ≡ d
 one_command name c d e f = ap (λ (o : Option Command). unwrap_or o c) (sym (named c) ∙ ap command_in (sym e ∙ f) ∙ named d)
@@ -534,6 +618,7 @@ command_of (Audit form system paving settings) = audits form
 command_of (Svg system paving settings view) = draws
 command_of (Sample circles) = samples
 command_of (Least system settings search) = seeks
+command_of (Campaign system settings effort rounds) = keeps
 
 named_so : (name : Text) (rows : List Row) (q : Request) → IsAskedBy name rows q → name ≡ name_of (command_of q)
 named_so name rows (Check system) h = h.0
@@ -544,6 +629,7 @@ named_so name rows (Audit form system paving settings) h = h.0
 named_so name rows (Svg system paving settings view) h = h.0
 named_so name rows (Sample circles) h = h.0
 named_so name rows (Least system settings search) h = h.0
+named_so name rows (Campaign system settings effort rounds) h = h.0
 
 values_are_good : (name : Text) (rows : List Row) (q : Request) → IsAskedBy name rows q → HasBadValueFor (command_of q) rows → ⊥
 values_are_good name rows (Check system) h b = b
@@ -558,6 +644,9 @@ values_are_good name rows (Svg system paving settings view) h (inr b) = settings
 values_are_good name rows (Sample circles) h b = circles_are_good rows circles h.1 b
 values_are_good name rows (Least system settings search) h (inl b) = settings_are_good rows settings h.2 b
 values_are_good name rows (Least system settings search) h (inr b) = b search.boxes h.3.boxes
+values_are_good name rows (Campaign system settings effort rounds) h (inl b) = settings_are_good rows settings h.2 b
+values_are_good name rows (Campaign system settings effort rounds) h (inr (inl b)) = effort_is_good rows effort h.3 b
+values_are_good name rows (Campaign system settings effort rounds) h (inr (inr b)) = b rounds.count h.4.count
 
 asked_is_good : (name : Text) (rows : List Row) (q : Request) → IsAskedBy name rows q → HasBadValue name rows → ⊥
 asked_is_good name rows q h bad =
@@ -582,6 +671,7 @@ words_status words (NoFile n) h = absurd h
 words_status words (ReadFault n) h = absurd h
 words_status words (Paving n f) h = absurd h
 words_status words (NotStored n) h = absurd h
+words_status words (KeeperFault n) h = absurd h
 words_status words NotPrinted h = absurd h
 words_status words (TreeLimit n) h = absurd h
 words_status words (Disagree p a b) h = absurd h
@@ -594,8 +684,8 @@ told_status words r s before after h (inr memory) = inr memory.0
 
 refused_end : (words : List Text) (before after : Outside) (r : Refusal) (s : Status) → AreRefused words → IsRefusedSo words before after r → Tells r s before.err after.err
     → IsWordsRefused before after s
-refused_end words before after r s bad (in_words h same) told = record { status_is = told_status words r s before.err after.err h told; untouched = same }
-refused_end words before after r s bad (in_request q asks h) told = absurd (asking_is_not_refused words q asks bad)
+refused_end words before after r s bad (in_words h same kept) told = record { status_is = told_status words r s before.err after.err h told; untouched = same; kept = kept }
+refused_end words before after r s bad (in_request q asks h kept) told = absurd (asking_is_not_refused words q asks bad)
 
 pub refused_words_end : RefusedWordsEnd
 refused_words_end words before after s bad (inl d) = absurd (asking_is_not_refused words d.request d.asks bad)
@@ -616,22 +706,23 @@ IsUsage status.KeeperFault = ⊥
 IsUsage status.NoFile = ⊥
 
 usage_so : (words : List Text) (before after : Outside) (r : Refusal) → IsUsage (status_of r) → IsRefusedSo words before after r
-    → HaveBadText words before.files after.files
-usage_so words before after Usage u (in_words h same) = inl h
-usage_so words before after Usage u (in_request q asks (inl work)) = inr (inr (inr (record { request = q; asks = asks; refused = work.0 })))
-usage_so words before after Usage u (in_request q asks (inr f)) = absurd f.refused
-usage_so words before after (Contract byte) u (in_words h same) = absurd h
-usage_so words before after (Objective byte cause) u (in_words h same) = absurd h
-usage_so words before after (Contract byte) u (in_request q asks (inl work)) = inr (inl (record { request = q; asks = asks; byte = byte; refused = work.0 }))
-usage_so words before after (Objective byte cause) u (in_request q asks (inl work)) =
+    → HaveBadText words before after
+usage_so words before after Usage u (in_words h same kept) = inl h
+usage_so words before after Usage u (in_request q asks (inl work) kept) = inr (inr (inr (record { request = q; asks = asks; refused = work.0 })))
+usage_so words before after Usage u (in_request q asks (inr f) kept) = absurd f.refused
+usage_so words before after (Contract byte) u (in_words h same kept) = absurd h
+usage_so words before after (Objective byte cause) u (in_words h same kept) = absurd h
+usage_so words before after (Contract byte) u (in_request q asks (inl work) kept) = inr (inl (record { request = q; asks = asks; byte = byte; refused = work.0 }))
+usage_so words before after (Objective byte cause) u (in_request q asks (inl work) kept) =
     inr (inr (inl (record { request = q; asks = asks; byte = byte; cause = cause; refused = work.0 })))
-usage_so words before after (Contract byte) u (in_request q asks (inr f)) = absurd f.refused
-usage_so words before after (Objective byte cause) u (in_request q asks (inr f)) = absurd f.refused
+usage_so words before after (Contract byte) u (in_request q asks (inr f) kept) = absurd f.refused
+usage_so words before after (Objective byte cause) u (in_request q asks (inr f) kept) = absurd f.refused
 usage_so words before after (System line column byte cause) u so = absurd u
 usage_so words before after (NoFile n) u so = absurd u
 usage_so words before after (ReadFault n) u so = absurd u
 usage_so words before after (Paving n f) u so = absurd u
 usage_so words before after (NotStored n) u so = absurd u
+usage_so words before after (KeeperFault n) u so = absurd u
 usage_so words before after NotPrinted u so = absurd u
 usage_so words before after Memory u so = absurd u
 usage_so words before after (TreeLimit n) u so = absurd u
@@ -639,7 +730,7 @@ usage_so words before after (Disagree p a b) u so = absurd u
 usage_so words before after (Differs p a b) u so = absurd u
 
 usage_told : (words : List Text) (before after : Outside) (r : Refusal) → IsRefusedSo words before after r → Tells r status.Usage before.err after.err
-    → HaveBadText words before.files after.files
+    → HaveBadText words before after
 usage_told words before after r so (inl told) = usage_so words before after r (subst IsUsage told.0 tt) so
 usage_told words before after r so (inr memory) = absurd (subst IsUsage memory.0 tt)
 

@@ -9,7 +9,7 @@ use Rattle.pv_cli.specs.Ends.{Stream, IsTold, Tells}
 use Rattle.pv_cli.specs.Telling.{TellsLine}
 use Rattle.pv_cli.specs.Printing.{RefusesPrint}
 use Rattle.pv_cli.specs.declared.refusal.Refusal.{Refusal}
-use Rattle.pv_cli.specs.declared.refusal.Refusal.TheVariants.{Usage, System, Contract, Objective, NoFile, ReadFault, Paving, NotStored, NotPrinted, Memory, TreeLimit, Disagree, Differs}
+use Rattle.pv_cli.specs.declared.refusal.Refusal.TheVariants.{Usage, System, Contract, Objective, NoFile, ReadFault, Paving, NotStored, KeeperFault, NotPrinted, Memory, TreeLimit, Disagree, Differs}
 use Rattle.pv_cli.specs.declared.status.Status.{Status}
 use Rattle.pv_cli.specs.declared.status.Status.TheVariants.{WantOfMemory}
 use Rattle.pv_io.specs.declared.sink.WriteRefused.{WriteRefused}
@@ -69,6 +69,7 @@ whole_both before mid after one two first second = second ∙ ap (λ (x : Option
 
 -- why the first of two texts is not wholly printed, and so not both
 pub print_first : (before after : Stream) (one two : List ℕ) (r : Refusal) → RefusesPrint before after one r → RefusesPrint before after (one ++ two) r
+print_first before after one two (KeeperFault n) h = h
 print_first before after one two NotPrinted h = (front_first before.written after.written one two h.0, h.1)
 print_first before after one two Memory h = front_first before.written after.written one two h
 print_first before after one two Usage h = h

@@ -81,6 +81,9 @@ sample_app = with_needed (codes "count") (with_needed (codes "seed") (bare_app (
 abbrev pub least_app : App
 least_app = with_needed (codes "of") (with_option (codes "boxes") (with_settings (system_app (codes "least"))))
 
+abbrev pub campaign_app : App
+campaign_app = with_option (codes "rounds") (with_needed (codes "keep") (with_effort (with_settings (system_app (codes "campaign")))))
+
 -- the command with one more subcommand
 abbrev pub with_command : App → App → App
 with_command app sub = with_subcommand app sub.top
@@ -91,7 +94,8 @@ paving_commands a =
     resume_app) merge_app) (audit_app (codes "audit"))) svg_app) sample_app
 
 abbrev pub further_commands : App → App
-further_commands a = with_command (with_command (with_command a (run_app (codes "run-centered"))) (audit_app (codes "audit-centered"))) least_app
+further_commands a =
+    with_command (with_command (with_command (with_command a (run_app (codes "run-centered"))) (audit_app (codes "audit-centered"))) least_app) campaign_app
 
 unfoldable pub paver_app : App
 paver_app = further_commands (paving_commands top_app)

@@ -4,9 +4,10 @@ use Rattle.clap.specs.Words.{Text}
 use Rattle.pv_io.specs.Outside.{Rose, appended, stored, AppendsFront}
 use Rattle.pv_file.specs.Texts.{file_text}
 use Rattle.pv_file.specs.declared.version.Version.TheVariants.{Two}
-use Rattle.pv_cli.specs.Requests.{Asks, AreRefused, out_of}
+use Rattle.pv_cli.specs.Requests.{Asks, AreRefused, out_of, campaign_of}
 use Rattle.pv_cli.specs.Refusals.{status_of, line_of}
 use Rattle.pv_cli.specs.Systems.{Files, AreOnlyRead}
+use Rattle.pv_cli.specs.Campaigns.{Stock, IsSameStock, LeavesStock}
 use Rattle.pv_cli.specs.Products.{Product, text, paved, printed_of, HasStatus, ComesOf, RefusesWork}
 use Rattle.pv_cli.specs.declared.request.Request.{Request}
 use Rattle.pv_cli.specs.declared.refusal.Refusal.{Refusal}
@@ -25,11 +26,12 @@ stream written faults = record { written = written; faults = faults }
 -- what is outside of the program
 pub record Outside : Type 0 where
   pub files : Files
+  pub stock : Stock
   pub out : Stream
   pub err : Stream
 
-abbrev pub outside : Files → Stream → Stream → Outside
-outside files out err = record { files = files; out = out; err = err }
+abbrev pub outside : Files → Stock → Stream → Stream → Outside
+outside files stock out err = record { files = files; stock = stock; out = out; err = err }
 
 -- ---- Files and the standard output
 
@@ -84,23 +86,23 @@ RefusesDelivery file p before after out_before out_after _ = ⊥
 -- ---- A request
 
 -- what came of a request was delivered, and the status says whether a leaf is open
-pub record IsAnswered (q : Request) (before after : Files) (out_before out_after : Stream) (status : Status) : Type 0 where
+pub record IsAnswered (q : Request) (before after : Files) (u v : Stock) (out_before out_after : Stream) (status : Status) : Type 0 where
   pub product : Product
-  pub comes : ComesOf before q product
+  pub comes : ComesOf before u v q product
   pub delivered : IsDelivered (out_of q) product before after out_before out_after
   pub is : HasStatus product status
 
 -- what came of a request was not delivered
-pub record FailsToDeliver (q : Request) (before after : Files) (out_before out_after : Stream) (r : Refusal) : Type 0 where
+pub record FailsToDeliver (q : Request) (before after : Files) (u v : Stock) (out_before out_after : Stream) (r : Refusal) : Type 0 where
   pub product : Product
-  pub comes : ComesOf before q product
+  pub comes : ComesOf before u v q product
   pub refused : RefusesDelivery (out_of q) product before after out_before out_after r
 
 -- why a request is refused, and what that leaves
-abbrev pub RefusesRequest : Request → Files → Files → Stream → Stream → Refusal → Type 0
-RefusesRequest q before after out_before out_after r =
-    (RefusesWork before after q r × AreUntouched before after out_before out_after)
-    ⊎ FailsToDeliver q before after out_before out_after r
+abbrev pub RefusesRequest : Request → Files → Files → Stock → Stock → Stream → Stream → Refusal → Type 0
+RefusesRequest q before after u v out_before out_after r =
+    (RefusesWork before after u v q r × AreUntouched before after out_before out_after)
+    ⊎ FailsToDeliver q before after u v out_before out_after r
 
 -- ---- The whole command
 
@@ -110,9 +112,12 @@ RefusesWords words Usage = AreRefused words
 RefusesWords words Memory = Unit {0}
 RefusesWords words _ = ⊥
 
+-- the words are refused, and all is as it was; or what they ask for is, and all that is kept stays but for its campaign
 pub data IsRefusedSo (words : List Text) (before after : Outside) (r : Refusal) : Type 0 where
-  in_words : RefusesWords words r → AreUntouched before.files after.files before.out after.out → IsRefusedSo words before after r
-  in_request : (q : Request) → Asks words q → RefusesRequest q before.files after.files before.out after.out r → IsRefusedSo words before after r
+  in_words : RefusesWords words r → AreUntouched before.files after.files before.out after.out → IsSameStock before.stock after.stock
+      → IsRefusedSo words before after r
+  in_request : (q : Request) → Asks words q → RefusesRequest q before.files after.files before.stock after.stock before.out after.out r
+      → LeavesStock (campaign_of q) before.stock after.stock → IsRefusedSo words before after r
 
 -- a line was told, or a front of it where the count of faults rose
 abbrev pub IsTold : Stream → Stream → List ℕ → Type 0
@@ -130,7 +135,8 @@ Tells r status before after =
 pub record IsDone (words : List Text) (before after : Outside) (status : Status) : Type 0 where
   pub request : Request
   pub asks : Asks words request
-  pub answered : IsAnswered request before.files after.files before.out after.out status
+  pub answered : IsAnswered request before.files after.files before.stock after.stock before.out after.out status
+  pub kept : LeavesStock (campaign_of request) before.stock after.stock
   pub quiet : after.err.written ≡ before.err.written
 
 -- the command was refused, and the refusal was told

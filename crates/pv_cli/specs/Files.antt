@@ -15,7 +15,7 @@ use Rattle.pv_cli.specs.Systems.{Files, RefusesFetch, HasRule, RefusesRule, sear
 use Rattle.pv_cli.specs.Pavings.{settled_in}
 use Rattle.pv_cli.specs.declared.request.Settings.{Settings}
 use Rattle.pv_cli.specs.declared.refusal.FileFault.{FileFault}
-use Rattle.pv_cli.specs.declared.refusal.FileFault.TheVariants.{TooLong, WrongIdentity, BadLine, TooManyNodes}
+use Rattle.pv_cli.specs.declared.refusal.FileFault.TheVariants.{TooLong, WrongIdentity, BadLine, TooManyNodes, BadRow, TooManyRows}
 use Rattle.pv_cli.specs.declared.refusal.Refusal.{Refusal}
 use Rattle.pv_cli.specs.declared.refusal.Refusal.TheVariants.{Paving, Memory, Disagree}
 
@@ -50,6 +50,8 @@ HasFileFault before identity b name TooLong = HoldsLong before name
 HasFileFault before identity b name WrongIdentity = HoldsOther before name (λ bytes. HasOtherIdentity bytes identity b)
 HasFileFault before identity b name (BadLine n) = HoldsOther before name (λ bytes. IsFirstBadLine n bytes identity b)
 HasFileFault before identity b name (TooManyNodes n) = HoldsOther before name (λ bytes. IsOneTooMany n bytes identity b)
+HasFileFault before identity b name (BadRow n) = ⊥
+HasFileFault before identity b name TooManyRows = ⊥
 
 -- why the file of this name gives no paving of the box
 abbrev pub RefusesFile : Files → Files → List ℕ → List Bounds → List ℕ → Refusal → Type 0

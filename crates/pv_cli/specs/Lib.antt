@@ -10,6 +10,7 @@ pub mod Views
 pub mod Forms
 pub mod FormSettlers
 pub mod Leasts
+pub mod Campaigns
 pub mod Products
 pub mod Made
 pub mod Ends
@@ -22,3 +23,4 @@ pub mod Resumed
 pub mod Audited
 pub mod Merges
 pub mod StatusLaws
+pub mod CampaignLaws

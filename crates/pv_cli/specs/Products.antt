@@ -1,5 +1,5 @@
 -- What comes of a command's work.
-use Rattle.std.specs.Prelude.{if◌then◌else◌, ◌≡◌, ◌≢◌, ◌⊎◌, ◌<◌, ◌≤◌, ◌+◌, ◌++◌, ◌∷◌, ℕ, pos, Bool, List, [], Option, Some, None, codes, decimal, length}
+use Rattle.std.specs.Prelude.{if◌then◌else◌, ◌≡◌, ◌≢◌, ◌⊎◌, ◌<◌, ◌≤◌, ◌+◌, ◌*◌, ◌++◌, ◌∷◌, ℕ, pos, Bool, List, [], Option, Some, None, codes, decimal, length}
 use Rattle.hex.specs.Hex.{encode_lower}
 use Rattle.sha2.specs.Sha256.{sha256}
 use Rattle.clap.specs.Words.{Text}
@@ -31,7 +31,9 @@ use Rattle.pv_svg.specs.Planes.{Plane}
 use Rattle.pv_svg.specs.Rectangles.{picture_of}
 use Rattle.pv_svg.specs.Texts.{picture_text}
 use Rattle.pv_cli.specs.Views.{IsPlaneOf, HasNoPlane, IsSoundFor}
+use Rattle.pv_rounds.specs.Holding.{IsHeld}
 use Rattle.pv_cli.specs.Leasts.{HasLeast, RefusesLeast, least_text}
+use Rattle.pv_cli.specs.Campaigns.{Stock, RefusesCampaign, is_done}
 use Rattle.pv_cli.specs.Forms.{settle_as, identity_as}
 use Rattle.pv_cli.specs.Files.{HoldsPaving, HasPaving, RefusesFile, RefusesPaving, AllTrees, HasOpening, RefusesOpening}
 use Rattle.pv_cli.specs.declared.request.Form.{Form}
@@ -39,15 +41,16 @@ use Rattle.pv_cli.specs.declared.request.Settings.{Settings}
 use Rattle.pv_cli.specs.declared.request.View.{View}
 use Rattle.pv_cli.specs.declared.request.Circles.{Circles}
 use Rattle.pv_cli.specs.declared.request.Search.{Search}
+use Rattle.pv_cli.specs.declared.request.Rounds.{Rounds}
 use Rattle.pv_least.specs.declared.found.Least as known
 use Rattle.pv_cli.specs.declared.request.Request.{Request}
-use Rattle.pv_cli.specs.declared.request.Request.TheVariants.{Check, Run, Resume, Merge, Audit, Svg, Sample, Least}
+use Rattle.pv_cli.specs.declared.request.Request.TheVariants.{Check, Run, Resume, Merge, Audit, Svg, Sample, Least, Campaign}
 use Rattle.pv_cli.specs.declared.refusal.Refusal.{Refusal}
 use Rattle.pv_cli.specs.declared.refusal.Refusal.TheVariants.{Usage, System, Contract, Memory, TreeLimit, Differs}
 use Rattle.pv_cli.specs.declared.status.Status.{Status}
 use Rattle.pv_cli.specs.declared.status.Status.TheVariants.{Done, OpenLeft}
 
--- a text, one of a search that was cut short, or a paving of a box for an identity
+-- a text, one of a search or a campaign that was cut short, or a paving of a box for an identity
 pub data Product : Type 0 where
   text : List ℕ → Product
   unfinished : List ℕ → Product
@@ -65,7 +68,8 @@ printed_of out (unfinished t) = t
 printed_of None (paved identity b t) = summary_of (counts_of t) ++ lines_of One b t
 printed_of (Some name) (paved identity b t) = summary_of (counts_of t)
 
--- the status with which the command ends that delivered it: 1 says that a leaf is open, or that a search was cut short
+-- the status with which the command ends that delivered it: 1 says that a leaf is open, or that a search or a campaign
+-- was cut short
 abbrev pub HasStatus : Product → Status → Type 0
 HasStatus (text t) s = s ≡ Done
 HasStatus (unfinished t) s = s ≡ OpenLeft
@@ -188,7 +192,7 @@ pub record ComesOfSample (c : Circles) (p : Product) : Type 0 where
   pub honest : IsHonest settings rule (full_by rule leaf)
   pub is : p ≡ text (report_of c (identity_of rule) (search_box rule) (full_by rule leaf))
 
--- the text of a search, which was cut short unless it is done
+-- the text of a search or a campaign, which was cut short unless it is done
 abbrev pub report_as : List ℕ → Bool → Product
 report_as t done = if done then text t else unfinished t
 
@@ -198,17 +202,45 @@ pub record ComesOfLeast (before : Files) (system : Text) (s : Settings) (search 
   pub found : HasLeast before system s search least
   pub is : p ≡ report_as (least_text least) least.done
 
--- what comes of a request
-abbrev pub ComesOf : Files → Request → Product → Type 0
-ComesOf before (Check system) p = ComesOfCheck before system.now p
-ComesOf before (Run form system settings effort out) p = ComesOfRun form before system.now settings effort.boxes p
-ComesOf before (Resume system pavings settings effort out) p =
+-- a paving that grew from a stage of the open search box is honest
+abbrev pub LearnsHeld : SettlerParts → Tree → Type 0
+LearnsHeld rule t =
+    (system : Parts) (s : Settings) (opening : Tree) → IsRuleFor system s rule → IsStage (settle_by rule) rule.depth (search_box rule) leaf opening
+    → IsStage (settle_by rule) rule.depth (search_box rule) opening t → IsHonest s rule t
+
+-- The rounds settle their budgets of what is kept under the name, and the rows of what came of it are kept.
+abbrev pub HoldsRounds : SettlerParts → Stock → Stock → ℕ → Rounds → Tree → Type 0
+HoldsRounds rule u v boxes rounds t =
+    IsHeld (settle_by rule) rule.depth (search_box rule) (identity_of rule) (rounds.count * boxes) (u.kept rounds.name.now) (v.kept rounds.name.now) t
+
+-- what rounds by a rule give
+pub record ComesOfRounds (rule : SettlerParts) (u v : Stock) (boxes : ℕ) (rounds : Rounds) (p : Product) : Type 0 where
+  pub tree : Tree
+  pub held : HoldsRounds rule u v boxes rounds tree
+  pub learns : LearnsHeld rule tree
+  pub is : p ≡ report_as (summary_of (counts_of tree)) (is_done tree)
+
+-- `campaign` reports on what its rounds settle of what is kept
+pub record ComesOfCampaign (before : Files) (u v : Stock) (system : Text) (s : Settings) (boxes : ℕ) (rounds : Rounds) (p : Product) : Type 0 where
+  pub rule : SettlerParts
+  pub read : HasRule before system s rule
+  pub tree : Tree
+  pub held : HoldsRounds rule u v boxes rounds tree
+  pub honest : IsStage (settle_by rule) rule.depth (search_box rule) leaf held.opening → IsHonest s rule tree
+  pub is : p ≡ report_as (summary_of (counts_of tree)) (is_done tree)
+
+-- what comes of a request, over these files and of what was kept before and is kept then
+abbrev pub ComesOf : Files → Stock → Stock → Request → Product → Type 0
+ComesOf before u v (Check system) p = ComesOfCheck before system.now p
+ComesOf before u v (Run form system settings effort out) p = ComesOfRun form before system.now settings effort.boxes p
+ComesOf before u v (Resume system pavings settings effort out) p =
     ComesOfResume before system.now (names_in pavings.items) settings effort.boxes p
-ComesOf before (Merge system pavings settings out) p = ComesOfMerge before system.now (names_in pavings.items) settings p
-ComesOf before (Audit form system paving settings) p = ComesOfAudit form before system.now paving.now settings p
-ComesOf before (Svg system paving settings view) p = ComesOfSvg before system.now paving.now settings view p
-ComesOf before (Sample circles) p = ComesOfSample circles p
-ComesOf before (Least system settings search) p = ComesOfLeast before system.now settings search p
+ComesOf before u v (Merge system pavings settings out) p = ComesOfMerge before system.now (names_in pavings.items) settings p
+ComesOf before u v (Audit form system paving settings) p = ComesOfAudit form before system.now paving.now settings p
+ComesOf before u v (Svg system paving settings view) p = ComesOfSvg before system.now paving.now settings view p
+ComesOf before u v (Sample circles) p = ComesOfSample circles p
+ComesOf before u v (Least system settings search) p = ComesOfLeast before system.now settings search p
+ComesOf before u v (Campaign system settings effort rounds) p = ComesOfCampaign before u v system.now settings effort.boxes rounds p
 
 -- ---- Why nothing comes of them
 
@@ -279,14 +311,15 @@ RefusesSample c (Contract byte) = HasNoProgram c byte
 RefusesSample c Memory = Unit {0}
 RefusesSample c _ = ⊥
 
-abbrev pub RefusesWork : Files → Files → Request → Refusal → Type 0
-RefusesWork before after (Check system) r = RefusesSystem before after system.now r
-RefusesWork before after (Run form system settings effort out) r = RefusesRule before after system.now settings r
-RefusesWork before after (Resume system pavings settings effort out) r =
+abbrev pub RefusesWork : Files → Files → Stock → Stock → Request → Refusal → Type 0
+RefusesWork before after u v (Check system) r = RefusesSystem before after system.now r
+RefusesWork before after u v (Run form system settings effort out) r = RefusesRule before after system.now settings r
+RefusesWork before after u v (Resume system pavings settings effort out) r =
     RefusesJoined before after system.now (names_in pavings.items) settings effort.boxes r
-RefusesWork before after (Merge system pavings settings out) r =
+RefusesWork before after u v (Merge system pavings settings out) r =
     RefusesJoined before after system.now (names_in pavings.items) settings 0 r
-RefusesWork before after (Audit form system paving settings) r = RefusesAudit form before after system.now paving.now settings r
-RefusesWork before after (Svg system paving settings view) r = RefusesSvg before after system.now paving.now settings view r
-RefusesWork before after (Sample circles) r = RefusesSample circles r
-RefusesWork before after (Least system settings search) r = RefusesLeast before after system.now settings search.of.now r
+RefusesWork before after u v (Audit form system paving settings) r = RefusesAudit form before after system.now paving.now settings r
+RefusesWork before after u v (Svg system paving settings view) r = RefusesSvg before after system.now paving.now settings view r
+RefusesWork before after u v (Sample circles) r = RefusesSample circles r
+RefusesWork before after u v (Least system settings search) r = RefusesLeast before after system.now settings search.of.now r
+RefusesWork before after u v (Campaign system settings effort rounds) r = RefusesCampaign before after u v system.now settings effort.boxes rounds r

@@ -4,9 +4,9 @@ use Rattle.pv_grammar.specs.Messages.{cause_name}
 use Rattle.pv_cli.specs.declared.status.Status.{Status}
 use Rattle.pv_cli.specs.declared.status.Status.TheVariants as status
 use Rattle.pv_cli.specs.declared.refusal.Refusal.{Refusal}
-use Rattle.pv_cli.specs.declared.refusal.Refusal.TheVariants.{Usage, System, Contract, Objective, NoFile, ReadFault, Paving, NotStored, NotPrinted, Memory, TreeLimit, Disagree, Differs}
+use Rattle.pv_cli.specs.declared.refusal.Refusal.TheVariants.{Usage, System, Contract, Objective, NoFile, ReadFault, Paving, NotStored, KeeperFault, NotPrinted, Memory, TreeLimit, Disagree, Differs}
 use Rattle.pv_cli.specs.declared.refusal.FileFault.{FileFault}
-use Rattle.pv_cli.specs.declared.refusal.FileFault.TheVariants.{TooLong, WrongIdentity, BadLine, TooManyNodes}
+use Rattle.pv_cli.specs.declared.refusal.FileFault.TheVariants.{TooLong, WrongIdentity, BadLine, TooManyNodes, BadRow, TooManyRows}
 use Rattle.pv_tree.specs.PathText.{path_text}
 
 abbrev pub status_of : Refusal → Status
@@ -17,6 +17,7 @@ status_of (Objective byte cause) = status.Usage
 status_of (NoFile name) = status.NoFile
 status_of (ReadFault name) = status.ReadFault
 status_of (NotStored name) = status.WriteFault
+status_of (KeeperFault name) = status.KeeperFault
 status_of NotPrinted = status.WriteFault
 status_of (Paving name fault) = status.PavingRefused
 status_of Memory = status.WantOfMemory
@@ -29,6 +30,8 @@ fault_words TooLong = codes "too long"
 fault_words WrongIdentity = codes "wrong identity"
 fault_words (BadLine line) = codes "bad line " ++ decimal line
 fault_words (TooManyNodes line) = codes "too many nodes at line " ++ decimal line
+fault_words (BadRow row) = codes "bad row " ++ decimal row
+fault_words TooManyRows = codes "too many rows"
 
 -- two outcomes at a path
 abbrev pub apart_words : List Bool → List ℕ → List ℕ → List ℕ
@@ -44,6 +47,7 @@ words_of (Objective byte cause) = codes "objective: byte " ++ (decimal byte ++ (
 words_of (NoFile name) = codes "no file: " ++ name.now
 words_of (ReadFault name) = codes "read fault: " ++ name.now
 words_of (NotStored name) = codes "write fault: " ++ name.now
+words_of (KeeperFault name) = codes "keeper fault: " ++ name.now
 words_of NotPrinted = codes "write fault: standard output"
 words_of (Paving name fault) = codes "paving " ++ (name.now ++ (codes ": " ++ fault_words fault))
 words_of Memory = codes "want of memory"

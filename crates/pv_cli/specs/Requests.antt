@@ -18,8 +18,9 @@ use Rattle.pv_cli.specs.declared.request.Effort.{Effort}
 use Rattle.pv_cli.specs.declared.request.View.{View}
 use Rattle.pv_cli.specs.declared.request.Circles.{Circles}
 use Rattle.pv_cli.specs.declared.request.Search.{Search}
+use Rattle.pv_cli.specs.declared.request.Rounds.{Rounds}
 use Rattle.pv_cli.specs.declared.request.Request.{Request}
-use Rattle.pv_cli.specs.declared.request.Request.TheVariants.{Check, Run, Resume, Merge, Audit, Svg, Sample, Least}
+use Rattle.pv_cli.specs.declared.request.Request.TheVariants.{Check, Run, Resume, Merge, Audit, Svg, Sample, Least, Campaign}
 
 -- one to ten digits, and the number that they write
 pub record IsDigits (t : Text) (n : ℕ) : Type 0 where
@@ -154,6 +155,14 @@ pub record IsSearch (rows : List Row) (s : Search) : Type 0 where
   pub of : s.of.now ≡ value_of (codes "of") [] rows
   pub boxes : IsCount 1 100000 (boxes_text rows) s.boxes
 
+abbrev pub rounds_text : List Row → Text
+rounds_text = value_of (codes "rounds") (codes "1")
+
+-- the campaign's name and the number of rounds that the options give
+pub record IsRounds (rows : List Row) (r : Rounds) : Type 0 where
+  pub name : r.name.now ≡ value_of (codes "keep") [] rows
+  pub count : IsCount 1 100 (rounds_text rows) r.count
+
 -- a number of `--at` has another spelling
 abbrev pub HasBadLevels : List Row → Type 0
 HasBadLevels rows = (ns : List Extended) → AreGiven rows ns → ⊥
@@ -172,6 +181,10 @@ pub data HasBadEffort (rows : List Row) : Type 0 where
 -- so is the budget of a search
 abbrev pub HasBadBudget : List Row → Type 0
 HasBadBudget rows = (n : ℕ) → IsCount 1 100000 (boxes_text rows) n → ⊥
+
+-- so is the number of rounds
+abbrev pub HasBadRounds : List Row → Type 0
+HasBadRounds rows = (n : ℕ) → IsCount 1 100 (rounds_text rows) n → ⊥
 
 -- so is a number of a sample
 pub data HasBadCircles (rows : List Row) : Type 0 where
@@ -201,6 +214,7 @@ pub data Command : Type 0 where
   draws : Command
   samples : Command
   seeks : Command
+  keeps : Command
 
 abbrev pub name_of : Command → Text
 name_of checks = codes "check"
@@ -211,6 +225,7 @@ name_of (audits form) = audit_name form
 name_of draws = codes "svg"
 name_of samples = codes "sample"
 name_of seeks = codes "least"
+name_of keeps = codes "campaign"
 
 -- a value is refused that the command takes
 abbrev pub HasBadValueFor : Command → List Row → Type 0
@@ -222,6 +237,7 @@ HasBadValueFor (audits form) rows = HasBadSetting rows
 HasBadValueFor draws rows = HasBadLevels rows ⊎ HasBadSetting rows
 HasBadValueFor samples rows = HasBadCircles rows
 HasBadValueFor seeks rows = HasBadSetting rows ⊎ HasBadBudget rows
+HasBadValueFor keeps rows = HasBadSetting rows ⊎ (HasBadEffort rows ⊎ HasBadRounds rows)
 
 -- so it is for the command of this name
 pub record HasBadValue (name : Text) (rows : List Row) : Type 0 where
@@ -249,6 +265,8 @@ IsAskedBy command rows (Svg system paving settings view) =
 IsAskedBy command rows (Sample circles) = (command ≡ codes "sample") × AreCircles rows circles
 IsAskedBy command rows (Least system settings search) =
     (command ≡ codes "least") × (system.now ≡ system_name rows) × AreSettings rows settings × IsSearch rows search
+IsAskedBy command rows (Campaign system settings effort rounds) =
+    (command ≡ codes "campaign") × (system.now ≡ system_name rows) × AreSettings rows settings × IsEffort rows effort × IsRounds rows rounds
 
 abbrev pub IsAsked : Option (Text × List Row) → Request → Type 0
 IsAsked None q = ⊥
@@ -276,3 +294,16 @@ out_of (Audit form system paving settings) = None
 out_of (Svg system paving settings view) = None
 out_of (Sample circles) = None
 out_of (Least system settings search) = None
+out_of (Campaign system settings effort rounds) = None
+
+-- the name of the campaign that is asked for
+abbrev pub campaign_of : Request → Option Text
+campaign_of (Check system) = None
+campaign_of (Run form system settings effort out) = None
+campaign_of (Resume system pavings settings effort out) = None
+campaign_of (Merge system pavings settings out) = None
+campaign_of (Audit form system paving settings) = None
+campaign_of (Svg system paving settings view) = None
+campaign_of (Sample circles) = None
+campaign_of (Least system settings search) = None
+campaign_of (Campaign system settings effort rounds) = Some rounds.name.now

@@ -1,8 +1,8 @@
 -- What each status says, of what was asked for, of the files and of what was printed.
-use Rattle.std.specs.Prelude.{◌≡◌, ◌≢◌, ◌⊎◌, ◌+◌, ℕ, List, [], Some, None}
+use Rattle.std.specs.Prelude.{◌≡◌, ◌≢◌, ◌⊎◌, ◌+◌, ◌*◌, ℕ, List, [], Some, None}
 use Rattle.clap.specs.Words.{Text}
-use Rattle.pv_tree.specs.Trees.{Tree, leaf, opens}
-use Rattle.pv_tree.specs.Stages.{full_of}
+use Rattle.pv_tree.specs.Trees.{Tree, leaf, opens, counts_of}
+use Rattle.pv_tree.specs.Stages.{IsStage, full_of}
 use Rattle.pv_settle.specs.Rules.{SettlerParts}
 use Rattle.pv_settle.specs.Settling.{settle_by}
 use Rattle.pv_settle.specs.Spelling.{identity_of}
@@ -14,16 +14,20 @@ use Rattle.pv_cli.specs.Systems.{Files, HasRule, search_box}
 use Rattle.pv_cli.specs.Pavings.{IsPaved, FullFits, settled_in}
 use Rattle.pv_cli.specs.Files.{HasOpening}
 use Rattle.pv_cli.specs.Leasts.{HasLeast, next_in, least_text}
-use Rattle.pv_cli.specs.Products.{Product, text, unfinished, paved, IsHonestBy, IsHonest, AreStages, full_as, full_by, ComesOf, ComesOfCheck, ComesOfAudit, ComesOfSvg, ComesOfSample, RefusesWork}
+use Rattle.pv_keep.specs.Keeping.{Kept}
+use Rattle.pv_keep.specs.Campaigns.{IsOpened, IsSaved}
+use Rattle.pv_cli.specs.Campaigns.{Stock, IsSameStock, AllRowsStay}
+use Rattle.pv_cli.specs.Products.{Product, text, unfinished, paved, summary_of, IsHonestBy, IsHonest, AreStages, full_as, full_by, ComesOf, ComesOfCheck, ComesOfAudit, ComesOfSvg, ComesOfSample, RefusesWork}
 use Rattle.pv_cli.specs.Ends.{Outside, AreUntouched, IsDelivered, IsCutOff, IsLost, IsTold, IsEnd}
 use Rattle.pv_cli.specs.declared.request.Form.{Form}
 use Rattle.pv_cli.specs.declared.request.Form.TheVariants.{Natural}
 use Rattle.pv_cli.specs.declared.request.Settings.{Settings}
 use Rattle.pv_cli.specs.declared.request.Search.{Search}
+use Rattle.pv_cli.specs.declared.request.Rounds.{Rounds}
 use Rattle.pv_grammar.specs.declared.cause.Cause.{Cause}
 use Rattle.pv_least.specs.declared.found.Least as known
 use Rattle.pv_cli.specs.declared.request.Request.{Request}
-use Rattle.pv_cli.specs.declared.request.Request.TheVariants.{Check, Run, Resume, Merge, Audit, Svg, Sample, Least}
+use Rattle.pv_cli.specs.declared.request.Request.TheVariants.{Check, Run, Resume, Merge, Audit, Svg, Sample, Least, Campaign}
 use Rattle.pv_cli.specs.declared.refusal.Refusal.{Refusal}
 use Rattle.pv_cli.specs.declared.refusal.Refusal.TheVariants as refusal
 use Rattle.pv_cli.specs.declared.status.Status.{Status}
@@ -64,22 +68,34 @@ pub record IsFinalLeast (before : Files) (system : Text) (s : Settings) (search 
   pub final : next_in found.rule (search_box found.rule) found.term search.boxes ≡ None
   pub is : p ≡ text (least_text least)
 
-abbrev pub IsWhole : Files → Request → Product → Type 0
-IsWhole before (Check system) p = ComesOfCheck before system.now p
-IsWhole before (Run form system settings effort out) p = IsFullRun form before system.now settings p
-IsWhole before (Resume system pavings settings effort out) p = IsFullResume before system.now (names_in pavings.items) settings p
-IsWhole before (Merge system pavings settings out) p = IsClosedJoin before system.now (names_in pavings.items) settings p
-IsWhole before (Audit form system paving settings) p = ComesOfAudit form before system.now paving.now settings p
-IsWhole before (Svg system paving settings view) p = ComesOfSvg before system.now paving.now settings view p
-IsWhole before (Sample circles) p = ComesOfSample circles p
-IsWhole before (Least system settings search) p = IsFinalLeast before system.now settings search p
+-- The full tree of what was kept when the campaign was opened; its rows are kept now.
+pub record IsFullCampaign (before : Files) (u v : Stock) (system : Text) (s : Settings) (rounds : Rounds) (p : Product) : Type 0 where
+  pub rule : SettlerParts
+  pub read : HasRule before system s rule
+  pub opening : Tree
+  pub middle : Kept
+  pub opened : IsOpened (u.kept rounds.name.now) middle (identity_of rule) (search_box rule) opening
+  pub kept : IsSaved middle (v.kept rounds.name.now) (full_by rule opening)
+  pub honest : IsStage (settle_by rule) rule.depth (search_box rule) leaf opening → IsHonest s rule (full_by rule opening)
+  pub is : p ≡ text (summary_of (counts_of (full_by rule opening)))
+
+abbrev pub IsWhole : Files → Stock → Stock → Request → Product → Type 0
+IsWhole before u v (Check system) p = ComesOfCheck before system.now p
+IsWhole before u v (Run form system settings effort out) p = IsFullRun form before system.now settings p
+IsWhole before u v (Resume system pavings settings effort out) p = IsFullResume before system.now (names_in pavings.items) settings p
+IsWhole before u v (Merge system pavings settings out) p = IsClosedJoin before system.now (names_in pavings.items) settings p
+IsWhole before u v (Audit form system paving settings) p = ComesOfAudit form before system.now paving.now settings p
+IsWhole before u v (Svg system paving settings view) p = ComesOfSvg before system.now paving.now settings view p
+IsWhole before u v (Sample circles) p = ComesOfSample circles p
+IsWhole before u v (Least system settings search) p = IsFinalLeast before system.now settings search p
+IsWhole before u v (Campaign system settings effort rounds) p = IsFullCampaign before u v system.now settings rounds p
 
 -- what was asked for came to this, was stored and printed, and nothing was told
-pub record IsDelivery (says : Files → Request → Product → Type 0) (words : List Text) (before after : Outside) : Type 0 where
+pub record IsDelivery (says : Files → Stock → Stock → Request → Product → Type 0) (words : List Text) (before after : Outside) : Type 0 where
   pub request : Request
   pub asks : Asks words request
   pub product : Product
-  pub says_so : says before.files request product
+  pub says_so : says before.files before.stock after.stock request product
   pub delivered : IsDelivered (out_of request) product before.files after.files before.out after.out
   pub quiet : after.err.written ≡ before.err.written
 
@@ -129,16 +145,30 @@ pub record IsPartLeast (before : Files) (system : Text) (s : Settings) (search :
   pub left : next_in found.rule (search_box found.rule) found.term search.boxes ≢ None
   pub is : p ≡ unfinished (least_text least)
 
-abbrev pub IsPart : Files → Request → Product → Type 0
-IsPart before (Check system) p = ⊥
-IsPart before (Run form system settings effort out) p = IsPartRun form before system.now settings effort.boxes p
-IsPart before (Resume system pavings settings effort out) p =
+-- Exactly the budgets of all rounds were settled of it, and that is not enough; the rows of what came of it are kept now.
+pub record IsPartCampaign (before : Files) (u v : Stock) (system : Text) (s : Settings) (boxes : ℕ) (rounds : Rounds) (p : Product) : Type 0 where
+  pub rule : SettlerParts
+  pub read : HasRule before system s rule
+  pub opening : Tree
+  pub middle : Kept
+  pub opened : IsOpened (u.kept rounds.name.now) middle (identity_of rule) (search_box rule) opening
+  pub tree : Tree
+  pub part : IsCutShort Natural rule opening (rounds.count * boxes) tree
+  pub kept : IsSaved middle (v.kept rounds.name.now) tree
+  pub honest : IsStage (settle_by rule) rule.depth (search_box rule) leaf opening → IsHonest s rule tree
+  pub is : p ≡ unfinished (summary_of (counts_of tree))
+
+abbrev pub IsPart : Files → Stock → Stock → Request → Product → Type 0
+IsPart before u v (Check system) p = ⊥
+IsPart before u v (Run form system settings effort out) p = IsPartRun form before system.now settings effort.boxes p
+IsPart before u v (Resume system pavings settings effort out) p =
     IsPartResume before system.now (names_in pavings.items) settings effort.boxes p
-IsPart before (Merge system pavings settings out) p = IsOpenJoin before system.now (names_in pavings.items) settings p
-IsPart before (Audit form system paving settings) p = ⊥
-IsPart before (Svg system paving settings view) p = ⊥
-IsPart before (Sample circles) p = ⊥
-IsPart before (Least system settings search) p = IsPartLeast before system.now settings search p
+IsPart before u v (Merge system pavings settings out) p = IsOpenJoin before system.now (names_in pavings.items) settings p
+IsPart before u v (Audit form system paving settings) p = ⊥
+IsPart before u v (Svg system paving settings view) p = ⊥
+IsPart before u v (Sample circles) p = ⊥
+IsPart before u v (Least system settings search) p = IsPartLeast before system.now settings search p
+IsPart before u v (Campaign system settings effort rounds) p = IsPartCampaign before u v system.now settings effort.boxes rounds p
 
 abbrev pub OpenLeftIsPart : Type 0
 OpenLeftIsPart = (words : List Text) (before after : Outside) → IsEnd words before after OpenLeft → IsDelivery IsPart words before after
@@ -160,14 +190,17 @@ IsEarly KeeperFault = ⊥
 IsEarly NoFile = Unit {0}
 
 -- the words were refused, or what they ask for
-abbrev pub IsCause : List Text → Files → Files → Refusal → Type 0
-IsCause words before after r = ((r ≡ refusal.Usage) × AreRefused words) ⊎ ((q : Request) × (Asks words q × RefusesWork before after q r))
+abbrev pub IsCause : List Text → Outside → Outside → Refusal → Type 0
+IsCause words before after r =
+    ((r ≡ refusal.Usage) × AreRefused words)
+    ⊎ ((q : Request) × (Asks words q × RefusesWork before.files after.files before.stock after.stock q r))
 
--- nothing was stored or printed; the cause was told with its line
+-- nothing was stored or printed, and all rows that were kept stay; the cause was told with its line
 pub record IsRefusedEarly (words : List Text) (before after : Outside) (status : Status) : Type 0 where
   pub untouched : AreUntouched before.files after.files before.out after.out
+  pub kept : AllRowsStay before.stock after.stock
   pub refusal : Refusal
-  pub cause : IsCause words before.files after.files refusal
+  pub cause : IsCause words before after refusal
   pub status_is : status ≡ status_of refusal
   pub told : IsTold before.err after.err (line_of refusal)
 
@@ -193,7 +226,7 @@ pub record IsUnwritten (words : List Text) (before after : Outside) : Type 0 whe
   pub request : Request
   pub asks : Asks words request
   pub product : Product
-  pub comes : ComesOf before.files request product
+  pub comes : ComesOf before.files before.stock after.stock request product
   pub not_written : IsUnstored request product before after ⊎ IsUnprinted request product before after
 
 abbrev pub WriteFaultIsUnwritten : Type 0
@@ -206,7 +239,7 @@ pub record IsCutOffText (words : List Text) (before after : Outside) : Type 0 wh
   pub request : Request
   pub asks : Asks words request
   pub product : Product
-  pub comes : ComesOf before.files request product
+  pub comes : ComesOf before.files before.stock after.stock request product
   pub cut : IsCutOff (out_of request) product before.files after.files before.out after.out
 
 -- nothing was stored or printed, or a front was printed, or the file was not stored
@@ -229,10 +262,11 @@ OthersStay =
 abbrev pub AskingIsNotRefused : Type 0
 AskingIsNotRefused = (words : List Text) (q : Request) → Asks words q → AreRefused words → ⊥
 
--- words that are refused end with status 2, or for want of memory, and nothing is stored or printed
+-- words that are refused end with status 2, or for want of memory, and nothing is stored, printed or kept
 pub record IsWordsRefused (before after : Outside) (status : Status) : Type 0 where
   pub status_is : (status ≡ Usage) ⊎ (status ≡ WantOfMemory)
   pub untouched : AreUntouched before.files after.files before.out after.out
+  pub kept : IsSameStock before.stock after.stock
 
 abbrev pub RefusedWordsEnd : Type 0
 RefusedWordsEnd =
@@ -240,31 +274,31 @@ RefusedWordsEnd =
     → IsWordsRefused before after status
 
 -- the text of the contractor program is refused
-pub record HasBadContract (words : List Text) (before after : Files) : Type 0 where
+pub record HasBadContract (words : List Text) (before after : Outside) : Type 0 where
   pub request : Request
   pub asks : Asks words request
   pub byte : ℕ
-  pub refused : RefusesWork before after request (refusal.Contract byte)
+  pub refused : RefusesWork before.files after.files before.stock after.stock request (refusal.Contract byte)
 
 -- the text of the expression whose least value is sought is refused
-pub record HasBadExpression (words : List Text) (before after : Files) : Type 0 where
+pub record HasBadExpression (words : List Text) (before after : Outside) : Type 0 where
   pub request : Request
   pub asks : Asks words request
   pub byte : ℕ
   pub cause : Cause
-  pub refused : RefusesWork before after request (refusal.Objective byte cause)
+  pub refused : RefusesWork before.files after.files before.stock after.stock request (refusal.Objective byte cause)
 
 -- the system has no plane as the words ask for
-pub record HasBadPlane (words : List Text) (before after : Files) : Type 0 where
+pub record HasBadPlane (words : List Text) (before after : Outside) : Type 0 where
   pub request : Request
   pub asks : Asks words request
-  pub refused : RefusesWork before after request refusal.Usage
+  pub refused : RefusesWork before.files after.files before.stock after.stock request refusal.Usage
 
 -- status 2 comes of words that are refused, of the text of the contractor program or of an expression, or of the plane of
 -- a picture
-abbrev pub HaveBadText : List Text → Files → Files → Type 0
+abbrev pub HaveBadText : List Text → Outside → Outside → Type 0
 HaveBadText words before after =
     AreRefused words ⊎ (HasBadContract words before after ⊎ (HasBadExpression words before after ⊎ HasBadPlane words before after))
 
 abbrev pub UsageIsOfWords : Type 0
-UsageIsOfWords = (words : List Text) (before after : Outside) → IsEnd words before after Usage → HaveBadText words before.files after.files
+UsageIsOfWords = (words : List Text) (before after : Outside) → IsEnd words before after Usage → HaveBadText words before after

@@ -26,6 +26,7 @@ ghost use Rattle.pv_cli.specs.Commands.{
   svg_app,
   sample_app,
   least_app,
+  campaign_app,
   paver_app,
 };
 
@@ -57,7 +58,8 @@ fn with_further_commands<'a>(command: Command<'a>, alloc: Global) -> Result<Comm
 {
     let command = with_command(command, run(alloc, "run-centered")?)?;
     let command = with_command(command, audit(alloc, "audit-centered")?)?;
-    with_command(command, least(alloc)?)
+    let command = with_command(command, least(alloc)?)?;
+    with_command(command, campaign(alloc)?)
 }
 
 fn with_command<'a>(
@@ -134,6 +136,15 @@ fn least<'a>(alloc: Global) -> Result<Command<'a>, AllocError>
 {
     let command = with_settings(system(alloc, "least")?, alloc)?;
     with_needed(with_option(command, alloc, "boxes")?, alloc, "of")
+}
+
+fn campaign<'a>(alloc: Global) -> Result<Command<'a>, AllocError>
+    ensures app { IfOk result (λ c. app_of c ≡ campaign_app) }
+    ensures local { IfOk result (λ c. (out-Command c).has_globals ≡ false) }
+{
+    let command = with_settings(system(alloc, "campaign")?, alloc)?;
+    let command = with_needed(with_effort(command, alloc)?, alloc, "keep")?;
+    with_option(command, alloc, "rounds")
 }
 
 // A command that has nothing.

@@ -1,6 +1,12 @@
 //! What follows from how commands end, as contracts. Each holds by its contract alone, and the calls do
 //! nothing.
 ghost use Rattle.pv_cli.specs.Merges.{JoinAlike, MergesEndAlike, MergesAreTakenAlike};
+ghost use Rattle.pv_cli.specs.CampaignLaws.{
+  KeeperFaultBreaksOff,
+  MemoryKeepsRows,
+  OtherNamesStay,
+  OthersLeaveKeeper,
+};
 ghost use Rattle.pv_cli.specs.StatusLaws.{
   DoneIsWhole,
   OpenLeftIsPart,
@@ -22,18 +28,20 @@ pub fn merges_alike()
 {}
 
 /// With status 0 no leaf is open: what was printed and stored is of the full tree. Of `least` no leaf is open in which the value
-/// may be as low as at the best point.
+/// may be as low as at the best point. Of `campaign` the rows of the full tree are kept.
 pub fn done()
     ensures { DoneIsWhole }
 {}
 
 /// With status 1 a leaf is open, and `run` and `resume` settled exactly their budget, which is not enough. Of `least` a leaf is
-/// open in which the value may be as low as at the best point.
+/// open in which the value may be as low as at the best point. `campaign` settled and kept exactly the budgets of its rounds,
+/// which are not enough.
 pub fn open_left()
     ensures { OpenLeftIsPart }
 {}
 
-/// With status 2, 3, 4, 5, 8, 9 or 11 nothing was printed and no file changed, and the cause was told.
+/// With status 2, 3, 4, 5, 8, 9 or 11 nothing was printed, no file changed and all rows that were kept stay, and the cause was
+/// told.
 pub fn refused()
     ensures { EarlyIsUntouched }
 {}
@@ -60,4 +68,14 @@ pub fn words()
     ensures asked { AskingIsNotRefused }
     ensures refused { RefusedWordsEnd }
     ensures usage { UsageIsOfWords }
+{}
+
+/// With status 10 the keeper failed in this call, and nothing was printed. With 7 and 10 all rows that were kept stay, or the
+/// rows are those of an opened campaign with so many of its rounds. With every status all other names stay, and every other
+/// command leaves the keeper as it was.
+pub fn campaigns()
+    ensures fault { KeeperFaultBreaksOff }
+    ensures memory { MemoryKeepsRows }
+    ensures others { OtherNamesStay }
+    ensures alone { OthersLeaveKeeper }
 {}

@@ -7,11 +7,11 @@ ghost use Rattle.pv_settle.specs.Rules.{dims_of};
 ghost use Rattle.pv_least.specs.Objectives.{aim_of};
 ghost use Rattle.pv_cli.specs.Systems.{files, AreOnlyRead, search_box};
 ghost use Rattle.pv_cli.specs.Leasts.{IsLeastBy, RefusesObjective, RefusesLeast, least_text, best_text, numbers_text};
-ghost use Rattle.pv_cli.specs.Products.{ComesOfLeast, report_as};
+ghost use Rattle.pv_cli.specs.Products.{ComesOfLeast};
 ghost use Rattle.pv_cli.specs.Made.{made};
 
 use crate::Refusal;
-use crate::product::Product;
+use crate::product::{Product, told};
 use crate::request::{Search, Settings};
 use crate::system::settler_in;
 use pv_io::Folder;
@@ -92,17 +92,6 @@ fn found_by(
 {
     let root = settler.search_box(alloc)?;
     pv_least::least(alloc, settler, objective, &root, boxes)
-}
-
-// The text of a search, which was cut short unless it is done.
-fn told(text: Vec<u8>, done: bool) -> Product
-    ensures { made result ≡ report_as text.items done }
-{
-    if done {
-        Product::Text(text)
-    } else {
-        Product::Unfinished(text)
-    }
 }
 
 fn report(alloc: Global, found: &Least) -> Result<Vec<u8>, Memory>

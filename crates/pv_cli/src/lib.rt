@@ -2,6 +2,7 @@
 #![tactic(auto)]
 
 mod audit;
+mod campaign;
 mod check;
 mod command_line;
 mod decimal;

@@ -1,13 +1,15 @@
 //! The top call.
 ghost use Rattle.std.specs.Prelude.{◌≡◌, ℕ, List, map, option_map, string_bytes, IfOk, IfErr};
 ghost use Rattle.pv_cli.specs.Systems.{files};
-ghost use Rattle.pv_cli.specs.Requests.{out_of};
+ghost use Rattle.pv_cli.specs.Requests.{out_of, campaign_of};
+ghost use Rattle.pv_cli.specs.Campaigns.{stock, LeavesStock};
 ghost use Rattle.pv_cli.specs.Products.{ComesOf, RefusesWork};
 ghost use Rattle.pv_cli.specs.Ends.{stream, outside, IsAnswered, RefusesRequest, IsEnd};
 ghost use Rattle.pv_cli.specs.Systems.{AreOnlyRead};
 ghost use Rattle.pv_cli.specs.Made.{made};
 
 use crate::audit::audit;
+use crate::campaign::campaign;
 use crate::check::check;
 use crate::deliver::deliver;
 use crate::least::least;
@@ -34,8 +36,9 @@ use std::thread::Threads;
 /// refusal is the first in this order: words and values, system, contractor program, expression or plane, paving files,
 /// work, printing; and its line is told on the standard error.
 ///
-/// `run` and `resume` work on as many threads as their words say, and join them: the call may wait for them. Each worker enters the
-/// gate with its number and a path before it settles the node there. The keeper is for campaigns alone.
+/// `run`, `resume` and `campaign` work on as many threads as their words say, and join them: the call may wait for them. Each worker enters the
+/// gate with its number and a path before it settles the node there. `campaign` works so in each of its rounds, and what it
+/// settles is kept under its name: all else that is kept stays, and for every other command all of it.
 pub fn paver_main<F: Folder, K: Sink, E: Sink, G: Gate + Sync, P: Keeper, R: Threads + Wait + Sync>(
     rt: &R,
     alloc: Global,
@@ -44,31 +47,34 @@ pub fn paver_main<F: Folder, K: Sink, E: Sink, G: Gate + Sync, P: Keeper, R: Thr
     out: &mut K,
     err: &mut E,
     gate: &G,
-    _keeper: &mut P,
+    keeper: &mut P,
 ) -> Status
     ensures end { IsEnd (map string_bytes words.now)
         (outside (files (F.content folder.old) (F.fetch_faults folder.old)
-        (F.store_faults folder.old)) (stream (K.written out.old) (K.faults out.old))
+        (F.store_faults folder.old)) (stock (P.kept keeper.old) (P.faults keeper.old))
+        (stream (K.written out.old) (K.faults out.old))
         (stream (E.written err.old) (E.faults err.old)))
         (outside (files (F.content folder.new) (F.fetch_faults folder.new)
-        (F.store_faults folder.new)) (stream (K.written out.new) (K.faults out.new))
+        (F.store_faults folder.new)) (stock (P.kept keeper.new) (P.faults keeper.new))
+        (stream (K.written out.new) (K.faults out.new))
         (stream (E.written err.new) (E.faults err.new))) result }
 {
     let request = match read(alloc, words) {
         Ok(request) => request,
         Err(refusal) => return tell(alloc, err, &refusal),
     };
-    match answer(rt, alloc, &request, folder, out, gate) {
+    match answer(rt, alloc, &request, folder, keeper, out, gate) {
         Ok(status) => status,
         Err(refusal) => tell(alloc, err, &refusal),
     }
 }
 
-fn answer<'a, F: Folder, K: Sink, G: Gate + Sync, R: Threads + Wait + Sync>(
+fn answer<'a, F: Folder, P: Keeper, K: Sink, G: Gate + Sync, R: Threads + Wait + Sync>(
     rt: &R,
     alloc: Global,
     request: &Request<'a>,
     folder: &mut F,
+    keeper: &mut P,
     out: &mut K,
     gate: &G,
 ) -> Result<Status, Refusal<'a>>
@@ -76,16 +82,23 @@ fn answer<'a, F: Folder, K: Sink, G: Gate + Sync, R: Threads + Wait + Sync>(
         (IsAnswered request.now
         (files (F.content folder.old) (F.fetch_faults folder.old) (F.store_faults folder.old))
         (files (F.content folder.new) (F.fetch_faults folder.new) (F.store_faults folder.new))
+        (stock (P.kept keeper.old) (P.faults keeper.old))
+        (stock (P.kept keeper.new) (P.faults keeper.new))
         (stream (K.written out.old) (K.faults out.old))
         (stream (K.written out.new) (K.faults out.new))) }
     ensures refused { IfErr result
         (RefusesRequest request.now
         (files (F.content folder.old) (F.fetch_faults folder.old) (F.store_faults folder.old))
         (files (F.content folder.new) (F.fetch_faults folder.new) (F.store_faults folder.new))
+        (stock (P.kept keeper.old) (P.faults keeper.old))
+        (stock (P.kept keeper.new) (P.faults keeper.new))
         (stream (K.written out.old) (K.faults out.old))
         (stream (K.written out.new) (K.faults out.new))) }
+    ensures stock { LeavesStock (campaign_of request.now)
+        (stock (P.kept keeper.old) (P.faults keeper.old))
+        (stock (P.kept keeper.new) (P.faults keeper.new)) }
 {
-    match work(rt, alloc, request, folder, gate) {
+    match work(rt, alloc, request, folder, keeper, gate) {
         Ok(product) => deliver(alloc, folder, out, &product, file_of(request)),
         Err(refusal) => Err(refusal),
     }
@@ -100,18 +113,20 @@ fn file_of<'a>(request: &Request<'a>) -> Option<&'a str>
         | Request::Audit { .. }
         | Request::Svg { .. }
         | Request::Sample { .. }
-        | Request::Least { .. } => None,
+        | Request::Least { .. }
+        | Request::Campaign { .. } => None,
         Request::Run { out, .. } => *out,
         Request::Resume { out, .. } => *out,
         Request::Merge { out, .. } => *out,
     }
 }
 
-fn work<'a, F: Folder, G: Gate + Sync, R: Threads + Wait + Sync>(
+fn work<'a, F: Folder, P: Keeper, G: Gate + Sync, R: Threads + Wait + Sync>(
     rt: &R,
     alloc: Global,
     request: &Request<'a>,
     folder: &mut F,
+    keeper: &mut P,
     gate: &G,
 ) -> Result<Product, Refusal<'a>>
     ensures read { AreOnlyRead
@@ -119,12 +134,17 @@ fn work<'a, F: Folder, G: Gate + Sync, R: Threads + Wait + Sync>(
         (files (F.content folder.new) (F.fetch_faults folder.new) (F.store_faults folder.new)) }
     ensures comes { IfOk result
         (λ p. ComesOf (files (F.content folder.old) (F.fetch_faults folder.old)
-        (F.store_faults folder.old)) request.now (made p)) }
+        (F.store_faults folder.old)) (stock (P.kept keeper.old) (P.faults keeper.old))
+        (stock (P.kept keeper.new) (P.faults keeper.new)) request.now (made p)) }
     ensures refused { IfErr result
         (RefusesWork (files (F.content folder.old) (F.fetch_faults folder.old)
         (F.store_faults folder.old))
         (files (F.content folder.new) (F.fetch_faults folder.new) (F.store_faults folder.new))
-        request.now) }
+        (stock (P.kept keeper.old) (P.faults keeper.old))
+        (stock (P.kept keeper.new) (P.faults keeper.new)) request.now) }
+    ensures stock { LeavesStock (campaign_of request.now)
+        (stock (P.kept keeper.old) (P.faults keeper.old))
+        (stock (P.kept keeper.new) (P.faults keeper.new)) }
 {
     match request {
         Request::Check { system } => check(alloc, folder, *system),
@@ -166,5 +186,13 @@ fn work<'a, F: Folder, G: Gate + Sync, R: Threads + Wait + Sync>(
             settings,
             search,
         } => least(alloc, folder, *system, settings, search),
+        Request::Campaign {
+            system,
+            settings,
+            effort,
+            rounds,
+        } => campaign(
+            rt, alloc, folder, keeper, *system, settings, effort, rounds, gate,
+        ),
     }
 }

@@ -1,13 +1,13 @@
 //! From the words of a command to what they ask for.
 ghost use Rattle.std.specs.Prelude.{◌≡◌, ◌≢◌, ◌⊎◌, List, codes, map, option_map, MatchOption, MatchResult, string_bytes, IfOk, IfErr, unwrap_or};
 ghost use Rattle.clap.specs.Words.{all_of, subcommand_rows_of};
-ghost use Rattle.pv_cli.specs.Requests.{value_of, system_name, paving_names, names_in, AreSettings, IsEffort, ArePavings, IsOut, HasBadSetting, HasBadEffort, IsView, AreGiven, AreCircles, HasManyPavings, HasBadLevels, HasBadCircles, IsSearch, HasBadBudget, HasBadValueFor, run_name, audit_name, runs, resumes, merges, audits, draws, samples, seeks, IsAskedBy, IsAsked, Asks};
+ghost use Rattle.pv_cli.specs.Requests.{value_of, system_name, paving_names, names_in, AreSettings, IsEffort, ArePavings, IsOut, HasBadSetting, HasBadEffort, IsView, AreGiven, AreCircles, HasManyPavings, HasBadLevels, HasBadCircles, IsSearch, HasBadBudget, IsRounds, HasBadRounds, HasBadValueFor, run_name, audit_name, runs, resumes, merges, audits, draws, samples, seeks, keeps, IsAskedBy, IsAsked, Asks};
 ghost use Rattle.pv_cli.specs.Found.{rows_in, RefusesValues, RefusesCommand, RefusesFound};
 ghost use Rattle.pv_cli.specs.Ends.{RefusesWords};
 
 use crate::Refusal;
 use crate::command_line::paver;
-use crate::request::{Circles, Effort, Form, Request, Search, Settings, View};
+use crate::request::{Circles, Effort, Form, Request, Rounds, Search, Settings, View};
 use crate::values::{bisector_of, count_of, levels_of, width_of};
 use clap::ArgMatches;
 use clap::error::ErrorKind;
@@ -65,6 +65,7 @@ fn command_in<'a>(
         "run-centered" => run_in(Form::Centered, found),
         "audit-centered" => audit_in(Form::Centered, found),
         "least" => least_in(found),
+        "campaign" => campaign_in(found),
         _ => Err(Refusal::Usage),
     }
 }
@@ -243,6 +244,39 @@ fn search_in<'a>(found: &ArgMatches<'a>) -> Option<Search<'a>>
     Some(Search {
         of: text_in(found, "of", ""),
         boxes,
+    })
+}
+
+fn campaign_in<'a>(found: &ArgMatches<'a>) -> Result<Request<'a>, Refusal<'a>>
+    ensures { MatchResult result (IsAskedBy (codes "campaign") (rows_in found.now))
+        (RefusesValues (HasBadValueFor keeps (rows_in found.now))) }
+{
+    let settings = match settings_in(found) {
+        Some(settings) => settings,
+        None => return Err(Refusal::Usage),
+    };
+    let effort = match effort_in(found) {
+        Some(effort) => effort,
+        None => return Err(Refusal::Usage),
+    };
+    match rounds_in(found) {
+        Some(rounds) => Ok(Request::Campaign {
+            system: text_in(found, "SYSTEM", ""),
+            settings,
+            effort,
+            rounds,
+        }),
+        None => Err(Refusal::Usage),
+    }
+}
+
+fn rounds_in<'a>(found: &ArgMatches<'a>) -> Option<Rounds<'a>>
+    ensures { MatchOption result (HasBadRounds (rows_in found.now)) (IsRounds (rows_in found.now)) }
+{
+    let count = count_of(text_in(found, "rounds", "1"), 1, 100)? as u32;
+    Some(Rounds {
+        name: text_in(found, "keep", ""),
+        count,
     })
 }
 

@@ -35,7 +35,8 @@ pub enum Refusal<'a> {
     NoFile {
         name: &'a str,
     },
-    /// The file of this name is no paving file of the system by the settings.
+    /// The file of this name is no paving file of the system by the settings, or what is kept under this name is no
+    /// campaign of them.
     Paving {
         name: &'a str,
         fault: FileFault,
@@ -48,11 +49,15 @@ pub enum Refusal<'a> {
     NotStored {
         name: &'a str,
     },
+    /// The keeper failed over the campaign of this name.
+    KeeperFault {
+        name: &'a str,
+    },
     /// The standard output could not be written.
     NotPrinted,
     /// There was no memory.
     Memory,
-    /// The tree of the files has so many settled nodes, and with the budget too many.
+    /// The tree of the files or of a campaign has so many settled nodes, and with the budget too many.
     TreeLimit {
         settled: u64,
     },
@@ -70,7 +75,8 @@ pub enum Refusal<'a> {
     },
 }
 
-/// Why a file is no paving file of a system by settings. Lines are counted from 1.
+/// Why a file is no paving file of a system by settings, or what is kept no campaign of them. Lines are counted from 1,
+/// rows from 0.
 #[derive(Clone, Copy, Debug, PartialEq, Eq)]
 pub enum FileFault {
     /// It is longer than 70,000,000 bytes.
@@ -81,6 +87,10 @@ pub enum FileFault {
     BadLine { line: u64 },
     /// This line is that of the 100,001st settled node.
     TooManyNodes { line: u64 },
+    /// This row is the first that is bad.
+    BadRow { row: u64 },
+    /// More than 100,000 rows are kept.
+    TooManyRows,
 }
 
 impl<'a> From<AllocError> for Refusal<'a> {
@@ -125,6 +135,7 @@ impl<'a> Refusal<'a> {
             Refusal::ReadFault { .. } => Status::ReadFault,
             Refusal::NotStored { .. } | Refusal::NotPrinted => Status::WriteFault,
             Refusal::Paving { .. } => Status::PavingRefused,
+            Refusal::KeeperFault { .. } => Status::KeeperFault,
             Refusal::Memory => Status::WantOfMemory,
             Refusal::TreeLimit { .. } => Status::TreeLimit,
             Refusal::Disagree { .. } | Refusal::Differs { .. } => Status::Disagree,
@@ -164,6 +175,7 @@ impl<'a> Refusal<'a> {
             Refusal::NoFile { name } => joined(alloc, b"no file: ", name),
             Refusal::ReadFault { name } => joined(alloc, b"read fault: ", name),
             Refusal::NotStored { name } => joined(alloc, b"write fault: ", name),
+            Refusal::KeeperFault { name } => joined(alloc, b"keeper fault: ", name),
             Refusal::NotPrinted => joined(alloc, b"write fault: standard output", ""),
             Refusal::Paving { name, fault } => fault.words(alloc, name),
             Refusal::Memory => joined(alloc, b"want of memory", ""),
@@ -204,6 +216,8 @@ impl FileFault {
             FileFault::TooManyNodes { line } => {
                 push_numbered(words, b"too many nodes at line ", line)?;
             }
+            FileFault::BadRow { row } => push_numbered(words, b"bad row ", row)?,
+            FileFault::TooManyRows => words.extend_from_slice(b"too many rows")?,
         }
         Ok(())
     }

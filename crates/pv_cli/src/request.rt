@@ -67,6 +67,15 @@ pub struct Search<'a> {
     ghost boxes_fit: { (1 ≤ boxes) × (boxes ≤ 100000) },
 }
 
+/// Under which name a campaign is kept, and how many rounds it is gone on with.
+#[derive(Clone, Copy)]
+pub struct Rounds<'a> {
+    /// The name for the keeper.
+    pub name: &'a str,
+    pub count: u32,
+    ghost count_fits: { (1 ≤ count) × (count ≤ 100) },
+}
+
 /// What the words of a command ask for.
 #[derive(Drop)]
 pub enum Request<'a> {
@@ -120,5 +129,12 @@ pub enum Request<'a> {
         system: &'a str,
         settings: Settings<'a>,
         search: Search<'a>,
+    },
+    /// Go on with a paving that is kept between rounds.
+    Campaign {
+        system: &'a str,
+        settings: Settings<'a>,
+        effort: Effort,
+        rounds: Rounds<'a>,
     },
 }

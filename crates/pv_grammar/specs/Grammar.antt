@@ -11,7 +11,7 @@
 use Rattle.std.specs.Prelude.{◌≡◌, ◌≢◌, Bool, true, false, ℕ, zero, suc, ◌-◌, List, [], ◌∷◌, ◌++◌, Option, Some, None, reverse}
 use Rattle.pv_expr.specs.declared.constraint.Relation.TheVariants.{Eq}
 use Rattle.pv_code.specs.declared.code.Op.{Op}
-use Rattle.pv_code.specs.declared.code.Op.TheVariants.{Constant, Variable, Parameter, One, Two, Define, Relate}
+use Rattle.pv_code.specs.declared.code.Op.TheVariants.{Constant, Variable, Parameter, One as OneArgument, Two as TwoArguments, Define, Relate}
 use Rattle.pv_code.specs.declared.code.Unary.TheVariants.{Neg, Pow}
 use Rattle.pv_code.specs.declared.code.Binary.TheVariants.{Add, Sub, Mul, Div}
 use Rattle.pv_grammar.specs.declared.symbol.Fixed.{Fixed}
@@ -19,6 +19,8 @@ use Rattle.pv_grammar.specs.declared.symbol.Fixed.TheVariants.{Plus, Minus, Star
 use Rattle.pv_grammar.specs.declared.symbol.Symbol.{Symbol}
 use Rattle.pv_grammar.specs.declared.symbol.Symbol.TheVariants.{Fixed as FixedToken, Relation as RelationToken, Number, Declared, Constant as ConstantName, Variable as VariableName, Parameter as ParameterName, Function as FunctionName, Unknown}
 use Rattle.pv_grammar.specs.declared.machine.Item.{Item}
+use Rattle.pv_grammar.specs.declared.production.Production.{Production}
+use Rattle.pv_grammar.specs.declared.production.Production.TheVariants.{Nothing, One, Two, Three, Four, Operand, Power, Expression, Parentheses, Call, Function, Domain}
 use Rattle.pv_grammar.specs.declared.machine.Item.TheVariants.{Exactly, MaybeConstants, WantConstant, MoreConstants, MaybeConstant, WantEquals, MaybeSign, WantValue, MaybeFunctions, WantFunctionName, WantParameter, MoreParameters, MaybeSemicolon, WantVariable, MoreVariables, MaybeVariable, MaybeDomain, WantBound, WantRelation, MoreConstraints, MaybeConstraint, WantFactor, MoreFactors, MoreTerms, MaybePower, WantExponent, MoreArguments, Then}
 
 -- what follows a token, and the steps that it writes
@@ -37,7 +39,7 @@ behind items = Some (items, [])
 -- factor = sign factor | primary optional("^" NUMBER)
 abbrev pub factor : Symbol → Option Produced
 factor (FixedToken Plus) = behind (WantFactor ∷ [])
-factor (FixedToken Minus) = behind (WantFactor ∷ Then (One Neg) ∷ [])
+factor (FixedToken Minus) = behind (WantFactor ∷ Then (OneArgument Neg) ∷ [])
 factor (FixedToken Open) = behind (expression_behind (MoreArguments 0 ∷ MaybePower ∷ []))
 factor (Number value exponent) = operand (Constant value)
 factor (ConstantName value) = operand (Constant value)
@@ -50,14 +52,14 @@ factor s = None
 
 -- { ("*" | "/") factor }
 abbrev pub factors : Symbol → Option Produced
-factors (FixedToken Star) = behind (WantFactor ∷ Then (Two Mul) ∷ MoreFactors ∷ [])
-factors (FixedToken Slash) = behind (WantFactor ∷ Then (Two Div) ∷ MoreFactors ∷ [])
+factors (FixedToken Star) = behind (WantFactor ∷ Then (TwoArguments Mul) ∷ MoreFactors ∷ [])
+factors (FixedToken Slash) = behind (WantFactor ∷ Then (TwoArguments Div) ∷ MoreFactors ∷ [])
 factors s = None
 
 -- { ("+" | "-") term }
 abbrev pub terms : Symbol → Option Produced
-terms (FixedToken Plus) = behind (WantFactor ∷ MoreFactors ∷ Then (Two Add) ∷ MoreTerms ∷ [])
-terms (FixedToken Minus) = behind (WantFactor ∷ MoreFactors ∷ Then (Two Sub) ∷ MoreTerms ∷ [])
+terms (FixedToken Plus) = behind (WantFactor ∷ MoreFactors ∷ Then (TwoArguments Add) ∷ MoreTerms ∷ [])
+terms (FixedToken Minus) = behind (WantFactor ∷ MoreFactors ∷ Then (TwoArguments Sub) ∷ MoreTerms ∷ [])
 terms s = None
 
 abbrev pub power : Symbol → Option Produced
@@ -65,7 +67,7 @@ power (FixedToken Caret) = behind (WantExponent ∷ [])
 power s = None
 
 abbrev pub exponent : Symbol → Option Produced
-exponent (Number value (Some n)) = Some ([], One (Pow n) ∷ [])
+exponent (Number value (Some n)) = Some ([], OneArgument (Pow n) ∷ [])
 exponent s = None
 
 -- so many further arguments, each behind a comma, and the closing parenthesis
@@ -266,18 +268,50 @@ abbrev pub Takes : Bool → Option Produced → List Item → List Op → List I
 Takes true o items ops items' ops' = Follows o items ops items' ops'
 Takes false o items ops items' ops' = o ≡ None
 
--- an item whose text is one token or none, and writes no more than its own step
-abbrev pub IsShort : Item → Type 0
-IsShort WantEquals = Unit {0}
-IsShort MaybeSign = Unit {0}
-IsShort WantValue = Unit {0}
-IsShort WantFunctionName = Unit {0}
-IsShort WantParameter = Unit {0}
-IsShort MaybeSemicolon = Unit {0}
-IsShort WantBound = Unit {0}
-IsShort (Then op) = Unit {0}
-IsShort i = ⊥
+-- an item that begins a further constraint
+abbrev pub is_constraint : Item → Bool
+is_constraint MaybeConstraint = true
+is_constraint i = false
 
 abbrev pub is_exponent : Item → Bool
 is_exponent WantExponent = true
 is_exponent i = false
+
+-- ---- The table of the grammar
+
+-- the items and the step of a production
+abbrev pub right_side : Production → Produced
+right_side Nothing = ([], [])
+right_side (One a) = (a ∷ [], [])
+right_side (Two a b) = (a ∷ b ∷ [], [])
+right_side (Three a b c) = (a ∷ b ∷ c ∷ [], [])
+right_side (Four a b c d) = (a ∷ b ∷ c ∷ d ∷ [], [])
+right_side (Operand op) = (MaybePower ∷ [], op ∷ [])
+right_side (Power n) = ([], OneArgument (Pow n) ∷ [])
+right_side (Expression i) = (expression_behind (i ∷ []), [])
+right_side Parentheses = (expression_behind (MoreArguments 0 ∷ MaybePower ∷ []), [])
+right_side (Call op n) = (Exactly Open ∷ expression_behind (MoreArguments n ∷ Then op ∷ MaybePower ∷ []), [])
+right_side Function = (WantFunctionName ∷ Exactly Open ∷ WantParameter ∷ MoreParameters ∷ Exactly Return ∷ body_items, [])
+right_side Domain = (domain_items, [])
+
+-- what follows where an item begins with a token; of a further constraint, where its first factor does
+abbrev pub produced_first : Item → Symbol → Option Produced
+produced_first MaybeConstraint s = factor s
+produced_first i s = produced i s
+
+-- an item that begins with tokens of its own
+abbrev pub IsFurther : Item → Type 0
+IsFurther (Exactly f) = ⊥
+IsFurther MaybeSemicolon = ⊥
+IsFurther MaybeConstants = ⊥
+IsFurther WantConstant = ⊥
+IsFurther MaybeConstant = ⊥
+IsFurther WantVariable = ⊥
+IsFurther MaybeVariable = ⊥
+IsFurther WantFunctionName = ⊥
+IsFurther WantParameter = ⊥
+IsFurther MoreConstants = ⊥
+IsFurther MoreVariables = ⊥
+IsFurther WantFactor = ⊥
+IsFurther MaybeConstraint = ⊥
+IsFurther i = Unit {0}

@@ -6,6 +6,7 @@ mod cause;
 mod counts;
 pub mod laws;
 mod machine;
+mod production;
 mod symbol;
 
 pub use cause::Cause;

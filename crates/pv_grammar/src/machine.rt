@@ -1,11 +1,12 @@
 // The grammar as a predictive machine: a stack of the items that are still to come, and the code of what was read.
 
 ghost use Rattle.std.specs.Bool.{OnTrue, OnFalse};
-ghost use Rattle.std.specs.Prelude.{◌≡◌, ◌≢◌, [], ◌∷◌, ◌++◌, IfOk, OnOk, Some, None, true, if◌then◌else◌};
-ghost use Rattle.pv_grammar.specs.Grammar.{pile, MayEnd, Takes, Settles, IsShort, is_exponent, produced, step_of, system_items, expression_items, body_items, domain_items};
+ghost use Rattle.std.specs.Prelude.{◌≡◌, ◌≢◌, [], ◌∷◌, ◌++◌, IfOk, OnOk, Some, None};
+ghost use Rattle.pv_grammar.specs.Grammar.{pile, MayEnd, Takes, Follows, Settles, is_exponent, is_constraint, produced, right_side, step_of, system_items, expression_items, expression_behind, domain_items};
 
+use crate::production::Production;
 use crate::symbol::{Fixed, Symbol};
-use pv_code::{Binary, Op, Unary};
+use pv_code::{Op, Unary};
 use pv_num::Memory;
 use std::alloc::Global;
 
@@ -72,8 +73,7 @@ impl Machine {
         let mut machine = Machine::empty(alloc);
         machine.put(Item::Exactly(Fixed::End))?;
         machine.put(Item::MoreConstraints)?;
-        machine.put(Item::WantRelation)?;
-        machine.put_expression()?;
+        machine.put_expression(Item::WantRelation)?;
         machine.put(Item::Exactly(Fixed::Constraints))?;
         machine.put(Item::MaybeFunctions)?;
         machine.put(Item::MoreVariables)?;
@@ -90,7 +90,9 @@ impl Machine {
         ensures code { IfOk result (λ m. m.code.items ≡ []) }
     {
         let mut machine = Machine::empty(alloc);
-        machine.put_expression()?;
+        machine.put(Item::MoreTerms)?;
+        machine.put(Item::MoreFactors)?;
+        machine.put(Item::WantFactor)?;
         Ok(machine)
     }
 
@@ -143,405 +145,103 @@ impl Machine {
         Ok(())
     }
 
-    fn put_expression(&mut self) -> Result<(), Memory>
-        ensures stack { OnOk result (pile self.new.stack.items ≡
-            Item.WantFactor ∷ Item.MoreFactors ∷ Item.MoreTerms ∷ pile self.old.stack.items) }
-        ensures code { OnOk result (self.new.code ≡ self.old.code) }
-    {
-        self.put(Item::MoreTerms)?;
-        self.put(Item::MoreFactors)?;
-        self.put(Item::WantFactor)
-    }
-
     /// Takes the token where the item stood; false where the grammar does not allow it there.
     pub fn take(&mut self, item: Item, symbol: Symbol) -> Result<bool, Memory>
         ensures { IfOk result (λ b. Takes b (produced item symbol)
             (pile self.old.stack.items) self.old.code.items
             (pile self.new.stack.items) self.new.code.items) }
     {
-        match item {
-            Item::Exactly(fixed) => match symbol {
-                Symbol::Fixed(found) => Ok(found == fixed),
-                _ => Ok(false),
-            },
-            Item::WantFactor => self.take_factor(symbol),
-            Item::MoreFactors => self.take_factors(symbol),
-            Item::MoreTerms => self.take_terms(symbol),
-            Item::MaybePower => self.take_power(symbol),
-            Item::WantExponent => self.take_exponent(symbol),
-            Item::MoreArguments(n) => self.take_argument(n, symbol),
-            Item::WantRelation => self.take_relation(symbol),
-            Item::MoreConstraints => self.take_next(symbol),
-            Item::MaybeConstraint => self.take_constraint(symbol),
-            Item::MaybeFunctions => self.take_function(symbol),
-            Item::MoreParameters => self.take_parameters(symbol),
-            Item::MaybeConstants => self.take_block(symbol),
-            Item::WantConstant => self.take_constant(symbol),
-            Item::MoreConstants => self.take_constants(symbol),
-            Item::MaybeConstant => self.take_further_constant(symbol),
-            Item::WantVariable => self.take_variable(symbol),
-            Item::MoreVariables => self.take_variables(symbol),
-            Item::MaybeVariable => self.take_further_variable(symbol),
-            Item::MaybeDomain => self.take_domain(symbol),
-            _ => Ok(item.is_alone(symbol)),
+        let Some(production) = item.production(symbol) else {
+            return Ok(false);
+        };
+        if item.is_constraint() {
+            self.put(Item::MoreConstraints)?;
+            self.put(Item::WantRelation)?;
+            self.put(Item::MoreTerms)?;
+            self.put(Item::MoreFactors)?;
         }
-    }
-
-    fn operand(&mut self, op: Op) -> Result<bool, Memory>
-        ensures taken { IfOk result (λ b. b ≡ true) }
-        ensures stack { OnOk result (pile self.new.stack.items ≡
-            Item.MaybePower ∷ pile self.old.stack.items) }
-        ensures code { OnOk result (self.new.code.items ≡ self.old.code.items ++ op ∷ []) }
-    {
-        self.write(op)?;
-        self.put(Item::MaybePower)?;
+        self.follow(production)?;
         Ok(true)
     }
 
-    fn take_factor(&mut self, symbol: Symbol) -> Result<bool, Memory>
-        ensures { IfOk result (λ b. Takes b (produced Item.WantFactor symbol)
+    // Writes the step of a production, and puts its items on the stack.
+    fn follow(&mut self, production: Production) -> Result<(), Memory>
+        ensures { OnOk result (Follows (Some (right_side production))
             (pile self.old.stack.items) self.old.code.items
             (pile self.new.stack.items) self.new.code.items) }
     {
-        match symbol {
-            Symbol::Fixed(Fixed::Plus) => {
-                self.put(Item::WantFactor)?;
-                Ok(true)
+        match production {
+            Production::Nothing => Ok(()),
+            Production::One(a) => self.put(a),
+            Production::Two(a, b) => {
+                self.put(b)?;
+                self.put(a)
             }
-            Symbol::Fixed(Fixed::Minus) => {
-                self.put(Item::Then(Op::One(Unary::Neg)))?;
-                self.put(Item::WantFactor)?;
-                Ok(true)
+            Production::Three(a, b, c) => {
+                self.put(c)?;
+                self.put(b)?;
+                self.put(a)
             }
-            Symbol::Fixed(Fixed::Open) => {
+            Production::Four(a, b, c, d) => {
+                self.put(d)?;
+                self.put(c)?;
+                self.put(b)?;
+                self.put(a)
+            }
+            Production::Operand(op) => {
+                self.write(op)?;
+                self.put(Item::MaybePower)
+            }
+            Production::Power(n) => self.write(Op::One(Unary::Pow(n))),
+            Production::Expression(next) => self.put_expression(next),
+            Production::Parentheses => {
                 self.put(Item::MaybePower)?;
-                self.put(Item::MoreArguments(0))?;
-                self.put_expression()?;
-                Ok(true)
+                self.put_expression(Item::MoreArguments(0))
             }
-            Symbol::Number { value, .. } => self.operand(Op::Constant(value)),
-            Symbol::Constant(value) => self.operand(Op::Constant(value)),
-            Symbol::Variable(i) => self.operand(Op::Variable(i)),
-            Symbol::Parameter(i) => self.operand(Op::Parameter(i)),
-            Symbol::Function { op, arity } => {
-                self.put(Item::MaybePower)?;
-                self.put(Item::Then(op))?;
-                self.put(Item::MoreArguments(arity.saturating_sub(1)))?;
-                self.put_expression()?;
-                self.put(Item::Exactly(Fixed::Open))?;
-                Ok(true)
-            }
-            Symbol::Unknown => {
-                self.put(Item::MaybePower)?;
-                Ok(true)
-            }
-            _ => Ok(false),
+            Production::Call { op, more } => self.put_call(op, more),
+            Production::Function => self.put_function(),
+            Production::Domain => self.put_domain(),
         }
     }
 
-    fn take_factors(&mut self, symbol: Symbol) -> Result<bool, Memory>
-        ensures { IfOk result (λ b. Takes b (produced Item.MoreFactors symbol)
-            (pile self.old.stack.items) self.old.code.items
-            (pile self.new.stack.items) self.new.code.items) }
+    // An expression and an item behind it.
+    fn put_expression(&mut self, next: Item) -> Result<(), Memory>
+        ensures stack { OnOk result (pile self.new.stack.items ≡
+            expression_behind (next ∷ []) ++ pile self.old.stack.items) }
+        ensures code { OnOk result (self.new.code ≡ self.old.code) }
     {
-        match symbol {
-            Symbol::Fixed(Fixed::Star) => {
-                self.put(Item::MoreFactors)?;
-                self.put(Item::Then(Op::Two(Binary::Mul)))?;
-                self.put(Item::WantFactor)?;
-                Ok(true)
-            }
-            Symbol::Fixed(Fixed::Slash) => {
-                self.put(Item::MoreFactors)?;
-                self.put(Item::Then(Op::Two(Binary::Div)))?;
-                self.put(Item::WantFactor)?;
-                Ok(true)
-            }
-            _ => Ok(false),
-        }
-    }
-
-    fn take_terms(&mut self, symbol: Symbol) -> Result<bool, Memory>
-        ensures { IfOk result (λ b. Takes b (produced Item.MoreTerms symbol)
-            (pile self.old.stack.items) self.old.code.items
-            (pile self.new.stack.items) self.new.code.items) }
-    {
-        match symbol {
-            Symbol::Fixed(Fixed::Plus) => {
-                self.put(Item::MoreTerms)?;
-                self.put(Item::Then(Op::Two(Binary::Add)))?;
-                self.put(Item::MoreFactors)?;
-                self.put(Item::WantFactor)?;
-                Ok(true)
-            }
-            Symbol::Fixed(Fixed::Minus) => {
-                self.put(Item::MoreTerms)?;
-                self.put(Item::Then(Op::Two(Binary::Sub)))?;
-                self.put(Item::MoreFactors)?;
-                self.put(Item::WantFactor)?;
-                Ok(true)
-            }
-            _ => Ok(false),
-        }
-    }
-
-    fn take_power(&mut self, symbol: Symbol) -> Result<bool, Memory>
-        ensures { IfOk result (λ b. Takes b (produced Item.MaybePower symbol)
-            (pile self.old.stack.items) self.old.code.items
-            (pile self.new.stack.items) self.new.code.items) }
-    {
-        match symbol {
-            Symbol::Fixed(Fixed::Caret) => {
-                self.put(Item::WantExponent)?;
-                Ok(true)
-            }
-            _ => Ok(false),
-        }
-    }
-
-    fn take_exponent(&mut self, symbol: Symbol) -> Result<bool, Memory>
-        ensures { IfOk result (λ b. Takes b (produced Item.WantExponent symbol)
-            (pile self.old.stack.items) self.old.code.items
-            (pile self.new.stack.items) self.new.code.items) }
-    {
-        match symbol {
-            Symbol::Number {
-                exponent: Some(n),
-                ..
-            } => {
-                self.write(Op::One(Unary::Pow(n)))?;
-                Ok(true)
-            }
-            _ => Ok(false),
-        }
-    }
-
-    fn take_argument(&mut self, more: u8, symbol: Symbol) -> Result<bool, Memory>
-        ensures { IfOk result (λ b. Takes b (produced (Item.MoreArguments more) symbol)
-            (pile self.old.stack.items) self.old.code.items
-            (pile self.new.stack.items) self.new.code.items) }
-    {
-        match symbol {
-            Symbol::Fixed(Fixed::Close) => Ok(more == 0),
-            Symbol::Fixed(Fixed::Comma) => {
-                if more == 0 {
-                    return Ok(false);
-                }
-                self.put(Item::MoreArguments(more - 1))?;
-                self.put_expression()?;
-                Ok(true)
-            }
-            _ => Ok(false),
-        }
-    }
-
-    fn take_relation(&mut self, symbol: Symbol) -> Result<bool, Memory>
-        ensures { IfOk result (λ b. Takes b (produced Item.WantRelation symbol)
-            (pile self.old.stack.items) self.old.code.items
-            (pile self.new.stack.items) self.new.code.items) }
-    {
-        match symbol {
-            Symbol::Relation(relation) => {
-                self.put(Item::Then(Op::Relate(relation)))?;
-                self.put_expression()?;
-                Ok(true)
-            }
-            _ => Ok(false),
-        }
-    }
-
-    fn take_next(&mut self, symbol: Symbol) -> Result<bool, Memory>
-        ensures { IfOk result (λ b. Takes b (produced Item.MoreConstraints symbol)
-            (pile self.old.stack.items) self.old.code.items
-            (pile self.new.stack.items) self.new.code.items) }
-    {
-        match symbol {
-            Symbol::Fixed(Fixed::Semicolon) => {
-                self.put(Item::MaybeConstraint)?;
-                Ok(true)
-            }
-            _ => Ok(false),
-        }
-    }
-
-    fn take_constraint(&mut self, symbol: Symbol) -> Result<bool, Memory>
-        ensures { IfOk result (λ b. Takes b (produced Item.MaybeConstraint symbol)
-            (pile self.old.stack.items) self.old.code.items
-            (pile self.new.stack.items) self.new.code.items) }
-    {
-        self.put(Item::MoreConstraints)?;
-        self.put(Item::WantRelation)?;
+        self.put(next)?;
         self.put(Item::MoreTerms)?;
         self.put(Item::MoreFactors)?;
-        self.take_factor(symbol)
+        self.put(Item::WantFactor)
     }
 
-    fn take_block(&mut self, symbol: Symbol) -> Result<bool, Memory>
-        ensures { IfOk result (λ b. Takes b (produced Item.MaybeConstants symbol)
-            (pile self.old.stack.items) self.old.code.items
-            (pile self.new.stack.items) self.new.code.items) }
-    {
-        match symbol {
-            Symbol::Fixed(Fixed::Constants) => {
-                self.put(Item::MoreConstants)?;
-                self.put(Item::WantConstant)?;
-                Ok(true)
-            }
-            _ => Ok(false),
-        }
-    }
-
-    fn take_constant(&mut self, symbol: Symbol) -> Result<bool, Memory>
-        ensures { IfOk result (λ b. Takes b (produced Item.WantConstant symbol)
-            (pile self.old.stack.items) self.old.code.items
-            (pile self.new.stack.items) self.new.code.items) }
-    {
-        match symbol {
-            Symbol::Declared { .. } => {
-                self.put(Item::WantValue)?;
-                self.put(Item::MaybeSign)?;
-                self.put(Item::WantEquals)?;
-                Ok(true)
-            }
-            _ => Ok(false),
-        }
-    }
-
-    fn take_constants(&mut self, symbol: Symbol) -> Result<bool, Memory>
-        ensures { IfOk result (λ b. Takes b (produced Item.MoreConstants symbol)
-            (pile self.old.stack.items) self.old.code.items
-            (pile self.new.stack.items) self.new.code.items) }
-    {
-        match symbol {
-            Symbol::Fixed(Fixed::Comma | Fixed::Semicolon) => {
-                self.put(Item::MaybeConstant)?;
-                Ok(true)
-            }
-            _ => Ok(false),
-        }
-    }
-
-    fn take_further_constant(&mut self, symbol: Symbol) -> Result<bool, Memory>
-        ensures { IfOk result (λ b. Takes b (produced Item.MaybeConstant symbol)
-            (pile self.old.stack.items) self.old.code.items
-            (pile self.new.stack.items) self.new.code.items) }
-    {
-        match symbol {
-            Symbol::Declared { .. } => {
-                self.put(Item::MoreConstants)?;
-                self.put(Item::WantValue)?;
-                self.put(Item::MaybeSign)?;
-                self.put(Item::WantEquals)?;
-                Ok(true)
-            }
-            _ => Ok(false),
-        }
-    }
-
-    fn take_function(&mut self, symbol: Symbol) -> Result<bool, Memory>
-        ensures { IfOk result (λ b. Takes b (produced Item.MaybeFunctions symbol)
-            (pile self.old.stack.items) self.old.code.items
-            (pile self.new.stack.items) self.new.code.items) }
-    {
-        match symbol {
-            Symbol::Fixed(Fixed::Function) => {
-                self.put_body()?;
-                self.put(Item::Exactly(Fixed::Return))?;
-                self.put(Item::MoreParameters)?;
-                self.put(Item::WantParameter)?;
-                self.put(Item::Exactly(Fixed::Open))?;
-                self.put(Item::WantFunctionName)?;
-                Ok(true)
-            }
-            _ => Ok(false),
-        }
-    }
-
-    // A function from its body on, and the functions behind it.
-    fn put_body(&mut self) -> Result<(), Memory>
+    fn put_call(&mut self, op: Op, more: u8) -> Result<(), Memory>
         ensures stack { OnOk result (pile self.new.stack.items ≡
-            body_items ++ pile self.old.stack.items) }
+            (right_side (Production.Call op more)).0 ++ pile self.old.stack.items) }
+        ensures code { OnOk result (self.new.code ≡ self.old.code) }
+    {
+        self.put(Item::MaybePower)?;
+        self.put(Item::Then(op))?;
+        self.put_expression(Item::MoreArguments(more))?;
+        self.put(Item::Exactly(Fixed::Open))
+    }
+
+    fn put_function(&mut self) -> Result<(), Memory>
+        ensures stack { OnOk result (pile self.new.stack.items ≡
+            (right_side Production.Function).0 ++ pile self.old.stack.items) }
         ensures code { OnOk result (self.new.code ≡ self.old.code) }
     {
         self.put(Item::MaybeFunctions)?;
         self.put(Item::MaybeSemicolon)?;
         self.put(Item::Exactly(Fixed::End))?;
         self.put(Item::MaybeSemicolon)?;
-        self.put(Item::Then(Op::Define))?;
-        self.put_expression()
-    }
-
-    fn take_parameters(&mut self, symbol: Symbol) -> Result<bool, Memory>
-        ensures { IfOk result (λ b. Takes b (produced Item.MoreParameters symbol)
-            (pile self.old.stack.items) self.old.code.items
-            (pile self.new.stack.items) self.new.code.items) }
-    {
-        match symbol {
-            Symbol::Fixed(Fixed::Comma) => {
-                self.put(Item::MoreParameters)?;
-                self.put(Item::WantParameter)?;
-                Ok(true)
-            }
-            Symbol::Fixed(Fixed::Close) => Ok(true),
-            _ => Ok(false),
-        }
-    }
-
-    fn take_variable(&mut self, symbol: Symbol) -> Result<bool, Memory>
-        ensures { IfOk result (λ b. Takes b (produced Item.WantVariable symbol)
-            (pile self.old.stack.items) self.old.code.items
-            (pile self.new.stack.items) self.new.code.items) }
-    {
-        match symbol {
-            Symbol::Declared { .. } => {
-                self.put(Item::MaybeDomain)?;
-                Ok(true)
-            }
-            _ => Ok(false),
-        }
-    }
-
-    fn take_variables(&mut self, symbol: Symbol) -> Result<bool, Memory>
-        ensures { IfOk result (λ b. Takes b (produced Item.MoreVariables symbol)
-            (pile self.old.stack.items) self.old.code.items
-            (pile self.new.stack.items) self.new.code.items) }
-    {
-        match symbol {
-            Symbol::Fixed(Fixed::Comma | Fixed::Semicolon) => {
-                self.put(Item::MaybeVariable)?;
-                Ok(true)
-            }
-            _ => Ok(false),
-        }
-    }
-
-    fn take_further_variable(&mut self, symbol: Symbol) -> Result<bool, Memory>
-        ensures { IfOk result (λ b. Takes b (produced Item.MaybeVariable symbol)
-            (pile self.old.stack.items) self.old.code.items
-            (pile self.new.stack.items) self.new.code.items) }
-    {
-        match symbol {
-            Symbol::Declared { .. } => {
-                self.put(Item::MoreVariables)?;
-                self.put(Item::MaybeDomain)?;
-                Ok(true)
-            }
-            _ => Ok(false),
-        }
-    }
-
-    fn take_domain(&mut self, symbol: Symbol) -> Result<bool, Memory>
-        ensures { IfOk result (λ b. Takes b (produced Item.MaybeDomain symbol)
-            (pile self.old.stack.items) self.old.code.items
-            (pile self.new.stack.items) self.new.code.items) }
-    {
-        match symbol {
-            Symbol::Fixed(Fixed::In) => {
-                self.put_domain()?;
-                Ok(true)
-            }
-            _ => Ok(false),
-        }
+        self.put_expression(Item::Then(Op::Define))?;
+        self.put(Item::Exactly(Fixed::Return))?;
+        self.put(Item::MoreParameters)?;
+        self.put(Item::WantParameter)?;
+        self.put(Item::Exactly(Fixed::Open))?;
+        self.put(Item::WantFunctionName)
     }
 
     fn put_domain(&mut self) -> Result<(), Memory>
@@ -559,65 +259,19 @@ impl Machine {
     }
 }
 
-// Whether it is a bound without its sign.
-fn is_bound(symbol: Symbol) -> bool
-    ensures { produced Item.WantBound symbol ≡ (if result then Some ([], []) else None) }
-{
-    match symbol {
-        Symbol::Number { .. } | Symbol::Constant(_) | Symbol::Unknown => true,
-        Symbol::Fixed(Fixed::Oo) => true,
-        _ => false,
-    }
-}
-
 impl Item {
     // Whether the item meets the token: it must come, or it may and the token begins it.
     fn stays(self, symbol: Symbol) -> bool
         ensures ends { OnFalse result (MayEnd self × (produced self symbol ≡ None)) }
         ensures meets { OnTrue result (MayEnd self → produced self symbol ≢ None) }
     {
-        match self {
-            Item::Then(_) => false,
-            Item::MaybeConstants => matches!(symbol, Symbol::Fixed(Fixed::Constants)),
-            Item::MaybeFunctions => matches!(symbol, Symbol::Fixed(Fixed::Function)),
-            Item::MoreConstants | Item::MoreVariables => matches!(
-                symbol,
-                Symbol::Fixed(Fixed::Comma | Fixed::Semicolon)
-            ),
-            Item::MaybeSign | Item::MoreTerms => matches!(
-                symbol,
-                Symbol::Fixed(Fixed::Plus | Fixed::Minus)
-            ),
-            Item::MaybeSemicolon | Item::MoreConstraints => matches!(
-                symbol,
-                Symbol::Fixed(Fixed::Semicolon)
-            ),
-            Item::MoreFactors => matches!(symbol, Symbol::Fixed(Fixed::Star | Fixed::Slash)),
-            Item::MaybePower => matches!(symbol, Symbol::Fixed(Fixed::Caret)),
-            Item::MaybeDomain => matches!(symbol, Symbol::Fixed(Fixed::In)),
-            Item::MaybeConstant | Item::MaybeVariable => matches!(symbol, Symbol::Declared { .. }),
-            Item::MaybeConstraint => symbol.begins(),
-            _ => true,
-        }
+        !self.may_end() || self.production(symbol).is_some()
     }
 
-    // Whether the token is all of the item's text, for an item that writes nothing and has no more than one token.
-    fn is_alone(self, symbol: Symbol) -> bool
-        requires { IsShort self }
-        ensures { produced self symbol ≡ (if result then Some ([], []) else None) }
+    fn is_constraint(self) -> bool
+        ensures { result ≡ is_constraint self }
     {
-        match self {
-            Item::WantFunctionName | Item::WantParameter => matches!(
-                symbol,
-                Symbol::Declared { .. }
-            ),
-            Item::WantEquals => matches!(symbol, Symbol::Relation(pv_expr::Relation::Eq)),
-            Item::MaybeSign => matches!(symbol, Symbol::Fixed(Fixed::Plus | Fixed::Minus)),
-            Item::WantValue => matches!(symbol, Symbol::Number { .. }),
-            Item::WantBound => is_bound(symbol),
-            Item::MaybeSemicolon => matches!(symbol, Symbol::Fixed(Fixed::Semicolon)),
-            _ => false,
-        }
+        matches!(self, Item::MaybeConstraint)
     }
 
     /// Whether it is the exponent of a power.

@@ -24,7 +24,27 @@ const SET_IDENTITY: &str = "INSERT INTO head (id, identity) VALUES (1, ?1)";
 
 const ROWS: &str = "SELECT path, line FROM node ORDER BY path";
 
-const ADD_ROW: &str = "INSERT INTO node (path, line) VALUES (?1, ?2)";
+/// How many rows a statement adds at most. Each statement copies the pages that it writes, so one for each row would
+/// take twice as long.
+const AT_ONCE: usize = 16;
+
+const ADD_ROWS: &str = "INSERT INTO node (path, line)
+SELECT ?1, ?2 WHERE ?1 IS NOT NULL UNION ALL
+SELECT ?3, ?4 WHERE ?3 IS NOT NULL UNION ALL
+SELECT ?5, ?6 WHERE ?5 IS NOT NULL UNION ALL
+SELECT ?7, ?8 WHERE ?7 IS NOT NULL UNION ALL
+SELECT ?9, ?10 WHERE ?9 IS NOT NULL UNION ALL
+SELECT ?11, ?12 WHERE ?11 IS NOT NULL UNION ALL
+SELECT ?13, ?14 WHERE ?13 IS NOT NULL UNION ALL
+SELECT ?15, ?16 WHERE ?15 IS NOT NULL UNION ALL
+SELECT ?17, ?18 WHERE ?17 IS NOT NULL UNION ALL
+SELECT ?19, ?20 WHERE ?19 IS NOT NULL UNION ALL
+SELECT ?21, ?22 WHERE ?21 IS NOT NULL UNION ALL
+SELECT ?23, ?24 WHERE ?23 IS NOT NULL UNION ALL
+SELECT ?25, ?26 WHERE ?25 IS NOT NULL UNION ALL
+SELECT ?27, ?28 WHERE ?27 IS NOT NULL UNION ALL
+SELECT ?29, ?30 WHERE ?29 IS NOT NULL UNION ALL
+SELECT ?31, ?32 WHERE ?31 IS NOT NULL";
 
 /// How a database stands to an identity.
 #[derive(Clone, Copy)]
@@ -183,24 +203,51 @@ pub(crate) fn write_rows<S: Alter>(
         return Err(Refused::Failed);
     }
     let mut change = connection.transaction();
-    let add = change.prepare(ADD_ROW)?;
-    let mut digits = Vec::new(alloc);
-    for i in 0..rows.len() {
-        write_row(&mut change, &add, &mut digits, rows.get(i))?;
+    let add = change.prepare(ADD_ROWS)?;
+    for first in (0..rows.len()).step_by(AT_ONCE) {
+        write_given(&mut change, &add, &given_from(alloc, rows, first)?)?;
     }
     change.commit()?;
     Ok(())
 }
 
-fn write_row<S: Alter>(
+// A row as a statement takes it.
+#[derive(Drop)]
+struct Given<'a> {
+    digits: Vec<u8>,
+    line: &'a [u8],
+}
+
+// The rows from a number on, as many as a statement adds.
+fn given_from<'a>(alloc: Global, rows: &'a Rows, first: u64) -> Result<Vec<Given<'a>>, Refused> {
+    let end = rows.len().min(first.saturating_add(AT_ONCE as u64));
+    let mut given = Vec::new(alloc);
+    for i in first..end {
+        let row = rows.get(i);
+        let mut digits = Vec::new(alloc);
+        push_digits(row.path, &mut digits)?;
+        let put = given.push(Given {
+            digits,
+            line: row.line.bytes(),
+        });
+        if put.is_err() {
+            return Err(Refused::Memory);
+        }
+    }
+    Ok(given)
+}
+
+// Adds rows by one statement. The places behind the last row stay NULL, and add none.
+fn write_given<S: Alter>(
     change: &mut Transaction<'_, S>,
     add: &Statement,
-    digits: &mut Vec<u8>,
-    row: &Row,
+    given: &[Given<'_>],
 ) -> Result<(), Refused> {
-    digits.clear();
-    push_digits(row.path, digits)?;
-    let values = [ValueRef::Text(digits), ValueRef::Text(row.line.bytes())];
+    let mut values = [ValueRef::Null; 2 * AT_ONCE];
+    for i in 0..given.len().min(AT_ONCE) {
+        values[2 * i] = ValueRef::Text(&given[i].digits);
+        values[2 * i + 1] = ValueRef::Text(given[i].line);
+    }
     change.execute_prepared(add, &values)?;
     Ok(())
 }

@@ -11,6 +11,8 @@ mod database;
 mod faults;
 mod file_keeper;
 mod kept_path;
+#[cfg(test)]
+mod tests;
 
 pub use connection_keeper::ConnectionKeeper;
 pub use file_keeper::FileKeeper;

@@ -1,6 +1,8 @@
 //! Rounds of a campaign: each settles what a budget allows of the kept paving, and is saved before the next begins.
 #![tactic(auto)]
 
+mod campaign;
 mod rounds;
 
+pub use campaign::{HoldRefused, hold};
 pub use rounds::{go_on, learn_rounds};

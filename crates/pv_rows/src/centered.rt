@@ -3,10 +3,15 @@
 use crate::files::{Named, Step, follow, shelf};
 use std::test::Fail;
 
+pub(crate) const LESS: &str = "Variables x in [0,1]; Constraints x - x <= 0; end\n";
+
+pub(crate) const SPLIT: &str =
+    "paving 2\nidentity df1247b5236ce368755210df1ac0081883e161d27a2b9072d6f4c9ac7c963f0a\nC 0 1:-1 = =\nO\nO\n";
+
 const FILES: [Named; 4] = [
     Named {
         name: "less",
-        text: "Variables x in [0,1]; Constraints x - x <= 0; end\n",
+        text: LESS,
     },
     Named {
         name: "equal",
@@ -18,11 +23,11 @@ const FILES: [Named; 4] = [
     },
     Named {
         name: "open",
-        text: "paving 2\nidentity df1247b5236ce368755210df1ac0081883e161d27a2b9072d6f4c9ac7c963f0a\nC 0 1:-1 = =\nO\nO\n",
+        text: SPLIT,
     },
 ];
 
-const WHOLE: &str =
+pub(crate) const WHOLE: &str =
     "paving 2\nidentity df1247b5236ce368755210df1ac0081883e161d27a2b9072d6f4c9ac7c963f0a\nI = =\n";
 
 const SUMMARY: &str = "settled 1 cut 0 removed 0 inner 1 small 0 open 0\n";

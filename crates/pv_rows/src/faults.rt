@@ -1,132 +1,18 @@
-//! Commands whose outside fails: each call of the folder and of the standard output in turn, and the first of
-//! the standard error.
+//! Commands whose outside fails: each call of the folder, of the standard output and of the standard error in turn.
 use crate::calling::paver;
-use crate::files::{FILES, SUMMARY, WHOLE, shelf};
-use crate::pictures::HALF;
-use crate::samples::TWO;
+use crate::fault_cases::{CASES, Case};
+use crate::files::{FILES, shelf};
 use crate::tests::words_of;
 use pv_cli::Status;
-use pv_io::{FetchRefused, Folder, MemFolder, MemSink};
+use pv_io::{FetchRefused, Folder, MemFolder, MemSink, Sink};
 use std::alloc::Global;
 use std::process::Abort;
 use std::sync::Wait;
 use std::test::Fail;
 use std::thread::Threads;
 
-// A call, what comes of it where nothing fails, and the line for each call of the folder that fails.
-struct Case {
-    words: &'static str,
-    status: u8,
-    out: &'static str,
-    lines: &'static [&'static str],
-    // the file that is written, and what it holds then
-    file: &'static str,
-    holds: &'static str,
-}
-
-const NODES: &str =
-    "settled 5 cut 2 removed 0 inner 2 small 1 open 0\nC 0 1:-1 0:0 1:0\nC 0 1:-2 0:0 1:-1\nS 0:0 1:-2\nI 1:-2 1:-1\nI 1:-1 1:0\n";
-
-const CASES: [Case; 11] = [
-    Case {
-        words: "check s",
-        status: 0,
-        out: "vars 1\nx 0:0 1:0\nctrs 1\n>= (/ 1/1 v0) 0/1\n",
-        lines: &["read fault: s\n"],
-        file: "",
-        holds: "",
-    },
-    Case {
-        words: "run s --eps 0.25",
-        status: 0,
-        out: NODES,
-        lines: &["read fault: s\n"],
-        file: "",
-        holds: "",
-    },
-    Case {
-        words: "run s --eps 0.25 --out m",
-        status: 0,
-        out: SUMMARY,
-        lines: &["read fault: s\n", "write fault: m\n"],
-        file: "m",
-        holds: WHOLE,
-    },
-    Case {
-        words: "resume s part --eps 0.25 --boxes 4 --out m",
-        status: 0,
-        out: SUMMARY,
-        lines: &["read fault: s\n", "read fault: part\n", "write fault: m\n"],
-        file: "m",
-        holds: WHOLE,
-    },
-    Case {
-        words: "merge s A B --eps 0.25 --out m",
-        status: 0,
-        out: SUMMARY,
-        lines: &[
-            "read fault: s\n",
-            "read fault: A\n",
-            "read fault: B\n",
-            "write fault: m\n",
-        ],
-        file: "m",
-        holds: WHOLE,
-    },
-    Case {
-        words: "merge s A B A --eps 0.25",
-        status: 0,
-        out: NODES,
-        lines: &[
-            "read fault: s\n",
-            "read fault: A\n",
-            "read fault: B\n",
-            "read fault: A\n",
-        ],
-        file: "",
-        holds: "",
-    },
-    Case {
-        words: "audit s A --eps 0.25",
-        status: 0,
-        out: "honest\n",
-        lines: &["read fault: s\n", "read fault: A\n"],
-        file: "",
-        holds: "",
-    },
-    Case {
-        words: "audit s F --eps 0.25",
-        status: 9,
-        out: "",
-        lines: &["read fault: s\n", "read fault: F\n"],
-        file: "",
-        holds: "",
-    },
-    Case {
-        words: "svg square left --x x --y y",
-        status: 0,
-        out: HALF,
-        lines: &["read fault: square\n", "read fault: left\n"],
-        file: "",
-        holds: "",
-    },
-    Case {
-        words: "least s --eps 0.25 --of x",
-        status: 0,
-        out: "lower 0:0\nupper 1:-2\npoint 1:-2\n",
-        lines: &["read fault: s\n"],
-        file: "",
-        holds: "",
-    },
-    Case {
-        words: "sample --seed 1 --count 2",
-        status: 0,
-        out: TWO,
-        lines: &[],
-        file: "",
-        holds: "",
-    },
-];
+// No command writes so often.
+const MOST_WRITES: u64 = 100;
 
 // What a call came to.
 #[derive(Drop)]
@@ -198,6 +84,14 @@ fn is_written<R: Abort + Threads + Wait + Sync>(
     Ok(())
 }
 
+fn status_of(line: &str) -> u8 {
+    if line.starts_with("read fault: ") {
+        5
+    } else {
+        6
+    }
+}
+
 // The call of the folder with this number fails.
 fn folder_fails<R: Abort + Threads + Wait + Sync>(
     rt: &R,
@@ -208,43 +102,15 @@ fn folder_fails<R: Abort + Threads + Wait + Sync>(
 ) -> Result<(), Fail> {
     let words = case.words;
     let mut answer = call(rt, alloc, words, &[number], &[], &[])?;
-    let is_read = line.starts_with("read fault: ");
-    let status = if is_read { 5 } else { 6 };
+    let status = status_of(line);
     assert_eq!(rt; answer.status.code(), status, "{words}: {number}");
     assert_eq!(rt; answer.out.bytes(), "".as_bytes(), "{words}: {number}");
     assert_eq!(rt; answer.err.bytes(), line.as_bytes(), "{words}: {number}");
     are_kept(rt, alloc, words, &mut answer.folder)?;
-    if is_read {
+    if status == 5 {
         is_written(rt, alloc, case, &mut answer.folder, false)?;
     }
     Ok(())
-}
-
-// The call of the standard output with this number fails. Answers whether there is such a call.
-fn out_fails<R: Abort + Threads + Wait + Sync>(
-    rt: &R,
-    alloc: Global,
-    case: &Case,
-    number: u64,
-) -> Result<bool, Fail> {
-    let words = case.words;
-    let mut answer = call(rt, alloc, words, &[], &[number], &[])?;
-    are_kept(rt, alloc, words, &mut answer.folder)?;
-    is_written(rt, alloc, case, &mut answer.folder, true)?;
-    if answer.status.code() == case.status {
-        assert_eq!(rt;
-            answer.out.bytes(),
-            case.out.as_bytes(),
-            "{words}: {number}"
-        );
-        return Ok(false);
-    }
-    assert_eq!(rt; answer.status.code(), 6, "{words}: {number}");
-    let line = b"write fault: standard output\n";
-    assert_eq!(rt; answer.err.bytes(), line.as_slice(), "{words}: {number}");
-    let is_front = case.out.as_bytes().starts_with(answer.out.bytes());
-    assert!(rt; is_front, "{words}: {number}");
-    Ok(true)
 }
 
 #[test]
@@ -268,67 +134,166 @@ fn nothing_fails(rt: HostRuntime) -> Result<(), Fail> {
         let mut answer = call(&rt, alloc, words, &[number], &[], &[])?;
         assert_eq!(rt; answer.status.code(), case.status, "{words}");
         assert_eq!(rt; answer.out.bytes(), case.out.as_bytes(), "{words}");
+        assert_eq!(rt; answer.err.bytes(), case.err.as_bytes(), "{words}");
         let mut none = Vec::new(alloc);
         let found = answer.folder.fetch("s", 100_000, &mut none);
         assert!(rt; matches!(found, Err(FetchRefused::Failed)), "{words}");
-        is_written(&rt, alloc, case, &mut answer.folder, true)?;
+        are_kept(&rt, alloc, words, &mut answer.folder)?;
+        is_written(&rt, alloc, case, &mut answer.folder, case.status < 2)?;
     }
     Ok(())
 }
 
-// A command that prints something calls the output at least once, and none calls it 8 times.
+// The call of the standard output with this number fails. Answers whether there is such a call.
+fn out_fails<R: Abort + Threads + Wait + Sync>(
+    rt: &R,
+    alloc: Global,
+    case: &Case,
+    number: u64,
+) -> Result<bool, Fail> {
+    let words = case.words;
+    let mut answer = call(rt, alloc, words, &[], &[number], &[])?;
+    are_kept(rt, alloc, words, &mut answer.folder)?;
+    is_written(rt, alloc, case, &mut answer.folder, case.status < 2)?;
+    let said = answer.out.bytes();
+    assert!(rt; case.out.as_bytes().starts_with(said), "{words}: {number}");
+    let is_whole = said == case.out.as_bytes();
+    if answer.out.write(b"").is_err() {
+        assert!(rt; is_whole, "{words}: {number}");
+        assert_eq!(rt; answer.status.code(), case.status, "{words}: {number}");
+        assert_eq!(rt; answer.err.bytes(), case.err.as_bytes(), "{words}");
+        return Ok(false);
+    }
+    assert_eq!(rt; answer.status.code(), 6, "{words}: {number}");
+    let line = b"write fault: standard output\n";
+    assert_eq!(rt; answer.err.bytes(), line.as_slice(), "{words}: {number}");
+    Ok(true)
+}
+
+// How many calls of the standard output there are, each of which fails in turn.
+fn count_of_out<R: Abort + Threads + Wait + Sync>(
+    rt: &R,
+    alloc: Global,
+    case: &Case,
+) -> Result<u64, Fail> {
+    for number in 0..MOST_WRITES {
+        if !out_fails(rt, alloc, case, number)? {
+            return Ok(number);
+        }
+    }
+    Ok(MOST_WRITES)
+}
+
+// A command writes to the output exactly where it has something to print.
 #[test]
 fn each_call_of_the_output_fails(rt: HostRuntime) -> Result<(), Fail> {
     let alloc = rt.alloc();
     for case in &CASES {
         let words = case.words;
-        let is_called = out_fails(&rt, alloc, case, 0)?;
-        assert_eq!(rt; is_called, !case.out.is_empty(), "{words}");
-        for number in 1..7 {
-            out_fails(&rt, alloc, case, number)?;
-        }
-        assert!(rt; !out_fails(&rt, alloc, case, 7)?, "{words}");
+        let count = count_of_out(&rt, alloc, case)?;
+        assert!(rt; count < MOST_WRITES, "{words}");
+        assert_eq!(rt; count == 0, case.out.is_empty(), "{words}");
     }
     Ok(())
 }
 
-// The first call of the standard error fails: the status stays, and a front of the line is there.
-fn no_line<R: Abort + Threads + Wait + Sync>(
+// What fails beside the standard error, and what comes of a call then.
+#[derive(Clone, Copy)]
+struct Told {
+    folder: &'static [u64],
+    out: &'static [u64],
+    status: u8,
+    line: &'static str,
+}
+
+// The call of the standard error with this number fails. Answers whether there is such a call.
+fn err_fails<R: Abort + Threads + Wait + Sync>(
     rt: &R,
     alloc: Global,
-    words: &str,
-    status: u8,
-    line: &str,
+    case: &Case,
+    told: Told,
+    number: u64,
+) -> Result<bool, Fail> {
+    let words = case.words;
+    let mut answer = call(rt, alloc, words, told.folder, told.out, &[number])?;
+    assert_eq!(rt; answer.status.code(), told.status, "{words}: {number}");
+    are_kept(rt, alloc, words, &mut answer.folder)?;
+    let said = answer.err.bytes();
+    assert!(rt; told.line.as_bytes().starts_with(said), "{words}: {number}");
+    let is_whole = said == told.line.as_bytes();
+    if answer.err.write(b"").is_err() {
+        assert!(rt; is_whole, "{words}: {number}");
+        return Ok(false);
+    }
+    assert!(rt; !is_whole, "{words}: {number}");
+    Ok(true)
+}
+
+// Each call of the standard error fails in turn: there are some exactly where there is a line, and the status stays.
+fn each_fails<R: Abort + Threads + Wait + Sync>(
+    rt: &R,
+    alloc: Global,
+    case: &Case,
+    told: Told,
 ) -> Result<(), Fail> {
-    let answer = call(rt, alloc, words, &[], &[], &[0])?;
-    assert_eq!(rt; answer.status.code(), status, "{words}");
-    assert_eq!(rt; answer.out.bytes(), "".as_bytes(), "{words}");
-    assert!(rt; line.as_bytes().starts_with(answer.err.bytes()), "{words}");
+    let words = case.words;
+    for number in 0..MOST_WRITES {
+        if !err_fails(rt, alloc, case, told, number)? {
+            assert_eq!(rt; number == 0, told.line.is_empty(), "{words}");
+            return Ok(());
+        }
+    }
+    assert!(rt; false, "{words}");
     Ok(())
 }
 
 #[test]
-fn the_first_line_told_fails(rt: HostRuntime) -> Result<(), Fail> {
+fn each_call_of_the_error_stream_fails(rt: HostRuntime) -> Result<(), Fail> {
     let alloc = rt.alloc();
-    no_line(
-        &rt,
-        alloc,
-        "run plus",
-        3,
-        "system: line 1 column 39 byte 38: Unexpected\n",
-    )?;
-    no_line(
-        &rt,
-        alloc,
-        "resume s b --eps 0.25",
-        4,
-        "paving b: bad line 5\n",
-    )?;
-    no_line(
-        &rt,
-        alloc,
-        "resume s whole --eps 0.5",
-        4,
-        "paving whole: wrong identity\n",
-    )
+    for case in &CASES {
+        let told = Told {
+            folder: &[],
+            out: &[],
+            status: case.status,
+            line: case.err,
+        };
+        each_fails(&rt, alloc, case, told)?;
+    }
+    Ok(())
+}
+
+const NUMBERS: [&[u64]; 4] = [&[0], &[1], &[2], &[3]];
+
+#[test]
+fn the_folder_and_the_error_stream_fail(rt: HostRuntime) -> Result<(), Fail> {
+    let alloc = rt.alloc();
+    for case in &CASES {
+        for (line, number) in case.lines.iter().zip(&NUMBERS) {
+            let told = Told {
+                folder: *number,
+                out: &[],
+                status: status_of(*line),
+                line: *line,
+            };
+            each_fails(&rt, alloc, case, told)?;
+        }
+    }
+    Ok(())
+}
+
+#[test]
+fn both_streams_fail(rt: HostRuntime) -> Result<(), Fail> {
+    let alloc = rt.alloc();
+    for case in &CASES {
+        if !case.out.is_empty() {
+            let told = Told {
+                folder: &[],
+                out: &[0],
+                status: 6,
+                line: "write fault: standard output\n",
+            };
+            each_fails(&rt, alloc, case, told)?;
+        }
+    }
+    Ok(())
 }

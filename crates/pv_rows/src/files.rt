@@ -1,5 +1,6 @@
 //! Worked examples of paving files: runs that are stored, gone on with, joined and audited.
 use crate::calling::paver;
+use crate::centered::{LESS, SPLIT, WHOLE as SOLID};
 use crate::tests::words_of;
 use pv_io::{Folder, MemFolder, MemSink};
 use std::alloc::Global;
@@ -81,7 +82,7 @@ pub(crate) const SQUARE: &str = "Variables x in [0,2], y in [0,2]; Constraints x
 const LEFT: &str =
     "paving 2\nidentity b0b09d61d9bebc71e63ae8395df214f28293e9685df30a870190c3bf95a2a52b\nI = 1:0 = =\n";
 
-pub(crate) const FILES: [Named; 14] = [
+pub(crate) const FILES: [Named; 17] = [
     Named {
         name: "s",
         text: SYSTEM,
@@ -137,6 +138,18 @@ pub(crate) const FILES: [Named; 14] = [
     Named {
         name: "left",
         text: LEFT,
+    },
+    Named {
+        name: "less",
+        text: LESS,
+    },
+    Named {
+        name: "solid",
+        text: SOLID,
+    },
+    Named {
+        name: "open",
+        text: SPLIT,
     },
 ];
 

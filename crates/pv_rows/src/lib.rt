@@ -4,13 +4,21 @@
 #[cfg(test)]
 mod calling;
 #[cfg(test)]
+mod campaigns;
+#[cfg(test)]
 mod centered;
 #[cfg(test)]
 mod damage;
 #[cfg(test)]
+mod fault_cases;
+#[cfg(test)]
 mod faults;
 #[cfg(test)]
 mod files;
+#[cfg(test)]
+mod giving;
+#[cfg(test)]
+mod keeper_faults;
 #[cfg(test)]
 mod least_values;
 #[cfg(test)]

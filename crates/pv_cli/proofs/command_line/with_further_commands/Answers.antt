@@ -8,4 +8,5 @@ pub returns : goal.returns
 returns c =
     let one = c.in_ok-command.ensures ∙ ap (with_command (app_of c.args.command)) c.in_ok-run.ensures.app in
     let two = c.in_ok-command-2.ensures ∙ ap₂ with_command one c.in_ok-audit.ensures.app in
-    IfOk-weaker c.with_command-3.result _ _ (λ r e. e ∙ ap₂ with_command two c.in_ok-least.ensures.app) c.with_command-3.ensures
+    let three = c.in_ok-command-3.ensures ∙ ap₂ with_command two c.in_ok-least.ensures.app in
+    IfOk-weaker c.with_command-4.result _ _ (λ r e. e ∙ ap₂ with_command three c.in_ok-campaign.ensures.app) c.with_command-4.ensures

@@ -1,6 +1,6 @@
 use Rattle.pv_cli.specs.Found.{rows_in}
 use Rattle.pv_cli.specs.declared.request.Form.TheVariants.{Natural, Centered}
-use Rattle.pv_cli.specs.Requests.{runs, resumes, merges, audits, draws, samples, seeks}
+use Rattle.pv_cli.specs.Requests.{runs, resumes, merges, audits, draws, samples, seeks, keeps}
 use Rattle.pv_cli.proofs.Asked.{read_as}
 use Rattle.pv_cli.proofs.reading.command_in.Goals as goal
 
@@ -30,3 +30,6 @@ returns-in-text-2 c = read_as c.args.command.now (rows_in c.args.found.now) (aud
 
 pub returns-in-least : goal.returns-in-least
 returns-in-least c = read_as c.args.command.now (rows_in c.args.found.now) seeks c.least_in.result c.in-least.is c.least_in.ensures
+
+pub returns-in-campaign : goal.returns-in-campaign
+returns-in-campaign c = read_as c.args.command.now (rows_in c.args.found.now) keeps c.campaign_in.result c.in-campaign.is c.campaign_in.ensures

@@ -1,0 +1,74 @@
+-- What a campaign comes to from its opening on, and why it is refused.
+use Rattle.std.specs.Prelude.{◌≡◌, ◌⊎◌, ◌+◌, ◌*◌, ◌<◌, ◌≤◌, ℕ, List}
+use Rattle.pv_interval.specs.Bounds.{Bounds}
+use Rattle.pv_tree.specs.Trees.{Tree}
+use Rattle.pv_tree.specs.Stages.{Rule}
+use Rattle.pv_board.specs.Rules.{settled_in}
+use Rattle.pv_keep.specs.Keeping.{Kept, HasOther}
+use Rattle.pv_keep.specs.Campaigns.{IsOpened, IsLeft, HasTooMany, HasBadRow}
+use Rattle.pv_keep.specs.declared.refusal.CampaignRefused.{CampaignRefused}
+use Rattle.pv_keep.specs.declared.refusal.CampaignRefused.TheVariants as opening
+use Rattle.pv_keep.specs.declared.refusal.SaveRefused.{SaveRefused}
+use Rattle.pv_keep.specs.declared.refusal.SaveRefused.TheVariants as saving
+use Rattle.pv_rounds.specs.declared.campaign.HoldRefused.{HoldRefused}
+use Rattle.pv_rounds.specs.declared.campaign.HoldRefused.TheVariants.{Memory, Failed, OtherIdentity, TooMany, BadRow, TreeLimit}
+use Rattle.pv_rounds.specs.Going.{HasGoneOn, HasStopped}
+
+-- A campaign was opened, a budget was settled of the opening, and the rows of what came of it are kept.
+pub record IsHeld (rule : Rule) (depth : ℕ) (b : List Bounds) (identity : List ℕ) (budget : ℕ) (before after : Kept) (t : Tree) : Type 0 where
+  pub opening : Tree
+  pub middle : Kept
+  pub opened : IsOpened before middle identity b opening
+  pub few : settled_in opening + budget ≤ 100000
+  pub gone : HasGoneOn rule depth b opening budget middle after t
+
+-- A campaign was opened that all its rounds keep within the limit, and so many of them at most were saved.
+pub record IsBroken (rule : Rule) (depth : ℕ) (b : List Bounds) (identity : List ℕ) (boxes count : ℕ) (before after : Kept) : Type 0 where
+  pub opening : Tree
+  pub middle : Kept
+  pub opened : IsOpened before middle identity b opening
+  pub few : settled_in opening + count * boxes ≤ 100000
+  pub stopped : HasStopped rule depth b opening boxes count middle after
+
+-- An opening has so many settled nodes, and with the budget too many.
+pub record IsOver (b : List Bounds) (identity : List ℕ) (budget : ℕ) (before after : Kept) (n : ℕ) : Type 0 where
+  pub opening : Tree
+  pub opened : IsOpened before after identity b opening
+  pub settled : n ≡ settled_in opening
+  pub many : 100000 < n + budget
+
+-- why a campaign is not opened, and what that leaves
+abbrev pub RefusesOpening : List Bounds → List ℕ → ℕ → Kept → Kept → HoldRefused → Type 0
+RefusesOpening b identity budget before after Memory = IsLeft before after identity
+RefusesOpening b identity budget before after Failed = IsLeft before after identity
+RefusesOpening b identity budget before after (OtherIdentity found) = HasOther before identity found × IsLeft before after identity
+RefusesOpening b identity budget before after TooMany = HasTooMany before identity × IsLeft before after identity
+RefusesOpening b identity budget before after (BadRow n) = HasBadRow before identity b n × IsLeft before after identity
+RefusesOpening b identity budget before after (TreeLimit n) = IsOver b identity budget before after n
+
+-- the opening failed and left all rows, or a round behind it did
+abbrev pub IsInterrupted : Rule → ℕ → List Bounds → List ℕ → ℕ → ℕ → Kept → Kept → Type 0
+IsInterrupted rule depth b identity boxes count before after =
+    IsLeft before after identity ⊎ IsBroken rule depth b identity boxes count before after
+
+-- why a campaign doesn't come to the end of its rounds, and what that leaves
+abbrev pub RefusesHold : Rule → ℕ → List Bounds → List ℕ → ℕ → ℕ → Kept → Kept → HoldRefused → Type 0
+RefusesHold rule depth b identity boxes count before after Memory = IsInterrupted rule depth b identity boxes count before after
+RefusesHold rule depth b identity boxes count before after Failed = IsInterrupted rule depth b identity boxes count before after
+RefusesHold rule depth b identity boxes count before after (OtherIdentity found) = HasOther before identity found × IsLeft before after identity
+RefusesHold rule depth b identity boxes count before after TooMany = HasTooMany before identity × IsLeft before after identity
+RefusesHold rule depth b identity boxes count before after (BadRow n) = HasBadRow before identity b n × IsLeft before after identity
+RefusesHold rule depth b identity boxes count before after (TreeLimit n) = IsOver b identity (count * boxes) before after n
+
+-- ---- What becomes of the refusals of an opening and of a round
+
+abbrev pub after_opening : CampaignRefused → HoldRefused
+after_opening opening.Memory = Memory
+after_opening opening.Failed = Failed
+after_opening (opening.OtherIdentity kept) = OtherIdentity kept
+after_opening opening.TooMany = TooMany
+after_opening (opening.BadRow n) = BadRow n
+
+abbrev pub after_round : SaveRefused → HoldRefused
+after_round saving.Memory = Memory
+after_round saving.Failed = Failed

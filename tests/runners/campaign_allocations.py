@@ -1,0 +1,85 @@
+#!/usr/bin/env python3
+"""Runs campaigns of the real binary with the n-th allocation refused, for every n in turn, and with all from the n-th on.
+
+    python3 tests/runners/campaign_allocations.py ./paver [WORD]
+
+The answer has to be status 7 with its line, or the very answer of a call that is refused nothing. Stock sqlite3 has to
+find the database sound, with the rows of whole rounds, and of all of them where the answer is the right one; no other
+file may change. Needs a C compiler, and says so where there is none. The last line is 'N passed, M failed'.
+"""
+import sys
+from pathlib import Path
+
+sys.path.insert(0, str(Path(__file__).resolve().parents[1]))
+from allocations import QUARTER, Tried, tried_all  # noqa: E402
+from campaigns import ROWS, is_stage, make, stock, identity_of  # noqa: E402
+
+ENDINGS = ["", "-wal", "-shm", "-journal"]
+
+
+def campaign(status, rounds, boxes, workers, name="new"):
+    words = ["campaign", "r", *QUARTER, "--keep", name, "--rounds", str(rounds), "--boxes", str(boxes)]
+    return status, [*words, "--workers", str(workers)], name
+
+
+COMMANDS = {
+    "a round by one": campaign(1, 1, 1, 1),
+    "rounds by one": campaign(0, 5, 1, 1),
+    "rounds by four": campaign(0, 3, 2, 4),
+    "one round by four": campaign(0, 1, 100, 4),
+    "a campaign gone on with": campaign(0, 4, 1, 1, "begun"),
+    "a campaign of others": campaign(4, 1, 1, 1, "others"),
+    "too large": campaign(8, 100, 1001, 1),
+}
+
+
+class TriedCampaign(Tried):
+    def prepare(self):
+        super().prepare()
+        self.begun = {"begun": (ROWS[:1], identity_of()), "others": (ROWS[:1], bytes(32))}
+        for name in self.begun:
+            self.remove(name)
+
+    def remove(self, stored):
+        """The database as the call finds it."""
+        files = self.folder / "files"
+        for ending in ENDINGS:
+            (files / f"{stored}{ending}").unlink(missing_ok=True)
+        if stored in self.begun:
+            make(files / stored, *self.begun[stored])
+
+    def others(self, files, stored):
+        return {name: text for name, text in files.items() if name not in [stored + ending for ending in ENDINGS]}
+
+    def judge(self, words, how, n, got, wanted, before, stored, new):
+        status, out, err = got
+        whole = wanted[1].startswith(out) if status == 7 else got == wanted
+        line = err in (b"want of memory\n", b"") if status == 7 else True
+        kept = self.others(self.files(), stored) == self.others(before, stored)
+        sound, rows = self.rows(stored)
+        boxes = int(words[words.index("--boxes") + 1])
+        held = is_stage(rows, set(ROWS), 1 if stored in self.begun else boxes) and (status == 7 or rows == self.wanted_rows)
+        if stored in self.begun:
+            held = held and set(self.begun[stored][0]) <= set(rows)
+        if not (whole and line and kept and sound and held):
+            self.faults.append(f"{' '.join(words)}, {how} {n}: status {status}, {out[:80]!r}, {err[:80]!r}, "
+                               f"others kept {kept}, sound {sound}, rows {rows}")
+
+    def rows(self, stored):
+        if not (self.folder / "files" / stored).exists():
+            return True, []
+        sound, _, rows = stock(self.folder / "files", stored)
+        return sound, rows
+
+    def try_command(self, status, words, stored):
+        self.remove(stored)
+        self.call(words)
+        self.wanted_rows = self.rows(stored)[1]
+        if status == 0 and self.wanted_rows != ROWS:
+            self.faults.append(f"{' '.join(words)}: {self.wanted_rows} where nothing is refused")
+        self.remove(stored)
+        super().try_command(status, words, stored)
+
+
+if __name__ == "__main__":
+    sys.exit(tried_all(TriedCampaign, COMMANDS))

@@ -1,0 +1,363 @@
+#!/usr/bin/env python3
+"""Runs `campaign` of the real binary over real database files: campaigns that are killed and gone on with, databases that
+stock sqlite3 reads and writes, and files that are no campaign's, locked, cut short, or on a full disk.
+
+    python3 tests/runners/campaigns.py ./paver [WORD [SEED]]
+
+runs the checks whose names contain WORD. The last line is 'N passed, M failed'.
+"""
+import os
+import random
+import resource
+import shutil
+import sqlite3
+import subprocess
+import sys
+import tempfile
+import time
+from fractions import Fraction
+from pathlib import Path
+
+sys.path.insert(0, str(Path(__file__).resolve().parents[1]))
+from data.cases import RECIPROCAL, USAGE, system  # noqa: E402
+from paving_files import QUARTER, WHOLE_SUMMARY, call  # noqa: E402
+from reference import files  # noqa: E402
+from reference.paver import halves, node_line  # noqa: E402
+
+SECONDS = 120
+KILLS = 50
+NOBODY = 65534
+SHORT_LOG = 55
+ROWS = [("", "C 0 1:-1 0:0 1:0"), ("0", "C 0 1:-2 0:0 1:-1"), ("00", "S 0:0 1:-2"), ("01", "I 1:-2 1:-1"),
+        ("1", "I 1:-1 1:0")]
+ONE_SUMMARY = b"settled 1 cut 1 removed 0 inner 0 small 0 open 2\n"
+DISC = system("x in [-4,4], y in [-4,4]", "sqr(x) + sqr(y) <= 7; x*y >= -1")
+DISC_EPS = ["--eps", "0.015625"]
+TABLES = """CREATE TABLE head (id INTEGER PRIMARY KEY, identity BLOB NOT NULL) STRICT;
+CREATE TABLE node (path TEXT PRIMARY KEY NOT NULL, line TEXT NOT NULL) STRICT;"""
+FAULT = b"keeper fault: k\n"
+
+
+def identity_of(text=RECIPROCAL, **settings):
+    return bytes.fromhex(call(text, **settings).identity)
+
+
+def rows_of(tree):
+    """The path and the line of each settled node, in preorder."""
+    found, waiting = [], [(tree, "")]
+    while waiting:
+        node, path = waiting.pop()
+        if node[0] != "O":
+            found.append((path, node_line(files.outcome(node))))
+        if node[0] == "C":
+            waiting += [(node[5], path + "1"), (node[4], path + "0")]
+    return found
+
+
+def make(path, rows, identity, pragmas="", tables=TABLES):
+    """A database that stock sqlite3 writes."""
+    connection = sqlite3.connect(path, isolation_level=None)
+    connection.executescript(pragmas + tables)
+    connection.execute("INSERT INTO head VALUES (1, ?)", [identity])
+    connection.execute("BEGIN")
+    connection.executemany("INSERT INTO node VALUES (?, ?)", rows)
+    connection.execute("COMMIT")
+    connection.close()
+
+
+def stock(folder, name):
+    """What stock sqlite3 finds in a copy of a database and its log: its own check, the identity and the rows in order."""
+    with tempfile.TemporaryDirectory() as aside:
+        for file in (name, name + "-wal"):
+            if (folder / file).exists():
+                shutil.copyfile(folder / file, Path(aside) / ("copy" + file[len(name):]))
+        connection = sqlite3.connect(Path(aside) / "copy")
+        try:
+            sound = connection.execute("PRAGMA integrity_check").fetchall() == [("ok",)]
+            identity = connection.execute("SELECT identity FROM head WHERE id = 1").fetchone()
+            rows = connection.execute("SELECT path, line FROM node ORDER BY path").fetchall()
+        except sqlite3.OperationalError:
+            return sound, None, []
+        finally:
+            connection.close()
+    return sound, identity and identity[0], rows
+
+
+class Campaigns:
+    """A folder in which campaigns run, and what was not as wanted."""
+
+    def __init__(self, paver, name, source):
+        self.paver, self.path, self.source, self.faults = paver, Path(name), source, []
+
+    def words(self, rounds, boxes, options, name, text):
+        (self.path / "s").write_bytes(text)
+        return [self.paver, "campaign", "s", f"--keep={name}", *options, "--rounds", str(rounds), "--boxes", str(boxes)]
+
+    def run(self, status, out=b"", err=b"", rounds=1, boxes=1, options=QUARTER, name="k", text=RECIPROCAL, **how):
+        words = self.words(rounds, boxes, options, name, text)
+        got = subprocess.run(words, cwd=self.path, stdin=subprocess.DEVNULL, capture_output=True, timeout=SECONDS, check=False, **how)
+        if (got.returncode, got.stderr) != (status, err) or (out is not None and got.stdout != out):
+            self.faults.append(f"{words[1:]}: {(got.returncode, got.stdout, got.stderr)} in place of {(status, out, err)}")
+        return got
+
+    def keeps(self, rows, name="k", identity=None):
+        """Stock sqlite3 finds these rows, in this order, and the identity."""
+        found = stock(self.path, name)
+        if found != (True, identity or identity_of(), rows):
+            self.faults.append(f"{name} holds {found} in place of {rows}"[:2000])
+
+    def contents(self):
+        """The bytes of each file, but for logs that are too short to hold anything, which an open may leave."""
+        found = {p.name: p.read_bytes() for p in self.path.iterdir() if p.is_file() and p.name != "s"}
+        return {name: data for name, data in found.items() if len(data) > SHORT_LOG or not name.endswith("-wal")}
+
+    def refused(self, name="k", status=10, err=None, **how):
+        """A campaign ends with a status and a line, prints nothing and leaves each file as it was."""
+        before = self.contents()
+        self.run(status, b"", err or f"keeper fault: {name}\n".encode(), name=name, **how)
+        if self.contents() != before:
+            self.faults.append(f"{name} was changed by a campaign that was refused")
+
+
+def rounds_are_kept(f):
+    f.run(1, ONE_SUMMARY)
+    f.keeps(ROWS[:1])
+    f.run(0, WHOLE_SUMMARY, rounds=4)
+    f.keeps(ROWS)
+    before = f.contents()
+    f.run(0, WHOLE_SUMMARY, rounds=100)
+    if f.contents() != before:
+        f.faults.append("a campaign with nothing left to settle changed its file")
+    if rows_of(files.go_on(call().settler, ("O",), 100)) != ROWS:
+        f.faults.append("the reference has other rows")
+
+
+def tables_are_strict(f):
+    f.run(1, ONE_SUMMARY)
+    connection = sqlite3.connect(f.path / "k")
+    for insert in ("INSERT INTO head VALUES (2, 'text')", "INSERT INTO head VALUES (2, 3)", "INSERT INTO node VALUES (x'30', 'X')",
+                   "INSERT INTO node VALUES ('0', x'58')", "INSERT INTO node VALUES (NULL, 'X')"):
+        try:
+            connection.execute(insert)
+            f.faults.append(f"{insert} was taken")
+        except sqlite3.IntegrityError:
+            pass
+    kinds = connection.execute("SELECT name, strict FROM pragma_table_list WHERE schema = 'main' AND name IN "
+                               "('head', 'node') ORDER BY name").fetchall()
+    connection.close()
+    if kinds != [("head", 1), ("node", 1)]:
+        f.faults.append(f"the tables are {kinds}")
+
+
+def names_are_those_of_files(f):
+    for name in ("with spaces", "ümläut", "-x", "a'b\"c", "k.db", "%20", "a;b"):
+        f.run(0, WHOLE_SUMMARY, boxes=5, name=name)
+        f.keeps(ROWS, name)
+    (f.path / "below").mkdir()
+    f.run(0, WHOLE_SUMMARY, boxes=5, name="below/k")
+    f.keeps(ROWS, "below/k")
+    for name in (":memory:", "file:k", "", "no/k", "below"):
+        f.refused(name)
+
+
+def words_are_judged(f):
+    (f.path / "s").write_bytes(RECIPROCAL)
+    for words in (["--rounds", "0"], ["--rounds", "101"], ["--rounds", "x"], ["--out", "o"], ["--boxes", "0"]):
+        got = subprocess.run([f.paver, "campaign", "s", "--keep", "k", *words], cwd=f.path, capture_output=True, check=False)
+        if (got.returncode, got.stdout, got.stderr) != (2, b"", USAGE) or f.contents():
+            f.faults.append(f"{words}: {got}")
+    f.run(8, b"", b"tree limit: 0 settled\n", rounds=100, boxes=1001)
+    f.keeps([])
+
+
+def databases_of_stock_sqlite(f):
+    identity = identity_of()
+    for count, pragmas in ((0, ""), (1, "PRAGMA journal_mode = WAL;"), (2, "PRAGMA page_size = 512;"), (4, "PRAGMA page_size = 65536;"),
+                           (5, "PRAGMA page_size = 1024; PRAGMA journal_mode = TRUNCATE;")):
+        name = f"stock{count}"
+        make(f.path / name, random.Random(count).sample(ROWS[:count], count), identity, pragmas)
+        f.run(0, WHOLE_SUMMARY, boxes=5, name=name)
+        f.keeps(ROWS, name)
+    make(f.path / "index", ROWS[:2], identity, tables=TABLES + "CREATE TABLE note (id INTEGER PRIMARY KEY, text TEXT);")
+    f.run(0, WHOLE_SUMMARY, boxes=5, name="index")
+    f.keeps(ROWS, "index")
+
+
+def kept_rows_are_refused(f):
+    identity = identity_of()
+    make(f.path / "other", ROWS, identity_of(eps=Fraction(1, 2)))
+    f.refused("other", 4, b"paving other: wrong identity\n")
+    bad = [("skips", [ROWS[0], ROWS[2]], 1), ("no cut", [("0", "X")], 0), ("wide", [ROWS[0], ("0", "I 0:0 1:0")], 1),
+           ("behind", [*ROWS, ("10", "X")], 5), ("spelt", [("", "C 0 1:-1 0:0 2:-1")], 0), ("line", [*ROWS[:4], ("1", "X\n")], 4)]
+    for name, rows, row in bad:
+        make(f.path / name, rows, identity)
+        f.refused(name, 4, f"paving {name}: bad row {row}\n".encode())
+    many = [("", "C 0 1:-1 0:0 1:0"), *((f"1{i:017b}", "X") for i in range(100_000))]
+    make(f.path / "many", many, identity)
+    f.refused("many", 4, b"paving many: too many rows\n")
+    make(f.path / "full", many[:-1], identity)
+    f.refused("full", 4, b"paving full: bad row 1\n")
+
+
+def databases_that_hold_no_campaign(f):
+    identity = identity_of()
+    whole = {"two": [("2", "X")], "long": [("0" * 201, "X")], "line": [("", "X" * 661)]}
+    for name, rows in whole.items():
+        make(f.path / name, rows, identity)
+        f.refused(name)
+    for length in (0, 31, 33):
+        make(f.path / f"short{length}", ROWS, bytes(length))
+        f.refused(f"short{length}")
+    for name, sql in (("foreign", "CREATE TABLE note (id INTEGER PRIMARY KEY, text TEXT);"), ("view", "CREATE VIEW one AS SELECT 1;"),
+                      ("columns", "CREATE TABLE head (a TEXT, b TEXT);")):
+        sqlite3.connect(f.path / name).executescript(sql).connection.close()
+        f.refused(name)
+    (f.path / "text").write_bytes(b"Variables x in [0,1];\n" * 400)
+    f.refused("text")
+    make(f.path / "twice", ROWS, identity)
+    os.link(f.path / "twice", f.path / "second name")
+    os.mkfifo(f.path / "pipe")
+    for name in ("twice", "second name", "pipe", "/dev/null"):
+        f.refused(name)
+
+
+def databases_cut_short(f):
+    f.run(0, WHOLE_SUMMARY, boxes=5)
+    whole = (f.path / "k").read_bytes()
+    for length in sorted({1, 15, 16, 100, 511, 512, 4095, 4096, 4097, len(whole) - 1} | {f.source.randrange(2, len(whole)) for _ in range(10)}):
+        (f.path / "k-wal").unlink(missing_ok=True)
+        (f.path / "k").write_bytes(whole[:length])
+        if length > 1:
+            f.refused()
+    (f.path / "k").write_bytes(b"")
+    f.run(0, WHOLE_SUMMARY, boxes=5)
+    f.keeps(ROWS)
+
+
+def locked_databases(f):
+    """Another process has the lock: in this one, reading the file would let it go."""
+    f.run(1, ONE_SUMMARY)
+    holds = "import sqlite3, sys; c = sqlite3.connect('k', isolation_level=None); c.execute(sys.argv[1]); print(); input()"
+    for lock in ("BEGIN EXCLUSIVE", "BEGIN IMMEDIATE"):
+        holder = subprocess.Popen([sys.executable, "-c", holds, lock], cwd=f.path, stdin=subprocess.PIPE, stdout=subprocess.PIPE)
+        holder.stdout.readline()
+        f.refused()
+        holder.communicate(b"\n")
+    f.run(0, WHOLE_SUMMARY, rounds=4)
+    f.keeps(ROWS)
+
+
+def one_campaign_at_a_time(f):
+    words = f.words(100, 50, DISC_EPS, "k", DISC)
+    first = subprocess.Popen(words, cwd=f.path, stdout=subprocess.DEVNULL, stderr=subprocess.DEVNULL)
+    while not (f.path / "k").exists() or (f.path / "k").stat().st_size == 0:
+        time.sleep(0.001)
+    os.kill(first.pid, 19)
+    f.run(10, b"", FAULT, options=DISC_EPS, text=DISC)
+    os.kill(first.pid, 18)
+    if first.wait(timeout=SECONDS) != 1 or len(stock(f.path, "k")[2]) != 5000:
+        f.faults.append("the first campaign did not come to its end")
+
+
+def folders_that_may_not_be_written(f):
+    f.run(1, ONE_SUMMARY)
+    with tempfile.TemporaryDirectory() as name:
+        os.chmod(name, 0o755)
+        folder = Campaigns(shutil.copy(f.paver, Path(name) / "paver"), Path(name) / "closed", f.source)
+        folder.path.mkdir()
+        for file in ("k", "k-wal"):
+            if (f.path / file).exists():
+                shutil.copy(f.path / file, folder.path / file)
+                os.chmod(folder.path / file, 0o444)
+        (folder.path / "s").write_bytes(RECIPROCAL)
+        os.chmod(folder.path, 0o555)
+        words = [folder.paver, "campaign", "s", "--keep=k", *QUARTER]
+        before = folder.contents()
+        got = subprocess.run(words, cwd=folder.path, capture_output=True, check=False, **({"user": NOBODY} if os.geteuid() == 0 else {}))
+        os.chmod(folder.path, 0o755)
+        if (got.returncode, got.stdout, got.stderr) != (10, b"", FAULT) or folder.contents() != before:
+            f.faults.append(f"in a folder that may not be written: {got}")
+
+
+def full_disks(f):
+    """Each limit on the size of a file, until a campaign comes to its end; and a disk of 64 KiB."""
+    ended = False
+    for size in (*range(0, 8192, 1024), *range(8192, 400_000, 49152), 1 << 20):
+        for file in ("k", "k-wal"):
+            (f.path / file).unlink(missing_ok=True)
+        words = f.words(5, 1, QUARTER, "k", RECIPROCAL)
+        got = subprocess.run(words, cwd=f.path, capture_output=True, check=False, restore_signals=False,
+                             preexec_fn=lambda size=size: resource.setrlimit(resource.RLIMIT_FSIZE, (size, size)))
+        ended = got.returncode == 0
+        if not ended and (got.returncode, got.stdout, got.stderr) != (10, b"", FAULT):
+            f.faults.append(f"files of {size} bytes: {got}")
+        f.run(0, WHOLE_SUMMARY, rounds=5)
+        f.keeps(ROWS)
+    if not ended:
+        f.faults.append("no campaign came to its end")
+    disk = f.path / "disk"
+    disk.mkdir()
+    if subprocess.run(["mount", "-t", "tmpfs", "-o", "size=64k", "none", str(disk)], capture_output=True, check=False).returncode:
+        return
+    try:
+        f.run(10, b"", b"keeper fault: disk/k\n", name="disk/k")
+    finally:
+        subprocess.run(["umount", str(disk)], check=True)
+
+
+def is_stage(rows, whole, boxes):
+    """The rows are some of the whole tree's, with those of all nodes above them, and of whole rounds."""
+    paths = {path for path, _ in rows}
+    closed = all(path[:-1] in paths for path in paths if path)
+    return set(rows) <= whole and closed and (len(rows) % boxes == 0 or len(rows) == len(whole))
+
+
+def killed_campaigns(f):
+    boxes, kills, number = 7, 0, 0
+    (f.path / "s").write_bytes(DISC)
+    subprocess.run([f.paver, "run", "s", *DISC_EPS, "--out", "whole"], cwd=f.path, stdout=subprocess.DEVNULL, check=True)
+    reference = call(DISC, eps=Fraction(1, 64))
+    rows = rows_of(reference.read("whole", (f.path / "whole").read_bytes()))
+    identity, whole = bytes.fromhex(reference.identity), set(rows)
+    start = time.perf_counter()
+    f.run(1, None, rounds=100, boxes=boxes, options=DISC_EPS, name="timed", text=DISC)
+    spent = time.perf_counter() - start
+    while kills < KILLS and not f.faults:
+        words = f.words(100, boxes, [*DISC_EPS, "--workers", f.source.choice("124")], f"k{number}", DISC)
+        process = subprocess.Popen(words, cwd=f.path, stdout=subprocess.DEVNULL, stderr=subprocess.DEVNULL)
+        time.sleep(f.source.random() * spent)
+        process.kill()
+        status = process.wait()
+        kills += status == -9
+        found = stock(f.path, f"k{number}")
+        if status not in (-9, 0, 1) or not found[0] or not is_stage(found[2], whole, boxes):
+            f.faults.append(f"status {status}, {len(found[2])} rows, {found[0]}")
+        number += len(found[2]) == len(rows)
+    for name in {f"k{at}" for at in range(number + 1)}:
+        f.run(0, None, boxes=20_000, options=DISC_EPS, name=name, text=DISC)
+        f.keeps(rows, name, identity)
+
+
+CHECKS = [rounds_are_kept, tables_are_strict, names_are_those_of_files, words_are_judged, databases_of_stock_sqlite, kept_rows_are_refused,
+          databases_that_hold_no_campaign, databases_cut_short, locked_databases, one_campaign_at_a_time,
+          folders_that_may_not_be_written, full_disks, killed_campaigns]
+
+
+def main():
+    paver = os.path.abspath(sys.argv[1])
+    word = sys.argv[2] if len(sys.argv) > 2 else ""
+    seed = int(sys.argv[3]) if len(sys.argv) > 3 else 1
+    passed = failed = 0
+    for check in (check for check in CHECKS if word in check.__name__):
+        with tempfile.TemporaryDirectory() as name:
+            folder = Campaigns(paver, name, random.Random(seed))
+            check(folder)
+        passed, failed = passed + (not folder.faults), failed + bool(folder.faults)
+        for fault in folder.faults[:5]:
+            print(f"{check.__name__}: {fault}"[:1500])
+    print(f"{passed} passed, {failed} failed")
+    return 1 if failed or not passed else 0
+
+
+if __name__ == "__main__":
+    sys.exit(main())
