@@ -14,17 +14,20 @@ import paver
 from package_checks import Skipped
 
 TOP = Path(__file__).resolve().parents[2]
-COMMANDS = ["check", "run", "resume", "merge", "audit", "svg", "sample", "run-centered", "audit-centered", "least"]
+COMMANDS = ["check", "run", "resume", "merge", "audit", "svg", "sample", "run-centered", "audit-centered", "least",
+            "campaign"]
 SETTINGS = ["eps", "depth", "bisect", "contract"]
 RUN_OPTIONS = [*SETTINGS, "boxes", "workers", "out"]
 SVG_OPTIONS = [*SETTINGS, "x", "y", "at"]
 SAMPLE_OPTIONS = ["seed", "count"]
 LEAST_OPTIONS = [*SETTINGS, "boxes", "of"]
-OPTIONS = [*RUN_OPTIONS, "x", "y", "at", *SAMPLE_OPTIONS, "of"]
-STATUSES = ["0", "1", "2", "3", "4", "5", "6", "7", "8", "9", "11"]
+CAMPAIGN_OPTIONS = [*SETTINGS, "boxes", "workers", "keep", "rounds"]
+OPTIONS = [*RUN_OPTIONS, "x", "y", "at", *SAMPLE_OPTIONS, "of", "keep", "rounds"]
+STATUSES = [str(status) for status in range(12)]
 LINES = ["usage: paver COMMAND SYSTEM [OPTIONS] [PAVING..]", "contract: refused at byte B", "objective: byte B: CAUSE",
          "system: line L column C byte B: CAUSE", "paving NAME: too long", "paving NAME: wrong identity",
-         "paving NAME: bad line L", "paving NAME: too many nodes at line L", "read fault: NAME", "write fault: NAME",
+         "paving NAME: bad line L", "paving NAME: too many nodes at line L", "paving NAME: bad row N",
+         "paving NAME: too many rows", "keeper fault: NAME", "read fault: NAME", "write fault: NAME",
          "write fault: standard output", "want of memory", "tree limit: N settled", "disagree PATH: A | B",
          "differs PATH: A | B", "no file: NAME", "honest"]
 
@@ -72,6 +75,7 @@ def check_completions():
     assert sorted(completed("paver", "svg", "--")) == sorted(f"--{name}" for name in SVG_OPTIONS)
     assert sorted(completed("paver", "sample", "--")) == sorted(f"--{name}" for name in SAMPLE_OPTIONS)
     assert sorted(completed("paver", "least", "--")) == sorted(f"--{name}" for name in LEAST_OPTIONS)
+    assert sorted(completed("paver", "campaign", "--")) == sorted(f"--{name}" for name in CAMPAIGN_OPTIONS)
     assert sorted(completed("paver", "audit", "--")) == ["--bisect", "--contract", "--depth", "--eps"]
     assert "--boxes" not in completed("paver", "merge", "s", "--")
     assert completed("paver", "run", "s", "--bisect", "") == ["largest", "round"]
