@@ -10,6 +10,7 @@ import os
 import random
 import resource
 import shutil
+import signal
 import sqlite3
 import subprocess
 import sys
@@ -338,9 +339,35 @@ def killed_campaigns(f):
         f.keeps(rows, name, identity)
 
 
+def little_memory(f):
+    """Address space in steps of 16 KiB from the least with which the program starts, until the answer stands: it is the
+    right one, or want of memory with its line; whole rounds are kept, and all of them where the answer is right."""
+    for boxes, workers in ((1, "1"), (2, "4")):
+        options, right = [*QUARTER, "--workers", workers], 0
+        for limit in range(400 * 4096, 1 << 27, 16 << 10):
+            for kept in f.path.glob("k*"):
+                kept.unlink()
+            got = subprocess.run(f.words(5, boxes, options, "k", RECIPROCAL), cwd=f.path, stdin=subprocess.DEVNULL,
+                                 capture_output=True, timeout=SECONDS, check=False,
+                                 preexec_fn=lambda limit=limit: resource.setrlimit(resource.RLIMIT_AS, (limit, limit)))
+            if got.returncode in (127, -signal.SIGSEGV, -signal.SIGKILL):
+                continue
+            sound, _, rows = stock(f.path, "k") if (f.path / "k").exists() else (True, None, [])
+            answers = got.returncode == 0 and (got.stdout, got.stderr, rows) == (WHOLE_SUMMARY, b"", ROWS)
+            wants = got.returncode == 7 and got.stderr in (b"want of memory\n", b"") and WHOLE_SUMMARY.startswith(got.stdout)
+            if not (answers or wants) or not sound or not is_stage(rows, set(ROWS), boxes):
+                f.faults.append(f"{limit} bytes, {workers} workers: {got}, {sound}, {rows}")
+            right += answers
+            # with four workers a thread that is late may still find no room
+            if right == 8:
+                break
+        if right < 8:
+            f.faults.append(f"{workers} workers: right {right} times alone")
+
+
 CHECKS = [rounds_are_kept, tables_are_strict, names_are_those_of_files, words_are_judged, databases_of_stock_sqlite, kept_rows_are_refused,
           databases_that_hold_no_campaign, databases_cut_short, locked_databases, one_campaign_at_a_time,
-          folders_that_may_not_be_written, full_disks, killed_campaigns]
+          folders_that_may_not_be_written, full_disks, little_memory, killed_campaigns]
 
 
 def main():
