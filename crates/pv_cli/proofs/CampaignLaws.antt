@@ -53,7 +53,7 @@ campaign_keeps : (before : Files) (u v : Stock) (system : Text) (s : Settings) (
     → LeavesStock (Some rounds.name.now) u v → AllRowsStay u v ⊎ HasInterrupted before u v system s boxes rounds
 campaign_keeps before u v system s boxes rounds r h kept =
     by (refused_remains (settle_by h.rule) h.rule.depth (search_box h.rule) (identity_of h.rule) boxes rounds.count (u.kept rounds.name.now) (v.kept rounds.name.now)
-        h.refused.refused h.refused.because)
+    h.refused.refused h.refused.because)
   where
     by : Remains (settle_by h.rule) h.rule.depth (search_box h.rule) (identity_of h.rule) boxes rounds.count (u.kept rounds.name.now) (v.kept rounds.name.now)
         → AllRowsStay u v ⊎ HasInterrupted before u v system s boxes rounds
@@ -115,8 +115,7 @@ pub record IsFailedIn (before : Files) (u v : Stock) (q : Request) : Type 0 wher
 campaign_failed : (before : Files) (u v : Stock) (system : Text) (s : Settings) (boxes : ℕ) (rounds : Rounds) (n : Bor Text)
     → HasNoCampaign before u v system s boxes rounds (KeeperFault n) → HasInterrupted before u v system s boxes rounds × Rose u.faults v.faults
 campaign_failed before u v system s boxes rounds n h =
-    let failed : h.refused.refused ≡ hold.Failed = only_failed rounds.name h.refused.refused (subst IsFault h.refused.is tt) in
-    (
+    let failed : h.refused.refused ≡ hold.Failed = only_failed rounds.name h.refused.refused (subst IsFault h.refused.is tt) in (
       record {
         rule = h.rule;
         read = h.read;
