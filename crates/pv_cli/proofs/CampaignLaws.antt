@@ -1,25 +1,23 @@
 -- What the statuses say of campaigns, by the cases of how a command ends.
-use Rattle.std.proofs.Common.{◌≡◌, ◌⊎◌, inl, inr, ℕ, ◌≤◌, ◌*◌, List, [], ◌∷◌, refl, sym, ◌∙◌, ap, subst, arith}
+use Rattle.std.proofs.Common.{◌≡◌, ◌⊎◌, inl, inr, ℕ, List, refl, sym, ap, subst}
 use Rattle.std.specs.Prelude.{◌≢◌, Option, Some, None}
 use Rattle.std.specs.Borrow.{Bor}
 use Rattle.clap.specs.Words.{Text}
 use Rattle.pv_interval.specs.Bounds.{Bounds}
-use Rattle.pv_tree.specs.Trees.{Tree}
 use Rattle.pv_tree.specs.Stages.{Rule}
-use Rattle.pv_settle.specs.Rules.{SettlerParts}
 use Rattle.pv_settle.specs.Settling.{settle_by}
 use Rattle.pv_settle.specs.Spelling.{identity_of}
 use Rattle.pv_io.specs.Outside.{Rose}
 use Rattle.pv_keep.specs.Keeping.{Kept}
-use Rattle.pv_rounds.specs.Holding.{IsHeld, IsBroken, RefusesHold, IsInterrupted}
+use Rattle.pv_rounds.specs.Holding.{RefusesHold, IsInterrupted}
 use Rattle.pv_rounds.specs.declared.campaign.HoldRefused.{HoldRefused}
 use Rattle.pv_rounds.specs.declared.campaign.HoldRefused.TheVariants as hold
 use Rattle.pv_cli.specs.Requests.{Asks, campaign_of, names_in}
 use Rattle.pv_cli.specs.Refusals.{status_of}
 use Rattle.pv_cli.specs.Systems.{Files, search_box}
-use Rattle.pv_cli.specs.Campaigns.{Stock, IsSameStock, LeavesStock, RowsStay, AllRowsStay, campaign_refusal, RefusesRounds, RefusesCampaign, HasNoCampaign}
-use Rattle.pv_cli.specs.Products.{Product, ComesOf, ComesOfCampaign, RefusesWork}
-use Rattle.pv_cli.specs.Ends.{Stream, Outside, AreUntouched, RefusesDelivery, RefusesWords, IsRefusedSo, in_words, in_request, Tells}
+use Rattle.pv_cli.specs.Campaigns.{Stock, IsSameStock, LeavesStock, RowsStay, AllRowsStay, campaign_refusal, HasNoCampaign}
+use Rattle.pv_cli.specs.Products.{Product, ComesOf, RefusesWork}
+use Rattle.pv_cli.specs.Ends.{Outside, IsRefusedSo, in_words, in_request, Tells}
 use Rattle.pv_cli.specs.CampaignLaws.{HasInterrupted, IsInterruptedIn, IsBrokenOff, IsKeeperFault, KeeperFaultBreaksOff, MemoryKeepsRows, OtherNamesStay, OthersLeaveKeeper}
 use Rattle.pv_cli.specs.declared.request.Settings.{Settings}
 use Rattle.pv_cli.specs.declared.request.Rounds.{Rounds}
@@ -55,7 +53,7 @@ campaign_keeps : (before : Files) (u v : Stock) (system : Text) (s : Settings) (
     → LeavesStock (Some rounds.name.now) u v → AllRowsStay u v ⊎ HasInterrupted before u v system s boxes rounds
 campaign_keeps before u v system s boxes rounds r h kept =
     by (refused_remains (settle_by h.rule) h.rule.depth (search_box h.rule) (identity_of h.rule) boxes rounds.count (u.kept rounds.name.now) (v.kept rounds.name.now)
-        h.refused.refused h.refused.because)
+    h.refused.refused h.refused.because)
   where
     by : Remains (settle_by h.rule) h.rule.depth (search_box h.rule) (identity_of h.rule) boxes rounds.count (u.kept rounds.name.now) (v.kept rounds.name.now)
         → AllRowsStay u v ⊎ HasInterrupted before u v system s boxes rounds
@@ -117,8 +115,7 @@ pub record IsFailedIn (before : Files) (u v : Stock) (q : Request) : Type 0 wher
 campaign_failed : (before : Files) (u v : Stock) (system : Text) (s : Settings) (boxes : ℕ) (rounds : Rounds) (n : Bor Text)
     → HasNoCampaign before u v system s boxes rounds (KeeperFault n) → HasInterrupted before u v system s boxes rounds × Rose u.faults v.faults
 campaign_failed before u v system s boxes rounds n h =
-    let failed : h.refused.refused ≡ hold.Failed = only_failed rounds.name h.refused.refused (subst IsFault h.refused.is tt) in
-    (
+    let failed : h.refused.refused ≡ hold.Failed = only_failed rounds.name h.refused.refused (subst IsFault h.refused.is tt) in (
       record {
         rule = h.rule;
         read = h.read;

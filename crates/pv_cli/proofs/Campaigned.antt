@@ -1,5 +1,5 @@
 -- What comes of a campaign, by the steps of `campaign`.
-use Rattle.std.proofs.Common.{◌≡◌, ℕ, ◌≤◌, ◌*◌, List, inl, inr, refl, subst, arith}
+use Rattle.std.proofs.Common.{◌≡◌, ℕ, ◌*◌, List, inr, refl, subst, arith}
 use Rattle.std.specs.Prelude.{Result, Ok, Err, IfOk, IfErr}
 use Rattle.clap.specs.Words.{Text}
 use Rattle.pv_interval.specs.Bounds.{Bounds}

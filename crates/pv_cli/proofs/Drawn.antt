@@ -1,8 +1,7 @@
 -- Why there is no picture, by the step that refuses.
-use Rattle.std.proofs.Common.{◌≡◌, ◌⊎◌, inl, inr, List, sym, subst}
+use Rattle.std.proofs.Common.{inl, inr}
 use Rattle.clap.specs.Words.{Text}
-use Rattle.pv_expr.specs.Systems.{Parts}
-use Rattle.pv_cli.specs.Systems.{Files, HasSystem, RefusesSystem, RefusesSettings}
+use Rattle.pv_cli.specs.Systems.{Files}
 use Rattle.pv_cli.specs.Products.{HasNoPicture, RefusesSvg}
 use Rattle.pv_cli.specs.Scenes.{RefusesScene}
 use Rattle.pv_cli.specs.declared.request.Settings.{Settings}

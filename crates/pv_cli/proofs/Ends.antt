@@ -1,19 +1,15 @@
 -- How a command ends, by its steps.
-use Rattle.std.proofs.Common.{◌≡◌, ◌⊎◌, inl, inr, ℕ, ◌==◌, true, false, ◌<◌, ◌≤◌, List, [], ◌∷◌, ◌++◌, length, Option, Some, None, refl, sym, ◌∙◌, ap, subst, arith}
+use Rattle.std.proofs.Common.{◌≡◌, ◌⊎◌, inl, inr, ℕ, ◌==◌, true, false, ◌≤◌, List, [], ◌∷◌, Option, Some, None, refl, sym, ◌∙◌, ap, subst, arith}
 use Rattle.std.specs.Prelude.{◌≢◌, Result, Ok, Err, IfOk, IfErr, OnOk, IsErrAnd}
 use Rattle.std.proofs.lemmas.Bool.Decides.{eqb_tells}
 use Rattle.clap.specs.Words.{Text}
-use Rattle.pv_expr.specs.Systems.{Parts}
 use Rattle.pv_io.specs.Outside.{Content, Rose, appended, stored, AppendsFront}
-use Rattle.pv_parse.specs.Faults.{IsPlaced, IsRefusal, SaysTooLong}
-use Rattle.pv_parse.specs.declared.refused.ParseRefused.{ParseRefused}
-use Rattle.pv_parse.specs.declared.refused.ParseRefused.TheVariants as parse
-use Rattle.pv_cli.specs.Requests.{Asks, AreRefused, out_of, campaign_of}
+use Rattle.pv_cli.specs.Requests.{Asks, out_of, campaign_of}
 use Rattle.pv_cli.specs.Campaigns.{Stock, IsSameStock, LeavesStock}
 use Rattle.pv_cli.specs.Systems.{Files, AreOnlyRead}
 use Rattle.pv_cli.specs.Printing.{RefusesPrint}
-use Rattle.pv_cli.specs.Products.{Product, text, unfinished, paved, printed_of, HasStatus, ComesOf, RefusesWork}
-use Rattle.pv_cli.specs.Ends.{Stream, Outside, AreUntouched, AreOthersKept, IsStored, IsKept, IsDelivered, IsCutOff, RefusesDelivery, IsAnswered, RefusesRequest, RefusesWords, IsRefusedSo, in_words, in_request, Tells, IsEnd}
+use Rattle.pv_cli.specs.Products.{Product, text, unfinished, paved, HasStatus, ComesOf}
+use Rattle.pv_cli.specs.Ends.{Stream, Outside, AreUntouched, AreOthersKept, IsStored, IsKept, IsDelivered, IsCutOff, RefusesDelivery, IsAnswered, RefusesRequest, RefusesWords, in_words, in_request, Tells, IsEnd}
 use Rattle.pv_cli.specs.declared.request.Request.{Request}
 use Rattle.pv_cli.specs.declared.refusal.Refusal.{Refusal}
 use Rattle.pv_cli.specs.declared.refusal.Refusal.TheVariants.{Usage, System, Contract, Objective, NoFile, ReadFault, Paving, NotStored, KeeperFault, NotPrinted, Memory, TreeLimit, Disagree, Differs}

@@ -1,5 +1,5 @@
 -- A full tree has at most so many settled nodes as its depth allows.
-use Rattle.std.proofs.Common.{◌≡◌, ℕ, zero, suc, ◌+◌, ◌≤◌, List, refl, sym, subst, arith}
+use Rattle.std.proofs.Common.{ℕ, zero, suc, ◌+◌, ◌≤◌, List, refl, sym, subst, arith}
 use Rattle.pv_interval.specs.Bounds.{Bounds}
 use Rattle.pv_box.specs.Boxes.{lower_half, upper_half}
 use Rattle.pv_tree.specs.Trees.{Tree, leaf}

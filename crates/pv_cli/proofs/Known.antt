@@ -1,17 +1,15 @@
 -- Where clap takes the words, they name one of the commands.
-use Rattle.std.proofs.Common.{◌≡◌, ◌⊎◌, inl, inr, Bool, true, false, List, [], ◌∷◌, map, refl, sym, ◌∙◌, ap, subst, codes, if◌then◌else◌}
-use Rattle.std.specs.Prelude.{Option, Some, None, is_some, not, ◌&&◌, find, option_map, option_and_then}
-use Rattle.std.specs.Option.{option_map_or}
+use Rattle.std.proofs.Common.{◌≡◌, ◌⊎◌, inl, inr, Bool, true, false, List, [], ◌∷◌, map, refl, subst, if◌then◌else◌}
+use Rattle.std.specs.Prelude.{Option, Some, None, is_some, not, ◌&&◌, find, option_map}
 use Rattle.clap.proofs.OnLiterals.{clap_on_literals}
 use Rattle.clap.specs.Walk.{answers_to, walk, walk_from, nothing_held, settled, finished, Held, Names}
 use Rattle.clap.specs.Words.{App, Row, Shape, Text, Kinds, fault_of, subcommand_of}
 use Rattle.clap.specs.Simple.{built, argument_words, names_of, label_of, entered, rows_at}
 use Rattle.clap.specs.Kinds.{or_else, check_kinds}
-use Rattle.clap.specs.Faults.{built_fault, level_fault, entered_fault, walk_fault, settle_fault, defaults_fault, check_fault}
+use Rattle.clap.specs.Faults.{built_fault, level_fault, walk_fault, settle_fault, defaults_fault, check_fault}
 use Rattle.clap.specs.Facts.{explicit_source}
 use Rattle.clap.specs.Takes.{is_given}
 use Rattle.std.specs.List.{list_any}
-use Rattle.clap.specs.declared.error.kind.ErrorKind.TheVariants as kind
 use Rattle.pv_cli.specs.Commands.{paver_app}
 use Rattle.pv_cli.specs.declared.request.Form.TheVariants.{Natural, Centered}
 use Rattle.pv_cli.specs.Requests.{Command, checks, runs, resumes, merges, audits, draws, samples, seeks, keeps, name_of}

@@ -1,18 +1,17 @@
 -- Numbers between commas.
 use Rattle.std.proofs.Common.{length-append, append_assoc, ◌≡◌, ℕ, ℤ, ◌+◌, ◌<◌, ◌==◌, ◌++◌, Bool, true, false, List, [], ◌∷◌, length, drop, sym, ◌∙◌, ap, ap₂, subst, arith, if◌then◌else◌}
-use Rattle.std.specs.Prelude.{neg_ℤ, Option, Some, None, Result, MatchOption, MatchResult, codes}
-use Rattle.std.specs.List.{slice_split, position_or_len, before_first, after_first}
+use Rattle.std.specs.Prelude.{neg_ℤ, Option, Some, None, MatchOption}
+use Rattle.std.specs.List.{position_or_len}
 use Rattle.std.specs.Borrow.{Bor}
 use Rattle.std.proofs.lemmas.Str.Pattern.{IsSplitOnceResult, split_once_first, split_parts}
 use Rattle.std.proofs.lemmas.List.Splits.{slice_split_none, slice_split_first}
 use Rattle.std.proofs.lemmas.List.Sums.{fails_before_first}
-use Rattle.clap.specs.Words.{Row, Text, first_of}
+use Rattle.clap.specs.Words.{Text}
 use Rattle.pv_num.specs.Extended.{Extended}
 use Rattle.pv_num.specs.Arithmetic.{ratio_of}
 use Rattle.pv_num.specs.declared.num.End.TheVariants.{Down}
-use Rattle.pv_tokens.specs.Numbers.{IsRead, IsNumeral, TooWide}
-use Rattle.pv_tokens.specs.declared.number.Decimal.{Decimal}
-use Rattle.pv_cli.specs.Requests.{IsLevel, IsWidth, AreLevels, AreLevelsIn, AreGiven, HasBadLevels, words_between, has_minus, behind_minus, with_minus}
+use Rattle.pv_tokens.specs.Numbers.{IsRead}
+use Rattle.pv_cli.specs.Requests.{IsLevel, IsWidth, AreLevels, words_between, has_minus, behind_minus, with_minus}
 use Rattle.pv_cli.specs.Found.{RefusesValues, EndsWithLevel}
 use Rattle.pv_cli.specs.declared.refusal.Refusal.{Refusal}
 use Rattle.pv_cli.specs.declared.refusal.Refusal.TheVariants.{Usage, System, Contract, Objective, NoFile, ReadFault, Paving, NotStored, KeeperFault, NotPrinted, Memory, TreeLimit, Disagree, Differs}

@@ -11,7 +11,6 @@ use Rattle.pv_expr.specs.Systems.{Parts}
 use Rattle.pv_expr.specs.Searches.{search_bounds}
 use Rattle.pv_expr.specs.Canonical.{canonical_text, constraint_text, constraints_text, relation_text, term_text, variables_text, count_text}
 use Rattle.pv_expr.specs.declared.constraint.Constraint.{Constraint}
-use Rattle.pv_expr.specs.declared.domain.Domain.{Domain}
 use Rattle.pv_code.specs.Expansion.{Sides, sides_of}
 use Rattle.pv_parse.specs.Declarations.{AreAlike, IsMeaning}
 use Rattle.pv_parse.proofs.Outcomes.{one_system_meant}
@@ -24,23 +23,23 @@ use Rattle.pv_tree.specs.Stages.{Grows}
 use Rattle.pv_tree.specs.declared.outcome.Outcome.{Outcome}
 use Rattle.pv_join.proofs.JoinFacts.{same_tree}
 use Rattle.pv_io.specs.Outside.{Content, untold, absent, holds, IsWhole}
-use Rattle.pv_file.specs.Readings.{IsPavingInFormat, IsTextOf}
+use Rattle.pv_file.specs.Readings.{IsPavingInFormat}
 use Rattle.pv_file.specs.Texts.{file_text}
 use Rattle.pv_file.specs.declared.version.Version.{Version}
 use Rattle.pv_file.specs.declared.version.Version.TheVariants.{One, Two}
 use Rattle.pv_file.proofs.Different.{texts-differ}
 use Rattle.pv_cli.specs.Requests.{Asks, names_in, out_of}
 use Rattle.pv_cli.specs.Refusals.{status_of}
-use Rattle.pv_cli.specs.Systems.{Files, IsFetched, HasSystem, IsRuleFor, HasRule, search_box}
+use Rattle.pv_cli.specs.Systems.{Files, IsFetched, IsRuleFor, HasRule, search_box}
 use Rattle.pv_cli.specs.Pavings.{settled_in}
-use Rattle.pv_cli.specs.Files.{HasPaving, HavePavings, AllTrees, AnyTree, IsJoinOf, HasOpening, IsDisagreement}
+use Rattle.pv_cli.specs.Files.{HasPaving, HavePavings, AllTrees, AnyTree, IsJoinOf, IsDisagreement}
 use Rattle.pv_cli.specs.Campaigns.{Stock}
 use Rattle.pv_cli.specs.Products.{Product, text, unfinished, paved, HasStatus, ComesOf, ComesOfMerge, IsOverLimit, RefusesJoined, RefusesWork}
 use Rattle.pv_cli.specs.Ends.{Stream, Outside, IsKept, IsDelivered, IsAnswered, RefusesDelivery, RefusesWords, IsRefusedSo, in_words, in_request, Tells}
 use Rattle.pv_cli.specs.Merges.{IsTree, AreSameTrees, JoinAlike, IsNamed, AreSameNames, AreSameSettings, AreSameMerge, AskForSameMerge, AreTold, EndAlike, MergesEndAlike, MergesAreTakenAlike}
 use Rattle.pv_cli.specs.declared.request.Settings.{Settings}
 use Rattle.pv_cli.specs.declared.request.Request.{Request}
-use Rattle.pv_cli.specs.declared.request.Request.TheVariants.{Check, Run, Resume, Merge, Audit}
+use Rattle.pv_cli.specs.declared.request.Request.TheVariants.{Merge}
 use Rattle.pv_cli.specs.declared.refusal.Refusal.{Refusal}
 use Rattle.pv_cli.specs.declared.refusal.Refusal.TheVariants.{Usage, System, Contract, Objective, NoFile, ReadFault, Paving, NotStored, KeeperFault, NotPrinted, Memory, TreeLimit, Disagree, Differs}
 use Rattle.pv_cli.specs.declared.status.Status.{Status}

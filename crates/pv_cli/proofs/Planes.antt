@@ -1,8 +1,8 @@
 -- Axes and planes of a system, and the picture of a paving on one.
-use Rattle.std.proofs.Common.{◌≡◌, ℕ, ◌<◌, ◌+◌, List, length, map, sym, ◌∙◌, ap, subst}
-use Rattle.std.specs.Prelude.{◌≢◌, Some, slice_get}
+use Rattle.std.proofs.Common.{◌≡◌, ℕ, List, length, map, sym, ◌∙◌, ap, subst}
+use Rattle.std.specs.Prelude.{Some, slice_get}
 use Rattle.std.proofs.lemmas.List.{length-map}
-use Rattle.std.proofs.lemmas.Option.{slice_get_within, get_or_from_slice_get}
+use Rattle.std.proofs.lemmas.Option.{get_or_from_slice_get}
 use Rattle.clap.specs.Words.{Text}
 use Rattle.pv_num.specs.Extended.{Extended}
 use Rattle.pv_interval.specs.Bounds.{Bounds, everything}
@@ -21,7 +21,7 @@ use Rattle.pv_svg.specs.Paints.{PicturesAreSound}
 use Rattle.pv_svg.specs.Texts.{picture_text}
 use Rattle.pv_cli.specs.Systems.{Files, HasSystem, HasRule, IsRuleFor, search_box}
 use Rattle.pv_cli.specs.Files.{HasPaving}
-use Rattle.pv_cli.specs.Views.{IsAxis, HasNoAxis, unbounded, IsPlaneOf, HasNoPlane}
+use Rattle.pv_cli.specs.Views.{HasNoAxis, unbounded, IsPlaneOf, HasNoPlane}
 use Rattle.pv_cli.specs.Products.{Product, text, IsHonest, ComesOfSvg, HasNoPlaneIn}
 use Rattle.pv_cli.specs.Scenes.{plane_of, IsScene}
 use Rattle.pv_cli.specs.declared.svg.Scene.{Scene}

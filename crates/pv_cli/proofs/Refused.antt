@@ -1,5 +1,5 @@
 -- Refusals that don't come of a step, and those that are passed on.
-use Rattle.std.proofs.Common.{◌≡◌, ◌⊎◌, inl, inr, ℕ, ◌<◌, ◌+◌, Bool, List, [], ◌∷◌, sym, ◌∙◌, ap, subst}
+use Rattle.std.proofs.Common.{◌≡◌, ◌⊎◌, inl, inr, ℕ, Bool, List, [], ◌∷◌, sym, ◌∙◌, ap, subst}
 use Rattle.pv_settle.specs.Rules.{SettlerParts}
 use Rattle.pv_cli.specs.Forms.{settle_as, identity_as}
 use Rattle.pv_interval.specs.Bounds.{Bounds}
@@ -11,7 +11,7 @@ use Rattle.pv_file.specs.Lines.{outcome_line}
 use Rattle.pv_cli.specs.Systems.{Files, HasRule, RefusesRule, search_box}
 use Rattle.pv_cli.specs.Reads.{IsLineAt, IsDiffers}
 use Rattle.pv_cli.specs.Audited.{IsFoundOther}
-use Rattle.pv_cli.specs.Files.{HoldsPaving, RefusesFile, RefusesPavings, HasNoJoin, RefusesOpening}
+use Rattle.pv_cli.specs.Files.{HoldsPaving, RefusesFile, RefusesPavings, RefusesOpening}
 use Rattle.pv_cli.specs.Products.{RefusesJoined, HasBadPaving, RefusesAudit}
 use Rattle.pv_cli.specs.declared.request.Form.{Form}
 use Rattle.pv_cli.specs.declared.request.Settings.{Settings}

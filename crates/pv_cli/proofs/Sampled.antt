@@ -1,6 +1,6 @@
 -- What a sample's text and settings come to.
-use Rattle.std.proofs.Common.{◌≡◌, ◌≢◌, ℕ, ◌+◌, ◌≤◌, pos, List, Ok, Err, length, sym, subst, arith}
-use Rattle.std.specs.Prelude.{IsTrue, Some, Result, IfOk, IfErr, OnOk, codes}
+use Rattle.std.proofs.Common.{◌≡◌, ◌≢◌, ℕ, ◌≤◌, pos, List, Ok, Err, length, sym, subst, arith}
+use Rattle.std.specs.Prelude.{IsTrue, Some, Result, IfOk, IfErr, OnOk}
 use Rattle.pv_num.specs.Extended.{Extended, Fin, PosInf}
 use Rattle.pv_num.specs.Order.{le}
 use Rattle.pv_num.specs.Arithmetic.{ratio_of}

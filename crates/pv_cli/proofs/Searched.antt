@@ -16,7 +16,7 @@ use Rattle.pv_least.specs.Promises.{NoneIsBelow, IsWitness}
 use Rattle.pv_least.specs.declared.found.BestPoint.{BestPoint}
 use Rattle.pv_least.specs.declared.found.Least.{Least}
 use Rattle.pv_cli.specs.Systems.{Files, HasRule, RefusesRule, EachHolds, search_box}
-use Rattle.pv_cli.specs.Leasts.{AreBounds, IsLeastBy, HasLeast, HasBadObjective, RefusesObjective, RefusesLeast, searched_by, next_in, least_text}
+use Rattle.pv_cli.specs.Leasts.{AreBounds, IsLeastBy, RefusesObjective, RefusesLeast, searched_by, next_in, least_text}
 use Rattle.pv_cli.specs.Products.{Product, ComesOfLeast, report_as}
 use Rattle.pv_cli.specs.declared.request.Settings.{Settings}
 use Rattle.pv_cli.specs.declared.request.Search.{Search}

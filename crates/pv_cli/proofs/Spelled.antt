@@ -1,5 +1,5 @@
 -- The rule of a settler whose program the settings spell.
-use Rattle.std.proofs.Common.{◌≡◌, ◌<◌, ◌^◌, List, ℕ, length, map}
+use Rattle.std.proofs.Common.{◌≡◌, ◌<◌, ◌^◌, length, map}
 use Rattle.pv_expr.specs.Systems.{Parts}
 use Rattle.pv_hc4.specs.Graphs.{sides_named}
 use Rattle.pv_ctc.specs.Contracting.{sides_in}

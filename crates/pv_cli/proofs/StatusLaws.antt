@@ -1,20 +1,20 @@
 -- What each status says, by the cases of how a command ends.
-use Rattle.std.proofs.Common.{◌≡◌, ◌⊎◌, inl, inr, ℕ, ◌<◌, ◌≤◌, if◌then◌else◌, Bool, true, false, List, [], ◌∷◌, map, length, refl, sym, ◌∙◌, ap, subst, arith}
-use Rattle.std.specs.Prelude.{◌≢◌, ◌*◌, is_none, Option, Some, None, codes, unwrap_or}
+use Rattle.std.proofs.Common.{◌≡◌, ◌⊎◌, inl, inr, ℕ, if◌then◌else◌, Bool, true, false, List, [], ◌∷◌, length, refl, sym, ◌∙◌, ap, subst, arith}
+use Rattle.std.specs.Prelude.{◌≢◌, is_none, Option, Some, None, codes, unwrap_or}
 use Rattle.std.specs.Str.{bytes_eq}
 use Rattle.std.specs.Borrow.{Bor}
 use Rattle.std.proofs.lemmas.List.{length-map}
 use Rattle.std.proofs.lemmas.Bool.{false≢true}
-use Rattle.clap.specs.Words.{Row, Text, fault_of, subcommand_of}
+use Rattle.clap.specs.Words.{Row, Text, subcommand_of}
 use Rattle.pv_tree.specs.Trees.{Tree, leaf, opens, first, counts_of}
 use Rattle.pv_settle.specs.Rules.{SettlerParts}
 use Rattle.pv_settle.specs.Spelling.{identity_of}
 use Rattle.pv_cli.specs.Commands.{paver_app}
 use Rattle.pv_cli.specs.Requests.{names_in, out_of, paving_names, AreSettings, IsEffort, ArePavings, HasBadSetting, bad_eps, bad_depth, bad_bisector, HasBadEffort, bad_workers, bad_boxes, HasManyPavings, AreCircles, HasBadCircles, bad_seed, bad_count, Command, checks, runs, resumes, merges, audits, draws, samples, seeks, keeps, name_of, HasBadValueFor, HasBadValue, IsAskedBy, IsAsked, Asks, HasBadValueIn, AreRefused}
-use Rattle.pv_cli.specs.Refusals.{status_of, line_of}
+use Rattle.pv_cli.specs.Refusals.{status_of}
 use Rattle.pv_settle.specs.Settling.{settle_by}
 use Rattle.pv_cli.specs.Forms.{settle_as, identity_as}
-use Rattle.pv_cli.specs.Systems.{Files, HasRule, search_box}
+use Rattle.pv_cli.specs.Systems.{Files, search_box}
 use Rattle.pv_cli.specs.Files.{RefusesPaving, RefusesPavings}
 use Rattle.pv_cli.specs.Leasts.{least_text}
 use Rattle.pv_cli.specs.Campaigns.{Stock, AllRowsStay, campaign_refusal, is_done}
@@ -22,9 +22,9 @@ use Rattle.pv_rounds.specs.declared.campaign.HoldRefused.{HoldRefused}
 use Rattle.pv_rounds.specs.declared.campaign.HoldRefused.TheVariants as hold
 use Rattle.pv_cli.proofs.Stocks.{same_rows, early_rows}
 use Rattle.pv_keep.specs.Campaigns.{IsSaved}
-use Rattle.pv_cli.specs.Products.{Product, text, unfinished, paved, HasStatus, IsHonest, IsHonestBy, AreStages, full_as, full_by, report_as, ComesOf, ComesOfRun, ComesOfResume, ComesOfMerge, ComesOfLeast, ComesOfCampaign, summary_of, RefusesWork}
-use Rattle.pv_cli.specs.Ends.{Stream, Outside, AreUntouched, IsKept, RefusesDelivery, RefusesWords, IsRefusedSo, in_words, in_request, IsTold, Tells}
-use Rattle.pv_cli.specs.StatusLaws.{IsFullRun, IsFullResume, IsClosedJoin, IsFinalLeast, IsFullCampaign, IsWhole, DoneIsWhole, IsPartRun, IsPartResume, IsOpenJoin, IsPartLeast, IsPartCampaign, IsPart, OpenLeftIsPart, IsEarly, IsCause, IsRefusedEarly, EarlyIsUntouched, IsUnstored, IsUnprinted, IsUnwritten, WriteFaultIsUnwritten, IsCutOffText, MemoryLeaves, OthersStay, AskingIsNotRefused, IsWordsRefused, RefusedWordsEnd, HasBadContract, HasBadExpression, HasBadPlane, HaveBadText, UsageIsOfWords}
+use Rattle.pv_cli.specs.Products.{Product, text, unfinished, paved, HasStatus, IsHonest, IsHonestBy, full_as, full_by, report_as, ComesOf, ComesOfRun, ComesOfResume, ComesOfMerge, ComesOfLeast, ComesOfCampaign, summary_of, RefusesWork}
+use Rattle.pv_cli.specs.Ends.{Stream, Outside, AreUntouched, IsKept, RefusesDelivery, RefusesWords, IsRefusedSo, in_words, in_request, Tells}
+use Rattle.pv_cli.specs.StatusLaws.{IsFullRun, IsFullResume, IsClosedJoin, IsFinalLeast, IsFullCampaign, IsWhole, DoneIsWhole, IsPartRun, IsPartResume, IsOpenJoin, IsPartLeast, IsPartCampaign, IsPart, OpenLeftIsPart, IsEarly, IsCause, IsRefusedEarly, EarlyIsUntouched, IsUnstored, IsUnprinted, IsUnwritten, WriteFaultIsUnwritten, IsCutOffText, MemoryLeaves, OthersStay, AskingIsNotRefused, IsWordsRefused, RefusedWordsEnd, HaveBadText, UsageIsOfWords}
 use Rattle.pv_cli.specs.declared.request.Form.{Form}
 use Rattle.pv_cli.specs.declared.request.Form.TheVariants.{Natural, Centered}
 use Rattle.pv_cli.specs.declared.request.Settings.{Settings}

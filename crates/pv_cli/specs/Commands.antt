@@ -4,7 +4,6 @@ use Rattle.std.specs.Prelude.{true, codes, Some}
 use Rattle.clap.specs.Words.{App, Rule, Text, new_app, new_rule, with_rule, with_subcommand}
 use Rattle.clap.specs.Simple.{on_top}
 use Rattle.clap.specs.declared.builder.action.ArgAction.TheVariants.{Set, Append}
-use Rattle.clap.specs.declared.builder.range.ValueRange.{ValueRange}
 
 -- a word that has to be there
 abbrev pub word_rule : Text → Rule

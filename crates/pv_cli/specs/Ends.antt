@@ -1,5 +1,5 @@
 -- How a command ends, and what it leaves outside.
-use Rattle.std.specs.Prelude.{◌≡◌, ◌≢◌, ◌⊎◌, ◌≤◌, ℕ, List, Option, Some, None}
+use Rattle.std.specs.Prelude.{◌≡◌, ◌≢◌, ◌⊎◌, ◌≤◌, ℕ, List, Option, Some}
 use Rattle.clap.specs.Words.{Text}
 use Rattle.pv_io.specs.Outside.{Rose, appended, stored, AppendsFront}
 use Rattle.pv_file.specs.Texts.{file_text}
@@ -8,7 +8,7 @@ use Rattle.pv_cli.specs.Requests.{Asks, AreRefused, out_of, campaign_of}
 use Rattle.pv_cli.specs.Refusals.{status_of, line_of}
 use Rattle.pv_cli.specs.Systems.{Files, AreOnlyRead}
 use Rattle.pv_cli.specs.Campaigns.{Stock, IsSameStock, LeavesStock}
-use Rattle.pv_cli.specs.Products.{Product, text, paved, printed_of, HasStatus, ComesOf, RefusesWork}
+use Rattle.pv_cli.specs.Products.{Product, paved, printed_of, HasStatus, ComesOf, RefusesWork}
 use Rattle.pv_cli.specs.declared.request.Request.{Request}
 use Rattle.pv_cli.specs.declared.refusal.Refusal.{Refusal}
 use Rattle.pv_cli.specs.declared.refusal.Refusal.TheVariants.{Usage, NotStored, NotPrinted, Memory}

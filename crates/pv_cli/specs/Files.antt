@@ -1,7 +1,6 @@
 -- What a command reads of paving files, and their join.
-use Rattle.std.specs.Prelude.{◌≡◌, ◌⊎◌, ◌<◌, ◌≤◌, ◌+◌, ◌++◌, ℕ, Bool, Some, List, [], ◌∷◌}
+use Rattle.std.specs.Prelude.{◌≡◌, ◌⊎◌, ◌≤◌, ◌++◌, ℕ, Bool, Some, List, [], ◌∷◌}
 use Rattle.pv_interval.specs.Bounds.{Bounds}
-use Rattle.pv_expr.specs.Searches.{search_bounds}
 use Rattle.pv_settle.specs.Rules.{SettlerParts}
 use Rattle.pv_settle.specs.Spelling.{identity_of}
 use Rattle.pv_tree.specs.Trees.{Tree, outcome_at}

@@ -1,6 +1,4 @@
 -- A settler by one of the forms, as its callers see it.
-use Rattle.std.specs.Prelude.{List}
-use Rattle.pv_interval.specs.Bounds.{Bounds}
 use Rattle.pv_settle.specs.Rules.{SettlerParts}
 use Rattle.pv_settle.specs.Settlers as natural
 use Rattle.pv_slope.specs.Settlers as centered

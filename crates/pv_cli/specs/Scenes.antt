@@ -1,5 +1,5 @@
 -- What a picture is drawn from, as the code holds it.
-use Rattle.std.specs.Prelude.{List, ◌⊎◌}
+use Rattle.std.specs.Prelude.{List}
 use Rattle.clap.specs.Words.{Text}
 use Rattle.pv_num.specs.Extended.{Extended}
 use Rattle.pv_svg.specs.Planes.{Plane}

@@ -2,16 +2,16 @@
 use Rattle.std.specs.Prelude.{◌≡◌, ◌≢◌, ◌⊎◌, ◌+◌, ◌*◌, ℕ, List, [], Some, None}
 use Rattle.clap.specs.Words.{Text}
 use Rattle.pv_tree.specs.Trees.{Tree, leaf, opens, counts_of}
-use Rattle.pv_tree.specs.Stages.{IsStage, full_of}
+use Rattle.pv_tree.specs.Stages.{IsStage}
 use Rattle.pv_settle.specs.Rules.{SettlerParts}
 use Rattle.pv_settle.specs.Settling.{settle_by}
 use Rattle.pv_settle.specs.Spelling.{identity_of}
-use Rattle.pv_io.specs.Outside.{Rose, AppendsFront}
+use Rattle.pv_io.specs.Outside.{Rose}
 use Rattle.pv_cli.specs.Requests.{names_in, out_of, Asks, AreRefused}
 use Rattle.pv_cli.specs.Refusals.{status_of, line_of}
 use Rattle.pv_cli.specs.Forms.{settle_as, identity_as}
 use Rattle.pv_cli.specs.Systems.{Files, HasRule, search_box}
-use Rattle.pv_cli.specs.Pavings.{IsPaved, FullFits, settled_in}
+use Rattle.pv_cli.specs.Pavings.{FullFits, settled_in}
 use Rattle.pv_cli.specs.Files.{HasOpening}
 use Rattle.pv_cli.specs.Leasts.{HasLeast, next_in, least_text}
 use Rattle.pv_keep.specs.Keeping.{Kept}

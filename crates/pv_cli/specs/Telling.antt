@@ -1,6 +1,5 @@
 -- What is told before the words are read, and of a line.
 use Rattle.std.specs.Prelude.{◌≡◌, ◌⊎◌, ℕ, List}
-use Rattle.pv_io.specs.Outside.{AppendsFront}
 use Rattle.pv_cli.specs.Ends.{Stream, IsTold}
 use Rattle.pv_cli.specs.declared.refusal.Refusal.{Refusal}
 use Rattle.pv_cli.specs.declared.refusal.Refusal.TheVariants as refusal

@@ -24,4 +24,4 @@ pub stopped_refuses : (rule : Rule) (depth : ℕ) (b root : List Bounds) (identi
 stopped_refuses rule depth b root identity boxes count k0 k1 k2 t s r same opened few stopped is =
     subst (RefusesHold rule depth b identity boxes count k0 k2) (sym is)
     (broken_refuses rule depth b identity boxes count k0 k2 s
-        (record { opening = t; middle = k1; opened = opened; few = few; stopped = subst (λ (c : List Bounds). HasStopped rule depth c t boxes count k1 k2) same stopped }))
+    (record { opening = t; middle = k1; opened = opened; few = few; stopped = subst (λ (c : List Bounds). HasStopped rule depth c t boxes count k1 k2) same stopped }))

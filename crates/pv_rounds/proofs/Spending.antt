@@ -1,6 +1,6 @@
 -- Budgets that are spent one after another.
-use Rattle.std.proofs.Common.{◌≡◌, ◌⊎◌, inl, inr, ℕ, suc, ◌+◌, ◌*◌, ◌<◌, ◌≤◌, Bool, List, [], ◌∷◌, length, refl, sym, ◌∙◌, ap, subst, arith}
-use Rattle.std.specs.Prelude.{Option, Some, None, ◌≢◌, ◌↔◌}
+use Rattle.std.proofs.Common.{◌≡◌, ◌⊎◌, inl, inr, ℕ, suc, ◌+◌, ◌≤◌, Bool, List, [], ◌∷◌, length, refl, sym, ◌∙◌, ap, subst, arith}
+use Rattle.std.specs.Prelude.{Option, Some, None, ◌≢◌}
 use Rattle.pv_interval.specs.Bounds.{Bounds}
 use Rattle.pv_interval.specs.Points.{Point}
 use Rattle.pv_box.specs.Boxes.{IsBox, lower_half, upper_half}

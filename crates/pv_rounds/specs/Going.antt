@@ -1,5 +1,5 @@
 -- What rounds make of a campaign, and what they leave of it where one is refused.
-use Rattle.std.specs.Prelude.{◌≡◌, ◌≢◌, ◌+◌, ◌*◌, ◌≤◌, ℕ, List, []}
+use Rattle.std.specs.Prelude.{◌≢◌, ◌+◌, ◌*◌, ◌≤◌, ℕ, List, []}
 use Rattle.pv_interval.specs.Bounds.{Bounds}
 use Rattle.pv_tree.specs.Trees.{Tree, opens, Paves}
 use Rattle.pv_tree.specs.Stages.{Rule, IsStage}

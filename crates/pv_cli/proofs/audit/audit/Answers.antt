@@ -1,4 +1,4 @@
-use Rattle.std.proofs.Common.{◌≡◌, inr, sym, ◌∙◌, ap, subst}
+use Rattle.std.proofs.Common.{inr, ◌∙◌, ap, subst}
 use Rattle.std.proofs.lemmas.Result.{IfOk-weaker, IfErr-weaker}
 use Rattle.pv_cli.specs.Audited.{IsFoundHonest, IsFoundOther}
 use Rattle.pv_cli.specs.FormSettlers.{parts_of}

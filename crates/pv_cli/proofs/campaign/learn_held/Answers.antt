@@ -11,5 +11,5 @@ returns c = λ system s opening is first grown.
     let rule = rule_of c.args.settler.now in
     let t = c.args.paving.now.tree in
     let stages = subst (λ (b : List Bounds). IsStage (settle_by rule) rule.depth b leaf opening → IsStage (settle_by rule) rule.depth b opening t → IsStage (settle_by rule) rule.depth b leaf t)
-        c.requires.root (c.learn_rounds.ensures.further.stages leaf opening t tt) in
+    c.requires.root (c.learn_rounds.ensures.further.stages leaf opening t tt) in
     c.learn_honest.ensures.honest system s is (stages first grown)

@@ -1,6 +1,5 @@
 use Rattle.std.proofs.Common.{rules}
-use Rattle.std.specs.Prelude.{◌≤◌}
-use Rattle.pv_io.specs.Outside.{Rose, AppendsFront}
+use Rattle.pv_io.specs.Outside.{Rose}
 use Rattle.pv_tree.specs.Trees.{counts_of}
 use Rattle.pv_file.specs.Lines.{lines_of}
 use Rattle.pv_file.specs.declared.version.Version.TheVariants.{One}

@@ -1,4 +1,3 @@
-use Rattle.std.proofs.Common.{rules}
 use Rattle.pv_settle.specs.Settlers.{rule_of}
 use Rattle.pv_least.specs.Objectives.{aim_of}
 use Rattle.pv_cli.proofs.Searched.{least_by}

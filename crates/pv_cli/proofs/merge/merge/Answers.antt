@@ -1,9 +1,8 @@
-use Rattle.std.proofs.Common.{◌≡◌, ◌<◌, ◌≤◌, ◌+◌, List, ℕ, rules, arith, sym, ◌∙◌, ap, ap₂, subst}
+use Rattle.std.proofs.Common.{◌≤◌, List, ℕ, rules, ap₂, subst}
 use Rattle.pv_interval.specs.Bounds.{Bounds}
 use Rattle.pv_tree.specs.Trees.{IsPaving}
 use Rattle.pv_settle.specs.Settlers.{rule_of}
 use Rattle.pv_cli.specs.Requests.{names_in}
-use Rattle.pv_cli.specs.Systems.{files}
 use Rattle.pv_cli.specs.Pavings.{settled_in}
 use Rattle.pv_cli.specs.Products.{paved}
 use Rattle.pv_cli.proofs.Refused.{opening_refused}

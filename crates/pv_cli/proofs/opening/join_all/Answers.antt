@@ -1,4 +1,4 @@
-use Rattle.std.proofs.Common.{◌≡◌, ◌==◌, length, true, false, rules, drop, sym, ◌∙◌, subst}
+use Rattle.std.proofs.Common.{◌≡◌, ◌==◌, length, true, false, rules, drop}
 use Rattle.std.proofs.lemmas.Result.{IfOk-weaker, IfErr-weaker}
 use Rattle.pv_cli.specs.Files.{IsJoinOf, RefusesJoin}
 use Rattle.pv_cli.proofs.Joined.{from_first, join_of_none}

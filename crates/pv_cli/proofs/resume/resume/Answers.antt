@@ -1,12 +1,7 @@
-use Rattle.std.proofs.Common.{◌≡◌, ◌<◌, ◌≤◌, ◌+◌, List, ℕ, rules, sym, ◌∙◌, ap₂, subst}
-use Rattle.pv_interval.specs.Bounds.{Bounds}
-use Rattle.pv_tree.specs.Trees.{leaf}
-use Rattle.pv_tree.specs.Stages.{IsStage}
+use Rattle.std.proofs.Common.{◌≤◌, ◌+◌, rules}
 use Rattle.pv_settle.specs.Settlers.{rule_of}
-use Rattle.pv_settle.specs.Settling.{settle_by}
 use Rattle.pv_cli.specs.Requests.{names_in}
-use Rattle.pv_cli.specs.Pavings.{IsPaved, settled_in}
-use Rattle.pv_cli.specs.Products.{paved}
+use Rattle.pv_cli.specs.Pavings.{settled_in}
 use Rattle.pv_cli.proofs.Refused.{opening_refused}
 use Rattle.pv_cli.proofs.Joined.{join_stage}
 use Rattle.pv_cli.proofs.resume.resume.Goals as goal

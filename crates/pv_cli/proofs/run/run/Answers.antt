@@ -1,7 +1,7 @@
-use Rattle.std.proofs.Common.{◌≡◌, ◌∙◌, List, ℕ, ap, ap₂, subst}
+use Rattle.std.proofs.Common.{◌∙◌, List, ℕ, ap, ap₂, subst}
 use Rattle.pv_interval.specs.Bounds.{Bounds}
 use Rattle.pv_tree.specs.Trees.{leaf}
-use Rattle.pv_cli.specs.FormSettlers.{form_of, parts_of, settles}
+use Rattle.pv_cli.specs.FormSettlers.{parts_of, settles}
 use Rattle.pv_cli.specs.Forms.{settle_as, identity_as}
 use Rattle.pv_cli.specs.Systems.{search_box}
 use Rattle.pv_cli.specs.Pavings.{IsPaved}

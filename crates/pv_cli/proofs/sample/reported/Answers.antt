@@ -4,8 +4,6 @@ use Rattle.pv_interval.specs.Bounds.{Bounds}
 use Rattle.pv_tree.specs.Trees.{leaf}
 use Rattle.pv_settle.specs.Settlers.{rule_of}
 use Rattle.pv_settle.specs.Settling.{settle_by}
-use Rattle.pv_settle.specs.Spelling.{identity_of}
-use Rattle.pv_cli.specs.Systems.{search_box}
 use Rattle.pv_cli.specs.Pavings.{IsPaved}
 use Rattle.pv_cli.specs.Products.{IsHonest, full_by, report_of}
 use Rattle.pv_cli.proofs.Sampled.{is_full, on_ok}

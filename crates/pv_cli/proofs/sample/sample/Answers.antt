@@ -1,4 +1,4 @@
-use Rattle.std.proofs.Common.{◌≡◌, ◌∙◌, ap}
+use Rattle.std.proofs.Common.{ap}
 use Rattle.pv_settle.specs.Settlers.{rule_of}
 use Rattle.pv_cli.specs.Products.{text}
 use Rattle.pv_cli.proofs.sample.sample.Goals as goal

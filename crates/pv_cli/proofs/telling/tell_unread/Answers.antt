@@ -1,4 +1,4 @@
-use Rattle.std.proofs.Common.{rules, refl, sym, subst}
+use Rattle.std.proofs.Common.{refl, sym, subst}
 use Rattle.pv_cli.specs.Ends.{stream, Tells}
 use Rattle.pv_cli.specs.Telling.{refusal_for}
 use Rattle.pv_cli.specs.declared.telling.Unread.{Unread}

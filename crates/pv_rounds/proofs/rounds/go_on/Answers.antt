@@ -1,7 +1,7 @@
-use Rattle.std.proofs.Common.{◌≡◌, ◌≤◌, ◌+◌, ◌*◌, ℕ, List, [], None, rules, arith, ◌∙◌, ap, subst}
+use Rattle.std.proofs.Common.{◌≡◌, ◌+◌, ◌*◌, ℕ, List, [], None, rules, arith, ◌∙◌, ap, subst}
 use Rattle.std.specs.Prelude.{◌≢◌}
 use Rattle.pv_interval.specs.Bounds.{Bounds}
-use Rattle.pv_tree.specs.Trees.{Tree, Seen, opens, first, Paves}
+use Rattle.pv_tree.specs.Trees.{Seen, opens, first}
 use Rattle.pv_workers.specs.Pavings.{IsPaved}
 use Rattle.pv_rounds.specs.Going.{AddUp}
 use Rattle.pv_rounds.proofs.Spending.{saved_on}

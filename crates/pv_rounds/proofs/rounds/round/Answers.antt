@@ -1,4 +1,4 @@
-use Rattle.std.proofs.Common.{◌≡◌, ◌≤◌, ◌+◌, ℕ, arith, sym, ap, subst}
+use Rattle.std.proofs.Common.{◌≡◌, ◌≤◌, ◌+◌, arith, sym, ap, subst}
 use Rattle.pv_tree.specs.Trees.{Tree, Seen}
 use Rattle.pv_board.specs.Rules.{settled_in}
 use Rattle.pv_workers.specs.Pavings.{IsPaved}
