@@ -25,7 +25,10 @@ fn close(connection: Connection<FileStore<Memory>>) -> Result<Files<Memory>, Fai
 {
     match connection.close_files() {
         Ok(files) => Ok(files),
-        Err(_) => Err("not closed")?,
+        Err((_, store)) => {
+            drop(store.close());
+            Err("not closed")?
+        }
     }
 }
 
