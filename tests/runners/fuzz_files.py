@@ -68,7 +68,7 @@ def edited(data, source):
     if kind == 0:
         at = source.randrange(len(data) + 1)
         return data[:at]
-    if kind == 1:
+    if kind == 1 and data:
         at = source.randrange(len(data))
         return data[:at] + bytes([source.choice(b"#0 1:-=+oOXISC\n\r\xff")]) + data[at + source.randrange(2):]
     rows = data.split(b"\n")
