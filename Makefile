@@ -1,4 +1,4 @@
-# make try      a first look in a minute: paves an example by a program that is not proved, and says so
+# make try      a first look in two minutes: paves an example by a program that is not proved, and says so
 # make          proves and builds the program and leaves it as ./paver
 # make demo     the same on JOBS processors; paves an example and leaves its picture as demo/ring.svg
 # make test     the whole test command: the gate and the end-to-end tests
