@@ -1,7 +1,7 @@
 -- The builder's stack, and the meanings of functions one by one.
 use Rattle.std.proofs.Common.{◌≡◌, ℕ, zero, suc, List, [], ◌∷◌, ◌++◌, ◌+◌, ◌-◌, ◌<◌, ◌≤◌, reverse, map, take, drop, get_or, refl, ap, sym, ◌∙◌, length, arith, inl, inr, Option, Some, None}
 use Rattle.std.proofs.lemmas.Bool.{cases_lt}
-use Rattle.std.proofs.lemmas.List.{take_all, length-drop, get_or_past, reverse-append, reverse-reverse, map-append, get_or_append_left, length-append, drop_all, take-append-drop}
+use Rattle.std.proofs.lemmas.List.{take_all, length-drop, get_or_past, reverse-append, reverse-reverse, map-append, get_or_append_left, length-append, length-reverse, drop_all, drop_at, take-append-drop, take-map, take_at}
 use Rattle.std.proofs.Math.Seq.{get_or-append_seam}
 use Rattle.pv_expr.specs.declared.expr.Expr.{Expr}
 use Rattle.pv_expr.specs.Terms.{Term, term_of}
@@ -18,25 +18,11 @@ pub stack-empty : stack_of [] ≡ []
 unfolding Expansion.stack_of
 stack-empty = refl
 
-pub stack-append : (es fs : List Expr) → stack_of (es ++ fs) ≡ reverse (map term_of fs) ++ stack_of es
-unfolding Expansion.stack_of
-stack-append es fs = ap reverse (map-append term_of es fs) ∙ reverse-append (map term_of es) (map term_of fs)
-
 pub take-exact : {A : Type 0} → (n : ℕ) (xs ys : List A) → length xs ≡ n → take n (xs ++ ys) ≡ xs
 take-exact zero [] ys e = refl
 take-exact zero (x ∷ xs) ys e = absurd (omega arith)
 take-exact (suc n) [] ys e = absurd (omega arith)
 take-exact (suc n) (x ∷ xs) ys e = ap (λ zs. x ∷ zs) (take-exact n xs ys (omega arith))
-
-pub drop-exact : {A : Type 0} → (n : ℕ) (xs ys : List A) → length xs ≡ n → drop n (xs ++ ys) ≡ ys
-drop-exact zero [] ys e = refl
-drop-exact zero (x ∷ xs) ys e = absurd (omega arith)
-drop-exact (suc n) [] ys e = absurd (omega arith)
-drop-exact (suc n) (x ∷ xs) ys e = drop-exact n xs ys (omega arith)
-
-pub length-reverse : {A : Type 0} → (xs : List A) → length (reverse xs) ≡ length xs
-length-reverse [] = refl
-length-reverse (x ∷ xs) = ap length (reverse-append (x ∷ []) xs) ∙ length-append (reverse xs) (x ∷ []) ∙ (let e = length-reverse xs in omega arith)
 
 pub behind-keeps : (codes : List (List Op)) (ms : List Meaning) (k : ℕ) → k < length ms → meaning_of (meanings_behind ms codes) k ≡ meaning_of ms k
 behind-keeps [] ms k h = refl
@@ -57,11 +43,6 @@ behind-at (c ∷ cs) ms (suc i) h =
     ap (meaning_of (meanings_behind (ms ++ body_meaning ms c ∷ []) cs)) (omega arith)
     ∙ behind-at cs (ms ++ body_meaning ms c ∷ []) i (omega arith)
 
-pub map-take : {A B : Type 0} → (f : A → B) (i : ℕ) (xs : List A) → map f (take i xs) ≡ take i (map f xs)
-map-take f zero xs = refl
-map-take f (suc i) [] = refl
-map-take f (suc i) (x ∷ xs) = ap (λ zs. f x ∷ zs) (map-take f i xs)
-
 pub map-get_or : {A B : Type 0} → (f : A → B) (xs : List A) (i : ℕ) (d : A) (e : B) → i < length xs → get_or (map f xs) i e ≡ f (get_or xs i d)
 map-get_or f [] i d e h = absurd (omega arith)
 map-get_or f (x ∷ xs) zero d e h = refl
@@ -78,7 +59,7 @@ meaning-at fs i d h =
     let same : length (map code_of fs) ≡ length fs = length-map code_of fs in
     ap (meaning_of (meanings (map code_of fs))) (omega arith)
     ∙ behind-at (map code_of fs) [] i (omega arith)
-    ∙ ap (λ cs. body_meaning (meanings cs) (get_or (map code_of fs) i [])) (sym (map-take code_of i fs))
+    ∙ ap (λ cs. body_meaning (meanings cs) (get_or (map code_of fs) i [])) (take-map code_of i fs)
     ∙ ap (body_meaning (meanings (map code_of (take i fs)))) (map-get_or code_of fs i d [] h)
 
 pub last-parts : {A : Type 0} → (old : List A) (n first : ℕ) → first ≡ length old - n → (take n (reverse old) ≡ reverse (drop first old)) × (drop n (reverse old) ≡ reverse (take first old))
@@ -94,8 +75,8 @@ last-parts old n first e =
           )
       | inr most ↦
           let many : length (reverse (drop first old)) ≡ n = length-reverse (drop first old) ∙ length-drop first old ∙ omega (arith, e, most) in (
-            ap (take n) whole ∙ take-exact n (reverse (drop first old)) (reverse (take first old)) many,
-            ap (drop n) whole ∙ drop-exact n (reverse (drop first old)) (reverse (take first old)) many,
+            ap (take n) whole ∙ take_at (reverse (drop first old)) (reverse (take first old)) n many,
+            ap (drop n) whole ∙ drop_at (reverse (drop first old)) (reverse (take first old)) n many,
           )
     ]
 
@@ -113,7 +94,7 @@ last-values old es n first f e =
 pub last-rest : (old new : List Expr) (n first : ℕ) → first ≡ length old - n → new ≡ take first old → stack_of new ≡ drop n (stack_of old)
 unfolding Expansion.stack_of
 last-rest old new n first f e =
-    sym ((last-parts (map term_of old) n first (f ∙ ap (λ k. k - n) (sym (length-map term_of old)))).1 ∙ ap reverse (sym (map-take term_of first old) ∙ ap (map term_of) (sym e)))
+    sym ((last-parts (map term_of old) n first (f ∙ ap (λ k. k - n) (sym (length-map term_of old)))).1 ∙ ap reverse (take-map term_of first old ∙ ap (map term_of) (sym e)))
 
 pub stack-pop : (old new : List Expr) (e : Expr) → old ≡ new ++ e ∷ [] → (term_of e ≡ top (stack_of old)) × (stack_of new ≡ below (stack_of old))
 stack-pop old new e h =
@@ -143,11 +124,11 @@ behind-length (c ∷ cs) ms =
 pub count-of : (fs : List Function) → length (meanings (map code_of fs)) ≡ length fs
 count-of fs = behind-length (map code_of fs) [] ∙ (let e = length-map code_of fs in omega arith)
 
-pub called-is : (fs : List Function) (i : ℕ) (d : Function) (args : List Term) (e : Term) (code : List Op) (st : List Term) →
-    i < length fs → code ≡ code_of (get_or fs i d) → st ≡ run (meanings (map code_of (take i fs))) args code [] → e ≡ top st →
+pub called-is : (fs : List Function) (i : ℕ) (d : Function) (args : List Term) (e : Term) (code : List Op) →
+    i < length fs → code ≡ code_of (get_or fs i d) → e ≡ top (run (meanings (map code_of (take i fs))) args code []) →
     e ≡ meaning_of (meanings (map code_of fs)) i args
-called-is fs i d args e code st h same ran has =
-    has ∙ ap top (ran ∙ ap (λ z. run (meanings (map code_of (take i fs))) args z []) same) ∙ sym (ap (λ (m : Meaning). m args) (meaning-at fs i d h))
+called-is fs i d args e code h same has =
+    has ∙ ap (λ z. top (run (meanings (map code_of (take i fs))) args z [])) same ∙ sym (ap (λ (m : Meaning). m args) (meaning-at fs i d h))
 
 pub called-past : (fs : List Function) (i : ℕ) (args : List Term) → length fs ≤ i → nothing ≡ meaning_of (meanings (map code_of fs)) i args
 called-past fs i args h =

@@ -1,43 +1,54 @@
--- An argument that no later step names may be anything.
-use Rattle.std.proofs.Common.{◌≡◌, ◌≢◌, ℕ, ◌-◌, List, [], ◌∷◌, Bool, true, false, ◌||◌, nat_eq, refl, sym, ap, ◌∙◌, subst, map, take, drop, length, arith}
+-- A code leaves the same where the arguments that it names are the same.
+use Rattle.std.proofs.Common.{◌≡◌, ℕ, zero, suc, ◌-◌, List, [], ◌∷◌, Bool, true, false, ◌||◌, if◌then◌else◌, nat_eq, refl, sym, ap, ◌∙◌, subst, map, take, drop, length, arith}
 use Rattle.std.proofs.Math.ListN.{set}
-use Rattle.std.proofs.lemmas.List.{get_or-set_other, map-set, take_all, length-drop}
-use Rattle.pv_expr.specs.Terms.{Term, term_of, one, two}
+use Rattle.std.proofs.lemmas.List.{get_or-set_other, map-set, take_rest}
+use Rattle.pv_expr.specs.Terms.{Term, term_of}
 use Rattle.pv_expr.specs.declared.expr.Expr.{Expr}
 use Rattle.pv_code.specs.declared.code.Op.{Op}
-use Rattle.pv_code.specs.declared.code.Op.TheVariants.{Constant, Variable, Parameter, One, Two, Call, Define, Relate}
-use Rattle.pv_code.specs.Expansion.{Meaning, RunsAlike, is_parameter, nothing, occurs, run, step}
+use Rattle.pv_code.specs.declared.code.Op.TheVariants.{Parameter}
+use Rattle.pv_code.specs.Expansion.{IsMarked, Meaning, RunsAlike, argument, filtered, is_parameter, is_used, nothing, occurs, run, step}
 
-neither : (a b : Bool) → (a || b) ≡ false → (a ≡ false) × (b ≡ false)
-neither true b e = absurd cc
-neither false b e = (refl, e)
+itself : (k : ℕ) → nat_eq k k ≡ true
+itself k = grind arith
 
-unlike : (i k : ℕ) → nat_eq k i ≡ false → k ≢ i
-unlike i k e same = grind arith
+either : (b : Bool) → (b || true) ≡ true
+either true = refl
+either false = refl
 
-step_alike : (ms : List Meaning) (args : List Term) (i : ℕ) (x : Term) (o : Op) (st : List Term) → is_parameter i o ≡ false →
-    step ms (set args i x) o st ≡ step ms args o st
-step_alike ms args i x (Parameter k) st e = ap (λ t. t ∷ st) (get_or-set_other args i k x nothing (unlike i k e))
-step_alike ms args i x (Constant f) st e = refl
-step_alike ms args i x (Variable k) st e = refl
-step_alike ms args i x (One u) st e = refl
-step_alike ms args i x (Two b) st e = refl
-step_alike ms args i x (Call k n) st e = refl
-step_alike ms args i x Define st e = refl
-step_alike ms args i x (Relate r) st e = refl
+step_alike : (ms : List Meaning) (a b : List Term) (o : Op) (st : List Term) → ((k : ℕ) → is_parameter k o ≡ true → argument b k ≡ argument a k) → step ms b o st ≡ step ms a o st
+step_alike ms a b (Parameter k) st h = ap (λ t. t ∷ st) (h k (itself k))
+step_alike ms a b o st h = refl
 
-pub runs_alike : (code : List Op) (args : List Term) (i : ℕ) (x : Term) → occurs i code ≡ false → RunsAlike code args (set args i x)
-runs_alike [] args i x e = λ ms st. refl
-runs_alike (o ∷ code) args i x e = λ ms st.
-    let apart = neither (is_parameter i o) (occurs i code) e in
-    ap (run ms (set args i x) code) (step_alike ms args i x o st apart.0) ∙ runs_alike code args i x apart.1 ms (step ms args o st)
+runs_alike : (code : List Op) (a b : List Term) → ((k : ℕ) → occurs k code ≡ true → argument b k ≡ argument a k) → RunsAlike code a b
+runs_alike [] a b h = λ ms st. refl
+runs_alike (o ∷ code) a b h = λ ms st.
+    ap (run ms b code) (step_alike ms a b o st (λ k e. h k (ap (λ c. c || occurs k code) e)))
+    ∙ runs_alike code a b (λ k e. h k (ap (λ c. is_parameter k o || c) e ∙ either (is_parameter k o))) ms (step ms a o st)
 
--- the same of the terms of expressions
+-- where an argument that no step names is another one
 pub moved_alike : (code : List Op) (es : List Expr) (i : ℕ) (e : Expr) → occurs i code ≡ false → RunsAlike code (map term_of es) (map term_of (set es i e))
-moved_alike code es i e no_more = subst (RunsAlike code (map term_of es)) (sym (map-set term_of es i e)) (runs_alike code (map term_of es) i (term_of e) no_more)
+moved_alike code es i e none = subst (RunsAlike code (map term_of es)) (sym (map-set term_of es i e)) (runs_alike code (map term_of es) (set (map term_of es) i (term_of e))
+    (λ k named. get_or-set_other (map term_of es) i k (term_of e) nothing (λ same. absurd (apart (sym named ∙ ap (λ z. occurs z code) same ∙ none)))))
+  where
+    apart : true ≡ false → ⊥
+    apart h = cc
+
+pub filtered-at : (us : List Bool) (ts : List Term) (i : ℕ) → argument (filtered us ts) i ≡ (if is_used us i then argument ts i else nothing)
+filtered-at [] ts i = refl
+filtered-at (u ∷ us) [] i = alike (is_used (u ∷ us) i)
+  where
+    alike : (b : Bool) → nothing ≡ (if b then nothing else nothing)
+    alike true = refl
+    alike false = refl
+filtered-at (true ∷ us) (t ∷ ts) zero = refl
+filtered-at (false ∷ us) (t ∷ ts) zero = refl
+filtered-at (true ∷ us) (t ∷ ts) (suc i) = filtered-at us ts i
+filtered-at (false ∷ us) (t ∷ ts) (suc i) = filtered-at us ts i
+
+-- where arguments that no step names are left out
+pub filtered_alike : (code : List Op) (us : List Bool) (args : List Term) → IsMarked us code → RunsAlike code args (filtered us args)
+filtered_alike code us args marked = runs_alike code args (filtered us args) (λ k named. filtered-at us args k ∙ ap (λ (b : Bool). if b then argument args k else nothing) (marked k named))
 
 -- the steps from a place on, as a slice
 pub alike_behind : (code : List Op) (k : ℕ) (a b : List Term) → RunsAlike (take (length code - k) (drop k code)) a b → RunsAlike (drop k code) a b
-alike_behind code k a b h =
-    let rest : length (drop k code) ≡ length code - k = length-drop k code in
-    subst (λ (z : List Op). RunsAlike z a b) (take_all (length code - k) (drop k code) (omega arith)) h
+alike_behind code k a b h = subst (λ (z : List Op). RunsAlike z a b) (take_rest code k) h

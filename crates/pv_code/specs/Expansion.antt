@@ -1,5 +1,5 @@
 -- What a code means: the expressions that it writes, with the body of each function in place of its calls.
-use Rattle.std.specs.Prelude.{◌+◌, ◌-◌, ◌≤◌, ◌≡◌, ℕ, zero, suc, ◌++◌, List, [], ◌∷◌, Bool, true, false, pos, length, map, reverse, take, drop, get_or, nat_eq, ◌||◌, Option, Some, None}
+use Rattle.std.specs.Prelude.{◌≡◌, ℕ, zero, suc, ◌++◌, List, [], ◌∷◌, Bool, true, false, pos, map, reverse, take, drop, get_or, nat_eq, ◌||◌, Option, Some, None}
 use Rattle.pv_expr.specs.declared.expr.Expr.{Expr}
 use Rattle.pv_expr.specs.declared.constraint.Relation.{Relation}
 use Rattle.pv_expr.specs.declared.constraint.Constraint.{Constraint}
@@ -104,35 +104,16 @@ code_of f = f.code.items
 
 -- ---- The part of a code that is used
 
+-- beyond the marks nothing is left out
 abbrev pub is_used : List Bool → ℕ → Bool
-is_used uses i = get_or uses i false
+is_used uses i = get_or uses i true
 
--- the values of which a mark says that they are used
+-- the arguments, with nothing in place of those that are left out
 abbrev pub filtered : List Bool → List Term → List Term
-filtered [] ts = []
+filtered [] ts = ts
 filtered (u ∷ us) [] = []
 filtered (true ∷ us) (t ∷ ts) = t ∷ filtered us ts
-filtered (false ∷ us) (t ∷ ts) = filtered us ts
-
--- how many of the first so many are used
-abbrev pub rank : List Bool → ℕ → ℕ
-rank us zero = 0
-rank [] (suc n) = 0
-rank (true ∷ us) (suc n) = suc (rank us n)
-rank (false ∷ us) (suc n) = rank us n
-
--- the marks of the first so many
-abbrev pub wants : List Bool → ℕ → List Bool
-wants us zero = []
-wants [] (suc n) = false ∷ wants [] n
-wants (u ∷ us) (suc n) = u ∷ wants us n
-
--- how many values a step takes
-abbrev pub arity_of : Op → ℕ
-arity_of (One u) = 1
-arity_of (Two b) = 2
-arity_of (Call k n) = n
-arity_of o = 0
+filtered (false ∷ us) (t ∷ ts) = nothing ∷ filtered us ts
 
 -- a step that leaves a value
 abbrev pub IsValue : Op → Type 0
@@ -140,89 +121,28 @@ IsValue Define = ⊥
 IsValue (Relate r) = ⊥
 IsValue o = Unit {0}
 
-abbrev pub IsEnd : Op → Type 0
-IsEnd Define = Unit {0}
-IsEnd (Relate r) = Unit {0}
-IsEnd o = ⊥
-
 -- the marks of a function's parameters
 abbrev pub callee : List Function → ℕ → List Bool
 callee [] k = []
 callee (f ∷ fs) zero = f.uses.items
 callee (f ∷ fs) (suc k) = callee fs k
 
--- which of the values that it takes a step uses
-abbrev pub uses_of : List Function → Op → List Bool
-uses_of fs (One u) = true ∷ []
-uses_of fs (Two b) = true ∷ true ∷ []
-uses_of fs (Call k n) = callee fs k
-uses_of fs o = []
-
--- a function that is its one used parameter alone
-abbrev pub IsAlone : List Function → ℕ → Type 0
-IsAlone [] k = ⊥
-IsAlone (f ∷ fs) zero = f.code.items ≡ Parameter 0 ∷ []
-IsAlone (f ∷ fs) (suc k) = IsAlone fs k
-
 -- the functions' own codes, over the arguments that they use, have these meanings
 abbrev pub Stand : List Function → List Meaning → Type 0
 Stand fs ms = (k : ℕ) (args : List Term) → meaning_of ms k args ≡ meaning_of (meanings (map code_of fs)) k (filtered (callee fs k) args)
-
--- a used step does with the values that it uses what the step does with all
-abbrev pub KeepsUsed : List Function → Op → List Op → List Op → Type 0
-KeepsUsed fs o before after = (ms : List Meaning) (args a rest : List Term) → Stand fs ms → length a ≡ arity_of o →
-    run (meanings (map code_of fs)) args (reverse after) (filtered (reverse (wants (uses_of fs o) (arity_of o))) a ++ rest)
-    ≡ run (meanings (map code_of fs)) args (reverse before) (top (step ms args o a) ∷ rest)
-
--- with one step more in front, the wanted values on top of a stack still lead to the same
-abbrev pub KeepsStep : List Function → Op → List Bool → List Op → List Bool → List Op → Type 0
-KeepsStep fs o wanted before wanted' after = (ms : List Meaning) (args st : List Term) → Stand fs ms → length wanted' ≤ length st →
-    (length wanted ≤ length (step ms args o st))
-    × (run (meanings (map code_of fs)) args (reverse after) (filtered (reverse wanted') st)
-    ≡ run (meanings (map code_of fs)) args (reverse before) (filtered (reverse wanted) (step ms args o st)))
 
 -- the used part of a code leaves the last so many values that the code leaves
 abbrev pub KeepsCode : List Function → List Op → ℕ → List Op → Type 0
 KeepsCode fs code n kept = (ms : List Meaning) (args : List Term) → Stand fs ms → run (meanings (map code_of fs)) args kept [] ≡ take n (run ms args code [])
 
--- a parameter that occurs is marked
-abbrev pub IsMarked : List Bool → Op → Type 0
-IsMarked uses (Parameter i) = is_used uses i ≡ true
-IsMarked uses o = Unit {0}
-
--- over the parameters that are used alone
-abbrev pub renumber : List Bool → Op → Op
-renumber uses (Parameter i) = Parameter (rank uses i)
-renumber uses o = o
+-- each parameter that occurs is marked
+abbrev pub IsMarked : List Bool → List Op → Type 0
+IsMarked uses code = (i : ℕ) → occurs i code ≡ true → is_used uses i ≡ true
 
 -- a function's code, over the arguments that it uses, leaves the value that its body leaves
 abbrev pub KeepsBody : List Function → List Op → Function → Type 0
 KeepsBody fs body f = (ms : List Meaning) (args : List Term) → Stand fs ms →
     body_meaning (meanings (map code_of fs)) f.code.items (filtered f.uses.items args) ≡ body_meaning ms body args
-
--- ---- Codes that take no value that is not there
-
--- how many values there are behind a step at least
-abbrev pub height_behind : Op → ℕ → ℕ
-height_behind Define h = h
-height_behind (Relate r) h = h
-height_behind o h = h - arity_of o + 1
-
--- each step finds the values that it takes, and so many are left
-abbrev pub HasValues : ℕ → List Op → ℕ → Type 0
-HasValues h [] n = n ≤ h
-HasValues h (o ∷ code) n = (arity_of o ≤ h) × HasValues (height_behind o h) code n
-
--- the values that are wanted before a step are there where those behind it are
-abbrev pub WantsPresent : Op → List Bool → List Bool → Type 0
-WantsPresent o wanted wanted' = (h : ℕ) → arity_of o ≤ h → length wanted ≤ height_behind o h → length wanted' ≤ h
-
--- each body leaves a value, and each constraint its two sides
-abbrev pub AreParts : ℕ → List Op → Type 0
-AreParts h [] = Unit {0}
-AreParts h (Define ∷ code) = (1 ≤ h) × AreParts 0 code
-AreParts h (Relate r ∷ code) = (2 ≤ h) × AreParts 0 code
-AreParts h (o ∷ code) = (arity_of o ≤ h) × AreParts (h - arity_of o + 1) code
 
 -- ---- The constraints of a code
 

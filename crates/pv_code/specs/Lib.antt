@@ -1,3 +1,4 @@
 pub mod Expansion
 pub mod Fractions
 pub mod Sizes
+pub mod Values

@@ -1,11 +1,12 @@
 -- How large the constraints of a code are, with all calls expanded; and which one is too large.
-use Rattle.std.specs.Prelude.{◌≡◌, ℕ, zero, suc, ◌+◌, ◌-◌, ◌*◌, ◌^◌, ◌<◌, ◌≤◌, List, [], ◌∷◌, All, Option, Some, None, sum_by, length, take, reverse, min, max, get_or}
+use Rattle.std.specs.Prelude.{◌≡◌, ℕ, zero, suc, ◌+◌, ◌-◌, ◌*◌, ◌^◌, ◌<◌, ◌≤◌, List, [], ◌∷◌, All, Option, Some, None, sum_by, length, take, min, max, get_or}
 use Rattle.pv_expr.specs.Terms.{Term, node_count, depth_of}
 use Rattle.pv_code.specs.declared.code.Op.{Op}
 use Rattle.pv_code.specs.declared.code.Op.TheVariants.{Call}
 use Rattle.pv_code.specs.declared.expand.Function.{Function}
 use Rattle.pv_code.specs.declared.measure.Measure.{Measure}
-use Rattle.pv_code.specs.Expansion.{Meaning, Sides, argument, run}
+use Rattle.pv_code.specs.declared.measure.Place.{Place}
+use Rattle.pv_code.specs.Expansion.{Meaning, Sides, argument}
 
 -- ---- The limits
 
@@ -40,51 +41,48 @@ IsRoom before s (Some nodes) = IsShallow s × (nodes ≡ before + nodes_of s) ×
 abbrev pub cut : ℕ → ℕ
 cut n = min n (2 ^ 64 - 1)
 
--- the nodes of the arguments, each as many times as its parameter is used, up to a parameter
-unfoldable pub nodes_in : ℕ → List ℕ → List Term → ℕ
-nodes_in zero uses args = 0
-nodes_in (suc n) uses args = nodes_in n uses args + get_or uses n 0 * node_count (argument args n)
+-- what f makes of the first so many
+unfoldable pub total : (ℕ → ℕ → ℕ) → (ℕ → ℕ) → ℕ → ℕ
+total f g zero = 0
+total f g (suc n) = f (total f g n) (g n)
 
--- where an argument of this depth ends, if its root is at this place on a way down: 0 for no place
+abbrev pub nowhere : Place
+nowhere = record { uses = 0; reach = 0 }
+
+-- the nodes of the first so many arguments, each as many times as it is used
+abbrev pub nodes_in : ℕ → List Place → List Term → ℕ
+nodes_in n places args = total (λ a b. a + b) (λ k. (get_or places k nowhere).uses * node_count (argument args k)) n
+
+-- where a part of this depth ends, if its root is at this place on a way down: 0 for no place
 abbrev pub end_of : ℕ → ℕ → ℕ
 end_of zero depth = 0
 end_of (suc above) depth = above + depth
 
--- a place so many nodes further down
-abbrev pub lowered : ℕ → ℕ → ℕ
-lowered zero nodes = 0
-lowered (suc above) nodes = cut (suc above + nodes)
+-- where the deepest of the first so many arguments ends
+abbrev pub depth_in : ℕ → List Place → List Term → ℕ
+depth_in n places args = total (λ a b. max a b) (λ k. end_of (get_or places k nowhere).reach (depth_of (argument args k))) n
 
--- a place within an argument that is at a place
+-- of the same part in two expressions side by side
+abbrev pub beside : Place → Place → Place
+beside a b = record { uses = cut (a.uses + b.uses); reach = max a.reach b.reach }
+
+-- a place within something that is at a place
 abbrev pub moved : ℕ → ℕ → ℕ
 moved zero place = 0
-moved (suc above) place = lowered place above
+moved (suc above) zero = 0
+moved (suc above) (suc place) = cut (suc place + above)
 
--- where the deepest argument ends, up to a parameter
-unfoldable pub depth_in : ℕ → List ℕ → List Term → ℕ
-depth_in zero reach args = 0
-depth_in (suc n) reach args = max (depth_in n reach args) (end_of (get_or reach n 0) (depth_of (argument args n)))
+abbrev pub within : Place → Place → Place
+within a whole = record { uses = cut (a.uses * whole.uses); reach = moved whole.reach a.reach }
 
--- the depths of a copy whose root is at this place
-pub record AreBelow (reach : ℕ) (m copy : Measure) : Type 0 where
-  pub depth : copy.depth ≡ cut (end_of reach m.depth)
-  pub reach_is : (k : ℕ) → k < 12 → get_or copy.reach k 0 ≡ moved reach (get_or m.reach k 0)
+-- what has so many nodes and this depth over these arguments has the size that the measure says, up to 2^64 - 1. No function has
+-- the last parameter of a measure: it stands for nodes of its own
+pub record IsSizeOf (m : Measure) (args : List Term) (nodes depth : ℕ) : Type 0 where
+  pub nodes_are : cut nodes ≡ cut (nodes_in 13 m.places args)
+  pub depth_is : cut depth ≡ cut (depth_in 13 m.places args)
 
--- a term over these arguments has the size that the measure says of it, up to 2^64 - 1
-pub record IsSize (m : Measure) (args : List Term) (t : Term) : Type 0 where
-  pub nodes : cut (node_count t) ≡ cut (m.nodes + nodes_in 12 m.uses args)
-  pub depth : cut (depth_of t) ≡ cut (max m.depth (depth_in 12 m.reach args))
-
--- the same of each of them
-abbrev pub AreSizes : List Term → List Measure → List Term → Type 0
-AreSizes args [] [] = Unit {0}
-AreSizes args [] (t ∷ ts) = ⊥
-AreSizes args (m ∷ ms) [] = ⊥
-AreSizes args (m ∷ ms) (t ∷ ts) = IsSize m args t × AreSizes args ms ts
-
--- a stack of measures, the top last, is one of the sizes of these terms, the top first
-unfoldable pub AreStacked : List Measure → List Term → List Term → Type 0
-AreStacked stack args ts = AreSizes args (reverse stack) ts
+abbrev pub IsSize : Measure → List Term → Term → Type 0
+IsSize m args t = IsSizeOf m args (node_count t) (depth_of t)
 
 -- the measure of a function, at all arguments that it may have
 abbrev pub IsMeasured : Measure → Meaning → Type 0
@@ -96,10 +94,6 @@ AreMeasured [] [] = Unit {0}
 AreMeasured [] (m ∷ ms) = ⊥
 AreMeasured (f ∷ fs) [] = ⊥
 AreMeasured (f ∷ fs) (m ∷ ms) = IsMeasured f.measure m × AreMeasured fs ms
-
--- the measures of what a code leaves
-abbrev pub MeasuresCode : List Function → List Op → List Measure → Type 0
-MeasuresCode fs code stack = (ms : List Meaning) (args : List Term) → AreMeasured fs ms → length args ≤ 12 → AreStacked stack args (run ms args code [])
 
 -- a call has no more arguments than a function may have parameters
 abbrev pub IsShortCall : Op → Type 0

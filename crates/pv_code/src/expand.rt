@@ -1,13 +1,13 @@
 // The expansion of calls: top-down, over what is used alone.
 
-ghost use Rattle.std.specs.Bool.{MatchBool};
-ghost use Rattle.std.specs.Prelude.{◌≡◌, ℕ, All, true, ◌∷◌, ◌++◌, ◌+◌, ◌<◌, ◌≤◌, [], List, length, map, reverse, take, drop, IfOk, OnOk, IsOk, IsTrue, if◌then◌else◌};
-ghost use Rattle.pv_expr.specs.Terms.{term_of, one, two};
-ghost use Rattle.pv_code.specs.Expansion.{argument, body_meaning, meaning_of, meanings, run, step, is_used, rank, wants, arity_of, uses_of, callee, nothing, renumber, stacked, HasValues, WantsPresent, IsAlone, IsEnd, IsMarked, IsValue, RunsAlike, occurs, is_parameter, KeepsBody, KeepsUsed, KeepsStep, KeepsCode, Meaning, Stand, sides_of, part_sides, stack_of, code_of, unary_of, binary_of, top, below};
+ghost use Rattle.std.specs.Prelude.{◌≡◌, All, true, ◌∷◌, ◌+◌, [], List, length, map, reverse, take, drop, IfOk, OnOk};
+ghost use Rattle.pv_expr.specs.Terms.{Term, term_of, one, two};
+ghost use Rattle.pv_code.specs.Expansion.{argument, body_meaning, meaning_of, meanings, run, step, nothing, stacked, RunsAlike, occurs, is_parameter, IsMarked, KeepsBody, Meaning, Stand, sides_of, part_sides, stack_of, code_of, unary_of, binary_of, top, below};
 ghost use Rattle.pv_code.specs.Sizes.{AreMeasured, IsMeasured, IsShortCall};
 
 use crate::code::{Binary, Op, Unary};
-use crate::measure::{Measure, measures, topmost};
+use crate::measure::Measure;
+use crate::value::{topmost, values};
 use pv_expr::{Constraint, Expr, Relation};
 use pv_num::Memory;
 use std::alloc::Global;
@@ -17,9 +17,9 @@ use std::mem;
 #[derive(Drop)]
 pub struct Function {
     pub measure: Measure,
-    /// Which of its parameters its body uses.
+    /// Which of its parameters its code uses.
     pub uses: Vec<bool>,
-    /// The part of its body that is used, over the parameters that are used.
+    /// The part of its body that is used.
     pub code: Vec<Op>,
 }
 
@@ -27,270 +27,59 @@ impl Function {
     /// The function of a body, over the functions before it.
     pub fn of(alloc: Global, functions: &[Function], body: &[Op]) -> Result<Function, Memory>
         requires short { All IsShortCall body.now }
-        requires present { HasValues 0 body.now 1 }
         ensures keeps { IfOk result (λ f. KeepsBody functions.now body.now f) }
         ensures measured { IfOk result (λ f. (ms : List Meaning) → AreMeasured functions.now ms →
             IsMeasured f.measure (body_meaning ms body.now)) }
     {
-        let mut left = measures(alloc, functions, body)?;
-        let measure = topmost(&mut left);
-        let kept = used_code(alloc, functions, body, 1)?;
-        let uses = marks(alloc, kept.as_slice())?;
-        let code = renumbered(alloc, uses.as_slice(), kept.as_slice())?;
+        let mut left = values(alloc, functions, body)?;
+        let value = topmost(alloc, &mut left)?;
         Ok(Function {
-            measure,
-            uses,
-            code,
+            measure: value.measure,
+            uses: marks(alloc, value.code.as_slice())?,
+            code: value.code,
         })
-    }
-
-    // Whether it is its one used parameter alone.
-    fn is_parameter(&self) -> bool
-        ensures { IsTrue result → self.now.code.items ≡ Op.Parameter 0 ∷ [] }
-    {
-        match self.code.as_slice() {
-            [Op::Parameter(0)] => true,
-            _ => false,
-        }
     }
 }
 
 // Which parameters occur.
 fn marks(alloc: Global, code: &[Op]) -> Result<Vec<bool>, Memory>
-    ensures { IfOk result (λ uses. All (IsMarked uses.items) code.now) }
+    ensures { IfOk result (λ uses. IsMarked uses.items code.now) }
 {
-    let mut uses = vec![in alloc; false; 256]?;
-    for op in code {
-        if let Op::Parameter(i) = *op {
-            uses[i as usize] = true;
-        }
+    let mut uses = Vec::new(alloc);
+    for i in 0..12 {
+        uses.push(occurs(code, i))?;
     }
     Ok(uses)
 }
 
-// The code over the parameters that are used alone, numbered anew.
-fn renumbered(alloc: Global, uses: &[bool], code: &[Op]) -> Result<Vec<Op>, Memory>
-    ensures { IfOk result (λ made. made.items ≡ map (renumber uses.now) code.now) }
-{
-    let mut made = Vec::new(alloc);
-    for op in code {
-        made.push(renumber(uses, *op))?;
-    }
-    Ok(made)
-}
-
-fn renumber(uses: &[bool], op: Op) -> Op
-    ensures { result ≡ renumber uses.now op }
-{
-    match op {
-        Op::Parameter(i) => Op::Parameter(rank(uses, i)),
-        _ => op,
-    }
-}
-
-// The marks of a function's parameters.
-fn uses_at(functions: &[Function], function: u8) -> &[bool]
-    ensures { result.now ≡ callee functions.now function }
-{
-    match functions.get(function as usize) {
-        Some(callee) => callee.uses.as_slice(),
-        None => &[],
-    }
-}
-
-// Whether a function is its one used parameter alone.
-fn is_alone(functions: &[Function], function: u8) -> bool
-    ensures { IsTrue result → IsAlone functions.now function }
-{
-    match functions.get(function as usize) {
-        Some(callee) => callee.is_parameter(),
-        None => false,
-    }
-}
-
-// How many of the first so many parameters are used.
-fn rank(uses: &[bool], n: u8) -> u8
-    ensures { result ≡ rank uses.now n }
-{
-    let mut count: u8 = 0;
-    for i in 0..n {
-        count = more(count, is_used(uses, i));
-    }
-    count
-}
-
-fn more(count: u8, used: bool) -> u8
-    requires { count < 255 }
-    ensures { result ≡ (if used then count + 1 else count) }
-{
-    if used { count + 1 } else { count }
-}
-
-fn is_used(uses: &[bool], i: u8) -> bool
-    ensures { result ≡ is_used uses.now i }
-{
-    match uses.get(i as usize) {
-        Some(used) => *used,
-        None => false,
-    }
-}
-
-/// The part of a code that is used where its last so many values are: no step of an argument that a callee leaves out, and no
-/// call of a function that is a parameter alone.
-pub fn used_code(
-    alloc: Global,
-    functions: &[Function],
-    code: &[Op],
-    values: u8,
-) -> Result<Vec<Op>, Memory>
-    requires few { values ≤ 2 }
-    requires present { HasValues 0 code.now values }
-    ensures { IfOk result (λ kept. KeepsCode functions.now code.now values kept.items) }
-{
-    let mut wanted: Vec<bool> = Vec::new(alloc);
-    want(&[true, true], values, &mut wanted)?;
-    let mut kept = Vec::new(alloc);
-    let mut i = code.len();
-    while i > 0 {
-        i -= 1;
-        keep(functions, code[i], &mut wanted, &mut kept)?;
-    }
-    Ok(turned(kept))
-}
-
-fn turned(mut code: Vec<Op>) -> Vec<Op>
-    ensures { result.items ≡ reverse code.items }
-{
-    code.as_mut_slice().reverse();
-    code
-}
-
-// Goes back over one step: keeps it where its value is wanted, and wants its arguments.
-fn keep(
-    functions: &[Function],
-    op: Op,
-    wanted: &mut Vec<bool>,
-    kept: &mut Vec<Op>,
-) -> Result<(), Memory>
-    ensures keeps { OnOk result
-        (KeepsStep functions.now op wanted.old.items kept.old.items
-        wanted.new.items kept.new.items) }
-    ensures present { OnOk result (WantsPresent op wanted.old.items wanted.new.items) }
-{
-    if !is_value(op) {
-        return Ok(());
-    }
-    let Some(used) = wanted.pop() else {
-        return Ok(());
-    };
-    if used {
-        keep_used(functions, op, kept)?;
-        want_used(functions, op, wanted)?;
-    } else {
-        want(&[], arity_of(op), wanted)?;
-    }
-    Ok(())
-}
-
-fn is_value(op: Op) -> bool
-    ensures { MatchBool result (IsValue op) (IsEnd op) }
-{
-    match op {
-        Op::Define | Op::Relate(_) => false,
-        _ => true,
-    }
-}
-
-// How many values a step takes.
-fn arity_of(op: Op) -> u8
-    ensures { result ≡ arity_of op }
-{
-    match op {
-        Op::One(_) => 1,
-        Op::Two(_) => 2,
-        Op::Call { arity, .. } => arity,
-        _ => 0,
-    }
-}
-
-// Keeps a step that is used: a call of a function that is a parameter alone is its argument.
-fn keep_used(functions: &[Function], op: Op, kept: &mut Vec<Op>) -> Result<(), Memory>
-    requires { IsValue op }
-    ensures { OnOk result (KeepsUsed functions.now op kept.old.items kept.new.items) }
-{
-    match op {
-        Op::Call { function, arity } => {
-            let count = rank(uses_at(functions, function), arity);
-            if count != 1 || !is_alone(functions, function) {
-                kept.push(Op::Call {
-                    function,
-                    arity: count,
-                })?;
-            }
-        }
-        _ => kept.push(op)?,
-    }
-    Ok(())
-}
-
-// Wants those of a step's values that it uses.
-fn want_used(functions: &[Function], op: Op, wanted: &mut Vec<bool>) -> Result<(), Memory>
-    ensures { OnOk result (wanted.new.items ≡
-        wanted.old.items ++ wants (uses_of functions.now op) (arity_of op)) }
-{
-    match op {
-        Op::One(_) => want(&[true], 1, wanted),
-        Op::Two(_) => want(&[true, true], 2, wanted),
-        Op::Call { function, arity } => want(uses_at(functions, function), arity, wanted),
-        _ => Ok(()),
-    }
-}
-
-// Wants so many values by their marks, the last on top.
-fn want(uses: &[bool], arity: u8, wanted: &mut Vec<bool>) -> Result<(), Memory>
-    ensures { OnOk result (wanted.new.items ≡ wanted.old.items ++ wants uses.now arity) }
-{
-    for i in 0..arity {
-        wanted.push(is_used(uses, i))?;
-    }
-    Ok(())
-}
-
-/// The expressions that a used code leaves on the stack, with the arguments in place of the parameters that are used.
-/// An argument is moved to where it stands last, and copied elsewhere, so that a chain of calls copies nothing.
+/// The expression that a code leaves on top of the stack, with the arguments in place of the parameters. An argument is
+/// moved to where it stands last, and copied elsewhere, so that a chain of calls copies nothing.
 #[cycle(expansion)]
-pub fn expand(
+fn expand(
     alloc: Global,
     functions: &[Function],
     code: &[Op],
     arguments: &mut [Expr],
-) -> Result<Vec<Expr>, Memory>
-    ensures { IfOk result (λ es. stack_of es.items ≡
-        run (meanings (map code_of functions.now)) (map term_of arguments.old) code.now []) }
+) -> Result<Expr, Memory>
+    ensures { IfOk result (λ e. term_of e ≡
+        top (run (meanings (map code_of functions.now)) (map term_of arguments.old) code.now [])) }
 {
     let mut stack: Vec<Expr> = Vec::new(alloc);
     for i in 0..code.len() {
-        let made = made_by(
-            alloc,
-            functions,
-            code[i],
-            &code[i + 1..],
-            arguments,
-            &mut stack,
-        )?;
+        let rest = &code[i + 1..];
+        let made = made_by(alloc, functions, code[i], rest, arguments, &mut stack)?;
         if let Some(value) = made {
             stack.push(value)?;
         }
     }
-    Ok(stack)
+    Ok(taken(&mut stack))
 }
 
 /// The expression of a code that calls no functions.
 pub fn expression(alloc: Global, code: &[Op]) -> Result<Expr, Memory>
     ensures { IfOk result (λ e. term_of e ≡ top (run [] [] code.now [])) }
 {
-    let mut made = expand(alloc, &[], code, &mut [])?;
-    Ok(taken(&mut made))
+    expand(alloc, &[], code, &mut [])
 }
 
 /// The constraint of a code that leaves its two sides.
@@ -300,18 +89,16 @@ pub fn constraint(
     code: &[Op],
     relation: Relation,
 ) -> Result<Constraint, Memory>
-    requires { HasValues 0 code.now 2 }
     ensures { IfOk result (λ c. (ms : List Meaning) → Stand functions.now ms → sides_of c ≡
         part_sides ms code.now relation) }
 {
-    let used = used_code(alloc, functions, code, 2)?;
-    let mut sides = expand(alloc, functions, used.as_slice(), &mut [])?;
-    let right = taken(&mut sides);
-    let left = taken(&mut sides);
+    let mut sides = values(alloc, functions, code)?;
+    let right = topmost(alloc, &mut sides)?;
+    let left = topmost(alloc, &mut sides)?;
     Ok(Constraint {
-        left,
+        left: expand(alloc, functions, left.code.as_slice(), &mut [])?,
         relation,
-        right,
+        right: expand(alloc, functions, right.code.as_slice(), &mut [])?,
     })
 }
 
@@ -365,13 +152,8 @@ fn called(
     if i >= functions.len() {
         return Ok(nothing());
     }
-    let mut made = expand(
-        alloc,
-        &functions[..i],
-        functions[i].code.as_slice(),
-        arguments,
-    )?;
-    Ok(taken(&mut made))
+    let code = functions[i].code.as_slice();
+    Ok(expand(alloc, &functions[..i], code, arguments)?)
 }
 
 // The last so many, in the order in which they were put there.

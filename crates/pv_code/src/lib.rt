@@ -6,8 +6,10 @@ mod code;
 mod expand;
 mod fraction;
 mod measure;
+mod value;
 
 pub use code::{Binary, Op, Unary};
 pub use expand::{Function, constraint, expression};
 pub use fraction::{Fraction, is_quotient_at_most};
-pub use measure::{Measure, nodes_with};
+pub use measure::{Measure, Place};
+pub use value::nodes_with;

@@ -10,10 +10,10 @@ use Rattle.pv_grammar.specs.declared.symbol.Symbol.{Symbol}
 use Rattle.pv_grammar.specs.declared.symbol.Symbol.TheVariants.{Function as FunctionName}
 use Rattle.pv_grammar.specs.ByItems.{BeginsByItems}
 use Rattle.pv_grammar.specs.Causes.{Begins, as_known}
-use Rattle.pv_grammar.specs.Grammar.{Derives, MayEnd, Produced, arguments, begun, done, expression_items, factor, left_out, produced, step_of, system_items, with_more}
+use Rattle.pv_grammar.specs.Grammar.{Derives, MayEnd, Produced, begun, done, expression_items, left_out, produced, step_of, system_items}
 use Rattle.pv_grammar.specs.Productions.{IsExpression, IsSystem}
 use Rattle.pv_grammar.specs.TreeCodes.{AreKnown, IsKnown}
-use Rattle.pv_grammar.proofs.Forward.{head_is, nil_cons, none_some, tail_is}
+use Rattle.pv_grammar.proofs.Forward.{head_is, nil_cons, none_some, some_is, tail_is}
 use Rattle.pv_grammar.proofs.TreeBuilding.{expression_tree, system_tree}
 use Rattle.pv_grammar.proofs.TreeReadings.{expression_text, system_text}
 
@@ -35,30 +35,13 @@ shape (Some p) = Some (map plain p.0)
 same_count : (n : ℕ) → n - 1 ≡ suc (n - 1) - 1
 same_count n = omega arith
 
-factor_alike : (s : Symbol) → shape (factor s) ≡ shape (factor (tame s))
-factor_alike (FunctionName op arity) =
-    ap (λ (n : ℕ). Some (Exactly Open ∷ WantFactor ∷ MoreFactors ∷ MoreTerms ∷ MoreArguments n ∷ Then Define ∷ MaybePower ∷ [])) (same_count arity)
-factor_alike s = refl
-
-abbrev further : List Item
-further = MoreFactors ∷ MoreTerms ∷ WantRelation ∷ MoreConstraints ∷ []
-
-constraint_alike : (s : Symbol) → shape (with_more further (factor s)) ≡ shape (with_more further (factor (tame s)))
-constraint_alike (FunctionName op arity) =
-    ap (λ (n : ℕ). Some (Exactly Open ∷ WantFactor ∷ MoreFactors ∷ MoreTerms ∷ MoreArguments n ∷ Then Define ∷ MaybePower ∷ further)) (same_count arity)
-constraint_alike s = refl
-
-arguments_alike : (n : ℕ) (s : Symbol) → shape (arguments n s) ≡ shape (arguments n (tame s))
-arguments_alike zero (FunctionName op arity) = refl
-arguments_alike (suc n) (FunctionName op arity) = refl
-arguments_alike zero s = refl
-arguments_alike (suc n) s = refl
-
 alike : (i : Item) (s : Symbol) → shape (produced i s) ≡ shape (produced (plain i) (tame s))
 alike (Then op) s = refl
-alike WantFactor s = factor_alike s
-alike MaybeConstraint s = constraint_alike s
-alike (MoreArguments n) s = arguments_alike n s
+alike WantFactor (FunctionName op arity) =
+    ap (λ (n : ℕ). Some (Exactly Open ∷ WantFactor ∷ MoreFactors ∷ MoreTerms ∷ MoreArguments n ∷ Then Define ∷ MaybePower ∷ [])) (same_count arity)
+alike MaybeConstraint (FunctionName op arity) =
+    ap (λ (n : ℕ). Some (Exactly Open ∷ WantFactor ∷ MoreFactors ∷ MoreTerms ∷ MoreArguments n ∷ Then Define ∷ MaybePower ∷ MoreFactors ∷ MoreTerms ∷ WantRelation ∷ MoreConstraints ∷ [])) (same_count arity)
+alike (MoreArguments zero) (FunctionName op arity) = refl
 alike i (FunctionName op arity) = refl
 alike i s = refl
 
@@ -120,12 +103,9 @@ plain_may : (i : Item) → MayEnd (plain i) → MayEnd i
 plain_may (Then op) h = tt
 plain_may i h = h
 
-some_same : {X : Type 0} {x y : X} → Some x ≡ Some y → x ≡ y
-some_same e = cc
-
 of_shape : (o : Option Produced) (l : List Item) → shape o ≡ Some l → (p : Produced) × (o ≡ Some p) × (l ≡ map plain p.0)
 of_shape None l e = absurd (none_some refl e)
-of_shape (Some p) l e = (p, refl, sym (some_same e))
+of_shape (Some p) l e = (p, refl, sym (some_is e))
 
 produced_alike : (i j : Item) (s r : Symbol) (p : Produced) → plain i ≡ plain j → tame s ≡ tame r → produced i s ≡ Some p →
     (q : Produced) × (produced j r ≡ Some q) × (map plain p.0 ≡ map plain q.0)

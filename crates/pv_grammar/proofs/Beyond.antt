@@ -7,7 +7,7 @@ use Rattle.pv_grammar.specs.declared.cause.Cause.{Cause}
 use Rattle.pv_grammar.specs.declared.cause.Cause.TheVariants.{UnknownName, DuplicateName, TooManyVariables, TooManyConstraints, TooManyFunctions, TooDeep, Unexpected}
 use Rattle.pv_grammar.specs.declared.counts.Counts.{Counts}
 use Rattle.pv_grammar.specs.declared.counts.Phase.{Phase}
-use Rattle.pv_grammar.specs.declared.counts.Phase.TheVariants.{Between, Constants, FunctionName, Parameters, Body, Variables, Bounds, NextConstraint, Sides}
+use Rattle.pv_grammar.specs.declared.counts.Phase.TheVariants.{Parameters, Body, Variables, NextConstraint, Sides}
 use Rattle.pv_grammar.specs.declared.machine.Item.{Item}
 use Rattle.pv_grammar.specs.declared.machine.Item.TheVariants.{Exactly, MaybeConstraint, MaybePower, MoreArguments, MoreConstraints, MoreFactors, MoreTerms, Then, WantFactor, WantRelation}
 use Rattle.pv_grammar.specs.declared.symbol.Fixed.TheVariants.{Plus, Minus, Star, Slash, Caret, Open, Comma, Function as FunctionWord}
@@ -19,7 +19,8 @@ use Rattle.pv_grammar.specs.Counting.{Counting, counted, moved, nested, next, op
 use Rattle.pv_grammar.specs.Grammar.{Derives, Produced, begun, done, left_out, produced, step_of}
 use Rattle.pv_grammar.proofs.Following.{CalmAt}
 use Rattle.pv_grammar.proofs.Forward.{head_is, nil_cons, none_some, some_is, tail_is}
-use Rattle.pv_grammar.proofs.Passing.{call_is, made, open_is, operator_is}
+use Rattle.pv_grammar.proofs.Passing.{IsOperator, call_is, open_is, operator_is}
+use Rattle.pv_grammar.proofs.Ready.{InExpression, made}
 
 -- ---- Which limit forbids a token
 
@@ -32,26 +33,31 @@ failed c = Err c
 err_is : {c d : Cause} → failed c ≡ failed d → d ≡ c
 err_is e = cc
 
-below_err : (b : Bool) (x : Counts) (c cause : Cause) → (if b then Ok x else Err c) ≡ Err cause → cause ≡ c
-below_err true x c cause e = absurd (ok_not_err e)
-below_err false x c cause e = err_is e
+-- where a count ends, it is for this cause
+abbrev Fails : Cause → Counting → Type 0
+Fails c (Ok d) = Unit {0}
+Fails c (Err cause) = cause ≡ c
 
--- where what is asked behind a first limit is granted, that limit forbids the token
-first_err : (b : Bool) (x y : Counts) (c cause : Cause) (f : Counts → Counting) → f x ≡ Ok y → next (if b then Ok x else Err c) f ≡ Err cause → (b ≡ false) × (cause ≡ c)
-first_err true x y c cause f e h = absurd (ok_not_err (sym e ∙ h))
-first_err false x y c cause f e h = (refl, err_is h)
+fails_if : (c : Cause) (b : Bool) (x : Counts) → Fails c (if b then Ok x else Err c)
+fails_if c true x = tt
+fails_if c false x = refl
 
 abbrev asked : Symbol → Counts → Counting
 asked s d = next (operated d s) (λ e. next (nested e s) (λ g. moved g s))
 
--- a constraint that begins
-begun_err : (s : Symbol) (a f v k : ℕ) (cause : Cause) (y : Counts) → asked s (made Sides 0 0 a f v (k + 1)) ≡ Ok y →
-    next (if nat_lt k 64 then Ok (made Sides 0 0 a f v (k + 1)) else Err TooManyConstraints) (asked s) ≡ Err cause → cause ≡ TooManyConstraints
-begun_err s a f v k cause y granted h = (first_err (nat_lt k 64) (made Sides 0 0 a f v (k + 1)) y TooManyConstraints cause (asked s) granted h).1
+-- where no level and no operation is counted
+where_calm : (P : ℕ → ℕ → Type 0) (l o : ℕ) → (l ≡ 0) × (o ≡ 0) → P 0 0 → P l o
+where_calm P l o (low, few) p = subst (λ (n : ℕ). P n o) (sym low) (subst (P 0) (sym few) p)
 
-calm : (s : Symbol) (l o a f v k : ℕ) (cause : Cause) → (l ≡ 0) × (o ≡ 0) → counted (made NextConstraint l o a f v k) s ≡ Err cause → counted (made NextConstraint 0 0 a f v k) s ≡ Err cause
-calm s l o a f v k cause h e =
-    subst (λ (n : ℕ). counted (made NextConstraint 0 n a f v k) s ≡ Err cause) h.1 (subst (λ (n : ℕ). counted (made NextConstraint n o a f v k) s ≡ Err cause) h.0 e)
+begun_by : (b : Bool) (x : Counts) (f : Counts → Counting) → Fails TooManyConstraints (f x) → Fails TooManyConstraints (next (if b then Ok x else Err TooManyConstraints) f)
+begun_by true x f granted = granted
+begun_by false x f granted = refl
+
+-- a constraint that begins
+begun_fails : (s : Symbol) (l o a f v k : ℕ) → (l ≡ 0) × (o ≡ 0) → Fails TooManyConstraints (asked s (made Sides 0 0 a f v (k + 1))) →
+    Fails TooManyConstraints (next (if nat_lt k 64 then Ok (made Sides l o a f v (k + 1)) else Err TooManyConstraints) (asked s))
+begun_fails s l o a f v k h granted =
+    begun_by (nat_lt k 64) (made Sides l o a f v (k + 1)) (asked s) (where_calm (λ x y. Fails TooManyConstraints (asked s (made Sides x y a f v (k + 1)))) l o h granted)
 
 abbrev IsPlainToken : Symbol → Type 0
 IsPlainToken Unknown = ⊥
@@ -59,78 +65,43 @@ IsPlainToken (Declared true) = ⊥
 IsPlainToken (Call op n) = ⊥
 IsPlainToken s = Unit {0}
 
-operator_err : (p : Phase) (s : Symbol) (l o a f v k : ℕ) (cause : Cause) → counted (made p l o a f v k) s ≡ (if nat_lt o 1000 then Ok (made p l (o + 1) a f v k) else Err TooDeep) →
-    counted (made p l o a f v k) s ≡ Err cause → cause ≡ TooDeep
-operator_err p s l o a f v k cause is h = below_err (nat_lt o 1000) (made p l (o + 1) a f v k) TooDeep cause (sym is ∙ h)
+operator_fails : (p : Phase) (s : Symbol) (l o a f v k : ℕ) → InExpression p → IsOperator s → Fails TooDeep (counted (made p l o a f v k) s)
+operator_fails p s l o a f v k i t = subst (Fails TooDeep) (sym (operator_is p s i t l o a f v k)) (fails_if TooDeep (nat_lt o 1000) (made p l (o + 1) a f v k))
+
+open_fails : (p : Phase) (l o a f v k : ℕ) → InExpression p → Fails TooDeep (counted (made p l o a f v k) (FixedToken Open))
+open_fails p l o a f v k i = subst (Fails TooDeep) (sym (open_is p i l o a f v k)) (fails_if TooDeep (nat_lt l 100) (made p (l + 1) o a f v k))
+
+fails : (p : Phase) (s : Symbol) (l o a f v k : ℕ) → IsPlainToken s → CalmAt p l o → Fails (limit_cause p s) (counted (made p l o a f v k) s)
+fails Variables (Declared false) l o a f v k t h = fails_if TooManyVariables (nat_lt v 12) _
+fails Parameters (Declared false) l o a f v k t h = fails_if Unexpected (nat_lt a 12) _
+fails Parameters (FixedToken Comma) l o a f v k t h = fails_if Unexpected (nat_lt a 12) _
+fails Body (FixedToken Plus) l o a f v k t h = operator_fails Body (FixedToken Plus) l o a f v k tt tt
+fails Body (FixedToken Minus) l o a f v k t h = operator_fails Body (FixedToken Minus) l o a f v k tt tt
+fails Body (FixedToken Star) l o a f v k t h = operator_fails Body (FixedToken Star) l o a f v k tt tt
+fails Body (FixedToken Slash) l o a f v k t h = operator_fails Body (FixedToken Slash) l o a f v k tt tt
+fails Body (FixedToken Caret) l o a f v k t h = operator_fails Body (FixedToken Caret) l o a f v k tt tt
+fails Body (FixedToken Open) l o a f v k t h = open_fails Body l o a f v k tt
+fails Sides (FixedToken Plus) l o a f v k t h = operator_fails Sides (FixedToken Plus) l o a f v k tt tt
+fails Sides (FixedToken Minus) l o a f v k t h = operator_fails Sides (FixedToken Minus) l o a f v k tt tt
+fails Sides (FixedToken Star) l o a f v k t h = operator_fails Sides (FixedToken Star) l o a f v k tt tt
+fails Sides (FixedToken Slash) l o a f v k t h = operator_fails Sides (FixedToken Slash) l o a f v k tt tt
+fails Sides (FixedToken Caret) l o a f v k t h = operator_fails Sides (FixedToken Caret) l o a f v k tt tt
+fails Sides (FixedToken Open) l o a f v k t h = open_fails Sides l o a f v k tt
+fails NextConstraint (Number value exponent) l o a f v k t h = begun_fails (Number value exponent) l o a f v k h tt
+fails NextConstraint (ConstantName value) l o a f v k t h = begun_fails (ConstantName value) l o a f v k h tt
+fails NextConstraint (VariableName i) l o a f v k t h = begun_fails (VariableName i) l o a f v k h tt
+fails NextConstraint (ParameterName i) l o a f v k t h = begun_fails (ParameterName i) l o a f v k h tt
+fails NextConstraint (FixedToken Plus) l o a f v k t h = begun_fails (FixedToken Plus) l o a f v k h tt
+fails NextConstraint (FixedToken Minus) l o a f v k t h = begun_fails (FixedToken Minus) l o a f v k h tt
+fails NextConstraint (FixedToken Open) l o a f v k t h = begun_fails (FixedToken Open) l o a f v k h tt
+fails p (FixedToken FunctionWord) l o a f v k t h = fails_if TooManyFunctions (nat_lt f 64) _
+fails p Unknown l o a f v k t h = absurd t
+fails p (Declared true) l o a f v k t h = absurd t
+fails p (Call op n) l o a f v k t h = absurd t
+fails p s l o a f v k t h = tt
 
 pub limit_at : (p : Phase) (s : Symbol) (l o a f v k : ℕ) (cause : Cause) → IsPlainToken s → CalmAt p l o → counted (made p l o a f v k) s ≡ Err cause → cause ≡ limit_cause p s
-limit_at Between (FixedToken FunctionWord) l o a f v k cause t h e = below_err (nat_lt f 64) _ TooManyFunctions cause e
-limit_at Between (Declared true) l o a f v k cause t h e = absurd t
-limit_at Between Unknown l o a f v k cause t h e = absurd t
-limit_at Between (Call op n) l o a f v k cause t h e = absurd t
-limit_at Between s l o a f v k cause t h e = absurd (ok_not_err e)
-limit_at Constants (FixedToken FunctionWord) l o a f v k cause t h e = below_err (nat_lt f 64) _ TooManyFunctions cause e
-limit_at Constants (Declared true) l o a f v k cause t h e = absurd t
-limit_at Constants Unknown l o a f v k cause t h e = absurd t
-limit_at Constants (Call op n) l o a f v k cause t h e = absurd t
-limit_at Constants s l o a f v k cause t h e = absurd (ok_not_err e)
-limit_at FunctionName (FixedToken FunctionWord) l o a f v k cause t h e = below_err (nat_lt f 64) _ TooManyFunctions cause e
-limit_at FunctionName (Declared true) l o a f v k cause t h e = absurd t
-limit_at FunctionName Unknown l o a f v k cause t h e = absurd t
-limit_at FunctionName (Call op n) l o a f v k cause t h e = absurd t
-limit_at FunctionName s l o a f v k cause t h e = absurd (ok_not_err e)
-limit_at Bounds (FixedToken FunctionWord) l o a f v k cause t h e = below_err (nat_lt f 64) _ TooManyFunctions cause e
-limit_at Bounds (Declared true) l o a f v k cause t h e = absurd t
-limit_at Bounds Unknown l o a f v k cause t h e = absurd t
-limit_at Bounds (Call op n) l o a f v k cause t h e = absurd t
-limit_at Bounds s l o a f v k cause t h e = absurd (ok_not_err e)
-limit_at Variables (FixedToken FunctionWord) l o a f v k cause t h e = below_err (nat_lt f 64) _ TooManyFunctions cause e
-limit_at Variables (Declared false) l o a f v k cause t h e = below_err (nat_lt v 12) _ TooManyVariables cause e
-limit_at Variables (Declared true) l o a f v k cause t h e = absurd t
-limit_at Variables Unknown l o a f v k cause t h e = absurd t
-limit_at Variables (Call op n) l o a f v k cause t h e = absurd t
-limit_at Variables s l o a f v k cause t h e = absurd (ok_not_err e)
-limit_at Parameters (FixedToken FunctionWord) l o a f v k cause t h e = below_err (nat_lt f 64) _ TooManyFunctions cause e
-limit_at Parameters (FixedToken Comma) l o a f v k cause t h e = below_err (nat_lt a 12) _ Unexpected cause e
-limit_at Parameters (Declared false) l o a f v k cause t h e = below_err (nat_lt a 12) _ Unexpected cause e
-limit_at Parameters (Declared true) l o a f v k cause t h e = absurd t
-limit_at Parameters Unknown l o a f v k cause t h e = absurd t
-limit_at Parameters (Call op n) l o a f v k cause t h e = absurd t
-limit_at Parameters s l o a f v k cause t h e = absurd (ok_not_err e)
-limit_at Body (FixedToken FunctionWord) l o a f v k cause t h e = below_err (nat_lt f 64) _ TooManyFunctions cause e
-limit_at Body (FixedToken Plus) l o a f v k cause t h e = operator_err Body (FixedToken Plus) l o a f v k cause (operator_is Body (FixedToken Plus) tt tt l o a f v k) e
-limit_at Body (FixedToken Minus) l o a f v k cause t h e = operator_err Body (FixedToken Minus) l o a f v k cause (operator_is Body (FixedToken Minus) tt tt l o a f v k) e
-limit_at Body (FixedToken Star) l o a f v k cause t h e = operator_err Body (FixedToken Star) l o a f v k cause (operator_is Body (FixedToken Star) tt tt l o a f v k) e
-limit_at Body (FixedToken Slash) l o a f v k cause t h e = operator_err Body (FixedToken Slash) l o a f v k cause (operator_is Body (FixedToken Slash) tt tt l o a f v k) e
-limit_at Body (FixedToken Caret) l o a f v k cause t h e = operator_err Body (FixedToken Caret) l o a f v k cause (operator_is Body (FixedToken Caret) tt tt l o a f v k) e
-limit_at Body (FixedToken Open) l o a f v k cause t h e = below_err (nat_lt l 100) (made Body (l + 1) o a f v k) TooDeep cause (sym (open_is Body tt l o a f v k) ∙ e)
-limit_at Body (Declared true) l o a f v k cause t h e = absurd t
-limit_at Body Unknown l o a f v k cause t h e = absurd t
-limit_at Body (Call op n) l o a f v k cause t h e = absurd t
-limit_at Body s l o a f v k cause t h e = absurd (ok_not_err e)
-limit_at Sides (FixedToken FunctionWord) l o a f v k cause t h e = below_err (nat_lt f 64) _ TooManyFunctions cause e
-limit_at Sides (FixedToken Plus) l o a f v k cause t h e = operator_err Sides (FixedToken Plus) l o a f v k cause (operator_is Sides (FixedToken Plus) tt tt l o a f v k) e
-limit_at Sides (FixedToken Minus) l o a f v k cause t h e = operator_err Sides (FixedToken Minus) l o a f v k cause (operator_is Sides (FixedToken Minus) tt tt l o a f v k) e
-limit_at Sides (FixedToken Star) l o a f v k cause t h e = operator_err Sides (FixedToken Star) l o a f v k cause (operator_is Sides (FixedToken Star) tt tt l o a f v k) e
-limit_at Sides (FixedToken Slash) l o a f v k cause t h e = operator_err Sides (FixedToken Slash) l o a f v k cause (operator_is Sides (FixedToken Slash) tt tt l o a f v k) e
-limit_at Sides (FixedToken Caret) l o a f v k cause t h e = operator_err Sides (FixedToken Caret) l o a f v k cause (operator_is Sides (FixedToken Caret) tt tt l o a f v k) e
-limit_at Sides (FixedToken Open) l o a f v k cause t h e = below_err (nat_lt l 100) (made Sides (l + 1) o a f v k) TooDeep cause (sym (open_is Sides tt l o a f v k) ∙ e)
-limit_at Sides (Declared true) l o a f v k cause t h e = absurd t
-limit_at Sides Unknown l o a f v k cause t h e = absurd t
-limit_at Sides (Call op n) l o a f v k cause t h e = absurd t
-limit_at Sides s l o a f v k cause t h e = absurd (ok_not_err e)
-limit_at NextConstraint (FixedToken FunctionWord) l o a f v k cause t h e = below_err (nat_lt f 64) _ TooManyFunctions cause e
-limit_at NextConstraint (Number value exponent) l o a f v k cause t h e = begun_err (Number value exponent) a f v k cause _ refl (calm (Number value exponent) l o a f v k cause h e)
-limit_at NextConstraint (ConstantName value) l o a f v k cause t h e = begun_err (ConstantName value) a f v k cause _ refl (calm (ConstantName value) l o a f v k cause h e)
-limit_at NextConstraint (VariableName i) l o a f v k cause t h e = begun_err (VariableName i) a f v k cause _ refl (calm (VariableName i) l o a f v k cause h e)
-limit_at NextConstraint (ParameterName i) l o a f v k cause t h e = begun_err (ParameterName i) a f v k cause _ refl (calm (ParameterName i) l o a f v k cause h e)
-limit_at NextConstraint (FixedToken Plus) l o a f v k cause t h e = begun_err (FixedToken Plus) a f v k cause _ refl (calm (FixedToken Plus) l o a f v k cause h e)
-limit_at NextConstraint (FixedToken Minus) l o a f v k cause t h e = begun_err (FixedToken Minus) a f v k cause _ refl (calm (FixedToken Minus) l o a f v k cause h e)
-limit_at NextConstraint (FixedToken Open) l o a f v k cause t h e = begun_err (FixedToken Open) a f v k cause _ refl (calm (FixedToken Open) l o a f v k cause h e)
-limit_at NextConstraint (Declared true) l o a f v k cause t h e = absurd t
-limit_at NextConstraint Unknown l o a f v k cause t h e = absurd t
-limit_at NextConstraint (Call op n) l o a f v k cause t h e = absurd t
-limit_at NextConstraint s l o a f v k cause t h e = absurd (ok_not_err e)
+limit_at p s l o a f v k cause t h e = subst (Fails (limit_cause p s)) e (fails p s l o a f v k t h)
 
 -- ---- Which limit forbids a function's name
 
@@ -144,9 +115,10 @@ call_by true true x y cause r e is = absurd (ok_not_err e)
 call_by true false x y cause r e is = inr (err_is e, (y, is))
 call_by false u x y cause r e is = inl (err_is e, λ d same. ok_not_err (sym same ∙ is))
 
-next_false : (b : Bool) (x d : Counts) (c : Cause) (f : Counts → Counting) → b ≡ false → next (if b then Ok x else Err c) f ≡ Ok d → ⊥
-next_false true x d c f e h = cc
-next_false false x d c f e h = ok_not_err (sym h)
+call_begun : (b : Bool) (x y : Counts) (cause : Cause) (f g : Counts → Counting) → f x ≡ Ok y → next (if b then Ok x else Err TooManyConstraints) f ≡ Err cause →
+    (cause ≡ TooManyConstraints) × ((d : Counts) → next (if b then Ok x else Err TooManyConstraints) g ≡ Ok d → ⊥)
+call_begun true x y cause f g granted e = absurd (ok_not_err (sym granted ∙ e))
+call_begun false x y cause f g granted e = (err_is e, λ d one. ok_not_err (sym one))
 
 pub call_at : (p : Phase) (op : Op) (n : ℕ) (l o a f v k : ℕ) (cause : Cause) → CalmAt p l o → counted (made p l o a f v k) (Call op n) ≡ Err cause → CallErr p (made p l o a f v k) op n cause
 call_at Body op n l o a f v k cause h e =
@@ -154,8 +126,8 @@ call_at Body op n l o a f v k cause h e =
 call_at Sides op n l o a f v k cause h e =
     call_by (nat_lt o 1000) (nat_lt l 100) (made Sides l (o + 1) a f v k) (made Sides l (o + 1) a f v k) cause _ (sym (call_is Sides tt op n l o a f v k) ∙ e) (operator_is Sides (FixedToken Minus) tt tt l o a f v k)
 call_at NextConstraint op n l o a f v k cause h e =
-    let found = first_err (nat_lt k 64) (made Sides 0 0 a f v (k + 1)) _ TooManyConstraints cause (asked (Call op n)) refl (calm (Call op n) l o a f v k cause h e) in
-    inl (found.1, λ d one. next_false (nat_lt k 64) (made Sides l o a f v (k + 1)) d TooManyConstraints (asked (FixedToken Minus)) found.0 one)
+    let one_more : ℕ → ℕ → Type 0 = λ x y. asked (Call op n) (made Sides x y a f v (k + 1)) ≡ Ok (made Sides x (y + 1) a f v (k + 1)) in
+    inl (call_begun (nat_lt k 64) (made Sides l o a f v (k + 1)) _ cause (asked (Call op n)) (asked (FixedToken Minus)) (where_calm one_more l o h refl) e)
 call_at p op n l o a f v k cause h e = absurd (ok_not_err e)
 
 -- ---- Names
@@ -203,9 +175,6 @@ put_in all ss ops (begun i rest s ss' p ops' made d) op (x ∷ xs) items e =
     subst (λ (z : Item). (code : List Op) × Derives (z ∷ xs ++ Then op ∷ items) ss code) (head_is e)
     (p.1 ++ more.0, begun i (xs ++ Then op ∷ items) s ss' p more.0 made (subst (λ (z : List Item). Derives z ss' more.0) (append_assoc p.0 xs (Then op ∷ items)) more.1))
 
-abbrev further : List Item
-further = MoreFactors ∷ MoreTerms ∷ WantRelation ∷ MoreConstraints ∷ []
-
 -- where a factor begins with the name, it begins with a sign and the name
 signed_item : (i : Item) (op : Op) (n : ℕ) (p : Produced) (items : List Item) (rest : List Symbol) (ops : List Op) → produced i (Call op n) ≡ Some p → Derives (p.0 ++ items) rest ops →
     (ops' : List Op) × Derives (i ∷ items) (FixedToken Minus ∷ Call op n ∷ rest) ops'
@@ -213,6 +182,7 @@ signed_item WantFactor op n p items rest ops made d =
     let more = put_in (p.0 ++ items) rest ops d (One Neg) p.0 items refl in
     (_, begun WantFactor items (FixedToken Minus) (Call op n ∷ rest) _ _ refl (begun WantFactor (Then (One Neg) ∷ items) (Call op n) rest p more.0 made more.1))
 signed_item MaybeConstraint op n p items rest ops made d =
+    let further : List Item = MoreFactors ∷ MoreTerms ∷ WantRelation ∷ MoreConstraints ∷ [] in
     let q : List Item = Exactly Open ∷ WantFactor ∷ MoreFactors ∷ MoreTerms ∷ MoreArguments (n - 1) ∷ Then op ∷ MaybePower ∷ [] in
     let whole : Derives (q ++ (further ++ items)) rest ops = subst (λ (z : Produced). Derives (z.0 ++ items) rest ops) (sym (some_is made)) d in
     let more = put_in (q ++ (further ++ items)) rest ops whole (One Neg) q (further ++ items) refl in

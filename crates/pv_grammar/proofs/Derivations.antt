@@ -56,12 +56,6 @@ leads_back items rest items' code code' code'' after i s ss settles follows l =
     (leads_taken i rest s ss code' after (produced i s) items' code'' refl follows l)
 
 -- the end: nothing is left that must come
-settled_end : (s : Symbol) (items : List Item) (code : List Op) (o : Option Item) (rest : List Item) (code' : List Op) → Settles s items code o rest code' →
-    o ≡ None → Leads items [] code code'
-settled_end s items code o rest code' (emptied ops) e = record { steps = []; derived = done; code_is = sym (append-nil ops) }
-settled_end s items code o rest code' (met i items' ops meets) e = cc
-settled_end s items code o rest code' (ended i items' ops o' rest' more may unlike h) e =
-    leads_out i items' [] ops more may (settled_end s items' (ops ++ step_of i) o' rest' more h e)
-
 pub leads_end : (s : Symbol) (items rest : List Item) (code code' : List Op) → Settles s items code None rest code' → Leads items [] code code'
-leads_end s items rest code code' h = settled_end s items code None rest code' h refl
+leads_end s items rest code code' (emptied ops) = record { steps = []; derived = done; code_is = sym (append-nil ops) }
+leads_end s items rest code code' (ended i items' ops o rest' more may unlike h) = leads_out i items' [] ops more may (leads_end s items' rest' (ops ++ step_of i) more h)

@@ -1,9 +1,9 @@
 -- Each token that is taken leaves counts that fit what is then to come; and so do the starts of a text.
-use Rattle.std.proofs.Common.{◌≡◌, ℕ, nat_lt, Bool, true, false, List, [], ◌∷◌, ◌++◌, refl, sym, ap, ◌∙◌, subst, Option, Some, None, if◌then◌else◌, Ok, Err}
+use Rattle.std.proofs.Common.{◌≡◌, ℕ, zero, suc, nat_lt, Bool, true, false, List, [], ◌∷◌, ◌++◌, refl, sym, ap, ◌∙◌, subst, Option, Some, None, Ok}
 use Rattle.pv_expr.specs.declared.constraint.Relation.TheVariants.{Eq}
 use Rattle.pv_code.specs.declared.code.Op.{Op}
-use Rattle.pv_code.specs.declared.code.Op.TheVariants.{Define}
-use Rattle.pv_grammar.specs.declared.cause.Cause.TheVariants.{DuplicateName}
+use Rattle.pv_code.specs.declared.code.Op.TheVariants.{Define, Relate, Two}
+use Rattle.pv_code.specs.declared.code.Binary.TheVariants.{Add, Sub, Mul, Div}
 use Rattle.pv_grammar.specs.declared.counts.Counts.{Counts}
 use Rattle.pv_grammar.specs.declared.counts.Phase.{Phase}
 use Rattle.pv_grammar.specs.declared.counts.Phase.TheVariants.{Between, Constants, FunctionName, Parameters, Body, Variables, Bounds, NextConstraint, Sides}
@@ -13,12 +13,12 @@ use Rattle.pv_grammar.specs.declared.symbol.Symbol.{Symbol}
 use Rattle.pv_grammar.specs.declared.symbol.Symbol.TheVariants.{Fixed as FixedToken, Relation as RelationToken, Number, Declared, Constant as ConstantName, Unknown}
 use Rattle.pv_grammar.specs.declared.machine.Item.{Item}
 use Rattle.pv_grammar.specs.declared.machine.Item.TheVariants.{Exactly, MaybeConstants, WantConstant, MoreConstants, MaybeConstant, WantEquals, MaybeSign, WantValue, MaybeFunctions, WantFunctionName, WantParameter, MoreParameters, MaybeSemicolon, WantVariable, MoreVariables, MaybeVariable, MaybeDomain, WantBound, WantRelation, MoreConstraints, MaybeConstraint, WantFactor, MoreFactors, MoreTerms, MaybePower, WantExponent, MoreArguments, Then}
-use Rattle.pv_grammar.specs.Grammar.{Follows, MayEnd, Produced, Settles, body_items, emptied, ended, exactly, expression_items, fixed, met, produced, step_of, system_items}
-use Rattle.pv_grammar.specs.Counting.{behind_comma, behind_end, behind_semicolon, counted, declared, in_phase, nothing, turned, with_parameters, with_variables}
-use Rattle.pv_grammar.proofs.Ready.{Behind, FactorRoom, FixedRoom, Gives, IsApart, IsStill, OpenRoom, Ready, ReadyAfter, aside, begun_seen, constraint_ready, expression_ready, factor_token, fixed_behind, gives_if, in_sides, kept_arguments, kept_constraint, kept_exponent, kept_factor, kept_factors, kept_next, kept_power, kept_relation, kept_terms, may_begin, opened, opened_sides, opened_still, other_token, phase_is, reads, seen}
+use Rattle.pv_grammar.specs.Grammar.{Follows, MayEnd, Produced, Settles, body_items, emptied, ended, expression_items, met, produced, step_of, system_items}
+use Rattle.pv_grammar.specs.Counting.{behind_comma, behind_end, behind_semicolon, counted, in_phase, nothing, turned, with_parameters, with_variables}
+use Rattle.pv_grammar.proofs.Ready.{Behind, FactorRoom, Gives, InExpression, IsApart, IsStill, Leaves, OpenRoom, Ready, ReadyAfter, aside, begun_seen, constraint_ready, gives_if, in_sides, inner_row, inside, kept_constraint, kept_factor, may_begin, opened, opened_sides, opened_still, phase_is, reads, seen, token, token_in}
 use Rattle.pv_grammar.specs.Standings.{begins_expression}
 
--- ---- Constants
+-- ---- What is to come within one part of a text
 
 -- within one phase
 stays_in : (p : Phase) (c d : Counts) → c.phase ≡ p → seen d ≡ seen c → d.phase ≡ p
@@ -26,15 +26,6 @@ stays_in p c d m l = phase_is c d l ∙ m
 
 still_in : (p q : Phase) → q ≡ p → IsStill p → IsStill q
 still_in p q e h = subst IsStill (sym e) h
-
--- a declaration that has no limit
-declared_constant : (p : Phase) (c : Counts) (taken : Bool) → p ≡ Constants → declared p c taken ≡ (if taken then Err DuplicateName else Ok c)
-declared_constant p c taken e = ap (λ (q : Phase). declared q c taken) e
-
-constant_token : (c e : Counts) (taken : Bool) → c.phase ≡ Constants → counted c (Declared taken) ≡ Ok e → seen e ≡ seen c
-constant_token c e taken m h =
-    reads (λ x. seen x ≡ seen c) c e (Declared taken) h
-    (λ d l. subst (Gives (λ x. seen x ≡ seen c)) (sym (declared_constant d.phase d taken (stays_in Constants c d m l))) (gives_if _ taken _ _ (λ t. tt) l))
 
 -- `=`, a sign or none, and the value
 value_ready : (e : Counts) (rest : List Item) → e.phase ≡ Constants → Behind (λ d. seen d ≡ seen e) rest → Ready e (WantEquals ∷ MaybeSign ∷ WantValue ∷ rest)
@@ -49,112 +40,12 @@ value_ready e rest m g = (
   ),
 )
 
-block_token : (c e : Counts) → counted c (FixedToken ConstantsWord) ≡ Ok e → seen e ≡ in_phase Constants (seen c)
-block_token c e h = reads (λ x. seen x ≡ in_phase Constants (seen c)) c e (FixedToken ConstantsWord) h (λ d l. ap (in_phase Constants) l)
-
-kept_block : (s : Symbol) (c e : Counts) (rest : List Item) → counted c s ≡ Ok e → Behind (λ d. aside d ≡ aside c) rest → ReadyAfter (produced MaybeConstants s) e rest
-kept_block (FixedToken ConstantsWord) c e rest h g =
-    let l : seen e ≡ in_phase Constants (seen c) = block_token c e h in
-    let m : e.phase ≡ Constants = ap (λ (x : Counts). x.phase) l in
-    (m, λ d k. (stays_in Constants e d m k, λ d' k'. g d' (ap (in_phase Between) (k' ∙ (k ∙ l)))))
-kept_block s c e rest h g = tt
-
-kept_constant : (s : Symbol) (c e : Counts) (rest : List Item) → c.phase ≡ Constants → counted c s ≡ Ok e → Behind (λ d. seen d ≡ seen c) rest → ReadyAfter (produced WantConstant s) e rest
-kept_constant (Declared taken) c e rest m h g =
-    let l : seen e ≡ seen c = constant_token c e taken m h in
-    value_ready e rest (stays_in Constants c e m l) (λ d k. g d (k ∙ l))
-kept_constant s c e rest m h g = tt
-
-comma_constants : (p : Phase) (c : Counts) → p ≡ Constants → behind_comma p c ≡ Ok c
-comma_constants p c e = ap (λ (q : Phase). behind_comma q c) e
-
-semicolon_constants : (p : Phase) (c : Counts) → p ≡ Constants → behind_semicolon p c ≡ c
-semicolon_constants p c e = ap (λ (q : Phase). behind_semicolon q c) e
-
-kept_constants : (s : Symbol) (c e : Counts) (rest : List Item) → c.phase ≡ Constants → counted c s ≡ Ok e → Behind (λ d. seen d ≡ seen c) rest → ReadyAfter (produced MoreConstants s) e rest
-kept_constants (FixedToken Comma) c e rest m h g =
-    let l : seen e ≡ seen c = reads (λ x. seen x ≡ seen c) c e (FixedToken Comma) h
-    (λ d k. subst (Gives (λ x. seen x ≡ seen c)) (sym (comma_constants d.phase d (stays_in Constants c d m k))) k) in
-    (stays_in Constants c e m l, λ d k. g d (k ∙ l))
-kept_constants (FixedToken Semicolon) c e rest m h g =
-    let l : seen e ≡ seen c = reads (λ x. seen x ≡ seen c) c e (FixedToken Semicolon) h
-    (λ d k. ap seen (semicolon_constants d.phase d (stays_in Constants c d m k)) ∙ k) in
-    (stays_in Constants c e m l, λ d k. g d (k ∙ l))
-kept_constants s c e rest m h g = tt
-
-kept_further : (s : Symbol) (c e : Counts) (rest : List Item) → c.phase ≡ Constants → counted c s ≡ Ok e → Behind (λ d. seen d ≡ seen c) rest → ReadyAfter (produced MaybeConstant s) e rest
-kept_further (Declared taken) c e rest m h g =
-    let l : seen e ≡ seen c = constant_token c e taken m h in
-    let n : e.phase ≡ Constants = stays_in Constants c e m l in
-    value_ready e (MoreConstants ∷ rest) n (λ d k. (stays_in Constants e d n k, λ d' k'. g d' (k' ∙ (k ∙ l))))
-kept_further s c e rest m h g = tt
-
-kept_equals : (s : Symbol) (c e : Counts) (rest : List Item) → counted c s ≡ Ok e → Behind (λ d. seen d ≡ seen c) rest → ReadyAfter (produced WantEquals s) e rest
-kept_equals (RelationToken Eq) c e rest h g = g e (other_token c e (RelationToken Eq) refl (λ d. refl) h)
-kept_equals s c e rest h g = tt
-
-kept_sign : (s : Symbol) (c e : Counts) (rest : List Item) → IsStill c.phase → counted c s ≡ Ok e → Behind (λ d. seen d ≡ seen c) rest → ReadyAfter (produced MaybeSign s) e rest
-kept_sign (FixedToken Plus) c e rest m h g = g e (factor_token c e (FixedToken Plus) refl (λ d. refl) h ∙ opened_still c.phase (seen c) m)
-kept_sign (FixedToken Minus) c e rest m h g = g e (factor_token c e (FixedToken Minus) refl (λ d. refl) h ∙ opened_still c.phase (seen c) m)
-kept_sign s c e rest m h g = tt
-
-kept_value : (s : Symbol) (c e : Counts) (rest : List Item) → IsStill c.phase → counted c s ≡ Ok e → Behind (λ d. seen d ≡ seen c) rest → ReadyAfter (produced WantValue s) e rest
-kept_value (Number v exponent) c e rest m h g = g e (factor_token c e (Number v exponent) refl (λ d. refl) h ∙ opened_still c.phase (seen c) m)
-kept_value s c e rest m h g = tt
-
-kept_bound : (s : Symbol) (c e : Counts) (rest : List Item) → IsStill c.phase → counted c s ≡ Ok e → Behind (λ d. seen d ≡ seen c) rest → ReadyAfter (produced WantBound s) e rest
-kept_bound (Number v exponent) c e rest m h g = g e (factor_token c e (Number v exponent) refl (λ d. refl) h ∙ opened_still c.phase (seen c) m)
-kept_bound (ConstantName v) c e rest m h g = g e (factor_token c e (ConstantName v) refl (λ d. refl) h ∙ opened_still c.phase (seen c) m)
-kept_bound (FixedToken Oo) c e rest m h g = g e (other_token c e (FixedToken Oo) refl (λ d. refl) h)
-kept_bound Unknown c e rest m h g = absurd (reads (λ x. ⊥) c e Unknown h (λ d l. tt))
-kept_bound s c e rest m h g = tt
-
--- ---- Variables
-
 -- the variables aside
 abbrev rest_of : Counts → Counts
 rest_of c = with_variables 0 (seen c)
 
 still_variables : (c d : Counts) → c.phase ≡ Variables → rest_of d ≡ rest_of c → d.phase ≡ Variables
 still_variables c d m l = ap (λ (x : Counts). x.phase) l ∙ m
-
-variable_gives : (p : Phase) (c d : Counts) (taken : Bool) → p ≡ Variables → seen d ≡ seen c → Gives (λ x. rest_of x ≡ rest_of c) (declared p d taken)
-variable_gives p c d taken e l =
-    subst (λ (q : Phase). Gives (λ x. rest_of x ≡ rest_of c) (declared q d taken)) (sym e)
-    (gives_if _ (nat_lt d.variables 12) _ _ (λ t. gives_if _ taken _ _ (λ u. tt) (ap (with_variables 0) l)) tt)
-
-variable_token : (c e : Counts) (taken : Bool) → c.phase ≡ Variables → counted c (Declared taken) ≡ Ok e → rest_of e ≡ rest_of c
-variable_token c e taken m h =
-    reads (λ x. rest_of x ≡ rest_of c) c e (Declared taken) h (λ d l. variable_gives d.phase c d taken (stays_in Variables c d m l) l)
-
-kept_variable : (s : Symbol) (c e : Counts) (rest : List Item) → c.phase ≡ Variables → counted c s ≡ Ok e → Behind (λ d. rest_of d ≡ rest_of c) rest → ReadyAfter (produced WantVariable s) e rest
-kept_variable (Declared taken) c e rest m h g =
-    let l : rest_of e ≡ rest_of c = variable_token c e taken m h in
-    (still_variables c e m l, λ d k. g d (k ∙ l))
-kept_variable s c e rest m h g = tt
-
-kept_more : (s : Symbol) (c e : Counts) (rest : List Item) → c.phase ≡ Variables → counted c s ≡ Ok e → Behind (λ d. rest_of d ≡ rest_of c) rest → ReadyAfter (produced MaybeVariable s) e rest
-kept_more (Declared taken) c e rest m h g =
-    let l : rest_of e ≡ rest_of c = variable_token c e taken m h in
-    (still_variables c e m l, λ d k. (still_variables c d m (k ∙ l), λ d' k'. g d' (k' ∙ (k ∙ l))))
-kept_more s c e rest m h g = tt
-
-comma_variables : (p : Phase) (c : Counts) → p ≡ Variables → behind_comma p c ≡ Ok c
-comma_variables p c e = ap (λ (q : Phase). behind_comma q c) e
-
-semicolon_variables : (p : Phase) (c : Counts) → p ≡ Variables → behind_semicolon p c ≡ c
-semicolon_variables p c e = ap (λ (q : Phase). behind_semicolon q c) e
-
-kept_variables : (s : Symbol) (c e : Counts) (rest : List Item) → c.phase ≡ Variables → counted c s ≡ Ok e → Behind (λ d. rest_of d ≡ rest_of c) rest → ReadyAfter (produced MoreVariables s) e rest
-kept_variables (FixedToken Comma) c e rest m h g =
-    let l : seen e ≡ seen c = reads (λ x. seen x ≡ seen c) c e (FixedToken Comma) h
-    (λ d k. subst (Gives (λ x. seen x ≡ seen c)) (sym (comma_variables d.phase d (stays_in Variables c d m k))) k) in
-    (stays_in Variables c e m l, λ d k. g d (k ∙ ap (with_variables 0) l))
-kept_variables (FixedToken Semicolon) c e rest m h g =
-    let l : seen e ≡ seen c = reads (λ x. seen x ≡ seen c) c e (FixedToken Semicolon) h
-    (λ d k. ap seen (semicolon_variables d.phase d (stays_in Variables c d m k)) ∙ k) in
-    (stays_in Variables c e m l, λ d k. g d (k ∙ ap (with_variables 0) l))
-kept_variables s c e rest m h g = tt
 
 bounds_ready : (e : Counts) (rest : List Item) → Behind (λ d. seen d ≡ in_phase Variables (seen e)) rest →
     Ready e (Exactly OpenBracket ∷ MaybeSign ∷ WantBound ∷ Exactly Comma ∷ MaybeSign ∷ WantBound ∷ Exactly CloseBracket ∷ rest)
@@ -181,14 +72,6 @@ bounds_ready e rest g = (
 variables_back : (c d : Counts) → c.phase ≡ Variables → seen d ≡ in_phase Variables (seen c) → rest_of d ≡ rest_of c
 variables_back c d m l = ap (with_variables 0) l ∙ ap (λ (p : Phase). in_phase p (rest_of c)) (sym m)
 
-kept_domain : (s : Symbol) (c e : Counts) (rest : List Item) → c.phase ≡ Variables → counted c s ≡ Ok e → Behind (λ d. rest_of d ≡ rest_of c) rest → ReadyAfter (produced MaybeDomain s) e rest
-kept_domain (FixedToken In) c e rest m h g =
-    let l : seen e ≡ seen c = other_token c e (FixedToken In) refl (λ d. refl) h in
-    bounds_ready e rest (λ d k. g d (variables_back c d m (k ∙ ap (in_phase Variables) l)))
-kept_domain s c e rest m h g = tt
-
--- ---- Functions
-
 -- the parameters and the phase aside
 abbrev core : Counts → Counts
 core c = with_parameters 0 (aside c)
@@ -209,19 +92,16 @@ ended_body p c d e l = l ∙ ap (λ (q : Phase). behind_end q (seen c)) e
 -- a function from its body on
 body_ready : (e : Counts) (rest : List Item) → e.phase ≡ Body → Behind (λ d. aside d ≡ core e) rest → Ready e (body_items ++ rest)
 body_ready e rest m g =
-    expression_ready e (Then Define ∷ MaybeSemicolon ∷ Exactly End ∷ MaybeSemicolon ∷ MaybeFunctions ∷ rest) (in_sides Body e.phase m tt)
+    inside (WantFactor ∷ MoreFactors ∷ MoreTerms ∷ Then Define ∷ []) e (MaybeSemicolon ∷ Exactly End ∷ MaybeSemicolon ∷ MaybeFunctions ∷ rest) refl (in_sides Body e.phase m tt)
     (λ d1 l1. (
-      tt,
+      apart_in Body d1.phase (stays_in Body e d1 m l1) tt,
       λ d2 l2. (
-        apart_in Body d2.phase (stays_in Body e d2 m (l2 ∙ l1)) tt,
-        λ d3 l3. (
-          tt,
-          λ d4 l4. let k4 : seen d4 ≡ in_phase Between (with_parameters 0 (seen d3)) = ended_body d3.phase d3 d4 (stays_in Body e d3 m (l3 ∙ (l2 ∙ l1))) l4 in (
-            apart_in Between d4.phase (ap (λ (x : Counts). x.phase) k4) tt,
-            λ d5 l5. (
-              ap (λ (x : Counts). x.parameters) (l5 ∙ k4),
-              λ d6 l6. g d6 (l6 ∙ (ap (in_phase Between) (l5 ∙ k4) ∙ ap (λ (x : Counts). with_parameters 0 (in_phase Between x)) (l3 ∙ (l2 ∙ l1)))),
-            ),
+        tt,
+        λ d3 l3. let k3 : seen d3 ≡ in_phase Between (with_parameters 0 (seen d2)) = ended_body d2.phase d2 d3 (stays_in Body e d2 m (l2 ∙ l1)) l3 in (
+          apart_in Between d3.phase (ap (λ (x : Counts). x.phase) k3) tt,
+          λ d4 l4. (
+            ap (λ (x : Counts). x.parameters) (l4 ∙ k3),
+            λ d5 l5. g d5 (l5 ∙ (ap (in_phase Between) (l4 ∙ k3) ∙ ap (λ (x : Counts). with_parameters 0 (in_phase Between x)) (l2 ∙ l1))),
           ),
         ),
       ),
@@ -232,11 +112,6 @@ open_in p n e = subst (λ (q : Phase). OpenRoom q n) (sym e) tt
 
 below_twelve : (n : ℕ) → n ≡ 0 → nat_lt n 12 ≡ true
 below_twelve n e = ap (λ (k : ℕ). nat_lt k 12) e
-
-function_token : (c e : Counts) → counted c (FixedToken FunctionWord) ≡ Ok e → seen e ≡ in_phase FunctionName (seen c)
-function_token c e h =
-    reads (λ x. seen x ≡ in_phase FunctionName (seen c)) c e (FixedToken FunctionWord) h
-    (λ d l. gives_if _ (nat_lt d.functions 64) _ _ (λ t. ap (in_phase FunctionName) l) tt)
 
 -- a function from `Return` on
 return_ready : (e : Counts) (rest : List Item) → Behind (λ d. aside d ≡ core e) rest → Ready e (Exactly Return ∷ body_items ++ rest)
@@ -260,71 +135,34 @@ name_ready e rest m n g = (
   ),
 )
 
-kept_functions : (s : Symbol) (c e : Counts) (rest : List Item) → c.parameters ≡ 0 → counted c s ≡ Ok e → Behind (λ d. aside d ≡ aside c) rest → ReadyAfter (produced MaybeFunctions s) e rest
-kept_functions (FixedToken FunctionWord) c e rest m h g =
-    let l : seen e ≡ in_phase FunctionName (seen c) = function_token c e h in
-    name_ready e rest (ap (λ (x : Counts). x.phase) l) (ap (λ (x : Counts). x.parameters) l ∙ m)
-    (λ d k. g d (k ∙ (ap (λ (x : Counts). with_parameters 0 (in_phase Between x)) l ∙ sym (core_aside c m))))
-kept_functions s c e rest m h g = tt
+-- ---- Tokens, by the phase in which they stand
 
-name_gives : (p : Phase) (c d : Counts) (taken : Bool) → p ≡ FunctionName → seen d ≡ seen c → Gives (λ x. seen x ≡ in_phase Parameters (seen c)) (declared p d taken)
-name_gives p c d taken e l =
-    subst (λ (q : Phase). Gives (λ x. seen x ≡ in_phase Parameters (seen c)) (declared q d taken)) (sym e)
-    (gives_if _ taken _ _ (λ u. tt) (ap (in_phase Parameters) l))
+same_in : (p : Phase) (c e : Counts) (s : Symbol) → c.phase ≡ p → counted c s ≡ Ok e → ((x : Counts) → Gives (λ d. seen d ≡ seen (in_phase p x)) (counted (in_phase p x) s)) → seen e ≡ seen c
+same_in p c e s m h g = token_in p (λ x d. seen d ≡ seen x) c e s m h g
 
-kept_name : (s : Symbol) (c e : Counts) (rest : List Item) → c.phase ≡ FunctionName → counted c s ≡ Ok e → Behind (λ d. seen d ≡ in_phase Parameters (seen c)) rest → ReadyAfter (produced WantFunctionName s) e rest
-kept_name (Declared taken) c e rest m h g =
-    g e (reads (λ x. seen x ≡ in_phase Parameters (seen c)) c e (Declared taken) h (λ d l. name_gives d.phase c d taken (stays_in FunctionName c d m l) l))
-kept_name s c e rest m h g = tt
+constant_token : (c e : Counts) (taken : Bool) → c.phase ≡ Constants → counted c (Declared taken) ≡ Ok e → seen e ≡ seen c
+constant_token c e taken m h = same_in Constants c e (Declared taken) m h (λ x. gives_if _ taken _ _ (λ t. tt) refl)
 
-parameter_gives : (p : Phase) (c d : Counts) (taken : Bool) → p ≡ Parameters → seen d ≡ seen c → Gives (λ x. without x ≡ without c) (declared p d taken)
-parameter_gives p c d taken e l =
-    subst (λ (q : Phase). Gives (λ x. without x ≡ without c) (declared q d taken)) (sym e)
-    (gives_if _ (nat_lt d.parameters 12) _ _ (λ t. gives_if _ taken _ _ (λ u. tt) (ap (with_parameters 0) l)) tt)
-
-kept_parameter : (s : Symbol) (c e : Counts) (rest : List Item) → c.phase ≡ Parameters → counted c s ≡ Ok e → Behind (λ d. without d ≡ without c) rest → ReadyAfter (produced WantParameter s) e rest
-kept_parameter (Declared taken) c e rest m h g =
-    g e (reads (λ x. without x ≡ without c) c e (Declared taken) h (λ d l. parameter_gives d.phase c d taken (stays_in Parameters c d m l) l))
-kept_parameter s c e rest m h g = tt
+variable_token : (c e : Counts) (taken : Bool) → c.phase ≡ Variables → counted c (Declared taken) ≡ Ok e → rest_of e ≡ rest_of c
+variable_token c e taken m h =
+    token_in Variables (λ x d. rest_of d ≡ rest_of x) c e (Declared taken) m h (λ x. gives_if _ (nat_lt x.variables 12) _ _ (λ t. gives_if _ taken _ _ (λ u. tt) refl) tt)
 
 -- behind a comma there is room for one more parameter
 record Further (c d : Counts) : Type 0 where
   same : seen d ≡ seen c
   room : nat_lt d.parameters 12 ≡ true
 
-comma_gives : (p : Phase) (c d : Counts) → p ≡ Parameters → seen d ≡ seen c → Gives (Further c) (behind_comma p d)
-comma_gives p c d e l =
-    subst (λ (q : Phase). Gives (Further c) (behind_comma q d)) (sym e)
-    (gives_if _ (nat_lt d.parameters 12) _ _ (λ t. record { same = l; room = t }) tt)
-
-kept_parameters : (s : Symbol) (c e : Counts) (rest : List Item) → c.phase ≡ Parameters → counted c s ≡ Ok e → Behind (λ d. without d ≡ without c) rest → ReadyAfter (produced MoreParameters s) e rest
-kept_parameters (FixedToken Comma) c e rest m h g =
-    let f : Further c e = reads (Further c) c e (FixedToken Comma) h (λ d l. comma_gives d.phase c d (stays_in Parameters c d m l) l) in
-    let n : e.phase ≡ Parameters = stays_in Parameters c e m f.same in
-    ((n, f.room), λ d k. (ap (λ (x : Counts). x.phase) k ∙ n, λ d' k'. g d' (k' ∙ (k ∙ ap (with_parameters 0) f.same))))
-kept_parameters (FixedToken Close) c e rest m h g = g e (ap (with_parameters 0) (other_token c e (FixedToken Close) refl (λ d. refl) h))
-kept_parameters s c e rest m h g = tt
-
 semicolon_apart : (p : Phase) (c : Counts) → IsApart p → behind_semicolon p c ≡ c
 semicolon_apart Body c m = refl
-semicolon_apart Between c m = refl
-semicolon_apart p c m = absurd m
-
-kept_semicolon : (s : Symbol) (c e : Counts) (rest : List Item) → IsApart c.phase → counted c s ≡ Ok e → Behind (λ d. seen d ≡ seen c) rest → ReadyAfter (produced MaybeSemicolon s) e rest
-kept_semicolon (FixedToken Semicolon) c e rest m h g =
-    g e (reads (λ x. seen x ≡ seen c) c e (FixedToken Semicolon) h (λ d l. ap seen (semicolon_apart d.phase d (apart_in c.phase d.phase (phase_is c d l) m)) ∙ l))
-kept_semicolon s c e rest m h g = tt
-
--- ---- Tokens that are always the same
+semicolon_apart p c m = search
 
 opened_open : (p : Phase) (n : ℕ) (c : Counts) → OpenRoom p n → opened p c ≡ c
 opened_open Body n c h = refl
-opened_open Sides n c h = refl
-opened_open Parameters n c h = refl
-opened_open p n c h = absurd h
+opened_open p n c h = search
 
-comma_bounds : (p : Phase) (c : Counts) → p ≡ Bounds → behind_comma p c ≡ Ok c
-comma_bounds p c e = ap (λ (q : Phase). behind_comma q c) e
+comma_in : (p : Phase) (c : Counts) → InExpression p → behind_comma p c ≡ Ok c
+comma_in Body c m = refl
+comma_in p c m = search
 
 pub seen_end : (p : Phase) (c : Counts) → seen (behind_end p c) ≡ behind_end p (seen c)
 seen_end Body c = refl
@@ -342,83 +180,92 @@ end_token c e h =
     reads (λ x. seen x ≡ behind_end c.phase (seen c)) c e (FixedToken End) h
     (λ d l. seen_end d.phase d ∙ (ap (behind_end d.phase) l ∙ ap (λ (p : Phase). behind_end p (seen c)) (phase_is c d l)))
 
-kept_fixed : (f g : Fixed) (c e : Counts) (rest : List Item) → FixedRoom f c → counted c (FixedToken g) ≡ Ok e → Behind (λ d. seen d ≡ fixed_behind f (seen c)) rest → ReadyAfter (fixed f g) e rest
-kept_fixed Open Open c e rest m h g = g e (factor_token c e (FixedToken Open) refl (λ d. refl) h ∙ opened_open c.phase c.level (seen c) m)
-kept_fixed Comma Comma c e rest m h g =
-    g e (reads (λ x. seen x ≡ seen c) c e (FixedToken Comma) h (λ d l. subst (Gives (λ x. seen x ≡ seen c)) (sym (comma_bounds d.phase d (stays_in Bounds c d m l))) l))
-kept_fixed Return Return c e rest m h g = g e (phase_token Return Body c e refl (λ d. refl) h)
-kept_fixed VariablesWord VariablesWord c e rest m h g = g e (phase_token VariablesWord Variables c e refl (λ d. refl) h)
-kept_fixed ConstraintsWord ConstraintsWord c e rest m h g = g e (phase_token ConstraintsWord NextConstraint c e refl (λ d. refl) h)
-kept_fixed OpenBracket OpenBracket c e rest m h g = g e (phase_token OpenBracket Bounds c e refl (λ d. refl) h)
-kept_fixed CloseBracket CloseBracket c e rest m h g = g e (phase_token CloseBracket Variables c e refl (λ d. refl) h)
-kept_fixed End End c e rest m h g = g e (end_token c e h)
-kept_fixed Plus t c e rest m h g = absurd m
-kept_fixed Minus t c e rest m h g = absurd m
-kept_fixed Star t c e rest m h g = absurd m
-kept_fixed Slash t c e rest m h g = absurd m
-kept_fixed Caret t c e rest m h g = absurd m
-kept_fixed Close t c e rest m h g = absurd m
-kept_fixed Semicolon t c e rest m h g = absurd m
-kept_fixed ConstantsWord t c e rest m h g = absurd m
-kept_fixed FunctionWord t c e rest m h g = absurd m
-kept_fixed In t c e rest m h g = absurd m
-kept_fixed Oo t c e rest m h g = absurd m
-kept_fixed EndOfText t c e rest m h g = absurd m
-kept_fixed f t c e rest m h g = tt
+-- ---- Each token that is taken leaves counts that fit
 
-kept_exactly : (f : Fixed) (s : Symbol) (c e : Counts) (rest : List Item) → FixedRoom f c → counted c s ≡ Ok e → Behind (λ d. seen d ≡ fixed_behind f (seen c)) rest → ReadyAfter (exactly f s) e rest
-kept_exactly f (FixedToken t) c e rest m h g = kept_fixed f t c e rest m h g
-kept_exactly f s c e rest m h g = tt
+again : (p : Phase) (c e : Counts) (rest : List Item) → c.phase ≡ p → seen e ≡ seen c → Behind (λ d. seen d ≡ seen c) rest → (e.phase ≡ p) × Behind (λ d. seen d ≡ seen e) rest
+again p c e rest m l g = (stays_in p c e m l, λ d k. g d (k ∙ l))
+
+again_variable : (c e : Counts) (rest : List Item) → c.phase ≡ Variables → rest_of e ≡ rest_of c → Behind (λ d. rest_of d ≡ rest_of c) rest → (e.phase ≡ Variables) × Behind (λ d. rest_of d ≡ rest_of e) rest
+again_variable c e rest m l g = (still_variables c e m l, λ d k. g d (k ∙ l))
 
 -- what is to come behind a token that is counted fits the new counts
 pub kept : (i : Item) (s : Symbol) (c e : Counts) (rest : List Item) → Ready c (i ∷ rest) → counted c s ≡ Ok e → ReadyAfter (produced i s) e rest
-kept (Exactly f) s c e rest r h = kept_exactly f s c e rest r.0 h r.1
-kept MaybeConstants s c e rest r h = kept_block s c e rest h r.1
-kept WantConstant s c e rest r h = kept_constant s c e rest r.0 h r.1
-kept MoreConstants s c e rest r h = kept_constants s c e rest r.0 h r.1
-kept MaybeConstant s c e rest r h = kept_further s c e rest r.0 h r.1
-kept WantEquals s c e rest r h = kept_equals s c e rest h r.1
-kept MaybeSign s c e rest r h = kept_sign s c e rest r.0 h r.1
-kept WantValue s c e rest r h = kept_value s c e rest r.0 h r.1
-kept MaybeFunctions s c e rest r h = kept_functions s c e rest r.0 h r.1
-kept WantFunctionName s c e rest r h = kept_name s c e rest r.0 h r.1
-kept WantParameter s c e rest r h = kept_parameter s c e rest r.0.0 h r.1
-kept MoreParameters s c e rest r h = kept_parameters s c e rest r.0 h r.1
-kept MaybeSemicolon s c e rest r h = kept_semicolon s c e rest r.0 h r.1
-kept WantVariable s c e rest r h = kept_variable s c e rest r.0.0 h r.1
-kept MoreVariables s c e rest r h = kept_variables s c e rest r.0 h r.1
-kept MaybeVariable s c e rest r h = kept_more s c e rest r.0 h r.1
-kept MaybeDomain s c e rest r h = kept_domain s c e rest r.0 h r.1
-kept WantBound s c e rest r h = kept_bound s c e rest r.0 h r.1
-kept WantRelation s c e rest r h = kept_relation s c e rest r.0 h r.1
-kept MoreConstraints s c e rest r h = kept_next s c e rest r.0 h r.1
+kept (Exactly Open) (FixedToken Open) c e rest r h = r.1 e (token c e (FixedToken Open) (λ d. refl) h ∙ opened_open c.phase c.level (seen c) r.0)
+kept (Exactly Comma) (FixedToken Comma) c e rest r h = r.1 e (same_in Bounds c e (FixedToken Comma) r.0 h (λ x. refl))
+kept (Exactly Return) (FixedToken Return) c e rest r h = r.1 e (phase_token Return Body c e refl (λ d. refl) h)
+kept (Exactly VariablesWord) (FixedToken VariablesWord) c e rest r h = r.1 e (phase_token VariablesWord Variables c e refl (λ d. refl) h)
+kept (Exactly ConstraintsWord) (FixedToken ConstraintsWord) c e rest r h = r.1 e (phase_token ConstraintsWord NextConstraint c e refl (λ d. refl) h)
+kept (Exactly OpenBracket) (FixedToken OpenBracket) c e rest r h = r.1 e (phase_token OpenBracket Bounds c e refl (λ d. refl) h)
+kept (Exactly CloseBracket) (FixedToken CloseBracket) c e rest r h = r.1 e (phase_token CloseBracket Variables c e refl (λ d. refl) h)
+kept (Exactly End) (FixedToken End) c e rest r h = r.1 e (end_token c e h)
+kept (Exactly f) (FixedToken EndOfText) c e rest r h = search
+kept (Exactly f) s c e rest r h = search
+kept MaybeConstants (FixedToken ConstantsWord) c e rest r h =
+    let l : seen e ≡ in_phase Constants (seen c) = phase_token ConstantsWord Constants c e refl (λ d. refl) h in
+    let m : e.phase ≡ Constants = ap (λ (x : Counts). x.phase) l in
+    (m, λ d k. again Constants e d rest m k (λ d' k'. r.1 d' (ap (in_phase Between) (k' ∙ l))))
+kept WantConstant (Declared taken) c e rest r h =
+    let l = constant_token c e taken r.0 h in value_ready e rest (stays_in Constants c e r.0 l) (λ d k. r.1 d (k ∙ l))
+kept MoreConstants (FixedToken Comma) c e rest r h = again Constants c e rest r.0 (same_in Constants c e (FixedToken Comma) r.0 h (λ x. refl)) r.1
+kept MoreConstants (FixedToken Semicolon) c e rest r h = again Constants c e rest r.0 (same_in Constants c e (FixedToken Semicolon) r.0 h (λ x. refl)) r.1
+kept MaybeConstant (Declared taken) c e rest r h =
+    let l = constant_token c e taken r.0 h in
+    value_ready e (MoreConstants ∷ rest) (stays_in Constants c e r.0 l) (λ d k. again Constants c d rest r.0 (k ∙ l) r.1)
+kept WantEquals (RelationToken Eq) c e rest r h = r.1 e (token c e (RelationToken Eq) (λ d. refl) h)
+kept MaybeSign (FixedToken Plus) c e rest r h = r.1 e (token c e (FixedToken Plus) (λ d. refl) h ∙ opened_still c.phase (seen c) r.0)
+kept MaybeSign (FixedToken Minus) c e rest r h = r.1 e (token c e (FixedToken Minus) (λ d. refl) h ∙ opened_still c.phase (seen c) r.0)
+kept WantValue (Number v exponent) c e rest r h = r.1 e (token c e (Number v exponent) (λ d. refl) h ∙ opened_still c.phase (seen c) r.0)
+kept WantBound (Number v exponent) c e rest r h = r.1 e (token c e (Number v exponent) (λ d. refl) h ∙ opened_still c.phase (seen c) r.0)
+kept WantBound (ConstantName v) c e rest r h = r.1 e (token c e (ConstantName v) (λ d. refl) h ∙ opened_still c.phase (seen c) r.0)
+kept WantBound (FixedToken Oo) c e rest r h = r.1 e (token c e (FixedToken Oo) (λ d. refl) h)
+kept WantBound Unknown c e rest r h = absurd (reads (λ x. ⊥) c e Unknown h (λ d l. tt))
+kept MaybeFunctions (FixedToken FunctionWord) c e rest r h =
+    let l = phase_token FunctionWord FunctionName c e refl (λ d. gives_if _ (nat_lt d.functions 64) _ _ (λ t. refl) tt) h in
+    name_ready e rest (ap (λ (x : Counts). x.phase) l) (ap (λ (x : Counts). x.parameters) l ∙ r.0)
+    (λ d k. r.1 d (k ∙ (ap (λ (x : Counts). with_parameters 0 (in_phase Between x)) l ∙ sym (core_aside c r.0))))
+kept WantFunctionName (Declared taken) c e rest r h =
+    r.1 e (token_in FunctionName (λ x d. seen d ≡ in_phase Parameters (seen x)) c e (Declared taken) r.0 h (λ x. gives_if _ taken _ _ (λ t. tt) refl))
+kept WantParameter (Declared taken) c e rest r h =
+    r.1 e (token_in Parameters (λ x d. without d ≡ without x) c e (Declared taken) r.0.0 h (λ x. gives_if _ (nat_lt x.parameters 12) _ _ (λ t. gives_if _ taken _ _ (λ u. tt) refl) tt))
+kept MoreParameters (FixedToken Comma) c e rest r h =
+    let f : Further c e = token_in Parameters Further c e (FixedToken Comma) r.0 h (λ x. gives_if _ (nat_lt x.parameters 12) _ _ (λ t. record { same = refl; room = t }) tt) in
+    let n : e.phase ≡ Parameters = stays_in Parameters c e r.0 f.same in
+    ((n, f.room), λ d k. (ap (λ (x : Counts). x.phase) k ∙ n, λ d' k'. r.1 d' (k' ∙ (k ∙ ap (with_parameters 0) f.same))))
+kept MoreParameters (FixedToken Close) c e rest r h = r.1 e (ap (with_parameters 0) (token c e (FixedToken Close) (λ d. refl) h))
+kept MaybeSemicolon (FixedToken Semicolon) c e rest r h =
+    r.1 e (reads (λ x. seen x ≡ seen c) c e (FixedToken Semicolon) h (λ d l. ap seen (semicolon_apart d.phase d (apart_in c.phase d.phase (phase_is c d l) r.0)) ∙ l))
+kept WantVariable (Declared taken) c e rest r h = again_variable c e rest r.0.0 (variable_token c e taken r.0.0 h) r.1
+kept MoreVariables (FixedToken Comma) c e rest r h = again_variable c e rest r.0 (ap (with_variables 0) (same_in Variables c e (FixedToken Comma) r.0 h (λ x. refl))) r.1
+kept MoreVariables (FixedToken Semicolon) c e rest r h = again_variable c e rest r.0 (ap (with_variables 0) (same_in Variables c e (FixedToken Semicolon) r.0 h (λ x. refl))) r.1
+kept MaybeVariable (Declared taken) c e rest r h =
+    let l = variable_token c e taken r.0 h in
+    (still_variables c e r.0 l, λ d k. again_variable c d rest r.0 (k ∙ l) r.1)
+kept MaybeDomain (FixedToken In) c e rest r h =
+    let l : seen e ≡ seen c = token c e (FixedToken In) (λ d. refl) h in
+    bounds_ready e rest (λ d k. r.1 d (variables_back c d r.0 (k ∙ ap (in_phase Variables) l)))
+kept WantRelation (RelationToken x) c e rest r h = inner_row (WantFactor ∷ MoreFactors ∷ MoreTerms ∷ Then (Relate x) ∷ []) (RelationToken x) c e rest refl (λ d i. refl) r.0 h r.1
+kept MoreConstraints (FixedToken Semicolon) c e rest r h = (token_in Sides (λ x d. d.phase ≡ NextConstraint) c e (FixedToken Semicolon) r.0 h (λ x. refl), λ d k. r.1 d tt)
 kept MaybeConstraint s c e rest r h = kept_constraint s c e rest r.0 h r.1
 kept WantFactor s c e rest r h = kept_factor s c e rest (may_begin c.phase c.constraints r.0) h r.1
-kept MoreFactors s c e rest r h = kept_factors s c e rest r.0 h r.1
-kept MoreTerms s c e rest r h = kept_terms s c e rest r.0 h r.1
-kept MaybePower s c e rest r h = kept_power s c e rest r.0 h r.1
-kept WantExponent s c e rest r h = kept_exponent s c e rest r.0 h r.1
-kept (MoreArguments n) s c e rest r h = kept_arguments n s c e rest r.0 h r.1
-kept (Then op) s c e rest r h = tt
+kept MoreFactors (FixedToken Star) c e rest r h = inner_row (WantFactor ∷ Then (Two Mul) ∷ MoreFactors ∷ []) (FixedToken Star) c e rest refl (λ d i. refl) r.0 h r.1
+kept MoreFactors (FixedToken Slash) c e rest r h = inner_row (WantFactor ∷ Then (Two Div) ∷ MoreFactors ∷ []) (FixedToken Slash) c e rest refl (λ d i. refl) r.0 h r.1
+kept MoreTerms (FixedToken Plus) c e rest r h = inner_row (WantFactor ∷ MoreFactors ∷ Then (Two Add) ∷ MoreTerms ∷ []) (FixedToken Plus) c e rest refl (λ d i. refl) r.0 h r.1
+kept MoreTerms (FixedToken Minus) c e rest r h = inner_row (WantFactor ∷ MoreFactors ∷ Then (Two Sub) ∷ MoreTerms ∷ []) (FixedToken Minus) c e rest refl (λ d i. refl) r.0 h r.1
+kept MaybePower (FixedToken Caret) c e rest r h = inner_row (WantExponent ∷ []) (FixedToken Caret) c e rest refl (λ d i. refl) r.0 h r.1
+kept WantExponent (Number value (Some n)) c e rest r h = inner_row [] (Number value (Some n)) c e rest refl (λ d i. refl) r.0 h r.1
+kept (MoreArguments zero) (FixedToken Close) c e rest r h = inner_row [] (FixedToken Close) c e rest refl (λ d i. refl) r.0 h r.1
+kept (MoreArguments (suc n)) (FixedToken Comma) c e rest r h =
+    inner_row (WantFactor ∷ MoreFactors ∷ MoreTerms ∷ MoreArguments n ∷ []) (FixedToken Comma) c e rest refl (λ d i. comma_in d.phase d i) r.0 h r.1
+kept i (FixedToken EndOfText) c e rest r h = tt
+kept i s c e rest r h = tt
+
+itself : (i : Item) (c : Counts) → MayEnd i → Leaves i c c
+itself (Then op) c may = refl
+itself i c may = search
 
 -- an item that is left out keeps the counts
 pub left : (i : Item) (c : Counts) (rest : List Item) → MayEnd i → Ready c (i ∷ rest) → Ready c rest
-left MaybeConstants c rest m r = r.1 c refl
-left MoreConstants c rest m r = r.1 c refl
-left MaybeConstant c rest m r = r.1 c refl
-left MaybeSign c rest m r = r.1 c refl
-left MaybeFunctions c rest m r = r.1 c refl
-left MaybeSemicolon c rest m r = r.1 c refl
-left MoreVariables c rest m r = r.1 c refl
-left MaybeVariable c rest m r = r.1 c refl
-left MaybeDomain c rest m r = r.1 c refl
-left MoreConstraints c rest m r = r.1 c tt
-left MaybeConstraint c rest m r = r.1 c tt
-left MoreFactors c rest m r = r.1 c refl
-left MoreTerms c rest m r = r.1 c refl
-left MaybePower c rest m r = r.1 c refl
-left (Then op) c rest m r = r.1 c refl
-left i c rest m r = absurd m
+left i c rest may r = r.1 c (itself i c may)
 
 abbrev pub ReadyBehind : Option Item → Counts → List Item → Type 0
 ReadyBehind None c rest = Unit {0}
@@ -438,7 +285,7 @@ taken_ready i s c e rest code items' code' (Some p) made f h r =
 -- ---- The two starts
 
 pub expression_starts : Ready (nothing Sides) expression_items
-expression_starts = expression_ready (nothing Sides) [] tt (λ d l. tt)
+expression_starts = inside (WantFactor ∷ MoreFactors ∷ MoreTerms ∷ []) (nothing Sides) [] refl tt (λ d l. tt)
 
 constraints_ready : (c : Counts) → c.constraints ≡ 0 → Ready c (Exactly ConstraintsWord ∷ WantFactor ∷ MoreFactors ∷ MoreTerms ∷ WantRelation ∷ MoreConstraints ∷ Exactly End ∷ [])
 constraints_ready c n = (

@@ -11,9 +11,9 @@ pub mod Orderly
 pub mod Passing
 pub mod Piles
 pub mod Ready
-pub mod Steps
 pub mod TreeBuilding
 pub mod TreeExamples
 pub mod TreeReadings
 pub mod TreeRuns
+pub mod TreeSteps
 pub mod Within

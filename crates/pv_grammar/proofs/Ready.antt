@@ -1,21 +1,23 @@
 -- The counts fit the items that are to come. So what is to come has a text that stays within the limits.
-use Rattle.std.proofs.Common.{◌≡◌, ℕ, zero, suc, ◌+◌, ◌-◌, nat_lt, Bool, true, false, List, [], ◌∷◌, ◌++◌, refl, sym, ap, ◌∙◌, subst, append_assoc, Option, Some, None, if◌then◌else◌, Ok, Err}
+use Rattle.std.proofs.Common.{◌≡◌, ℕ, ◌+◌, ◌-◌, nat_lt, Bool, true, false, List, [], ◌∷◌, ◌++◌, refl, sym, ap, ◌∙◌, subst, append_assoc, Option, Some, None, if◌then◌else◌, Ok, Err}
 use Rattle.pv_code.specs.declared.code.Op.{Op}
-use Rattle.pv_code.specs.declared.code.Op.TheVariants.{One, Two, Relate}
+use Rattle.pv_code.specs.declared.code.Op.TheVariants.{One}
 use Rattle.pv_code.specs.declared.code.Unary.TheVariants.{Neg}
-use Rattle.pv_code.specs.declared.code.Binary.TheVariants.{Add, Sub, Mul, Div}
 use Rattle.pv_grammar.specs.declared.counts.Counts.{Counts}
 use Rattle.pv_grammar.specs.declared.counts.Phase.{Phase}
 use Rattle.pv_grammar.specs.declared.counts.Phase.TheVariants.{Between, Constants, FunctionName, Parameters, Body, Variables, Bounds, NextConstraint, Sides}
 use Rattle.pv_grammar.specs.declared.symbol.Fixed.{Fixed}
-use Rattle.pv_grammar.specs.declared.symbol.Fixed.TheVariants.{Plus, Minus, Star, Slash, Caret, Open, Close, OpenBracket, CloseBracket, Comma, Semicolon, Variables as VariablesWord, Constraints as ConstraintsWord, Return, End}
+use Rattle.pv_grammar.specs.declared.symbol.Fixed.TheVariants.{Plus, Minus, Open, Close, OpenBracket, CloseBracket, Comma, Variables as VariablesWord, Constraints as ConstraintsWord, Return, End}
 use Rattle.pv_grammar.specs.declared.symbol.Symbol.{Symbol}
-use Rattle.pv_grammar.specs.declared.symbol.Symbol.TheVariants.{Fixed as FixedToken, Relation as RelationToken, Number, Constant as ConstantName, Variable as VariableName, Parameter as ParameterName, Function as Call, Unknown}
+use Rattle.pv_grammar.specs.declared.symbol.Symbol.TheVariants.{Fixed as FixedToken, Number, Constant as ConstantName, Variable as VariableName, Parameter as ParameterName, Function as Call, Unknown}
 use Rattle.pv_grammar.specs.declared.machine.Item.{Item}
 use Rattle.pv_grammar.specs.declared.machine.Item.TheVariants.{Exactly, MaybeConstants, WantConstant, MoreConstants, MaybeConstant, MaybeSign, WantValue, MaybeFunctions, WantFunctionName, WantParameter, MoreParameters, MaybeSemicolon, WantVariable, MoreVariables, MaybeVariable, MaybeDomain, WantBound, WantRelation, MoreConstraints, MaybeConstraint, WantFactor, MoreFactors, MoreTerms, MaybePower, WantExponent, MoreArguments, Then}
-use Rattle.pv_grammar.specs.Grammar.{Produced, factor, produced, with_more}
-use Rattle.pv_grammar.specs.Counting.{Counting, begins, begun, behind_comma, behind_end, behind_semicolon, counted, in_expression, in_phase, levels, moved, nested, next, operated, operates, with_constraints, with_parameters, with_variables}
+use Rattle.pv_grammar.specs.Grammar.{Produced, produced, with_more}
+use Rattle.pv_grammar.specs.Counting.{Counting, begins, begun, behind_end, counted, in_expression, in_level, in_phase, levels, moved, nested, next, operated, operates, with_constraints, with_operations, with_parameters, with_variables}
 use Rattle.pv_grammar.specs.Standings.{begins_expression}
+
+abbrev pub made : Phase → ℕ → ℕ → ℕ → ℕ → ℕ → ℕ → Counts
+made p l o a f v k = record { phase = p; level = l; operations = o; parameters = a; functions = f; variables = v; constraints = k }
 
 -- ---- What of the counts matters to what is to come
 
@@ -162,41 +164,54 @@ abbrev pub begun_seen : Bool → Phase → Counts → Counts
 begun_seen true p c = opened p c
 begun_seen false p c = c
 
-begins_gives : (p : Phase) (l o a f v k : ℕ) (c : Counts) → c ≡ record { phase = p; level = l; operations = o; parameters = a; functions = f; variables = v; constraints = k } →
-    Gives (λ d. seen d ≡ opened p (seen c)) (begins p c)
-begins_gives NextConstraint l o a f v k c e = gives_if _ (nat_lt c.constraints 64) _ _ (λ t. refl) tt
-begins_gives p l o a f v k c e = refl
+begun_keeps : (P : Counts → Type 0) (b : Bool) (p : Phase) (c : Counts) → P (begun_seen b p c) → Gives P (if b then begins p c else Ok c)
+begun_keeps P false p c h = h
+begun_keeps P true NextConstraint c h = gives_if P (nat_lt c.constraints 64) _ _ (λ t. h) tt
+begun_keeps P true p c h = h
 
-begun_gives : (b : Bool) (c : Counts) → Gives (λ d. seen d ≡ begun_seen b c.phase (seen c)) (if b then begins c.phase c else Ok c)
-begun_gives true c = begins_gives c.phase c.level c.operations c.parameters c.functions c.variables c.constraints c refl
-begun_gives false c = refl
+operated_keeps : (P : Counts → Type 0) (c : Counts) (s : Symbol) → P c → ((o : ℕ) → in_expression c.phase ≡ true → P (with_operations o c)) → Gives P (operated c s)
+operated_keeps P c s h g =
+    gives_if P (in_expression c.phase) _ _ (λ t. gives_if P (operates s) _ _ (λ u. gives_if P (nat_lt c.operations 1000) _ _ (λ v. g (c.operations + 1) t) tt) h) h
 
-operated_gives : (c : Counts) (s : Symbol) → Gives (λ d. seen d ≡ seen c) (operated c s)
-operated_gives c s =
-    gives_if _ (in_expression c.phase) _ _
-    (λ t. gives_if _ (operates s) _ _ (λ u. gives_if _ (nat_lt c.operations 1000) _ _ (λ v. refl) tt) refl)
-    refl
+levels_keeps : (P : Counts → Type 0) (s : Symbol) (c : Counts) → P c → ((l : ℕ) → P (in_level l c)) → Gives P (levels s c)
+levels_keeps P (FixedToken Open) c h g = gives_if P (nat_lt c.level 100) _ _ (λ t. g (c.level + 1)) tt
+levels_keeps P (FixedToken Close) c h g = g (c.level - 1)
+levels_keeps P (Call op arity) c h g = gives_if P (nat_lt c.level 100) _ _ (λ t. h) tt
+levels_keeps P s c h g = h
 
-levels_gives : (s : Symbol) (c : Counts) → Gives (λ d. seen d ≡ seen c) (levels s c)
-levels_gives (FixedToken Open) c = gives_if _ (nat_lt c.level 100) _ _ (λ t. refl) tt
-levels_gives (FixedToken Close) c = refl
-levels_gives (Call op arity) c = gives_if _ (nat_lt c.level 100) _ _ (λ t. refl) tt
-levels_gives s c = refl
+nested_keeps : (P : Counts → Type 0) (c : Counts) (s : Symbol) → P c → ((l : ℕ) → in_expression c.phase ≡ true → P (in_level l c)) → Gives P (nested c s)
+nested_keeps P c s h g = gives_if P (in_expression c.phase) _ _ (λ t. levels_keeps P s c h (λ l. g l t)) h
 
-nested_gives : (c : Counts) (s : Symbol) → Gives (λ d. seen d ≡ seen c) (nested c s)
-nested_gives c s = gives_if _ (in_expression c.phase) _ _ (λ t. levels_gives s c) refl
+-- what is known where a token moves the text on is known behind it, if it asks nothing of the operations and levels of an expression
+pub walk : (P Q : Counts → Type 0) (c : Counts) (s : Symbol) → Q (begun_seen (begins_expression s) c.phase c) →
+    ((d : Counts) (l o : ℕ) → Q d → in_expression d.phase ≡ true → Q (in_level l (with_operations o d))) → ((d : Counts) → Q d → Gives P (moved d s)) → Gives P (counted c s)
+walk P Q c s starts keeps ends =
+    gives_next P Q (begun c s) _ (begun_keeps Q (begins_expression s) c.phase c starts)
+    (λ d q. gives_next P Q (operated d s) _ (operated_keeps Q d s q (λ o t. keeps d d.level o q t))
+    (λ e r. gives_next P Q (nested e s) _ (nested_keeps Q e s r (λ l t. keeps e l e.operations r t)) ends))
 
-counted_gives : (P : Counts → Type 0) (c : Counts) (s : Symbol) → ((d : Counts) → seen d ≡ begun_seen (begins_expression s) c.phase (seen c) → Gives P (moved d s)) → Gives P (counted c s)
-counted_gives P c s h =
-    gives_next P (λ d. seen d ≡ begun_seen (begins_expression s) c.phase (seen c)) (begun c s) _ (begun_gives (begins_expression s) c)
-    (λ d1 l1. gives_next P (λ d. seen d ≡ seen d1) (operated d1 s) _ (operated_gives d1 s)
-    (λ d2 l2. gives_next P (λ d. seen d ≡ seen d2) (nested d2 s) _ (nested_gives d2 s)
-    (λ d3 l3. h d3 (l3 ∙ (l2 ∙ l1)))))
+seen_begun : (b : Bool) (p : Phase) (c : Counts) → seen (begun_seen b p c) ≡ begun_seen b p (seen c)
+seen_begun false p c = refl
+seen_begun true NextConstraint c = refl
+seen_begun true p c = refl
 
 -- what is known behind a token that was counted
 pub reads : (P : Counts → Type 0) (c e : Counts) (s : Symbol) → counted c s ≡ Ok e →
     ((d : Counts) → seen d ≡ begun_seen (begins_expression s) c.phase (seen c) → Gives P (moved d s)) → P e
-reads P c e s h g = subst (Gives P) h (counted_gives P c s g)
+reads P c e s h g =
+    subst (Gives P) h
+    (walk P (λ d. seen d ≡ begun_seen (begins_expression s) c.phase (seen c)) c s (seen_begun (begins_expression s) c.phase c) (λ d l o q t. q) g)
+
+-- a token that moves nothing on
+pub token : (c e : Counts) (s : Symbol) → ((d : Counts) → moved d s ≡ Ok d) → counted c s ≡ Ok e → seen e ≡ begun_seen (begins_expression s) c.phase (seen c)
+token c e s m h =
+    reads (λ d. seen d ≡ begun_seen (begins_expression s) c.phase (seen c)) c e s h
+    (λ d l. subst (Gives (λ x. seen x ≡ begun_seen (begins_expression s) c.phase (seen c))) (sym (m d)) l)
+
+-- in a known phase the counts compute
+pub token_in : (p : Phase) (R : Counts → Counts → Type 0) (c e : Counts) (s : Symbol) → c.phase ≡ p → counted c s ≡ Ok e →
+    ((x : Counts) → Gives (R (in_phase p x)) (counted (in_phase p x) s)) → R c e
+token_in p R c e s m h g = subst (Gives (R c)) h (subst (λ (q : Phase). Gives (R (in_phase q c)) (counted (in_phase q c) s)) (sym m) (g c))
 
 -- ---- Where the counts are
 
@@ -208,29 +223,23 @@ in_sides p q e h = subst InExpression (sym e) h
 
 pub opened_in : (p : Phase) (c : Counts) → InExpression p → opened p c ≡ c
 opened_in Body c h = refl
-opened_in Sides c h = refl
-opened_in p c h = absurd h
+opened_in p c h = search
+
+begun_in : (b : Bool) (p : Phase) (c : Counts) → InExpression p → begun_seen b p c ≡ c
+begun_in true p c h = opened_in p c h
+begun_in false p c h = refl
 
 pub opened_still : (p : Phase) (c : Counts) → IsStill p → opened p c ≡ c
 opened_still Constants c h = refl
-opened_still Bounds c h = refl
-opened_still p c h = absurd h
+opened_still p c h = search
 
 pub room_in : (p : Phase) (n : ℕ) → InExpression p → FactorRoom p n
 room_in Body n h = tt
-room_in Sides n h = tt
-room_in p n h = absurd h
+room_in p n h = search
 
 pub may_begin : (p : Phase) (n : ℕ) → FactorRoom p n → MayBegin p
 may_begin Body n h = tt
-may_begin Sides n h = tt
-may_begin NextConstraint n h = tt
-may_begin p n h = absurd h
-
-begins_in : (p : Phase) → InExpression p → MayBegin p
-begins_in Body h = tt
-begins_in Sides h = tt
-begins_in p h = absurd h
+may_begin p n h = search
 
 -- behind the first token of a factor is an expression
 opened_inside : (p : Phase) (c d : Counts) → MayBegin p → c.phase ≡ p → seen d ≡ opened p (seen c) → InExpression d.phase
@@ -239,196 +248,96 @@ opened_inside Sides c d h e l = in_sides Sides d.phase (ap (λ (x : Counts). x.p
 opened_inside NextConstraint c d h e l = in_sides Sides d.phase (ap (λ (x : Counts). x.phase) l) tt
 opened_inside p c d h e l = absurd h
 
-inside : (c d : Counts) → MayBegin c.phase → seen d ≡ opened c.phase (seen c) → InExpression d.phase
-inside c d h l = opened_inside c.phase c d h refl l
-
--- ---- Items whose rest fits
+-- ---- Items that stay within an expression
 
 -- what is to come behind an item that keeps the counts
 abbrev pub Behind : (Counts → Type 0) → List Item → Type 0
 Behind P rest = (d : Counts) → P d → Ready d rest
 
--- an expression, where one is being read
-pub expression_ready : (e : Counts) (rest : List Item) → InExpression e.phase → Behind (λ d. seen d ≡ seen e) rest → Ready e (WantFactor ∷ MoreFactors ∷ MoreTerms ∷ rest)
-expression_ready e rest h g = (
-  room_in e.phase e.constraints h,
-  λ d1 l1. let m1 : seen d1 ≡ seen e = l1 ∙ opened_in e.phase (seen e) h in (
-    in_sides e.phase d1.phase (phase_is e d1 m1) h,
-    λ d2 l2. let m2 : seen d2 ≡ seen e = l2 ∙ m1 in (
-      in_sides e.phase d2.phase (phase_is e d2 m2) h,
-      λ d3 l3. g d3 (l3 ∙ m2),
-    ),
-  ),
-)
+abbrev inner : Item → Bool
+inner WantFactor = true
+inner MoreFactors = true
+inner MoreTerms = true
+inner MaybePower = true
+inner WantExponent = true
+inner WantRelation = true
+inner (MoreArguments n) = true
+inner (Then op) = true
+inner i = false
 
--- one more factor, and what it is part of
-factor_ready : (e : Counts) (rest : List Item) → InExpression e.phase → Behind (λ d. seen d ≡ seen e) rest → Ready e (WantFactor ∷ rest)
-factor_ready e rest h g = (room_in e.phase e.constraints h, λ d l. g d (l ∙ opened_in e.phase (seen e) h))
+abbrev pub all_inner : List Item → Bool
+all_inner [] = true
+all_inner (i ∷ items) = if inner i then all_inner items else false
 
-power_ready : (e : Counts) (rest : List Item) → InExpression e.phase → Behind (λ d. seen d ≡ seen e) rest → Ready e (MaybePower ∷ rest)
-power_ready e rest h g = (h, g)
+inner_item : (i : Item) (c : Counts) → inner i ≡ true → InExpression c.phase → Room i c × ((d : Counts) → Leaves i c d → seen d ≡ seen c)
+inner_item WantFactor c e h = (room_in c.phase c.constraints h, λ d l. l ∙ opened_in c.phase (seen c) h)
+inner_item MoreFactors c e h = (h, λ d l. l)
+inner_item MoreTerms c e h = (h, λ d l. l)
+inner_item MaybePower c e h = (h, λ d l. l)
+inner_item WantExponent c e h = (h, λ d l. l)
+inner_item WantRelation c e h = (h, λ d l. l)
+inner_item (MoreArguments n) c e h = (h, λ d l. l)
+inner_item (Then op) c e h = (tt, λ d l. l)
+inner_item i c e h = cc
 
-arguments_ready : (n : ℕ) (e : Counts) (rest : List Item) → InExpression e.phase → Behind (λ d. seen d ≡ seen e) rest → Ready e (MoreArguments n ∷ rest)
-arguments_ready n e rest h g = (h, g)
+both_true : (b d : Bool) → (if b then d else false) ≡ true → (b ≡ true) × (d ≡ true)
+both_true true d e = (refl, e)
+both_true false d e = cc
 
-step_ready : (op : Op) (e : Counts) (rest : List Item) → Behind (λ d. seen d ≡ seen e) rest → Ready e (Then op ∷ rest)
-step_ready op e rest g = (tt, g)
-
--- ---- Tokens of expressions
-
--- a token that begins a factor, and declares nothing
-pub factor_token : (c e : Counts) (s : Symbol) → begins_expression s ≡ true → ((d : Counts) → moved d s ≡ Ok d) → counted c s ≡ Ok e → seen e ≡ opened c.phase (seen c)
-factor_token c e s b m h =
-    reads (λ d. seen d ≡ opened c.phase (seen c)) c e s h
-    (λ d l. subst (Gives (λ x. seen x ≡ opened c.phase (seen c))) (sym (m d)) (subst (λ (z : Bool). seen d ≡ begun_seen z c.phase (seen c)) b l))
-
--- one that begins none
-pub other_token : (c e : Counts) (s : Symbol) → begins_expression s ≡ false → ((d : Counts) → moved d s ≡ Ok d) → counted c s ≡ Ok e → seen e ≡ seen c
-other_token c e s b m h =
-    reads (λ d. seen d ≡ seen c) c e s h
-    (λ d l. subst (Gives (λ x. seen x ≡ seen c)) (sym (m d)) (subst (λ (z : Bool). seen d ≡ begun_seen z c.phase (seen c)) b l))
-
--- a function's name leaves room for its parenthesis
-open_room : (p : Phase) (n : ℕ) → InExpression p → nat_lt n 100 ≡ true → OpenRoom p n
-open_room Body n h e = e
-open_room Sides n h e = e
-open_room p n h e = absurd h
-
-in_true : (p : Phase) → InExpression p → in_expression p ≡ false → ⊥
-in_true Body h e = cc
-in_true Sides h e = cc
-in_true p h e = h
-
-gives_either : (P : Counts → Type 0) (b : Bool) (x y : Counting) → (b ≡ true → Gives P x) → (b ≡ false → Gives P y) → Gives P (if b then x else y)
-gives_either P true x y g h = g refl
-gives_either P false x y g h = h refl
-
-nested_room : (c : Counts) (op : Op) (arity : ℕ) → InExpression c.phase → Gives (λ d. OpenRoom d.phase d.level) (nested c (Call op arity))
-nested_room c op arity h =
-    gives_either _ (in_expression c.phase) _ _
-    (λ t. gives_if _ (nat_lt c.level 100) _ _ (λ u. open_room c.phase c.level h u) tt)
-    (λ n. absurd (in_true c.phase h n))
-
-call_gives : (c : Counts) (op : Op) (arity : ℕ) → MayBegin c.phase → Gives (λ d. OpenRoom d.phase d.level) (counted c (Call op arity))
-call_gives c op arity h =
-    gives_next _ (λ d. seen d ≡ opened c.phase (seen c)) (begun c (Call op arity)) _ (begun_gives true c)
-    (λ d1 l1. gives_next _ (λ d. seen d ≡ seen d1) (operated d1 (Call op arity)) _ (operated_gives d1 (Call op arity))
-    (λ d2 l2. gives_next _ (λ d. OpenRoom d.phase d.level) (nested d2 (Call op arity)) _ (nested_room d2 op arity (inside c d2 h (l2 ∙ l1))) (λ d3 l3. l3)))
-
-call_room : (c e : Counts) (op : Op) (arity : ℕ) → MayBegin c.phase → counted c (Call op arity) ≡ Ok e → OpenRoom e.phase e.level
-call_room c e op arity m h = subst (Gives (λ d. OpenRoom d.phase d.level)) h (call_gives c op arity m)
+pub inside : (items : List Item) (e : Counts) (rest : List Item) → all_inner items ≡ true → InExpression e.phase → Behind (λ d. seen d ≡ seen e) rest → Ready e (items ++ rest)
+inside [] e rest a h g = g e refl
+inside (i ∷ items) e rest a h g =
+    let all = both_true (inner i) (all_inner items) a in
+    let item = inner_item i e all.0 h in
+    (item.0, λ d l. inside items d rest all.1 (in_sides e.phase d.phase (phase_is e d (item.1 d l)) h) (λ d' k. g d' (k ∙ item.1 d l)))
 
 -- ---- Each token that is taken leaves counts that fit
 
--- the operand of a factor
-operand_ready : (c e : Counts) (rest : List Item) → MayBegin c.phase → seen e ≡ opened c.phase (seen c) → Behind (λ d. seen d ≡ opened c.phase (seen c)) rest → Ready e (MaybePower ∷ rest)
-operand_ready c e rest m l g = power_ready e rest (inside c e m l) (λ d k. g d (k ∙ l))
+-- a token within an expression
+pub inner_row : (items : List Item) (s : Symbol) (c e : Counts) (rest : List Item) → all_inner items ≡ true → ((d : Counts) → InExpression d.phase → moved d s ≡ Ok d) → InExpression c.phase → counted c s ≡ Ok e →
+    Behind (λ d. seen d ≡ seen c) rest → Ready e (items ++ rest)
+inner_row items s c e rest all m h one g =
+    let l : seen e ≡ seen c = reads (λ x. seen x ≡ seen c) c e s one
+    (λ d l. let same : seen d ≡ seen c = l ∙ begun_in (begins_expression s) c.phase (seen c) h in
+    subst (Gives (λ x. seen x ≡ seen c)) (sym (m d (in_sides c.phase d.phase (phase_is c d same) h))) same) in
+    inside items e rest all (in_sides c.phase e.phase (phase_is c e l) h) (λ d k. g d (k ∙ l))
 
-parenthesis_ready : (n : ℕ) (e : Counts) (rest : List Item) → InExpression e.phase → Behind (λ d. seen d ≡ seen e) rest → Ready e (WantFactor ∷ MoreFactors ∷ MoreTerms ∷ MoreArguments n ∷ rest)
-parenthesis_ready n e rest h g =
-    expression_ready e (MoreArguments n ∷ rest) h
-    (λ d1 l1. arguments_ready n d1 rest (in_sides e.phase d1.phase (phase_is e d1 l1) h) (λ d2 l2. g d2 (l2 ∙ l1)))
+-- a token that begins a factor
+factor_row : (items : List Item) (c e : Counts) (rest : List Item) → all_inner items ≡ true → MayBegin c.phase → seen e ≡ opened c.phase (seen c) → Behind (λ d. seen d ≡ opened c.phase (seen c)) rest →
+    Ready e (items ++ rest)
+factor_row items c e rest all m l g = inside items e rest all (opened_inside c.phase c e m refl l) (λ d k. g d (k ∙ l))
 
-pub kept_factor : (s : Symbol) (c e : Counts) (rest : List Item) → MayBegin c.phase → counted c s ≡ Ok e → Behind (λ d. seen d ≡ opened c.phase (seen c)) rest → ReadyAfter (factor s) e rest
-kept_factor (FixedToken Plus) c e rest m h g =
-    let l : seen e ≡ opened c.phase (seen c) = factor_token c e (FixedToken Plus) refl (λ d. refl) h in
-    factor_ready e rest (inside c e m l) (λ d k. g d (k ∙ l))
-kept_factor (FixedToken Minus) c e rest m h g =
-    let l : seen e ≡ opened c.phase (seen c) = factor_token c e (FixedToken Minus) refl (λ d. refl) h in
-    factor_ready e (Then (One Neg) ∷ rest) (inside c e m l) (λ d k. step_ready (One Neg) d rest (λ d' k'. g d' (k' ∙ (k ∙ l))))
+-- a function's name leaves room for its parenthesis
+nested_room : (p : Phase) (l o a f v k : ℕ) (op : Op) (arity : ℕ) → InExpression p → Gives (λ d. OpenRoom d.phase d.level) (nested (made p l o a f v k) (Call op arity))
+nested_room Body l o a f v k op arity h = gives_if _ (nat_lt l 100) _ _ (λ t. t) tt
+nested_room Sides l o a f v k op arity h = gives_if _ (nat_lt l 100) _ _ (λ t. t) tt
+nested_room p l o a f v k op arity h = absurd h
+
+call_room : (c e : Counts) (op : Op) (arity : ℕ) → MayBegin c.phase → counted c (Call op arity) ≡ Ok e → OpenRoom e.phase e.level
+call_room c e op arity m h =
+    let P : Counts → Type 0 = λ d. OpenRoom d.phase d.level in
+    let Q : Counts → Type 0 = λ d. seen d ≡ opened c.phase (seen c) in
+    subst (Gives P) h
+    (gives_next P Q (begun c (Call op arity)) _ (begun_keeps Q true c.phase c (seen_begun true c.phase c))
+    (λ d q. gives_next P Q (operated d (Call op arity)) _ (operated_keeps Q d (Call op arity) q (λ o t. q))
+    (λ x r. gives_next P P (nested x (Call op arity)) _
+    (nested_room x.phase x.level x.operations x.parameters x.functions x.variables x.constraints op arity (opened_inside c.phase c x m refl r)) (λ y z. z))))
+
+pub kept_factor : (s : Symbol) (c e : Counts) (rest : List Item) → MayBegin c.phase → counted c s ≡ Ok e → Behind (λ d. seen d ≡ opened c.phase (seen c)) rest → ReadyAfter (produced WantFactor s) e rest
+kept_factor (FixedToken Plus) c e rest m h g = factor_row (WantFactor ∷ []) c e rest refl m (token c e (FixedToken Plus) (λ d. refl) h) g
+kept_factor (FixedToken Minus) c e rest m h g = factor_row (WantFactor ∷ Then (One Neg) ∷ []) c e rest refl m (token c e (FixedToken Minus) (λ d. refl) h) g
 kept_factor (FixedToken Open) c e rest m h g =
-    let l : seen e ≡ opened c.phase (seen c) = factor_token c e (FixedToken Open) refl (λ d. refl) h in
-    let i : InExpression e.phase = inside c e m l in
-    parenthesis_ready 0 e (MaybePower ∷ rest) i (λ d k. power_ready d rest (in_sides e.phase d.phase (phase_is e d k) i) (λ d' k'. g d' (k' ∙ (k ∙ l))))
-kept_factor (Number value exponent) c e rest m h g = operand_ready c e rest m (factor_token c e (Number value exponent) refl (λ d. refl) h) g
-kept_factor (ConstantName value) c e rest m h g = operand_ready c e rest m (factor_token c e (ConstantName value) refl (λ d. refl) h) g
-kept_factor (VariableName i) c e rest m h g = operand_ready c e rest m (factor_token c e (VariableName i) refl (λ d. refl) h) g
-kept_factor (ParameterName i) c e rest m h g = operand_ready c e rest m (factor_token c e (ParameterName i) refl (λ d. refl) h) g
+    factor_row (WantFactor ∷ MoreFactors ∷ MoreTerms ∷ MoreArguments 0 ∷ MaybePower ∷ []) c e rest refl m (token c e (FixedToken Open) (λ d. refl) h) g
+kept_factor (Number value exponent) c e rest m h g = factor_row (MaybePower ∷ []) c e rest refl m (token c e (Number value exponent) (λ d. refl) h) g
+kept_factor (ConstantName value) c e rest m h g = factor_row (MaybePower ∷ []) c e rest refl m (token c e (ConstantName value) (λ d. refl) h) g
+kept_factor (VariableName i) c e rest m h g = factor_row (MaybePower ∷ []) c e rest refl m (token c e (VariableName i) (λ d. refl) h) g
+kept_factor (ParameterName i) c e rest m h g = factor_row (MaybePower ∷ []) c e rest refl m (token c e (ParameterName i) (λ d. refl) h) g
 kept_factor (Call op arity) c e rest m h g =
-    let l : seen e ≡ opened c.phase (seen c) = factor_token c e (Call op arity) refl (λ d. refl) h in
-    let i : InExpression e.phase = inside c e m l in (
-      call_room c e op arity m h,
-      λ d1 l1. parenthesis_ready (arity - 1) d1 (Then op ∷ MaybePower ∷ rest) (in_sides e.phase d1.phase (phase_is e d1 l1) i)
-          (λ d2 l2. step_ready op d2 (MaybePower ∷ rest)
-          (λ d3 l3. power_ready d3 rest (in_sides e.phase d3.phase (phase_is e d3 (l3 ∙ (l2 ∙ l1))) i) (λ d4 l4. g d4 (l4 ∙ (l3 ∙ (l2 ∙ (l1 ∙ l))))))),
-    )
+    (call_room c e op arity m h, (factor_row (Then op ∷ WantFactor ∷ MoreFactors ∷ MoreTerms ∷ MoreArguments (arity - 1) ∷ Then op ∷ MaybePower ∷ []) c e rest refl m (token c e (Call op arity) (λ d. refl) h) g).1)
 kept_factor Unknown c e rest m h g = absurd (reads (λ x. ⊥) c e Unknown h (λ d l. tt))
 kept_factor s c e rest m h g = tt
 
--- behind an operator the next factor, and then the step
-operator_ready : (op : Op) (e : Counts) (rest : List Item) → InExpression e.phase → Behind (λ d. seen d ≡ seen e) (MoreFactors ∷ rest) → Ready e (WantFactor ∷ Then op ∷ MoreFactors ∷ rest)
-operator_ready op e rest i g = factor_ready e (Then op ∷ MoreFactors ∷ rest) i (λ d k. step_ready op d (MoreFactors ∷ rest) (λ d' k'. g d' (k' ∙ k)))
-
-pub kept_factors : (s : Symbol) (c e : Counts) (rest : List Item) → InExpression c.phase → counted c s ≡ Ok e → Behind (λ d. seen d ≡ seen c) rest → ReadyAfter (produced MoreFactors s) e rest
-kept_factors (FixedToken Star) c e rest m h g =
-    let l : seen e ≡ seen c = other_token c e (FixedToken Star) refl (λ d. refl) h in
-    operator_ready (Two Mul) e rest (in_sides c.phase e.phase (phase_is c e l) m) (λ d k. (in_sides c.phase d.phase (phase_is c d (k ∙ l)) m, λ d' k'. g d' (k' ∙ (k ∙ l))))
-kept_factors (FixedToken Slash) c e rest m h g =
-    let l : seen e ≡ seen c = other_token c e (FixedToken Slash) refl (λ d. refl) h in
-    operator_ready (Two Div) e rest (in_sides c.phase e.phase (phase_is c e l) m) (λ d k. (in_sides c.phase d.phase (phase_is c d (k ∙ l)) m, λ d' k'. g d' (k' ∙ (k ∙ l))))
-kept_factors s c e rest m h g = tt
-
-term_ready : (op : Op) (e : Counts) (rest : List Item) → InExpression e.phase → Behind (λ d. seen d ≡ seen e) rest → Ready e (WantFactor ∷ MoreFactors ∷ Then op ∷ MoreTerms ∷ rest)
-term_ready op e rest i g =
-    factor_ready e (MoreFactors ∷ Then op ∷ MoreTerms ∷ rest) i
-    (λ d k. (
-      in_sides e.phase d.phase (phase_is e d k) i,
-      λ d' k'. (tt, λ d'' k''. (in_sides e.phase d''.phase (phase_is e d'' (k'' ∙ (k' ∙ k))) i, λ d3 k3. g d3 (k3 ∙ (k'' ∙ (k' ∙ k))))),
-    ))
-
-pub kept_terms : (s : Symbol) (c e : Counts) (rest : List Item) → InExpression c.phase → counted c s ≡ Ok e → Behind (λ d. seen d ≡ seen c) rest → ReadyAfter (produced MoreTerms s) e rest
-kept_terms (FixedToken Plus) c e rest m h g =
-    let l : seen e ≡ seen c = factor_token c e (FixedToken Plus) refl (λ d. refl) h ∙ opened_in c.phase (seen c) m in
-    term_ready (Two Add) e rest (in_sides c.phase e.phase (phase_is c e l) m) (λ d k. g d (k ∙ l))
-kept_terms (FixedToken Minus) c e rest m h g =
-    let l : seen e ≡ seen c = factor_token c e (FixedToken Minus) refl (λ d. refl) h ∙ opened_in c.phase (seen c) m in
-    term_ready (Two Sub) e rest (in_sides c.phase e.phase (phase_is c e l) m) (λ d k. g d (k ∙ l))
-kept_terms s c e rest m h g = tt
-
-pub kept_power : (s : Symbol) (c e : Counts) (rest : List Item) → InExpression c.phase → counted c s ≡ Ok e → Behind (λ d. seen d ≡ seen c) rest → ReadyAfter (produced MaybePower s) e rest
-kept_power (FixedToken Caret) c e rest m h g =
-    let l : seen e ≡ seen c = other_token c e (FixedToken Caret) refl (λ d. refl) h in
-    (in_sides c.phase e.phase (phase_is c e l) m, λ d k. g d (k ∙ l))
-kept_power s c e rest m h g = tt
-
-pub kept_exponent : (s : Symbol) (c e : Counts) (rest : List Item) → InExpression c.phase → counted c s ≡ Ok e → Behind (λ d. seen d ≡ seen c) rest → ReadyAfter (produced WantExponent s) e rest
-kept_exponent (Number value (Some n)) c e rest m h g = g e (factor_token c e (Number value (Some n)) refl (λ d. refl) h ∙ opened_in c.phase (seen c) m)
-kept_exponent s c e rest m h g = tt
-
-comma_in : (p : Phase) (c : Counts) → InExpression p → behind_comma p c ≡ Ok c
-comma_in Body c m = refl
-comma_in Sides c m = refl
-comma_in p c m = absurd m
-
--- a comma between arguments
-comma_token : (c e : Counts) → InExpression c.phase → counted c (FixedToken Comma) ≡ Ok e → seen e ≡ seen c
-comma_token c e m h =
-    reads (λ x. seen x ≡ seen c) c e (FixedToken Comma) h
-    (λ d l. subst (Gives (λ x. seen x ≡ seen c)) (sym (comma_in d.phase d (in_sides c.phase d.phase (phase_is c d l) m))) l)
-
-pub kept_arguments : (n : ℕ) (s : Symbol) (c e : Counts) (rest : List Item) → InExpression c.phase → counted c s ≡ Ok e → Behind (λ d. seen d ≡ seen c) rest → ReadyAfter (produced (MoreArguments n) s) e rest
-kept_arguments zero (FixedToken Close) c e rest m h g = g e (other_token c e (FixedToken Close) refl (λ d. refl) h)
-kept_arguments (suc n) (FixedToken Comma) c e rest m h g =
-    let l : seen e ≡ seen c = comma_token c e m h in
-    parenthesis_ready n e rest (in_sides c.phase e.phase (phase_is c e l) m) (λ d k. g d (k ∙ l))
-kept_arguments zero s c e rest m h g = tt
-kept_arguments (suc n) s c e rest m h g = tt
-
-pub kept_relation : (s : Symbol) (c e : Counts) (rest : List Item) → InExpression c.phase → counted c s ≡ Ok e → Behind (λ d. seen d ≡ seen c) rest → ReadyAfter (produced WantRelation s) e rest
-kept_relation (RelationToken r) c e rest m h g =
-    let l : seen e ≡ seen c = other_token c e (RelationToken r) refl (λ d. refl) h in
-    expression_ready e (Then (Relate r) ∷ rest) (in_sides c.phase e.phase (phase_is c e l) m) (λ d k. step_ready (Relate r) d rest (λ d' k'. g d' (k' ∙ (k ∙ l))))
-kept_relation s c e rest m h g = tt
-
 -- ---- Constraints
-
-semicolon_in : (p : Phase) (c : Counts) → p ≡ Sides → (behind_semicolon p c).phase ≡ NextConstraint
-semicolon_in p c e = ap (λ (q : Phase). (behind_semicolon q c).phase) e
-
-pub kept_next : (s : Symbol) (c e : Counts) (rest : List Item) → c.phase ≡ Sides → counted c s ≡ Ok e → Behind (λ d. Unit {0}) rest → ReadyAfter (produced MoreConstraints s) e rest
-kept_next (FixedToken Semicolon) c e rest m h g =
-    (reads (λ d. d.phase ≡ NextConstraint) c e (FixedToken Semicolon) h (λ d l. semicolon_in d.phase d (phase_is c d l ∙ m)), λ d k. g d tt)
-kept_next s c e rest m h g = tt
 
 after_more : (more rest : List Item) (e : Counts) (o : Option Produced) → ReadyAfter o e (more ++ rest) → ReadyAfter (with_more more o) e rest
 after_more more rest e None h = tt
@@ -436,22 +345,14 @@ after_more more rest e (Some p) h = subst (Ready e) (sym (append_assoc p.0 more 
 
 -- what is left of a constraint behind its first factor
 pub constraint_ready : (d : Counts) (rest : List Item) → d.phase ≡ Sides → Behind (λ x. Unit {0}) rest → Ready d (MoreFactors ∷ MoreTerms ∷ WantRelation ∷ MoreConstraints ∷ rest)
-constraint_ready d rest m g = (
-  in_sides Sides d.phase m tt,
-  λ d1 l1. (
-    in_sides Sides d1.phase (phase_is d d1 l1 ∙ m) tt,
-    λ d2 l2. (
-      in_sides Sides d2.phase (phase_is d1 d2 l2 ∙ (phase_is d d1 l1 ∙ m)) tt,
-      λ d3 l3. (phase_is d2 d3 l3 ∙ (phase_is d1 d2 l2 ∙ (phase_is d d1 l1 ∙ m)), g),
-    ),
-  ),
-)
+constraint_ready d rest m g =
+    inside (MoreFactors ∷ MoreTerms ∷ WantRelation ∷ []) d (MoreConstraints ∷ rest) refl (in_sides Sides d.phase m tt) (λ x l. (phase_is d x l ∙ m, g))
 
 pub opened_sides : (p : Phase) (c d : Counts) → p ≡ NextConstraint → seen d ≡ opened p (seen c) → d.phase ≡ Sides
 opened_sides p c d e l = ap (λ (x : Counts). x.phase) (l ∙ ap (λ (q : Phase). opened q (seen c)) e)
 
 pub kept_constraint : (s : Symbol) (c e : Counts) (rest : List Item) → c.phase ≡ NextConstraint → counted c s ≡ Ok e → Behind (λ d. Unit {0}) rest → ReadyAfter (produced MaybeConstraint s) e rest
 kept_constraint s c e rest m h g =
-    after_more (MoreFactors ∷ MoreTerms ∷ WantRelation ∷ MoreConstraints ∷ []) rest e (factor s)
+    after_more (MoreFactors ∷ MoreTerms ∷ WantRelation ∷ MoreConstraints ∷ []) rest e (produced WantFactor s)
     (kept_factor s c e (MoreFactors ∷ MoreTerms ∷ WantRelation ∷ MoreConstraints ∷ rest) (subst MayBegin (sym m) tt) h
     (λ d k. constraint_ready d rest (opened_sides c.phase c d m k) g))

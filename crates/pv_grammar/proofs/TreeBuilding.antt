@@ -1,5 +1,5 @@
 -- A text of the grammar's items, in which each name is known, is that of a tree.
-use Rattle.std.proofs.Common.{◌≡◌, ℕ, zero, suc, List, [], ◌∷◌, ◌++◌, true, false, Option, Some, None, refl, ap, sym, subst, ◌∙◌, arith}
+use Rattle.std.proofs.Common.{◌≡◌, ℕ, zero, suc, ◌-◌, List, [], ◌∷◌, ◌++◌, true, false, Option, Some, None, refl, ap, sym, subst, ◌∙◌, arith}
 use Rattle.pv_expr.specs.declared.constraint.Relation.{Relation}
 use Rattle.pv_expr.specs.declared.constraint.Relation.TheVariants.{Eq}
 use Rattle.pv_code.specs.declared.code.Op.{Op}
@@ -13,7 +13,7 @@ use Rattle.pv_grammar.specs.declared.symbol.Fixed.{Fixed}
 use Rattle.pv_grammar.specs.declared.symbol.Fixed.TheVariants.{Plus, Minus, Star, Slash, Caret, Open, Close, OpenBracket, CloseBracket, Comma, Semicolon as SemicolonToken, Constants as ConstantsWord, Variables as VariablesWord, Constraints as ConstraintsWord, Function as FunctionWord, Return, End, In, Oo, EndOfText}
 use Rattle.pv_grammar.specs.declared.symbol.Symbol.{Symbol}
 use Rattle.pv_grammar.specs.declared.symbol.Symbol.TheVariants.{Fixed as FixedToken, Relation as RelationToken, Number, Declared, Constant as ConstantName, Variable as VariableName, Parameter as ParameterName, Function as FunctionName, Unknown}
-use Rattle.pv_grammar.specs.Grammar.{Derives, MayEnd, Produced, arguments, begun, done, exactly, exponent, expression_items, factor, fixed, left_out, produced, step_of, system_items, with_more}
+use Rattle.pv_grammar.specs.Grammar.{Derives, MayEnd, Produced, begun, done, exponent, expression_items, factor, left_out, produced, step_of, system_items, with_more}
 use Rattle.pv_grammar.specs.Productions.{Arguments, Constant, ConstantBlock, Constants, Constraint, Constraints, Domain, Expression, Factor, Factors, Functions, Limit, Parameters, Power, Primary, Semicolon, Separator, Sign, Terms, Variable, Variables, absolute_of, argument, between, bound_of, call, comma, constant_and, constant_limit, constant_named, constant_of, constants, constants_separator, constraint_and, constraints_semicolon, count, function_and, function_of, greatest_of, infinite_limit, least_of, minus, minus_sign, negative, no_argument, no_constant, no_constants, no_constraint, no_domain, no_factor, no_function, no_parameter, no_power, no_semicolon, no_sign, no_term, no_variable, number, number_limit, one_semicolon, over, parameter_and, parameter_at, parentheses, plus, plus_sign, positive, product_of, raised, relates, semicolon, square_of, sum_of, system_of, times, to_power, variable_and, variable_at, variable_of, variables_separator, arguments_symbols, constant_block_symbols, constant_symbols, constants_symbols, constraint_symbols, constraints_symbols, domain_symbols, expression_symbols, factor_symbols, factors_symbols, functions_symbols, limit_symbol, parameters_symbols, power_symbols, primary_symbols, semicolon_symbols, separator_symbol, sign_symbols, terms_symbols, variable_symbols, variables_symbols}
 use Rattle.pv_grammar.specs.TreeCodes.{AreKnown, IsCalled, IsKnown, IsOfExpression, IsOfSystem, arguments_code, constraint_code, constraints_code, expression_code, factor_code, factors_code, functions_code, power_code, primary_code, terms_code}
 
@@ -128,6 +128,34 @@ pub record HasTrees (items : List Item) (ss : List Symbol) (code : List Op) : Ty
   pub symbols : ss ≡ all_symbols items trees
   pub steps : code ≡ all_code items trees
 
+-- ---- An item that is left out has a tree without tokens
+
+abbrev pub none_of : (i : Item) → MayEnd i → TreeOf i
+none_of MaybeConstants may = no_constants
+none_of MoreConstants may = no_constant
+none_of MaybeConstant may = nothing_more
+none_of MaybeSign may = no_sign
+none_of MaybeFunctions may = no_function
+none_of MaybeSemicolon may = no_semicolon
+none_of MoreVariables may = no_variable
+none_of MaybeVariable may = nothing_more
+none_of MaybeDomain may = no_domain
+none_of MoreConstraints may = no_constraint
+none_of MaybeConstraint may = nothing_more
+none_of MoreFactors may = no_factor
+none_of MoreTerms may = no_term
+none_of MaybePower may = no_power
+none_of (Then op) may = tt
+none_of i may = absurd may
+
+pub none_symbols : (i : Item) (rest : List Item) (may : MayEnd i) (x : Trees rest) → all_symbols (i ∷ rest) (none_of i may, x) ≡ all_symbols rest x
+none_symbols (Then op) rest may x = refl
+none_symbols i rest may x = search
+
+pub none_code : (i : Item) (rest : List Item) (may : MayEnd i) (x : Trees rest) → all_code (i ∷ rest) (none_of i may, x) ≡ step_of i ++ all_code rest x
+none_code (Then op) rest may x = refl
+none_code i rest may x = search
+
 -- ---- A token, and trees of what must follow it
 
 -- trees of what a token produces become trees of the item, behind that token
@@ -139,78 +167,32 @@ abbrev pub no_further : (more : Arguments) → count more ≡ 0 → no_argument 
 no_further no_argument e = refl
 no_further (argument a more) e = absurd (omega (arith, e))
 
-pub record OneFurther (more : Arguments) : Type 0 where
-  pub one : Expression
-  pub is : more ≡ argument one no_argument
+-- the call of a function word or of a declared function, with its tokens and code
+pub record Called (op : Op) (arity : ℕ) (e : Expression) (more : Arguments) : Type 0 where
+  pub primary : Primary
+  pub symbols : (k : List Symbol) → FunctionName op arity ∷ FixedToken Open ∷ expression_symbols e (arguments_symbols more k) ≡ primary_symbols primary k
+  pub steps : (k : List Op) → expression_code e (arguments_code more (op ∷ k)) ≡ primary_code primary k
 
-abbrev pub one_further : (more : Arguments) → count more ≡ 1 → OneFurther more
-one_further no_argument e = absurd (omega (arith, e))
-one_further (argument a more) e = record { one = a; is = ap (argument a) (sym (no_further more (omega (arith, e)))) }
-
--- a function word with one argument
-abbrev pub word_builds : (op : Op) (make : Expression → Primary) (rest : List Item) →
-    ((e : Expression) (k : List Symbol) → primary_symbols (make e) k ≡ FunctionName op 1 ∷ FixedToken Open ∷ expression_symbols e (FixedToken Close ∷ k)) →
-    ((e : Expression) (k : List Op) → primary_code (make e) k ≡ expression_code e (op ∷ k)) →
-    Builds WantFactor (FunctionName op 1) rest (factor (FunctionName op 1))
-word_builds op make rest tokens code x =
-    let e : Expression = sum_of (product_of x.1.0 x.1.1.0) x.1.1.1.0 in
-    let more : Arguments = x.1.1.1.1.0.0 in
-    let none = no_further more x.1.1.1.1.0.1 in
-    let w : Power = x.1.1.1.1.1.1.0 in
-    let behind : Trees rest = x.1.1.1.1.1.1.1 in
+abbrev pub called : (op : Op) (arity : ℕ) (e : Expression) (more : Arguments) → IsCalled op arity → count more ≡ arity - 1 → Called op arity e more
+called (One Abs) (suc zero) e no_argument h many = record { primary = absolute_of e; symbols = λ k. refl; steps = λ k. refl }
+called (One (Pow (suc (suc zero)))) (suc zero) e no_argument h many = record { primary = square_of e; symbols = λ k. refl; steps = λ k. refl }
+called (Two Min) (suc (suc zero)) e (argument b no_argument) h many = record { primary = least_of e b; symbols = λ k. refl; steps = λ k. refl }
+called (Two Max) (suc (suc zero)) e (argument b no_argument) h many = record { primary = greatest_of e b; symbols = λ k. refl; steps = λ k. refl }
+called (Call f n) (suc m) e more h many =
+    let same : suc m ≡ suc (count more) = omega (arith, many) in
+    let takes : n ≡ suc (count more) = h ∙ same in
     record {
-      trees = (raised (make e) w, behind);
-      symbols =
-          ap (λ (z : Arguments). FunctionName op 1 ∷ FixedToken Open ∷ expression_symbols e (arguments_symbols z (power_symbols w (all_symbols rest behind)))) (sym none)
-          ∙ sym (tokens e (power_symbols w (all_symbols rest behind)));
-      steps =
-          ap (λ (z : Arguments). expression_code e (arguments_code z (op ∷ power_code w (all_code rest behind)))) (sym none)
-          ∙ sym (code e (power_code w (all_code rest behind)));
+      primary = call f e more;
+      symbols = λ k i. FunctionName (Call f (takes i)) (same i) ∷ FixedToken Open ∷ expression_symbols e (arguments_symbols more k);
+      steps = λ k i. expression_code e (arguments_code more (Call f (takes i) ∷ k));
     }
-
--- one with two
-abbrev pub words_build : (op : Op) (make : Expression → Expression → Primary) (rest : List Item) →
-    ((a b : Expression) (k : List Symbol) → primary_symbols (make a b) k ≡ FunctionName op 2 ∷ FixedToken Open ∷ expression_symbols a (FixedToken Comma ∷ expression_symbols b (FixedToken Close ∷ k))) →
-    ((a b : Expression) (k : List Op) → primary_code (make a b) k ≡ expression_code a (expression_code b (op ∷ k))) →
-    Builds WantFactor (FunctionName op 2) rest (factor (FunctionName op 2))
-words_build op make rest tokens code x =
-    let a : Expression = sum_of (product_of x.1.0 x.1.1.0) x.1.1.1.0 in
-    let more : Arguments = x.1.1.1.1.0.0 in
-    let b = one_further more x.1.1.1.1.0.1 in
-    let w : Power = x.1.1.1.1.1.1.0 in
-    let behind : Trees rest = x.1.1.1.1.1.1.1 in
-    record {
-      trees = (raised (make a b.one) w, behind);
-      symbols =
-          ap (λ (z : Arguments). FunctionName op 2 ∷ FixedToken Open ∷ expression_symbols a (arguments_symbols z (power_symbols w (all_symbols rest behind)))) b.is
-          ∙ sym (tokens a b.one (power_symbols w (all_symbols rest behind)));
-      steps =
-          ap (λ (z : Arguments). expression_code a (arguments_code z (op ∷ power_code w (all_code rest behind)))) b.is
-          ∙ sym (code a b.one (power_code w (all_code rest behind)));
-    }
-
--- a declared function
-abbrev pub call_builds : (f n m : ℕ) (rest : List Item) → n ≡ suc m → Builds WantFactor (FunctionName (Call f n) (suc m)) rest (factor (FunctionName (Call f n) (suc m)))
-call_builds f n m rest same x =
-    let e : Expression = sum_of (product_of x.1.0 x.1.1.0) x.1.1.1.0 in
-    let more : Arguments = x.1.1.1.1.0.0 in
-    let many : suc m ≡ suc (count more) = (let h = x.1.1.1.1.0.1 in omega (arith, h)) in
-    let takes : n ≡ suc (count more) = same ∙ many in
-    let w : Power = x.1.1.1.1.1.1.0 in
-    let behind : Trees rest = x.1.1.1.1.1.1.1 in
-    record {
-      trees = (raised (call f e more) w, behind);
-      symbols = λ i. FunctionName (Call f (takes i)) (many i) ∷ FixedToken Open ∷ expression_symbols e (arguments_symbols more (power_symbols w (all_symbols rest behind)));
-      steps = λ i. expression_code e (arguments_code more (Call f (takes i) ∷ power_code w (all_code rest behind)));
-    }
-
-abbrev pub called_builds : (op : Op) (arity : ℕ) (rest : List Item) → IsCalled op arity → Builds WantFactor (FunctionName op arity) rest (factor (FunctionName op arity))
-called_builds (One Abs) (suc zero) rest h = word_builds (One Abs) absolute_of rest (λ e k. refl) (λ e k. refl)
-called_builds (One (Pow (suc (suc zero)))) (suc zero) rest h = word_builds (One (Pow 2)) square_of rest (λ e k. refl) (λ e k. refl)
-called_builds (Two Min) (suc (suc zero)) rest h = words_build (Two Min) least_of rest (λ a b k. refl) (λ a b k. refl)
-called_builds (Two Max) (suc (suc zero)) rest h = words_build (Two Max) greatest_of rest (λ a b k. refl) (λ a b k. refl)
-called_builds (Call f n) (suc m) rest h = call_builds f n m rest h
-called_builds op arity rest h = absurd h
+called (One Abs) (suc zero) e (argument b more) h many = absurd (omega (arith, many))
+called (One (Pow (suc (suc zero)))) (suc zero) e (argument b more) h many = absurd (omega (arith, many))
+called (Two Min) (suc (suc zero)) e no_argument h many = absurd (omega (arith, many))
+called (Two Min) (suc (suc zero)) e (argument b (argument c more)) h many = absurd (omega (arith, many))
+called (Two Max) (suc (suc zero)) e no_argument h many = absurd (omega (arith, many))
+called (Two Max) (suc (suc zero)) e (argument b (argument c more)) h many = absurd (omega (arith, many))
+called op arity e more h many = absurd h
 
 abbrev pub factor_builds : (s : Symbol) (rest : List Item) → IsKnown s → Builds WantFactor s rest (factor s)
 factor_builds (FixedToken Plus) rest h = λ x. record { trees = (positive x.0, x.1); symbols = refl; steps = refl }
@@ -227,50 +209,43 @@ factor_builds (Number value exponent) rest h = λ x. record { trees = (raised (n
 factor_builds (ConstantName value) rest h = λ x. record { trees = (raised (constant_named value) x.0, x.1); symbols = refl; steps = refl }
 factor_builds (VariableName i) rest h = λ x. record { trees = (raised (variable_at i) x.0, x.1); symbols = refl; steps = refl }
 factor_builds (ParameterName i) rest h = λ x. record { trees = (raised (parameter_at i) x.0, x.1); symbols = refl; steps = refl }
-factor_builds (FunctionName op arity) rest h = called_builds op arity rest h
+factor_builds (FunctionName op arity) rest h = λ x.
+    let y = x.1.1.1.1.1.1 in
+    let c = called op arity (sum_of (product_of x.1.0 x.1.1.0) x.1.1.1.0) x.1.1.1.1.0.0 h x.1.1.1.1.0.1 in
+    record {
+      trees = (raised c.primary y.0, y.1);
+      symbols = c.symbols (power_symbols y.0 (all_symbols rest y.1));
+      steps = c.steps (power_code y.0 (all_code rest y.1));
+    }
 factor_builds Unknown rest h = absurd h
 factor_builds s rest h = tt
 
-abbrev pub arguments_build : (n : ℕ) (s : Symbol) (rest : List Item) → Builds (MoreArguments n) s rest (arguments n s)
-arguments_build zero (FixedToken Close) rest = λ x. record { trees = ((no_argument, refl), x); symbols = refl; steps = refl }
-arguments_build (suc n) (FixedToken Comma) rest = λ x. record {
-  trees = ((argument (sum_of (product_of x.0 x.1.0) x.1.1.0) x.1.1.1.0.0, ap (λ (k : ℕ). suc k) x.1.1.1.0.1), x.1.1.1.1);
-  symbols = refl;
-  steps = refl;
-}
-arguments_build zero s rest = tt
-arguments_build (suc n) s rest = tt
+abbrev pub alone_builds : (f : Fixed) (rest : List Item) (x : Trees rest) → HasTrees (Exactly f ∷ rest) (FixedToken f ∷ all_symbols rest x) (all_code rest x)
+alone_builds f rest = λ x. record { trees = (tt, x); symbols = refl; steps = refl }
 
-abbrev pub fixed_builds : (f g : Fixed) (rest : List Item) → Builds (Exactly f) (FixedToken g) rest (fixed f g)
-fixed_builds Plus Plus rest = λ x. record { trees = (tt, x); symbols = refl; steps = refl }
-fixed_builds Minus Minus rest = λ x. record { trees = (tt, x); symbols = refl; steps = refl }
-fixed_builds Star Star rest = λ x. record { trees = (tt, x); symbols = refl; steps = refl }
-fixed_builds Slash Slash rest = λ x. record { trees = (tt, x); symbols = refl; steps = refl }
-fixed_builds Caret Caret rest = λ x. record { trees = (tt, x); symbols = refl; steps = refl }
-fixed_builds Open Open rest = λ x. record { trees = (tt, x); symbols = refl; steps = refl }
-fixed_builds Close Close rest = λ x. record { trees = (tt, x); symbols = refl; steps = refl }
-fixed_builds OpenBracket OpenBracket rest = λ x. record { trees = (tt, x); symbols = refl; steps = refl }
-fixed_builds CloseBracket CloseBracket rest = λ x. record { trees = (tt, x); symbols = refl; steps = refl }
-fixed_builds Comma Comma rest = λ x. record { trees = (tt, x); symbols = refl; steps = refl }
-fixed_builds SemicolonToken SemicolonToken rest = λ x. record { trees = (tt, x); symbols = refl; steps = refl }
-fixed_builds ConstantsWord ConstantsWord rest = λ x. record { trees = (tt, x); symbols = refl; steps = refl }
-fixed_builds VariablesWord VariablesWord rest = λ x. record { trees = (tt, x); symbols = refl; steps = refl }
-fixed_builds ConstraintsWord ConstraintsWord rest = λ x. record { trees = (tt, x); symbols = refl; steps = refl }
-fixed_builds FunctionWord FunctionWord rest = λ x. record { trees = (tt, x); symbols = refl; steps = refl }
-fixed_builds Return Return rest = λ x. record { trees = (tt, x); symbols = refl; steps = refl }
-fixed_builds End End rest = λ x. record { trees = (tt, x); symbols = refl; steps = refl }
-fixed_builds In In rest = λ x. record { trees = (tt, x); symbols = refl; steps = refl }
-fixed_builds Oo Oo rest = λ x. record { trees = (tt, x); symbols = refl; steps = refl }
-fixed_builds EndOfText EndOfText rest = λ x. record { trees = (tt, x); symbols = refl; steps = refl }
-fixed_builds f g rest = tt
-
-abbrev pub exactly_builds : (f : Fixed) (s : Symbol) (rest : List Item) → Builds (Exactly f) s rest (exactly f s)
-exactly_builds f (FixedToken g) rest = fixed_builds f g rest
+abbrev pub exactly_builds : (f : Fixed) (s : Symbol) (rest : List Item) → Builds (Exactly f) s rest (produced (Exactly f) s)
+exactly_builds Plus (FixedToken Plus) rest = alone_builds Plus rest
+exactly_builds Minus (FixedToken Minus) rest = alone_builds Minus rest
+exactly_builds Star (FixedToken Star) rest = alone_builds Star rest
+exactly_builds Slash (FixedToken Slash) rest = alone_builds Slash rest
+exactly_builds Caret (FixedToken Caret) rest = alone_builds Caret rest
+exactly_builds Open (FixedToken Open) rest = alone_builds Open rest
+exactly_builds Close (FixedToken Close) rest = alone_builds Close rest
+exactly_builds OpenBracket (FixedToken OpenBracket) rest = alone_builds OpenBracket rest
+exactly_builds CloseBracket (FixedToken CloseBracket) rest = alone_builds CloseBracket rest
+exactly_builds Comma (FixedToken Comma) rest = alone_builds Comma rest
+exactly_builds SemicolonToken (FixedToken SemicolonToken) rest = alone_builds SemicolonToken rest
+exactly_builds ConstantsWord (FixedToken ConstantsWord) rest = alone_builds ConstantsWord rest
+exactly_builds VariablesWord (FixedToken VariablesWord) rest = alone_builds VariablesWord rest
+exactly_builds ConstraintsWord (FixedToken ConstraintsWord) rest = alone_builds ConstraintsWord rest
+exactly_builds FunctionWord (FixedToken FunctionWord) rest = alone_builds FunctionWord rest
+exactly_builds Return (FixedToken Return) rest = alone_builds Return rest
+exactly_builds End (FixedToken End) rest = alone_builds End rest
+exactly_builds In (FixedToken In) rest = alone_builds In rest
+exactly_builds Oo (FixedToken Oo) rest = alone_builds Oo rest
+exactly_builds EndOfText (FixedToken EndOfText) rest = alone_builds EndOfText rest
+exactly_builds f (FixedToken EndOfText) rest = tt
 exactly_builds f s rest = tt
-
-abbrev pub semicolon_builds : (s : Symbol) (rest : List Item) → Builds MaybeSemicolon s rest (exactly SemicolonToken s)
-semicolon_builds (FixedToken SemicolonToken) rest = λ x. record { trees = (one_semicolon, x); symbols = refl; steps = refl }
-semicolon_builds s rest = tt
 
 -- a further constraint begins as an expression does
 abbrev pub further : List Item
@@ -311,24 +286,23 @@ separator_then_variable s rest (one_more v) x = record { trees = (variable_and s
 
 abbrev pub builds : (i : Item) (s : Symbol) (rest : List Item) → IsKnown s → Builds i s rest (produced i s)
 builds (Exactly f) s rest h = exactly_builds f s rest
-builds MaybeSemicolon s rest h = semicolon_builds s rest
+builds MaybeSemicolon (FixedToken SemicolonToken) rest h = λ x. record { trees = (one_semicolon, x); symbols = refl; steps = refl }
 builds WantFactor s rest h = factor_builds s rest h
 builds MoreFactors (FixedToken Star) rest h = λ x. record { trees = (times x.0 x.1.1.0, x.1.1.1); symbols = refl; steps = refl }
 builds MoreFactors (FixedToken Slash) rest h = λ x. record { trees = (over x.0 x.1.1.0, x.1.1.1); symbols = refl; steps = refl }
-builds MoreFactors s rest h = tt
 builds MoreTerms (FixedToken Plus) rest h = λ x. record { trees = (plus (product_of x.0 x.1.0) x.1.1.1.0, x.1.1.1.1); symbols = refl; steps = refl }
 builds MoreTerms (FixedToken Minus) rest h = λ x. record { trees = (minus (product_of x.0 x.1.0) x.1.1.1.0, x.1.1.1.1); symbols = refl; steps = refl }
-builds MoreTerms s rest h = tt
 builds MaybePower (FixedToken Caret) rest h = λ x. record { trees = (to_power x.0.0 x.0.1, x.1); symbols = refl; steps = refl }
-builds MaybePower s rest h = tt
 builds WantExponent (Number value (Some n)) rest h = λ x. record { trees = ((value, n), x); symbols = refl; steps = refl }
-builds WantExponent s rest h = tt
-builds (MoreArguments n) s rest h = arguments_build n s rest
+builds (MoreArguments zero) (FixedToken Close) rest h = λ x. record { trees = ((no_argument, refl), x); symbols = refl; steps = refl }
+builds (MoreArguments (suc n)) (FixedToken Comma) rest h = λ x. record {
+  trees = ((argument (sum_of (product_of x.0 x.1.0) x.1.1.0) x.1.1.1.0.0, ap (λ (k : ℕ). suc k) x.1.1.1.0.1), x.1.1.1.1);
+  symbols = refl;
+  steps = refl;
+}
 builds WantRelation (RelationToken r) rest h = λ x. record { trees = ((r, sum_of (product_of x.0 x.1.0) x.1.1.0), x.1.1.1.1); symbols = refl; steps = refl }
-builds WantRelation s rest h = tt
 builds MaybeConstraint s rest h = constraint_builds s rest h
 builds MoreConstraints (FixedToken SemicolonToken) rest h = λ x. semicolon_then rest x.0 x.1
-builds MoreConstraints s rest h = tt
 builds MaybeFunctions (FixedToken FunctionWord) rest h = λ x.
     let y = x.1.1.1.1.1 in
     record {
@@ -336,76 +310,44 @@ builds MaybeFunctions (FixedToken FunctionWord) rest h = λ x.
       symbols = refl;
       steps = refl;
     }
-builds MaybeFunctions s rest h = tt
 builds WantFunctionName (Declared false) rest h = λ x. record { trees = (tt, x); symbols = refl; steps = refl }
-builds WantFunctionName (Declared true) rest h = absurd h
-builds WantFunctionName s rest h = tt
 builds WantParameter (Declared false) rest h = λ x. record { trees = (tt, x); symbols = refl; steps = refl }
-builds WantParameter (Declared true) rest h = absurd h
-builds WantParameter s rest h = tt
 builds MoreParameters (FixedToken Comma) rest h = λ x. record { trees = (parameter_and x.1.0, x.1.1); symbols = refl; steps = refl }
 builds MoreParameters (FixedToken Close) rest h = λ x. record { trees = (no_parameter, x); symbols = refl; steps = refl }
-builds MoreParameters s rest h = tt
 builds MaybeConstants (FixedToken ConstantsWord) rest h = λ x. record { trees = (constants x.0 x.1.0, x.1.1); symbols = refl; steps = refl }
-builds MaybeConstants s rest h = tt
 builds WantConstant (Declared false) rest h = λ x. record { trees = (constant_of x.1.0 x.1.1.0.0 x.1.1.0.1, x.1.1.1); symbols = refl; steps = refl }
-builds WantConstant (Declared true) rest h = absurd h
-builds WantConstant s rest h = tt
 builds MoreConstants (FixedToken Comma) rest h = λ x. separator_then_constant comma rest x.0 x.1
 builds MoreConstants (FixedToken SemicolonToken) rest h = λ x. separator_then_constant semicolon rest x.0 x.1
-builds MoreConstants s rest h = tt
 builds MaybeConstant (Declared false) rest h = λ x. record { trees = (one_more (constant_of x.1.0 x.1.1.0.0 x.1.1.0.1, x.1.1.1.0), x.1.1.1.1); symbols = refl; steps = refl }
-builds MaybeConstant (Declared true) rest h = absurd h
-builds MaybeConstant s rest h = tt
 builds WantEquals (RelationToken Eq) rest h = λ x. record { trees = (tt, x); symbols = refl; steps = refl }
-builds WantEquals s rest h = tt
 builds MaybeSign (FixedToken Plus) rest h = λ x. record { trees = (plus_sign, x); symbols = refl; steps = refl }
 builds MaybeSign (FixedToken Minus) rest h = λ x. record { trees = (minus_sign, x); symbols = refl; steps = refl }
-builds MaybeSign s rest h = tt
 builds WantValue (Number value exponent) rest h = λ x. record { trees = ((value, exponent), x); symbols = refl; steps = refl }
-builds WantValue s rest h = tt
 builds WantVariable (Declared false) rest h = λ x. record { trees = (variable_of x.0, x.1); symbols = refl; steps = refl }
-builds WantVariable (Declared true) rest h = absurd h
-builds WantVariable s rest h = tt
 builds MoreVariables (FixedToken Comma) rest h = λ x. separator_then_variable comma rest x.0 x.1
 builds MoreVariables (FixedToken SemicolonToken) rest h = λ x. separator_then_variable semicolon rest x.0 x.1
-builds MoreVariables s rest h = tt
 builds MaybeVariable (Declared false) rest h = λ x. record { trees = (one_more (variable_of x.0, x.1.0), x.1.1); symbols = refl; steps = refl }
-builds MaybeVariable (Declared true) rest h = absurd h
-builds MaybeVariable s rest h = tt
 builds MaybeDomain (FixedToken In) rest h = λ x. record {
   trees = (between (bound_of x.1.0 x.1.1.0) (bound_of x.1.1.1.1.0 x.1.1.1.1.1.0), x.1.1.1.1.1.1.1);
   symbols = refl;
   steps = refl;
 }
-builds MaybeDomain s rest h = tt
 builds WantBound (Number value exponent) rest h = λ x. record { trees = (number_limit value exponent, x); symbols = refl; steps = refl }
 builds WantBound (ConstantName value) rest h = λ x. record { trees = (constant_limit value, x); symbols = refl; steps = refl }
 builds WantBound (FixedToken Oo) rest h = λ x. record { trees = (infinite_limit, x); symbols = refl; steps = refl }
-builds WantBound Unknown rest h = absurd h
-builds WantBound s rest h = tt
-builds (Then op) s rest h = tt
+builds i (Declared true) rest h = absurd h
+builds i Unknown rest h = absurd h
+builds i (FixedToken EndOfText) rest h = tt
+builds i s rest h = tt
 
 -- ---- Texts
 
--- an item that is left out has a tree without tokens
 leaves_out : (i : Item) (rest : List Item) (ss : List Symbol) (code : List Op) → MayEnd i → HasTrees rest ss code → HasTrees (i ∷ rest) ss (step_of i ++ code)
-leaves_out MaybeConstants rest ss code may h = record { trees = (no_constants, h.trees); symbols = h.symbols; steps = h.steps }
-leaves_out MoreConstants rest ss code may h = record { trees = (no_constant, h.trees); symbols = h.symbols; steps = h.steps }
-leaves_out MaybeConstant rest ss code may h = record { trees = (nothing_more, h.trees); symbols = h.symbols; steps = h.steps }
-leaves_out MaybeSign rest ss code may h = record { trees = (no_sign, h.trees); symbols = h.symbols; steps = h.steps }
-leaves_out MaybeFunctions rest ss code may h = record { trees = (no_function, h.trees); symbols = h.symbols; steps = h.steps }
-leaves_out MaybeSemicolon rest ss code may h = record { trees = (no_semicolon, h.trees); symbols = h.symbols; steps = h.steps }
-leaves_out MoreVariables rest ss code may h = record { trees = (no_variable, h.trees); symbols = h.symbols; steps = h.steps }
-leaves_out MaybeVariable rest ss code may h = record { trees = (nothing_more, h.trees); symbols = h.symbols; steps = h.steps }
-leaves_out MaybeDomain rest ss code may h = record { trees = (no_domain, h.trees); symbols = h.symbols; steps = h.steps }
-leaves_out MoreConstraints rest ss code may h = record { trees = (no_constraint, h.trees); symbols = h.symbols; steps = h.steps }
-leaves_out MaybeConstraint rest ss code may h = record { trees = (nothing_more, h.trees); symbols = h.symbols; steps = h.steps }
-leaves_out MoreFactors rest ss code may h = record { trees = (no_factor, h.trees); symbols = h.symbols; steps = h.steps }
-leaves_out MoreTerms rest ss code may h = record { trees = (no_term, h.trees); symbols = h.symbols; steps = h.steps }
-leaves_out MaybePower rest ss code may h = record { trees = (no_power, h.trees); symbols = h.symbols; steps = h.steps }
-leaves_out (Then op) rest ss code may h = record { trees = (tt, h.trees); symbols = h.symbols; steps = ap (λ (z : List Op). op ∷ z) h.steps }
-leaves_out i rest ss code may h = absurd may
+leaves_out i rest ss code may h = record {
+  trees = (none_of i may, h.trees);
+  symbols = h.symbols ∙ sym (none_symbols i rest may h.trees);
+  steps = ap (λ (z : List Op). step_of i ++ z) h.steps ∙ sym (none_code i rest may h.trees);
+}
 
 begins : (i : Item) (s : Symbol) (rest : List Item) (p : Produced) (ss : List Symbol) (code : List Op) → Builds i s rest (Some p) → HasTrees (p.0 ++ rest) ss code → HasTrees (i ∷ rest) (s ∷ ss) (p.1 ++ code)
 begins i s rest p ss code b h =

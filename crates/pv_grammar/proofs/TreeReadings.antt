@@ -1,258 +1,221 @@
--- The tokens of a tree are a text of the grammar's items, with the tree's code.
-use Rattle.std.proofs.Common.{◌≡◌, ℕ, suc, ◌-◌, List, [], ◌∷◌, ◌++◌, false, Option, Some, refl, ap, sym, subst, append_assoc, arith}
+-- Each tree of an item is left out, or begins with a token; so the tokens of a tree are a text of the items, with the tree's code.
+use Rattle.std.proofs.Common.{◌≡◌, ℕ, zero, suc, ◌-◌, List, [], ◌∷◌, ◌++◌, false, Option, Some, None, refl, ap, sym, subst, ◌∙◌, arith}
+use Rattle.std.proofs.Props.{props}
 use Rattle.pv_expr.specs.declared.constraint.Relation.TheVariants.{Eq}
 use Rattle.pv_code.specs.declared.code.Op.{Op}
-use Rattle.pv_code.specs.declared.code.Op.TheVariants.{One, Two, Call, Define, Relate}
-use Rattle.pv_code.specs.declared.code.Unary.TheVariants.{Neg, Abs, Pow}
-use Rattle.pv_code.specs.declared.code.Binary.TheVariants.{Add, Sub, Mul, Div, Min, Max}
+use Rattle.pv_code.specs.declared.code.Op.TheVariants.{One, Two, Call}
+use Rattle.pv_code.specs.declared.code.Unary.TheVariants.{Abs, Pow}
+use Rattle.pv_code.specs.declared.code.Binary.TheVariants.{Min, Max}
 use Rattle.pv_grammar.specs.declared.machine.Item.{Item}
 use Rattle.pv_grammar.specs.declared.machine.Item.TheVariants.{Exactly, MaybeConstants, WantConstant, MoreConstants, MaybeConstant, WantEquals, MaybeSign, WantValue, MaybeFunctions, WantFunctionName, WantParameter, MoreParameters, MaybeSemicolon, WantVariable, MoreVariables, MaybeVariable, MaybeDomain, WantBound, WantRelation, MoreConstraints, MaybeConstraint, WantFactor, MoreFactors, MoreTerms, MaybePower, WantExponent, MoreArguments, Then}
-use Rattle.pv_grammar.specs.declared.symbol.Fixed.TheVariants.{Plus, Minus, Star, Slash, Caret, Open, Close, OpenBracket, CloseBracket, Comma, Semicolon as SemicolonToken, Constants as ConstantsWord, Variables as VariablesWord, Constraints as ConstraintsWord, Function as FunctionWord, Return, End, In, Oo}
+use Rattle.pv_grammar.specs.declared.symbol.Fixed.TheVariants.{Plus, Minus, Star, Slash, Caret, Open, Close, Comma, Semicolon as SemicolonToken, Constants as ConstantsWord, Function as FunctionWord, In, Oo, EndOfText}
 use Rattle.pv_grammar.specs.declared.symbol.Symbol.{Symbol}
-use Rattle.pv_grammar.specs.declared.symbol.Symbol.TheVariants.{Fixed as FixedToken, Relation as RelationToken, Number, Declared, Constant as ConstantName, Variable as VariableName, Parameter as ParameterName, Function as FunctionName}
-use Rattle.pv_grammar.specs.Grammar.{Derives, MayEnd, Produced, begun, expression_items, left_out, produced, step_of, system_items, with_more, done}
-use Rattle.pv_grammar.specs.Productions.{Arguments, Constant, ConstantBlock, Constants, Constraint, Constraints, Domain, Expression, Factor, Factors, Functions, Limit, Parameters, Power, Primary, Semicolon, Separator, Sign, System, Term, Terms, Variable, Variables, absolute_of, argument, between, bound_of, call, comma, constant_and, constant_limit, constant_named, constant_of, constants, constants_separator, constraint_and, constraints_semicolon, count, function_and, function_of, greatest_of, infinite_limit, least_of, minus, minus_sign, negative, no_argument, no_constant, no_constants, no_constraint, no_domain, no_factor, no_function, no_parameter, no_power, no_semicolon, no_sign, no_term, no_variable, number, number_limit, one_semicolon, over, parameter_and, parameter_at, parentheses, plus, plus_sign, positive, product_of, raised, relates, semicolon, square_of, sum_of, system_of, times, to_power, variable_and, variable_at, variable_of, variables_separator, arguments_symbols, constant_block_symbols, constant_symbols, constants_symbols, constraint_symbols, constraints_symbols, domain_symbols, expression_symbols, factor_symbols, factors_symbols, functions_symbols, limit_symbol, parameters_symbols, power_symbols, primary_symbols, semicolon_symbols, separator_symbol, sign_symbols, system_symbols, term_symbols, terms_symbols, variable_symbols, variables_symbols}
-use Rattle.pv_grammar.specs.TreeCodes.{AreKnown, IsKnown, IsOfExpression, IsOfSystem, arguments_code, constraint_code, constraints_code, expression_code, factor_code, factors_code, functions_code, power_code, primary_code, system_code, term_code, terms_code}
-use Rattle.pv_grammar.proofs.OneReading.{in_way, out_way, way_by}
+use Rattle.pv_grammar.specs.declared.symbol.Symbol.TheVariants.{Fixed as FixedToken, Relation as RelationToken, Number, Declared, Constant as ConstantName, Variable as VariableName, Parameter as ParameterName, Function as FunctionName, Unknown}
+use Rattle.pv_grammar.specs.Grammar.{Derives, MayEnd, Produced, begun, done, expression_items, factor, left_out, produced, system_items, with_more}
+use Rattle.pv_grammar.specs.Productions.{Arguments, Expression, Factor, Power, Primary, System, absolute_of, argument, between, bound_of, call, comma, constant_and, constant_limit, constant_named, constant_of, constants, constants_separator, constraint_and, constraints_semicolon, count, expression_symbols, function_and, function_of, greatest_of, infinite_limit, least_of, minus, minus_sign, negative, no_argument, no_constant, no_constants, no_constraint, no_domain, no_factor, no_function, no_parameter, no_power, no_semicolon, no_sign, no_term, no_variable, number, number_limit, one_semicolon, over, parameter_and, parameter_at, parentheses, plus, plus_sign, positive, product_of, raised, relates, semicolon, square_of, sum_of, system_of, system_symbols, times, to_power, variable_and, variable_at, variable_of, variables_separator}
+use Rattle.pv_grammar.specs.TreeCodes.{AreKnown, IsKnown, IsOfExpression, IsOfSystem, expression_code, system_code}
+use Rattle.pv_grammar.proofs.Forward.{head_is, nil_cons, tail_is}
+use Rattle.pv_grammar.proofs.TreeBuilding.{Builds, TreeOf, Trees, all_code, all_symbols, as_further, builds, constraint_builds, factor_builds, further, none_code, none_of, none_symbols, nothing_more, one_more}
+
+-- ---- How a tree begins
+
+-- trees that are built behind a token
+abbrev pub Built : (i : Item) (s : Symbol) (rest : List Item) (o : Option Produced) → Builds i s rest o → Trees (i ∷ rest) → Type 0
+Built i s rest None b x = ⊥
+Built i s rest (Some p) b x = (y : Trees (p.0 ++ rest)) × ((b y).trees ≡ x)
+
+pub data Seen (i : Item) (rest : List Item) (x : Trees (i ∷ rest)) : Type 0 where
+  seen_out : (may : MayEnd i) → x ≡ (none_of i may, x.1) → Seen i rest x
+  seen_in : (s : Symbol) (h : IsKnown s) → Built i s rest (produced i s) (builds i s rest h) x → Seen i rest x
+
+pub numbers : (a b : ℕ) → IsProp (a ≡ b)
+numbers a b = hlevel props
+
+seen_primary : (x : Primary) (w : Power) (rest : List Item) (r : Trees rest) → Seen WantFactor rest (raised x w, r)
+seen_primary (number value exponent) w rest r = seen_in (Number value exponent) tt ((w, r), refl)
+seen_primary (constant_named value) w rest r = seen_in (ConstantName value) tt ((w, r), refl)
+seen_primary (variable_at i) w rest r = seen_in (VariableName i) tt ((w, r), refl)
+seen_primary (parameter_at i) w rest r = seen_in (ParameterName i) tt ((w, r), refl)
+seen_primary (parentheses (sum_of (product_of x xs) ts)) w rest r = seen_in (FixedToken Open) tt ((x, (xs, (ts, ((no_argument, refl), (w, r))))), refl)
+seen_primary (absolute_of (sum_of (product_of x xs) ts)) w rest r = seen_in (FunctionName (One Abs) 1) tt ((tt, (x, (xs, (ts, ((no_argument, refl), (tt, (w, r))))))), refl)
+seen_primary (square_of (sum_of (product_of x xs) ts)) w rest r = seen_in (FunctionName (One (Pow 2)) 1) tt ((tt, (x, (xs, (ts, ((no_argument, refl), (tt, (w, r))))))), refl)
+seen_primary (least_of (sum_of (product_of x xs) ts) b) w rest r = seen_in (FunctionName (Two Min) 2) tt ((tt, (x, (xs, (ts, ((argument b no_argument, refl), (tt, (w, r))))))), refl)
+seen_primary (greatest_of (sum_of (product_of x xs) ts) b) w rest r = seen_in (FunctionName (Two Max) 2) tt ((tt, (x, (xs, (ts, ((argument b no_argument, refl), (tt, (w, r))))))), refl)
+seen_primary (call f (sum_of (product_of x xs) ts) more) w rest r =
+    let one_less : count more ≡ suc (count more) - 1 = omega arith in
+    seen_in (FunctionName (Call f (suc (count more))) (suc (count more))) refl ((tt, (x, (xs, (ts, ((more, one_less), (tt, (w, r))))))), refl)
+
+seen_factor : (x : Factor) (rest : List Item) (r : Trees rest) → Seen WantFactor rest (x, r)
+seen_factor (positive x) rest r = seen_in (FixedToken Plus) tt ((x, r), refl)
+seen_factor (negative x) rest r = seen_in (FixedToken Minus) tt ((x, (tt, r)), refl)
+seen_factor (raised x w) rest r = seen_primary x w rest r
+
+seen_arguments : (n : ℕ) (more : Arguments) (many : count more ≡ n) (rest : List Item) (r : Trees rest) → Seen (MoreArguments n) rest ((more, many), r)
+seen_arguments zero no_argument many rest r =
+    let same = numbers (count no_argument) zero refl many in seen_in (FixedToken Close) tt (r, λ i. ((no_argument, same i), r))
+seen_arguments zero (argument a more) many rest r = absurd (omega (arith, many))
+seen_arguments (suc n) no_argument many rest r = absurd (omega (arith, many))
+seen_arguments (suc n) (argument (sum_of (product_of x xs) ts) more) many rest r =
+    let fewer : count more ≡ n = omega (arith, many) in
+    let e : Expression = sum_of (product_of x xs) ts in
+    seen_in (FixedToken Comma) tt ((x, (xs, (ts, ((more, fewer), r)))), λ i. ((argument e more, numbers (suc (count more)) (suc n) (ap (λ (k : ℕ). suc k) fewer) many i), r))
+
+-- a further constraint begins as an expression does
+as_expression : (s : Symbol) (rest : List Item) (h : IsKnown s) (x : Trees (WantFactor ∷ (further ++ rest))) →
+    Built WantFactor s (further ++ rest) (factor s) (factor_builds s (further ++ rest) h) x → Built MaybeConstraint s rest (with_more further (factor s)) (constraint_builds s rest h) (as_further rest x)
+as_expression (FixedToken Plus) rest h x b = (b.0, ap (as_further rest) b.1)
+as_expression (FixedToken Minus) rest h x b = (b.0, ap (as_further rest) b.1)
+as_expression (FixedToken Open) rest h x b = (b.0, ap (as_further rest) b.1)
+as_expression (Number value exponent) rest h x b = (b.0, ap (as_further rest) b.1)
+as_expression (ConstantName value) rest h x b = (b.0, ap (as_further rest) b.1)
+as_expression (VariableName i) rest h x b = (b.0, ap (as_further rest) b.1)
+as_expression (ParameterName i) rest h x b = (b.0, ap (as_further rest) b.1)
+as_expression (FunctionName op arity) rest h x b = (b.0, ap (as_further rest) b.1)
+as_expression Unknown rest h x b = absurd h
+as_expression s rest h x b = absurd b
+
+seen_further : (rest : List Item) (x : Trees (WantFactor ∷ (further ++ rest))) → Seen WantFactor (further ++ rest) x → Seen MaybeConstraint rest (as_further rest x)
+seen_further rest x (seen_out may e) = absurd may
+seen_further rest x (seen_in s h b) = seen_in s h (as_expression s rest h x b)
+
+pub seen : (i : Item) (x : TreeOf i) (rest : List Item) (r : Trees rest) → Seen i rest (x, r)
+seen (Exactly EndOfText) x rest r = seen_in (FixedToken EndOfText) tt (r, refl)
+seen (Exactly f) x rest r = seen_in (FixedToken f) tt (r, refl)
+seen MaybeConstants no_constants rest r = seen_out tt refl
+seen MaybeConstants (constants c more) rest r = seen_in (FixedToken ConstantsWord) tt ((c, (more, r)), refl)
+seen WantConstant (constant_of sign value exponent) rest r = seen_in (Declared false) tt ((tt, (sign, ((value, exponent), r))), refl)
+seen MoreConstants no_constant rest r = seen_out tt refl
+seen MoreConstants (constants_separator comma) rest r = seen_in (FixedToken Comma) tt ((nothing_more, r), refl)
+seen MoreConstants (constants_separator semicolon) rest r = seen_in (FixedToken SemicolonToken) tt ((nothing_more, r), refl)
+seen MoreConstants (constant_and comma c more) rest r = seen_in (FixedToken Comma) tt ((one_more (c, more), r), refl)
+seen MoreConstants (constant_and semicolon c more) rest r = seen_in (FixedToken SemicolonToken) tt ((one_more (c, more), r), refl)
+seen MaybeConstant nothing_more rest r = seen_out tt refl
+seen MaybeConstant (one_more (constant_of sign value exponent, more)) rest r = seen_in (Declared false) tt ((tt, (sign, ((value, exponent), (more, r)))), refl)
+seen WantEquals x rest r = seen_in (RelationToken Eq) tt (r, refl)
+seen MaybeSign no_sign rest r = seen_out tt refl
+seen MaybeSign plus_sign rest r = seen_in (FixedToken Plus) tt (r, refl)
+seen MaybeSign minus_sign rest r = seen_in (FixedToken Minus) tt (r, refl)
+seen WantValue x rest r = seen_in (Number x.0 x.1) tt (r, refl)
+seen MaybeFunctions no_function rest r = seen_out tt refl
+seen MaybeFunctions (function_and (function_of ps (sum_of (product_of x xs) ts) inner outer) more) rest r =
+    seen_in (FixedToken FunctionWord) tt ((tt, (tt, (tt, (ps, (tt, (x, (xs, (ts, (tt, (inner, (tt, (outer, (more, r))))))))))))), refl)
+seen WantFunctionName x rest r = seen_in (Declared false) tt (r, refl)
+seen WantParameter x rest r = seen_in (Declared false) tt (r, refl)
+seen MoreParameters no_parameter rest r = seen_in (FixedToken Close) tt (r, refl)
+seen MoreParameters (parameter_and more) rest r = seen_in (FixedToken Comma) tt ((tt, (more, r)), refl)
+seen MaybeSemicolon no_semicolon rest r = seen_out tt refl
+seen MaybeSemicolon one_semicolon rest r = seen_in (FixedToken SemicolonToken) tt (r, refl)
+seen WantVariable (variable_of d) rest r = seen_in (Declared false) tt ((d, r), refl)
+seen MoreVariables no_variable rest r = seen_out tt refl
+seen MoreVariables (variables_separator comma) rest r = seen_in (FixedToken Comma) tt ((nothing_more, r), refl)
+seen MoreVariables (variables_separator semicolon) rest r = seen_in (FixedToken SemicolonToken) tt ((nothing_more, r), refl)
+seen MoreVariables (variable_and comma v more) rest r = seen_in (FixedToken Comma) tt ((one_more (v, more), r), refl)
+seen MoreVariables (variable_and semicolon v more) rest r = seen_in (FixedToken SemicolonToken) tt ((one_more (v, more), r), refl)
+seen MaybeVariable nothing_more rest r = seen_out tt refl
+seen MaybeVariable (one_more (variable_of d, more)) rest r = seen_in (Declared false) tt ((d, (more, r)), refl)
+seen MaybeDomain no_domain rest r = seen_out tt refl
+seen MaybeDomain (between (bound_of low lo) (bound_of high hi)) rest r = seen_in (FixedToken In) tt ((tt, (low, (lo, (tt, (high, (hi, (tt, r))))))), refl)
+seen WantBound (number_limit value exponent) rest r = seen_in (Number value exponent) tt (r, refl)
+seen WantBound infinite_limit rest r = seen_in (FixedToken Oo) tt (r, refl)
+seen WantBound (constant_limit value) rest r = seen_in (ConstantName value) tt (r, refl)
+seen WantRelation (relation, sum_of (product_of x xs) ts) rest r = seen_in (RelationToken relation) tt ((x, (xs, (ts, (tt, r)))), refl)
+seen MoreConstraints no_constraint rest r = seen_out tt refl
+seen MoreConstraints constraints_semicolon rest r = seen_in (FixedToken SemicolonToken) tt ((nothing_more, r), refl)
+seen MoreConstraints (constraint_and c more) rest r = seen_in (FixedToken SemicolonToken) tt ((one_more (c, more), r), refl)
+seen MaybeConstraint nothing_more rest r = seen_out tt refl
+seen MaybeConstraint (one_more (relates (sum_of (product_of x xs) ts) relation right, more)) rest r =
+    seen_further rest (x, (xs, (ts, ((relation, right), (more, r))))) (seen_factor x (further ++ rest) (xs, (ts, ((relation, right), (more, r)))))
+seen WantFactor x rest r = seen_factor x rest r
+seen MoreFactors no_factor rest r = seen_out tt refl
+seen MoreFactors (times x xs) rest r = seen_in (FixedToken Star) tt ((x, (tt, (xs, r))), refl)
+seen MoreFactors (over x xs) rest r = seen_in (FixedToken Slash) tt ((x, (tt, (xs, r))), refl)
+seen MoreTerms no_term rest r = seen_out tt refl
+seen MoreTerms (plus (product_of x xs) ts) rest r = seen_in (FixedToken Plus) tt ((x, (xs, (tt, (ts, r)))), refl)
+seen MoreTerms (minus (product_of x xs) ts) rest r = seen_in (FixedToken Minus) tt ((x, (xs, (tt, (ts, r)))), refl)
+seen MaybePower no_power rest r = seen_out tt refl
+seen MaybePower (to_power value n) rest r = seen_in (FixedToken Caret) tt (((value, n), r), refl)
+seen WantExponent x rest r = seen_in (Number x.0 (Some x.1)) tt (r, refl)
+seen (MoreArguments n) x rest r = seen_arguments n x.0 x.1 rest r
+seen (Then op) x rest r = seen_out tt refl
+
+-- ---- The tokens of trees are a text of the items
 
 pub record Reads (items : List Item) (ss : List Symbol) (code : List Op) : Type 0 where
   pub derived : Derives items ss code
   pub known : AreKnown ss
 
-out : (i : Item) (rest : List Item) (ss : List Symbol) (code : List Op) → MayEnd i → Reads rest ss code → Reads (i ∷ rest) ss (step_of i ++ code)
-out i rest ss code may r = record { derived = left_out i rest ss code may r.derived; known = r.known }
+-- trees with these tokens
+abbrev AreRead : List Symbol → Type 0
+AreRead ss = (items : List Item) (x : Trees items) → ss ≡ all_symbols items x → Reads items ss (all_code items x)
 
-token : (i : Item) (rest : List Item) (s : Symbol) (ss : List Symbol) (p : Produced) (code : List Op) → produced i s ≡ Some p → IsKnown s → Reads (p.0 ++ rest) ss code →
-    Reads (i ∷ rest) (s ∷ ss) (p.1 ++ code)
-token i rest s ss p code made known r = record { derived = begun i rest s ss p code made r.derived; known = (known, r.known) }
+read_out : (i : Item) (rest : List Item) (ss : List Symbol) (x : Trees (i ∷ rest)) (may : MayEnd i) → x ≡ (none_of i may, x.1) → Reads rest ss (all_code rest x.1) → Reads (i ∷ rest) ss (all_code (i ∷ rest) x)
+read_out i rest ss x may is r =
+    subst (λ (z : List Op). Reads (i ∷ rest) ss z) (sym (ap (all_code (i ∷ rest)) is ∙ none_code i rest may x.1))
+    (record { derived = left_out i rest ss (all_code rest x.1) may r.derived; known = r.known })
 
--- ---- Expressions
+read_in : (i : Item) (rest : List Item) (s t : Symbol) (ss : List Symbol) (x : Trees (i ∷ rest)) (o : Option Produced) (b : Builds i s rest o) → produced i s ≡ o → IsKnown s →
+    Built i s rest o b x → t ∷ ss ≡ all_symbols (i ∷ rest) x → AreRead ss → Reads (i ∷ rest) (t ∷ ss) (all_code (i ∷ rest) x)
+read_in i rest s t ss x None b made h built e next = absurd built
+read_in i rest s t ss x (Some p) b made h (y, is) e next =
+    let whole : t ∷ ss ≡ s ∷ all_symbols (p.0 ++ rest) y = e ∙ ap (all_symbols (i ∷ rest)) (sym is) ∙ sym (b y).symbols in
+    let r = next (p.0 ++ rest) y (tail_is whole) in
+    subst (λ (z : Symbol). Reads (i ∷ rest) (z ∷ ss) (all_code (i ∷ rest) x)) (sym (head_is whole))
+    (subst (λ (z : List Op). Reads (i ∷ rest) (s ∷ ss) z) ((b y).steps ∙ ap (all_code (i ∷ rest)) is)
+    (record { derived = begun i rest s ss p (all_code (p.0 ++ rest) y) made r.derived; known = (h, r.known) }))
 
-power_reads : (w : Power) (rest : List Item) (ss : List Symbol) (k : List Op) → Reads rest ss k → Reads (MaybePower ∷ rest) (power_symbols w ss) (power_code w k)
-power_reads no_power rest ss k r = out MaybePower rest ss k tt r
-power_reads (to_power value n) rest ss k r =
-    token MaybePower rest (FixedToken Caret) _ _ _ refl tt (token WantExponent rest (Number value (Some n)) ss _ k refl tt r)
+begins_nothing : (i : Item) (s : Symbol) (rest : List Item) (o : Option Produced) (b : Builds i s rest o) (x : Trees (i ∷ rest)) → Built i s rest o b x → [] ≡ all_symbols (i ∷ rest) x → ⊥
+begins_nothing i s rest None b x built e = built
+begins_nothing i s rest (Some p) b x (y, is) e = nil_cons (e ∙ ap (all_symbols (i ∷ rest)) (sym is) ∙ sym (b y).symbols)
 
-mutual
-  expression_reads : (e : Expression) (rest : List Item) (ss : List Symbol) (k : List Op) → Reads rest ss k → Reads (WantFactor ∷ MoreFactors ∷ MoreTerms ∷ rest) (expression_symbols e ss) (expression_code e k)
-  expression_reads (sum_of t ts) rest ss k r = term_reads t (MoreTerms ∷ rest) (terms_symbols ts ss) (terms_code ts k) (terms_reads ts rest ss k r)
-
-  terms_reads : (ts : Terms) (rest : List Item) (ss : List Symbol) (k : List Op) → Reads rest ss k → Reads (MoreTerms ∷ rest) (terms_symbols ts ss) (terms_code ts k)
-  terms_reads no_term rest ss k r = out MoreTerms rest ss k tt r
-  terms_reads (plus t ts) rest ss k r =
-      token MoreTerms rest (FixedToken Plus) _ _ _ refl tt
-      (term_reads t (Then (Two Add) ∷ MoreTerms ∷ rest) (terms_symbols ts ss) (Two Add ∷ terms_code ts k) (out (Then (Two Add)) (MoreTerms ∷ rest) (terms_symbols ts ss) (terms_code ts k) tt (terms_reads ts rest ss k r)))
-  terms_reads (minus t ts) rest ss k r =
-      token MoreTerms rest (FixedToken Minus) _ _ _ refl tt
-      (term_reads t (Then (Two Sub) ∷ MoreTerms ∷ rest) (terms_symbols ts ss) (Two Sub ∷ terms_code ts k) (out (Then (Two Sub)) (MoreTerms ∷ rest) (terms_symbols ts ss) (terms_code ts k) tt (terms_reads ts rest ss k r)))
-
-  term_reads : (t : Term) (rest : List Item) (ss : List Symbol) (k : List Op) → Reads rest ss k → Reads (WantFactor ∷ MoreFactors ∷ rest) (term_symbols t ss) (term_code t k)
-  term_reads (product_of x xs) rest ss k r = factor_reads x (MoreFactors ∷ rest) (factors_symbols xs ss) (factors_code xs k) (factors_reads xs rest ss k r)
-
-  factors_reads : (xs : Factors) (rest : List Item) (ss : List Symbol) (k : List Op) → Reads rest ss k → Reads (MoreFactors ∷ rest) (factors_symbols xs ss) (factors_code xs k)
-  factors_reads no_factor rest ss k r = out MoreFactors rest ss k tt r
-  factors_reads (times x xs) rest ss k r =
-      token MoreFactors rest (FixedToken Star) _ _ _ refl tt
-      (factor_reads x (Then (Two Mul) ∷ MoreFactors ∷ rest) (factors_symbols xs ss) (Two Mul ∷ factors_code xs k) (out (Then (Two Mul)) (MoreFactors ∷ rest) (factors_symbols xs ss) (factors_code xs k) tt (factors_reads xs rest ss k r)))
-  factors_reads (over x xs) rest ss k r =
-      token MoreFactors rest (FixedToken Slash) _ _ _ refl tt
-      (factor_reads x (Then (Two Div) ∷ MoreFactors ∷ rest) (factors_symbols xs ss) (Two Div ∷ factors_code xs k) (out (Then (Two Div)) (MoreFactors ∷ rest) (factors_symbols xs ss) (factors_code xs k) tt (factors_reads xs rest ss k r)))
-
-  factor_reads : (x : Factor) (rest : List Item) (ss : List Symbol) (k : List Op) → Reads rest ss k → Reads (WantFactor ∷ rest) (factor_symbols x ss) (factor_code x k)
-  factor_reads (positive x) rest ss k r = token WantFactor rest (FixedToken Plus) _ _ _ refl tt (factor_reads x rest ss k r)
-  factor_reads (negative x) rest ss k r =
-      token WantFactor rest (FixedToken Minus) _ _ _ refl tt (factor_reads x (Then (One Neg) ∷ rest) ss (One Neg ∷ k) (out (Then (One Neg)) rest ss k tt r))
-  factor_reads (raised x w) rest ss k r = primary_reads x rest (power_symbols w ss) (power_code w k) (power_reads w rest ss k r)
-
-  primary_reads : (x : Primary) (rest : List Item) (ss : List Symbol) (k : List Op) → Reads (MaybePower ∷ rest) ss k → Reads (WantFactor ∷ rest) (primary_symbols x ss) (primary_code x k)
-  primary_reads (number value exponent) rest ss k r = token WantFactor rest (Number value exponent) ss _ k refl tt r
-  primary_reads (constant_named value) rest ss k r = token WantFactor rest (ConstantName value) ss _ k refl tt r
-  primary_reads (variable_at i) rest ss k r = token WantFactor rest (VariableName i) ss _ k refl tt r
-  primary_reads (parameter_at i) rest ss k r = token WantFactor rest (ParameterName i) ss _ k refl tt r
-  primary_reads (parentheses e) rest ss k r =
-      token WantFactor rest (FixedToken Open) _ _ _ refl tt
-      (expression_reads e (MoreArguments 0 ∷ MaybePower ∷ rest) (FixedToken Close ∷ ss) k (token (MoreArguments 0) (MaybePower ∷ rest) (FixedToken Close) ss _ k refl tt r))
-  primary_reads (absolute_of e) rest ss k r =
-      token WantFactor rest (FunctionName (One Abs) 1) _ _ _ refl tt
-      (token (Exactly Open) (WantFactor ∷ MoreFactors ∷ MoreTerms ∷ MoreArguments 0 ∷ Then (One Abs) ∷ MaybePower ∷ rest) (FixedToken Open) _ _ _ refl tt
-      (expression_reads e (MoreArguments 0 ∷ Then (One Abs) ∷ MaybePower ∷ rest) (FixedToken Close ∷ ss) (One Abs ∷ k)
-      (token (MoreArguments 0) (Then (One Abs) ∷ MaybePower ∷ rest) (FixedToken Close) ss _ (One Abs ∷ k) refl tt (out (Then (One Abs)) (MaybePower ∷ rest) ss k tt r))))
-  primary_reads (square_of e) rest ss k r =
-      token WantFactor rest (FunctionName (One (Pow 2)) 1) _ _ _ refl tt
-      (token (Exactly Open) (WantFactor ∷ MoreFactors ∷ MoreTerms ∷ MoreArguments 0 ∷ Then (One (Pow 2)) ∷ MaybePower ∷ rest) (FixedToken Open) _ _ _ refl tt
-      (expression_reads e (MoreArguments 0 ∷ Then (One (Pow 2)) ∷ MaybePower ∷ rest) (FixedToken Close ∷ ss) (One (Pow 2) ∷ k)
-      (token (MoreArguments 0) (Then (One (Pow 2)) ∷ MaybePower ∷ rest) (FixedToken Close) ss _ (One (Pow 2) ∷ k) refl tt (out (Then (One (Pow 2))) (MaybePower ∷ rest) ss k tt r))))
-  primary_reads (least_of a b) rest ss k r =
-      token WantFactor rest (FunctionName (Two Min) 2) _ _ _ refl tt
-      (token (Exactly Open) (WantFactor ∷ MoreFactors ∷ MoreTerms ∷ MoreArguments 1 ∷ Then (Two Min) ∷ MaybePower ∷ rest) (FixedToken Open) _ _ _ refl tt
-      (expression_reads a (MoreArguments 1 ∷ Then (Two Min) ∷ MaybePower ∷ rest) (FixedToken Comma ∷ expression_symbols b (FixedToken Close ∷ ss)) (expression_code b (Two Min ∷ k))
-      (token (MoreArguments 1) (Then (Two Min) ∷ MaybePower ∷ rest) (FixedToken Comma) _ _ _ refl tt
-      (expression_reads b (MoreArguments 0 ∷ Then (Two Min) ∷ MaybePower ∷ rest) (FixedToken Close ∷ ss) (Two Min ∷ k)
-      (token (MoreArguments 0) (Then (Two Min) ∷ MaybePower ∷ rest) (FixedToken Close) ss _ (Two Min ∷ k) refl tt (out (Then (Two Min)) (MaybePower ∷ rest) ss k tt r))))))
-  primary_reads (greatest_of a b) rest ss k r =
-      token WantFactor rest (FunctionName (Two Max) 2) _ _ _ refl tt
-      (token (Exactly Open) (WantFactor ∷ MoreFactors ∷ MoreTerms ∷ MoreArguments 1 ∷ Then (Two Max) ∷ MaybePower ∷ rest) (FixedToken Open) _ _ _ refl tt
-      (expression_reads a (MoreArguments 1 ∷ Then (Two Max) ∷ MaybePower ∷ rest) (FixedToken Comma ∷ expression_symbols b (FixedToken Close ∷ ss)) (expression_code b (Two Max ∷ k))
-      (token (MoreArguments 1) (Then (Two Max) ∷ MaybePower ∷ rest) (FixedToken Comma) _ _ _ refl tt
-      (expression_reads b (MoreArguments 0 ∷ Then (Two Max) ∷ MaybePower ∷ rest) (FixedToken Close ∷ ss) (Two Max ∷ k)
-      (token (MoreArguments 0) (Then (Two Max) ∷ MaybePower ∷ rest) (FixedToken Close) ss _ (Two Max ∷ k) refl tt (out (Then (Two Max)) (MaybePower ∷ rest) ss k tt r))))))
-  primary_reads (call f e more) rest ss k r =
-      let step : Op = Call f (suc (count more)) in
-      let one_less : suc (count more) - 1 ≡ count more = omega arith in
-      token WantFactor rest (FunctionName step (suc (count more))) _ _ _ refl refl
-      (subst (λ (n : ℕ). Reads (Exactly Open ∷ WantFactor ∷ MoreFactors ∷ MoreTerms ∷ MoreArguments n ∷ Then step ∷ MaybePower ∷ rest) (FixedToken Open ∷ expression_symbols e (arguments_symbols more ss)) (expression_code e (arguments_code more (step ∷ k)))) (sym one_less)
-      (token (Exactly Open) (WantFactor ∷ MoreFactors ∷ MoreTerms ∷ MoreArguments (count more) ∷ Then step ∷ MaybePower ∷ rest) (FixedToken Open) _ _ _ refl tt
-      (expression_reads e (MoreArguments (count more) ∷ Then step ∷ MaybePower ∷ rest) (arguments_symbols more ss) (arguments_code more (step ∷ k))
-      (arguments_read more (Then step ∷ MaybePower ∷ rest) ss (step ∷ k) (out (Then step) (MaybePower ∷ rest) ss k tt r)))))
-
-  arguments_read : (more : Arguments) (rest : List Item) (ss : List Symbol) (k : List Op) → Reads rest ss k → Reads (MoreArguments (count more) ∷ rest) (arguments_symbols more ss) (arguments_code more k)
-  arguments_read no_argument rest ss k r = token (MoreArguments 0) rest (FixedToken Close) ss _ k refl tt r
-  arguments_read (argument e more) rest ss k r =
-      token (MoreArguments (suc (count more))) rest (FixedToken Comma) _ _ _ refl tt
-      (expression_reads e (MoreArguments (count more) ∷ rest) (arguments_symbols more ss) (arguments_code more k) (arguments_read more rest ss k r))
-
--- ---- Declarations
-
-sign_reads : (x : Sign) (rest : List Item) (ss : List Symbol) (k : List Op) → Reads rest ss k → Reads (MaybeSign ∷ rest) (sign_symbols x ss) k
-sign_reads no_sign rest ss k r = out MaybeSign rest ss k tt r
-sign_reads plus_sign rest ss k r = token MaybeSign rest (FixedToken Plus) ss _ k refl tt r
-sign_reads minus_sign rest ss k r = token MaybeSign rest (FixedToken Minus) ss _ k refl tt r
-
-semicolon_reads : (x : Semicolon) (rest : List Item) (ss : List Symbol) (k : List Op) → Reads rest ss k → Reads (MaybeSemicolon ∷ rest) (semicolon_symbols x ss) k
-semicolon_reads no_semicolon rest ss k r = out MaybeSemicolon rest ss k tt r
-semicolon_reads one_semicolon rest ss k r = token MaybeSemicolon rest (FixedToken SemicolonToken) ss _ k refl tt r
-
--- behind a constant's name
-value_reads : (sign : Sign) (v : _) (exponent : Option ℕ) (rest : List Item) (ss : List Symbol) (k : List Op) → Reads rest ss k →
-    Reads (WantEquals ∷ MaybeSign ∷ WantValue ∷ rest) (RelationToken Eq ∷ sign_symbols sign (Number v exponent ∷ ss)) k
-value_reads sign v exponent rest ss k r =
-    token WantEquals (MaybeSign ∷ WantValue ∷ rest) (RelationToken Eq) _ _ k refl tt
-    (sign_reads sign (WantValue ∷ rest) (Number v exponent ∷ ss) k (token WantValue rest (Number v exponent) ss _ k refl tt r))
-
-constant_reads : (c : Constant) (rest : List Item) (ss : List Symbol) (k : List Op) → Reads rest ss k → Reads (WantConstant ∷ rest) (constant_symbols c ss) k
-constant_reads (constant_of sign v exponent) rest ss k r = token WantConstant rest (Declared false) _ _ k refl tt (value_reads sign v exponent rest ss k r)
-
-separator_reads : (i j : Item) (x : Separator) (rest : List Item) (ss : List Symbol) (k : List Op) →
-    produced i (FixedToken Comma) ≡ Some (j ∷ [], []) → produced i (FixedToken SemicolonToken) ≡ Some (j ∷ [], []) → Reads (j ∷ rest) ss k → Reads (i ∷ rest) (separator_symbol x ∷ ss) k
-separator_reads i j comma rest ss k e f r = token i rest (FixedToken Comma) ss (j ∷ [], []) k e tt r
-separator_reads i j semicolon rest ss k e f r = token i rest (FixedToken SemicolonToken) ss (j ∷ [], []) k f tt r
-
-constants_read : (cs : Constants) (rest : List Item) (ss : List Symbol) (k : List Op) → Reads rest ss k → Reads (MoreConstants ∷ rest) (constants_symbols cs ss) k
-constants_read no_constant rest ss k r = out MoreConstants rest ss k tt r
-constants_read (constants_separator x) rest ss k r = separator_reads MoreConstants MaybeConstant x rest ss k refl refl (out MaybeConstant rest ss k tt r)
-constants_read (constant_and x (constant_of sign v exponent) more) rest ss k r =
-    separator_reads MoreConstants MaybeConstant x rest _ k refl refl
-    (token MaybeConstant rest (Declared false) _ _ k refl tt (value_reads sign v exponent (MoreConstants ∷ rest) (constants_symbols more ss) k (constants_read more rest ss k r)))
-
-block_reads : (b : ConstantBlock) (rest : List Item) (ss : List Symbol) (k : List Op) → Reads rest ss k → Reads (MaybeConstants ∷ rest) (constant_block_symbols b ss) k
-block_reads no_constants rest ss k r = out MaybeConstants rest ss k tt r
-block_reads (constants c more) rest ss k r =
-    token MaybeConstants rest (FixedToken ConstantsWord) _ _ k refl tt
-    (constant_reads c (MoreConstants ∷ rest) (constants_symbols more ss) k (constants_read more rest ss k r))
-
-parameters_read : (ps : Parameters) (rest : List Item) (ss : List Symbol) (k : List Op) → Reads rest ss k → Reads (MoreParameters ∷ rest) (parameters_symbols ps ss) k
-parameters_read no_parameter rest ss k r = token MoreParameters rest (FixedToken Close) ss _ k refl tt r
-parameters_read (parameter_and more) rest ss k r =
-    token MoreParameters rest (FixedToken Comma) _ _ k refl tt
-    (token WantParameter (MoreParameters ∷ rest) (Declared false) _ _ k refl tt (parameters_read more rest ss k r))
-
-functions_read : (fs : Functions) (rest : List Item) (ss : List Symbol) (k : List Op) → Reads rest ss k → Reads (MaybeFunctions ∷ rest) (functions_symbols fs ss) (functions_code fs k)
-functions_read no_function rest ss k r = out MaybeFunctions rest ss k tt r
-functions_read (function_and (function_of ps body inner outer) more) rest ss k r =
-    let behind : Reads (Then Define ∷ MaybeSemicolon ∷ Exactly End ∷ MaybeSemicolon ∷ MaybeFunctions ∷ rest) (semicolon_symbols inner (FixedToken End ∷ semicolon_symbols outer (functions_symbols more ss))) (Define ∷ functions_code more k) =
-    out (Then Define) _ _ _ tt
-    (semicolon_reads inner _ _ _
-    (token (Exactly End) (MaybeSemicolon ∷ MaybeFunctions ∷ rest) (FixedToken End) _ _ _ refl tt
-    (semicolon_reads outer (MaybeFunctions ∷ rest) (functions_symbols more ss) (functions_code more k) (functions_read more rest ss k r)))) in
-    token MaybeFunctions rest (FixedToken FunctionWord) _ _ _ refl tt
-    (token WantFunctionName _ (Declared false) _ _ _ refl tt
-    (token (Exactly Open) _ (FixedToken Open) _ _ _ refl tt
-    (token WantParameter _ (Declared false) _ _ _ refl tt
-    (parameters_read ps _ _ _
-    (token (Exactly Return) _ (FixedToken Return) _ _ _ refl tt
-    (expression_reads body _ _ _ behind))))))
-
-limit_reads : (x : Limit) (rest : List Item) (ss : List Symbol) (k : List Op) → Reads rest ss k → Reads (WantBound ∷ rest) (limit_symbol x ∷ ss) k
-limit_reads (number_limit v exponent) rest ss k r = token WantBound rest (Number v exponent) ss _ k refl tt r
-limit_reads infinite_limit rest ss k r = token WantBound rest (FixedToken Oo) ss _ k refl tt r
-limit_reads (constant_limit v) rest ss k r = token WantBound rest (ConstantName v) ss _ k refl tt r
-
-domain_reads : (x : Domain) (rest : List Item) (ss : List Symbol) (k : List Op) → Reads rest ss k → Reads (MaybeDomain ∷ rest) (domain_symbols x ss) k
-domain_reads no_domain rest ss k r = out MaybeDomain rest ss k tt r
-domain_reads (between (bound_of low lo) (bound_of high hi)) rest ss k r =
-    token MaybeDomain rest (FixedToken In) _ _ k refl tt
-    (token (Exactly OpenBracket) _ (FixedToken OpenBracket) _ _ k refl tt
-    (sign_reads low _ _ k (limit_reads lo _ _ k
-    (token (Exactly Comma) _ (FixedToken Comma) _ _ k refl tt
-    (sign_reads high _ _ k (limit_reads hi _ _ k
-    (token (Exactly CloseBracket) rest (FixedToken CloseBracket) ss _ k refl tt r)))))))
-
-variable_reads : (v : Variable) (rest : List Item) (ss : List Symbol) (k : List Op) → Reads rest ss k → Reads (WantVariable ∷ rest) (variable_symbols v ss) k
-variable_reads (variable_of x) rest ss k r = token WantVariable rest (Declared false) _ _ k refl tt (domain_reads x rest ss k r)
-
-variables_read : (vs : Variables) (rest : List Item) (ss : List Symbol) (k : List Op) → Reads rest ss k → Reads (MoreVariables ∷ rest) (variables_symbols vs ss) k
-variables_read no_variable rest ss k r = out MoreVariables rest ss k tt r
-variables_read (variables_separator x) rest ss k r = separator_reads MoreVariables MaybeVariable x rest ss k refl refl (out MaybeVariable rest ss k tt r)
-variables_read (variable_and x (variable_of d) more) rest ss k r =
-    separator_reads MoreVariables MaybeVariable x rest _ k refl refl
-    (token MaybeVariable rest (Declared false) _ _ k refl tt (domain_reads d (MoreVariables ∷ rest) (variables_symbols more ss) k (variables_read more rest ss k r)))
-
--- ---- Systems
-
-constraint_reads : (c : Constraint) (rest : List Item) (ss : List Symbol) (k : List Op) → Reads rest ss k →
-    Reads (WantFactor ∷ MoreFactors ∷ MoreTerms ∷ WantRelation ∷ rest) (constraint_symbols c ss) (constraint_code c k)
-constraint_reads (relates left x right) rest ss k r =
-    expression_reads left (WantRelation ∷ rest) (RelationToken x ∷ expression_symbols right ss) (expression_code right (Relate x ∷ k))
-    (token WantRelation rest (RelationToken x) _ _ _ refl tt
-    (expression_reads right (Then (Relate x) ∷ rest) ss (Relate x ∷ k) (out (Then (Relate x)) rest ss k tt r)))
-
--- a further constraint begins as an expression does
-abbrev further : List Item
-further = MoreFactors ∷ MoreTerms ∷ WantRelation ∷ MoreConstraints ∷ []
-
-begins_alike : (rest : List Item) (ss : List Symbol) (k : List Op) → Derives (WantFactor ∷ (further ++ rest)) ss k → Derives (MaybeConstraint ∷ rest) ss k
-begins_alike rest ss k d =
-    elim (way_by (WantFactor ∷ (further ++ rest)) ss k d WantFactor (further ++ rest) refl) [
-      | out_way steps may d' is ↦ absurd may
-      | in_way s more p steps cut made d' is ↦
-          let begins : produced MaybeConstraint s ≡ Some (p.0 ++ further, p.1) = ap (with_more further) made in
-          let whole : Derives (MaybeConstraint ∷ rest) (s ∷ more) (p.1 ++ steps) =
-          begun MaybeConstraint rest s more (p.0 ++ further, p.1) steps begins (subst (λ (z : List Item). Derives z more steps) (sym (append_assoc p.0 further rest)) d') in
-          subst (λ (z : List Symbol). Derives (MaybeConstraint ∷ rest) z k) (sym cut) (subst (λ (z : List Op). Derives (MaybeConstraint ∷ rest) (s ∷ more) z) (sym is) whole)
+-- where trees that begin with a token are read, all are
+read_items : (ss : List Symbol) →
+    ((i : Item) (rest : List Item) (s : Symbol) (h : IsKnown s) (x : Trees (i ∷ rest)) → Built i s rest (produced i s) (builds i s rest h) x → ss ≡ all_symbols (i ∷ rest) x → Reads (i ∷ rest) ss (all_code (i ∷ rest) x)) →
+    AreRead ss
+read_items ss begins [] x e = subst (λ (z : List Symbol). Reads [] z []) (sym e) (record { derived = done; known = tt })
+read_items ss begins (i ∷ rest) x e =
+    elim (seen i x.0 rest x.1) [
+      | seen_out may is ↦ read_out i rest ss x may is (read_items ss begins rest x.1 (e ∙ ap (all_symbols (i ∷ rest)) is ∙ none_symbols i rest may x.1))
+      | seen_in s h built ↦ begins i rest s h x built e
     ]
 
-constraints_read : (cs : Constraints) (rest : List Item) (ss : List Symbol) (k : List Op) → Reads rest ss k → Reads (MoreConstraints ∷ rest) (constraints_symbols cs ss) (constraints_code cs k)
-constraints_read no_constraint rest ss k r = out MoreConstraints rest ss k tt r
-constraints_read constraints_semicolon rest ss k r = token MoreConstraints rest (FixedToken SemicolonToken) ss _ k refl tt (out MaybeConstraint rest ss k tt r)
-constraints_read (constraint_and c more) rest ss k r =
-    let whole = constraint_reads c (MoreConstraints ∷ rest) (constraints_symbols more ss) (constraints_code more k) (constraints_read more rest ss k r) in
-    token MoreConstraints rest (FixedToken SemicolonToken) _ _ _ refl tt
-    (record { derived = begins_alike rest (constraint_symbols c (constraints_symbols more ss)) (constraint_code c (constraints_code more k)) whole.derived; known = whole.known })
+pub reads : (ss : List Symbol) → AreRead ss
+reads [] = read_items [] (λ i rest s h x built e. absurd (begins_nothing i s rest (produced i s) (builds i s rest h) x built e))
+reads (t ∷ ss) = read_items (t ∷ ss) (λ i rest s h x built e. read_in i rest s t ss x (produced i s) (builds i s rest h) refl h built e (reads ss))
+
+-- ---- Systems and expressions
+
+abbrev pub trees_of : System → Trees system_items
+trees_of (system_of block before v vs behind (relates (sum_of (product_of x xs) ts) r e) cs) = (block, (before, (tt, (v, (vs, (behind, (tt, (x, (xs, (ts, ((r, e), (cs, (tt, tt)))))))))))))
+
+pub system_tokens : (x : System) → system_symbols x [] ≡ all_symbols system_items (trees_of x)
+system_tokens (system_of block before v vs behind (relates (sum_of (product_of x xs) ts) r e) cs) = refl
+
+system_steps : (x : System) → all_code system_items (trees_of x) ≡ system_code x []
+system_steps (system_of block before v vs behind (relates (sum_of (product_of x xs) ts) r e) cs) = refl
+
+abbrev pub parts_of : Expression → Trees expression_items
+parts_of (sum_of (product_of x xs) ts) = (x, (xs, (ts, tt)))
+
+pub expression_tokens : (e : Expression) → expression_symbols e [] ≡ all_symbols expression_items (parts_of e)
+expression_tokens (sum_of (product_of x xs) ts) = refl
+
+expression_steps : (e : Expression) → all_code expression_items (parts_of e) ≡ expression_code e []
+expression_steps (sum_of (product_of x xs) ts) = refl
 
 pub system_reads : (x : System) → Reads system_items (system_symbols x []) (system_code x [])
-system_reads (system_of block before v vs behind c cs) =
-    let last : Reads (Exactly End ∷ []) (FixedToken End ∷ []) [] = token (Exactly End) [] (FixedToken End) [] _ [] refl tt (record { derived = done; known = tt }) in
-    block_reads block _ _ _
-    (functions_read before _ _ _
-    (token (Exactly VariablesWord) _ (FixedToken VariablesWord) _ _ _ refl tt
-    (variable_reads v _ _ _ (variables_read vs _ _ _
-    (functions_read behind _ _ _
-    (token (Exactly ConstraintsWord) _ (FixedToken ConstraintsWord) _ _ _ refl tt
-    (constraint_reads c _ _ _ (constraints_read cs (Exactly End ∷ []) (FixedToken End ∷ []) [] last))))))))
+system_reads x = subst (λ (z : List Op). Reads system_items (system_symbols x []) z) (system_steps x) (reads (system_symbols x []) system_items (trees_of x) (system_tokens x))
 
 pub expression_is_read : (e : Expression) → Reads expression_items (expression_symbols e []) (expression_code e [])
-expression_is_read e = expression_reads e [] [] [] (record { derived = done; known = tt })
+expression_is_read e =
+    subst (λ (z : List Op). Reads expression_items (expression_symbols e []) z) (expression_steps e) (reads (expression_symbols e []) expression_items (parts_of e) (expression_tokens e))
+
+-- the same of tokens and a code that are known to be a tree's
+text_of : (items : List Item) (ss : List Symbol) (code : List Op) (ss' : List Symbol) (code' : List Op) → Reads items ss' code' → ss ≡ ss' → code ≡ code' → Derives items ss code × AreKnown ss
+text_of items ss code ss' code' r e f =
+    (subst (λ (z : List Symbol). Derives items z code) (sym e) (subst (λ (z : List Op). Derives items ss' z) (sym f) r.derived), subst AreKnown (sym e) r.known)
 
 pub system_text : (ss : List Symbol) (code : List Op) → IsOfSystem ss code → Derives system_items ss code × AreKnown ss
-system_text ss code h =
-    let r = system_reads h.0 in (
-      subst (λ (z : List Symbol). Derives system_items z code) (sym h.1) (subst (λ (z : List Op). Derives system_items (system_symbols h.0 []) z) (sym h.2) r.derived),
-      subst AreKnown (sym h.1) r.known,
-    )
+system_text ss code (x, e, f) = text_of system_items ss code _ _ (system_reads x) e f
 
 pub expression_text : (ss : List Symbol) (code : List Op) → IsOfExpression ss code → Derives expression_items ss code × AreKnown ss
-expression_text ss code h =
-    let r = expression_is_read h.0 in (
-      subst (λ (z : List Symbol). Derives expression_items z code) (sym h.1) (subst (λ (z : List Op). Derives expression_items (expression_symbols h.0 []) z) (sym h.2) r.derived),
-      subst AreKnown (sym h.1) r.known,
-    )
+expression_text ss code (d, e, f) = text_of expression_items ss code _ _ (expression_is_read d) e f

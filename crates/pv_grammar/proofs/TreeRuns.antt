@@ -14,20 +14,14 @@ use Rattle.pv_grammar.specs.Productions.{Arguments, Constraint, Constraints, Exp
 use Rattle.pv_grammar.specs.TreeCodes.{arguments_code, constraint_code, constraints_code, expression_code, factor_code, factors_code, functions_code, power_code, primary_code, system_code, term_code, terms_code}
 use Rattle.pv_grammar.specs.Trees.{arguments_terms, constraint_sides, constraints_sides, expression_term, factor_term, factors_term, functions_behind, power_term, primary_term, system_constraints, term_term, terms_term}
 
--- ---- A code in front of what follows, whose steps join a part: it puts one value more on the stack, or changes the top one, or puts a
--- list of values there
+-- ---- A code in front of what follows, whose steps join a part: it puts one value more on the stack, or a list of
+-- values
 
 record Pushes (ms : List Meaning) (part code k : List Op) (f : List Term → Term) : Type 0 where
   behind : List Op
   same : constraints_behind ms part code ≡ constraints_behind ms behind k
   runs : (args st : List Term) → run ms args behind st ≡ f args ∷ run ms args part st
   plain : (args st : List Term) → run ms args code st ≡ run ms args k (f args ∷ st)
-
-record Turns (ms : List Meaning) (part code k : List Op) (g : List Term → Term → Term) : Type 0 where
-  behind : List Op
-  same : constraints_behind ms part code ≡ constraints_behind ms behind k
-  runs : (args st rest : List Term) (a : Term) → run ms args part st ≡ a ∷ rest → run ms args behind st ≡ g args a ∷ rest
-  plain : (args st : List Term) (a : Term) → run ms args code (a ∷ st) ≡ run ms args k (g args a ∷ st)
 
 record Piles (ms : List Meaning) (part code k : List Op) (f : List Term → List Term) : Type 0 where
   behind : List Op
@@ -68,33 +62,6 @@ push_two ms part code mid k f g b p t =
       plain = λ args st. p.plain args st ∙ u.plain args (f args ∷ st);
     }
 
-push_then : (ms : List Meaning) (part code mid k : List Op) (f : List Term → Term) (g : List Term → Term → Term) → Pushes ms part code mid f →
-    ((q : List Op) → Turns ms q mid k g) → Pushes ms part code k (λ args. g args (f args))
-push_then ms part code mid k f g p t =
-    let u = t p.behind in
-    record {
-      behind = u.behind;
-      same = p.same ∙ u.same;
-      runs = λ args st. u.runs args st (run ms args part st) (f args) (p.runs args st);
-      plain = λ args st. p.plain args st ∙ u.plain args st (f args);
-    }
-
-turn_none : (ms : List Meaning) (part k : List Op) → Turns ms part k k (λ args a. a)
-turn_none ms part k = record { behind = part; same = refl; runs = λ args st rest a h. h; plain = λ args st a. refl }
-
-turn_two : (ms : List Meaning) (part code mid k : List Op) (f : List Term → Term) (g : List Term → Term → Term) (b : CodeBinary.Binary) →
-    Pushes ms part code (Two b ∷ mid) f → ((q : List Op) → Turns ms q mid k g) → Turns ms part code k (λ args a. g args (two (binary_of b) a (f args)))
-turn_two ms part code mid k f g b p t =
-    let u = t (p.behind ++ Two b ∷ []) in
-    record {
-      behind = u.behind;
-      same = p.same ∙ u.same;
-      runs = λ args st rest a h.
-          u.runs args st rest (two (binary_of b) a (f args))
-          (run_last ms args p.behind (Two b) st ∙ ap (step ms args (Two b)) (p.runs args st ∙ ap (λ (z : List Term). f args ∷ z) h));
-      plain = λ args st a. p.plain args (a ∷ st) ∙ u.plain args st (two (binary_of b) a (f args));
-    }
-
 reverse_more : (x : Term) (xs st : List Term) → reverse xs ++ (x ∷ st) ≡ reverse (x ∷ xs) ++ st
 reverse_more x xs st = sym (ap (λ (z : List Term). z ++ st) (reverse-append (x ∷ []) xs) ∙ append_assoc (reverse xs) (x ∷ []) st)
 
@@ -132,43 +99,36 @@ count_is : (ms : List Meaning) (args : List Term) (more : Arguments) → length 
 count_is ms args no_argument = refl
 count_is ms args (argument e more) = (let h = count_is ms args more in omega (arith, h))
 
-power_turns : (ms : List Meaning) (part k : List Op) (w : Power) → Turns ms part (power_code w k) k (λ args a. power_term w a)
-power_turns ms part k no_power = turn_none ms part k
-power_turns ms part k (to_power value n) = record {
-  behind = part ++ One (Pow n) ∷ [];
-  same = refl;
-  runs = λ args st rest a h. run_last ms args part (One (Pow n)) st ∙ ap (step ms args (One (Pow n))) h;
-  plain = λ args st a. refl;
-}
+-- what joins the value on top has that value as an argument
+power_pushes : (w : Power) (ms : List Meaning) (part code k : List Op) (a : List Term → Term) → Pushes ms part code (power_code w k) a → Pushes ms part code k (λ args. power_term w (a args))
+power_pushes no_power ms part code k a p = p
+power_pushes (to_power value n) ms part code k a p = push_one ms part code k a (Pow n) p
 
 mutual
   expression_pushes : (e : Expression) (ms : List Meaning) (part k : List Op) → Pushes ms part (expression_code e k) k (λ args. expression_term ms args e)
-  expression_pushes (sum_of t ts) ms part k =
-      push_then ms part _ (terms_code ts k) k _ (λ args a. terms_term ms args ts a) (term_pushes t ms part (terms_code ts k)) (λ q. terms_turn ts ms q k)
+  expression_pushes (sum_of t ts) ms part k = terms_push ts ms part _ k (λ args. term_term ms args t) (term_pushes t ms part (terms_code ts k))
 
-  terms_turn : (ts : Terms) (ms : List Meaning) (part k : List Op) → Turns ms part (terms_code ts k) k (λ args a. terms_term ms args ts a)
-  terms_turn no_term ms part k = turn_none ms part k
-  terms_turn (plus t ts) ms part k =
-      turn_two ms part _ (terms_code ts k) k (λ args. term_term ms args t) (λ args a. terms_term ms args ts a) Add (term_pushes t ms part (Two Add ∷ terms_code ts k)) (λ q. terms_turn ts ms q k)
-  terms_turn (minus t ts) ms part k =
-      turn_two ms part _ (terms_code ts k) k (λ args. term_term ms args t) (λ args a. terms_term ms args ts a) Sub (term_pushes t ms part (Two Sub ∷ terms_code ts k)) (λ q. terms_turn ts ms q k)
+  terms_push : (ts : Terms) (ms : List Meaning) (part code k : List Op) (a : List Term → Term) → Pushes ms part code (terms_code ts k) a → Pushes ms part code k (λ args. terms_term ms args ts (a args))
+  terms_push no_term ms part code k a p = p
+  terms_push (plus t ts) ms part code k a p =
+      terms_push ts ms part code k _ (push_two ms part code _ (terms_code ts k) a (λ args. term_term ms args t) Add p (λ q. term_pushes t ms q (Two Add ∷ terms_code ts k)))
+  terms_push (minus t ts) ms part code k a p =
+      terms_push ts ms part code k _ (push_two ms part code _ (terms_code ts k) a (λ args. term_term ms args t) Sub p (λ q. term_pushes t ms q (Two Sub ∷ terms_code ts k)))
 
   term_pushes : (t : TermTree) (ms : List Meaning) (part k : List Op) → Pushes ms part (term_code t k) k (λ args. term_term ms args t)
-  term_pushes (product_of x xs) ms part k =
-      push_then ms part _ (factors_code xs k) k _ (λ args a. factors_term ms args xs a) (factor_pushes x ms part (factors_code xs k)) (λ q. factors_turn xs ms q k)
+  term_pushes (product_of x xs) ms part k = factors_push xs ms part _ k (λ args. factor_term ms args x) (factor_pushes x ms part (factors_code xs k))
 
-  factors_turn : (xs : Factors) (ms : List Meaning) (part k : List Op) → Turns ms part (factors_code xs k) k (λ args a. factors_term ms args xs a)
-  factors_turn no_factor ms part k = turn_none ms part k
-  factors_turn (times x xs) ms part k =
-      turn_two ms part _ (factors_code xs k) k (λ args. factor_term ms args x) (λ args a. factors_term ms args xs a) Mul (factor_pushes x ms part (Two Mul ∷ factors_code xs k)) (λ q. factors_turn xs ms q k)
-  factors_turn (over x xs) ms part k =
-      turn_two ms part _ (factors_code xs k) k (λ args. factor_term ms args x) (λ args a. factors_term ms args xs a) Div (factor_pushes x ms part (Two Div ∷ factors_code xs k)) (λ q. factors_turn xs ms q k)
+  factors_push : (xs : Factors) (ms : List Meaning) (part code k : List Op) (a : List Term → Term) → Pushes ms part code (factors_code xs k) a → Pushes ms part code k (λ args. factors_term ms args xs (a args))
+  factors_push no_factor ms part code k a p = p
+  factors_push (times x xs) ms part code k a p =
+      factors_push xs ms part code k _ (push_two ms part code _ (factors_code xs k) a (λ args. factor_term ms args x) Mul p (λ q. factor_pushes x ms q (Two Mul ∷ factors_code xs k)))
+  factors_push (over x xs) ms part code k a p =
+      factors_push xs ms part code k _ (push_two ms part code _ (factors_code xs k) a (λ args. factor_term ms args x) Div p (λ q. factor_pushes x ms q (Two Div ∷ factors_code xs k)))
 
   factor_pushes : (x : Factor) (ms : List Meaning) (part k : List Op) → Pushes ms part (factor_code x k) k (λ args. factor_term ms args x)
   factor_pushes (positive x) ms part k = factor_pushes x ms part k
   factor_pushes (negative x) ms part k = push_one ms part _ k (λ args. factor_term ms args x) Neg (factor_pushes x ms part (One Neg ∷ k))
-  factor_pushes (raised x w) ms part k =
-      push_then ms part _ (power_code w k) k (λ args. primary_term ms args x) (λ args a. power_term w a) (primary_pushes x ms part (power_code w k)) (λ q. power_turns ms q k w)
+  factor_pushes (raised x w) ms part k = power_pushes w ms part _ k (λ args. primary_term ms args x) (primary_pushes x ms part (power_code w k))
 
   primary_pushes : (x : Primary) (ms : List Meaning) (part k : List Op) → Pushes ms part (primary_code x k) k (λ args. primary_term ms args x)
   primary_pushes (number value exponent) ms part k = push_constant ms part k value

@@ -19,8 +19,7 @@ use Rattle.pv_grammar.specs.declared.symbol.Fixed.TheVariants.{Plus, Minus, Star
 use Rattle.pv_grammar.specs.declared.symbol.Symbol.{Symbol}
 use Rattle.pv_grammar.specs.declared.symbol.Symbol.TheVariants.{Fixed as FixedToken, Relation as RelationToken, Number, Declared, Constant as ConstantName, Variable as VariableName, Parameter as ParameterName, Function as FunctionName, Unknown}
 use Rattle.pv_grammar.specs.declared.machine.Item.{Item}
-use Rattle.pv_grammar.specs.declared.production.Production.{Production}
-use Rattle.pv_grammar.specs.declared.production.Production.TheVariants.{Nothing, One, Two, Three, Four, Operand, Power, Expression, Parentheses, Call, Function, Domain}
+use Rattle.pv_grammar.specs.declared.machine.Machine.{Machine}
 use Rattle.pv_grammar.specs.declared.machine.Item.TheVariants.{Exactly, MaybeConstants, WantConstant, MoreConstants, MaybeConstant, WantEquals, MaybeSign, WantValue, MaybeFunctions, WantFunctionName, WantParameter, MoreParameters, MaybeSemicolon, WantVariable, MoreVariables, MaybeVariable, MaybeDomain, WantBound, WantRelation, MoreConstraints, MaybeConstraint, WantFactor, MoreFactors, MoreTerms, MaybePower, WantExponent, MoreArguments, Then}
 
 -- what follows a token, and the steps that it writes
@@ -36,6 +35,10 @@ operand op = Some (MaybePower ∷ [], op ∷ [])
 abbrev pub behind : List Item → Option Produced
 behind items = Some (items, [])
 
+-- the arguments of a call, its step, and perhaps a power
+abbrev pub call_items : Op → ℕ → List Item
+call_items op more = Exactly Open ∷ expression_behind (MoreArguments more ∷ Then op ∷ MaybePower ∷ [])
+
 -- factor = sign factor | primary optional("^" NUMBER)
 abbrev pub factor : Symbol → Option Produced
 factor (FixedToken Plus) = behind (WantFactor ∷ [])
@@ -45,8 +48,7 @@ factor (Number value exponent) = operand (Constant value)
 factor (ConstantName value) = operand (Constant value)
 factor (VariableName i) = operand (Variable i)
 factor (ParameterName i) = operand (Parameter i)
-factor (FunctionName op arity) =
-    behind (Exactly Open ∷ expression_behind (MoreArguments (arity - 1) ∷ Then op ∷ MaybePower ∷ []))
+factor (FunctionName op arity) = behind (call_items op (arity - 1))
 factor Unknown = behind (MaybePower ∷ [])
 factor s = None
 
@@ -268,50 +270,10 @@ abbrev pub Takes : Bool → Option Produced → List Item → List Op → List I
 Takes true o items ops items' ops' = Follows o items ops items' ops'
 Takes false o items ops items' ops' = o ≡ None
 
--- an item that begins a further constraint
-abbrev pub is_constraint : Item → Bool
-is_constraint MaybeConstraint = true
-is_constraint i = false
+-- the machine did so
+abbrev pub Moves : Option Produced → Machine → Machine → Bool → Type 0
+Moves o old new taken = Takes taken o (pile old.stack.items) old.code.items (pile new.stack.items) new.code.items
 
 abbrev pub is_exponent : Item → Bool
 is_exponent WantExponent = true
 is_exponent i = false
-
--- ---- The table of the grammar
-
--- the items and the step of a production
-abbrev pub right_side : Production → Produced
-right_side Nothing = ([], [])
-right_side (One a) = (a ∷ [], [])
-right_side (Two a b) = (a ∷ b ∷ [], [])
-right_side (Three a b c) = (a ∷ b ∷ c ∷ [], [])
-right_side (Four a b c d) = (a ∷ b ∷ c ∷ d ∷ [], [])
-right_side (Operand op) = (MaybePower ∷ [], op ∷ [])
-right_side (Power n) = ([], OneArgument (Pow n) ∷ [])
-right_side (Expression i) = (expression_behind (i ∷ []), [])
-right_side Parentheses = (expression_behind (MoreArguments 0 ∷ MaybePower ∷ []), [])
-right_side (Call op n) = (Exactly Open ∷ expression_behind (MoreArguments n ∷ Then op ∷ MaybePower ∷ []), [])
-right_side Function = (WantFunctionName ∷ Exactly Open ∷ WantParameter ∷ MoreParameters ∷ Exactly Return ∷ body_items, [])
-right_side Domain = (domain_items, [])
-
--- what follows where an item begins with a token; of a further constraint, where its first factor does
-abbrev pub produced_first : Item → Symbol → Option Produced
-produced_first MaybeConstraint s = factor s
-produced_first i s = produced i s
-
--- an item that begins with tokens of its own
-abbrev pub IsFurther : Item → Type 0
-IsFurther (Exactly f) = ⊥
-IsFurther MaybeSemicolon = ⊥
-IsFurther MaybeConstants = ⊥
-IsFurther WantConstant = ⊥
-IsFurther MaybeConstant = ⊥
-IsFurther WantVariable = ⊥
-IsFurther MaybeVariable = ⊥
-IsFurther WantFunctionName = ⊥
-IsFurther WantParameter = ⊥
-IsFurther MoreConstants = ⊥
-IsFurther MoreVariables = ⊥
-IsFurther WantFactor = ⊥
-IsFurther MaybeConstraint = ⊥
-IsFurther i = Unit {0}

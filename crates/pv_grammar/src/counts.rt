@@ -71,9 +71,7 @@ impl Counts {
     fn in_phase(self, phase: Phase) -> Counts
         ensures { result ≡ in_phase phase self }
     {
-        let mut made = self;
-        made.phase = phase;
-        made
+        Counts { phase, ..self }
     }
 
     /// The counts behind a token that the grammar allows, or which limit or declaration forbids it.
@@ -96,19 +94,16 @@ impl Counts {
     fn begun(self, symbol: Symbol) -> Result<Counts, Cause>
         ensures { result ≡ begun self symbol }
     {
-        if !symbol.begins() {
-            return Ok(self);
-        }
         match self.phase {
-            Phase::NextConstraint => {
+            Phase::NextConstraint if symbol.begins() => {
                 if self.constraints < MAX_CONSTRAINTS {
-                    let mut made = self;
-                    made.phase = Phase::Sides;
-                    made.constraints += 1;
-                    Ok(made)
-                } else {
-                    Err(Cause::TooManyConstraints)
+                    return Ok(Counts {
+                        phase: Phase::Sides,
+                        constraints: self.constraints + 1,
+                        ..self
+                    });
                 }
+                Err(Cause::TooManyConstraints)
             }
             _ => Ok(self),
         }
@@ -127,19 +122,16 @@ impl Counts {
     fn operated(self, symbol: Symbol) -> Result<Counts, Cause>
         ensures { result ≡ operated self symbol }
     {
-        if !self.is_in_expression() {
-            return Ok(self);
-        }
-        if !symbol.operates() {
+        if !self.is_in_expression() || !symbol.operates() {
             return Ok(self);
         }
         if self.operations < MAX_OPERATIONS {
-            let mut made = self;
-            made.operations += 1;
-            Ok(made)
-        } else {
-            Err(Cause::TooDeep)
+            return Ok(Counts {
+                operations: self.operations + 1,
+                ..self
+            });
         }
+        Err(Cause::TooDeep)
     }
 
     // A parenthesis of an expression.
@@ -150,28 +142,17 @@ impl Counts {
             return Ok(self);
         }
         match symbol {
-            Symbol::Fixed(Fixed::Open) => {
-                if self.level < MAX_LEVEL {
-                    let mut made = self;
-                    made.level += 1;
-                    Ok(made)
-                } else {
-                    Err(Cause::TooDeep)
-                }
-            }
-            Symbol::Fixed(Fixed::Close) => {
-                let mut made = self;
-                made.level = self.level.saturating_sub(1);
-                Ok(made)
-            }
+            Symbol::Fixed(Fixed::Open) if self.level >= MAX_LEVEL => Err(Cause::TooDeep),
+            Symbol::Fixed(Fixed::Open) => Ok(Counts {
+                level: self.level + 1,
+                ..self
+            }),
+            Symbol::Fixed(Fixed::Close) => Ok(Counts {
+                level: self.level.saturating_sub(1),
+                ..self
+            }),
             // The `(` that must follow would open a level too many.
-            Symbol::Function { .. } => {
-                if self.level < MAX_LEVEL {
-                    Ok(self)
-                } else {
-                    Err(Cause::Unexpected)
-                }
-            }
+            Symbol::Function { .. } if self.level >= MAX_LEVEL => Err(Cause::Unexpected),
             _ => Ok(self),
         }
     }
@@ -188,56 +169,24 @@ impl Counts {
         }
     }
 
+    // The limit comes before what the name is declared as.
     fn declared(self, taken: bool) -> Result<Counts, Cause>
         ensures { result ≡ declared self.phase self taken }
     {
         match self.phase {
-            Phase::Variables => self.declared_variable(taken),
-            Phase::FunctionName => {
-                if taken {
-                    Err(Cause::DuplicateName)
-                } else {
-                    Ok(self.in_phase(Phase::Parameters))
-                }
-            }
-            Phase::Parameters => self.declared_parameter(taken),
-            _ => {
-                if taken {
-                    Err(Cause::DuplicateName)
-                } else {
-                    Ok(self)
-                }
-            }
-        }
-    }
-
-    fn declared_variable(self, taken: bool) -> Result<Counts, Cause>
-        ensures { result ≡ declared Phase.Variables self taken }
-    {
-        if self.variables < MAX_VARIABLES {
-            if taken {
-                return Err(Cause::DuplicateName);
-            }
-            let mut made = self;
-            made.variables += 1;
-            Ok(made)
-        } else {
-            Err(Cause::TooManyVariables)
-        }
-    }
-
-    fn declared_parameter(self, taken: bool) -> Result<Counts, Cause>
-        ensures { result ≡ declared Phase.Parameters self taken }
-    {
-        if self.parameters < MAX_PARAMETERS {
-            if taken {
-                return Err(Cause::DuplicateName);
-            }
-            let mut made = self;
-            made.parameters += 1;
-            Ok(made)
-        } else {
-            Err(Cause::Unexpected)
+            Phase::Variables if self.variables >= MAX_VARIABLES => Err(Cause::TooManyVariables),
+            Phase::Parameters if self.parameters >= MAX_PARAMETERS => Err(Cause::Unexpected),
+            _ if taken => Err(Cause::DuplicateName),
+            Phase::Variables => Ok(Counts {
+                variables: self.variables + 1,
+                ..self
+            }),
+            Phase::Parameters => Ok(Counts {
+                parameters: self.parameters + 1,
+                ..self
+            }),
+            Phase::FunctionName => Ok(self.in_phase(Phase::Parameters)),
+            _ => Ok(self),
         }
     }
 
@@ -248,11 +197,26 @@ impl Counts {
             Fixed::Constants => Ok(self.in_phase(Phase::Constants)),
             Fixed::Variables => Ok(self.in_phase(Phase::Variables)),
             Fixed::Constraints => Ok(self.in_expression(Phase::NextConstraint)),
-            Fixed::Function => self.with_function(),
-            Fixed::Comma => self.with_comma(),
+            Fixed::Function if self.functions >= MAX_FUNCTIONS => Err(Cause::TooManyFunctions),
+            Fixed::Function => Ok(Counts {
+                phase: Phase::FunctionName,
+                functions: self.functions + 1,
+                ..self
+            }),
+            Fixed::Comma
+                if matches!(self.phase, Phase::Parameters) && self.parameters >= MAX_PARAMETERS => {
+                Err(Cause::Unexpected)
+            }
             Fixed::Return => Ok(self.in_expression(Phase::Body)),
-            Fixed::End => Ok(self.ended()),
-            Fixed::Semicolon => Ok(self.with_semicolon()),
+            Fixed::End if matches!(self.phase, Phase::Body) => Ok(Counts {
+                phase: Phase::Between,
+                parameters: 0,
+                ..self
+            }),
+            Fixed::End => Ok(self.in_phase(Phase::Between)),
+            Fixed::Semicolon if matches!(self.phase, Phase::Sides) => {
+                Ok(self.in_expression(Phase::NextConstraint))
+            }
             Fixed::OpenBracket => Ok(self.in_phase(Phase::Bounds)),
             Fixed::CloseBracket => Ok(self.in_phase(Phase::Variables)),
             _ => Ok(self),
@@ -263,62 +227,11 @@ impl Counts {
     fn in_expression(self, phase: Phase) -> Counts
         ensures { result ≡ Rattle.pv_grammar.specs.Counting.before_expression phase self }
     {
-        let mut made = self;
-        made.phase = phase;
-        made.level = 0;
-        made.operations = 0;
-        made
-    }
-
-    fn with_function(self) -> Result<Counts, Cause>
-        ensures { result ≡ turned Fixed.Function self }
-    {
-        if self.functions < MAX_FUNCTIONS {
-            let mut made = self;
-            made.phase = Phase::FunctionName;
-            made.functions += 1;
-            Ok(made)
-        } else {
-            Err(Cause::TooManyFunctions)
-        }
-    }
-
-    fn with_comma(self) -> Result<Counts, Cause>
-        ensures { result ≡ turned Fixed.Comma self }
-    {
-        match self.phase {
-            Phase::Parameters => {
-                if self.parameters < MAX_PARAMETERS {
-                    Ok(self)
-                } else {
-                    Err(Cause::Unexpected)
-                }
-            }
-            _ => Ok(self),
-        }
-    }
-
-    fn with_semicolon(self) -> Counts
-        ensures { result ≡ Rattle.pv_grammar.specs.Counting.behind_semicolon self.phase self }
-    {
-        match self.phase {
-            Phase::Sides => self.in_expression(Phase::NextConstraint),
-            _ => self,
-        }
-    }
-
-    // Behind the end of a function, or of the text.
-    fn ended(self) -> Counts
-        ensures { result ≡ Rattle.pv_grammar.specs.Counting.behind_end self.phase self }
-    {
-        match self.phase {
-            Phase::Body => {
-                let mut made = self;
-                made.phase = Phase::Between;
-                made.parameters = 0;
-                made
-            }
-            _ => self.in_phase(Phase::Between),
+        Counts {
+            phase,
+            level: 0,
+            operations: 0,
+            ..self
         }
     }
 }

@@ -1,12 +1,11 @@
 // The grammar as a predictive machine: a stack of the items that are still to come, and the code of what was read.
 
 ghost use Rattle.std.specs.Bool.{OnTrue, OnFalse};
-ghost use Rattle.std.specs.Prelude.{◌≡◌, ◌≢◌, [], ◌∷◌, ◌++◌, IfOk, OnOk, Some, None};
-ghost use Rattle.pv_grammar.specs.Grammar.{pile, MayEnd, Takes, Follows, Settles, is_exponent, is_constraint, produced, right_side, step_of, system_items, expression_items, expression_behind, domain_items};
+ghost use Rattle.std.specs.Prelude.{◌≡◌, ◌≢◌, [], ◌∷◌, ◌++◌, IfOk, OnOk, None};
+ghost use Rattle.pv_grammar.specs.Grammar.{pile, MayEnd, Settles, is_exponent, produced, step_of};
 
-use crate::production::Production;
 use crate::symbol::{Fixed, Symbol};
-use pv_code::{Op, Unary};
+use pv_code::Op;
 use pv_num::Memory;
 use std::alloc::Global;
 
@@ -55,7 +54,7 @@ pub struct Machine {
 }
 
 impl Machine {
-    fn empty(alloc: Global) -> Machine
+    pub(crate) fn empty(alloc: Global) -> Machine
         ensures stack { pile result.stack.items ≡ [] }
         ensures code { result.code.items ≡ [] }
     {
@@ -63,37 +62,6 @@ impl Machine {
             stack: Vec::new(alloc),
             code: Vec::new(alloc),
         }
-    }
-
-    /// A machine at the start of a system's text.
-    pub fn for_system(alloc: Global) -> Result<Machine, Memory>
-        ensures stack { IfOk result (λ m. pile m.stack.items ≡ system_items) }
-        ensures code { IfOk result (λ m. m.code.items ≡ []) }
-    {
-        let mut machine = Machine::empty(alloc);
-        machine.put(Item::Exactly(Fixed::End))?;
-        machine.put(Item::MoreConstraints)?;
-        machine.put_expression(Item::WantRelation)?;
-        machine.put(Item::Exactly(Fixed::Constraints))?;
-        machine.put(Item::MaybeFunctions)?;
-        machine.put(Item::MoreVariables)?;
-        machine.put(Item::WantVariable)?;
-        machine.put(Item::Exactly(Fixed::Variables))?;
-        machine.put(Item::MaybeFunctions)?;
-        machine.put(Item::MaybeConstants)?;
-        Ok(machine)
-    }
-
-    /// A machine at the start of an expression's text.
-    pub fn for_expression(alloc: Global) -> Result<Machine, Memory>
-        ensures stack { IfOk result (λ m. pile m.stack.items ≡ expression_items) }
-        ensures code { IfOk result (λ m. m.code.items ≡ []) }
-    {
-        let mut machine = Machine::empty(alloc);
-        machine.put(Item::MoreTerms)?;
-        machine.put(Item::MoreFactors)?;
-        machine.put(Item::WantFactor)?;
-        Ok(machine)
     }
 
     /// The code of all that was read.
@@ -122,17 +90,9 @@ impl Machine {
         ensures stack { OnOk result (self.new.stack ≡ self.old.stack) }
         ensures code { OnOk result (self.new.code.items ≡ self.old.code.items ++ step_of item) }
     {
-        match item {
-            Item::Then(op) => self.write(op),
-            _ => Ok(()),
+        if let Item::Then(op) = item {
+            self.code.push(op)?;
         }
-    }
-
-    fn write(&mut self, op: Op) -> Result<(), Memory>
-        ensures stack { OnOk result (self.new.stack ≡ self.old.stack) }
-        ensures code { OnOk result (self.new.code.items ≡ self.old.code.items ++ op ∷ []) }
-    {
-        self.code.push(op)?;
         Ok(())
     }
 
@@ -145,117 +105,17 @@ impl Machine {
         Ok(())
     }
 
-    /// Takes the token where the item stood; false where the grammar does not allow it there.
-    pub fn take(&mut self, item: Item, symbol: Symbol) -> Result<bool, Memory>
-        ensures { IfOk result (λ b. Takes b (produced item symbol)
-            (pile self.old.stack.items) self.old.code.items
-            (pile self.new.stack.items) self.new.code.items) }
+    /// Puts items on the stack, the first on top.
+    pub(crate) fn put_all(&mut self, items: &[Item]) -> Result<(), Memory>
+        ensures stack { OnOk result (pile self.new.stack.items ≡ items.now ++ pile self.old.stack.items) }
+        ensures code { OnOk result (self.new.code ≡ self.old.code) }
     {
-        let Some(production) = item.production(symbol) else {
-            return Ok(false);
-        };
-        if item.is_constraint() {
-            self.put(Item::MoreConstraints)?;
-            self.put(Item::WantRelation)?;
-            self.put(Item::MoreTerms)?;
-            self.put(Item::MoreFactors)?;
+        let mut i = items.len();
+        while i > 0 {
+            i -= 1;
+            self.put(items[i])?;
         }
-        self.follow(production)?;
-        Ok(true)
-    }
-
-    // Writes the step of a production, and puts its items on the stack.
-    fn follow(&mut self, production: Production) -> Result<(), Memory>
-        ensures { OnOk result (Follows (Some (right_side production))
-            (pile self.old.stack.items) self.old.code.items
-            (pile self.new.stack.items) self.new.code.items) }
-    {
-        match production {
-            Production::Nothing => Ok(()),
-            Production::One(a) => self.put(a),
-            Production::Two(a, b) => {
-                self.put(b)?;
-                self.put(a)
-            }
-            Production::Three(a, b, c) => {
-                self.put(c)?;
-                self.put(b)?;
-                self.put(a)
-            }
-            Production::Four(a, b, c, d) => {
-                self.put(d)?;
-                self.put(c)?;
-                self.put(b)?;
-                self.put(a)
-            }
-            Production::Operand(op) => {
-                self.write(op)?;
-                self.put(Item::MaybePower)
-            }
-            Production::Power(n) => self.write(Op::One(Unary::Pow(n))),
-            Production::Expression(next) => self.put_expression(next),
-            Production::Parentheses => {
-                self.put(Item::MaybePower)?;
-                self.put_expression(Item::MoreArguments(0))
-            }
-            Production::Call { op, more } => self.put_call(op, more),
-            Production::Function => self.put_function(),
-            Production::Domain => self.put_domain(),
-        }
-    }
-
-    // An expression and an item behind it.
-    fn put_expression(&mut self, next: Item) -> Result<(), Memory>
-        ensures stack { OnOk result (pile self.new.stack.items ≡
-            expression_behind (next ∷ []) ++ pile self.old.stack.items) }
-        ensures code { OnOk result (self.new.code ≡ self.old.code) }
-    {
-        self.put(next)?;
-        self.put(Item::MoreTerms)?;
-        self.put(Item::MoreFactors)?;
-        self.put(Item::WantFactor)
-    }
-
-    fn put_call(&mut self, op: Op, more: u8) -> Result<(), Memory>
-        ensures stack { OnOk result (pile self.new.stack.items ≡
-            (right_side (Production.Call op more)).0 ++ pile self.old.stack.items) }
-        ensures code { OnOk result (self.new.code ≡ self.old.code) }
-    {
-        self.put(Item::MaybePower)?;
-        self.put(Item::Then(op))?;
-        self.put_expression(Item::MoreArguments(more))?;
-        self.put(Item::Exactly(Fixed::Open))
-    }
-
-    fn put_function(&mut self) -> Result<(), Memory>
-        ensures stack { OnOk result (pile self.new.stack.items ≡
-            (right_side Production.Function).0 ++ pile self.old.stack.items) }
-        ensures code { OnOk result (self.new.code ≡ self.old.code) }
-    {
-        self.put(Item::MaybeFunctions)?;
-        self.put(Item::MaybeSemicolon)?;
-        self.put(Item::Exactly(Fixed::End))?;
-        self.put(Item::MaybeSemicolon)?;
-        self.put_expression(Item::Then(Op::Define))?;
-        self.put(Item::Exactly(Fixed::Return))?;
-        self.put(Item::MoreParameters)?;
-        self.put(Item::WantParameter)?;
-        self.put(Item::Exactly(Fixed::Open))?;
-        self.put(Item::WantFunctionName)
-    }
-
-    fn put_domain(&mut self) -> Result<(), Memory>
-        ensures stack { OnOk result (pile self.new.stack.items ≡
-            domain_items ++ pile self.old.stack.items) }
-        ensures code { OnOk result (self.new.code ≡ self.old.code) }
-    {
-        self.put(Item::Exactly(Fixed::CloseBracket))?;
-        self.put(Item::WantBound)?;
-        self.put(Item::MaybeSign)?;
-        self.put(Item::Exactly(Fixed::Comma))?;
-        self.put(Item::WantBound)?;
-        self.put(Item::MaybeSign)?;
-        self.put(Item::Exactly(Fixed::OpenBracket))
+        Ok(())
     }
 }
 
@@ -265,13 +125,26 @@ impl Item {
         ensures ends { OnFalse result (MayEnd self × (produced self symbol ≡ None)) }
         ensures meets { OnTrue result (MayEnd self → produced self symbol ≢ None) }
     {
-        !self.may_end() || self.production(symbol).is_some()
-    }
-
-    fn is_constraint(self) -> bool
-        ensures { result ≡ is_constraint self }
-    {
-        matches!(self, Item::MaybeConstraint)
+        match self {
+            Item::MaybeConstants => matches!(symbol, Symbol::Fixed(Fixed::Constants)),
+            Item::MoreConstants | Item::MoreVariables => {
+                matches!(symbol, Symbol::Fixed(Fixed::Comma | Fixed::Semicolon))
+            }
+            Item::MaybeConstant | Item::MaybeVariable => matches!(symbol, Symbol::Declared { .. }),
+            Item::MaybeSign | Item::MoreTerms => {
+                matches!(symbol, Symbol::Fixed(Fixed::Plus | Fixed::Minus))
+            }
+            Item::MaybeFunctions => matches!(symbol, Symbol::Fixed(Fixed::Function)),
+            Item::MaybeSemicolon | Item::MoreConstraints => {
+                matches!(symbol, Symbol::Fixed(Fixed::Semicolon))
+            }
+            Item::MaybeDomain => matches!(symbol, Symbol::Fixed(Fixed::In)),
+            Item::MaybeConstraint => symbol.begins(),
+            Item::MoreFactors => matches!(symbol, Symbol::Fixed(Fixed::Star | Fixed::Slash)),
+            Item::MaybePower => matches!(symbol, Symbol::Fixed(Fixed::Caret)),
+            Item::Then(_) => false,
+            _ => true,
+        }
     }
 
     /// Whether it is the exponent of a power.
@@ -279,21 +152,5 @@ impl Item {
         ensures { result ≡ is_exponent self }
     {
         matches!(self, Item::WantExponent)
-    }
-
-    // Whether nothing may come in its place.
-    fn may_end(self) -> bool
-        ensures may { OnTrue result (MayEnd self) }
-        ensures must { OnFalse result (¬ MayEnd self) }
-    {
-        match self {
-            Item::MaybeConstants | Item::MoreConstants | Item::MaybeConstant => true,
-            Item::MaybeSign | Item::MaybeFunctions | Item::MaybeSemicolon => true,
-            Item::MoreVariables | Item::MaybeVariable | Item::MaybeDomain => true,
-            Item::MoreConstraints | Item::MaybeConstraint => true,
-            Item::MoreFactors | Item::MoreTerms | Item::MaybePower => true,
-            Item::Then(_) => true,
-            _ => false,
-        }
     }
 }

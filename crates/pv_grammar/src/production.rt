@@ -1,322 +1,263 @@
-// The table of the grammar: which production an item begins with a token. Each function here is the definition of the
-// same name.
+// The table of the grammar: what an item does with a token. Each function here is the definition of the same name.
 
-ghost use Rattle.std.specs.Prelude.{◌≡◌, [], Some, option_map};
+ghost use Rattle.std.specs.Prelude.{◌≡◌, [], ◌∷◌, IfOk, Some};
 ghost use Rattle.pv_grammar.specs.Grammar as grammar;
-ghost use Rattle.pv_grammar.specs.Grammar.{right_side};
+ghost use Rattle.pv_grammar.specs.Grammar.{Moves, pile};
 
-use crate::machine::Item;
+use crate::machine::Item::{
+    Exactly, MaybeConstant, MaybeConstants, MaybeConstraint, MaybeDomain, MaybeFunctions,
+    MaybePower, MaybeSemicolon, MaybeSign, MaybeVariable, MoreArguments, MoreConstants,
+    MoreConstraints, MoreFactors, MoreParameters, MoreTerms, MoreVariables, Then, WantBound,
+    WantConstant, WantEquals, WantExponent, WantFactor, WantFunctionName, WantParameter,
+    WantRelation, WantValue, WantVariable,
+};
+use crate::machine::{Item, Machine};
 use crate::symbol::{Fixed, Symbol};
 use pv_code::{Binary, Op, Unary};
 use pv_expr::Relation;
+use pv_num::Memory;
+use std::alloc::Global;
 
-/// What comes behind a token that an item begins with, and the step that is written at once.
-#[derive(Clone, Copy)]
-pub(crate) enum Production {
-    Nothing,
-    One(Item),
-    Two(Item, Item),
-    Three(Item, Item, Item),
-    Four(Item, Item, Item, Item),
-    /// The step of an operand, and perhaps a power.
-    Operand(Op),
-    /// The step of a power.
-    Power(u8),
-    /// An expression, and an item behind it.
-    Expression(Item),
-    /// An expression, a `)`, and perhaps a power.
-    Parentheses,
-    /// A `(`, an expression, so many further ones, a `)`, the step, and perhaps a power.
-    Call { op: Op, more: u8 },
-    /// A function from its name on, and the functions behind it.
-    Function,
-    /// A domain from its `[` on.
-    Domain,
-}
-
-fn factor(symbol: Symbol) -> Option<Production>
-    ensures { option_map right_side result ≡ grammar.factor symbol }
-{
-    match symbol {
-        Symbol::Fixed(Fixed::Plus) => Some(Production::One(Item::WantFactor)),
-        Symbol::Fixed(Fixed::Minus) => Some(Production::Two(
-            Item::WantFactor,
-            Item::Then(Op::One(Unary::Neg)),
-        )),
-        Symbol::Fixed(Fixed::Open) => Some(Production::Parentheses),
-        Symbol::Number { value, .. } => Some(Production::Operand(Op::Constant(value))),
-        Symbol::Constant(value) => Some(Production::Operand(Op::Constant(value))),
-        Symbol::Variable(i) => Some(Production::Operand(Op::Variable(i))),
-        Symbol::Parameter(i) => Some(Production::Operand(Op::Parameter(i))),
-        Symbol::Function { op, arity } => Some(Production::Call {
-            op,
-            more: arity.saturating_sub(1),
-        }),
-        Symbol::Unknown => Some(Production::One(Item::MaybePower)),
-        _ => None,
+impl Machine {
+    /// A machine at the start of a system's text.
+    pub fn for_system(alloc: Global) -> Result<Machine, Memory>
+        ensures stack { IfOk result (λ m. pile m.stack.items ≡ grammar.system_items) }
+        ensures code { IfOk result (λ m. m.code.items ≡ []) }
+    {
+        let mut machine = Machine::empty(alloc);
+        machine.put_all(&[WantRelation, MoreConstraints, Exactly(Fixed::End)])?;
+        machine.put_all(&[
+            Exactly(Fixed::Constraints),
+            WantFactor,
+            MoreFactors,
+            MoreTerms,
+        ])?;
+        machine.put_all(&[WantVariable, MoreVariables, MaybeFunctions])?;
+        machine.put_all(&[MaybeConstants, MaybeFunctions, Exactly(Fixed::Variables)])?;
+        Ok(machine)
     }
-}
 
-// A further factor, by a step of two arguments.
-fn by(op: Binary) -> Option<Production>
-    ensures { result ≡ Some (Production.Three Item.WantFactor (Item.Then (Op.Two op)) Item.MoreFactors) }
-{
-    Some(Production::Three(Item::WantFactor, Item::Then(Op::Two(op)), Item::MoreFactors))
-}
-
-fn factors(symbol: Symbol) -> Option<Production>
-    ensures { option_map right_side result ≡ grammar.factors symbol }
-{
-    match symbol {
-        Symbol::Fixed(Fixed::Star) => by(Binary::Mul),
-        Symbol::Fixed(Fixed::Slash) => by(Binary::Div),
-        _ => None,
+    /// A machine at the start of an expression's text.
+    pub fn for_expression(alloc: Global) -> Result<Machine, Memory>
+        ensures stack { IfOk result (λ m. pile m.stack.items ≡ grammar.expression_items) }
+        ensures code { IfOk result (λ m. m.code.items ≡ []) }
+    {
+        let mut machine = Machine::empty(alloc);
+        machine.put_all(&[WantFactor, MoreFactors, MoreTerms])?;
+        Ok(machine)
     }
-}
 
-// A further term, by a step of two arguments.
-fn with(op: Binary) -> Option<Production>
-    ensures { result ≡ Some (Production.Four Item.WantFactor Item.MoreFactors (Item.Then (Op.Two op))
-        Item.MoreTerms) }
-{
-    Some(Production::Four(
-        Item::WantFactor,
-        Item::MoreFactors,
-        Item::Then(Op::Two(op)),
-        Item::MoreTerms,
-    ))
-}
-
-fn terms(symbol: Symbol) -> Option<Production>
-    ensures { option_map right_side result ≡ grammar.terms symbol }
-{
-    match symbol {
-        Symbol::Fixed(Fixed::Plus) => with(Binary::Add),
-        Symbol::Fixed(Fixed::Minus) => with(Binary::Sub),
-        _ => None,
+    /// Takes the token where the item stood; false where the grammar does not allow it there.
+    pub fn take(&mut self, item: Item, symbol: Symbol) -> Result<bool, Memory>
+        ensures { IfOk result (Moves (grammar.produced item symbol) self.old self.new) }
+    {
+        match item {
+            Exactly(fixed) => Ok(matches!(symbol, Symbol::Fixed(found) if found == fixed)),
+            MaybeConstants => self.word(Fixed::Constants, &[WantConstant, MoreConstants], symbol),
+            WantConstant => self.declared(&[WantEquals, MaybeSign, WantValue], symbol),
+            MoreConstants => self.separated(MaybeConstant, symbol),
+            MaybeConstant => {
+                self.declared(&[WantEquals, MaybeSign, WantValue, MoreConstants], symbol)
+            }
+            WantEquals => Ok(matches!(symbol, Symbol::Relation(Relation::Eq))),
+            MaybeSign => Ok(matches!(symbol, Symbol::Fixed(Fixed::Plus | Fixed::Minus))),
+            WantValue => Ok(matches!(symbol, Symbol::Number { .. })),
+            MaybeFunctions => self.functions(symbol),
+            WantFunctionName | WantParameter => self.declared(&[], symbol),
+            MoreParameters => self.parameters(symbol),
+            MaybeSemicolon => Ok(matches!(symbol, Symbol::Fixed(Fixed::Semicolon))),
+            WantVariable => self.declared(&[MaybeDomain], symbol),
+            MoreVariables => self.separated(MaybeVariable, symbol),
+            MaybeVariable => self.declared(&[MaybeDomain, MoreVariables], symbol),
+            MaybeDomain => self.domain(symbol),
+            WantBound => Ok(matches!(
+                symbol,
+                Symbol::Number { .. }
+                    | Symbol::Constant(_)
+                    | Symbol::Unknown
+                    | Symbol::Fixed(Fixed::Oo)
+            )),
+            WantRelation => self.relation(symbol),
+            MoreConstraints => self.word(Fixed::Semicolon, &[MaybeConstraint], symbol),
+            MaybeConstraint => self.constraint(symbol),
+            WantFactor => self.factor(symbol),
+            MoreFactors => self.factors(symbol),
+            MoreTerms => self.terms(symbol),
+            MaybePower => self.word(Fixed::Caret, &[WantExponent], symbol),
+            WantExponent => self.exponent(symbol),
+            MoreArguments(more) => self.arguments(more, symbol),
+            Then(_) => Ok(false),
+        }
     }
-}
 
-fn power(symbol: Symbol) -> Option<Production>
-    ensures { option_map right_side result ≡ grammar.power symbol }
-{
-    match symbol {
-        Symbol::Fixed(Fixed::Caret) => Some(Production::One(Item::WantExponent)),
-        _ => None,
+    // Items behind this token alone.
+    fn word(&mut self, fixed: Fixed, items: &[Item], symbol: Symbol) -> Result<bool, Memory>
+        ensures { IfOk result (Moves (grammar.with_more items.now (grammar.exactly fixed symbol)) self.old self.new) }
+    {
+        match symbol {
+            Symbol::Fixed(found) if found == fixed => self.behind(items),
+            _ => Ok(false),
+        }
     }
-}
 
-fn exponent(symbol: Symbol) -> Option<Production>
-    ensures { option_map right_side result ≡ grammar.exponent symbol }
-{
-    match symbol {
-        Symbol::Number {
+    // Items behind a token that is taken.
+    fn behind(&mut self, items: &[Item]) -> Result<bool, Memory>
+        ensures { IfOk result (Moves (grammar.behind items.now) self.old self.new) }
+    {
+        self.put_all(items)?;
+        Ok(true)
+    }
+
+    // An expression, and items behind it.
+    fn expression(&mut self, more: &[Item]) -> Result<bool, Memory>
+        ensures { IfOk result
+            (Moves (grammar.behind (grammar.expression_behind more.now)) self.old self.new) }
+    {
+        self.put_all(more)?;
+        self.behind(&[WantFactor, MoreFactors, MoreTerms])
+    }
+
+    fn operand(&mut self, op: Op) -> Result<bool, Memory>
+        ensures { IfOk result (Moves (grammar.operand op) self.old self.new) }
+    {
+        self.code.push(op)?;
+        self.behind(&[MaybePower])
+    }
+
+    fn factor(&mut self, symbol: Symbol) -> Result<bool, Memory>
+        ensures { IfOk result (Moves (grammar.factor symbol) self.old self.new) }
+    {
+        match symbol {
+            Symbol::Fixed(Fixed::Plus) => self.behind(&[WantFactor]),
+            Symbol::Fixed(Fixed::Minus) => self.behind(&[WantFactor, Then(Op::One(Unary::Neg))]),
+            Symbol::Fixed(Fixed::Open) => self.expression(&[MoreArguments(0), MaybePower]),
+            Symbol::Number { value, .. } => self.operand(Op::Constant(value)),
+            Symbol::Constant(value) => self.operand(Op::Constant(value)),
+            Symbol::Variable(i) => self.operand(Op::Variable(i)),
+            Symbol::Parameter(i) => self.operand(Op::Parameter(i)),
+            Symbol::Function { op, arity } => self.call(op, arity.saturating_sub(1)),
+            Symbol::Unknown => self.behind(&[MaybePower]),
+            _ => Ok(false),
+        }
+    }
+
+    fn call(&mut self, op: Op, more: u8) -> Result<bool, Memory>
+        ensures { IfOk result (Moves (grammar.behind (grammar.call_items op more)) self.old self.new) }
+    {
+        self.expression(&[MoreArguments(more), Then(op), MaybePower])?;
+        self.behind(&[Exactly(Fixed::Open)])
+    }
+
+    fn constraint(&mut self, symbol: Symbol) -> Result<bool, Memory>
+        ensures { IfOk result (Moves (grammar.produced Item.MaybeConstraint symbol) self.old self.new) }
+    {
+        self.put_all(&[MoreFactors, MoreTerms, WantRelation, MoreConstraints])?;
+        self.factor(symbol)
+    }
+
+    fn factors(&mut self, symbol: Symbol) -> Result<bool, Memory>
+        ensures { IfOk result (Moves (grammar.factors symbol) self.old self.new) }
+    {
+        let op = match symbol {
+            Symbol::Fixed(Fixed::Star) => Binary::Mul,
+            Symbol::Fixed(Fixed::Slash) => Binary::Div,
+            _ => return Ok(false),
+        };
+        self.behind(&[WantFactor, Then(Op::Two(op)), MoreFactors])
+    }
+
+    fn terms(&mut self, symbol: Symbol) -> Result<bool, Memory>
+        ensures { IfOk result (Moves (grammar.terms symbol) self.old self.new) }
+    {
+        let op = match symbol {
+            Symbol::Fixed(Fixed::Plus) => Binary::Add,
+            Symbol::Fixed(Fixed::Minus) => Binary::Sub,
+            _ => return Ok(false),
+        };
+        self.behind(&[WantFactor, MoreFactors, Then(Op::Two(op)), MoreTerms])
+    }
+
+    fn exponent(&mut self, symbol: Symbol) -> Result<bool, Memory>
+        ensures { IfOk result (Moves (grammar.exponent symbol) self.old self.new) }
+    {
+        let Symbol::Number {
             exponent: Some(n),
             ..
-        } => Some(Production::Power(n)),
-        _ => None,
+        } = symbol
+        else {
+            return Ok(false);
+        };
+        self.code.push(Op::One(Unary::Pow(n)))?;
+        Ok(true)
     }
-}
 
-fn arguments(more: u8, symbol: Symbol) -> Option<Production>
-    ensures { option_map right_side result ≡ grammar.arguments more symbol }
-{
-    match symbol {
-        Symbol::Fixed(Fixed::Close) if more == 0 => Some(Production::Nothing),
-        Symbol::Fixed(Fixed::Comma) if more > 0 => Some(Production::Expression(Item::MoreArguments(
-            more - 1,
-        ))),
-        _ => None,
-    }
-}
-
-fn relation(symbol: Symbol) -> Option<Production>
-    ensures { option_map right_side result ≡ grammar.relation symbol }
-{
-    match symbol {
-        Symbol::Relation(relation) => Some(Production::Expression(Item::Then(Op::Relate(
-            relation,
-        )))),
-        _ => None,
-    }
-}
-
-fn constraints(symbol: Symbol) -> Option<Production>
-    ensures { option_map right_side result ≡ grammar.constraints symbol }
-{
-    match symbol {
-        Symbol::Fixed(Fixed::Semicolon) => Some(Production::One(Item::MaybeConstraint)),
-        _ => None,
-    }
-}
-
-fn exactly(fixed: Fixed, symbol: Symbol) -> Option<Production>
-    ensures { option_map right_side result ≡ grammar.exactly fixed symbol }
-{
-    match symbol {
-        Symbol::Fixed(found) if found == fixed => Some(Production::Nothing),
-        _ => None,
-    }
-}
-
-fn separated(further: Item, symbol: Symbol) -> Option<Production>
-    ensures { option_map right_side result ≡ grammar.separated further symbol }
-{
-    match symbol {
-        Symbol::Fixed(Fixed::Comma | Fixed::Semicolon) => Some(Production::One(further)),
-        _ => None,
-    }
-}
-
-fn declared(production: Production, symbol: Symbol) -> Option<Production>
-    requires { (right_side production).1 ≡ [] }
-    ensures { option_map right_side result ≡ grammar.declared (right_side production).0 symbol }
-{
-    match symbol {
-        Symbol::Declared { .. } => Some(production),
-        _ => None,
-    }
-}
-
-fn functions(symbol: Symbol) -> Option<Production>
-    ensures { option_map right_side result ≡ grammar.functions symbol }
-{
-    match symbol {
-        Symbol::Fixed(Fixed::Function) => Some(Production::Function),
-        _ => None,
-    }
-}
-
-fn parameters(symbol: Symbol) -> Option<Production>
-    ensures { option_map right_side result ≡ grammar.parameters symbol }
-{
-    match symbol {
-        Symbol::Fixed(Fixed::Comma) => Some(Production::Two(
-            Item::WantParameter,
-            Item::MoreParameters,
-        )),
-        Symbol::Fixed(Fixed::Close) => Some(Production::Nothing),
-        _ => None,
-    }
-}
-
-fn domain(symbol: Symbol) -> Option<Production>
-    ensures { option_map right_side result ≡ grammar.domain symbol }
-{
-    match symbol {
-        Symbol::Fixed(Fixed::In) => Some(Production::Domain),
-        _ => None,
-    }
-}
-
-fn constants(symbol: Symbol) -> Option<Production>
-    ensures { option_map right_side result ≡ grammar.constants symbol }
-{
-    match symbol {
-        Symbol::Fixed(Fixed::Constants) => Some(Production::Two(
-            Item::WantConstant,
-            Item::MoreConstants,
-        )),
-        _ => None,
-    }
-}
-
-fn equals(symbol: Symbol) -> Option<Production>
-    ensures { option_map right_side result ≡ grammar.equals symbol }
-{
-    match symbol {
-        Symbol::Relation(Relation::Eq) => Some(Production::Nothing),
-        _ => None,
-    }
-}
-
-fn sign(symbol: Symbol) -> Option<Production>
-    ensures { option_map right_side result ≡ grammar.sign symbol }
-{
-    match symbol {
-        Symbol::Fixed(Fixed::Plus | Fixed::Minus) => Some(Production::Nothing),
-        _ => None,
-    }
-}
-
-fn value(symbol: Symbol) -> Option<Production>
-    ensures { option_map right_side result ≡ grammar.value symbol }
-{
-    match symbol {
-        Symbol::Number { .. } => Some(Production::Nothing),
-        _ => None,
-    }
-}
-
-fn bound(symbol: Symbol) -> Option<Production>
-    ensures { option_map right_side result ≡ grammar.bound symbol }
-{
-    match symbol {
-        Symbol::Number { .. } | Symbol::Constant(_) | Symbol::Unknown => {
-            Some(Production::Nothing)
-        }
-        Symbol::Fixed(Fixed::Oo) => Some(Production::Nothing),
-        _ => None,
-    }
-}
-
-impl Item {
-    /// The production that the item begins with the token; of a constraint, that of its first factor. None where it
-    /// doesn't begin with the token.
-    pub(crate) fn production(self, symbol: Symbol) -> Option<Production>
-        ensures { option_map right_side result ≡ grammar.produced_first self symbol }
+    fn arguments(&mut self, more: u8, symbol: Symbol) -> Result<bool, Memory>
+        ensures { IfOk result (Moves (grammar.arguments more symbol) self.old self.new) }
     {
-        match self {
-            Item::Exactly(fixed) => exactly(fixed, symbol),
-            Item::MaybeSemicolon => exactly(Fixed::Semicolon, symbol),
-            Item::MaybeConstants => constants(symbol),
-            Item::WantConstant => declared(
-                Production::Three(Item::WantEquals, Item::MaybeSign, Item::WantValue),
-                symbol,
-            ),
-            Item::MaybeConstant => declared(
-                Production::Four(
-                    Item::WantEquals,
-                    Item::MaybeSign,
-                    Item::WantValue,
-                    Item::MoreConstants,
-                ),
-                symbol,
-            ),
-            Item::WantVariable => declared(Production::One(Item::MaybeDomain), symbol),
-            Item::MaybeVariable => declared(
-                Production::Two(Item::MaybeDomain, Item::MoreVariables),
-                symbol,
-            ),
-            Item::WantFunctionName | Item::WantParameter => declared(Production::Nothing, symbol),
-            Item::MoreConstants => separated(Item::MaybeConstant, symbol),
-            Item::MoreVariables => separated(Item::MaybeVariable, symbol),
-            Item::WantFactor | Item::MaybeConstraint => factor(symbol),
-            _ => self.further(symbol),
+        match symbol {
+            Symbol::Fixed(Fixed::Close) if more == 0 => Ok(true),
+            Symbol::Fixed(Fixed::Comma) if more > 0 => self.expression(&[MoreArguments(more - 1)]),
+            _ => Ok(false),
         }
     }
 
-    // The same of the items that begin with tokens of their own.
-    fn further(self, symbol: Symbol) -> Option<Production>
-        requires { grammar.IsFurther self }
-        ensures { option_map right_side result ≡ grammar.produced self symbol }
+    fn relation(&mut self, symbol: Symbol) -> Result<bool, Memory>
+        ensures { IfOk result (Moves (grammar.relation symbol) self.old self.new) }
     {
-        match self {
-            Item::WantEquals => equals(symbol),
-            Item::MaybeSign => sign(symbol),
-            Item::WantValue => value(symbol),
-            Item::MaybeFunctions => functions(symbol),
-            Item::MoreParameters => parameters(symbol),
-            Item::MaybeDomain => domain(symbol),
-            Item::WantBound => bound(symbol),
-            Item::WantRelation => relation(symbol),
-            Item::MoreConstraints => constraints(symbol),
-            Item::MoreFactors => factors(symbol),
-            Item::MoreTerms => terms(symbol),
-            Item::MaybePower => power(symbol),
-            Item::WantExponent => exponent(symbol),
-            Item::MoreArguments(n) => arguments(n, symbol),
-            _ => None,
+        match symbol {
+            Symbol::Relation(relation) => self.expression(&[Then(Op::Relate(relation))]),
+            _ => Ok(false),
         }
+    }
+
+    fn separated(&mut self, further: Item, symbol: Symbol) -> Result<bool, Memory>
+        ensures { IfOk result (Moves (grammar.separated further symbol) self.old self.new) }
+    {
+        match symbol {
+            Symbol::Fixed(Fixed::Comma | Fixed::Semicolon) => self.behind(&[further]),
+            _ => Ok(false),
+        }
+    }
+
+    fn declared(&mut self, items: &[Item], symbol: Symbol) -> Result<bool, Memory>
+        ensures { IfOk result (Moves (grammar.declared items.now symbol) self.old self.new) }
+    {
+        match symbol {
+            Symbol::Declared { .. } => self.behind(items),
+            _ => Ok(false),
+        }
+    }
+
+    fn functions(&mut self, symbol: Symbol) -> Result<bool, Memory>
+        ensures { IfOk result (Moves (grammar.functions symbol) self.old self.new) }
+    {
+        if !matches!(symbol, Symbol::Fixed(Fixed::Function)) {
+            return Ok(false);
+        }
+        self.put_all(&[Exactly(Fixed::End), MaybeSemicolon, MaybeFunctions])?;
+        self.expression(&[Then(Op::Define), MaybeSemicolon])?;
+        self.put_all(&[MoreParameters, Exactly(Fixed::Return)])?;
+        self.behind(&[WantFunctionName, Exactly(Fixed::Open), WantParameter])
+    }
+
+    fn parameters(&mut self, symbol: Symbol) -> Result<bool, Memory>
+        ensures { IfOk result (Moves (grammar.parameters symbol) self.old self.new) }
+    {
+        match symbol {
+            Symbol::Fixed(Fixed::Comma) => self.behind(&[WantParameter, MoreParameters]),
+            Symbol::Fixed(Fixed::Close) => Ok(true),
+            _ => Ok(false),
+        }
+    }
+
+    fn domain(&mut self, symbol: Symbol) -> Result<bool, Memory>
+        ensures { IfOk result (Moves (grammar.domain symbol) self.old self.new) }
+    {
+        if !matches!(symbol, Symbol::Fixed(Fixed::In)) {
+            return Ok(false);
+        }
+        self.put_all(&[MaybeSign, WantBound, Exactly(Fixed::CloseBracket)])?;
+        self.put_all(&[WantBound, Exactly(Fixed::Comma)])?;
+        self.behind(&[Exactly(Fixed::OpenBracket), MaybeSign])
     }
 }

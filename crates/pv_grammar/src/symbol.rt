@@ -70,34 +70,33 @@ impl Symbol {
         ensures yes { OnTrue result (factor self ≢ None) }
         ensures test { result ≡ begins_expression self }
     {
-        match self {
-            Symbol::Fixed(Fixed::Plus | Fixed::Minus | Fixed::Open) => true,
-            Symbol::Number { .. } | Symbol::Constant(_) => true,
-            Symbol::Variable(_) | Symbol::Parameter(_) => true,
-            Symbol::Function { .. } | Symbol::Unknown => true,
-            _ => false,
-        }
+        matches!(
+            self,
+            Symbol::Fixed(Fixed::Plus | Fixed::Minus | Fixed::Open)
+                | Symbol::Number { .. }
+                | Symbol::Constant(_)
+                | Symbol::Variable(_)
+                | Symbol::Parameter(_)
+                | Symbol::Function { .. }
+                | Symbol::Unknown
+        )
     }
 
     /// Whether it counts as an operation within a constraint or a body.
     pub fn operates(self) -> bool
         ensures { result ≡ operates self }
     {
-        match self {
-            Symbol::Fixed(Fixed::Plus | Fixed::Minus | Fixed::Star) => true,
-            Symbol::Fixed(Fixed::Slash | Fixed::Caret) => true,
-            Symbol::Function { .. } => true,
-            _ => false,
-        }
+        matches!(
+            self,
+            Symbol::Fixed(Fixed::Plus | Fixed::Minus | Fixed::Star | Fixed::Slash | Fixed::Caret)
+                | Symbol::Function { .. }
+        )
     }
 
     /// Whether it is `-`.
     pub fn is_minus(self) -> bool
         ensures { result ≡ is_minus self }
     {
-        match self {
-            Symbol::Fixed(Fixed::Minus) => true,
-            _ => false,
-        }
+        matches!(self, Symbol::Fixed(Fixed::Minus))
     }
 }

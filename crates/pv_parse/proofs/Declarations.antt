@@ -1,6 +1,6 @@
 -- The declarations, found token by token, are those of the whole text.
-use Rattle.std.proofs.Common.{length, arith, ◌≡◌, ℕ, ◌∙◌, Bool, true, false, List, [], ◌∷◌, ◌++◌, map, refl, sym, ap, subst, append_assoc, Option, Some, None, Ok, if◌then◌else◌, option_to_list}
-use Rattle.std.proofs.lemmas.List.{append-nil, length-append, map-append}
+use Rattle.std.proofs.Common.{length, ◌≡◌, ℕ, ◌∙◌, Bool, true, false, List, [], ◌∷◌, ◌++◌, map, refl, sym, ap, subst, append_assoc, Option, Some, None, Ok, if◌then◌else◌, option_to_list}
+use Rattle.std.proofs.lemmas.List.{append-nil, length-map, map-append}
 use Rattle.pv_expr.specs.declared.domain.Bound.{Bound}
 use Rattle.pv_expr.specs.declared.domain.Domain.{Domain}
 use Rattle.pv_grammar.specs.declared.counts.Counts.{Counts}
@@ -11,9 +11,9 @@ use Rattle.pv_tokens.specs.Tokens.{IsNext}
 use Rattle.pv_parse.specs.declared.given.Awaited.{Awaited}
 use Rattle.pv_parse.specs.declared.given.Awaited.TheVariants.{Lower, Upper, Neither}
 use Rattle.pv_parse.specs.declared.given.Given.{Given}
-use Rattle.pv_parse.specs.Declarations.{Mark, bracket_behind, bracket_of, declares, mark_of, own, starts_from}
+use Rattle.pv_parse.specs.Declarations.{Mark, bracket_of, declares, mark_of, own, starts_from}
 use Rattle.pv_parse.specs.Fractions.{HasFraction, HaveFractions}
-use Rattle.pv_parse.specs.Scopes.{Scoped, Variable, all_given_behind, bound_at, bounded, bounds_of, bracket_given, bracket_in, domain_given, domain_in, domain_of, followed, given_behind, name_of, nothing_given, scoped_behind, variable, variables_in, with_bound, with_last}
+use Rattle.pv_parse.specs.Scopes.{Scoped, Variable, all_given_behind, awaited_behind, bound_at, bounds_of, bracket_given, bracket_in, domain_behind, domain_given, domain_in, domain_of, followed, given_behind, name_of, nothing_given, nothing_scoped, scoped_behind, variable, variables_in, with_last}
 use Rattle.pv_parse.proofs.Fractions.{have_one}
 use Rattle.pv_grammar.specs.Standings.{is_minus}
 use Rattle.pv_parse.specs.ByCounts.{MarksToWithin}
@@ -22,15 +22,9 @@ use Rattle.pv_parse.specs.ByCounts.{MarksToWithin}
 
 pub marks_one : (t : List ℕ) (c : Counts) (from : ℕ) (ss : List Symbol) (marks : List Mark) (to : ℕ) (d : Counts) (x : Token) (s : Symbol) (e : Counts) →
     MarksToWithin t c from ss marks to d → IsNext t to x → counted d s ≡ Ok e → MarksToWithin t c from (ss ++ s ∷ []) (marks ++ mark_of t d.phase s x ∷ []) x.end e
-marks_one t c from [] marks to d x s e (none, same, is) next one = (
-  x,
-  e,
-  [],
-  subst (λ (k : ℕ). IsNext t k x) (sym same) next,
-  subst (λ (k : Counts). counted k s ≡ Ok e) (sym is) one,
-  ap (λ (z : List Mark). z ++ mark_of t d.phase s x ∷ []) none ∙ ap (λ (k : Counts). mark_of t k.phase s x ∷ []) (sym is),
-  (refl, refl, refl),
-)
+marks_one t c from [] marks to d x s e (none, same, is) next one =
+    let are : marks ++ mark_of t d.phase s x ∷ [] ≡ mark_of t c.phase s x ∷ [] = ap (λ (z : List Mark). z ++ mark_of t d.phase s x ∷ []) none ∙ ap (λ (k : Counts). mark_of t k.phase s x ∷ []) (sym is) in
+    (x, e, [], subst (λ (k : ℕ). IsNext t k x) (sym same) next, subst (λ (k : Counts). counted k s ≡ Ok e) (sym is) one, are, (refl, refl, refl))
 marks_one t c from (r ∷ ss) marks to d x s e (y, k, rest, next', one', are, more) next one =
     (y, k, rest ++ mark_of t d.phase s x ∷ [], next', one', ap (λ (z : List Mark). z ++ mark_of t d.phase s x ∷ []) are, marks_one t k y.end ss rest to d x s e more next one)
 
@@ -80,50 +74,36 @@ abbrev gave : List Mark → Given → Given
 gave [] g = g
 gave (m ∷ ms) g = gave ms (given_behind m.phase m.symbol m.start g)
 
-abbrev awaited_behind : List Bound → Awaited
-awaited_behind [] = Lower
-awaited_behind (lo ∷ []) = Upper
-awaited_behind (lo ∷ (hi ∷ more)) = Neither
+abbrev awaited_after : List Bound → Awaited
+awaited_after [] = Lower
+awaited_after (lo ∷ []) = Upper
+awaited_after (lo ∷ (hi ∷ more)) = Neither
 
 -- the domain is that of these bounds
-record Has (g : Given) (bs : List Bound) : Type 0 where
-  domain : g.domain ≡ domain_of bs
-  awaited : g.awaited ≡ awaited_behind bs
+record Has (d : Domain) (a : Awaited) (bs : List Bound) : Type 0 where
+  domain : d ≡ domain_of bs
+  awaited : a ≡ awaited_after bs
 
-with_one : (bs : List Bound) (b : Bound) (g : Given) → Has g bs → Has (with_bound g.awaited b g) (bs ++ b ∷ [])
-with_one [] b g h =
-    subst (λ (a : Awaited). Has (with_bound a b g) (b ∷ [])) (sym h.awaited) (record { domain = ap (λ (d : Domain). record { lo = b; hi = d.hi }) h.domain; awaited = refl })
-with_one (lo ∷ []) b g h =
-    subst (λ (a : Awaited). Has (with_bound a b g) (lo ∷ (b ∷ []))) (sym h.awaited) (record { domain = ap (λ (d : Domain). record { lo = d.lo; hi = b }) h.domain; awaited = refl })
-with_one (lo ∷ (hi ∷ more)) b g h =
-    subst (λ (a : Awaited). Has (with_bound a b g) (lo ∷ (hi ∷ (more ++ b ∷ [])))) (sym h.awaited) (record { domain = h.domain; awaited = h.awaited })
+abbrev HasOneMore : List Bound → Bound → Domain → Awaited → Type 0
+HasOneMore bs b d a = Has (domain_behind (Some b) a d) (awaited_behind (Some b) a) (bs ++ b ∷ [])
 
-with_option : (bs : List Bound) (o : Option Bound) (g : Given) → Has g bs → Has (bounded o g) (bs ++ option_to_list o)
-with_option bs None g h = subst (Has g) (sym (append-nil bs)) h
-with_option bs (Some b) g h = with_one bs b g h
+with_option : (bs : List Bound) (o : Option Bound) (d : Domain) (a : Awaited) → Has d a bs → Has (domain_behind o a d) (awaited_behind o a) (bs ++ option_to_list o)
+with_option bs None d a h = subst (Has d a) (sym (append-nil bs)) h
+with_option [] (Some b) d a h = subst (HasOneMore [] b d) (sym h.awaited) (record { domain = ap (λ (z : Domain). record { lo = b; hi = z.hi }) h.domain; awaited = refl })
+with_option (lo ∷ []) (Some b) d a h =
+    subst (HasOneMore (lo ∷ []) b d) (sym h.awaited) (record { domain = ap (λ (z : Domain). record { lo = z.lo; hi = b }) h.domain; awaited = refl })
+with_option (lo ∷ (hi ∷ more)) (Some b) d a h = subst (HasOneMore (lo ∷ (hi ∷ more)) b d) (sym h.awaited) (record { domain = h.domain; awaited = refl })
 
-bound_keeps : (a : Awaited) (b : Bound) (g : Given) → (with_bound a b g).bracket ≡ g.bracket
-bound_keeps Lower b g = refl
-bound_keeps Upper b g = refl
-bound_keeps Neither b g = refl
-
-bounded_keeps : (o : Option Bound) (g : Given) → (bounded o g).bracket ≡ g.bracket
-bounded_keeps None g = refl
-bounded_keeps (Some b) g = bound_keeps g.awaited b g
-
-gave_domain : (ms : List Mark) (g : Given) (bs : List Bound) → Has g bs → (gave ms g).domain ≡ domain_of (bs ++ bounds_of g.negative ms)
+gave_domain : (ms : List Mark) (g : Given) (bs : List Bound) → Has g.domain g.awaited bs → (gave ms g).domain ≡ domain_of (bs ++ bounds_of g.negative ms)
 gave_domain [] g bs h = h.domain ∙ ap domain_of (sym (append-nil bs))
 gave_domain (m ∷ ms) g bs h =
     let o = bound_at m.phase m.symbol g.negative in
-    let k = with_option bs o g h in
-    gave_domain ms (given_behind m.phase m.symbol m.start g) (bs ++ option_to_list o) (record { domain = k.domain; awaited = k.awaited })
+    gave_domain ms (given_behind m.phase m.symbol m.start g) (bs ++ option_to_list o) (with_option bs o g.domain g.awaited h)
     ∙ ap domain_of (append_assoc bs (option_to_list o) (bounds_of (is_minus m.symbol) ms))
 
 gave_bracket : (ms : List Mark) (g : Given) → (gave ms g).bracket ≡ bracket_of g.bracket ms
 gave_bracket [] g = refl
-gave_bracket (m ∷ ms) g =
-    gave_bracket ms (given_behind m.phase m.symbol m.start g)
-    ∙ ap (λ b. bracket_of (bracket_behind m.symbol m.start b) ms) (bounded_keeps (bound_at m.phase m.symbol g.negative) g)
+gave_bracket (m ∷ ms) g = gave_bracket ms (given_behind m.phase m.symbol m.start g)
 
 -- ---- What is written of each variable
 
@@ -171,16 +151,8 @@ all_brackets ms s e = all_given bracket_given bracket_in (λ name rest. gave_bra
 
 -- ---- As many domains as names
 
-changed_length : {X : Type 0} (f : X → X) (xs : List X) → length (with_last f xs) ≡ length xs
-changed_length f [] = refl
-changed_length f (x ∷ []) = refl
-changed_length f (x ∷ (y ∷ ys)) = let h = changed_length f (y ∷ ys) in omega (arith, h)
-
-length_step : (b : Bool) (m : Mark) (names : List (List ℕ)) (given : List Given) → length names ≡ length given →
-    length (if b then names ++ m.bytes ∷ [] else names) ≡ length (if b then given ++ nothing_given ∷ [] else with_last (given_behind m.phase m.symbol m.start) given)
-length_step true m names given h = omega (arith, h, length-append names (m.bytes ∷ []), length-append given (nothing_given ∷ []))
-length_step false m names given h = h ∙ sym (changed_length (given_behind m.phase m.symbol m.start) given)
-
-pub same_lengths : (ms : List Mark) (s : Scoped) → length s.names ≡ length s.given → length (scoped_behind ms s).names ≡ length (scoped_behind ms s).given
-same_lengths [] s h = h
-same_lengths (m ∷ ms) s h = same_lengths ms (followed m s) (length_step (declares m.phase m.symbol) m s.names s.given h)
+pub same_lengths : (ms : List Mark) (s : Scoped) → s ≡ nothing_scoped → length (scoped_behind ms s).names ≡ length (scoped_behind ms s).given
+same_lengths ms s e =
+    ap length (all_names ms s ∙ ap (λ (z : Scoped). z.names ++ map name_of (variables_in ms)) e)
+    ∙ (length-map (variables_in ms) name_of ∙ (sym (length-map (variables_in ms) domain_in)
+    ∙ (sym (ap length (all_domains ms s (ap (λ (z : Scoped). z.given) e))) ∙ length-map (scoped_behind ms s).given domain_given)))

@@ -1,18 +1,15 @@
 pub mod ByLimits
 pub mod ByTrees
-pub mod Calls
 pub mod Closings
 pub mod Continued
 pub mod Decided
 pub mod Declarations
-pub mod Distinct
 pub mod Fractions
-pub mod Heights
 pub mod KnownNames
 pub mod Limited
 pub mod Meant
 pub mod NameBytes
-pub mod Numbered
+pub mod Naming
 pub mod OneSpelling
 pub mod Outcomes
 pub mod Pieces
@@ -24,3 +21,4 @@ pub mod Starts
 pub mod Tails
 pub mod TreeDomains
 pub mod TreeTexts
+pub mod TreeTokens

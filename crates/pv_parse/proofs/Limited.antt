@@ -1,20 +1,19 @@
--- The constraints of a code against the limits, one by one.
+-- A code is expanded part by part, and its constraints are within the limits, one by one.
 use Rattle.std.proofs.lemmas.Option.{slice_get-get_or}
-use Rattle.std.proofs.Common.{◌≡◌, ℕ, suc, List, [], ◌∷◌, ◌++◌, ◌+◌, ◌<◌, ◌≤◌, map, take, drop, get_or, slice_range, refl, ap, sym, subst, ◌∙◌, length, arith}
-use Rattle.std.specs.Prelude.{All, Some, None, Option, sum_by}
-use Rattle.std.proofs.lemmas.List.{length-append, map-append}
-use Rattle.std.proofs.Math.Seq.{get_or-append_seam}
+use Rattle.std.proofs.Common.{◌≡◌, ℕ, List, [], ◌∷◌, ◌++◌, ◌+◌, ◌<◌, ◌≤◌, map, take, drop, get_or, slice_range, refl, ap, sym, subst, ◌∙◌, length, arith}
+use Rattle.std.specs.Prelude.{Some, None, Option, sum_by}
+use Rattle.std.proofs.lemmas.List.{append_assoc, get_or_push, length-append, map-append, take_at}
 use Rattle.std.proofs.lemmas.List.Elements.{All-push}
-use Rattle.std.proofs.lemmas.List.Sums.{sum_by-append}
+use Rattle.std.proofs.lemmas.List.Sums.{sum_by_push}
 use Rattle.pv_expr.specs.declared.constraint.Constraint.{Constraint}
 use Rattle.pv_expr.specs.declared.constraint.Relation.{Relation}
 use Rattle.pv_code.specs.declared.code.Op.{Op}
-use Rattle.pv_code.specs.declared.code.Op.TheVariants.{Relate}
+use Rattle.pv_code.specs.declared.code.Op.TheVariants.{Define, Relate}
 use Rattle.pv_code.specs.declared.expand.Function.{Function}
-use Rattle.pv_code.specs.Expansion.{Meaning, Sides, Stand, constraints_behind, constraints_of, part_sides, sides_of}
-use Rattle.pv_code.specs.Sizes.{AreMeasured, AreWithin, IsFirstLarge, IsRoom, IsShallow, nodes_of}
-use Rattle.pv_code.proofs.Building.{length-map, take-exact}
-use Rattle.pv_code.proofs.Constraints.{Made, drop-at}
+use Rattle.pv_code.specs.Expansion.{IsValue, KeepsBody, Meaning, Sides, Stand, body_meaning, constraints_behind, constraints_of, part_sides, sides_of}
+use Rattle.pv_code.specs.Sizes.{AreMeasured, IsMeasured, AreWithin, IsFirstLarge, IsRoom, IsShallow, nodes_of}
+use Rattle.pv_code.proofs.Building.{length-map}
+use Rattle.pv_code.proofs.Constraints.{IsPart, Made, made-at, made-constraint, made-function, part-more, part-none}
 use Rattle.pv_grammar.specs.declared.cause.Cause.TheVariants.{TooLarge}
 use Rattle.pv_parse.specs.declared.refused.ParseRefused.{ParseRefused}
 use Rattle.pv_parse.specs.declared.refused.ParseRefused.TheVariants.{Memory, Fault}
@@ -22,73 +21,93 @@ use Rattle.pv_parse.specs.ByItems.{IsAt, IsAtStart, IsLargeAt}
 
 -- ---- Sums and limits of lists
 
-all-last : (a : List Sides) (s : Sides) → All IsShallow (a ++ s ∷ []) → IsShallow s
-all-last a s h = subst (λ (z : Sides). IsShallow z) (get_or-append_seam a s [] s) (h (length a) s (omega (arith, length-append a (s ∷ []))))
-
 -- the constraints so far are within the limits, and have so many nodes
-pub record IsRoomed (cs : List Constraint) (nodes : ℕ) : Type 0 where
-  pub total : nodes ≡ sum_by nodes_of (map sides_of cs)
-  pub few : nodes ≤ 65536
-  pub shallow : All IsShallow (map sides_of cs)
+pub record IsRoomed (sides : List Sides) (nodes : ℕ) : Type 0 where
+  pub total : nodes ≡ sum_by nodes_of sides
+  pub within : AreWithin sides
 
-pub roomed-none : (cs : List Constraint) → cs ≡ [] → IsRoomed cs 0
-roomed-none [] e = record { total = refl; few = omega arith; shallow = λ k d h. absurd (omega (arith, h)) }
+pub roomed-none : (cs : List Constraint) → cs ≡ [] → IsRoomed (map sides_of cs) 0
+roomed-none [] e = record { total = refl; within = record { few_nodes = omega arith; shallow = λ k d h. absurd (omega (arith, h)) } }
 roomed-none (c ∷ cs) e = absurd (omega (arith, ap length e))
 
-pub roomed-more : (cs cs' : List Constraint) (c : Constraint) (s : Sides) (nodes with_it : ℕ) → IsRoomed cs nodes → sides_of c ≡ s → IsRoom nodes s (Some with_it) → cs' ≡ cs ++ c ∷ [] → IsRoomed cs' with_it
-roomed-more cs cs' c s nodes with_it room means more e = subst (λ (z : List Constraint). IsRoomed z with_it) (sym e) (record {
-  total =
-      more.1 ∙ ap (λ k. k + nodes_of s) room.total ∙ ap (λ (z : Sides). sum_by nodes_of (map sides_of cs) + nodes_of z) (sym means) ∙ omega arith
-      ∙ sym (sum_by-append nodes_of (map sides_of cs) (sides_of c ∷ [])) ∙ ap (sum_by nodes_of) (sym (map-append sides_of cs (c ∷ [])));
-  few = more.2;
-  shallow =
-      subst (λ (z : List Sides). All IsShallow z) (sym (map-append sides_of cs (c ∷ [])))
-      (All-push IsShallow (map sides_of cs) (sides_of c) room.shallow (subst (λ (z : Sides). IsShallow z) (sym means) more.0));
-})
+roomed-more : (before : List Sides) (s : Sides) (nodes with_it : ℕ) → IsRoomed before nodes → IsRoom nodes s (Some with_it) → IsRoomed (before ++ s ∷ []) with_it
+roomed-more before s nodes with_it room more =
+    let all : with_it ≡ sum_by nodes_of (before ++ s ∷ []) = more.1 ∙ ap (λ k. k + nodes_of s) room.total ∙ sym (sum_by_push nodes_of before s) in
+    record { total = all; within = record { few_nodes = subst (λ k. k ≤ 65536) all more.2; shallow = All-push IsShallow before s room.within.shallow more.0 } }
 
-pub roomed-same : (cs cs' : List Constraint) (nodes nodes' : ℕ) → cs' ≡ cs → nodes' ≡ nodes → IsRoomed cs nodes → IsRoomed cs' nodes'
-roomed-same cs cs' nodes nodes' a b room = subst (λ (z : List Constraint). IsRoomed z nodes') (sym a) (subst (λ (k : ℕ). IsRoomed cs k) (sym b) room)
-
-pub roomed-within : (cs : List Constraint) (nodes : ℕ) (all : List Sides) → IsRoomed cs nodes → map sides_of cs ≡ all → AreWithin all
-roomed-within cs nodes all room e = subst (λ (z : List Sides). AreWithin z) e (record { few_nodes = let t = room.total in let f = room.few in omega (arith, t, f); shallow = room.shallow })
-
-take-front : (before rest : List Sides) → take (length before) (before ++ rest) ≡ before
-take-front before rest = take-exact (length before) before rest refl
-
-take-next : (before : List Sides) (s : Sides) (rest : List Sides) → take (length before + 1) (before ++ s ∷ rest) ≡ before ++ s ∷ []
-take-next [] s rest = refl
-take-next (b ∷ before) s rest =
-    let next : suc (length before) + 1 ≡ suc (length before + 1) = omega arith in
-    ap (λ k. take k (b ∷ (before ++ s ∷ rest))) next ∙ ap (λ z. b ∷ z) (take-next before s rest)
-
-first-large : (before : List Sides) (s : Sides) (rest all : List Sides) (nodes : ℕ) → before ++ s ∷ rest ≡ all → AreWithin before → nodes ≡ sum_by nodes_of before → IsRoom nodes s None → IsFirstLarge all (length before)
-first-large before s rest all nodes e within total none = subst (λ (z : List Sides). IsFirstLarge z (length before)) e (record {
+first-large : (before : List Sides) (s : Sides) (rest : List Sides) (nodes : ℕ) → IsRoomed before nodes → IsRoom nodes s None → IsFirstLarge (before ++ s ∷ rest) (length before)
+first-large before s rest nodes room none = record {
   present = omega (arith, length-append before (s ∷ rest));
-  before = subst (λ (z : List Sides). AreWithin z) (sym (take-front before (s ∷ rest))) within;
+  before = subst (λ (z : List Sides). AreWithin z) (sym (take_at before (s ∷ rest) (length before) refl)) room.within;
   with_it = λ more.
-      let whole = subst (λ (z : List Sides). AreWithin z) (take-next before s rest) more in
-      none (all-last before s whole.shallow, (let few = whole.few_nodes in let sums = sum_by-append nodes_of before (s ∷ []) in omega (arith, few, sums, total)));
-})
+      let next = ap (take (length before + 1)) (sym (append_assoc before (s ∷ []) rest)) ∙ take_at (before ++ s ∷ []) rest (length before + 1) (length-append before (s ∷ [])) in
+      let whole = subst (λ (z : List Sides). AreWithin z) next more in
+      none (
+        subst (λ (z : Sides). IsShallow z) (get_or_push before s s (length before) refl) (whole.shallow (length before) s (omega (arith, length-append before (s ∷ [])))),
+        omega (arith, whole.few_nodes, sum_by_push nodes_of before s, room.total),
+      );
+}
 
--- of the functions' own meanings
-pub made-means : (fs : List Function) (code : List Op) (from i : ℕ) (cs : List Constraint) (s : Sides) (r : Relation) (made : Made fs code from i cs) →
-    ((ms : List Meaning) → Stand fs ms → s ≡ part_sides ms (slice_range code from i) r) → s ≡ part_sides made.ms (slice_range code from i) r
-made-means fs code from i cs s r made means = means made.ms made.stand
+-- ---- What is expanded so far
 
-pub room-at : (fs : List Function) (code : List Op) (from i : ℕ) (cs : List Constraint) (nodes : ℕ) (o : Option ℕ) (r : Relation) (made : Made fs code from i cs) →
-    ((ms : List Meaning) → AreMeasured fs ms → (r : Relation) → IsRoom nodes (part_sides ms (slice_range code from i) r) o) → IsRoom nodes (part_sides made.ms (slice_range code from i) r) o
-room-at fs code from i cs nodes o r made room = room made.ms made.measured r
+pub record IsExpanded (fs : List Function) (code : List Op) (from i : ℕ) (cs : List Constraint) (nodes : ℕ) : Type 0 where
+  pub part : IsPart code from i
+  pub made : Made fs code from cs
+  pub room : IsRoomed (map sides_of cs) nodes
+
+pub expanded-same : {fs fs' : List Function} {code : List Op} {from from' i : ℕ} {cs cs' : List Constraint} {nodes nodes' : ℕ} → fs' ≡ fs → from' ≡ from → cs' ≡ cs → nodes' ≡ nodes →
+    IsExpanded fs code from i cs nodes → IsExpanded fs' code from' i cs' nodes'
+expanded-same {fs = fs} {fs' = fs'} {code = code} {from = from} {from' = from'} {i = i} {cs = cs} {cs' = cs'} {nodes = nodes} {nodes' = nodes'} a b c d so =
+    subst (λ (z : List Function). IsExpanded z code from' i cs' nodes') (sym a)
+    (subst (λ (z : ℕ). IsExpanded fs code z i cs' nodes') (sym b)
+    (subst (λ (z : List Constraint). IsExpanded fs code from i z nodes') (sym c) (subst (λ (z : ℕ). IsExpanded fs code from i cs z) (sym d) so)))
+
+pub value-next : {fs : List Function} {code : List Op} {from i : ℕ} {cs : List Constraint} {nodes : ℕ} (d : Op) → i < length code → IsValue (get_or code i d) → IsExpanded fs code from i cs nodes →
+    IsExpanded fs code from (i + 1) cs nodes
+value-next {code = code} {from = from} {i = i} d h v so = record { part = part-more code from i d h v so.part; made = so.made; room = so.room }
+
+pub function-next : (seen fs fs' : List Function) (f : Function) (code : List Op) (from i : ℕ) (cs : List Constraint) (nodes : ℕ) (d : Op) → i < length code → get_or code i d ≡ Define →
+    IsExpanded fs code from i cs nodes → seen ≡ fs → KeepsBody seen (slice_range code from i) f →
+    ((ms : List Meaning) → AreMeasured seen ms → IsMeasured f.measure (body_meaning ms (slice_range code from i))) → fs' ≡ fs ++ f ∷ [] → IsExpanded fs' code (i + 1) (i + 1) cs nodes
+function-next seen fs fs' f code from i cs nodes d h is so same keeps sizes e =
+    let part = slice_range code from i in
+    record {
+      part = part-none code (i + 1);
+      made = made-function fs fs' f code from i cs d h is so.part so.made (subst (λ (z : List Function). KeepsBody z part f) same keeps)
+          (subst (λ (z : List Function). (ms : List Meaning) → AreMeasured z ms → IsMeasured f.measure (body_meaning ms part)) same sizes) e;
+      room = so.room;
+    }
+
+-- how many nodes there are with the sides of a part, over functions with these meanings
+abbrev pub FindsRoom : List Function → List Op → ℕ → Option ℕ → Type 0
+FindsRoom fs part nodes o = (ms : List Meaning) → AreMeasured fs ms → (r : Relation) → IsRoom nodes (part_sides ms part r) o
+
+abbrev pub HasSides : List Function → List Op → Relation → Constraint → Type 0
+HasSides fs part r c = (ms : List Meaning) → Stand fs ms → sides_of c ≡ part_sides ms part r
+
+pub constraint-next : (seen seen' fs : List Function) (code : List Op) (from i : ℕ) (cs cs' : List Constraint) (c : Constraint) (nodes with_it : ℕ) (o : Option ℕ) (r : Relation) (d : Op) → i < length code →
+    get_or code i d ≡ Relate r → IsExpanded fs code from i cs nodes → seen ≡ fs → FindsRoom seen (slice_range code from i) nodes o → o ≡ Some with_it → seen' ≡ fs →
+    HasSides seen' (slice_range code from i) r c → cs' ≡ cs ++ c ∷ [] → IsExpanded fs code (i + 1) (i + 1) cs' with_it
+constraint-next seen seen' fs code from i cs cs' c nodes with_it o r d h is so same room some same' sides e =
+    let part = slice_range code from i in
+    let sides' = subst (λ (z : List Function). HasSides z part r c) same' sides in
+    let room' = subst (λ (z : List Function). FindsRoom z part nodes o) same room so.made.ms so.made.measured r in
+    record {
+      part = part-none code (i + 1);
+      made = made-constraint fs code from i cs cs' c r d h is so.part so.made sides' e;
+      room = subst (λ (z : List Sides). IsRoomed z with_it) (ap (λ (z : Sides). map sides_of cs ++ z ∷ []) (sym (sides' so.made.ms so.made.stand)) ∙ sym (map-append sides_of cs (c ∷ [])) ∙ ap (map sides_of) (sym e))
+          (roomed-more (map sides_of cs) (part_sides so.made.ms part r) nodes with_it so.room (subst (IsRoom nodes (part_sides so.made.ms part r)) some room'));
+    }
 
 -- the constraint that ends here is the first that is too large
-pub made-large : (fs : List Function) (code : List Op) (from i : ℕ) (cs : List Constraint) (nodes : ℕ) (r : Relation) (d : Op) → i < length code → get_or code i d ≡ Relate r →
-    Made fs code from i cs → IsRoomed cs nodes → ((ms : List Meaning) → AreMeasured fs ms → (r : Relation) → IsRoom nodes (part_sides ms (slice_range code from i) r) None) →
-    IsFirstLarge (constraints_of code) (length cs)
-made-large fs code from i cs nodes r d h is made room none =
+pub first-too-large : (seen fs : List Function) (code : List Op) (from i : ℕ) (cs : List Constraint) (nodes : ℕ) (o : Option ℕ) (r : Relation) (d : Op) → i < length code → get_or code i d ≡ Relate r →
+    IsExpanded fs code from i cs nodes → seen ≡ fs → FindsRoom seen (slice_range code from i) nodes o → o ≡ None → IsFirstLarge (constraints_of code) (length cs)
+first-too-large seen fs code from i cs nodes o r d h is so same room none =
+    let part = slice_range code from i in
+    let room' = subst (λ (z : List Function). FindsRoom z part nodes o) same room so.made.ms so.made.measured r in
     subst (λ (k : ℕ). IsFirstLarge (constraints_of code) k) (length-map sides_of cs)
-    (first-large (map sides_of cs) (part_sides made.ms (slice_range code from i) r) (constraints_behind made.ms [] (drop (i + 1) code)) (constraints_of code) nodes
-    (ap (λ (o : Op). map sides_of cs ++ constraints_behind made.ms (slice_range code from i) (o ∷ drop (i + 1) code)) (sym is)
-    ∙ ap (λ z. map sides_of cs ++ constraints_behind made.ms (slice_range code from i) z) (sym (drop-at code i d h)) ∙ made.whole)
-    (roomed-within cs nodes (map sides_of cs) room refl) room.total (none made.ms made.measured r))
+    (subst (λ (z : List Sides). IsFirstLarge z (length (map sides_of cs))) (made-at fs code from i cs d (Relate r) h is so.part so.made)
+    (first-large (map sides_of cs) (part_sides so.made.ms part r) (constraints_behind so.made.ms [] (drop (i + 1) code)) nodes so.room (subst (IsRoom nodes (part_sides so.made.ms part r)) none room')))
 
 pub large-at : (starts : List ℕ) (code : List Op) (i : ℕ) (e : ParseRefused) → IsAtStart starts i e → IsFirstLarge (constraints_of code) i → IsLargeAt starts code e
 large-at starts code i Memory h f = tt

@@ -18,7 +18,7 @@ use Rattle.pv_tokens.proofs.Numerals.{inside}
 use Rattle.pv_tokens.proofs.Slices.{byte_in, length_slice}
 use Rattle.pv_parse.specs.Declarations.{declares}
 use Rattle.pv_parse.specs.Meanings.{Names}
-use Rattle.pv_parse.specs.Sentences.{IsNumberSymbol, StandsFor, bytes_of}
+use Rattle.pv_parse.specs.Sentences.{StandsFor, bytes_of}
 
 abbrev is_name : Kind → Bool
 is_name Name = true
@@ -55,22 +55,18 @@ abbrev pub is_declared : Symbol → Bool
 is_declared (Declared taken) = true
 is_declared s = false
 
-pub declares_is : (p : Phase) (s : Symbol) → declares p s ≡ true → is_declared s ≡ true
-declares_is Variables (Declared taken) e = refl
-declares_is p s e = absurd (false≢true e)
+pub declares_none : (p : Phase) (s : Symbol) → is_declared s ≡ false → declares p s ≡ false
+declares_none Variables (Declared taken) e = e
+declares_none p s e = refl
 
-other_symbol : (s k : Symbol) → s ≡ k → is_declared k ≡ false → is_declared s ≡ true → ⊥
-other_symbol s k e never is = false≢true (sym never ∙ (ap is_declared (sym e) ∙ is))
-
-number_symbol : (bytes : List ℕ) (s : Symbol) → IsNumberSymbol bytes s → is_declared s ≡ true → ⊥
-number_symbol bytes (Declared taken) h is = h
-number_symbol bytes s h is = false≢true is
+pub not_declared : {taken : Bool} {s : Symbol} → is_declared s ≡ false → Declared taken ≡ s → ⊥
+not_declared no_name e = false≢true (sym no_name ∙ sym (ap is_declared e))
 
 -- a symbol that is declared is a name's
-pub declared_name : (p : Phase) (n : Names) (bytes : List ℕ) (kind : Kind) (s : Symbol) → StandsFor p n bytes kind s → is_declared s ≡ true → kind ≡ Name
-declared_name p n bytes Name s e is = refl
-declared_name p n bytes Number s e is = absurd (number_symbol bytes s e is)
-declared_name p n bytes kind s e is = absurd (other_symbol s _ e refl is)
+pub declared_name : (p : Phase) (n : Names) (bytes : List ℕ) (kind : Kind) (taken : Bool) → StandsFor p n bytes kind (Declared taken) → kind ≡ Name
+declared_name p n bytes Name taken e = refl
+declared_name p n bytes Number taken e = absurd e
+declared_name p n bytes kind taken e = absurd (not_declared refl e)
 
 -- ---- Its bytes
 
@@ -93,8 +89,8 @@ name_ascii t i j n =
 
 pub declared_ascii : (t : List ℕ) (from : ℕ) (x : Token) (p : Phase) (n : Names) (s : Symbol) →
     IsNext t from x → StandsFor p n (bytes_of t x) x.kind s → (q : Phase) → declares q s ≡ true → IsAscii (bytes_of t x)
-declared_ascii t from x p n s next stands q e =
-    name_ascii t x.start x.end (name_in t x.start x.kind x.end next.longest.word (declared_name p n (bytes_of t x) x.kind s stands (declares_is q s e)))
+declared_ascii t from x p n (Declared taken) next stands q e = name_ascii t x.start x.end (name_in t x.start x.kind x.end next.longest.word (declared_name p n (bytes_of t x) x.kind taken stands))
+declared_ascii t from x p n s next stands q e = absurd (false≢true (sym (declares_none q s refl) ∙ e))
 
 -- ---- Places
 

@@ -1,5 +1,5 @@
 -- A text is one list of tokens for the grammar. So a text of the grammar has no first fault, and each other one has at most one.
-use Rattle.std.proofs.Common.{◌*◌, ◌++◌, ◌-◌, ◌^◌, ◌∙◌, ◌∷◌, ◌≡◌, ◌≤◌, List, None, Option, Some, [], ap, append_assoc, arith, refl, subst, sym, ℕ}
+use Rattle.std.proofs.Common.{◌*◌, ◌++◌, ◌-◌, ◌^◌, ◌∙◌, ◌∷◌, ◌≡◌, List, None, Option, Some, [], ap, append_assoc, arith, refl, subst, sym, ℕ}
 use Rattle.std.proofs.lemmas.List.{append-nil}
 use Rattle.pv_code.specs.declared.fraction.Fraction.{Fraction}
 use Rattle.pv_grammar.specs.declared.cause.Cause.{Cause}
@@ -9,7 +9,6 @@ use Rattle.pv_grammar.specs.declared.counts.Phase.TheVariants.{Sides}
 use Rattle.pv_grammar.specs.declared.symbol.Symbol.{Symbol}
 use Rattle.pv_grammar.specs.declared.symbol.Symbol.TheVariants.{Never, Number}
 use Rattle.pv_grammar.specs.Causes.{Begins, IsCause}
-use Rattle.pv_grammar.specs.Causes.IsCause.{beyond, named, not_allowed, unopened}
 use Rattle.pv_grammar.specs.Limits.{IsLimitedExpression}
 use Rattle.pv_grammar.specs.Productions.{IsExpression, expression_symbols}
 use Rattle.pv_grammar.specs.Standings.{Standing, first_in, standing_after, standing_behind}
@@ -18,7 +17,7 @@ use Rattle.pv_tokens.specs.declared.number.Decimal.{Decimal}
 use Rattle.pv_tokens.specs.declared.token.Kind.{Kind}
 use Rattle.pv_tokens.specs.declared.token.Kind.TheVariants.{Number as NumberKind, End}
 use Rattle.pv_tokens.specs.declared.token.Token.{Token}
-use Rattle.pv_tokens.specs.Numbers.{IsNumeral, IsRead, IsValue, TooWide}
+use Rattle.pv_tokens.specs.Numbers.{IsRead, IsValue}
 use Rattle.pv_tokens.specs.Tokens.{IsNext}
 use Rattle.pv_tokens.proofs.OneRatio.{one_lowest}
 use Rattle.pv_tokens.proofs.Powers.{least_power}
@@ -32,10 +31,9 @@ use Rattle.pv_parse.specs.Sentences.{IsExpressionText, IsNumberSymbol, MayRaise,
 
 one_value : (t : List ℕ) (v w : Fraction) → IsRead t (v.p, v.q) → IsRead t (w.p, w.q) → v ≡ w
 one_value t v w h k =
-    let same : h.decimal ≡ k.decimal = same_numeral t h.decimal k.decimal h.numeral k.numeral in
-    let value : IsValue h.decimal (w.p, w.q) = subst (λ (d : Decimal). IsValue d (w.p, w.q)) (sym same) k.value in
-    let both : (v.p ≡ w.p) × (v.q ≡ w.q) = one_lowest (h.decimal.digits * 10 ^ (h.decimal.up - h.decimal.down)) (10 ^ (h.decimal.down - h.decimal.up)) (v.p, v.q) (w.p, w.q) (let most : 1 ≤ 10 ^ (h.decimal.down - h.decimal.up) = least_power (h.decimal.down - h.decimal.up) in omega (arith, most)) h.value value in
-    λ i. record { p = both.0 i; q = both.1 i }
+    let value : IsValue h.decimal (w.p, w.q) = subst (λ (d : Decimal). IsValue d (w.p, w.q)) (same_numeral t k.decimal h.decimal k.numeral h.numeral) k.value in
+    let (ps, qs) = one_lowest (h.decimal.digits * 10 ^ (h.decimal.up - h.decimal.down)) (10 ^ (h.decimal.down - h.decimal.up)) (v.p, v.q) (w.p, w.q) (omega (arith, least_power (h.decimal.down - h.decimal.up))) h.value value in
+    λ i. record { p = ps i; q = qs i }
 
 one_exponent : (t : List ℕ) (e f : Option ℕ) → MayRaise t e → MayRaise t f → e ≡ f
 one_exponent t None None h k = refl
@@ -43,20 +41,12 @@ one_exponent t None (Some n) h k = absurd (h (n, k))
 one_exponent t (Some n) None h k = absurd (k (n, h))
 one_exponent t (Some n) (Some m) h k = ap (λ (x : ℕ). Some x) (h.value ∙ sym k.value)
 
-of_read : (t : List ℕ) (v : Fraction) (e : Option ℕ) → IsRead t (v.p, v.q) → MayRaise t e → (s : Symbol) → IsNumberSymbol t s → Number v e ≡ s
-of_read t v e h r (Number w f) k = let values : v ≡ w = one_value t v w h k.0 in let exponents : e ≡ f = one_exponent t e f r k.1 in λ i. Number (values i) (exponents i)
-of_read t v e h r (Never NumberTooWide) k = absurd (h.narrow (k h.decimal h.numeral))
-of_read t v e h r s k = absurd k
-
-of_wide : (t : List ℕ) → ((d : Decimal) → IsNumeral t d → TooWide d) → (s : Symbol) → IsNumberSymbol t s → Never NumberTooWide ≡ s
-of_wide t h (Number w f) k = absurd (k.0.narrow (h k.0.decimal k.0.numeral))
-of_wide t h (Never NumberTooWide) k = refl
-of_wide t h s k = absurd k
-
 one_number : (t : List ℕ) (s s' : Symbol) → IsNumberSymbol t s → IsNumberSymbol t s' → s ≡ s'
-one_number t (Number v e) s' h k = of_read t v e h.0 h.1 s' k
-one_number t (Never NumberTooWide) s' h k = of_wide t h s' k
-one_number t s s' h k = absurd h
+one_number t (Number v e) (Number w f) h k = let values = one_value t v w h.0 k.0 in let exponents = one_exponent t e f h.1 k.1 in λ i. Number (values i) (exponents i)
+one_number t (Number v e) (Never NumberTooWide) h k = absurd (h.0.narrow (k h.0.decimal h.0.numeral))
+one_number t (Never NumberTooWide) (Number w f) h k = absurd (k.0.narrow (h k.0.decimal k.0.numeral))
+one_number t (Never NumberTooWide) (Never NumberTooWide) h k = refl
+one_number t s s' h k = absurd (first_of (assumption (h, k)))
 
 -- a token stands for one symbol
 one_symbol : (p : Phase) (n : Names) (t : List ℕ) (kind : Kind) (s s' : Symbol) → StandsFor p n t kind s → StandsFor p n t kind s' → s ≡ s'
@@ -82,31 +72,16 @@ data Compared (t : List ℕ) (y : Standing) (xs ys : List Symbol) (to to' : ℕ)
 
 ahead_of_none : (t : List ℕ) (y : Standing) (n : Names) (from to : ℕ) (m : Names) (s : Symbol) (ys : List Symbol) (x : Token) → from ≡ to → n ≡ m →
     IsNext t from x → ¬ (x.kind ≡ End) → StandsFor y.phase n (bytes_of t x) x.kind s → Ahead t y [] (s ∷ ys) to m
-ahead_of_none t y n from to m s ys x e f next inside stands = record {
-  symbol = s;
-  rest = ys;
-  token = x;
-  cut = refl;
-  next = subst (λ (k : ℕ). IsNext t k x) e next;
-  inside = inside;
-  stands = subst (λ (k : Names). StandsFor y.phase k (bytes_of t x) x.kind s) f stands;
-}
+ahead_of_none t y n from to m s ys x e f next inside stands = record { symbol = s; rest = ys; token = x; cut = refl; next = rw e at next; inside = inside; stands = rw f at stands }
 
-ahead_behind : (t : List ℕ) (y : Standing) (s : Symbol) (xs ys : List Symbol) (to : ℕ) (m : Names) → Ahead t (standing_behind y s) xs ys to m → Ahead t y (s ∷ xs) (s ∷ ys) to m
-ahead_behind t y s xs ys to m a = record {
-  symbol = a.symbol;
-  rest = a.rest;
-  token = a.token;
-  cut = ap (λ (z : List Symbol). s ∷ z) a.cut;
-  next = a.next;
-  inside = a.inside;
-  stands = a.stands;
-}
+module _ (t : List ℕ) (y : Standing) (s : Symbol) where
+  ahead_behind : (xs ys : List Symbol) (to : ℕ) (m : Names) → Ahead t (standing_behind y s) xs ys to m → Ahead t y (s ∷ xs) (s ∷ ys) to m
+  ahead_behind xs ys to m a = record { symbol = a.symbol; rest = a.rest; token = a.token; cut = ap (λ (z : List Symbol). s ∷ z) a.cut; next = a.next; inside = a.inside; stands = a.stands }
 
-compared_behind : (t : List ℕ) (y : Standing) (s : Symbol) (xs ys : List Symbol) (to to' : ℕ) (m m' : Names) → Compared t (standing_behind y s) xs ys to to' m m' → Compared t y (s ∷ xs) (s ∷ ys) to to' m m'
-compared_behind t y s xs ys to to' m m' (alike e f g) = alike (ap (λ (z : List Symbol). s ∷ z) e) f g
-compared_behind t y s xs ys to to' m m' (shorter a) = shorter (ahead_behind t y s xs ys to m a)
-compared_behind t y s xs ys to to' m m' (longer a) = longer (ahead_behind t y s ys xs to' m' a)
+  compared_behind : (xs ys : List Symbol) (to to' : ℕ) (m m' : Names) → Compared t (standing_behind y s) xs ys to to' m m' → Compared t y (s ∷ xs) (s ∷ ys) to to' m m'
+  compared_behind xs ys to to' m m' (alike e f g) = alike (ap (λ (z : List Symbol). s ∷ z) e) f g
+  compared_behind xs ys to to' m m' (shorter a) = shorter (ahead_behind xs ys to m a)
+  compared_behind xs ys to to' m m' (longer a) = longer (ahead_behind ys xs to' m' a)
 
 -- two lists of tokens from one place are alike as far as both go
 compare : (t : List ℕ) (n : Names) (y : Standing) (from : ℕ) (xs : List Symbol) (to : ℕ) (m : Names) (ys : List Symbol) (to' : ℕ) (m' : Names) →
@@ -137,78 +112,61 @@ one_spelling t n y ss ss' (to, m, x, spelled, next, ends) (to', m', x', spelled'
 
 -- ---- First faults
 
--- what is spelled up to a fault does not go on as a text within the limits does
-fault_inside : (t : List ℕ) (known : Names) (start : Standing) (IsText IsLimited : List Symbol → Type 0) (byte : ℕ) (cause : Cause) (f : IsFirst t known start IsText IsLimited byte cause) (ss : List Symbol) →
-    Ahead t start f.before ss f.from f.names → Begins IsLimited ss → ⊥
-fault_inside t known start IsText IsLimited byte cause f ss a (rest, text) =
-    let p : Phase = (standing_after start f.before).phase in
-    let token : a.token ≡ f.token = one_next t f.from a.token f.token a.next f.next in
-    let stands : StandsFor p f.names (bytes_of t f.token) f.token.kind a.symbol = subst (λ (z : Token). StandsFor p f.names (bytes_of t z) z.kind a.symbol) token a.stands in
-    let symbol : a.symbol ≡ f.symbol = one_symbol p f.names (bytes_of t f.token) f.token.kind a.symbol f.symbol stands f.stands in
-    let cut : ss ++ rest ≡ (f.before ++ f.symbol ∷ []) ++ (a.rest ++ rest) =
-    ap (λ (z : List Symbol). z ++ rest) a.cut ∙ (append_assoc f.before (a.symbol ∷ a.rest) rest
-    ∙ (ap (λ (z : Symbol). f.before ++ z ∷ (a.rest ++ rest)) symbol ∙ sym (append_assoc f.before (f.symbol ∷ []) (a.rest ++ rest)))) in
-    f.none (a.rest ++ rest, subst IsLimited cut text)
-
--- a text of the grammar within the limits has no fault
-pub no_fault : (t : List ℕ) (known : Names) (start : Standing) (IsText IsLimited : List Symbol → Type 0) (ss : List Symbol) (byte : ℕ) (cause : Cause) → Spells t known start ss → IsLimited ss →
-    IsFirst t known start IsText IsLimited byte cause → ⊥
-no_fault t known start IsText IsLimited ss byte cause (to, m, y, spelled, next, ends) text f =
-    elim (compare t known start 0 f.before f.from f.names ss to m f.spelled spelled) [
-      | alike e g k ↦
-          f.unfinished
-          (ap (λ (z : Token). z.kind) (one_next t f.from f.token y f.next (subst (λ (z : ℕ). IsNext t z y) (sym g) next)) ∙ ends)
-          (subst IsLimited (sym e) text)
-      | shorter a ↦ fault_inside t known start IsText IsLimited byte cause f ss a ([], subst IsLimited (sym (append-nil ss)) text)
-      | longer a ↦ none_ahead t start ss f.before to m y next ends a
-    ]
-
 -- what is within the limits is a text
 abbrev pub IsPart : (List Symbol → Type 0) → (List Symbol → Type 0) → Type 0
 IsPart IsLimited IsText = (ss : List Symbol) → IsLimited ss → IsText ss
 
 one_cause : (IsText IsLimited : List Symbol → Type 0) → IsPart IsLimited IsText → (before : List Symbol) (p : Phase) (s : Symbol) (cause cause' : Cause) → IsCause IsText IsLimited before p s cause → IsCause IsText IsLimited before p s cause' → cause ≡ cause'
-one_cause IsText IsLimited part before p s cause cause' (not_allowed no_text is) (not_allowed no_text' is') = is ∙ sym is'
-one_cause IsText IsLimited part before p s cause cause' (not_allowed no_text is) (beyond begins none opened is') = absurd (no_text begins)
-one_cause IsText IsLimited part before p s cause cause' (not_allowed no_text is) (unopened begins none sign is') = absurd (no_text begins)
-one_cause IsText IsLimited part before p s cause cause' (not_allowed no_text is) (named limited is') = absurd (no_text (limited.0, part _ limited.1))
-one_cause IsText IsLimited part before p s cause cause' (beyond begins none opened is) (not_allowed no_text is') = absurd (no_text begins)
-one_cause IsText IsLimited part before p s cause cause' (beyond begins none opened is) (beyond begins' none' opened' is') = is ∙ sym is'
-one_cause IsText IsLimited part before p s cause cause' (beyond begins none opened is) (unopened begins' none' sign is') = absurd (opened sign)
-one_cause IsText IsLimited part before p s cause cause' (beyond begins none opened is) (named limited is') = absurd (none limited)
-one_cause IsText IsLimited part before p s cause cause' (unopened begins none sign is) (not_allowed no_text is') = absurd (no_text begins)
-one_cause IsText IsLimited part before p s cause cause' (unopened begins none sign is) (beyond begins' none' opened is') = absurd (opened sign)
-one_cause IsText IsLimited part before p s cause cause' (unopened begins none sign is) (unopened begins' none' sign' is') = is ∙ sym is'
-one_cause IsText IsLimited part before p s cause cause' (unopened begins none sign is) (named limited is') = absurd (none limited)
-one_cause IsText IsLimited part before p s cause cause' (named limited is) (not_allowed no_text is') = absurd (no_text (limited.0, part _ limited.1))
-one_cause IsText IsLimited part before p s cause cause' (named limited is) (beyond begins none opened is') = absurd (none limited)
-one_cause IsText IsLimited part before p s cause cause' (named limited is) (unopened begins none sign is') = absurd (none limited)
-one_cause IsText IsLimited part before p s cause cause' (named limited is) (named limited' is') = is ∙ sym is'
+one_cause IsText IsLimited part before p s cause cause' h k = grind arith
 
-fault_there : (t : List ℕ) (known : Names) (start : Standing) (IsText IsLimited : List Symbol → Type 0) → IsPart IsLimited IsText → (byte byte' : ℕ) (cause cause' : Cause) (f : IsFirst t known start IsText IsLimited byte cause)
-    (g : IsFirst t known start IsText IsLimited byte' cause') → f.before ≡ g.before → f.from ≡ g.from → f.names ≡ g.names → (byte ≡ byte') × (cause ≡ cause')
-fault_there t known start IsText IsLimited part byte byte' cause cause' f g e k l =
-    let p : Phase = (standing_after start f.before).phase in
-    let token : g.token ≡ f.token = one_next t f.from g.token f.token (subst (λ (z : ℕ). IsNext t z g.token) (sym k) g.next) f.next in
-    let stands : StandsFor p f.names (bytes_of t f.token) f.token.kind g.symbol =
-    subst (λ (z : Names). StandsFor p z (bytes_of t f.token) f.token.kind g.symbol) (sym l)
-    (subst (λ (z : List Symbol). StandsFor (standing_after start z).phase g.names (bytes_of t f.token) f.token.kind g.symbol) (sym e)
-    (subst (λ (z : Token). StandsFor (standing_after start g.before).phase g.names (bytes_of t z) z.kind g.symbol) token g.stands)) in
-    let symbol : g.symbol ≡ f.symbol = one_symbol p f.names (bytes_of t f.token) f.token.kind g.symbol f.symbol stands f.stands in
-    let because : IsCause IsText IsLimited f.before p f.symbol cause' =
-    subst (λ (z : List Symbol). IsCause IsText IsLimited z (standing_after start z).phase f.symbol cause') (sym e)
-    (subst (λ (z : Symbol). IsCause IsText IsLimited g.before (standing_after start g.before).phase z cause') symbol g.because) in
-    (f.place ∙ (ap (λ (z : Token). z.start) (sym token) ∙ sym g.place), one_cause IsText IsLimited part f.before p f.symbol cause cause' f.because because)
+module _ (t : List ℕ) (known : Names) (start : Standing) (IsText IsLimited : List Symbol → Type 0) where
+  -- what is spelled up to a fault does not go on as a text within the limits does
+  fault_inside : (byte : ℕ) (cause : Cause) (f : IsFirst t known start IsText IsLimited byte cause) (ss : List Symbol) → Ahead t start f.before ss f.from f.names → Begins IsLimited ss → ⊥
+  fault_inside byte cause f ss a (rest, text) =
+      let p : Phase = (standing_after start f.before).phase in
+      let token : a.token ≡ f.token = one_next t f.from a.token f.token a.next f.next in
+      let symbol : a.symbol ≡ f.symbol =
+      one_symbol p f.names (bytes_of t f.token) f.token.kind a.symbol f.symbol (subst (λ (z : Token). StandsFor p f.names (bytes_of t z) z.kind a.symbol) token a.stands) f.stands in
+      let cut : ss ++ rest ≡ (f.before ++ f.symbol ∷ []) ++ (a.rest ++ rest) =
+      ap (λ (z : List Symbol). z ++ rest) a.cut ∙ (append_assoc f.before (a.symbol ∷ a.rest) rest
+      ∙ (ap (λ (z : Symbol). f.before ++ z ∷ (a.rest ++ rest)) symbol ∙ sym (append_assoc f.before (f.symbol ∷ []) (a.rest ++ rest)))) in
+      f.none (a.rest ++ rest, subst IsLimited cut text)
 
--- two first faults of one text are at one token, for one cause
-pub one_fault : (t : List ℕ) (known : Names) (start : Standing) (IsText IsLimited : List Symbol → Type 0) → IsPart IsLimited IsText → (byte byte' : ℕ) (cause cause' : Cause) → IsFirst t known start IsText IsLimited byte cause →
-    IsFirst t known start IsText IsLimited byte' cause' → (byte ≡ byte') × (cause ≡ cause')
-one_fault t known start IsText IsLimited part byte byte' cause cause' f g =
-    elim (compare t known start 0 f.before f.from f.names g.before g.from g.names f.spelled g.spelled) [
-      | alike e k l ↦ fault_there t known start IsText IsLimited part byte byte' cause cause' f g e k l
-      | shorter a ↦ absurd (fault_inside t known start IsText IsLimited byte cause f g.before a (g.closes.rest, g.closes.text))
-      | longer a ↦ absurd (fault_inside t known start IsText IsLimited byte' cause' g f.before a (f.closes.rest, f.closes.text))
-    ]
+  -- a text of the grammar within the limits has no fault
+  pub no_fault : (ss : List Symbol) (byte : ℕ) (cause : Cause) → Spells t known start ss → IsLimited ss → IsFirst t known start IsText IsLimited byte cause → ⊥
+  no_fault ss byte cause (to, m, y, spelled, next, ends) text f =
+      elim (compare t known start 0 f.before f.from f.names ss to m f.spelled spelled) [
+        | alike e g k ↦
+            f.unfinished
+            (ap (λ (z : Token). z.kind) (one_next t f.from f.token y f.next (subst (λ (z : ℕ). IsNext t z y) (sym g) next)) ∙ ends)
+            (subst IsLimited (sym e) text)
+        | shorter a ↦ fault_inside byte cause f ss a ([], subst IsLimited (sym (append-nil ss)) text)
+        | longer a ↦ none_ahead t start ss f.before to m y next ends a
+      ]
+
+  -- two first faults of one text are at one token, for one cause
+  module _ (part : IsPart IsLimited IsText) (byte byte' : ℕ) (cause cause' : Cause) (f : IsFirst t known start IsText IsLimited byte cause) (g : IsFirst t known start IsText IsLimited byte' cause') where
+    fault_there : f.before ≡ g.before → f.from ≡ g.from → f.names ≡ g.names → (byte ≡ byte') × (cause ≡ cause')
+    fault_there e k l =
+        let p : Phase = (standing_after start f.before).phase in
+        let token : g.token ≡ f.token = one_next t f.from g.token f.token (subst (λ (z : ℕ). IsNext t z g.token) (sym k) g.next) f.next in
+        let stands : StandsFor p f.names (bytes_of t f.token) f.token.kind g.symbol =
+        subst (λ (z : Names). StandsFor p z (bytes_of t f.token) f.token.kind g.symbol) (sym l)
+        (subst (λ (z : List Symbol). StandsFor (standing_after start z).phase g.names (bytes_of t f.token) f.token.kind g.symbol) (sym e)
+        (subst (λ (z : Token). StandsFor (standing_after start g.before).phase g.names (bytes_of t z) z.kind g.symbol) token g.stands)) in
+        let symbol : g.symbol ≡ f.symbol = one_symbol p f.names (bytes_of t f.token) f.token.kind g.symbol f.symbol stands f.stands in
+        let because : IsCause IsText IsLimited f.before p f.symbol cause' =
+        subst (λ (z : List Symbol). IsCause IsText IsLimited z (standing_after start z).phase f.symbol cause') (sym e)
+        (subst (λ (z : Symbol). IsCause IsText IsLimited g.before (standing_after start g.before).phase z cause') symbol g.because) in
+        (f.place ∙ (ap (λ (z : Token). z.start) (sym token) ∙ sym g.place), one_cause IsText IsLimited part f.before p f.symbol cause cause' f.because because)
+
+    pub one_fault : (byte ≡ byte') × (cause ≡ cause')
+    one_fault =
+        elim (compare t known start 0 f.before f.from f.names g.before g.from g.names f.spelled g.spelled) [
+          | alike e k l ↦ fault_there e k l
+          | shorter a ↦ absurd (fault_inside byte cause f g.before a (g.closes.rest, g.closes.text))
+          | longer a ↦ absurd (fault_inside byte' cause' g f.before a (f.closes.rest, f.closes.text))
+        ]
 
 -- ---- The names of an expression's variables
 

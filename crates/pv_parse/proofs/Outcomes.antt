@@ -1,13 +1,13 @@
 -- Each text means one system or has one fault, and never both; and so with expressions.
-use Rattle.std.proofs.Common.{◌≡◌, ℕ, zero, suc, ◌+◌, ◌<◌, ◌≤◌, ◌⊎◌, inl, inr, ⊎_elim, List, [], ◌∷◌, length, map, take, get_or, slice_get, Some, refl, sym, ap, ◌∙◌, subst, arith, ℤ, pos, ◌*ℤ◌, ◌≤ℤ◌, All, sum_by}
+use Rattle.std.proofs.Common.{◌≡◌, ℕ, zero, suc, ◌+◌, ◌<◌, ◌≤◌, ◌⊎◌, inl, inr, ⊎_elim, List, [], ◌∷◌, length, map, take, get_or, slice_get, Some, refl, sym, ap, ◌∙◌, subst, arith, pos, ◌*ℤ◌, All, sum_by}
 use Rattle.std.proofs.lemmas.Bool.{cases_lt, cases_order}
 use Rattle.std.proofs.lemmas.Int.{ints, by_lt_z}
 use Rattle.std.proofs.lemmas.List.{length-map, take_all}
-use Rattle.std.proofs.lemmas.List.Elements.{All-take}
+use Rattle.std.proofs.lemmas.List.Elements.{All-cons, All-take}
 use Rattle.std.proofs.lemmas.List.Sums.{sum_by-take-le}
 use Rattle.std.proofs.lemmas.Option.{slice_get-get_or}
 use Rattle.pv_expr.specs.declared.domain.Bound.{Bound}
-use Rattle.pv_expr.specs.declared.domain.Bound.TheVariants.{MinusOo, Value, PlusOo}
+use Rattle.pv_expr.specs.declared.domain.Bound.TheVariants.{MinusOo, Value}
 use Rattle.pv_expr.specs.declared.domain.Domain.{Domain}
 use Rattle.pv_expr.specs.Systems.{InOrder, Parts}
 use Rattle.pv_expr.specs.Terms.{depth_of}
@@ -61,8 +61,9 @@ one_marks t r r' =
     one_marking t (first_in Between) 0 (system_symbols r.tree []) r.marks r'.marks r.marked.0 r'.marked.0 r.marked.1
     (subst (λ (x : System). MarksTo t (first_in Between) 0 (system_symbols x []) r'.marks r'.marked.0) (sym (one_trees t r r')) r'.marked.1)
 
-same_domains : (t : List ℕ) (r r' : Reading t) → system_domains r.tree ≡ system_domains r'.tree
-same_domains t r r' = ap system_domains (one_trees t r r')
+-- what holds of one reading's tree and marks
+alike : (t : List ℕ) (P : System → List Mark → Type 0) (r r' : Reading t) → P r.tree r.marks → P r'.tree r'.marks
+alike t P r r' h = subst (λ (m : List Mark). P r'.tree m) (one_marks t r r') (subst (λ (x : System). P x r.marks) (one_trees t r r') h)
 
 -- and each text of a tree has one
 marks_of : (t : List ℕ) (n : Names) (y : Standing) (from : ℕ) (ss : List Symbol) (to : ℕ) (m : Names) → SpellsTo t n y from ss to m → (marks : List Mark) × MarksTo t y from ss marks to
@@ -90,23 +91,12 @@ good_not_bad (d ∷ ds) (b ∷ bs) byte h bad = ⊎_elim (λ (wrong, at). wrong 
 one_bad : (ds : List Domain) (bs : List ℕ) (byte byte' : ℕ) → IsFirstBad ds bs byte → IsFirstBad ds bs byte' → byte ≡ byte'
 one_bad [] bs byte byte' h k = absurd h
 one_bad (d ∷ ds) [] byte byte' h k = absurd h
-one_bad (d ∷ ds) (b ∷ bs) byte byte' h k =
-    ⊎_elim
-    (λ (wrong, at). ⊎_elim (λ (wrong', at'). at ∙ sym at') (λ (good', later'). absurd (wrong good')) k)
-    (λ (good, later). ⊎_elim (λ (wrong', at'). absurd (wrong' good)) (λ (good', later'). one_bad ds bs byte byte' later later') k)
-    h
-
-at_most_or : (m n : ℤ) → (m ≤ℤ n) ⊎ ¬ (m ≤ℤ n)
-at_most_or m n = by_lt_z n m (λ more. inr (λ h. omega (arith, ints, more, h))) (λ h. inl h)
+one_bad (d ∷ ds) (b ∷ bs) byte byte' h k = grind (arith, one_bad ds bs byte byte')
 
 in_order_or : (lo hi : Bound) → InOrder lo hi ⊎ ¬ InOrder lo hi
-in_order_or PlusOo hi = inr (λ h. h)
+in_order_or (Value p q) (Value r s) = by_lt_z (r *ℤ pos q) (p *ℤ pos s) (λ more. inr (λ h. omega (arith, ints, more, h))) (λ h. inl h)
 in_order_or MinusOo MinusOo = inr (λ h. h)
-in_order_or MinusOo (Value r s) = inl tt
-in_order_or MinusOo PlusOo = inl tt
-in_order_or (Value p q) MinusOo = inr (λ h. h)
-in_order_or (Value p q) (Value r s) = at_most_or (p *ℤ pos s) (r *ℤ pos q)
-in_order_or (Value p q) PlusOo = inl tt
+in_order_or lo hi = first_of (search (inl, tt), search inr)
 
 domains_or : (vs : List Variable) → AreGood (map domain_in vs) ⊎ ((byte : ℕ) × IsFirstBad (map domain_in vs) (map bracket_in vs) byte)
 domains_or [] = inl tt
@@ -146,26 +136,22 @@ one_large cs i j f g =
 shallow_or : (s : Sides) → IsShallow s ⊎ ¬ IsShallow s
 shallow_or s =
     ⊎_elim
-    (λ deep. inr (λ h. let low = h.left in omega (arith, deep, low)))
-    (λ left. ⊎_elim (λ deep. inr (λ h. let low = h.right in omega (arith, deep, low))) (λ right. inl (record { left = left; right = right })) (cases_lt 2000 (depth_of s.right)))
-    (cases_lt 2000 (depth_of s.left))
-
-head_shallow : (s : Sides) (cs : List Sides) → IsShallow s → All IsShallow cs → All IsShallow (s ∷ cs)
-head_shallow s cs h more zero d in_list = h
-head_shallow s cs h more (suc k) d in_list = more k d (omega (arith, in_list))
+    (λ fits. inl (record { left = fits.0; right = fits.1 }))
+    (λ deep. inr (λ h. deep (h.left, h.right)))
+    (let h : ((depth_of s.left ≤ 2000) × (depth_of s.right ≤ 2000)) ⊎ ¬ ((depth_of s.left ≤ 2000) × (depth_of s.right ≤ 2000)) = grind arith in h)
 
 all_shallow_or : (cs : List Sides) → All IsShallow cs ⊎ ¬ All IsShallow cs
 all_shallow_or [] = inl (λ k d in_list. absurd (omega (arith, in_list)))
 all_shallow_or (s ∷ cs) =
     ⊎_elim
-    (λ h. ⊎_elim (λ more. inl (head_shallow s cs h more)) (λ deep. inr (λ all. deep (λ k d in_list. all (suc k) d (omega (arith, in_list))))) (all_shallow_or cs))
+    (λ h. ⊎_elim (λ more. inl (All-cons IsShallow s cs h more)) (λ deep. inr (λ all. deep (λ k d in_list. all (suc k) d (omega (arith, in_list))))) (all_shallow_or cs))
     (λ deep. inr (λ all. deep (all 0 s (omega arith))))
     (shallow_or s)
 
 within_or : (cs : List Sides) → AreWithin cs ⊎ ¬ AreWithin cs
 within_or cs =
     ⊎_elim
-    (λ many. inr (λ h. let few = h.few_nodes in omega (arith, many, few)))
+    (λ many. inr (λ h. omega (arith, many, h.few_nodes)))
     (λ few. ⊎_elim (λ shallow. inl (record { few_nodes = few; shallow = shallow })) (λ deep. inr (λ h. deep h.shallow)) (all_shallow_or cs))
     (cases_lt 65536 (sum_by nodes_of cs))
 
@@ -221,48 +207,48 @@ system_either t =
     (cases_lt 65536 (length t))
 
 -- a fault of a tree's text is none of its tokens
-token_fault : (t : List ℕ) (r : Reading t) (byte : ℕ) (cause : Cause) → IsSystemFault t byte cause → ⊥
-token_fault t r byte cause f = no_fault t no_names (first_in Between) IsSystem IsLimitedSystem (system_symbols r.tree []) byte cause r.spelled.0 (r.tree, refl, r.spelled.1) f
+module _ (t : List ℕ) where
+  token_fault : (r : Reading t) (byte : ℕ) (cause : Cause) → IsSystemFault t byte cause → ⊥
+  token_fault r byte cause f = no_fault t no_names (first_in Between) IsSystem IsLimitedSystem (system_symbols r.tree []) byte cause r.spelled.0 (r.tree, refl, r.spelled.1) f
 
-pub system_apart : (t : List ℕ) (byte : ℕ) (cause : Cause) → IsSystemSentence t → IsFaultOf t byte cause → ⊥
-system_apart t byte cause s (long more at is) = let short = s.short in omega (arith, more, short)
-system_apart t byte cause s (first short f) = token_fault t s.reading byte cause f
-system_apart t byte cause s (bounds short r bad is) = good_not_bad (system_domains r.tree) (brackets_in r.marks) byte (subst AreGood (same_domains t s.reading r) s.good) bad
-system_apart t byte cause s (large short r good i f at is) =
-    within_not_large (system_constraints r.tree) i (subst (λ (x : System). AreWithin (system_constraints x)) (one_trees t s.reading r) s.within) f
+  bad_good : (r r' : Reading t) (byte : ℕ) → IsFirstBad (system_domains r.tree) (brackets_in r.marks) byte → AreGood (system_domains r'.tree) → ⊥
+  bad_good r r' byte bad good = good_not_bad (system_domains r.tree) (brackets_in r.marks) byte (alike t (λ x m. AreGood (system_domains x)) r' r good) bad
 
-same_some : {a b : ℕ} (xs : List ℕ) (i : ℕ) → slice_get xs i ≡ Some a → slice_get xs i ≡ Some b → a ≡ b
-same_some xs i h k = cc
+  pub system_apart : (byte : ℕ) (cause : Cause) → IsSystemSentence t → IsFaultOf t byte cause → ⊥
+  system_apart byte cause s (long more at is) = omega (arith, more, s.short)
+  system_apart byte cause s (first short f) = token_fault s.reading byte cause f
+  system_apart byte cause s (bounds short r bad is) = bad_good r s.reading byte bad s.good
+  system_apart byte cause s (large short r good i f at is) = within_not_large (system_constraints r.tree) i (alike t (λ x m. AreWithin (system_constraints x)) s.reading r s.within) f
 
-pub system_fault : (t : List ℕ) (byte byte' : ℕ) (cause cause' : Cause) → IsFaultOf t byte cause → IsFaultOf t byte' cause' → (byte ≡ byte') × (cause ≡ cause')
-system_fault t byte byte' cause cause' (long more at is) (long more' at' is') = (at ∙ sym at', is ∙ sym is')
-system_fault t byte byte' cause cause' (long more at is) (first short g) = absurd (omega (arith, more, short))
-system_fault t byte byte' cause cause' (long more at is) (bounds short r bad is') = absurd (omega (arith, more, short))
-system_fault t byte byte' cause cause' (long more at is) (large short r good i g at' is') = absurd (omega (arith, more, short))
-system_fault t byte byte' cause cause' (first short f) (long more at is) = absurd (omega (arith, more, short))
-system_fault t byte byte' cause cause' (first short f) (first short' g) = one_fault t no_names (first_in Between) IsSystem IsLimitedSystem system_limited.text byte byte' cause cause' f g
-system_fault t byte byte' cause cause' (first short f) (bounds short' r bad is) = absurd (token_fault t r byte cause f)
-system_fault t byte byte' cause cause' (first short f) (large short' r good i g at is) = absurd (token_fault t r byte cause f)
-system_fault t byte byte' cause cause' (bounds short r bad is) (long more at is') = absurd (omega (arith, more, short))
-system_fault t byte byte' cause cause' (bounds short r bad is) (first short' g) = absurd (token_fault t r byte' cause' g)
-system_fault t byte byte' cause cause' (bounds short r bad is) (bounds short' r' bad' is') = (
-  one_bad (system_domains r.tree) (brackets_in r.marks) byte byte' bad
-      (subst (λ (z : List Domain). IsFirstBad z (brackets_in r.marks) byte') (same_domains t r' r)
-      (subst (λ (z : List Mark). IsFirstBad (system_domains r'.tree) (brackets_in z) byte') (one_marks t r' r) bad')),
-  is ∙ sym is',
-)
-system_fault t byte byte' cause cause' (bounds short r bad is) (large short' r' good i g at is') =
-    absurd (good_not_bad (system_domains r.tree) (brackets_in r.marks) byte (subst AreGood (same_domains t r' r) good) bad)
-system_fault t byte byte' cause cause' (large short r good i f at is) (long more at' is') = absurd (omega (arith, more, short))
-system_fault t byte byte' cause cause' (large short r good i f at is) (first short' g) = absurd (token_fault t r byte' cause' g)
-system_fault t byte byte' cause cause' (large short r good i f at is) (bounds short' r' bad is') =
-    absurd (good_not_bad (system_domains r'.tree) (brackets_in r'.marks) byte' (subst AreGood (same_domains t r r') good) bad)
-system_fault t byte byte' cause cause' (large short r good i f at is) (large short' r' good' j g at' is') =
-    let same : j ≡ i = one_large (system_constraints r.tree) j i (subst (λ (x : System). IsFirstLarge (system_constraints x) j) (one_trees t r' r) g) f in (
-      same_some (starts_in r.marks) i at
-          (subst (λ (k : ℕ). slice_get (starts_in r.marks) k ≡ Some byte') same (subst (λ (z : List Mark). slice_get (starts_in z) j ≡ Some byte') (one_marks t r' r) at')),
-      is ∙ sym is',
-    )
+  -- faults of one sort are one
+  module _ (byte byte' : ℕ) where
+    one_bounds : (r r' : Reading t) → IsFirstBad (system_domains r.tree) (brackets_in r.marks) byte → IsFirstBad (system_domains r'.tree) (brackets_in r'.marks) byte' → byte ≡ byte'
+    one_bounds r r' bad bad' = one_bad (system_domains r'.tree) (brackets_in r'.marks) byte byte' (alike t (λ x m. IsFirstBad (system_domains x) (brackets_in m) byte) r r' bad) bad'
+
+    one_too_large : (r r' : Reading t) (i j : ℕ) → IsFirstLarge (system_constraints r.tree) i → slice_get (starts_in r.marks) i ≡ Some byte →
+        IsFirstLarge (system_constraints r'.tree) j → slice_get (starts_in r'.marks) j ≡ Some byte' → byte ≡ byte'
+    one_too_large r r' i j f at g at' =
+        let same : i ≡ j = one_large (system_constraints r'.tree) i j (alike t (λ x m. IsFirstLarge (system_constraints x) i) r r' f) g in
+        let here : slice_get (starts_in r'.marks) j ≡ Some byte = rw same at (alike t (λ x m. slice_get (starts_in m) i ≡ Some byte) r r' at) in
+        cc
+
+    pub system_fault : (cause cause' : Cause) → IsFaultOf t byte cause → IsFaultOf t byte' cause' → (byte ≡ byte') × (cause ≡ cause')
+    system_fault cause cause' (long more at is) (long more' at' is') = (at ∙ sym at', is ∙ sym is')
+    system_fault cause cause' (long more at is) (first short g) = absurd (omega arith)
+    system_fault cause cause' (long more at is) (bounds short r bad is') = absurd (omega arith)
+    system_fault cause cause' (long more at is) (large short r good i g at' is') = absurd (omega arith)
+    system_fault cause cause' (first short f) (long more at is) = absurd (omega arith)
+    system_fault cause cause' (first short f) (first short' g) = one_fault t no_names (first_in Between) IsSystem IsLimitedSystem system_limited.text byte byte' cause cause' f g
+    system_fault cause cause' (first short f) (bounds short' r bad is) = absurd (token_fault r byte cause f)
+    system_fault cause cause' (first short f) (large short' r good i g at is) = absurd (token_fault r byte cause f)
+    system_fault cause cause' (bounds short r bad is) (long more at is') = absurd (omega arith)
+    system_fault cause cause' (bounds short r bad is) (first short' g) = absurd (token_fault r byte' cause' g)
+    system_fault cause cause' (bounds short r bad is) (bounds short' r' bad' is') = (one_bounds r r' bad bad', is ∙ sym is')
+    system_fault cause cause' (bounds short r bad is) (large short' r' good i g at is') = absurd (bad_good r r' byte bad good)
+    system_fault cause cause' (large short r good i f at is) (long more at' is') = absurd (omega arith)
+    system_fault cause cause' (large short r good i f at is) (first short' g) = absurd (token_fault r byte' cause' g)
+    system_fault cause cause' (large short r good i f at is) (bounds short' r' bad' is') = absurd (bad_good r' r byte' bad' good)
+    system_fault cause cause' (large short r good i f at is) (large short' r' good' j g at' is') = (one_too_large r r' i j f at g at', is ∙ sym is')
 
 pub one_system_meant : (t : List ℕ) → MeansOne t
 one_system_meant t s s' m m' =

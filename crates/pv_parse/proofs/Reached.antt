@@ -4,19 +4,15 @@ use Rattle.std.proofs.lemmas.List.{append-nil}
 use Rattle.pv_code.specs.declared.code.Op.{Op}
 use Rattle.pv_grammar.specs.declared.cause.Cause.{Cause}
 use Rattle.pv_grammar.specs.declared.counts.Counts.{Counts}
-use Rattle.pv_grammar.specs.declared.counts.Phase.{Phase}
-use Rattle.pv_grammar.specs.declared.counts.Phase.TheVariants.{Between, Sides}
 use Rattle.pv_grammar.specs.declared.machine.Item.{Item}
-use Rattle.pv_grammar.specs.declared.symbol.Fixed.TheVariants.{EndOfText}
 use Rattle.pv_grammar.specs.declared.symbol.Symbol.{Symbol}
-use Rattle.pv_grammar.specs.declared.symbol.Symbol.TheVariants.{Fixed as FixedToken}
 use Rattle.pv_grammar.specs.ByItems.{BeginsByItems, IsCauseByItems, IsStart}
 use Rattle.pv_grammar.specs.Causes.{behind_caret, refusal}
 use Rattle.pv_grammar.specs.ByItems.IsCauseByItems.{not_allowed, beyond}
 use Rattle.pv_grammar.specs.Grammar.{Derives, Follows, MayEnd, Produced, Settles, emptied, ended, is_exponent, met, produced, step_of}
-use Rattle.pv_grammar.specs.Counting.{Counted, counted, nothing, standing_of}
+use Rattle.pv_grammar.specs.Counting.{Counted, counted, standing_of}
 use Rattle.pv_grammar.proofs.Derivations.{Leads, leads_back, leads_end}
-use Rattle.pv_grammar.proofs.Exponents.{AtExponent, expression_plain, system_plain, IsUsual, Met, behind_last, no_end, settled_met, taken_plain}
+use Rattle.pv_grammar.proofs.Exponents.{AtExponent, expression_plain, system_plain, Met, behind_last, no_end, settled_met, taken_plain}
 use Rattle.pv_grammar.proofs.Fits.{expression_starts, settled_ready, system_starts, taken_ready}
 use Rattle.pv_grammar.proofs.Forward.{Closing, GoesOn, closing, refused_forth, settled_forth, settled_orderly, settled_whole, taken_forth, taken_orderly}
 use Rattle.pv_grammar.proofs.Orderly.{Orderly, expression_orderly, system_orderly}
@@ -32,7 +28,7 @@ use Rattle.pv_parse.specs.Declarations.{mark_of}
 use Rattle.pv_parse.specs.Fractions.{HasFraction}
 use Rattle.pv_parse.specs.Scopes.{IsToldAs, Scoped, followed}
 use Rattle.pv_parse.proofs.Closings.{ClosesFrom, closes}
-use Rattle.pv_parse.proofs.Continued.{ok_same}
+use Rattle.pv_parse.proofs.Continued.{spells_all}
 use Rattle.pv_parse.proofs.Declarations.{Told, told_none, told_one}
 use Rattle.pv_parse.proofs.Pieces.{learnt_bounded}
 use Rattle.pv_parse.proofs.Tails.{continued}
@@ -56,187 +52,26 @@ pub record ReachedAs (kept : Names) (t : List ℕ) (known : Names) (start counts
   pub reached : Reached t known names start counts first initial items code from
   pub told : Told t start reached.before from counts old new
 
-pub at_start : (t : List ℕ) (known : Names) (start : Counts) (items : List Item) (code : List Op) → Orderly items → Ready start items → AtExponent false items → AreBounded known →
-    Reached t known known start start items code items code 0
-at_start t known start items code o r e b = record {
-  before = [];
-  spelled = (refl, refl);
-  within = refl;
-  orderly = o;
-  ready = r;
-  bounded = b;
-  exponent = e;
-  forth = λ ss g. g;
-  back = λ ss after l. l;
-}
-
 begun_at : (start : Counts) (items : List Item) → IsStart start items → Orderly items × Ready start items × AtExponent false items
-begun_at start items is =
-    ⊎_elim
-    (λ e. subst (λ (c : Counts). Orderly items × Ready c items × AtExponent false items) (sym e.0)
-    (subst (λ (z : List Item). Orderly z × Ready (nothing Between) z × AtExponent false z) (sym e.1) (system_orderly, system_starts, system_plain)))
-    (λ e. subst (λ (c : Counts). Orderly items × Ready c items × AtExponent false items) (sym e.0)
-    (subst (λ (z : List Item). Orderly z × Ready (nothing Sides) z × AtExponent false z) (sym e.1) (expression_orderly, expression_starts, expression_plain)))
-    is
+begun_at start items is = ⊎_elim (λ (e, f). rw (e, f) (system_orderly, system_starts, system_plain)) (λ (e, f). rw (e, f) (expression_orderly, expression_starts, expression_plain)) is
 
 pub starts : (t : List ℕ) (known : Names) (start : Counts) (items : List Item) (code : List Op) → IsStart start items → AreBounded known → Reached t known known start start items code items code 0
 starts t known start items code is few =
-    let b : Orderly items × Ready start items × AtExponent false items = begun_at start items is in
-    at_start t known start items code b.0 b.1 b.2 few
+    let (o, r, e) = begun_at start items is in
+    record { before = []; spelled = (refl, refl); within = refl; orderly = o; ready = r; bounded = few; exponent = e; forth = λ ss g. g; back = λ ss after l. l }
 
--- ---- Lists of tokens, with one more behind them
-
-pub counted_one : (c : Counts) (ss : List Symbol) (d e : Counts) (s : Symbol) → Counted c ss d → counted d s ≡ Ok e → Counted c (ss ++ s ∷ []) e
-counted_one c [] d e s same one = (e, subst (λ (x : Counts). counted x s ≡ Ok e) (sym same) one, refl)
-counted_one c (r ∷ ss) d e s (m, first, rest) one = (m, first, counted_one m ss d e s rest one)
+-- ---- Lists of tokens, with more behind them
 
 pub counted_all : (c : Counts) (ss : List Symbol) (d : Counts) (rest : List Symbol) (e : Counts) → Counted c ss d → Counted d rest e → Counted c (ss ++ rest) e
-counted_all c [] d rest e same more = subst (λ (x : Counts). Counted x rest e) (sym same) more
+counted_all c [] d rest e same more = rw same more
 counted_all c (r ∷ ss) d rest e (m, first, to) more = (m, first, counted_all m ss d rest e to more)
 
-spells_one : (t : List ℕ) (n : Names) (c : Counts) (from : ℕ) (ss : List Symbol) (to : ℕ) (m : Names) (x : Token) (s : Symbol) (d e : Counts) → SpellsToWithin t n c from ss to m → Counted c ss d → IsNext t to x →
-    ¬ (x.kind ≡ End) → StandsFor d.phase m (bytes_of t x) x.kind s → counted d s ≡ Ok e → SpellsToWithin t n c from (ss ++ s ∷ []) x.end (learnt (standing_of d) s (bytes_of t x) m)
-spells_one t n c from [] to m x s d e same is next inside stands one = (
-  x,
-  e,
-  subst (λ (k : ℕ). IsNext t k x) (sym same.0) next,
-  inside,
-  subst (λ (k : Counts). StandsFor k.phase n (bytes_of t x) x.kind s) (sym is) (subst (λ (k : Names). StandsFor d.phase k (bytes_of t x) x.kind s) (sym same.1) stands),
-  subst (λ (k : Counts). counted k s ≡ Ok e) (sym is) one,
-  (refl, ap (λ (k : Counts). learnt (standing_of k) s (bytes_of t x) n) is ∙ ap (λ (k : Names). learnt (standing_of d) s (bytes_of t x) k) same.1),
-)
-spells_one t n c from (r ∷ ss) to m x s d e (y, k, next', inside', stands', one', rest) (k', first, more) next inside stands one =
-    (y, k, next', inside', stands', one', spells_one t (learnt (standing_of c) r (bytes_of t y) n) k y.end ss to m x s d e rest (subst (λ (z : Counts). Counted z ss d) (ok_same (counted c r) first one') more) next inside stands one)
-
--- a token that an item takes is not the end of the text
-end_symbol : (p : Phase) (n : Names) (t : List ℕ) (x : Token) (kind : Kind) (s : Symbol) → StandsFor p n (bytes_of t x) kind s → kind ≡ End → s ≡ FixedToken EndOfText
-end_symbol p n t x kind s stands e = subst (λ (k : Kind). StandsFor p n (bytes_of t x) k s) e stands
+pub counted_one : (c : Counts) (ss : List Symbol) (d e : Counts) (s : Symbol) → Counted c ss d → counted d s ≡ Ok e → Counted c (ss ++ s ∷ []) e
+counted_one c ss d e s h one = counted_all c ss d (s ∷ []) e h (e, one, refl)
 
 follows_some : (o : Option Produced) (rest : List Item) (code : List Op) (items' : List Item) (code' : List Op) → Follows o rest code items' code' → o ≢ None
 follows_some None rest code items' code' f e = f
 follows_some (Some p) rest code items' code' f e = cc
-
-not_end : (p : Phase) (n : Names) (t : List ℕ) (x : Token) (i : Item) (s : Symbol) (rest : List Item) (code : List Op) (items' : List Item) (code' : List Op) →
-    StandsFor p n (bytes_of t x) x.kind s → IsUsual i → Follows (produced i s) rest code items' code' → ¬ (x.kind ≡ End)
-not_end p n t x i s rest code items' code' stands u f ends =
-    follows_some (produced i s) rest code items' code' f
-    (ap (λ (z : Symbol). produced i z) (end_symbol p n t x x.kind s stands ends) ∙ no_end i u)
-
-pub taken_not_end : (t : List ℕ) (known names : Names) (start counts : Counts) (first : List Item) (initial : List Op) (items : List Item) (code : List Op) (from : ℕ) →
-    Reached t known names start counts first initial items code from →
-    (x : Token) (s : Symbol) (i : Item) (rest : List Item) (code' : List Op) (items'' : List Item) (code'' : List Op) →
-    StandsFor counts.phase names (bytes_of t x) x.kind s → Settles s items code (Some i) rest code' → Follows (produced i s) rest code' items'' code'' → ¬ (x.kind ≡ End)
-taken_not_end t known names start counts first initial items code from r x s i rest code' items'' code'' stands settles follows =
-    let m : Met (behind_caret r.before) (Some i) rest = settled_met (behind_caret r.before) s items code (Some i) rest code' settles r.exponent in
-    not_end counts.phase names t x i s rest code' items'' code'' stands m.1 follows
-
--- ---- A token is taken
-
-pub taken_on : (t : List ℕ) (known names : Names) (start counts next : Counts) (first : List Item) (initial : List Op) (items : List Item) (code : List Op) (from : ℕ) →
-    Reached t known names start counts first initial items code from →
-    (x : Token) (s : Symbol) (i : Item) (rest : List Item) (code' : List Op) (items'' : List Item) (code'' : List Op) →
-    IsNext t from x → StandsFor counts.phase names (bytes_of t x) x.kind s → Settles s items code (Some i) rest code' → Follows (produced i s) rest code' items'' code'' →
-    counted counts s ≡ Ok next → Reached t known (learnt (standing_of counts) s (bytes_of t x) names) start next first initial items'' code'' x.end
-taken_on t known names start counts next first initial items code from r x s i rest code' items'' code'' is_next stands settles follows one =
-    let m : Met (behind_caret r.before) (Some i) rest = settled_met (behind_caret r.before) s items code (Some i) rest code' settles r.exponent in
-    let o : Orderly (i ∷ rest) = settled_orderly s items code (Some i) rest code' settles r.orderly in
-    record {
-      before = r.before ++ s ∷ [];
-      spelled = spells_one t known start 0 r.before from names x s counts next r.spelled r.within is_next (not_end counts.phase names t x i s rest code' items'' code'' stands m.1 follows) stands one;
-      within = counted_one start r.before counts next s r.within one;
-      orderly = taken_orderly i s rest code' items'' code'' (produced i s) refl follows o;
-      ready = taken_ready i s counts next rest code' items'' code'' (produced i s) refl follows one (settled_ready s counts items code (Some i) rest code' settles r.ready);
-      bounded = learnt_bounded counts s (bytes_of t x) names r.bounded;
-      exponent = subst (λ (b : Bool). AtExponent b items'') (sym (behind_last r.before s)) (taken_plain i s rest code' items'' code'' (produced i s) refl follows m.1 m.2);
-      forth = λ ss g.
-          taken_forth i s rest code' items'' code'' (produced i s) refl follows o ss
-          (settled_forth s items code (Some i) rest code' settles ss (r.forth (s ∷ ss) (subst (GoesOn first) (append_assoc r.before (s ∷ []) ss) g)));
-      back = λ ss after l.
-          subst (λ (z : List Symbol). Leads first z initial after) (sym (append_assoc r.before (s ∷ []) ss))
-          (r.back (s ∷ ss) after (leads_back items rest items'' code code' code'' after i s ss settles follows l));
-    }
-
--- ---- The end of the text
-
-pub whole : (t : List ℕ) (known names : Names) (start counts : Counts) (first : List Item) (initial : List Op) (items : List Item) (code : List Op) (from : ℕ) →
-    Reached t known names start counts first initial items code from →
-    (x : Token) (s : Symbol) (rest : List Item) (code' : List Op) →
-    IsNext t from x → x.kind ≡ End → Settles s items code None rest code' → IsSentence t known start first initial code'
-whole t known names start counts first initial items code from r x s rest code' is_next ends settles =
-    let l : Leads first (r.before ++ []) initial code' = r.back [] code' (leads_end s items rest code code' settles) in
-    record {
-      symbols = r.before;
-      steps = l.steps;
-      counts = counts;
-      spelled = (from, names, x, r.spelled, is_next, ends);
-      within = r.within;
-      derived = subst (λ (z : List Symbol). Derives first z l.steps) (append-nil r.before) l.derived;
-      code_is = l.code_is;
-    }
-
--- ---- What the tokens declare
-
-pub starts_told : (t : List ℕ) (known : Names) (start : Counts) (items : List Item) (code : List Op) (is : IsStart start items) (few : AreBounded known) (s : Scoped) →
-    Told t start (starts t known start items code is few).before 0 start s s
-unfolding starts at_start
-starts_told t known start items code is few s = told_none t start s
-
-pub taken_told : (t : List ℕ) (known names : Names) (start counts next : Counts) (first : List Item) (initial : List Op) (items : List Item) (code : List Op) (from : ℕ) →
-    (r : Reached t known names start counts first initial items code from) →
-    (x : Token) (s : Symbol) (i : Item) (rest : List Item) (code' : List Op) (items'' : List Item) (code'' : List Op) →
-    (is_next : IsNext t from x) (stands : StandsFor counts.phase names (bytes_of t x) x.kind s) (settles : Settles s items code (Some i) rest code')
-    (follows : Follows (produced i s) rest code' items'' code'') (one : counted counts s ≡ Ok next) (old new newer : Scoped) →
-    Told t start r.before from counts old new → HasFraction s → newer ≡ followed (mark_of t counts.phase s x) new →
-    Told t start (taken_on t known names start counts next first initial items code from r x s i rest code' items'' code'' is_next stands settles follows one).before x.end next old newer
-unfolding taken_on
-taken_told t known names start counts next first initial items code from r x s i rest code' items'' code'' is_next stands settles follows one old new newer h fraction is =
-    told_one t start r.before from counts next old new newer x s h is_next one fraction is
-
-pub whole_told : (t : List ℕ) (known names : Names) (start counts : Counts) (first : List Item) (initial : List Op) (items : List Item) (code : List Op) (from : ℕ) →
-    (r : Reached t known names start counts first initial items code from) →
-    (x : Token) (s : Symbol) (rest : List Item) (code' : List Op) →
-    IsNext t from x → x.kind ≡ End → Settles s items code None rest code' → (old new : Scoped) → Told t start r.before from counts old new →
-    IsToldAs t known start first initial code' old new
-unfolding whole
-whole_told t known names start counts first initial items code from r x s rest code' is_next ends settles old new h = record {
-  sentence = whole t known names start counts first initial items code from r x s rest code' is_next ends settles;
-  marks = h.marks;
-  marked = (from, counts, h.marked);
-  fractions = h.fractions;
-  scoped = h.scoped;
-}
-
--- ---- A token is refused
-
-closes_here : (t : List ℕ) (known names : Names) (start counts : Counts) (first : List Item) (initial : List Op) (items : List Item) (code : List Op) (from : ℕ) →
-    (r : Reached t known names start counts first initial items code from) → ClosesByItems t known start first from r.before
-closes_here t known names start counts first initial items code from r =
-    let c : ClosesFrom names counts items = closes names r.bounded counts items r.ready in
-    let l : Leads first (r.before ++ c.symbols) initial (code ++ c.steps) = r.back c.symbols (code ++ c.steps) (record { steps = c.steps; derived = c.derived; code_is = refl }) in
-    let limits : Counted start (r.before ++ c.symbols) c.counts = counted_all start r.before counts c.symbols c.counts r.within c.within in
-    continued t known names start counts c.counts first r.before c.symbols l.steps from c.pieces r.spelled r.within c.spelled l.derived limits
-
--- a token that the grammar takes
-begins_with : (t : List ℕ) (known names : Names) (start counts : Counts) (first : List Item) (initial : List Op) (items : List Item) (code : List Op) (from : ℕ) →
-    (r : Reached t known names start counts first initial items code from) →
-    (s : Symbol) (i : Item) (rest : List Item) (code' : List Op) (items'' : List Item) (code'' : List Op) →
-    Settles s items code (Some i) rest code' → Follows (produced i s) rest code' items'' code'' → BeginsByItems first (r.before ++ s ∷ [])
-begins_with t known names start counts first initial items code from r s i rest code' items'' code'' settles follows =
-    let c : Closing items'' = closing items'' in
-    let here : Leads items'' c.symbols code'' (code'' ++ c.steps) = record { steps = c.steps; derived = c.derived; code_is = refl } in
-    let l : Leads first (r.before ++ s ∷ c.symbols) initial (code'' ++ c.steps) =
-    r.back (s ∷ c.symbols) (code'' ++ c.steps) (leads_back items rest items'' code code' code'' (code'' ++ c.steps) i s c.symbols settles follows here) in
-    record {
-      rest = c.symbols;
-      steps = l.steps;
-      derived = subst (λ (z : List Symbol). Derives first z l.steps) (sym (append_assoc r.before (s ∷ []) c.symbols)) l.derived;
-    }
-
--- what is left of a text that begins with one token more
-left_over : (t : List ℕ) (known names : Names) (start counts : Counts) (first : List Item) (initial : List Op) (items : List Item) (code : List Op) (from : ℕ) →
-    (r : Reached t known names start counts first initial items code from) (s : Symbol) → (b : BeginsByItems first (r.before ++ s ∷ [])) → GoesOn items (s ∷ b.rest)
-left_over t known names start counts first initial items code from r s b =
-    r.forth (s ∷ b.rest) (subst (GoesOn first) (append_assoc r.before (s ∷ []) b.rest) (record { steps = b.steps; derived = b.derived }))
 
 abbrev MeetsOf : Option Item → Symbol → Type 0
 MeetsOf None s = Unit {0}
@@ -247,12 +82,28 @@ settles_meets s items code o rest code' (emptied ops) = tt
 settles_meets s items code o rest code' (met i items' ops meets) = meets
 settles_meets s items code o rest code' (ended i items' ops o' rest' more may never k) = settles_meets s items' (ops ++ step_of i) o' rest' more k
 
-first_fault : (t : List ℕ) (known names : Names) (start counts : Counts) (first : List Item) (initial : List Op) (items : List Item) (code : List Op) (from : ℕ) →
-    (r : Reached t known names start counts first initial items code from) →
-    (x : Token) (s : Symbol) (cause : Cause) → IsNext t from x → StandsFor counts.phase names (bytes_of t x) x.kind s → IsCauseByItems first r.before counts s cause →
-    (x.kind ≡ End → (steps : List Op) → Derives first r.before steps → ⊥) → IsFirstByItems t known start first x.start cause
-first_fault t known names start counts first initial items code from r x s cause is_next stands because no_whole =
-    record {
+-- ---- What is met
+
+module _ (t : List ℕ) (known names : Names) (start counts : Counts) (first : List Item) (initial : List Op) (items : List Item) (code : List Op) (from : ℕ)
+    (r : Reached t known names start counts first initial items code from) where
+  closes_here : ClosesByItems t known start first from r.before
+  closes_here =
+      let c : ClosesFrom names counts items = closes names r.bounded counts items r.ready in
+      let l : Leads first (r.before ++ c.symbols) initial (code ++ c.steps) = r.back c.symbols (code ++ c.steps) (record { steps = c.steps; derived = c.derived; code_is = refl }) in
+      continued t known names start counts c.counts first r.before c.symbols l.steps from c.pieces r.spelled r.within c.spelled l.derived (counted_all start r.before counts c.symbols c.counts r.within c.within)
+
+  -- what is whole is nothing more on the pile
+  whole_here : (steps : List Op) → Derives first r.before steps → GoesOn items []
+  whole_here steps d = r.forth [] (subst (GoesOn first) (sym (append-nil r.before)) (record { steps = steps; derived = d }))
+
+  module _ (x : Token) (s : Symbol) where
+    -- what is left of a text that begins with one token more
+    left_over : (b : BeginsByItems first (r.before ++ s ∷ [])) → GoesOn items (s ∷ b.rest)
+    left_over b = r.forth (s ∷ b.rest) (subst (GoesOn first) (append_assoc r.before (s ∷ []) b.rest) (record { steps = b.steps; derived = b.derived }))
+
+    first_fault : (cause : Cause) → IsNext t from x → StandsFor counts.phase names (bytes_of t x) x.kind s → IsCauseByItems first r.before counts s cause →
+        (x.kind ≡ End → (steps : List Op) → Derives first r.before steps → ⊥) → IsFirstByItems t known start first x.start cause
+    first_fault cause is_next stands because no_whole = record {
       before = r.before;
       from = from;
       token = x;
@@ -264,54 +115,116 @@ first_fault t known names start counts first initial items code from r x s cause
       place = refl;
       stands = stands;
       within = r.within;
-      closes = closes_here t known names start counts first initial items code from r;
+      closes = closes_here;
       unfinished = no_whole;
       because = because;
     }
 
--- what is whole is nothing more on the pile
-whole_here : (t : List ℕ) (known names : Names) (start counts : Counts) (first : List Item) (initial : List Op) (items : List Item) (code : List Op) (from : ℕ) →
-    (r : Reached t known names start counts first initial items code from) → (steps : List Op) → Derives first r.before steps → GoesOn items []
-whole_here t known names start counts first initial items code from r steps d =
-    r.forth [] (subst (GoesOn first) (sym (append-nil r.before)) (record { steps = steps; derived = d }))
+    -- the end of the text
+    pub whole : (rest : List Item) (code' : List Op) → IsNext t from x → x.kind ≡ End → Settles s items code None rest code' → IsSentence t known start first initial code'
+    whole rest code' is_next ends settles =
+        let l : Leads first (r.before ++ []) initial code' = r.back [] code' (leads_end s items rest code code' settles) in
+        record {
+          symbols = r.before;
+          steps = l.steps;
+          counts = counts;
+          spelled = (from, names, x, r.spelled, is_next, ends);
+          within = r.within;
+          derived = subst (λ (z : List Symbol). Derives first z l.steps) (append-nil r.before) l.derived;
+          code_is = l.code_is;
+        }
 
--- the item that is met does not begin with it
-pub refused : (t : List ℕ) (known names : Names) (start counts : Counts) (first : List Item) (initial : List Op) (items : List Item) (code : List Op) (from : ℕ) →
-    Reached t known names start counts first initial items code from →
-    (x : Token) (s : Symbol) (i : Item) (rest : List Item) (code' : List Op) (b : Bool) →
-    IsNext t from x → StandsFor counts.phase names (bytes_of t x) x.kind s → Settles s items code (Some i) rest code' → produced i s ≡ None → is_exponent i ≡ b →
-    IsFirstByItems t known start first x.start (refusal b s)
-refused t known names start counts first initial items code from r x s i rest code' b is_next stands settles never wanted =
-    let m : Met (behind_caret r.before) (Some i) rest = settled_met (behind_caret r.before) s items code (Some i) rest code' settles r.exponent in
-    first_fault t known names start counts first initial items code from r x s (refusal b s) is_next stands
-    (not_allowed
-    (λ begins. refused_forth i s rest begins.rest (settles_meets s items code (Some i) rest code' settles) never
-    (settled_forth s items code (Some i) rest code' settles begins.rest (left_over t known names start counts first initial items code from r s begins)))
-    (ap (λ (z : Bool). refusal z s) (sym wanted ∙ m.0)))
-    (λ ends steps d. settles_meets s items code (Some i) rest code' settles
-    (settled_whole s items code (Some i) rest code' settles (whole_here t known names start counts first initial items code from r steps d) i refl) never)
+    pub whole_told : (rest : List Item) (code' : List Op) → IsNext t from x → x.kind ≡ End → Settles s items code None rest code' → (old new : Scoped) → Told t start r.before from counts old new →
+        IsToldAs t known start first initial code' old new
+    unfolding whole
+    whole_told rest code' is_next ends settles old new h = record {
+      sentence = whole rest code' is_next ends settles;
+      marks = h.marks;
+      marked = (from, counts, h.marked);
+      fractions = h.fractions;
+      scoped = h.scoped;
+    }
 
--- nothing more may come
-pub too_much : (t : List ℕ) (known names : Names) (start counts : Counts) (first : List Item) (initial : List Op) (items : List Item) (code : List Op) (from : ℕ) →
-    Reached t known names start counts first initial items code from →
-    (x : Token) (s : Symbol) (rest : List Item) (code' : List Op) →
-    IsNext t from x → StandsFor counts.phase names (bytes_of t x) x.kind s → Settles s items code None rest code' → ¬ (x.kind ≡ End) →
-    IsFirstByItems t known start first x.start (refusal false s)
-too_much t known names start counts first initial items code from r x s rest code' is_next stands settles inside =
-    let m : Met (behind_caret r.before) None rest = settled_met (behind_caret r.before) s items code None rest code' settles r.exponent in
-    first_fault t known names start counts first initial items code from r x s (refusal false s) is_next stands
-    (not_allowed
-    (λ begins. settled_forth s items code None rest code' settles begins.rest (left_over t known names start counts first initial items code from r s begins))
-    (ap (λ (z : Bool). refusal z s) (sym m)))
-    (λ ends. absurd (inside ends))
+    -- nothing more may come
+    pub too_much : (rest : List Item) (code' : List Op) → IsNext t from x → StandsFor counts.phase names (bytes_of t x) x.kind s → Settles s items code None rest code' → ¬ (x.kind ≡ End) →
+        IsFirstByItems t known start first x.start (refusal false s)
+    too_much rest code' is_next stands settles inside =
+        let m : Met (behind_caret r.before) None rest = settled_met (behind_caret r.before) s items code None rest code' settles r.exponent in
+        first_fault (refusal false s) is_next stands
+        (not_allowed (λ begins. settled_forth s items code None rest code' settles begins.rest (left_over begins)) (ap (λ (z : Bool). refusal z s) (sym m)))
+        (λ ends. absurd (inside ends))
 
--- the limits or the declarations forbid it
-pub forbidden : (t : List ℕ) (known names : Names) (start counts : Counts) (first : List Item) (initial : List Op) (items : List Item) (code : List Op) (from : ℕ) →
-    Reached t known names start counts first initial items code from →
-    (x : Token) (s : Symbol) (i : Item) (rest : List Item) (code' : List Op) (items'' : List Item) (code'' : List Op) (cause : Cause) →
-    IsNext t from x → StandsFor counts.phase names (bytes_of t x) x.kind s → Settles s items code (Some i) rest code' → Follows (produced i s) rest code' items'' code'' →
-    counted counts s ≡ Err cause → IsFirstByItems t known start first x.start cause
-forbidden t known names start counts first initial items code from r x s i rest code' items'' code'' cause is_next stands settles follows one =
-    first_fault t known names start counts first initial items code from r x s cause is_next stands
-    (beyond (begins_with t known names start counts first initial items code from r s i rest code' items'' code'' settles follows) one)
-    (λ ends. absurd (taken_not_end t known names start counts first initial items code from r x s i rest code' items'' code'' stands settles follows ends))
+    module _ (i : Item) (rest : List Item) (code' : List Op) where
+      met_here : Settles s items code (Some i) rest code' → Met (behind_caret r.before) (Some i) rest
+      met_here settles = settled_met (behind_caret r.before) s items code (Some i) rest code' settles r.exponent
+
+      -- the item that is met does not begin with the token
+      pub refused : (b : Bool) → IsNext t from x → StandsFor counts.phase names (bytes_of t x) x.kind s → Settles s items code (Some i) rest code' → produced i s ≡ None → is_exponent i ≡ b →
+          IsFirstByItems t known start first x.start (refusal b s)
+      refused b is_next stands settles never wanted =
+          first_fault (refusal b s) is_next stands
+          (not_allowed
+          (λ begins. refused_forth i s rest begins.rest (settles_meets s items code (Some i) rest code' settles) never (settled_forth s items code (Some i) rest code' settles begins.rest (left_over begins)))
+          (ap (λ (z : Bool). refusal z s) (sym wanted ∙ (met_here settles).0)))
+          (λ ends steps d. settles_meets s items code (Some i) rest code' settles (settled_whole s items code (Some i) rest code' settles (whole_here steps d) i refl) never)
+
+      module _ (items'' : List Item) (code'' : List Op) where
+        -- a token that an item takes is not the end of the text
+        pub taken_not_end : StandsFor counts.phase names (bytes_of t x) x.kind s → Settles s items code (Some i) rest code' → Follows (produced i s) rest code' items'' code'' → ¬ (x.kind ≡ End)
+        taken_not_end stands settles follows ends =
+            follows_some (produced i s) rest code' items'' code'' follows
+            (ap (λ (z : Symbol). produced i z) (subst (λ (k : Kind). StandsFor counts.phase names (bytes_of t x) k s) ends stands) ∙ no_end i (met_here settles).1)
+
+        -- a token that the grammar takes
+        begins_with : Settles s items code (Some i) rest code' → Follows (produced i s) rest code' items'' code'' → BeginsByItems first (r.before ++ s ∷ [])
+        begins_with settles follows =
+            let c : Closing items'' = closing items'' in
+            let here : Leads items'' c.symbols code'' (code'' ++ c.steps) = record { steps = c.steps; derived = c.derived; code_is = refl } in
+            let l : Leads first (r.before ++ s ∷ c.symbols) initial (code'' ++ c.steps) =
+            r.back (s ∷ c.symbols) (code'' ++ c.steps) (leads_back items rest items'' code code' code'' (code'' ++ c.steps) i s c.symbols settles follows here) in
+            record { rest = c.symbols; steps = l.steps; derived = subst (λ (z : List Symbol). Derives first z l.steps) (sym (append_assoc r.before (s ∷ []) c.symbols)) l.derived }
+
+        -- the limits or the declarations forbid it
+        pub forbidden : (cause : Cause) → IsNext t from x → StandsFor counts.phase names (bytes_of t x) x.kind s → Settles s items code (Some i) rest code' → Follows (produced i s) rest code' items'' code'' →
+            counted counts s ≡ Err cause → IsFirstByItems t known start first x.start cause
+        forbidden cause is_next stands settles follows one =
+            first_fault cause is_next stands (beyond (begins_with settles follows) one) (λ ends. absurd (taken_not_end stands settles follows ends))
+
+-- ---- A token is taken
+
+module _ (t : List ℕ) (known names : Names) (start counts next : Counts) (first : List Item) (initial : List Op) (items : List Item) (code : List Op) (from : ℕ)
+    (r : Reached t known names start counts first initial items code from)
+    (x : Token) (s : Symbol) (i : Item) (rest : List Item) (code' : List Op) (items'' : List Item) (code'' : List Op)
+    (is_next : IsNext t from x) (stands : StandsFor counts.phase names (bytes_of t x) x.kind s) (settles : Settles s items code (Some i) rest code')
+    (follows : Follows (produced i s) rest code' items'' code'') (one : counted counts s ≡ Ok next) where
+  pub taken_on : Reached t known (learnt (standing_of counts) s (bytes_of t x) names) start next first initial items'' code'' x.end
+  taken_on =
+      let m : Met (behind_caret r.before) (Some i) rest = settled_met (behind_caret r.before) s items code (Some i) rest code' settles r.exponent in
+      let o : Orderly (i ∷ rest) = settled_orderly s items code (Some i) rest code' settles r.orderly in
+      let inner : ¬ (x.kind ≡ End) = taken_not_end t known names start counts first initial items code from r x s i rest code' items'' code'' stands settles follows in
+      record {
+        before = r.before ++ s ∷ [];
+        spelled = spells_all t known start 0 r.before from names counts (s ∷ []) x.end _ r.spelled r.within (x, next, is_next, inner, stands, one, (refl, refl));
+        within = counted_one start r.before counts next s r.within one;
+        orderly = taken_orderly i s rest code' items'' code'' (produced i s) refl follows o;
+        ready = taken_ready i s counts next rest code' items'' code'' (produced i s) refl follows one (settled_ready s counts items code (Some i) rest code' settles r.ready);
+        bounded = learnt_bounded counts s (bytes_of t x) names r.bounded;
+        exponent = subst (λ (b : Bool). AtExponent b items'') (sym (behind_last r.before s)) (taken_plain i s rest code' items'' code'' (produced i s) refl follows m.1 m.2);
+        forth = λ ss g.
+            taken_forth i s rest code' items'' code'' (produced i s) refl follows o ss
+            (settled_forth s items code (Some i) rest code' settles ss (r.forth (s ∷ ss) (subst (GoesOn first) (append_assoc r.before (s ∷ []) ss) g)));
+        back = λ ss after l.
+            subst (λ (z : List Symbol). Leads first z initial after) (sym (append_assoc r.before (s ∷ []) ss))
+            (r.back (s ∷ ss) after (leads_back items rest items'' code code' code'' after i s ss settles follows l));
+      }
+
+  pub taken_told : (old new newer : Scoped) → Told t start r.before from counts old new → HasFraction s → newer ≡ followed (mark_of t counts.phase s x) new → Told t start taken_on.before x.end next old newer
+  unfolding taken_on
+  taken_told old new newer h fraction is = told_one t start r.before from counts next old new newer x s h is_next one fraction is
+
+-- ---- What the tokens declare
+
+pub starts_told : (t : List ℕ) (known : Names) (start : Counts) (items : List Item) (code : List Op) (is : IsStart start items) (few : AreBounded known) (s : Scoped) →
+    Told t start (starts t known start items code is few).before 0 start s s
+unfolding starts
+starts_told t known start items code is few s = told_none t start s

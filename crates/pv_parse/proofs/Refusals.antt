@@ -1,5 +1,5 @@
 -- What a refused text's answer says.
-use Rattle.std.proofs.Common.{◌∙◌, ◌≡◌, ◌≤◌, Bool, Err, IfErr, IsOk, List, None, Ok, OnOk, Option, Result, [], ap, false, length, rules, subst, sym, true, ℕ}
+use Rattle.std.proofs.Common.{◌∙◌, ◌≡◌, ◌≤◌, Bool, Err, IfErr, IsOk, List, Ok, OnOk, Option, Result, [], ap, length, rules, subst, sym, ℕ}
 use Rattle.pv_expr.specs.Terms.{Term}
 use Rattle.pv_code.specs.declared.code.Op.{Op}
 use Rattle.pv_code.specs.Expansion.{run, top}
@@ -7,7 +7,8 @@ use Rattle.pv_grammar.specs.declared.cause.Cause.{Cause}
 use Rattle.pv_grammar.specs.declared.counts.Counts.{Counts}
 use Rattle.pv_grammar.specs.declared.counts.Phase.TheVariants.{Sides}
 use Rattle.pv_grammar.specs.declared.machine.Item.{Item}
-use Rattle.pv_grammar.specs.Grammar.{Follows, Produced, Takes, expression_items}
+use Rattle.pv_grammar.specs.declared.symbol.Symbol.{Symbol}
+use Rattle.pv_grammar.specs.Grammar.{Produced, Settles, Takes, expression_items}
 use Rattle.pv_grammar.specs.Counting.{nothing}
 use Rattle.pv_grammar.proofs.TreeRuns.{expression_means}
 use Rattle.pv_parse.specs.declared.refused.ParseRefused.{ParseRefused}
@@ -34,13 +35,11 @@ pub on_ok : {V E P : Type 0} (r : Result V E) → (IsOk r → P) → OnOk r P
 on_ok (Ok v) f = f (search rules)
 on_ok (Err e) f = search rules
 
-pub taken_true : (b : Bool) (o : Option Produced) (items : List Item) (ops : List Op) (items' : List Item) (ops' : List Op) → Takes b o items ops items' ops' → b ≡ true → Follows o items ops items' ops'
-taken_true true o items ops items' ops' h e = h
-taken_true false o items ops items' ops' h e = cc
+pub settles_as : {s : Symbol} {items rest : List Item} {code more : List Op} {o o' : Option Item} → o ≡ o' → Settles s items code o rest more → Settles s items code o' rest more
+settles_as {s = s} {items = items} {rest = rest} {code = code} {more = more} e h = subst (λ (o : Option Item). Settles s items code o rest more) e h
 
-pub taken_false : (b : Bool) (o : Option Produced) (items : List Item) (ops : List Op) (items' : List Item) (ops' : List Op) → Takes b o items ops items' ops' → b ≡ false → o ≡ None
-taken_false true o items ops items' ops' h e = cc
-taken_false false o items ops items' ops' h e = h
+pub takes_as : {b b' : Bool} (o : Option Produced) (items items' : List Item) (ops ops' : List Op) → b ≡ b' → Takes b o items ops items' ops' → Takes b' o items ops items' ops'
+takes_as o items items' ops ops' e h = subst (λ (z : Bool). Takes z o items ops items' ops') e h
 
 -- ---- Of a text that is too long
 
@@ -67,10 +66,3 @@ expression_meant variables t n code x short knows s e =
       text = record { known = n; knows = knows; tree = found.0; spelled = found.1; short = short };
       term = e ∙ (ap (λ (z : List Op). top (run [] [] z [])) found.2 ∙ ap top (expression_means found.0 [] []));
     }
-
-pub sentence_at : (t : List ℕ) (known : Names) (start start' : Counts) (items items' : List Item) (code code' after : List Op) → start ≡ start' → items ≡ items' → code ≡ code' →
-    IsSentence t known start items code after → IsSentence t known start' items' code' after
-sentence_at t known start start' items items' code code' after e f g s =
-    subst (λ (z : Counts). IsSentence t known z items' code' after) e
-    (subst (λ (z : List Item). IsSentence t known start z code' after) f
-    (subst (λ (z : List Op). IsSentence t known start items z after) g s))

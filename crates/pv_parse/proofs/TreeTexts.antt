@@ -16,7 +16,7 @@ use Rattle.pv_grammar.proofs.TreeReadings.{system_reads}
 use Rattle.pv_parse.specs.ByItems.{IsSentence}
 use Rattle.pv_parse.specs.Meanings.{KnowsVariables, Names, no_names}
 use Rattle.pv_parse.specs.Sentences.{IsExpressionTextOf, IsTextOf}
-use Rattle.pv_parse.proofs.KnownNames.{expression_start, sentence_known, system_start}
+use Rattle.pv_parse.proofs.KnownNames.{sentence_known}
 use Rattle.pv_grammar.specs.Standings.{first_in}
 use Rattle.pv_grammar.proofs.Within.{expression_within, system_within, within_system}
 use Rattle.pv_parse.proofs.ByLimits.{counted_of, spelled_of, within_of}
@@ -30,12 +30,9 @@ pub text_of_system : (t : List ℕ) (x : System) → SpellsWithin t no_names (no
 text_of_system t x spelled =
     (spelled_of t no_names (nothing Between) (system_symbols x []) spelled, system_within x (counted_of t no_names (nothing Between) 0 (system_symbols x []) spelled.0 spelled.1 spelled.3))
 
-pub system_spelled : (t : List ℕ) (x : System) → IsTextOf t x → SpellsWithin t no_names (nothing Between) (system_symbols x [])
-system_spelled t x text = within_of t no_names (nothing Between) (system_symbols x []) text.0 (within_system x text.1)
-
 pub sentence_tree : (t : List ℕ) (code : List Op) → IsSentence t no_names (nothing Between) system_items [] code → (x : System) × IsTextOf t x × (code ≡ system_code x [])
 sentence_tree t code s =
-    let found = system_tree s.symbols s.steps s.derived (sentence_known t no_names (nothing Between) system_items [] code system_start s) in
+    let found = system_tree s.symbols s.steps s.derived (sentence_known t no_names (nothing Between) system_items [] code s) in
     (found.0, text_of_system t found.0 (subst (SpellsWithin t no_names (nothing Between)) found.1 s.spelled), s.code_is ∙ found.2)
 
 abbrev pub tree_sentence : (t : List ℕ) (code : List Op) (x : System) → IsTextOf t x → code ≡ system_code x [] → IsSentence t no_names (nothing Between) system_items [] code
@@ -45,7 +42,7 @@ tree_sentence t code x text is =
       symbols = system_symbols x [];
       steps = system_code x [];
       counts = counts.0;
-      spelled = system_spelled t x text;
+      spelled = within_of t no_names (nothing Between) (system_symbols x []) text.0 counts;
       within = counts.1;
       derived = (system_reads x).derived;
       code_is = is;
@@ -90,7 +87,7 @@ text_of_expression t known e spelled =
 pub expression_sentence_tree : (variables : List (List ℕ)) (t : List ℕ) (known : Names) (code : List Op) → KnowsVariables variables known →
     IsSentence t known (nothing SidesPhase) expression_items [] code → (e : Expression) × IsExpressionTextOf known t e × (code ≡ expression_code e [])
 expression_sentence_tree variables t known code knows s =
-    let found = expression_tree s.symbols s.steps s.derived (sentence_known t known (nothing SidesPhase) expression_items [] code (expression_start variables known knows) s) in
+    let found = expression_tree s.symbols s.steps s.derived (sentence_known t known (nothing SidesPhase) expression_items [] code s) in
     (found.0, text_of_expression t known found.0 (subst (SpellsWithin t known (nothing SidesPhase)) found.1 s.spelled), s.code_is ∙ found.2)
 
 pub one_expression_tree_of : (t : List ℕ) (known : Names) (d e : Expression) → IsExpressionTextOf known t d → IsExpressionTextOf known t e → d ≡ e

@@ -1,5 +1,5 @@
 -- What names stand for: what each was declared as so far, and what it then is in each part of the text.
-use Rattle.std.specs.Prelude.{◌≡◌, ℕ, ◌+◌, ◌-◌, Bool, true, false, List, [], ◌∷◌, Option, Some, None, is_some, if◌then◌else◌}
+use Rattle.std.specs.Prelude.{◌≡◌, ℕ, suc, ◌+◌, ◌-◌, Bool, true, false, List, [], ◌∷◌, Option, Some, None, is_some, if◌then◌else◌}
 use Rattle.std.specs.Str.{bytes_eq}
 use Rattle.std.specs.Map.{update}
 use Rattle.pv_code.specs.declared.code.Op.TheVariants.{Call}
@@ -29,11 +29,11 @@ no_names = record { known = λ name. None; parameter = λ name. None; pending = 
 
 -- ---- What a name stands for
 
--- what an expression may use
+-- what an expression may use; a call has as many arguments as the function has parameters, which is one at least
 abbrev pub use_of : Bool → Option Meaning → Symbol
 use_of with_variables (Some (ConstantMeaning value)) = Constant value
 use_of true (Some (VariableMeaning i)) = Variable i
-use_of with_variables (Some (FunctionMeaning number arity)) = Function (Call number arity) arity
+use_of with_variables (Some (FunctionMeaning number (suc further))) = Function (Call number (suc further)) (suc further)
 use_of with_variables m = Unknown
 
 -- in a body a parameter hides a constant of its name, and no variable is known

@@ -76,14 +76,18 @@ abbrev pub nothing_given : Given
 nothing_given = record { domain = record { lo = MinusOo; hi = PlusOo }; awaited = Lower; negative = false; bracket = 0 }
 
 -- the lower bound comes first, then the upper one
-abbrev pub with_bound : Awaited → Bound → Given → Given
-with_bound Lower b g = record { domain = record { lo = b; hi = g.domain.hi }; awaited = Upper; negative = g.negative; bracket = g.bracket }
-with_bound Upper b g = record { domain = record { lo = g.domain.lo; hi = b }; awaited = Neither; negative = g.negative; bracket = g.bracket }
-with_bound Neither b g = g
+abbrev pub domain_behind : Option Bound → Awaited → Domain → Domain
+domain_behind (Some b) Lower d = record { lo = b; hi = d.hi }
+domain_behind (Some b) Upper d = record { lo = d.lo; hi = b }
+domain_behind o a d = d
+
+abbrev pub awaited_behind : Option Bound → Awaited → Awaited
+awaited_behind (Some b) Lower = Upper
+awaited_behind (Some b) Upper = Neither
+awaited_behind o a = a
 
 abbrev pub bounded : Option Bound → Given → Given
-bounded None g = g
-bounded (Some b) g = with_bound g.awaited b g
+bounded o g = record { domain = domain_behind o g.awaited g.domain; awaited = awaited_behind o g.awaited; negative = g.negative; bracket = g.bracket }
 
 abbrev pub with_token : Symbol → ℕ → Given → Given
 with_token s start g = record { domain = g.domain; awaited = g.awaited; negative = is_minus s; bracket = bracket_behind s start g.bracket }

@@ -1,13 +1,13 @@
 // What is written behind a variable's name: its domain.
 
 ghost use Rattle.std.specs.Bool.{OnTrue, OnFalse};
-ghost use Rattle.std.specs.Prelude.{◌≡◌, List, ◌≤◌, ◌-◌, drop, length, map, IfOk, IfSome, IsNone};
+ghost use Rattle.std.specs.Prelude.{◌≡◌, map, IfOk, IfSome, IsNone};
 ghost use Rattle.pv_expr.specs.Systems.{InOrder};
 ghost use Rattle.pv_code.specs.Fractions.{IsLowest, signed};
-ghost use Rattle.pv_grammar.specs.Trees.{infinite, value_of};
-ghost use Rattle.pv_parse.specs.Declarations.{AreGood, IsFirstBad, IsGood, bracket_behind};
+ghost use Rattle.pv_grammar.specs.Trees.{value_of};
+ghost use Rattle.pv_parse.specs.Declarations.{AreGood, IsFirstBad};
 ghost use Rattle.pv_parse.specs.Fractions.{HasFraction};
-ghost use Rattle.pv_parse.specs.Scopes.{bound_at, bounded, bracket_given, domain_given, given_behind, nothing_given, with_bound};
+ghost use Rattle.pv_parse.specs.Scopes.{bound_at, bounded, bracket_given, domain_given, given_behind, nothing_given};
 
 use pv_code::{Fraction, is_quotient_at_most};
 use pv_expr::{Bound, Domain};
@@ -57,33 +57,26 @@ impl Given {
     {
         let mut made = self.bounded(bound_at(phase, symbol, self.negative));
         made.negative = symbol.is_minus();
-        made.bracket = bracket_behind(symbol, start, made.bracket);
+        if let Symbol::Fixed(Fixed::OpenBracket) = symbol {
+            made.bracket = start;
+        }
         made
     }
 
     fn bounded(self, bound: Option<Bound>) -> Given
         ensures { result ≡ bounded bound self }
     {
-        match bound {
-            Some(bound) => self.with_bound(bound),
-            None => self,
-        }
-    }
-
-    fn with_bound(self, bound: Bound) -> Given
-        ensures { result ≡ with_bound self.awaited bound self }
-    {
         let mut made = self;
-        match self.awaited {
-            Awaited::Lower => {
+        match (bound, self.awaited) {
+            (Some(bound), Awaited::Lower) => {
                 made.domain.lo = bound;
                 made.awaited = Awaited::Upper;
             }
-            Awaited::Upper => {
+            (Some(bound), Awaited::Upper) => {
                 made.domain.hi = bound;
                 made.awaited = Awaited::Neither;
             }
-            Awaited::Neither => {}
+            _ => {}
         }
         made
     }
@@ -94,13 +87,11 @@ fn bound_at(phase: Phase, symbol: Symbol, negative: bool) -> Option<Bound>
     requires { HasFraction symbol }
     ensures { result ≡ bound_at phase symbol negative }
 {
-    match phase {
-        Phase::Bounds => match symbol {
-            Symbol::Number { value, .. } => Some(bound_of(value, negative)),
-            Symbol::Constant(value) => Some(bound_of(value, negative)),
-            Symbol::Fixed(Fixed::Oo) => Some(infinite(negative)),
-            _ => None,
-        },
+    match (phase, symbol, negative) {
+        (Phase::Bounds, Symbol::Number { value, .. }, _) => Some(bound_of(value, negative)),
+        (Phase::Bounds, Symbol::Constant(value), _) => Some(bound_of(value, negative)),
+        (Phase::Bounds, Symbol::Fixed(Fixed::Oo), true) => Some(Bound::MinusOo),
+        (Phase::Bounds, Symbol::Fixed(Fixed::Oo), false) => Some(Bound::PlusOo),
         _ => None,
     }
 }
@@ -109,30 +100,8 @@ fn bound_of(value: Fraction, negative: bool) -> Bound
     requires { IsLowest value }
     ensures { result ≡ value_of (signed negative value) }
 {
-    let signed = value.signed(negative);
-    Bound::Value {
-        p: signed.p,
-        q: signed.q,
-    }
-}
-
-fn infinite(negative: bool) -> Bound
-    ensures { result ≡ infinite negative }
-{
-    if negative {
-        Bound::MinusOo
-    } else {
-        Bound::PlusOo
-    }
-}
-
-fn bracket_behind(symbol: Symbol, start: usize, bracket: usize) -> usize
-    ensures { result ≡ bracket_behind symbol start bracket }
-{
-    match symbol {
-        Symbol::Fixed(Fixed::OpenBracket) => start,
-        _ => bracket,
-    }
+    let Fraction { p, q } = value.signed(negative);
+    Bound::Value { p, q }
 }
 
 /// The bracket of the first domain that is bad.
@@ -141,22 +110,11 @@ pub(crate) fn first_bad(given: &[Given]) -> Option<usize>
         (map bracket_given given.now) byte) }
     ensures none { IsNone result → AreGood (map domain_given given.now) }
 {
-    first_bad_from(given, 0)
-}
-
-fn first_bad_from(given: &[Given], i: usize) -> Option<usize>
-    requires { i ≤ length given.now }
-    ensures some { IfSome result (λ byte. IsFirstBad (map domain_given (drop i given.now))
-        (map bracket_given (drop i given.now)) byte) }
-    ensures none { IsNone result → AreGood (map domain_given (drop i given.now)) }
-{
-    if i == given.len() {
-        return None;
-    }
-    if in_order(given[i].domain) {
-        first_bad_from(given, i + 1)
+    let (one, more) = given.split_first()?;
+    if in_order(one.domain) {
+        first_bad(more)
     } else {
-        Some(given[i].bracket)
+        Some(one.bracket)
     }
 }
 

@@ -1,12 +1,10 @@
 // What names stand for, token by token.
 
 ghost use Rattle.std.specs.Prelude.{◌≡◌, ◌≢◌, ◌≤◌, [], length, IfOk, OnOk};
-ghost use Rattle.pv_expr.specs.Systems.{IsFraction};
 ghost use Rattle.pv_grammar.specs.declared.counts.Phase.{Phase};
-ghost use Rattle.pv_tokens.specs.Words.{word_in};
 ghost use Rattle.pv_parse.specs.Fractions.{HasFraction, KnowsFractions};
-ghost use Rattle.pv_parse.specs.Meanings.{AreSame, KnowsVariables, in_body, in_bounds, is_function, is_taken, learnt, meaning, no_names, told, use_of, with_known, with_name, with_parameter, with_value, with_function};
-ghost use Rattle.pv_parse.specs.Sentences.{IsNumberSymbol, StandsFor, bytes_of, name_symbol, word_symbol};
+ghost use Rattle.pv_parse.specs.Meanings.{AreSame, KnowsVariables, is_taken, learnt, meaning, no_names, told, use_of, with_known, with_parameter};
+ghost use Rattle.pv_parse.specs.Sentences.{IsNumberSymbol, StandsFor, bytes_of, word_symbol};
 ghost use Rattle.pv_parse.specs.Views.{found, view};
 ghost use Rattle.pv_grammar.specs.Counting.{standing_of};
 
@@ -68,6 +66,7 @@ impl Names {
         Ok(names)
     }
 
+    #[tactic(auto, using(crate::proofs::Same::found_after))]
     fn know(&mut self, name: Vec<u8>, meaning: Meaning) -> Result<(), Memory>
         ensures { OnOk result (AreSame (view self.new)
             (with_known name.items meaning (view self.old))) }
@@ -76,6 +75,7 @@ impl Names {
         Ok(())
     }
 
+    #[tactic(auto, using(crate::proofs::Same::found_after))]
     fn know_parameter(&mut self, name: Vec<u8>, place: u8) -> Result<(), Memory>
         ensures { OnOk result (AreSame (view self.new)
             (with_parameter name.items place (view self.old))) }
@@ -85,6 +85,7 @@ impl Names {
     }
 
     /// What a token is for the grammar, here.
+    #[tactic(auto, using(crate::proofs::Fractions::name_fraction))]
     pub(crate) fn symbol_of(&self, text: &[u8], token: Token, phase: Phase) -> Symbol
         requires ordered { token.start ≤ token.end }
         requires within { token.end ≤ length text.now }
@@ -95,18 +96,12 @@ impl Names {
     {
         let bytes = &text[token.start..token.end];
         match token.kind {
-            Kind::Name => self.symbol_of_name(bytes, phase),
+            Kind::Name => match word_of(bytes) {
+                Some(word) => symbol_of_word(word),
+                None => self.resolve(bytes, phase),
+            },
             Kind::Number => symbol_of_number(bytes),
             kind => symbol_of_mark(kind),
-        }
-    }
-
-    fn symbol_of_name(&self, name: &[u8], phase: Phase) -> Symbol
-        ensures { result ≡ name_symbol phase (view self.now) name.now (word_in name.now) }
-    {
-        match word_of(name) {
-            Some(word) => symbol_of_word(word),
-            None => self.resolve(name, phase),
         }
     }
 
@@ -121,51 +116,30 @@ impl Names {
             Phase::Parameters => Symbol::Declared {
                 taken: self.is_taken(name),
             },
-            Phase::Body => self.in_body(name),
-            Phase::Bounds => self.in_bounds(name),
+            Phase::Body => match self.parameters.get(name) {
+                Some(i) => Symbol::Parameter(*i),
+                None => self.use_of(name, false),
+            },
+            Phase::Bounds => match self.known.get(name) {
+                Some(Meaning::Constant(value)) => Symbol::Constant(*value),
+                _ => Symbol::Unknown,
+            },
             Phase::NextConstraint | Phase::Sides => self.use_of(name, true),
-        }
-    }
-
-    fn in_body(&self, name: &[u8]) -> Symbol
-        ensures { result ≡ in_body (found self.now.parameters name.now)
-            (found self.now.known name.now) }
-    {
-        match self.parameters.get(name) {
-            Some(i) => Symbol::Parameter(*i),
-            None => self.use_of(name, false),
-        }
-    }
-
-    fn in_bounds(&self, name: &[u8]) -> Symbol
-        ensures { result ≡ in_bounds (found self.now.known name.now) }
-    {
-        match self.known.get(name) {
-            Some(Meaning::Constant(value)) => Symbol::Constant(*value),
-            _ => Symbol::Unknown,
         }
     }
 
     fn use_of(&self, name: &[u8], with_variables: bool) -> Symbol
         ensures { result ≡ use_of with_variables (found self.now.known name.now) }
     {
-        match self.known.get(name) {
-            Some(Meaning::Constant(value)) => Symbol::Constant(*value),
-            Some(Meaning::Variable(i)) => {
-                if with_variables {
-                    Symbol::Variable(*i)
-                } else {
-                    Symbol::Unknown
-                }
+        match (self.known.get(name), with_variables) {
+            (Some(Meaning::Constant(value)), _) => Symbol::Constant(*value),
+            (Some(Meaning::Variable(i)), true) => Symbol::Variable(*i),
+            (Some(Meaning::Function { arity: 0, .. }), _) => Symbol::Unknown,
+            (Some(Meaning::Function { number, arity }), _) => {
+                let (function, arity) = (*number, *arity);
+                called(Op::Call { function, arity }, arity)
             }
-            Some(Meaning::Function { number, arity }) => Symbol::Function {
-                op: Op::Call {
-                    function: *number,
-                    arity: *arity,
-                },
-                arity: *arity,
-            },
-            None => Symbol::Unknown,
+            _ => Symbol::Unknown,
         }
     }
 
@@ -173,18 +147,9 @@ impl Names {
     fn is_taken(&self, name: &[u8]) -> bool
         ensures { result ≡ is_taken (view self.now) name.now }
     {
-        self.is_function(name)
+        matches!(self.known.get(name), Some(Meaning::Function { .. }))
             || self.pending.as_slice() == name
             || self.parameters.contains_key(name)
-    }
-
-    fn is_function(&self, name: &[u8]) -> bool
-        ensures { result ≡ is_function (found self.now.known name.now) }
-    {
-        match self.known.get(name) {
-            Some(Meaning::Function { .. }) => true,
-            _ => false,
-        }
     }
 
     /// Takes in a token that the grammar and the limits allow, with the counts before it.
@@ -211,64 +176,32 @@ impl Names {
         ensures { OnOk result (AreSame (view self.new)
             (told (standing_of counts) symbol name.now (view self.old))) }
     {
-        match symbol {
-            Symbol::Declared { .. } => self.declare(name, counts),
-            Symbol::Number { value, .. } => self.take_value(value, counts.phase),
-            Symbol::Fixed(Fixed::End) => self.end_function(counts),
-            _ => Ok(()),
-        }
-    }
-
-    fn declare(&mut self, name: &[u8], counts: Counts) -> Result<(), Memory>
-        ensures { OnOk result (AreSame (view self.new)
-            (with_name counts.phase (standing_of counts) name.now (view self.old))) }
-    {
-        let own = Vec::from_slice(self.alloc, name)?;
-        match counts.phase {
-            Phase::Constants | Phase::FunctionName => {
-                self.pending = own;
-                Ok(())
+        match (symbol, counts.phase) {
+            (Symbol::Declared { .. }, Phase::Constants | Phase::FunctionName) => {
+                self.pending = Vec::from_slice(self.alloc, name)?;
             }
-            Phase::Parameters => self.know_parameter(own, counts.parameters),
-            Phase::Variables => self.know(own, Meaning::Variable(counts.variables)),
-            _ => Ok(()),
-        }
-    }
-
-    fn take_value(&mut self, value: Fraction, phase: Phase) -> Result<(), Memory>
-        requires { IsFraction value.p value.q }
-        ensures { OnOk result (AreSame (view self.new) (with_value phase value (view self.old))) }
-    {
-        match phase {
-            Phase::Constants => {
-                let signed = value.signed(self.negative);
-                let name = Vec::from_slice(self.alloc, self.pending.as_slice())?;
-                self.know(name, Meaning::Constant(signed))
+            (Symbol::Declared { .. }, Phase::Parameters) => {
+                let own = Vec::from_slice(self.alloc, name)?;
+                self.know_parameter(own, counts.parameters)?;
             }
-            _ => Ok(()),
-        }
-    }
-
-    fn end_function(&mut self, counts: Counts) -> Result<(), Memory>
-        ensures { OnOk result (AreSame (view self.new)
-            (with_function counts.phase (standing_of counts) (view self.old))) }
-    {
-        match counts.phase {
-            Phase::Body => {
-                let name = Vec::from_slice(self.alloc, self.pending.as_slice())?;
+            (Symbol::Declared { .. }, Phase::Variables) => {
+                let own = Vec::from_slice(self.alloc, name)?;
+                self.know(own, Meaning::Variable(counts.variables))?;
+            }
+            (Symbol::Number { value, .. }, Phase::Constants) => {
+                let own = Vec::from_slice(self.alloc, self.pending.as_slice())?;
+                self.know(own, Meaning::Constant(value.signed(self.negative)))?;
+            }
+            (Symbol::Fixed(Fixed::End), Phase::Body) => {
+                let own = Vec::from_slice(self.alloc, self.pending.as_slice())?;
                 let number = counts.functions.saturating_sub(1);
-                self.know(
-                    name,
-                    Meaning::Function {
-                        number,
-                        arity: counts.parameters,
-                    },
-                )?;
+                let arity = counts.parameters;
+                self.know(own, Meaning::Function { number, arity })?;
                 self.parameters.clear();
-                Ok(())
             }
-            _ => Ok(()),
+            _ => {}
         }
+        Ok(())
     }
 }
 
@@ -326,22 +259,16 @@ fn symbol_of_word(word: Word) -> Symbol
         Word::End => Symbol::Fixed(Fixed::End),
         Word::In => Symbol::Fixed(Fixed::In),
         Word::Oo => Symbol::Fixed(Fixed::Oo),
-        Word::Abs => Symbol::Function {
-            op: Op::One(Unary::Abs),
-            arity: 1,
-        },
-        Word::Sqr => Symbol::Function {
-            op: Op::One(Unary::Pow(2)),
-            arity: 1,
-        },
-        Word::Min => Symbol::Function {
-            op: Op::Two(Binary::Min),
-            arity: 2,
-        },
-        Word::Max => Symbol::Function {
-            op: Op::Two(Binary::Max),
-            arity: 2,
-        },
+        Word::Abs => called(Op::One(Unary::Abs), 1),
+        Word::Sqr => called(Op::One(Unary::Pow(2)), 1),
+        Word::Min => called(Op::Two(Binary::Min), 2),
+        Word::Max => called(Op::Two(Binary::Max), 2),
         Word::Outside => Symbol::Never(Cause::NotInProfile),
     }
+}
+
+fn called(op: Op, arity: u8) -> Symbol
+    ensures { result ≡ Symbol.Function op arity }
+{
+    Symbol::Function { op, arity }
 }

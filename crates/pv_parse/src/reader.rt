@@ -4,7 +4,7 @@ ghost use Rattle.std.specs.Prelude.{All, ◌≡◌, ◌≢◌, ℕ, map, false, 
 ghost use Rattle.pv_expr.specs.Terms.{term_of};
 ghost use Rattle.pv_expr.specs.Systems.{IsOver};
 ghost use Rattle.pv_code.specs.declared.code.Op.{Op};
-ghost use Rattle.pv_code.specs.Expansion.{AreParts, sides_of, constraints_of};
+ghost use Rattle.pv_code.specs.Expansion.{sides_of, constraints_of};
 ghost use Rattle.pv_code.specs.Sizes.{AreWithin, IsShortCall};
 ghost use Rattle.pv_grammar.specs.ByItems.{IsStart};
 ghost use Rattle.pv_grammar.specs.Causes.{refusal};
@@ -206,7 +206,6 @@ fn expanded(
 ) -> Result<Vec<Constraint>, ParseRefused>
     requires short { length text.now ≤ 65536 }
     requires calls { All IsShortCall code.now }
-    requires parts { AreParts 0 code.now }
     requires places { (k : ℕ) → k < length starts.now → slice_index starts.now k ≤ length text.now }
     requires each { length starts.now ≡ length (constraints_of code.now) }
     ensures placed { IfErr result (λ e. IsPlaced text.now e) }

@@ -32,19 +32,6 @@ impl Begun {
             _ => self,
         }
     }
-
-    fn behind(self, symbol: Symbol) -> Begun
-        ensures { result ≡ begun_behind symbol self }
-    {
-        match symbol {
-            Symbol::Fixed(Fixed::Constraints) => Begun::Next,
-            Symbol::Fixed(Fixed::Semicolon) => match self {
-                Begun::At(_) => Begun::Next,
-                _ => self,
-            },
-            _ => self,
-        }
-    }
 }
 
 /// The declarations so far.
@@ -89,7 +76,7 @@ impl Scope {
             followed (mark_of text.now phase symbol token) (scoped self.old)) }
     {
         self.take_constraint(symbol, token.start)?;
-        if declares(phase, symbol) {
+        if let (Phase::Variables, Symbol::Declared { .. }) = (phase, symbol) {
             self.declare(&text[token.start..token.end])
         } else {
             self.take_bound(phase, symbol, token.start);
@@ -106,27 +93,14 @@ impl Scope {
             self.old.starts.items ++ start_of symbol (begun_at start self.old.begun)) }
     {
         let begun = self.begun.at(start);
-        self.begun = begun.behind(symbol);
-        self.add_start(symbol, begun)
-    }
-
-    fn add_start(&mut self, symbol: Symbol, begun: Begun) -> Result<(), Memory>
-        ensures variables { self.new.variables ≡ self.old.variables }
-        ensures given { self.new.given ≡ self.old.given }
-        ensures begun { self.new.begun ≡ self.old.begun }
-        ensures starts { OnOk result (self.new.starts.items ≡
-            self.old.starts.items ++ start_of symbol begun) }
-    {
-        match symbol {
-            Symbol::Relation(_) => match begun {
-                Begun::At(place) => {
-                    self.starts.push(place)?;
-                    Ok(())
-                }
-                _ => Ok(()),
-            },
-            _ => Ok(()),
+        self.begun = begun;
+        match (symbol, begun) {
+            (Symbol::Fixed(Fixed::Constraints), _) => self.begun = Begun::Next,
+            (Symbol::Fixed(Fixed::Semicolon), Begun::At(_)) => self.begun = Begun::Next,
+            (Symbol::Relation(_), Begun::At(place)) => self.starts.push(place)?,
+            _ => {}
         }
+        Ok(())
     }
 
     fn declare(&mut self, name: &[u8]) -> Result<(), Memory>
@@ -155,18 +129,5 @@ impl Scope {
         if let Some(last) = self.given.last_mut() {
             *last = last.behind(phase, symbol, start);
         }
-    }
-}
-
-// Whether the token is the name of a new variable.
-fn declares(phase: Phase, symbol: Symbol) -> bool
-    ensures { result ≡ declares phase symbol }
-{
-    match phase {
-        Phase::Variables => match symbol {
-            Symbol::Declared { .. } => true,
-            _ => false,
-        },
-        _ => false,
     }
 }

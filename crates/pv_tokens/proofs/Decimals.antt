@@ -1,5 +1,5 @@
 -- How many digits a number has, what is kept of a long one, and which numbers are too wide.
-use Rattle.std.proofs.Common.{◌≡◌, ℕ, ◌+◌, ◌-◌, ◌*◌, ◌^◌, ◌<◌, ◌≤◌, min, inl, inr, true, false, cond, List, [], ◌∷◌, ◌++◌, length, get_or, take, drop, append_assoc, length-take, length-drop, refl, sym, ◌∙◌, ap, subst, ℤ, arith, ⊎_elim}
+use Rattle.std.proofs.Common.{◌≡◌, ℕ, ◌+◌, ◌-◌, ◌*◌, ◌^◌, ◌<◌, ◌≤◌, ◌⊎◌, min, inl, inr, true, false, cond, List, [], ◌∷◌, ◌++◌, length, get_or, take, drop, append_assoc, length-take, length-drop, refl, sym, ◌∙◌, ap, subst, ℤ, arith, ⊎_elim}
 use Rattle.std.specs.Int.Digits.{digits_of, number_from_digits}
 use Rattle.std.specs.Char.{digit_value}
 use Rattle.std.specs.Str.Parse.{digits_value}
@@ -7,104 +7,71 @@ use Rattle.std.proofs.lemmas.Str.{digit_value_digit}
 use Rattle.std.proofs.str.Laws.{order}
 use Rattle.std.proofs.lemmas.List.{take_more}
 use Rattle.std.specs.Prelude.{Option, None, Some, slice_range, MatchOption}
-use Rattle.std.proofs.Math.Nat.{mul-le-mul_right, mul-lt-mul_of_pos_right, pow-le-pow_right}
+use Rattle.std.proofs.Math.Nat.{mul-le-mul_right, mul-lt-mul_of_pos_right}
 use Rattle.std.proofs.lemmas.Nat.{pow-add}
 use Rattle.std.proofs.lemmas.Int.Digits.{all_below_base_digits_of, digits_value_push, length-digits_of-le, number_digits_of, number_lt}
 use Rattle.pv_tokens.specs.declared.number.Decimal.{Decimal}
 use Rattle.pv_tokens.specs.declared.numeral.Parts.{Parts}
 use Rattle.pv_tokens.specs.Numbers.{Caps, IsLowest, IsNumeral, IsRead, IsValue, TooWide, decimal_in, figures, digits_in, places_in, power_in}
-use Rattle.pv_tokens.specs.Tokens.{IsDigit, IsFraction, IsNumber}
+use Rattle.pv_tokens.specs.Tokens.{IsDigit, IsNumber}
 use Rattle.pv_tokens.proofs.Numerals.{same_parts}
-use Rattle.pv_tokens.proofs.Powers.{least_power}
+use Rattle.pv_tokens.proofs.Powers.{least_power, most_power}
 
--- a number below 10^k has at most k digits, and one with at most k digits is below 10^k
-few_figures : (n k : ℕ) → 1 ≤ k → n < 10 ^ k → figures n ≤ k
-few_figures n k some below = omega (arith, length-digits_of-le 10 k n (omega arith) below)
-
+-- a number with at most k digits is below 10^k
 below_from_figures : (n k : ℕ) → figures n ≤ k → n < 10 ^ k
 below_from_figures n k few =
-    let value : number_from_digits 10 (digits_of 10 n) ≡ n = number_digits_of 10 n (omega arith) in
     let below : number_from_digits 10 (digits_of 10 n) < 10 ^ length (digits_of 10 n) = number_lt 10 (digits_of 10 n) (all_below_base_digits_of 10 n (omega arith)) in
-    let grows : 10 ^ length (digits_of 10 n) ≤ 10 ^ k = pow-le-pow_right {n = 10} (omega arith) (omega arith) in
-    omega arith
+    omega (arith, number_digits_of 10 n (omega arith), most_power (length (digits_of 10 n)) k (omega arith), below)
 
 split_power : (k z : ℕ) → z ≤ k → 10 ^ k ≡ 10 ^ (k - z) * 10 ^ z
 split_power k z few = let whole : k ≡ (k - z) + z = omega arith in ap (λ n. 10 ^ n) whole ∙ pow-add 10 (k - z) z
 
 -- the digits with zeros behind them reach 10^k exactly where they are more than k
-pub wide_from : (k n z : ℕ) → z ≤ k → 10 ^ k ≤ n * 10 ^ z → k < figures n + z
+wide_from : (k n z : ℕ) → z ≤ k → 10 ^ k ≤ n * 10 ^ z → k < figures n + z
 wide_from k n z few reaches =
     ⊎_elim
     (λ h. h)
     (λ narrow.
-    let below : n < 10 ^ (k - z) = below_from_figures n (k - z) (omega arith) in
-    let product : n * 10 ^ z < 10 ^ (k - z) * 10 ^ z = mul-lt-mul_of_pos_right below (omega (arith, least_power z)) in
-    let is : 10 ^ k ≡ 10 ^ (k - z) * 10 ^ z = split_power k z few in
-    absurd (omega arith))
+    let product : n * 10 ^ z < 10 ^ (k - z) * 10 ^ z = mul-lt-mul_of_pos_right (below_from_figures n (k - z) (omega arith)) (omega (arith, least_power z)) in
+    absurd (omega (arith, split_power k z few, product)))
     (order k (figures n + z))
 
-pub narrow_from : (k n z : ℕ) → z < k → n * 10 ^ z < 10 ^ k → figures n + z ≤ k
+narrow_from : (k n z : ℕ) → z < k → n * 10 ^ z < 10 ^ k → figures n + z ≤ k
 narrow_from k n z few below =
     ⊎_elim
-    (λ fits. let most : figures n ≤ k - z = few_figures n (k - z) (omega arith) fits in omega arith)
-    (λ reaches.
-    let product : 10 ^ (k - z) * 10 ^ z ≤ n * 10 ^ z = mul-le-mul_right {m = 10 ^ (k - z)} {n = n} (10 ^ z) reaches in
-    let is : 10 ^ k ≡ 10 ^ (k - z) * 10 ^ z = split_power k z (omega arith) in
-    absurd (omega arith))
+    (λ fits. omega (arith, length-digits_of-le 10 (k - z) n (omega arith) fits))
+    (λ reaches. absurd (omega (arith, split_power k z (omega arith), mul-le-mul_right {m = 10 ^ (k - z)} {n = n} (10 ^ z) reaches)))
     (order n (10 ^ (k - z)))
 
 -- ---- What is kept of a long number
 
-same_decimal : (c d : Decimal) → c.digits ≡ d.digits → c.up ≡ d.up → c.down ≡ d.down → c ≡ d
-same_decimal c d digits up down = λ i. record { digits = digits i; up = up i; down = down i }
-
 many_figures : (n : ℕ) → 10 ^ 37 ≤ n → 37 < figures n
-many_figures n reaches = ⊎_elim (λ h. h) (λ few. let below : n < 10 ^ 37 = below_from_figures n 37 few in absurd (omega arith)) (order 37 (figures n))
+many_figures n reaches = ⊎_elim (λ h. h) (λ few. absurd (omega (arith, below_from_figures n 37 few))) (order 37 (figures n))
 
-pub capped_wide : (c d : Decimal) → Caps c d → TooWide c → TooWide d
+same_figures : (c d : Decimal) → c.digits ≡ min (10 ^ 37) d.digits → (c.digits ≡ d.digits) ⊎ ((37 < figures c.digits) × (37 < figures d.digits))
+same_figures c d kept = ⊎_elim (λ below. inl (omega arith)) (λ reaches. inr (many_figures c.digits (omega arith), many_figures d.digits reaches)) (order d.digits (10 ^ 37))
+
+capped_wide : (c d : Decimal) → Caps c d → TooWide c → TooWide d
 capped_wide c d caps wide =
     ⊎_elim
-    (λ (up, down).
-    ⊎_elim
-    (λ low. inl (omega arith))
-    (λ rest.
-    ⊎_elim
-    (λ high. inr (inl (omega arith)))
-    (λ many.
-    inr (inr (⊎_elim
-    (λ below. let same : c.digits ≡ d.digits = omega (arith, caps.digits) in let figures_same : figures c.digits ≡ figures d.digits = ap figures same in omega arith)
-    (λ reaches. let some : 37 < figures d.digits = many_figures d.digits reaches in omega arith)
-    (order d.digits (10 ^ 37)))))
-    rest)
-    wide)
-    (λ far. ⊎_elim (λ low. inl low.1) (λ high. inr (inl high.1)) far)
-    caps.powers
+    (λ same. let figures_same : figures c.digits ≡ figures d.digits = ap figures same in grind (arith, caps.powers))
+    (λ many. grind (arith, caps.powers))
+    (same_figures c d caps.digits)
 
-pub capped_narrow : (c d : Decimal) → Caps c d → ¬ TooWide c → c ≡ d
+capped_narrow : (c d : Decimal) → Caps c d → ¬ TooWide c → c ≡ d
 capped_narrow c d caps narrow =
     ⊎_elim
-    (λ (up, down).
-    ⊎_elim
-    (λ below. same_decimal c d (omega (arith, caps.digits)) up down)
-    (λ reaches.
-    let kept : 10 ^ 37 ≤ c.digits = omega (arith, caps.digits) in
-    let some : 37 < figures c.digits = many_figures c.digits kept in
-    absurd (narrow (inr (inr (omega arith)))))
-    (order d.digits (10 ^ 37)))
-    (λ far. absurd (narrow (⊎_elim (λ low. inl low.0) (λ high. inr (inl high.0)) far)))
+    (λ (up, down). ⊎_elim (λ same i. record { digits = same i; up = up i; down = down i }) (λ many. absurd (narrow (inr (inr (omega arith))))) (same_figures c d caps.digits))
+    (λ far. absurd (narrow (grind (arith, far))))
     caps.powers
 
 -- ---- Too wide or not, by the digits with their zeros
 
 pub wide_decimal : (d : Decimal) (z : ℕ) → d.up ≤ d.down + 36 → z ≡ d.up - d.down → 10 ^ 37 ≤ d.digits * 10 ^ z → TooWide d
-wide_decimal d z few is reaches =
-    let many : 37 < figures d.digits + z = wide_from 37 d.digits z (omega arith) reaches in
-    inr (inr (subst (λ k. 37 < figures d.digits + k) is many))
+wide_decimal d z few is reaches = inr (inr (omega (arith, wide_from 37 d.digits z (omega arith) reaches)))
 
 pub narrow_decimal : (d : Decimal) (z : ℕ) → d.up ≤ d.down + 36 → d.down ≤ d.up + 36 → z ≡ d.up - d.down → d.digits * 10 ^ z < 10 ^ 37 → ¬ TooWide d
-narrow_decimal d z few_up few_down is below wide =
-    let few : figures d.digits + z ≤ 37 = narrow_from 37 d.digits z (omega arith) below in
-    ⊎_elim (λ low. omega arith) (λ rest. ⊎_elim (λ high. omega arith) (λ many. omega arith) rest) wide
+narrow_decimal d z few_up few_down is below wide = grind (arith, narrow_from 37 d.digits z (omega arith) below)
 
 pub value_is : (d : Decimal) (z p n b : ℕ) (v : ℤ × ℕ) → z ≡ d.up - d.down → p ≡ d.down - d.up → n ≡ d.digits * 10 ^ z → b ≡ 10 ^ p → IsLowest n b v → IsValue d v
 value_is d z p n b v zeros places above below lowest =
@@ -162,12 +129,11 @@ caps_positive t p digits down power negative kept places short powers =
 
 -- ---- The whole text
 
-pub fraction_within : (t : List ℕ) (i j : ℕ) → i ≤ length t → IsFraction t i j → j ≤ length t
-fraction_within t i j within fraction = ⊎_elim (λ same. omega arith) (λ (_, run). run.within) fraction
+pub tail_within : (t : List ℕ) (i : ℕ) (p : Parts) → IsNumber t i p → p.tail ≤ length t
+tail_within t i p is = grind arith
 
 pub number_within : (t : List ℕ) (i : ℕ) (p : Parts) → IsNumber t i p → p.end ≤ length t
-number_within t i p is =
-    ⊎_elim (λ none. omega (arith, none.end, fraction_within t p.point p.tail is.whole.within is.fraction)) (λ some. some.digits.within) is.exponent
+number_within t i p is = grind arith
 
 pub one_numeral : (t : List ℕ) (p : Parts) (d : Decimal) → IsNumber t 0 p → p.end ≡ length t → IsNumeral t d → d ≡ decimal_in t p
 one_numeral t p d is whole numeral = numeral.decimal ∙ ap (decimal_in t) (same_parts t 0 numeral.parts p numeral.number is (numeral.whole ∙ sym whole))
@@ -175,9 +141,7 @@ one_numeral t p d is whole numeral = numeral.decimal ∙ ap (decimal_in t) (same
 -- a text that goes on behind its longest number is no number
 pub no_numeral : (t : List ℕ) (p : Parts) → IsNumber t 0 p → ((q : Parts) → IsNumber t 0 q → q.end ≤ p.end) → ¬ (p.end ≡ length t) → (d : Decimal) → IsNumeral t d → TooWide d
 no_numeral t p is longest not_whole d numeral =
-    let most : numeral.parts.end ≤ p.end = longest numeral.parts numeral.number in
-    let within : p.end ≤ length t = number_within t 0 p is in
-    absurd (not_whole (omega (arith, numeral.whole)))
+    absurd (not_whole (omega (arith, numeral.whole, longest numeral.parts numeral.number, number_within t 0 p is)))
 
 pub read_of : (t : List ℕ) (p : Parts) (c : Decimal) (r : Option (ℤ × ℕ)) → IsNumber t 0 p → p.end ≡ length t → Caps c (decimal_in t p) → MatchOption r (TooWide c) (λ v. (¬ TooWide c) × IsValue c v) → MatchOption r ((d : Decimal) → IsNumeral t d → TooWide d) (λ v. IsRead t v)
 read_of t p c None is whole caps wide = λ d numeral. subst TooWide (sym (one_numeral t p d is whole numeral)) (capped_wide c (decimal_in t p) caps wide)

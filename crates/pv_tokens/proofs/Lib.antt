@@ -1,10 +1,8 @@
 pub mod Decimals
 pub mod Exists
-pub mod Gaps
 pub mod Numerals
 pub mod OneRatio
 pub mod Powers
 pub mod Slices
 pub mod TokenNumbers
 pub mod Unique
-pub mod Words

@@ -15,18 +15,12 @@ pub byte_in : (t : List ℕ) (i j k m : ℕ) → k ≡ i + m → k < j → get_o
 byte_in t i j k m is before =
     get_or-take (j - i) (drop i t) m 0 (omega arith) ∙ get_or-drop i t m 0 ∙ ap (λ n. get_or t n 0) (sym is)
 
-digits_in_slice : (t : List ℕ) (i j from to : ℕ) → j ≤ length t → i ≤ from → to ≤ j → Run IsDigit t from to → Run IsDigit (slice_range t i j) (from - i) (to - i)
-digits_in_slice t i j from to within after before run = record {
+digits_in_slice : (t : List ℕ) (i j from to m n : ℕ) → from ≡ i + m → to ≡ i + n → j ≤ length t → to ≤ j → Run IsDigit t from to → Run IsDigit (slice_range t i j) m n
+digits_in_slice t i j from to m n first last within before run = record {
   ordered = omega (arith, run.ordered);
   within = omega (arith, length_slice t i j within);
   each = λ k low high. subst IsDigit (sym (byte_in t i j (i + k) k refl (omega arith))) (run.each (i + k) (omega arith) (omega arith));
 }
-
-none_left : (i : ℕ) → i - i ≡ 0
-none_left i = omega arith
-
-power_after : (t : List ℕ) (p : Parts) → IsExponent t p → p.tail ≤ p.power
-power_after t p some = ⊎_elim (λ (_, _, place). omega arith) (λ (_, rest). ⊎_elim (λ (_, place). omega arith) (λ place. omega arith) rest) some.sign
 
 -- the same parts, counted from place i
 abbrev pub shifted : ℕ → Parts → Parts
@@ -34,43 +28,33 @@ shifted i p = record { point = p.point - i; tail = p.tail - i; negative = p.nega
 
 exponent_in_slice : (t : List ℕ) (i : ℕ) (p : Parts) → i ≤ p.tail → p.end ≤ length t → IsExponent t p → IsExponent (slice_range t i p.end) (shifted i p)
 exponent_in_slice t i p after within some =
-    let longer : p.tail < p.end = exponent_longer t p some in
-    let letter_is : get_or (slice_range t i p.end) (p.tail - i) 0 ≡ get_or t p.tail 0 = byte_in t i p.end p.tail (p.tail - i) (omega arith) longer in
-    let signs : p.tail + 1 < p.end → get_or (slice_range t i p.end) (p.tail - i + 1) 0 ≡ get_or t (p.tail + 1) 0 = λ room. byte_in t i p.end (p.tail + 1) (p.tail - i + 1) (omega arith) room in
+    let longer : p.tail + 1 < p.end = grind (arith, exponent_longer) in
+    let power : p.tail ≤ p.power = grind arith in
+    let first : get_or (slice_range t i p.end) (p.tail - i) 0 ≡ get_or t p.tail 0 = byte_in t i p.end p.tail (p.tail - i) (omega arith) (omega arith) in
+    let second : get_or (slice_range t i p.end) (p.tail - i + 1) 0 ≡ get_or t (p.tail + 1) 0 = byte_in t i p.end (p.tail + 1) (p.tail - i + 1) (omega arith) longer in
     record {
-      letter = ⊎_elim (λ h. inl (letter_is ∙ h)) (λ h. inr (letter_is ∙ h)) some.letter;
-      sign =
-          ⊎_elim
-          (λ (is, byte, place). inl (is, signs (omega (arith, some.some)) ∙ byte, omega arith))
-          (λ (is, rest). inr (is, ⊎_elim (λ (byte, place). inl (signs (omega (arith, some.some)) ∙ byte, omega arith)) (λ place. inr (omega arith)) rest))
-          some.sign;
-      digits = digits_in_slice t i p.end p.power p.end within (omega (arith, power_after t p some)) (omega arith) some.digits;
-      some = let power = power_after t p some in omega (arith, some.some);
+      letter = grind arith;
+      sign = grind arith;
+      digits = digits_in_slice t i p.end p.power p.end _ _ (omega arith) (omega arith) within (omega arith) some.digits;
+      some = let more = some.some in omega arith;
     }
 
 pub number_in_slice : (t : List ℕ) (i : ℕ) (p : Parts) → IsNumber t i p → IsNumber (slice_range t i p.end) 0 (shifted i p)
 number_in_slice t i p is =
     let within : p.end ≤ length t = number_within t i p is in
-    let to_tail : p.point ≤ p.tail = fraction_on t p.point p.tail is.fraction in
-    let to_end : p.tail ≤ p.end = exponent_on t p is.exponent in
+    let on : (i < p.point) × (p.point ≤ p.tail) × (p.tail ≤ p.end) = (is.some, fraction_on t p.point p.tail is.fraction, exponent_on t p is.exponent) in
     record {
-      some = omega (arith, is.some);
-      whole = subst (λ n. Run IsDigit (slice_range t i p.end) n (p.point - i)) (none_left i) (digits_in_slice t i p.end i p.point within (omega arith) (omega arith) is.whole);
+      some = omega arith;
+      whole = digits_in_slice t i p.end i p.point _ _ (omega arith) (omega arith) within (omega arith) is.whole;
       fraction =
           ⊎_elim
-          (λ same. inl (ap (λ n. n - i) same))
-          (λ (point, run).
-          let next : p.point + 1 - i ≡ p.point - i + 1 = omega (arith, is.some) in
-          inr (
-            byte_in t i p.end p.point (p.point - i) (omega (arith, is.some)) (omega (arith, run.ordered)) ∙ point,
-            subst (λ n. Run IsDigit (slice_range t i p.end) n (p.tail - i)) next (digits_in_slice t i p.end (p.point + 1) p.tail within (omega (arith, is.some)) (omega arith) run),
+          (λ same. inl (omega arith))
+          (λ (point, run). inr (
+            byte_in t i p.end p.point (p.point - i) (omega arith) (omega (arith, run.ordered)) ∙ point,
+            digits_in_slice t i p.end (p.point + 1) p.tail _ _ (omega arith) (omega arith) within (omega arith) run,
           ))
           is.fraction;
-      exponent =
-          ⊎_elim
-          (λ none. inl (record { negative = none.negative; power = ap (λ n. n - i) none.power; end = ap (λ n. n - i) none.end }))
-          (λ some. inr (exponent_in_slice t i p (omega (arith, is.some)) within some))
-          is.exponent;
+      exponent = ⊎_elim (λ none. inl (record { negative = none.negative; power = omega (arith, none.power); end = omega (arith, none.end) })) (λ some. inr (exponent_in_slice t i p (omega arith) within some)) is.exponent;
     }
 
 -- the bytes of a number are the text of a number

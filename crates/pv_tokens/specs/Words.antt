@@ -1,66 +1,41 @@
 -- The words that can't be declared, each a name. Block words have two spellings.
-use Rattle.std.specs.Prelude.{ℕ, List, Option, Some, None, codes, if◌then◌else◌}
+use Rattle.std.specs.Prelude.{ℕ, List, Option, Some, None, Bool, ◌||◌, codes, if◌then◌else◌}
 use Rattle.std.specs.Str.{bytes_eq}
 use Rattle.pv_tokens.specs.declared.keyword.Word.{Word}
 use Rattle.pv_tokens.specs.declared.keyword.Word.TheVariants.{Constants, Variables, Constraints, Function, Return, End, In, Oo, Abs, Sqr, Min, Max, Outside}
 
+abbrev pub is_either : List ℕ → List ℕ → List ℕ → Bool
+is_either name one other = bytes_eq name one || bytes_eq name other
+
 -- words of the language that this profile leaves out
-abbrev pub outside_more : List ℕ → Option Word
-outside_more name =
-    if bytes_eq name (codes "cosh") then Some Outside
-    else (if bytes_eq name (codes "sinh") then Some Outside
-    else (if bytes_eq name (codes "tanh") then Some Outside
-    else (if bytes_eq name (codes "acosh") then Some Outside
-    else (if bytes_eq name (codes "asinh") then Some Outside
-    else (if bytes_eq name (codes "atanh") then Some Outside
-    else (if bytes_eq name (codes "sign") then Some Outside
-    else (if bytes_eq name (codes "pi") then Some Outside
-    else (if bytes_eq name (codes "for") then Some Outside
-    else (if bytes_eq name (codes "sum") then Some Outside
-    else (if bytes_eq name (codes "Minimize") then Some Outside
-    else (if bytes_eq name (codes "minimize") then Some Outside
-    else None)))))))))))
+abbrev pub is_hyperbolic : List ℕ → Bool
+is_hyperbolic name = is_either name (codes "cosh") (codes "acosh") || (is_either name (codes "sinh") (codes "asinh") || is_either name (codes "tanh") (codes "atanh"))
 
-abbrev pub outside : List ℕ → Option Word
-outside name =
-    if bytes_eq name (codes "sqrt") then Some Outside
-    else (if bytes_eq name (codes "root") then Some Outside
-    else (if bytes_eq name (codes "exp") then Some Outside
-    else (if bytes_eq name (codes "log") then Some Outside
-    else (if bytes_eq name (codes "ln") then Some Outside
-    else (if bytes_eq name (codes "cos") then Some Outside
-    else (if bytes_eq name (codes "sin") then Some Outside
-    else (if bytes_eq name (codes "tan") then Some Outside
-    else (if bytes_eq name (codes "acos") then Some Outside
-    else (if bytes_eq name (codes "asin") then Some Outside
-    else (if bytes_eq name (codes "atan") then Some Outside
-    else (if bytes_eq name (codes "atan2") then Some Outside
-    else outside_more name)))))))))))
+abbrev pub is_function_outside : List ℕ → Bool
+is_function_outside name =
+    is_either name (codes "sqrt") (codes "root") || (bytes_eq name (codes "exp") || (is_either name (codes "log") (codes "ln")
+    || (is_either name (codes "cos") (codes "acos") || (is_either name (codes "sin") (codes "asin") || (is_either name (codes "tan") (codes "atan")
+    || (bytes_eq name (codes "atan2") || bytes_eq name (codes "sign")))))))
 
--- words of bounds and expressions
-abbrev pub inner_word : List ℕ → Option Word
-inner_word name =
-    if bytes_eq name (codes "in") then Some In
+abbrev pub is_outside : List ℕ → Bool
+is_outside name =
+    is_function_outside name || (is_hyperbolic name || (bytes_eq name (codes "pi") || (bytes_eq name (codes "for") || (bytes_eq name (codes "sum")
+    || is_either name (codes "Minimize") (codes "minimize")))))
+
+-- the word that a name is, or none where the text may declare it
+abbrev pub word_in : List ℕ → Option Word
+word_in name =
+    if is_either name (codes "Constants") (codes "constants") then Some Constants
+    else (if is_either name (codes "Variables") (codes "variables") then Some Variables
+    else (if is_either name (codes "Constraints") (codes "constraints") then Some Constraints
+    else (if is_either name (codes "Function") (codes "function") then Some Function
+    else (if is_either name (codes "Return") (codes "return") then Some Return
+    else (if is_either name (codes "End") (codes "end") then Some End
+    else (if bytes_eq name (codes "in") then Some In
     else (if bytes_eq name (codes "oo") then Some Oo
     else (if bytes_eq name (codes "abs") then Some Abs
     else (if bytes_eq name (codes "sqr") then Some Sqr
     else (if bytes_eq name (codes "min") then Some Min
     else (if bytes_eq name (codes "max") then Some Max
-    else outside name)))))
-
--- the word that a name is, or none where the text may declare it
-abbrev pub word_in : List ℕ → Option Word
-word_in name =
-    if bytes_eq name (codes "Constants") then Some Constants
-    else (if bytes_eq name (codes "constants") then Some Constants
-    else (if bytes_eq name (codes "Variables") then Some Variables
-    else (if bytes_eq name (codes "variables") then Some Variables
-    else (if bytes_eq name (codes "Constraints") then Some Constraints
-    else (if bytes_eq name (codes "constraints") then Some Constraints
-    else (if bytes_eq name (codes "Function") then Some Function
-    else (if bytes_eq name (codes "function") then Some Function
-    else (if bytes_eq name (codes "Return") then Some Return
-    else (if bytes_eq name (codes "return") then Some Return
-    else (if bytes_eq name (codes "End") then Some End
-    else (if bytes_eq name (codes "end") then Some End
-    else inner_word name)))))))))))
+    else (if is_outside name then Some Outside
+    else None))))))))))))

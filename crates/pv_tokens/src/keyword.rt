@@ -1,8 +1,8 @@
 // The words that can't be declared.
 
-ghost use Rattle.std.specs.Prelude.{◌≡◌};
+ghost use Rattle.std.specs.Prelude.{◌≡◌, ◌||◌};
 ghost use Rattle.std.specs.Str.{bytes_eq};
-ghost use Rattle.pv_tokens.specs.Words.{inner_word, outside, outside_more, word_in};
+ghost use Rattle.pv_tokens.specs.Words.{is_function_outside, is_hyperbolic, is_outside, word_in};
 
 /// A word that no text can declare. Block words have two spellings.
 #[derive(Clone, Copy, Debug, PartialEq, Eq)]
@@ -27,40 +27,19 @@ pub enum Word {
 pub fn word_of(name: &[u8]) -> Option<Word>
     ensures { result ≡ word_in name.now }
 {
-    if is_text(name, "Constants") {
+    if is_either(name, "Constants", "constants") {
         Some(Word::Constants)
-    } else if is_text(name, "constants") {
-        Some(Word::Constants)
-    } else if is_text(name, "Variables") {
+    } else if is_either(name, "Variables", "variables") {
         Some(Word::Variables)
-    } else if is_text(name, "variables") {
-        Some(Word::Variables)
-    } else if is_text(name, "Constraints") {
+    } else if is_either(name, "Constraints", "constraints") {
         Some(Word::Constraints)
-    } else if is_text(name, "constraints") {
-        Some(Word::Constraints)
-    } else if is_text(name, "Function") {
+    } else if is_either(name, "Function", "function") {
         Some(Word::Function)
-    } else if is_text(name, "function") {
-        Some(Word::Function)
-    } else if is_text(name, "Return") {
+    } else if is_either(name, "Return", "return") {
         Some(Word::Return)
-    } else if is_text(name, "return") {
-        Some(Word::Return)
-    } else if is_text(name, "End") {
+    } else if is_either(name, "End", "end") {
         Some(Word::End)
-    } else if is_text(name, "end") {
-        Some(Word::End)
-    } else {
-        inner_word(name)
-    }
-}
-
-// Words of bounds and expressions.
-fn inner_word(name: &[u8]) -> Option<Word>
-    ensures { result ≡ inner_word name.now }
-{
-    if is_text(name, "in") {
+    } else if is_text(name, "in") {
         Some(Word::In)
     } else if is_text(name, "oo") {
         Some(Word::Oo)
@@ -72,74 +51,50 @@ fn inner_word(name: &[u8]) -> Option<Word>
         Some(Word::Min)
     } else if is_text(name, "max") {
         Some(Word::Max)
-    } else {
-        outside(name)
-    }
-}
-
-// Words that this profile leaves out.
-fn outside(name: &[u8]) -> Option<Word>
-    ensures { result ≡ outside name.now }
-{
-    if is_text(name, "sqrt") {
-        Some(Word::Outside)
-    } else if is_text(name, "root") {
-        Some(Word::Outside)
-    } else if is_text(name, "exp") {
-        Some(Word::Outside)
-    } else if is_text(name, "log") {
-        Some(Word::Outside)
-    } else if is_text(name, "ln") {
-        Some(Word::Outside)
-    } else if is_text(name, "cos") {
-        Some(Word::Outside)
-    } else if is_text(name, "sin") {
-        Some(Word::Outside)
-    } else if is_text(name, "tan") {
-        Some(Word::Outside)
-    } else if is_text(name, "acos") {
-        Some(Word::Outside)
-    } else if is_text(name, "asin") {
-        Some(Word::Outside)
-    } else if is_text(name, "atan") {
-        Some(Word::Outside)
-    } else if is_text(name, "atan2") {
-        Some(Word::Outside)
-    } else {
-        outside_more(name)
-    }
-}
-
-fn outside_more(name: &[u8]) -> Option<Word>
-    ensures { result ≡ outside_more name.now }
-{
-    if is_text(name, "cosh") {
-        Some(Word::Outside)
-    } else if is_text(name, "sinh") {
-        Some(Word::Outside)
-    } else if is_text(name, "tanh") {
-        Some(Word::Outside)
-    } else if is_text(name, "acosh") {
-        Some(Word::Outside)
-    } else if is_text(name, "asinh") {
-        Some(Word::Outside)
-    } else if is_text(name, "atanh") {
-        Some(Word::Outside)
-    } else if is_text(name, "sign") {
-        Some(Word::Outside)
-    } else if is_text(name, "pi") {
-        Some(Word::Outside)
-    } else if is_text(name, "for") {
-        Some(Word::Outside)
-    } else if is_text(name, "sum") {
-        Some(Word::Outside)
-    } else if is_text(name, "Minimize") {
-        Some(Word::Outside)
-    } else if is_text(name, "minimize") {
+    } else if is_outside(name) {
         Some(Word::Outside)
     } else {
         None
     }
+}
+
+// A word of the language that this profile leaves out.
+fn is_outside(name: &[u8]) -> bool
+    ensures { result ≡ is_outside name.now }
+{
+    is_function_outside(name)
+        || is_hyperbolic(name)
+        || is_text(name, "pi")
+        || is_text(name, "for")
+        || is_text(name, "sum")
+        || is_either(name, "Minimize", "minimize")
+}
+
+fn is_function_outside(name: &[u8]) -> bool
+    ensures { result ≡ is_function_outside name.now }
+{
+    is_either(name, "sqrt", "root")
+        || is_text(name, "exp")
+        || is_either(name, "log", "ln")
+        || is_either(name, "cos", "acos")
+        || is_either(name, "sin", "asin")
+        || is_either(name, "tan", "atan")
+        || is_text(name, "atan2")
+        || is_text(name, "sign")
+}
+
+fn is_hyperbolic(name: &[u8]) -> bool
+    ensures { result ≡ is_hyperbolic name.now }
+{
+    is_either(name, "cosh", "acosh")
+        || is_either(name, "sinh", "asinh")
+        || is_either(name, "tanh", "atanh")
+}
+
+fn is_either(name: &[u8], one: &str, other: &str) -> bool
+    ensures { result ≡ (bytes_eq name.now one.now || bytes_eq name.now other.now) }
+{
+    is_text(name, one) || is_text(name, other)
 }
 
 fn is_text(name: &[u8], text: &str) -> bool

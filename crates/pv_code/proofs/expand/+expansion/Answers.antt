@@ -1,7 +1,7 @@
 use Rattle.std.proofs.Common.{rules, ap, ◌≡◌, ◌≤◌, ◌∙◌, ◌<◌, ◌+◌, length, get_or, map, drop}
 use Rattle.pv_expr.specs.Terms.{term_of}
-use Rattle.pv_code.specs.Expansion.{RunsAlike, code_of, meanings, stack_of}
-use Rattle.pv_code.proofs.Building.{called-is, called-past, run-more, run-begun, stacked-push, stacked-same}
+use Rattle.pv_code.specs.Expansion.{RunsAlike, code_of, meanings, stack_of, top}
+use Rattle.pv_code.proofs.Building.{called-is, called-past, run-more, run-begun, run-ended, stacked-push, stacked-same}
 use Rattle.pv_code.proofs.Moving.{alike_behind}
 use Rattle.pv_code.proofs.expand.+expansion.Goals.{expand-in-Some+in_ok-push, expand-in_default}
 use Rattle.pv_code.proofs.expand.+expansion.Goals as goal
@@ -14,8 +14,8 @@ called-returns-then-i-functions t c =
 pub called-returns : goal.called-returns
 called-returns t c =
     let within : c.args.function < length c.args.functions.now = search rules in
-    let code : c.as_slice.result.now ≡ code_of (get_or c.args.functions.now c.args.function c.index-functions-i.result) = search rules in
-    called-is c.args.functions.now c.args.function c.index-functions-i.result (map term_of c.args.arguments.now) _ c.as_slice.result.now _ within code c.in_ok-made.ensures c.taken.ensures.value
+    let code : c.as_slice-code.result.now ≡ code_of (get_or c.args.functions.now c.args.function c.index-functions-i.result) = search rules in
+    called-is c.args.functions.now c.args.function c.index-functions-i.result (map term_of c.args.arguments.now) _ c.as_slice-code.result.now within code c.in_ok-expand.ensures
 
 pub expand-loop-i-init : goal.expand-loop-i-init
 expand-loop-i-init t c =
@@ -33,3 +33,9 @@ expand-loop-i-preserved t c =
       | expand-in_default w ↦ stacked-same c.made_by.new.stack.items c.match-made.stack.items c.in_ok-made.made w.in_default.not-Some (ap (λ v. v.items) w.stack-is)
     ])
     c.loop-i.invariant
+
+pub expand-returns : goal.expand-returns
+expand-returns t c =
+    let end : length c.args.code.now ≤ c.loop-i.i = search rules in
+    c.taken.ensures.value
+    ∙ ap top (run-ended (meanings (map code_of c.args.functions.now)) (map term_of c.loop-i.arguments) c.args.code.now c.loop-i.i (stack_of c.loop-i.stack.items) _ end c.loop-i.invariant)

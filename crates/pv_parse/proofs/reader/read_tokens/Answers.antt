@@ -1,8 +1,7 @@
-use Rattle.std.proofs.Common.{◌≢◌, arith, subst, sym, ◌∙◌, Option, false}
+use Rattle.std.proofs.Common.{◌≢◌, arith, subst, sym, ◌∙◌, false}
 use Rattle.pv_grammar.specs.declared.cause.Cause.{Cause}
-use Rattle.pv_grammar.specs.declared.machine.Item.{Item}
 use Rattle.pv_grammar.specs.Causes.{refusal}
-use Rattle.pv_grammar.specs.Grammar.{pile, Settles}
+use Rattle.pv_grammar.specs.Grammar.{pile}
 use Rattle.pv_tokens.specs.declared.token.Kind.TheVariants.{End}
 use Rattle.pv_parse.specs.declared.refused.ParseRefused.{ParseRefused}
 use Rattle.pv_parse.specs.ByItems.{IsAt, IsFirstByItems, IsFirstOfByItems}
@@ -14,7 +13,7 @@ use Rattle.pv_parse.proofs.Fractions.{learnt_fractions, same_fractions}
 use Rattle.pv_parse.proofs.NameBytes.{declared_ascii}
 use Rattle.pv_parse.proofs.Same.{learnt_same, same_refl, same_trans, stands_same}
 use Rattle.pv_parse.proofs.Reached.{forbidden, refused, starts, starts_told, taken_not_end, taken_on, taken_told, too_much, whole, whole_told}
-use Rattle.pv_parse.proofs.Refusals.{first_at, if_err, on_ok, taken_false, taken_true}
+use Rattle.pv_parse.proofs.Refusals.{first_at, if_err, on_ok, settles_as, takes_as}
 use Rattle.pv_parse.proofs.reader.read_tokens.Goals as goal
 use Rattle.pv_grammar.specs.Counting.{standing_of}
 
@@ -31,20 +30,13 @@ loop-item-init c = record {
 }
 
 pub returns-in_default-clause-sentence : goal.returns-in_default-clause-sentence
-returns-in_default-clause-sentence c =
-    let settles = subst (λ (o : Option Item). Settles c.symbol_of-symbol.result (pile c.loop-item.machine.stack.items) c.loop-item.machine.code.items o (pile c.settle.new.self.stack.items) c.settle.new.self.code.items) c.in_default.is c.in_ok-item.ensures in
-    on_ok c.ended.result (λ ok. whole c.args.text.now (view c.args.names.now) c.loop-item.invariant.reached.names c.args.start c.loop-item.counts (pile c.args.machine.now.stack.items) c.args.machine.now.code.items
-    (pile c.loop-item.machine.stack.items) c.loop-item.machine.code.items c.loop-item.from c.loop-item.invariant.reached.reached
-    c.next_token-token.result c.symbol_of-symbol.result (pile c.settle.new.self.stack.items) c.settle.new.self.code.items
-    c.next_token-token.ensures.next (c.ended.ensures.ends ok) settles)
+returns-in_default-clause-sentence c = on_ok c.ended.result (λ ok.
+    whole _ _ _ _ _ _ _ _ _ _ c.loop-item.invariant.reached.reached _ _ _ _ c.next_token-token.ensures.next (c.ended.ensures.ends ok) (settles_as c.in_default.is c.in_ok-item.ensures))
 
 pub returns-in_default-clause-told : goal.returns-in_default-clause-told
-returns-in_default-clause-told c =
-    let settles = subst (λ (o : Option Item). Settles c.symbol_of-symbol.result (pile c.loop-item.machine.stack.items) c.loop-item.machine.code.items o (pile c.settle.new.self.stack.items) c.settle.new.self.code.items) c.in_default.is c.in_ok-item.ensures in
-    on_ok c.ended.result (λ ok. whole_told c.args.text.now (view c.args.names.now) c.loop-item.invariant.reached.names c.args.start c.loop-item.counts (pile c.args.machine.now.stack.items) c.args.machine.now.code.items
-    (pile c.loop-item.machine.stack.items) c.loop-item.machine.code.items c.loop-item.from c.loop-item.invariant.reached.reached
-    c.next_token-token.result c.symbol_of-symbol.result (pile c.settle.new.self.stack.items) c.settle.new.self.code.items
-    c.next_token-token.ensures.next (c.ended.ensures.ends ok) settles (scoped c.args.scope.now) (scoped c.loop-item.scope) c.loop-item.invariant.reached.told)
+returns-in_default-clause-told c = on_ok c.ended.result (λ ok.
+    whole_told _ _ _ _ _ _ _ _ _ _ c.loop-item.invariant.reached.reached _ _ _ _ c.next_token-token.ensures.next (c.ended.ensures.ends ok) (settles_as c.in_default.is c.in_ok-item.ensures) _ _
+    c.loop-item.invariant.reached.told)
 
 pub take_in-requires-in-Ok-clause-ascii : goal.take_in-requires-in-Ok-clause-ascii
 take_in-requires-in-Ok-clause-ascii c =
@@ -53,71 +45,49 @@ take_in-requires-in-Ok-clause-ascii c =
 
 pub returns-in_default-clause-fault : goal.returns-in_default-clause-fault
 returns-in_default-clause-fault c =
-    let settles = subst (λ (o : Option Item). Settles c.symbol_of-symbol.result (pile c.loop-item.machine.stack.items) c.loop-item.machine.code.items o (pile c.settle.new.self.stack.items) c.settle.new.self.code.items) c.in_default.is c.in_ok-item.ensures in
+    let stands = stands_same c.loop-item.counts.phase _ _ c.loop-item.invariant.reached.same (bytes_of c.args.text.now c.next_token-token.result) _ c.symbol_of-symbol.result c.symbol_of-symbol.ensures.stands in
     if_err (λ (e : ParseRefused). (c.next_token-token.result.kind ≢ End) × IsAt c.next_token-token.result.start (refusal false c.symbol_of-symbol.result) e)
-    (λ (e : ParseRefused). IsFirstOfByItems c.args.text.now (view c.args.names.now) c.args.start (pile c.args.machine.now.stack.items) e)
-    c.ended.result
-    (λ e at. first_at c.args.text.now (view c.args.names.now) c.args.start (pile c.args.machine.now.stack.items) c.next_token-token.result.start (refusal false c.symbol_of-symbol.result) e at.1
-    (too_much c.args.text.now (view c.args.names.now) c.loop-item.invariant.reached.names c.args.start c.loop-item.counts (pile c.args.machine.now.stack.items) c.args.machine.now.code.items
-    (pile c.loop-item.machine.stack.items) c.loop-item.machine.code.items c.loop-item.from c.loop-item.invariant.reached.reached
-    c.next_token-token.result c.symbol_of-symbol.result (pile c.settle.new.self.stack.items) c.settle.new.self.code.items
-    c.next_token-token.ensures.next (stands_same c.loop-item.counts.phase (view c.loop-item.names) c.loop-item.invariant.reached.names c.loop-item.invariant.reached.same (bytes_of c.args.text.now c.next_token-token.result) c.next_token-token.result.kind c.symbol_of-symbol.result c.symbol_of-symbol.ensures.stands) settles at.0))
+    (λ (e : ParseRefused). IsFirstOfByItems c.args.text.now (view c.args.names.now) c.args.start (pile c.args.machine.now.stack.items) e) c.ended.result
+    (λ e at. first_at _ _ _ _ _ _ e at.1
+    (too_much _ _ _ _ _ _ _ _ _ _ c.loop-item.invariant.reached.reached _ _ _ _ c.next_token-token.ensures.next stands (settles_as c.in_default.is c.in_ok-item.ensures) at.0))
     c.ended.ensures.at
 
 pub returns-then-not-branch-clause-fault : goal.returns-then-not-branch-clause-fault
 returns-then-not-branch-clause-fault c =
-    let settles = subst (λ (o : Option Item). Settles c.symbol_of-symbol.result (pile c.loop-item.machine.stack.items) c.loop-item.machine.code.items o (pile c.settle.new.self.stack.items) c.settle.new.self.code.items) c.in-Some.is c.in_ok-item.ensures in
-    let never = taken_false _ _ _ _ _ _ c.in_ok-take.ensures c.if-not-branch.true in
-    first_at c.args.text.now (view c.args.names.now) c.args.start (pile c.args.machine.now.stack.items) c.next_token-token.result.start c.refusal.result c.fault.result c.fault.ensures.at
+    let stands = stands_same c.loop-item.counts.phase _ _ c.loop-item.invariant.reached.same (bytes_of c.args.text.now c.next_token-token.result) _ c.symbol_of-symbol.result c.symbol_of-symbol.ensures.stands in
+    first_at _ _ _ _ _ _ c.fault.result c.fault.ensures.at
     (subst (λ (k : Cause). IsFirstByItems c.args.text.now (view c.args.names.now) c.args.start (pile c.args.machine.now.stack.items) c.next_token-token.result.start k) (sym c.refusal.ensures)
-    (refused c.args.text.now (view c.args.names.now) c.loop-item.invariant.reached.names c.args.start c.loop-item.counts (pile c.args.machine.now.stack.items) c.args.machine.now.code.items
-    (pile c.loop-item.machine.stack.items) c.loop-item.machine.code.items c.loop-item.from c.loop-item.invariant.reached.reached
-    c.next_token-token.result c.symbol_of-symbol.result c.in-Some.item (pile c.settle.new.self.stack.items) c.settle.new.self.code.items c.is_exponent.result
-    c.next_token-token.ensures.next (stands_same c.loop-item.counts.phase (view c.loop-item.names) c.loop-item.invariant.reached.names c.loop-item.invariant.reached.same (bytes_of c.args.text.now c.next_token-token.result) c.next_token-token.result.kind c.symbol_of-symbol.result c.symbol_of-symbol.ensures.stands) settles never (sym c.is_exponent.ensures)))
+    (refused _ _ _ _ _ _ _ _ _ _ c.loop-item.invariant.reached.reached _ _ _ _ _ _ c.next_token-token.ensures.next stands (settles_as c.in-Some.is c.in_ok-item.ensures)
+    (takes_as _ _ _ _ _ c.if-not-branch.true c.in_ok-take.ensures) (sym c.is_exponent.ensures)))
 
 pub returns-in-Err-clause-fault : goal.returns-in-Err-clause-fault
 returns-in-Err-clause-fault c =
-    let settles = subst (λ (o : Option Item). Settles c.symbol_of-symbol.result (pile c.loop-item.machine.stack.items) c.loop-item.machine.code.items o (pile c.settle.new.self.stack.items) c.settle.new.self.code.items) c.in-Some.is c.in_ok-item.ensures in
-    let follows = taken_true _ _ _ _ _ _ c.in_ok-take.ensures c.if-not-branch.false in
-    first_at c.args.text.now (view c.args.names.now) c.args.start (pile c.args.machine.now.stack.items) c.next_token-token.result.start c.in-Err.cause c.fault-in-Err.result c.fault-in-Err.ensures.at
-    (forbidden c.args.text.now (view c.args.names.now) c.loop-item.invariant.reached.names c.args.start c.loop-item.counts (pile c.args.machine.now.stack.items) c.args.machine.now.code.items
-    (pile c.loop-item.machine.stack.items) c.loop-item.machine.code.items c.loop-item.from c.loop-item.invariant.reached.reached
-    c.next_token-token.result c.symbol_of-symbol.result c.in-Some.item (pile c.settle.new.self.stack.items) c.settle.new.self.code.items
-    (pile c.take.new.self.stack.items) c.take.new.self.code.items c.in-Err.cause
-    c.next_token-token.ensures.next (stands_same c.loop-item.counts.phase (view c.loop-item.names) c.loop-item.invariant.reached.names c.loop-item.invariant.reached.same (bytes_of c.args.text.now c.next_token-token.result) c.next_token-token.result.kind c.symbol_of-symbol.result c.symbol_of-symbol.ensures.stands) settles follows (sym c.counted.ensures ∙ c.in-Err.is))
+    let stands = stands_same c.loop-item.counts.phase _ _ c.loop-item.invariant.reached.same (bytes_of c.args.text.now c.next_token-token.result) _ c.symbol_of-symbol.result c.symbol_of-symbol.ensures.stands in
+    first_at _ _ _ _ _ _ c.fault-in-Err.result c.fault-in-Err.ensures.at
+    (forbidden _ _ _ _ _ _ _ _ _ _ c.loop-item.invariant.reached.reached _ _ _ _ _ _ _ _ c.next_token-token.ensures.next stands (settles_as c.in-Some.is c.in_ok-item.ensures)
+    (takes_as _ _ _ _ _ c.if-not-branch.false c.in_ok-take.ensures) (sym c.counted.ensures ∙ c.in-Err.is))
 
 pub loop-item-smaller : goal.loop-item-smaller
 loop-item-smaller c =
-    let settles = subst (λ (o : Option Item). Settles c.symbol_of-symbol.result (pile c.loop-item.machine.stack.items) c.loop-item.machine.code.items o (pile c.settle.new.self.stack.items) c.settle.new.self.code.items) c.in-Some.is c.in_ok-item.ensures in
-    let follows = taken_true _ _ _ _ _ _ c.in_ok-take.ensures c.if-not-branch.false in
-    let on = c.next_token-token.ensures.progress
-    (taken_not_end c.args.text.now (view c.args.names.now) c.loop-item.invariant.reached.names c.args.start c.loop-item.counts (pile c.args.machine.now.stack.items) c.args.machine.now.code.items
-    (pile c.loop-item.machine.stack.items) c.loop-item.machine.code.items c.loop-item.from c.loop-item.invariant.reached.reached
-    c.next_token-token.result c.symbol_of-symbol.result c.in-Some.item (pile c.settle.new.self.stack.items) c.settle.new.self.code.items
-    (pile c.take.new.self.stack.items) c.take.new.self.code.items (stands_same c.loop-item.counts.phase (view c.loop-item.names) c.loop-item.invariant.reached.names c.loop-item.invariant.reached.same (bytes_of c.args.text.now c.next_token-token.result) c.next_token-token.result.kind c.symbol_of-symbol.result c.symbol_of-symbol.ensures.stands) settles follows) in
+    let stands = stands_same c.loop-item.counts.phase _ _ c.loop-item.invariant.reached.same (bytes_of c.args.text.now c.next_token-token.result) _ c.symbol_of-symbol.result c.symbol_of-symbol.ensures.stands in
+    let on = c.next_token-token.ensures.progress (taken_not_end _ _ _ _ _ _ _ _ _ _ c.loop-item.invariant.reached.reached c.next_token-token.result _ _ _ _ _ _ stands
+    (settles_as c.in-Some.is c.in_ok-item.ensures) (takes_as _ _ _ _ _ c.if-not-branch.false c.in_ok-take.ensures)) in
     omega (arith, on, c.next_token-token.ensures.onward, c.next_token-token.ensures.within)
 
 pub loop-item-preserved : goal.loop-item-preserved
 loop-item-preserved c =
-    let settles = subst (λ (o : Option Item). Settles c.symbol_of-symbol.result (pile c.loop-item.machine.stack.items) c.loop-item.machine.code.items o (pile c.settle.new.self.stack.items) c.settle.new.self.code.items) c.in-Some.is c.in_ok-item.ensures in
-    let follows = taken_true _ _ _ _ _ _ c.in_ok-take.ensures c.if-not-branch.false in
+    let settles = settles_as c.in-Some.is c.in_ok-item.ensures in
+    let follows = takes_as _ _ _ _ _ c.if-not-branch.false c.in_ok-take.ensures in
+    let stands = stands_same c.loop-item.counts.phase _ _ c.loop-item.invariant.reached.same (bytes_of c.args.text.now c.next_token-token.result) _ c.symbol_of-symbol.result c.symbol_of-symbol.ensures.stands in
+    let bytes = bytes_of c.args.text.now c.next_token-token.result in
     record {
-      fractions = same_fractions _ _ c.in_ok-take_in-in-Ok.ensures (learnt_fractions c.loop-item.counts c.symbol_of-symbol.result (bytes_of c.args.text.now c.next_token-token.result) (view c.loop-item.names) c.symbol_of-symbol.ensures.fraction c.loop-item.invariant.fractions);
+      fractions = same_fractions _ _ c.in_ok-take_in-in-Ok.ensures (learnt_fractions c.loop-item.counts c.symbol_of-symbol.result bytes (view c.loop-item.names) c.symbol_of-symbol.ensures.fraction c.loop-item.invariant.fractions);
       within = c.next_token-token.ensures.within;
       reached = record {
-        names = learnt (standing_of c.loop-item.counts) c.symbol_of-symbol.result (bytes_of c.args.text.now c.next_token-token.result) c.loop-item.invariant.reached.names;
-        same = same_trans _ _ _ c.in_ok-take_in-in-Ok.ensures
-            (learnt_same c.loop-item.counts c.symbol_of-symbol.result (bytes_of c.args.text.now c.next_token-token.result) (view c.loop-item.names) c.loop-item.invariant.reached.names c.loop-item.invariant.reached.same);
-        reached = taken_on c.args.text.now (view c.args.names.now) c.loop-item.invariant.reached.names c.args.start c.loop-item.counts c.in-Ok.next (pile c.args.machine.now.stack.items) c.args.machine.now.code.items
-            (pile c.loop-item.machine.stack.items) c.loop-item.machine.code.items c.loop-item.from c.loop-item.invariant.reached.reached
-            c.next_token-token.result c.symbol_of-symbol.result c.in-Some.item (pile c.settle.new.self.stack.items) c.settle.new.self.code.items
-            (pile c.take.new.self.stack.items) c.take.new.self.code.items
-            c.next_token-token.ensures.next (stands_same c.loop-item.counts.phase (view c.loop-item.names) c.loop-item.invariant.reached.names c.loop-item.invariant.reached.same (bytes_of c.args.text.now c.next_token-token.result) c.next_token-token.result.kind c.symbol_of-symbol.result c.symbol_of-symbol.ensures.stands) settles follows (sym c.counted.ensures ∙ c.in-Ok.is);
-        told = taken_told c.args.text.now (view c.args.names.now) c.loop-item.invariant.reached.names c.args.start c.loop-item.counts c.in-Ok.next (pile c.args.machine.now.stack.items) c.args.machine.now.code.items
-            (pile c.loop-item.machine.stack.items) c.loop-item.machine.code.items c.loop-item.from c.loop-item.invariant.reached.reached
-            c.next_token-token.result c.symbol_of-symbol.result c.in-Some.item (pile c.settle.new.self.stack.items) c.settle.new.self.code.items
-            (pile c.take.new.self.stack.items) c.take.new.self.code.items
-            c.next_token-token.ensures.next (stands_same c.loop-item.counts.phase (view c.loop-item.names) c.loop-item.invariant.reached.names c.loop-item.invariant.reached.same (bytes_of c.args.text.now c.next_token-token.result) c.next_token-token.result.kind c.symbol_of-symbol.result c.symbol_of-symbol.ensures.stands) settles follows (sym c.counted.ensures ∙ c.in-Ok.is)
-            (scoped c.args.scope.now) (scoped c.loop-item.scope) (scoped c.take_in-in-Ok.new.self) c.loop-item.invariant.reached.told c.symbol_of-symbol.ensures.fraction c.in_ok-take_in-in-Ok-2.ensures;
+        names = learnt (standing_of c.loop-item.counts) c.symbol_of-symbol.result bytes c.loop-item.invariant.reached.names;
+        same = same_trans _ _ _ c.in_ok-take_in-in-Ok.ensures (learnt_same c.loop-item.counts c.symbol_of-symbol.result bytes _ _ c.loop-item.invariant.reached.same);
+        reached = taken_on _ _ _ _ _ _ _ _ _ _ _ c.loop-item.invariant.reached.reached _ _ _ _ _ _ _ c.next_token-token.ensures.next stands settles follows (sym c.counted.ensures ∙ c.in-Ok.is);
+        told = taken_told _ _ _ _ _ _ _ _ _ _ _ c.loop-item.invariant.reached.reached _ _ _ _ _ _ _ c.next_token-token.ensures.next stands settles follows (sym c.counted.ensures ∙ c.in-Ok.is) _ _ _
+            c.loop-item.invariant.reached.told c.symbol_of-symbol.ensures.fraction c.in_ok-take_in-in-Ok-2.ensures;
       };
     }

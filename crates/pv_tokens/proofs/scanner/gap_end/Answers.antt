@@ -1,5 +1,5 @@
 use Rattle.std.proofs.Common.{refl, suc, arith}
-use Rattle.pv_tokens.proofs.Gaps.{separated_more}
+use Rattle.pv_tokens.proofs.Exists.{separated_more}
 use Rattle.pv_tokens.proofs.scanner.gap_end.Goals as goal
 
 pub loop-next-init : goal.loop-next-init

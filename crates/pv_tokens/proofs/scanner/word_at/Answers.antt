@@ -1,4 +1,4 @@
-use Rattle.pv_tokens.proofs.Words.{longest_of_number}
+use Rattle.pv_tokens.proofs.Exists.{longest_of_number}
 use Rattle.pv_tokens.proofs.scanner.word_at.Goals as goal
 
 pub returns-in-48-to-57 : goal.returns-in-48-to-57

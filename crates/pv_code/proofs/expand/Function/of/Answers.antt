@@ -1,18 +1,15 @@
-use Rattle.std.proofs.Common.{refl, ◌∙◌, ap, subst, List, Bool, map}
-use Rattle.std.specs.Prelude.{All}
+use Rattle.std.proofs.Common.{◌∙◌, ap, subst, map, [], List}
 use Rattle.pv_code.specs.declared.code.Op.{Op}
-use Rattle.pv_code.specs.Expansion.{IsMarked, renumber}
-use Rattle.pv_code.proofs.Pruning.{keeps-body}
-use Rattle.pv_code.proofs.Sizing.{of-top}
+use Rattle.pv_code.specs.Expansion.{IsMarked, code_of, meanings, run, top}
+use Rattle.pv_code.specs.Values.{at}
+use Rattle.pv_code.proofs.Moving.{filtered_alike}
 use Rattle.pv_code.proofs.expand.Function.of.Goals as goal
 
 pub returns-clause-keeps : goal.returns-clause-keeps
-returns-clause-keeps c =
-    keeps-body c.args.functions.now c.args.body.now c.in_ok-kept.kept.items c.in_ok-uses.uses.items c.in_ok-code.code.items (record { measure = c.topmost-measure.result; uses = c.in_ok-uses.uses; code = c.in_ok-code.code }) c.in_ok-kept.ensures
-    (subst (λ (z : List Op). All (IsMarked c.in_ok-uses.uses.items) z) c.as_slice.ensures.value c.in_ok-uses.ensures)
-    (c.in_ok-code.ensures ∙ ap (λ (us : List Bool). map (renumber us) c.as_slice-3.result.now) c.as_slice-2.ensures.value ∙ ap (map (renumber c.in_ok-uses.uses.items)) c.as_slice-3.ensures.value)
-    refl refl
+returns-clause-keeps c = λ ms args stand.
+    ap top (filtered_alike c.in_ok-value.value.code.items c.in_ok-marks.field-0.items args (subst (λ (z : List Op). IsMarked c.in_ok-marks.field-0.items z) c.as_slice.ensures.value c.in_ok-marks.ensures) (meanings (map code_of c.args.functions.now)) []
+    ∙ (c.in_ok-value.ensures (at c.args.functions.now ms args c.args.body.now) (run ms args c.args.body.now []) (c.in_ok-left.ensures ms args)).0.code stand [])
 
 pub returns-clause-measured : goal.returns-clause-measured
-returns-clause-measured c =
-    of-top c.args.functions.now c.args.body.now c.in_ok-left.left.items c.topmost-measure.result c.in_ok-left.ensures (λ args ts s. (c.topmost-measure.ensures args ts s).0)
+returns-clause-measured c = λ ms measured args few.
+    (c.in_ok-value.ensures (at c.args.functions.now ms args c.args.body.now) (run ms args c.args.body.now []) (c.in_ok-left.ensures ms args)).0.size c.requires.short measured few

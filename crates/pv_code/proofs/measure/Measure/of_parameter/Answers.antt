@@ -1,9 +1,9 @@
-use Rattle.std.proofs.Common.{arith}
-use Rattle.pv_code.proofs.Sizing.{past-size, parameter-size}
+use Rattle.std.proofs.Common.{◌≡◌, refl, rules}
+use Rattle.std.specs.Prelude.{min}
+use Rattle.pv_code.proofs.Sizing.{parameter-places}
 use Rattle.pv_code.proofs.measure.Measure.of_parameter.Goals as goal
 
-pub returns-then-i-ge12 : goal.returns-then-i-ge12
-returns-then-i-ge12 c = λ args few. past-size args args c.args.i (omega (arith, few, c.if-i-ge12.true))
-
 pub returns : goal.returns
-returns c = λ args few. parameter-size c.args.i args c.if-i-ge12.false
+returns c = λ args few.
+    let least : c.min.result ≡ min c.args.i 12 = search rules in
+    parameter-places args _ c.args.i c.min.result refl least few
