@@ -20,9 +20,11 @@ from data.cases import RECIPROCAL, system  # noqa: E402
 from paving_files import TWO_DISCS  # noqa: E402
 
 SECONDS = 60
-# Beyond so many allocations of one command every 7th is refused.
-EACH = 600
+# Beyond so many allocations of one command every 7th is refused, and each of the last ones.
+EACH, LAST = 600, 150
 QUARTER = ["--eps", "0.25"]
+# By these the lines are so many that several workers make them.
+FINE = ["--eps", "0.0078125"]
 SOLID = system("x in [-2,2], y in [-2,2]", "x^2 + y^2 <= 2; x * y >= 0")
 
 
@@ -46,6 +48,8 @@ def commands():
         "run-centered out": by(4, ["run-centered", "s"], "new"),
         "resume by one": by(1, ["resume", "r", "part"], "new"),
         "resume by four": by(4, ["resume", "r", "part"], "new"),
+        "many lines by four": (0, ["resume", "s", "many", *FINE, "--workers", "4"], None),
+        "many lines out by four": (0, ["resume", "s", "many", *FINE, "--workers", "4", "--out", "new"], "new"),
         "merge": (1, ["merge", "r", "part", "other", *QUARTER, "--out", "new"], "new"),
         "merge of two that disagree": (9, ["merge", "r", "other", "foul", *QUARTER], None),
         "audit": (0, ["audit", "r", "whole", *QUARTER], None),
@@ -90,6 +94,7 @@ class Tried:
         for name, budget in (("part", "1"), ("other", "2"), ("whole", "100")):
             self.call(["run", "r", *QUARTER, "--boxes", budget, "--out", name])
         self.call(["run", "s", *QUARTER, "--out", "plane"])
+        self.call(["run", "s", *FINE, "--out", "many"])
         self.call(["run-centered", "s", *QUARTER, "--out", "centered"])
         head = (files / "whole").read_bytes().split(b"\n")[:2]
         (files / "foul").write_bytes(b"\n".join([*head, b"I = =", b""]))
@@ -101,7 +106,7 @@ class Tried:
         new = after.get(stored)
         if wanted[0] != status or (stored and not new):
             self.faults.append(f"{' '.join(words)}: status {wanted[0]} where nothing is refused, {wanted[2]!r}")
-        tried = [n for n in range(1, count + 1) if n <= EACH or n % 7 == 0]
+        tried = [n for n in range(1, count + 1) if n <= EACH or n % 7 == 0 or n > count - LAST]
         for how in ("refuse", "refuse_from"):
             for n in tried:
                 self.remove(stored)

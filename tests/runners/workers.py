@@ -1,11 +1,11 @@
 #!/usr/bin/env python3
-"""Runs each example by one worker and by several, stored, and compares the files byte for byte.
+"""Runs each example by one worker and by several, stored and printed, and compares what they write byte for byte.
 
     python3 tests/runners/workers.py ./paver [TIMES] [WORD]
 
 runs the examples whose names contain WORD, each TIMES times (1 where it isn't given; `50` is for a long look) by 2, 4
 and 16 workers. A run that its budget ends settles exactly the budget, and its file is a paving that `audit` calls
-honest; a done run has one worker's bytes. The last line is 'N passed, M failed'.
+honest; a done run has one worker's bytes, on its standard output too. The last line is 'N passed, M failed'.
 """
 import subprocess
 import sys
@@ -45,7 +45,14 @@ def faults_of(paver, name, words, times):
                     return f"{workers} workers: another file"
                 if more.stdout.split()[:2] != alone.stdout.split()[:2]:
                     return f"{workers} workers: {more.stdout!r} in place of {alone.stdout!r}"
+        if alone.returncode == 0 and printed_apart(paver, folder, system, words):
+            return "other lines are printed"
         return cut_short(paver, folder, system, words)
+
+
+def printed_apart(paver, folder, system, words):
+    """Whether a done run prints other bytes by another number of workers."""
+    return len({run(paver, folder, "run", system, *words, "--workers", count).stdout for count in (1, 2, 4, 16)}) > 1
 
 
 def cut_short(paver, folder, system, words):

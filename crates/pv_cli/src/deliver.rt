@@ -15,21 +15,28 @@ ghost use Rattle.pv_cli.specs.Made.{made};
 use crate::product::Product;
 use crate::summary::summary;
 use crate::{Refusal, Status};
-use pv_file::{FileWriteRefused, write, write_lines};
+use pv_file::FileWriteRefused;
 use pv_io::{Folder, PlainSink, Sink, StoreRefused, WriteRefused};
+use pv_lines::{write_by, write_lines_by};
 use pv_num::Memory;
 use pv_svg::Picture;
 use pv_tree::Paving;
 use std::alloc::Global;
+use std::thread::Threads;
 
-/// Stores a product where a file is asked for, prints it, and answers the status with which the command ends.
-pub(crate) fn deliver<'a, F: Folder, K: Sink>(
+/// Stores a product where a file is asked for, prints it, and answers the status with which the command ends. The lines of a
+/// paving are made by so many workers.
+pub(crate) fn deliver<'a, F: Folder, K: Sink, R: Threads + Sync>(
+    rt: &R,
     alloc: Global,
     folder: &mut F,
     out: &mut K,
     product: &Product,
     file: Option<&'a str>,
+    workers: u32,
 ) -> Result<Status, Refusal<'a>>
+    requires one { 1 ≤ workers }
+    requires few { workers ≤ 16 }
     ensures status { IfOk result (HasStatus (made product.now)) }
     ensures delivered { OnOk result
         (IsDelivered (option_map (λ name. name.now) file.entry) (made product.now)
@@ -58,11 +65,11 @@ pub(crate) fn deliver<'a, F: Folder, K: Sink>(
             Ok(Status::Done)
         }
         (Product::Paved { paving, .. }, None) => {
-            print_paving(alloc, out, paving)?;
+            print_paving(rt, alloc, out, paving, workers)?;
             Ok(status_of(paving))
         }
         (Product::Paved { identity, paving }, Some(name)) => {
-            store(alloc, folder, name, *identity, paving)?;
+            store(rt, alloc, folder, name, *identity, paving, workers)?;
             print_summary(alloc, out, paving)?;
             Ok(status_of(paving))
         }
@@ -80,13 +87,17 @@ fn status_of(paving: &Paving) -> Status
 }
 
 // Stores the text of a paving's file.
-fn store<'a, F: Folder>(
+fn store<'a, F: Folder, R: Threads + Sync>(
+    rt: &R,
     alloc: Global,
     folder: &mut F,
     name: &'a str,
     identity: [u8; 32],
     paving: &Paving,
+    workers: u32,
 ) -> Result<(), Refusal<'a>>
+    requires one { 1 ≤ workers }
+    requires few { workers ≤ 16 }
     ensures stored { OnOk result
         (IsStored name.now (file_text version.Two identity paving.now.root paving.now.tree)
         (files (F.content folder.old) (F.fetch_faults folder.old) (F.store_faults folder.old))
@@ -97,7 +108,7 @@ fn store<'a, F: Folder>(
         (files (F.content folder.new) (F.fetch_faults folder.new) (F.store_faults folder.new))) }
 {
     let mut text = PlainSink::new(alloc);
-    match write(alloc, paving, identity, &mut text) {
+    match write_by(rt, alloc, paving, identity, workers, &mut text) {
         Ok(()) => keep(folder, name, text.bytes()),
         Err(_) => Err(Refusal::Memory),
     }
@@ -122,7 +133,15 @@ fn keep<'a, F: Folder>(folder: &mut F, name: &'a str, bytes: &[u8]) -> Result<()
 }
 
 // Prints the summary of a paving, and the lines of its nodes.
-fn print_paving<'a, K: Sink>(alloc: Global, out: &mut K, paving: &Paving) -> Result<(), Refusal<'a>>
+fn print_paving<'a, K: Sink, R: Threads + Sync>(
+    rt: &R,
+    alloc: Global,
+    out: &mut K,
+    paving: &Paving,
+    workers: u32,
+) -> Result<(), Refusal<'a>>
+    requires one { 1 ≤ workers }
+    requires few { workers ≤ 16 }
     ensures whole { OnOk result
         (K.written out.new
         ≡ appended (K.written out.old)
@@ -135,7 +154,7 @@ fn print_paving<'a, K: Sink>(alloc: Global, out: &mut K, paving: &Paving) -> Res
         ++ lines_of version.One paving.now.root paving.now.tree)) }
 {
     print_summary(alloc, out, paving)?;
-    match write_lines(alloc, paving, out) {
+    match write_lines_by(rt, alloc, paving, workers, out) {
         Ok(()) => Ok(()),
         Err(FileWriteRefused::WriteFailed) => Err(Refusal::NotPrinted),
         Err(FileWriteRefused::Memory) => Err(Refusal::Memory),

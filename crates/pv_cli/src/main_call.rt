@@ -1,5 +1,5 @@
 //! The top call.
-ghost use Rattle.std.specs.Prelude.{◌≡◌, ℕ, List, map, option_map, string_bytes, IfOk, IfErr};
+ghost use Rattle.std.specs.Prelude.{◌≡◌, ◌≤◌, ℕ, List, map, option_map, string_bytes, IfOk, IfErr};
 ghost use Rattle.pv_cli.specs.Systems.{files};
 ghost use Rattle.pv_cli.specs.Requests.{out_of, campaign_of};
 ghost use Rattle.pv_cli.specs.Campaigns.{stock, LeavesStock};
@@ -99,7 +99,15 @@ fn answer<'a, F: Folder, P: Keeper, K: Sink, G: Gate + Sync, R: Threads + Wait +
         (stock (P.kept keeper.new) (P.faults keeper.new)) }
 {
     match work(rt, alloc, request, folder, keeper, gate) {
-        Ok(product) => deliver(alloc, folder, out, &product, file_of(request)),
+        Ok(product) => deliver(
+            rt,
+            alloc,
+            folder,
+            out,
+            &product,
+            file_of(request),
+            workers_of(request),
+        ),
         Err(refusal) => Err(refusal),
     }
 }
@@ -118,6 +126,24 @@ fn file_of<'a>(request: &Request<'a>) -> Option<&'a str>
         Request::Run { out, .. } => *out,
         Request::Resume { out, .. } => *out,
         Request::Merge { out, .. } => *out,
+    }
+}
+
+// By how many threads the lines of a paving are made.
+fn workers_of<'a>(request: &Request<'a>) -> u32
+    ensures one { 1 ≤ result }
+    ensures few { result ≤ 16 }
+{
+    match request {
+        Request::Run { effort, .. } => effort.workers,
+        Request::Resume { effort, .. } => effort.workers,
+        Request::Check { .. }
+        | Request::Merge { .. }
+        | Request::Audit { .. }
+        | Request::Svg { .. }
+        | Request::Sample { .. }
+        | Request::Least { .. }
+        | Request::Campaign { .. } => 1,
     }
 }
 

@@ -1,12 +1,12 @@
 -- The text that a walk is still to meet.
-use Rattle.std.proofs.Common.{◌≡◌, ℕ, List, [], ◌∷◌, ◌++◌, refl, sym, ◌∙◌, ap, append_assoc, append-nil}
+use Rattle.std.proofs.Common.{◌≡◌, ℕ, zero, suc, ◌-◌, ◌<◌, List, [], ◌∷◌, ◌++◌, refl, sym, ◌∙◌, ap, append_assoc, append-nil, arith}
 use Rattle.pv_interval.specs.Bounds.{Bounds}
 use Rattle.pv_box.specs.Boxes.{lower_half, upper_half}
 use Rattle.pv_tree.specs.Trees.{Tree, leaf, removed, inner, small, cut}
 use Rattle.pv_tree.specs.Pieces.{Piece, pieces_below, children_of, root_piece}
 use Rattle.pv_file.specs.declared.version.Version.{Version}
 use Rattle.pv_file.specs.Lines.{lines_of, top_line}
-use Rattle.pv_file.specs.Walks.{pending_text}
+use Rattle.pv_file.specs.Walks.{pending_text, after_steps}
 
 shuffle : (t l h p : List ℕ) → (t ++ (10 ∷ (l ++ h))) ++ p ≡ (t ++ 10 ∷ []) ++ (l ++ (h ++ p))
 shuffle t l h p = simp append_assoc
@@ -31,3 +31,28 @@ begin_text v b t held pending e = ap (λ (x : List ℕ). held ++ x) (sym (append
 
 pub end_text : (v : Version) (sent held total : List ℕ) (pending : List Piece) → pending ≡ [] → total ≡ (sent ++ held) ++ pending_text v pending → total ≡ (sent ++ held) ++ []
 end_text v sent held total pending e t = t ∙ ap (λ (x : List Piece). (sent ++ held) ++ pending_text v x) e
+
+pub none_after : (n : ℕ) → after_steps n [] ≡ []
+none_after zero = refl
+none_after (suc n) = refl
+
+-- the walk is over, and so it is after all further steps
+pub over_come : (left : ℕ) (was now total : List Piece) → total ≡ after_steps left was → was ≡ [] → now ≡ was → now ≡ total
+over_come left was now total t e s = s ∙ e ∙ sym (t ∙ ap (after_steps left) e ∙ none_after left)
+
+-- no step is left
+pub end_come : (left : ℕ) (was total : List Piece) → total ≡ after_steps left was → left ≡ 0 → was ≡ total
+end_come left was total t e = sym (t ∙ ap (λ (n : ℕ). after_steps n was) e)
+
+pub step_come : (left : ℕ) (here : Piece) (was now rest total : List Piece) → 0 < left → total ≡ after_steps left was → was ≡ here ∷ rest → now ≡ children_of here ++ rest
+    → total ≡ after_steps (left - 1) now
+step_come zero here was now rest total some t w n =
+    let no_step : ⊥ = omega arith in
+    absurd no_step
+step_come (suc left) here was now rest total some t w n =
+    let e : suc left - 1 ≡ left = omega arith in
+    rw e (t ∙ ap (after_steps (suc left)) w ∙ sym (ap (after_steps left) n))
+
+pub line_written : (total held held' line pending pending' : List ℕ) → total ≡ held ++ pending → pending ≡ line ++ pending' → held' ≡ held ++ line → total ≡ held' ++ pending'
+line_written total held held' line pending pending' t p h =
+    t ∙ ap (λ (x : List ℕ). held ++ x) p ∙ sym (append_assoc held line pending') ∙ ap (λ (x : List ℕ). x ++ pending') (sym h)

@@ -5,3 +5,4 @@ pub mod Readings
 pub mod Words
 pub mod Reading
 pub mod Walks
+pub mod Scribes

@@ -11,6 +11,7 @@ mod lines;
 mod outcome_line;
 mod reader;
 mod refusal;
+mod scribe;
 #[cfg(test)]
 mod tests;
 mod version;
@@ -21,5 +22,6 @@ pub use lines::{write_node, write_outcome};
 pub use outcome_line::read_outcome;
 pub use reader::read;
 pub use refusal::{FileRefused, FileWriteRefused};
+pub use scribe::Scribe;
 pub use version::Version;
-pub use writer::{write, write_lines};
+pub use writer::{write, write_header, write_lines};

@@ -5,7 +5,7 @@ ghost use Rattle.pv_tree.specs.Trees.{shape_of, to_at};
 ghost use Rattle.pv_tree.specs.Pieces.{IsPiece};
 ghost use Rattle.pv_file.specs.Lines.{lines_of, top_line};
 ghost use Rattle.pv_file.specs.Shapes.{keeps_of};
-ghost use Rattle.pv_file.specs.Texts.{file_text};
+ghost use Rattle.pv_file.specs.Texts.{file_text, header_text};
 
 use crate::header::push_header;
 use crate::lines::{keeps, push_shape, scratch_box};
@@ -43,6 +43,27 @@ pub fn write<K: Sink>(
     let mut held = Vec::with_capacity(alloc, PIECE + LONGEST_LINE)?;
     push_header(Version::Two, &identity, &mut held)?;
     write_nodes(alloc, p, Version::Two, held, sink)
+}
+
+/// Hands the two lines before the nodes to a sink.
+pub fn write_header<K: Sink>(
+    alloc: Global,
+    version: Version,
+    identity: &[u8; 32],
+    sink: &mut K,
+) -> Result<(), FileWriteRefused>
+    ensures whole { OnOk result
+        (K.written sink.new ≡ appended (K.written sink.old) (header_text version identity.now)) }
+    ensures front { OnErr result
+        (AppendsFront (K.written sink.old) (K.written sink.new)
+        (header_text version identity.now)) }
+    ensures cause { IsErrOf result FileWriteRefused.WriteFailed
+        → Rose (K.faults sink.old) (K.faults sink.new) }
+    ensures counts_on { K.faults sink.old ≤ K.faults sink.new }
+{
+    let mut held = Vec::new(alloc);
+    push_header(version, identity, &mut held)?;
+    hand_over(&mut held, sink)
 }
 
 /// Hands the version 1 lines of a paving's nodes to a sink, each with its line feed.
@@ -91,7 +112,7 @@ fn write_nodes<K: Sink>(
 }
 
 // Appends the line of the node that a walk has just visited.
-fn push_visited(
+pub(crate) fn push_visited(
     walk: &Walk<'_>,
     shape: Shape,
     version: Version,

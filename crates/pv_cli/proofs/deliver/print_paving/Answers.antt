@@ -17,7 +17,7 @@ returns-in_err-print_summary-clause-refused g c =
 pub returns-in-Err-WriteFailed-clause-refused : goal.returns-in-Err-WriteFailed-clause-refused
 returns-in-Err-WriteFailed-clause-refused g c =
     let t = c.args.paving.now.tree in
-    let rose : Rose (g.K.Sink.faults c.print_summary.new.out) (g.K.Sink.faults c.write_lines.new.sink) = search rules in (
+    let rose : Rose (g.K.Sink.faults c.print_summary.new.out) (g.K.Sink.faults c.write_lines_by.new.sink) = search rules in (
       front_second _ _ _ (summary_of (counts_of t)) (lines_of One c.args.paving.now.root t) c.in_ok-print_summary.ensures.whole c.in-Err-WriteFailed.ensures.front,
       rose_from _ _ _ c.print_summary.ensures.counts_on rose,
     )

@@ -1,4 +1,4 @@
-use Rattle.std.proofs.Common.{sym, subst}
+use Rattle.std.proofs.Common.{subst}
 use Rattle.memchr.specs.Find.{IsFirstByte, is_byte}
 use Rattle.pv_file.proofs.Bytes.{found_free, found_ends, found_within, none_free, none_ends}
 use Rattle.pv_file.proofs.cut.line_end.Goals as goal

@@ -1,0 +1,103 @@
+//! Scribes that stand one behind the other, and their turns.
+ghost use Rattle.std.specs.Prelude.{◌≡◌, ℕ, ◌+◌, ◌-◌, ◌<◌, ◌≤◌, [], ◌∷◌, IfOk, length, get_or, vec_len, drop, OnOk, OnErr, IsErrOf};
+ghost use Rattle.pv_io.specs.Outside.{Rose, appended, AppendsFront};
+ghost use Rattle.pv_tree.specs.Pieces.{root_piece};
+ghost use Rattle.pv_file.specs.Scribes.{Scribed};
+ghost use Rattle.pv_lines.specs.Turns.{AreSpread, HasTurned, HaveTexts, texts_of};
+
+use pv_file::{FileWriteRefused, Scribe, Version};
+use pv_io::{Sink, WriteRefused};
+use pv_num::Memory;
+use pv_tree::Paving;
+use std::alloc::Global;
+use std::thread;
+use std::thread::Threads;
+
+/// So many scribes, each a share behind the one before.
+pub(crate) fn spread<'a>(
+    alloc: Global,
+    p: &'a Paving,
+    workers: u32,
+    share: u64,
+) -> Result<Vec<Scribe<'a>>, Memory>
+    requires few { workers ≤ 16 }
+    requires small { share ≤ 20000 }
+    ensures count { IfOk result (λ v. vec_len v ≡ workers) }
+    ensures spread { IfOk result (λ v. AreSpread share (root_piece p.now.root p.now.tree ∷ [])
+        v.items) }
+{
+    let mut scribes = Vec::with_capacity(alloc, workers as usize)?;
+    let mut behind = 0;
+    for _worker in 0..workers {
+        let mut scribe = Scribe::of(alloc, p)?;
+        scribe.pass(behind);
+        scribes.push_reserved(scribe);
+        behind += share;
+    }
+    Ok(scribes)
+}
+
+/// Each scribe makes a share, and passes those of the others, in a thread of its own where one can be made.
+pub(crate) fn turn_all<R: Threads + Sync>(
+    rt: &R,
+    version: Version,
+    share: u64,
+    gap: u64,
+    scribes: &mut [Scribe<'_>],
+)
+    requires some { 0 < length scribes.old }
+    ensures count { length scribes.new ≡ length scribes.old }
+    ensures turned { (i : ℕ) (d : Scribed) → i < length scribes.old →
+        HasTurned version share gap (get_or scribes.old i d) (get_or scribes.new i d) }
+{
+    let count = scribes.len();
+    let one = |_i: usize, scribe: &mut Scribe<'_>|
+        ensures { HasTurned version share gap scribe.entry.now scribe.exit.now }
+    { turn(version, share, gap, scribe) };
+    thread::for_each_mut(rt, scribes, count, &one);
+}
+
+fn turn(version: Version, share: u64, gap: u64, scribe: &mut Scribe<'_>)
+    ensures { HasTurned version share gap scribe.old scribe.new }
+{
+    scribe.make(version, share);
+    scribe.pass(gap);
+}
+
+/// Hands the texts of the scribes from the i-th on to a sink.
+pub(crate) fn hand_from<K: Sink>(
+    scribes: &[Scribe<'_>],
+    i: usize,
+    sink: &mut K,
+) -> Result<(), FileWriteRefused>
+    requires { i ≤ length scribes.now }
+    ensures whole { OnOk result
+        (K.written sink.new ≡ appended (K.written sink.old) (texts_of (drop i scribes.now))) }
+    ensures texts { OnOk result (HaveTexts (drop i scribes.now)) }
+    ensures front { OnErr result
+        (AppendsFront (K.written sink.old) (K.written sink.new) (texts_of (drop i scribes.now))) }
+    ensures cause { IsErrOf result FileWriteRefused.WriteFailed
+        → Rose (K.faults sink.old) (K.faults sink.new) }
+    ensures counts_on { K.faults sink.old ≤ K.faults sink.new }
+{
+    if i == scribes.len() {
+        return Ok(());
+    }
+    let text = scribes[i].text()?;
+    hand_over(text, sink)?;
+    hand_from(scribes, i + 1, sink)
+}
+
+fn hand_over<K: Sink>(text: &[u8], sink: &mut K) -> Result<(), FileWriteRefused>
+    ensures whole { OnOk result (K.written sink.new ≡ appended (K.written sink.old) text.now) }
+    ensures front { OnErr result (AppendsFront (K.written sink.old) (K.written sink.new) text.now) }
+    ensures cause { IsErrOf result FileWriteRefused.WriteFailed
+        → Rose (K.faults sink.old) (K.faults sink.new) }
+    ensures counts_on { K.faults sink.old ≤ K.faults sink.new }
+{
+    match sink.write(text) {
+        Ok(()) => Ok(()),
+        Err(WriteRefused::Failed) => Err(FileWriteRefused::WriteFailed),
+        Err(WriteRefused::Memory) => Err(FileWriteRefused::Memory),
+    }
+}

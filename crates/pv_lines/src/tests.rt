@@ -1,0 +1,79 @@
+//! A worked paving with a node of every shape, whose lines several workers make.
+ghost use Rattle.std.specs.Prelude.{◌≡◌, ◌≤◌};
+
+use crate::rounds::{nodes_of, write_nodes, write_rounds};
+use crate::spread::spread;
+use pv_box::IBox;
+use pv_file::{Version, read};
+use pv_interval::Interval;
+use pv_io::PlainSink;
+use pv_num::{Memory, Num};
+use pv_tree::Paving;
+use std::alloc::Global;
+use std::test::Fail;
+use std::thread::Threads;
+
+const HEADER: &str =
+    "paving 1\nidentity 2a2a2a2a2a2a2a2a2a2a2a2a2a2a2a2a2a2a2a2a2a2a2a2a2a2a2a2a2a2a2a2a\n";
+
+const ONE: &str =
+    "C 0 1:-1 0:0 1:0\nC 0 1:-2 0:0 1:-1\nX\nO\nC 0 3:-2 1:-1 1:0\nS 1:-1 3:-2\nI 7:-3 1:0\n";
+
+const TWO: &str = "C 0 1:-1 = =\nC 0 1:-2 = =\nX\nO\nC 0 3:-2 = =\nS = =\nI 7:-3 =\n";
+
+// The paving of [0,1] with these lines.
+fn paving(alloc: Global) -> Result<Paving, Fail> {
+    let part = Interval::new(Num::ZERO, Num::ONE).unwrap_or(Interval::ALL);
+    let root = IBox::new(vec![in alloc; part]?);
+    let mut text = Vec::from_slice(alloc, HEADER.as_bytes())?;
+    text.extend_from_slice(ONE.as_bytes())?;
+    Ok(read(alloc, &text, [0x2a; 32], &root)?)
+}
+
+// The lines by so many workers.
+fn lines_by<R: Threads + Sync>(
+    rt: &R,
+    alloc: Global,
+    p: &Paving,
+    version: Version,
+    workers: u32,
+) -> Result<PlainSink, Fail>
+    requires one { 1 ≤ workers }
+    requires few { workers ≤ 16 }
+{
+    let mut sink = PlainSink::new(alloc);
+    write_nodes(rt, alloc, p, version, workers, &mut sink)?;
+    Ok(sink)
+}
+
+#[test]
+fn lines_by_one_two_four_and_sixteen(rt: HostRuntime) -> Result<(), Fail> {
+    let alloc = rt.alloc();
+    let p = paving(alloc)?;
+    for workers in [1u32, 2, 4, 16] {
+        let one = lines_by(&rt, alloc, &p, Version::One, workers)?;
+        assert_eq!(rt; one.bytes(), ONE.as_bytes(), "{workers}");
+        let two = lines_by(&rt, alloc, &p, Version::Two, workers)?;
+        assert_eq!(rt; two.bytes(), TWO.as_bytes(), "{workers}");
+    }
+    Ok(())
+}
+
+#[test]
+fn two_take_turns(rt: HostRuntime) -> Result<(), Fail> {
+    let alloc = rt.alloc();
+    let p = paving(alloc)?;
+    let mut scribes = spread(alloc, &p, 2, 1)?;
+    let mut sink = PlainSink::new(alloc);
+    write_rounds(
+        &rt,
+        &p,
+        Version::One,
+        nodes_of(&p),
+        1,
+        scribes.as_mut_slice(),
+        &mut sink,
+    )?;
+    assert_eq!(rt; sink.bytes(), ONE.as_bytes());
+    Ok(())
+}
