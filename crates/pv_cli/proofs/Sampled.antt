@@ -1,6 +1,6 @@
 -- What a sample's text and settings come to.
-use Rattle.std.proofs.Common.{◌≡◌, ◌≢◌, ℕ, ◌≤◌, pos, List, Ok, Err, length, sym, subst, arith}
-use Rattle.std.specs.Prelude.{IsTrue, Some, Result, IfOk, IfErr, OnOk}
+use Rattle.std.proofs.Common.{◌≡◌, ◌≢◌, ℕ, ◌≤◌, pos, List, Ok, Err, length, refl, sym, ◌∙◌, subst, arith}
+use Rattle.std.specs.Prelude.{IsTrue, None, Some, Option, Result, IfOk, IfErr, OnOk, codes}
 use Rattle.pv_num.specs.Extended.{Extended, Fin, PosInf}
 use Rattle.pv_num.specs.Order.{le}
 use Rattle.pv_num.specs.Arithmetic.{ratio_of}
@@ -11,6 +11,7 @@ use Rattle.pv_parse.specs.Declarations.{IsMeaning}
 use Rattle.pv_parse.specs.declared.refused.ParseRefused.{ParseRefused}
 use Rattle.pv_parse.specs.declared.refused.ParseRefused.TheVariants as parse
 use Rattle.pv_ctc.specs.Refusals.{refused_at}
+use Rattle.pv_ctc.specs.Symbols.{digits_token, further, token_of, tokens_at}
 use Rattle.pv_tree.specs.Trees.{Tree, leaf}
 use Rattle.pv_tree.specs.Stages.{full_of}
 use Rattle.pv_settle.specs.Rules.{SettlerParts}
@@ -48,12 +49,16 @@ pub made_rule : (c : Circles) (s : Settings) (text : List ℕ) (system : Parts) 
 made_rule c s text system (Ok x) same means h = record { system = system; means = subst (λ (t : List ℕ). IsMeaning t system) same means; is = h }
 made_rule c s text system (Err r) same means h = tt
 
+-- the program names no constraint, so it is refused for no number of them
+not_refused : (n : ℕ) → refused_at n (codes "prop(8)") ≡ None
+unfolding refused_at tokens_at token_of further digits_token
+not_refused n = refl
+
+none_some : {byte : ℕ} → None ≡ Some byte → ⊥
+none_some e = cc
+
 no_rule : (c : Circles) (s : Settings) (system : Parts) (r : Refusal) → AreForSamples s → IsMeaning (text_of c) system → RefusesSettings system s r → RefusesSample c r
-no_rule c s system (Contract byte) for means h = record {
-  system = system;
-  means = means;
-  refused = subst (λ (t : List ℕ). refused_at (length system.constraints) t ≡ Some byte) for.contract h;
-}
+no_rule c s system (Contract byte) for means h = none_some (sym (not_refused (length system.constraints)) ∙ subst (λ (t : List ℕ). refused_at (length system.constraints) t ≡ Some byte) for.contract h)
 no_rule c s system Memory for means h = tt
 no_rule c s system Usage for means h = h
 no_rule c s system (System line column byte cause) for means h = absurd h

@@ -298,16 +298,9 @@ abbrev pub RefusesSvg : Files → Files → Text → Text → Settings → View 
 RefusesSvg before after system name s v Usage = HasNoPlaneIn before system s v
 RefusesSvg before after system name s v r = RefusesRule before after system s r ⊎ HasNoPicture before after system name s v r
 
--- the text of the contractor program is refused for the system that the circles' text means
-pub record HasNoProgram (c : Circles) (byte : ℕ) : Type 0 where
-  pub system : Parts
-  pub means : IsMeaning (text_of c) system
-  pub refused : refused_at (length system.constraints) (codes "prop(8)") ≡ Some byte
-
 -- why there is no sample
 abbrev pub RefusesSample : Circles → Refusal → Type 0
 RefusesSample c (System line column byte cause) = IsFaultOf (text_of c) (Fault byte line column cause)
-RefusesSample c (Contract byte) = HasNoProgram c byte
 RefusesSample c Memory = Unit {0}
 RefusesSample c _ = ⊥
 

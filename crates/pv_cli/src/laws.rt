@@ -71,7 +71,7 @@ pub fn words()
 {}
 
 /// With status 10 the keeper failed in this call, and nothing was printed. With 7 and 10 all rows that were kept stay, or the
-/// rows are those of an opened campaign with so many of its rounds. With every status all other names stay, and every other
+/// rows are those of an opened campaign with some of its rounds. With every status all other names stay, and every other
 /// command leaves the keeper as it was.
 pub fn campaigns()
     ensures fault { KeeperFaultBreaksOff }

@@ -30,6 +30,7 @@ mod telling;
 mod values;
 
 pub use main_call::paver_main;
+pub use pv_made::sample_system;
 pub use pv_pool::{Gate, NoGate};
 pub use pv_workers::{Paved, pave};
 pub use refusal::{FileFault, Refusal};

@@ -57,7 +57,7 @@ pub enum Refusal<'a> {
     NotPrinted,
     /// There was no memory.
     Memory,
-    /// The tree of the files or of a campaign has so many settled nodes, and with the budget too many.
+    /// The tree of the files or of a campaign has `settled` settled nodes, and with the budget too many.
     TreeLimit {
         settled: u64,
     },
