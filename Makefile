@@ -2,7 +2,7 @@
 # make          proves and builds the program and leaves it as ./paver
 # make demo     the same on JOBS processors; paves an example and leaves its picture as demo/ring.svg
 # make test     the whole test command: the gate and the end-to-end tests
-# make fuzz     COUNT made texts, words and files each, a tenth as many databases, and each allocation of each command refused in turn
+# make fuzz     COUNT made texts, words and files each, a tenth as many systems and databases, and each allocation of each command refused in turn
 # make pictures draws each example into docs/pictures, and writes docs/GALLERY.md
 # make bench    measures beside a lean Rust program, where there is a rustc
 # make install PREFIX=/usr/local      the program, its man page and completions; make uninstall takes them away
@@ -64,6 +64,7 @@ fuzz: paver
 	python3 tests/runners/fuzz_reader.py ./paver $(COUNT)
 	python3 tests/runners/fuzz_words.py ./paver $(COUNT)
 	python3 tests/runners/fuzz_files.py ./paver $(COUNT)
+	python3 tests/runners/fuzz_systems.py ./paver $$(($(COUNT) / 10))
 	python3 tests/runners/fuzz_databases.py ./paver $$(($(COUNT) / 10))
 	python3 tests/runners/allocations.py ./paver
 	python3 tests/runners/campaign_allocations.py ./paver

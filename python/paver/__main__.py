@@ -1,4 +1,4 @@
-"""python -m paver COMMAND: tools around the program. Each is a function of the package too."""
+"""python3 -m paver COMMAND: tools around the program. Each is a function of the package too."""
 import argparse
 import os
 import sys
@@ -154,14 +154,14 @@ def gather_command(arguments):
 
 
 def parser():
-    main_parser = argparse.ArgumentParser(prog="python -m paver", description=__doc__)
+    main_parser = argparse.ArgumentParser(prog="python3 -m paver", description=__doc__)
     main_parser.add_argument("--program", help="the program's path; else the variable PAVER, else PATH")
     commands = main_parser.add_subparsers(dest="command", required=True)
     for name, work in (("roots", roots), ("summary", summary), ("csv", csv_command), ("plot", plot_command)):
         command = commands.add_parser(name, help=work.__doc__, description=work.__doc__)
         command.set_defaults(work=work)
         command.add_argument("system")
-        command.add_argument("paving", nargs="?", help="a stored paving or printed text; else the system is run")
+        command.add_argument("paving", nargs="?", help="a stored paving, printed text or a campaign's database; else the system is run")
         run_options(command)
     commands.choices["csv"].add_argument("--exactly", action="store_true", help="fractions in place of floats")
     drawn = commands.choices["plot"]

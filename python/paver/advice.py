@@ -69,7 +69,7 @@ def budget_warning(counts, boxes):
         return None
     settled = counts["settled"]
     if settled >= MOST_BOXES or (boxes or 0) >= MOST_BOXES:
-        way = (f"a paving has at most {MOST_BOXES} settled nodes: split the box (`python -m paver split`), or take a larger "
+        way = (f"a paving has at most {MOST_BOXES} settled nodes: split the box (`python3 -m paver split`), or take a larger "
                "eps")
     else:
         way = (f"give more by --boxes (a paving has at most {MOST_BOXES} settled nodes), go on from a file that --out "

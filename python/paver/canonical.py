@@ -47,7 +47,7 @@ def read_constraint(line):
     left, at = read_expression(words, 0)
     right, at = read_expression(words, at)
     if at != len(words):
-        raise ValueError("words behind the right side")
+        raise ValueError("words after the right side")
     return Constraint(relation, left, right)
 
 

@@ -4,7 +4,7 @@ import math
 from collections import namedtuple
 from fractions import Fraction
 
-from .numbers import INFINITE, SCALE, as_float, exact, exact_of_grid, float_of, grid
+from .numbers import INFINITE, SCALE, as_float, exact, exact_of_grid, float_of, grid, width
 
 KEPT = ("inner", "small", "open")
 Node = namedtuple("Node", "kind box to variable")
@@ -39,15 +39,15 @@ class Box:
     @property
     def width(self):
         """The exact width of its widest place."""
-        return exact_of_grid(max(high - low for low, high in self.grid))
+        return exact_of_grid(max(width(*pair) for pair in self.grid))
 
     @property
     def volume(self):
         """The exact volume; 0 where a place is one point, even beside an infinite one."""
-        widths = [high - low for low, high in self.grid]
+        widths = [width(*pair) for pair in self.grid]
         if 0 in widths:
             return Fraction(0)
-        if max(widths) >= INFINITE:
+        if INFINITE in widths:
             return math.inf
         return Fraction(math.prod(widths), 1 << (SCALE * len(widths)))
 
@@ -128,8 +128,8 @@ class Cover:
         found = dict.fromkeys(("inner", "small", "open", "removed"), Fraction(0))
         scale, sums = SCALE * (self.dims or 1), dict.fromkeys(found, 0)
         for box in self.boxes():
-            widths = [grid(high) - grid(low) for low, high in zip(box.words[::2], box.words[1::2])]
-            if 0 not in widths and max(widths) >= INFINITE:
+            widths = [width(*pair) for pair in box.grid]
+            if 0 not in widths and INFINITE in widths:
                 found[box.kind] = math.inf
             else:
                 sums[box.kind] += math.prod(widths)
@@ -143,9 +143,9 @@ class Cover:
         """The widest box of a class, the first among equals; None where there is none."""
         best, most = None, -1
         for box in self.boxes(kind):
-            width = max(grid(high) - grid(low) for low, high in zip(box.words[::2], box.words[1::2]))
-            if width > most:
-                best, most = box, width
+            found = max(width(*pair) for pair in box.grid)
+            if found > most:
+                best, most = box, found
         return best
 
     def clusters(self, gap=0, kinds=KEPT):

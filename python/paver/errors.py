@@ -28,7 +28,8 @@ class SystemRefused(PaverError):
 
 
 class PavingRefused(PaverError):
-    """Status 4: the paving .name is refused with .cause, at .row (None where the cause has no line)."""
+    """Status 4: the paving .name is refused with .cause, at .row (None where the cause has no place): the line of a file,
+    from 1, or the row of a campaign, from 0."""
 
 
 class ReadFault(PaverError):
@@ -36,7 +37,7 @@ class ReadFault(PaverError):
 
 
 class WriteFault(PaverError):
-    """Status 6: .name, a file or standard output, took not all."""
+    """Status 6: .name, a file or standard output, did not take everything."""
 
 
 class WantOfMemory(PaverError):
@@ -49,7 +50,11 @@ class TreeLimit(PaverError):
 
 class Disagree(PaverError):
     """Status 9: at the node .path, pavings disagree (.kind "disagree") or a paving differs from what settling gives
-    ("differs"); .first and .second are the two node lines, None for what is an open leaf's place."""
+    ("differs"); .first and .second are the two node lines."""
+
+
+class KeeperFault(PaverError):
+    """Status 10: the database .name of a campaign failed. What the rounds before it settled stays kept."""
 
 
 class NoFile(PaverError):

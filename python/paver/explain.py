@@ -57,7 +57,7 @@ def of_refused_system(name, text, fault):
         if found:
             lines.append(f"Expected here: {alternatives(found)}.")
     if fault.cause in ("NotInProfile", "BadByte", "Unexpected"):
-        lines.append("If this is a file for IBEX, `python -m paver from-ibex FILE` writes what can be written of it.")
+        lines.append("If this is a file for IBEX, `python3 -m paver from-ibex FILE` writes what can be written of it.")
     return lines
 
 

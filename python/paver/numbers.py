@@ -6,6 +6,7 @@ Exact values are Fractions, or ±math.inf; floats are asked for by their side an
 """
 import math
 import re
+import sys
 from fractions import Fraction
 from functools import lru_cache
 
@@ -39,6 +40,11 @@ def grid(text):
     return mantissa << exponent
 
 
+def width(low, high):
+    """How far apart two grid forms are; INFINITE where an end is infinite."""
+    return INFINITE if low == -INFINITE or high == INFINITE else high - low
+
+
 def exact_of_grid(value):
     """The exact value of a grid form: a Fraction, or an infinite float."""
     if abs(value) >= INFINITE:
@@ -68,6 +74,8 @@ def as_float(value, up):
 
 def stepped(value, direction):
     """A float beyond value by at least one step, for Pythons before 3.9, which have no math.nextafter."""
+    if math.isinf(value):
+        return math.copysign(sys.float_info.max, value)
     return value + direction * max(abs(value) * 2.0 ** -52, 5e-324)
 
 

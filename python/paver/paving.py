@@ -2,6 +2,7 @@
 import re
 from pathlib import Path
 
+from . import kept
 from .cover import Box, Cover, Node
 from .errors import PavingError
 from .numbers import NumberError, grid, rounded
@@ -61,11 +62,16 @@ class Paving(Cover):
 
     @classmethod
     def read(cls, path, *, root=None, names=None, system=None, program=None):
-        """Reads a file. system is what program.check gave, or the path of a system's file, which is then checked."""
+        """Reads a file: a stored paving, printed text, or the database of a campaign. system is what program.check gave,
+        or the path of a system's file, which is then checked."""
         if isinstance(system, (str, Path)):
             from .program import check
             system = check(system, program=program)
-        return cls.from_text(Path(path).read_bytes().decode("latin-1"), root=root, names=names, system=system)
+        data = Path(path).read_bytes()
+        if data.startswith(kept.HEADER):
+            lines, identity = kept.lines_of(path)
+            data = "\n".join(["paving 1", f"identity {identity}", *lines, ""]).encode("latin-1")
+        return cls.from_text(data.decode("latin-1"), root=root, names=names, system=system)
 
     def _dims(self):
         if self.root is not None:

@@ -47,7 +47,8 @@ def option_words(settings, known=OPTIONS):
 
 @dataclass
 class Answer:
-    """What run, run_centered, resume and merge answered: status 0, or 1 where leaves are open."""
+    """What run, run_centered, resume, merge and campaign answered: status 0, or 1 where leaves are open. `out` is the
+    file where the paving is, or a campaign's database; None where it was printed."""
     status: int
     text: str
     system: Path
@@ -92,12 +93,14 @@ PATTERNS = [
     (2, errors.UsageError, r"usage: .*"),
     (3, errors.SystemRefused, r"system: line (?P<row>\d+) column (?P<column>\d+) byte (?P<byte>\d+): (?P<cause>\w+)"),
     (4, errors.PavingRefused,
-     r"paving (?P<name>.*): (?P<cause>too long|wrong identity|bad line|too many nodes)(?: at line)?(?: (?P<row>\d+))?"),
+     r"paving (?P<name>.*): (?P<cause>too long|wrong identity|bad line|too many nodes|bad row|too many rows)"
+     r"(?: at line)?(?: (?P<row>\d+))?"),
     (5, errors.ReadFault, r"read fault: (?P<name>.*)"),
     (6, errors.WriteFault, r"write fault: (?P<name>.*)"),
     (7, errors.WantOfMemory, r"want of memory"),
     (8, errors.TreeLimit, r"tree limit: (?P<settled>\d+) settled"),
     (9, errors.Disagree, r"(?P<kind>disagree|differs) (?P<path>\.|[01]+): (?P<first>.*?) \| (?P<second>.*)"),
+    (10, errors.KeeperFault, r"keeper fault: (?P<name>.*)"),
     (11, errors.NoFile, r"no file: (?P<name>.*)"),
 ]
 NUMERIC = {"byte", "row", "column", "settled"}
@@ -131,7 +134,7 @@ def has(command, program=None):
     """Whether the program has a command, or `run --out`: with it, a system that is not there is no file."""
     words = {"run --out": ["run", "--out=none"]}.get(command, [command])
     pavings = ["none"] if command in ("resume", "merge", "audit", "audit-centered", "svg") else []
-    words += ["--x=x", "--y=y"] if command == "svg" else ["--of=x"] if command == "least" else []
+    words += {"svg": ["--x=x", "--y=y"], "least": ["--of=x"], "campaign": ["--keep=none"]}.get(command, [])
     return call([*words, "--", "/no such folder/no such system", *pavings], program)[0] == 11
 
 
@@ -174,6 +177,17 @@ def resume(system, pavings, *, out=None, program=None, timeout=None, **options):
 def merge(system, pavings, *, out=None, program=None, timeout=None, **settings):
     """Joins 1 to 8 stored pavings of the system under the same settings."""
     return paved("merge", system, listed(pavings), out, settings, SETTINGS, program, timeout)
+
+
+def campaign(system, keep, *, rounds=None, program=None, timeout=None, **options):
+    """Goes on with the paving that is kept in the database `keep`, or begins one there, for 1 to 100 rounds (else one).
+    Each round settles at most `boxes` nodes and keeps them before the next begins, so what whole rounds settled stays
+    whatever ends the call."""
+    words = ["campaign", *option_words(options, OPTIONS), f"--keep={keep}"]
+    words += [] if rounds is None else [f"--rounds={rounds}"]
+    status, text = asked([*words, "--", system], program, timeout)
+    kept = {name: value for name, value in options.items() if value is not None}
+    return Answer(status, text, Path(system), find(program), kept, str(keep))
 
 
 def audit(system, paving, *, program=None, timeout=None, **settings):

@@ -1,4 +1,4 @@
-"""Files in the Minibex that IBEX takes, and what `python -m paver from-ibex` has to make of them.
+"""Files in the Minibex that IBEX takes, and what `python3 -m paver from-ibex` has to make of them.
 
 TAKEN has a name, the file, and the profile's text by hand; REFUSED has a name, the file, and of each form that can't
 be written its line and a word of the form.

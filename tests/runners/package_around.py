@@ -190,10 +190,11 @@ def check_pip():
 
 
 def check_vim():
-    """The errorformat finds the refused place."""
+    """The errorformat finds the refused place, also in another folder than the one where vim runs."""
     needs_tool("vim")
     with tempfile.TemporaryDirectory() as folder:
-        system, result = Path(folder) / "bad.mbx", Path(folder) / "found"
+        system, result = Path(folder) / "below" / "bad.mbx", Path(folder) / "found"
+        system.parent.mkdir()
         system.write_text("Variables x in [0,4];\nConstraints\n  x + <= 1;\nend\n")
         link = Path(folder) / "paver"
         link.symlink_to(os.environ["PAVER"])
@@ -204,7 +205,7 @@ def check_vim():
                        env={**os.environ, "PATH": f"{folder}:{os.environ['PATH']}"}, capture_output=True, check=False)
         if not result.exists():
             raise Skipped("this vim knows no lambdas")
-        assert result.read_text().strip().endswith("bad.mbx', 3, 7, 'Unexpected']]"), result.read_text()
+        assert result.read_text().strip().endswith("below/bad.mbx', 3, 7, 'Unexpected']]"), result.read_text()
 
 
 def checks():

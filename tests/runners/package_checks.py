@@ -2,6 +2,8 @@
 import hashlib
 import math
 import random
+import sqlite3
+import sys
 import tempfile
 from fractions import Fraction
 from pathlib import Path
@@ -59,7 +61,9 @@ def check_numbers():
         low, high = numbers.as_float(value, False), numbers.as_float(value, True)
         assert Fraction(low) <= value <= Fraction(high) and (low == high) == (Fraction(low) == value)
     assert numbers.exact("-oo") == float("-inf") and numbers.float_of("+oo", False) == float("inf")
-    top = numbers.spelling(numbers.GREATEST)
+    top, most = numbers.spelling(numbers.GREATEST), sys.float_info.max
+    assert numbers.stepped(math.inf, -1) == most and numbers.stepped(-math.inf, 1) == -most and numbers.stepped(0.0, 1) > 0
+    assert numbers.as_float(Fraction(10) ** 400, False) == most and numbers.as_float(-Fraction(10) ** 400, True) == -most
     assert numbers.rounded(Fraction(2) ** 600, True) == "+oo" and numbers.rounded(Fraction(2) ** 600, False) == top
     assert numbers.rounded(-Fraction(2) ** 600, False) == "-oo" and numbers.rounded(-Fraction(2) ** 600, True) == "-" + top
     for bad in ("1", "2:0", "01:0", "1:+1", "0:1", "-0:0", "oo", "1:-513", "1:00", " 1:0", "4611686018427387905:0"):
@@ -83,6 +87,8 @@ LINES = [
     (4, "paving p: wrong identity", paver.PavingRefused, {"name": "p", "cause": "wrong identity"}),
     (4, "paving p: bad line 7", paver.PavingRefused, {"cause": "bad line", "row": 7}),
     (4, "paving p: too many nodes at line 100003", paver.PavingRefused, {"cause": "too many nodes", "row": 100003}),
+    (4, "paving k: bad row 0", paver.PavingRefused, {"name": "k", "cause": "bad row", "row": 0}),
+    (4, "paving k: too many rows", paver.PavingRefused, {"name": "k", "cause": "too many rows", "row": None}),
     (5, "read fault: x y", paver.ReadFault, {"name": "x y"}),
     (6, "write fault: standard output", paver.WriteFault, {"name": "standard output"}),
     (7, "want of memory", paver.WantOfMemory, {}),
@@ -90,6 +96,7 @@ LINES = [
     (9, "disagree 0110: X | I 0:0 1:0", paver.Disagree,
      {"kind": "disagree", "path": "0110", "first": "X", "second": "I 0:0 1:0"}),
     (9, "differs .: S 0:0 1:0 | X", paver.Disagree, {"kind": "differs", "path": ".", "first": "S 0:0 1:0", "second": "X"}),
+    (10, "keeper fault: k.db", paver.KeeperFault, {"name": "k.db"}),
     (11, "no file: s.mbx", paver.NoFile, {"name": "s.mbx"}),
     (-9, "", paver.ProgramFault, {"status": -9}),
     (2, "something else", paver.ProgramFault, {}),
@@ -275,11 +282,53 @@ def check_least():
         raised(paver.UsageError, lambda: paver.least(name, "x", boxes=0))
 
 
+def check_campaigns():
+    """What a campaign keeps is read as the paving that `run` prints of the same system, with open leaves in their places."""
+    needs("campaign")
+    ring = example("ring")
+    with tempfile.TemporaryDirectory() as folder:
+        name = Path(folder) / "with a space.db"
+        part = paver.campaign(ring, name, eps=1, boxes=7, rounds=2, workers=1)
+        assert not part.complete and part.summary["settled"] == 14 == part.paving().counts()["settled"]
+        assert part.paving().lines == paver.run(ring, eps=1, boxes=14, workers=1).paving().lines
+        assert part.paving().counts() == part.summary
+        whole = paver.campaign(ring, name, eps=1)
+        printed = paver.run(ring, eps=1)
+        read = paver.Paving.read(name, system=ring)
+        assert whole.complete and read.lines == printed.paving().lines and read.volumes() == printed.paving().volumes()
+        raised(paver.PavingRefused, lambda: paver.campaign(ring, name), cause="wrong identity", name=str(name))
+        raised(paver.TreeLimit, lambda: paver.campaign(ring, name, eps=1, boxes=100_000), settled=31)
+        raised(paver.UsageError, lambda: paver.campaign(ring, name, eps=1, rounds=101))
+        raised(paver.KeeperFault, lambda: paver.campaign(ring, folder), name=folder)
+        assert paver.Paving.read(name, system=ring).lines == printed.paving().lines
+
+
+def check_kept_rows():
+    """Rows that are no tree's, and databases that are no campaign's."""
+    with tempfile.TemporaryDirectory() as folder:
+        name = Path(folder) / "k"
+        connection = sqlite3.connect(name)
+        connection.executescript("CREATE TABLE head (id INTEGER PRIMARY KEY, identity BLOB); CREATE TABLE node (path TEXT, line TEXT);")
+        raised(paver.PavingError, lambda: paver.Paving.read(name), cause="no identity")
+        connection.execute("INSERT INTO head VALUES (1, ?)", [bytes(32)])
+        connection.executemany("INSERT INTO node VALUES (?, ?)", [("", "C 0 1:-1 0:0 1:0"), ("1", "X")])
+        connection.commit()
+        read = paver.Paving.read(name)
+        assert read.lines == ["C 0 1:-1 0:0 1:0", "O", "X"] and read.identity == "00" * 32
+        connection.execute("INSERT INTO node VALUES ('10', 'X')")
+        connection.commit()
+        raised(paver.PavingError, lambda: paver.Paving.read(name), row=5)
+        connection.execute("DROP TABLE node")
+        connection.commit()
+        connection.close()
+        raised(paver.PavingError, lambda: paver.Paving.read(name), row=1)
+
+
 def checks():
     expected = dict(line.split(" ", 2)[:2] for line in EXPECTED.read_text().splitlines())
     named = [check_numbers, check_minibex_numbers, check_lines, check_refusals, check_answers, check_depths, check_canonical,
              check_missing, check_stored, check_resumed, check_merged, check_audited, check_centered, check_drawn, check_sampled,
-             check_least]
+             check_least, check_campaigns, check_kept_rows]
     found = [(check.__name__[6:].replace("_", " "), check, ()) for check in named]
     return found + [(f"the reference's text of {name}", check_digest, (name, words, expected[name]))
                     for name, words in EXAMPLES]

@@ -375,6 +375,18 @@ def check_truth(name, words):
         assert "inner" not in known.paving.where(point), f"{point} is no member"
 
 
+def check_half_lines():
+    """A place with an infinite end is infinitely wide, wherever its other end lies."""
+    infinite = float("inf")
+    for ends in ("1:0 +oo", "-1:0 +oo", "-oo -1:0", "-oo 1:0", "-oo +oo", "1:300 +oo"):
+        line = f"I 0:0 1:1 {ends}"
+        paving = paver.Paving.from_text(f"paving 1\n{IDENTITY}\n{line}\n", root=("0:0", "1:1", *ends.split()))
+        box = next(paving.inner())
+        assert box.volume == box.width == paving.widest("inner").width == paving.volumes()["inner"] == infinite, ends
+    flat = paver.Paving.from_text(f"paving 1\n{IDENTITY}\nI 1:0 1:0 1:0 +oo\n", root=("1:0", "1:0", "1:0", "+oo"))
+    assert flat.volumes()["inner"] == next(flat.inner()).volume == 0 and next(flat.inner()).width == infinite
+
+
 def check_no_outlier():
     """With no measurement left out, no law agrees with all seven."""
     assert paver.run(example("outlier_decay")).paving().hull() is None
@@ -388,5 +400,5 @@ def checks():
             found.append((f"{check.__name__[6:]} of {name}", check, (name, words)))
         if name in TRUTHS:
             found.append((f"known points of {name}", check_truth, (name, words)))
-    more = [check_long_text, check_bad_texts, check_mutated_files, check_open_leaf, check_plots, check_no_outlier]
+    more = [check_long_text, check_bad_texts, check_mutated_files, check_open_leaf, check_plots, check_half_lines, check_no_outlier]
     return found + [(check.__name__[6:].replace("_", " "), check, ()) for check in more]

@@ -195,7 +195,7 @@ class Translator:
         lines.append("Constraints")
         lines += [f"  {text};" for _, text in self.constraints]
         notes += [note for note in self.scope.notes if note not in notes]
-        head = ["// Written by `python -m paver from-ibex`.", *(f"// {note}" for note in notes)]
+        head = ["// Written by `python3 -m paver from-ibex`.", *(f"// {note}" for note in notes)]
         return "\n".join([*head, *lines, "end"]) + "\n"
 
 

@@ -1,0 +1,195 @@
+#!/usr/bin/env python3
+"""Compares what the commands make of made systems, settings and budgets with what the reference makes of them.
+
+    python3 tests/runners/fuzz_systems.py ./paver [COUNT [SEED]]
+
+Each system is paved by one worker, whose leaves come in preorder, and by several, whose bytes are the same where the run is
+done; what is stored is audited by both, gone on with, kept by a campaign, searched for a least value, and drawn. The last
+line is 'N passed, M failed'; a call that differs is printed with both answers.
+"""
+import os
+import random
+import subprocess
+import sys
+import tempfile
+from fractions import Fraction
+from pathlib import Path
+
+HERE = Path(__file__).resolve().parent
+sys.path[:0] = [str(HERE.parent), str(HERE.parent / "generators")]
+from data.reader_cases import canonical  # noqa: E402
+from pictures import picture  # noqa: E402
+from reference import least, minibex  # noqa: E402
+from reference.commands import Call, answer  # noqa: E402
+from reference.numbers import DOWN, from_fraction, is_finite  # noqa: E402
+
+PLAIN = ["0", "1", "2", "3", "0.1", "0.5", "1.5", "0.3333", "7", "10"]
+ODD = ["1e-3", "1e3", "2.5e-10", "1e15", "1e30", "1e36", "1e-36", "1e-20", "123456789012345678901234567890",
+       "0.1234567890123456789"]
+SETTLING = ["run", "run-centered", "resume", "campaign"]
+LEVELS = ["0", "1", "-1", "0.5", "-0.1", "2", "-0", "1e3", "-1e-36", "0.3333"]
+SETTINGS = {"eps": ["0.125", "0", "1", "0.5", "1e-36", "1e36", "0.1", "3", "1e-5"], "depth": [1, 2, 3, 4, 5, 6, 8, 60, 200],
+            "bisect": ["largest", "round"]}
+
+
+class Systems:
+    """Makes systems of a few variables, expressions over them, and contractor texts."""
+
+    def __init__(self, source):
+        self.source = source
+
+    def number(self):
+        return self.source.choice(PLAIN if self.source.random() < 0.7 else PLAIN + ODD)
+
+    def expression(self, depth, names):
+        kind = self.source.randrange(12 if depth > 0 else 2)
+        if kind == 0:
+            return self.number()
+        if kind == 1:
+            return self.source.choice(names)
+        inner = self.expression(depth - 1, names)
+        if kind == 2:
+            return f"-({inner})"
+        if kind == 3:
+            return f"{self.source.choice(['abs', 'sqr'])}({inner})"
+        if kind == 4:
+            return f"{self.source.choice(['min', 'max'])}({inner}, {self.expression(depth - 1, names)})"
+        if kind == 5:
+            return f"({inner})^{self.source.choice([0, 1, 2, 3, 4, 5, 7, 8, 31, 32])}"
+        return f"({inner}) {self.source.choice('//**+-')} ({self.expression(depth - 1, names)})"
+
+    def domain(self):
+        low, high = sorted((self.source.choice(["", "-"]) + self.number() for _ in range(2)), key=Fraction)
+        kinds = ["", f" in [-oo, {high}]", f" in [{low}, oo]", f" in [{low}, {low}]"]
+        return self.source.choice(kinds) if self.source.random() < 0.25 else f" in [{low}, {high}]"
+
+    def system(self):
+        """A text, the names of its variables, and the number of its constraints."""
+        names = [f"x{i}" for i in range(self.source.choice([1, 1, 2, 2, 2, 3, 4]))]
+        count = self.source.choice([1, 1, 2, 3])
+        constraints = [f"{self.expression(self.source.randrange(4), names)} {self.source.choice(['=', '<=', '>=', '<', '>'])} "
+                       f"{self.expression(self.source.randrange(3), names)}" for _ in range(count)]
+        variables = ", ".join(name + self.domain() for name in names)
+        return f"Variables {variables};\nConstraints {'; '.join(constraints)}; end\n", names, count
+
+    def contract(self, count, depth):
+        kind = self.source.choice(["hc4", "prop", "fix", "compose", "union", "qinter"][:6 if depth else 2])
+        if kind == "hc4":
+            return f"hc4({self.source.randrange(count)})"
+        if kind == "prop":
+            return f"prop({self.source.choice([1, 2, 8, 64])})"
+        if kind == "fix":
+            return f"fix({self.source.choice([1, 3, 64])},{self.contract(count, depth - 1)})"
+        parts = [self.contract(count, depth - 1) for _ in range(self.source.choice([1, 2, 3]))]
+        head = f"{self.source.randint(1, len(parts))}," if kind == "qinter" else ""
+        return f"{kind}({head}{','.join(parts)})"
+
+    def settings(self, count):
+        found = {name: self.source.choice(values) for name, values in SETTINGS.items()}
+        found["contract"] = "prop(8)" if self.source.random() < 0.5 else self.contract(count, self.source.randrange(3))
+        return found
+
+
+class Comparison:
+    """A system, its settings and a budget: the program's answers beside the reference's."""
+
+    def __init__(self, calls, made, settings, budget, centered):
+        self.calls, self.settings, self.budget, self.centered = calls, settings, budget, centered
+        self.text, self.names, _ = made
+        self.source = calls.source
+        self.system = minibex.read(self.text)
+        self.known = Call(self.system, canonical(self.text), centered, eps=Fraction(settings["eps"]), depth=settings["depth"],
+                          bisector=settings["bisect"], contract=settings["contract"])
+        (calls.folder / "s").write_text(self.text)
+        for left in (*calls.folder.glob("p*"), *calls.folder.glob("k*")):
+            left.unlink()
+
+    def name(self, command):
+        return f"{command}-centered" if self.centered else command
+
+    def is_as(self, wanted, *words):
+        """The call has this answer; where leaves are open, several workers settle as many nodes as one."""
+        given = self.calls.run(*words, *(f"--{name}={value}" for name, value in self.settings.items()))
+        good = given == tuple(wanted[:3])
+        if wanted[0] == 1 and words[0] in SETTLING and "--workers=1" not in words:
+            good = (given[0], given[1].split()[:2], given[2]) == (1, wanted[1].split()[:2], b"")
+        self.calls.count(good, f"{words} {self.settings}\n{self.text}", given, wanted[:3])
+
+    def paved(self):
+        """By one worker and by several, and stored; what is stored is honest by both."""
+        boxes = f"--boxes={self.budget}"
+        self.is_as(self.known.run(self.budget, None), self.name("run"), "s", boxes, "--workers=1")
+        wanted = self.known.run(self.budget, "p")
+        self.is_as(wanted, self.name("run"), "s", boxes, f"--workers={self.source.choice([2, 3, 16])}", "--out=p")
+        stored = (self.calls.folder / "p").read_bytes()
+        if wanted[0] == 0:
+            self.calls.count(stored == wanted[3], f"the file of\n{self.text}", stored, wanted[3])
+        self.is_as(answer(lambda: self.known.audit("p", stored)), self.name("audit"), "s", "p")
+        self.is_as((0, b"honest\n", b""), self.name("audit"), "s", "p")
+        return stored
+
+    def gone_on_with(self, stored):
+        more = self.source.choice([1, 7, 30])
+        self.is_as(answer(lambda: self.known.resume([("p", stored)], more, None)), "resume", "s", "p", f"--boxes={more}")
+        self.is_as(answer(lambda: self.known.merge([("p", stored)] * 2, None)), "merge", "s", "p", "p")
+        self.is_as(self.known.run(3 * self.budget, "k"), "campaign", "s", "--keep=k", f"--boxes={self.budget}", "--rounds=3")
+
+    def searched(self):
+        text = Systems(self.source).expression(self.source.randrange(4), self.names)
+        lower, found, _, done = least.least(self.known.settler, least.expression(self.system, text), self.budget)
+        lines = "".join(line + "\n" for line in least.printed(lower, found))
+        self.is_as((0 if done else 1, lines.encode(), b""), "least", "s", f"--of={text}", f"--boxes={self.budget}")
+
+    def drawn(self, stored):
+        root = self.known.settler.root
+        bounded = [i for i, ends in enumerate(root) if all(map(is_finite, ends))]
+        if len(bounded) < 2:
+            return
+        x, y = self.source.sample(bounded, 2)
+        levels = [self.source.choice(LEVELS) for _ in range(len(root) - 2)]
+        numbers = [from_fraction(Fraction(text), DOWN) for text in levels]
+        text = picture(self.known.read("p", stored), root, x, y, numbers)
+        at = [f"--at={','.join(levels)}"] if levels else []
+        self.is_as((0, text.encode(), b""), "svg", "s", "p", f"--x={self.names[x]}", f"--y={self.names[y]}", *at)
+
+    def all(self):
+        stored = self.paved()
+        if not self.centered:
+            self.gone_on_with(stored)
+            self.searched()
+            self.drawn(stored)
+
+
+class Calls:
+    """Calls of the binary in a folder, and how many of them answered as they should."""
+
+    def __init__(self, paver, folder, source):
+        self.paver, self.folder, self.source, self.passed, self.failed = paver, folder, source, 0, 0
+
+    def run(self, *words):
+        done = subprocess.run([self.paver, *words], cwd=self.folder, capture_output=True, timeout=120, check=False)
+        return done.returncode, done.stdout, done.stderr
+
+    def count(self, good, what, given, wanted):
+        self.passed, self.failed = self.passed + good, self.failed + (not good)
+        if not good and self.failed < 6:
+            print(f"{what}\n  given {str(given)[:400]}\n  wanted {str(wanted)[:400]}")
+
+
+def main():
+    count, seed = (int(word) for word in (sys.argv[2:] + ["40", "1"][len(sys.argv) - 2:])[:2])
+    source = random.Random(seed)
+    systems = Systems(source)
+    with tempfile.TemporaryDirectory() as folder:
+        calls = Calls(os.path.abspath(sys.argv[1]), Path(folder), source)
+        for _ in range(count):
+            made = systems.system()
+            budget = source.choice([1, 2, 3, 5, 10, 25, 40])
+            Comparison(calls, made, systems.settings(made[2]), budget, source.random() < 0.3).all()
+    print(f"{calls.passed} passed, {calls.failed} failed")
+    return calls.failed > 0
+
+
+if __name__ == "__main__":
+    sys.setrecursionlimit(20_000)
+    sys.exit(1 if main() else 0)
