@@ -77,7 +77,8 @@ impl Measure {
 
     /// With copies of another, so many and so deep.
     pub(crate) fn with(&self, other: &Measure, at: Place) -> Measure
-        ensures { (args : List Term) (nodes depth : ℕ) (t : Term) → IsSizeOf self.now args nodes depth →
+        ensures { (args : List Term) (nodes depth : ℕ) (t : Term) →
+            IsSizeOf self.now args nodes depth →
             IsSize other.now args t → IsSizeOf result args (nodes + node_count t * at.uses)
             (max depth (end_of at.reach (depth_of t))) }
     {

@@ -44,7 +44,8 @@ impl Value {
 
     // Below a step of one argument.
     fn below(self, op: Op) -> Result<Value, Memory>
-        ensures measure { IfOk result (λ v. (args : List Term) (t : Term) (u : Unary) → length args ≤ 12 →
+        ensures measure { IfOk result (λ v. (args : List Term) (t : Term) (u : Unary) →
+            length args ≤ 12 →
             IsSize self.measure args t → IsSize v.measure args (one u t)) }
         ensures code { IfOk result (λ v. v.code.items ≡ self.code.items ++ op ∷ []) }
     {
@@ -56,9 +57,12 @@ impl Value {
 
     // With another, below a step of two arguments.
     fn joined(self, right: &Value, op: Op) -> Result<Value, Memory>
-        ensures measure { IfOk result (λ v. (args : List Term) (t u : Term) (b : Binary) → length args ≤ 12 →
-            IsSize self.measure args t → IsSize right.now.measure args u → IsSize v.measure args (two b t u)) }
-        ensures code { IfOk result (λ v. v.code.items ≡ (self.code.items ++ right.now.code.items) ++ op ∷ []) }
+        ensures measure { IfOk result (λ v. (args : List Term) (t u : Term) (b : Binary) →
+            length args ≤ 12 →
+            IsSize self.measure args t → IsSize right.now.measure args u →
+            IsSize v.measure args (two b t u)) }
+        ensures code { IfOk result (λ v. v.code.items ≡
+            (self.code.items ++ right.now.code.items) ++ op ∷ []) }
     {
         let measure = Measure::leaf()
             .with(&self.measure, BELOW)
@@ -93,7 +97,8 @@ fn take_step(
     stack: &mut Vec<Value>,
 ) -> Result<(), Memory>
     ensures { OnOk result ((code : List Op) (ms : List Meaning) (args ts : List Term) →
-        (All IsShortCall code → IsShortCall op) → AreStacked (at functions.now ms args code) stack.old.items ts →
+        (All IsShortCall code → IsShortCall op) →
+        AreStacked (at functions.now ms args code) stack.old.items ts →
         AreStacked (at functions.now ms args code) stack.new.items (step ms args op ts)) }
 {
     let made = match op {
@@ -151,7 +156,8 @@ fn called(
 
 // The measure of a body with these arguments in place of its parameters.
 fn measure_of(body: &Measure, arguments: &[Value]) -> Measure
-    ensures { (args inner : List Term) (t : Term) → length args ≤ 12 → AreAll (HasSize args) arguments.now inner →
+    ensures { (args inner : List Term) (t : Term) → length args ≤ 12 →
+        AreAll (HasSize args) arguments.now inner →
         IsSize body.now inner t → IsSize result args t }
 {
     let mut made = Measure {
@@ -164,7 +170,8 @@ fn measure_of(body: &Measure, arguments: &[Value]) -> Measure
 }
 
 fn measure_at(arguments: &[Value], i: usize) -> Measure
-    ensures { (args inner : List Term) → length args ≤ 12 → AreAll (HasSize args) arguments.now inner →
+    ensures { (args inner : List Term) → length args ≤ 12 →
+        AreAll (HasSize args) arguments.now inner →
         IsSize result args (argument inner i) }
 {
     match arguments.get(i) {
@@ -182,9 +189,11 @@ fn code_of(
 ) -> Result<Vec<Op>, Memory>
     requires { length arguments.now < 256 }
     ensures { IfOk result (λ code. (ms inner : List Meaning) (args ts : List Term) →
-        ((xs : List Term) → meaning_of ms function xs ≡ body_meaning inner callee.now.code.items xs) →
+        ((xs : List Term) → meaning_of ms function xs ≡
+        body_meaning inner callee.now.code.items xs) →
         AreAll (HasCode ms args) arguments.now ts → (st : List Term) →
-        run ms args code.items st ≡ meaning_of ms function (filtered callee.now.uses.items ts) ∷ st) }
+        run ms args code.items st ≡
+        meaning_of ms function (filtered callee.now.uses.items ts) ∷ st) }
 {
     let uses = callee.uses.as_slice();
     let mut code = Vec::new(alloc);
@@ -204,7 +213,8 @@ fn code_of(
 
 // The code of an argument, or of a constant where it is left out.
 fn used_at<'a>(uses: &[bool], arguments: &'a [Value], i: usize) -> &'a [Op]
-    ensures { (ms : List Meaning) (args ts : List Term) → AreAll (HasCode ms args) arguments.now ts →
+    ensures { (ms : List Meaning) (args ts : List Term) →
+        AreAll (HasCode ms args) arguments.now ts →
         (st : List Term) → run ms args result.now st ≡ argument (filtered uses.now ts) i ∷ st }
 {
     if !is_used(uses, i) {
@@ -234,7 +244,8 @@ pub fn nodes_with(
     before: u64,
 ) -> Result<Option<u64>, Memory>
     requires { All IsShortCall code.now }
-    ensures { IfOk result (λ nodes. (ms : List Meaning) → AreMeasured functions.now ms → (r : Relation) →
+    ensures { IfOk result (λ nodes. (ms : List Meaning) → AreMeasured functions.now ms →
+        (r : Relation) →
         IsRoom before (part_sides ms code.now r) nodes) }
 {
     let mut sides = values(alloc, functions, code)?;

@@ -28,6 +28,8 @@ pub fn trees()
 
 /// A tree's tokens can be counted exactly where the tree is within the limits. It holds by its contract alone; the call does nothing.
 pub fn limits()
-    ensures systems { (x : System) → AreCounted (nothing Phase.Between) (system_symbols x []) ↔ IsSystemWithin x }
-    ensures expressions { (e : Expression) → AreCounted (nothing Phase.Sides) (expression_symbols e []) ↔ IsExpressionWithin e }
+    ensures systems { (x : System) →
+        AreCounted (nothing Phase.Between) (system_symbols x []) ↔ IsSystemWithin x }
+    ensures expressions { (e : Expression) →
+        AreCounted (nothing Phase.Sides) (expression_symbols e []) ↔ IsExpressionWithin e }
 {}

@@ -73,7 +73,8 @@ impl Machine {
 
     /// Takes off the items that end before the token, writes their code, and takes off the item that the token meets.
     pub fn settle(&mut self, symbol: Symbol) -> Result<Option<Item>, Memory>
-        ensures { IfOk result (λ met. Settles symbol (pile self.old.stack.items) self.old.code.items met
+        ensures { IfOk result (λ met. Settles symbol
+            (pile self.old.stack.items) self.old.code.items met
             (pile self.new.stack.items) self.new.code.items) }
     {
         while let Some(item) = self.stack.pop() {
@@ -107,7 +108,8 @@ impl Machine {
 
     /// Puts items on the stack, the first on top.
     pub(crate) fn put_all(&mut self, items: &[Item]) -> Result<(), Memory>
-        ensures stack { OnOk result (pile self.new.stack.items ≡ items.now ++ pile self.old.stack.items) }
+        ensures stack { OnOk result (pile self.new.stack.items ≡
+            items.now ++ pile self.old.stack.items) }
         ensures code { OnOk result (self.new.code ≡ self.old.code) }
     {
         let mut i = items.len();

@@ -92,7 +92,8 @@ impl Machine {
 
     // Items behind this token alone.
     fn word(&mut self, fixed: Fixed, items: &[Item], symbol: Symbol) -> Result<bool, Memory>
-        ensures { IfOk result (Moves (grammar.with_more items.now (grammar.exactly fixed symbol)) self.old self.new) }
+        ensures { IfOk result
+            (Moves (grammar.with_more items.now (grammar.exactly fixed symbol)) self.old self.new) }
     {
         match symbol {
             Symbol::Fixed(found) if found == fixed => self.behind(items),
@@ -142,14 +143,16 @@ impl Machine {
     }
 
     fn call(&mut self, op: Op, more: u8) -> Result<bool, Memory>
-        ensures { IfOk result (Moves (grammar.behind (grammar.call_items op more)) self.old self.new) }
+        ensures { IfOk result
+            (Moves (grammar.behind (grammar.call_items op more)) self.old self.new) }
     {
         self.expression(&[MoreArguments(more), Then(op), MaybePower])?;
         self.behind(&[Exactly(Fixed::Open)])
     }
 
     fn constraint(&mut self, symbol: Symbol) -> Result<bool, Memory>
-        ensures { IfOk result (Moves (grammar.produced Item.MaybeConstraint symbol) self.old self.new) }
+        ensures { IfOk result
+            (Moves (grammar.produced Item.MaybeConstraint symbol) self.old self.new) }
     {
         self.put_all(&[MoreFactors, MoreTerms, WantRelation, MoreConstraints])?;
         self.factor(symbol)
