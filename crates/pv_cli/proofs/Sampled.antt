@@ -1,6 +1,6 @@
 -- What a sample's text and settings come to.
 use Rattle.std.proofs.Common.{◌≡◌, ◌≢◌, ℕ, ◌≤◌, pos, List, Ok, Err, length, refl, sym, ◌∙◌, subst, arith}
-use Rattle.std.specs.Prelude.{IsTrue, None, Some, Option, Result, IfOk, IfErr, OnOk, codes}
+use Rattle.std.specs.Prelude.{IsTrue, None, Some, Result, IfOk, IfErr, OnOk, codes}
 use Rattle.pv_num.specs.Extended.{Extended, Fin, PosInf}
 use Rattle.pv_num.specs.Order.{le}
 use Rattle.pv_num.specs.Arithmetic.{ratio_of}

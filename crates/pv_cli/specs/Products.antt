@@ -1,5 +1,5 @@
 -- What comes of a command's work.
-use Rattle.std.specs.Prelude.{if◌then◌else◌, ◌≡◌, ◌≢◌, ◌⊎◌, ◌<◌, ◌≤◌, ◌+◌, ◌*◌, ◌++◌, ◌∷◌, ℕ, pos, Bool, List, [], Option, Some, None, codes, decimal, length}
+use Rattle.std.specs.Prelude.{if◌then◌else◌, ◌≡◌, ◌≢◌, ◌⊎◌, ◌<◌, ◌≤◌, ◌+◌, ◌*◌, ◌++◌, ◌∷◌, ℕ, pos, Bool, List, [], Option, Some, None, codes, decimal}
 use Rattle.hex.specs.Hex.{encode_lower}
 use Rattle.sha2.specs.Sha256.{sha256}
 use Rattle.clap.specs.Words.{Text}
@@ -10,7 +10,6 @@ use Rattle.pv_interval.specs.Bounds.{Bounds}
 use Rattle.pv_made.specs.Circles.{sample_text}
 use Rattle.pv_parse.specs.Declarations.{IsMeaning}
 use Rattle.pv_parse.specs.declared.refused.ParseRefused.TheVariants.{Fault}
-use Rattle.pv_ctc.specs.Refusals.{refused_at}
 use Rattle.pv_expr.specs.Systems.{Parts}
 use Rattle.pv_expr.specs.Canonical.{canonical_text}
 use Rattle.pv_settle.specs.Rules.{SettlerParts}
@@ -46,7 +45,7 @@ use Rattle.pv_least.specs.declared.found.Least as known
 use Rattle.pv_cli.specs.declared.request.Request.{Request}
 use Rattle.pv_cli.specs.declared.request.Request.TheVariants.{Check, Run, Resume, Merge, Audit, Svg, Sample, Least, Campaign}
 use Rattle.pv_cli.specs.declared.refusal.Refusal.{Refusal}
-use Rattle.pv_cli.specs.declared.refusal.Refusal.TheVariants.{Usage, System, Contract, Memory, TreeLimit, Differs}
+use Rattle.pv_cli.specs.declared.refusal.Refusal.TheVariants.{Usage, System, Memory, TreeLimit, Differs}
 use Rattle.pv_cli.specs.declared.status.Status.{Status}
 use Rattle.pv_cli.specs.declared.status.Status.TheVariants.{Done, OpenLeft}
 
