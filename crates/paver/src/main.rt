@@ -1,4 +1,5 @@
-//! The interval paver as a program: its words, the files of the folder in which it runs, and its streams.
+//! The interval paver as a program: its words, the files of the folder in which it runs, and its
+//! streams.
 #![tactic(auto)]
 
 use pv_cli::{Unread, paver_main, tell_unread};

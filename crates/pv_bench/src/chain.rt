@@ -56,7 +56,7 @@ impl Operation {
     }
 }
 
-/// The number behind so many steps from 1 on, rounded down and up in turn.
+/// The number after `steps` steps from 1 on, rounded down and up in turn.
 pub fn last_of(alloc: Global, operation: Operation, steps: u64) -> Num {
     let by = operand(operation);
     match operation {

@@ -17,7 +17,8 @@ use std::alloc::Global;
 pub enum AbsorbRefused {
     /// Want of memory.
     Memory,
-    /// So many nodes would be settled. With what is issued, granted and left that is more than a tree may have settled.
+    /// So many nodes would be settled. With what is issued, granted and left that is more than a
+    /// tree may have settled.
     TreeLimit { settled: u64 },
 }
 
@@ -69,7 +70,8 @@ pub(crate) fn fill_all(
     Ok(())
 }
 
-/// The open leaves below some nodes of a paving, with room for every open leaf that a tree can have.
+/// The open leaves below some nodes of a paving, with room for every open leaf that a tree can
+/// have.
 pub(crate) fn leaves_below(
     alloc: Global,
     paving: &Paving,

@@ -22,7 +22,8 @@ use pv_tree::{Batch, Counts, Outcome, Path, Paving, Shape};
 use std::alloc::Global;
 use std::marker::{Model, PhantomData};
 
-/// A paving that is being settled: which of its open leaves are issued, and what is left of the budget.
+/// A paving that is being settled: which of its open leaves are issued, and what is left of the
+/// budget.
 #[derive(Drop)]
 pub struct Board<N: Naming> {
     paving: Paving,
@@ -94,8 +95,8 @@ impl<N: Naming> Board<N> {
         self.paving.counts()
     }
 
-    /// Issues some open leaf that is not issued, with no grant. None exactly where nothing is left, every open leaf is issued,
-    /// or the board was stopped.
+    /// Issues some open leaf that is not issued, with no grant. None exactly where nothing is left,
+    /// every open leaf is issued, or the board was stopped.
     pub fn take(&mut self) -> Option<Ticket>
         ensures taken { IfSome result (λ t. IsTake self.old self.new t) }
         ensures none { IfNone result (IsDry self.old) }
@@ -124,8 +125,9 @@ impl<N: Naming> Board<N> {
         self.steps = self.steps.wrapping_add(1);
     }
 
-    /// Settles a ticket's leaf. `fresh` is true exactly where the ticket is current; else nothing changes. After a cut the low child
-    /// is issued if one more may be, and then the high child. It takes no memory.
+    /// Settles a ticket's leaf. `fresh` is true exactly where the ticket is current; else nothing
+    /// changes. After a cut the low child is issued if one more may be, and then the high child. It
+    /// takes no memory.
     pub fn settle(&mut self, ticket: Ticket, outcome: Outcome) -> Settled
         requires there { IsSome (subtree (full_of N.rule N.depth N.root N.opening 0) ticket.path) }
         requires due { outcome ≡ N.rule
@@ -161,8 +163,9 @@ impl<N: Naming> Board<N> {
         }
     }
 
-    /// Puts a stage of a ticket's leaf in the leaf's place, and issues the stage's open leaves in preorder, as many as may be. True exactly
-    /// where the ticket is current; else nothing changes. It takes no memory.
+    /// Puts a stage of a ticket's leaf in the leaf's place, and issues the stage's open leaves in
+    /// preorder, as many as may be. True exactly where the ticket is current; else nothing changes.
+    /// It takes no memory.
     pub fn settle_stage(
         &mut self,
         ticket: Ticket,
@@ -202,7 +205,8 @@ impl<N: Naming> Board<N> {
         true
     }
 
-    /// Takes a current ticket's leaf back: it is no longer issued, and its units are left again. Else nothing changes.
+    /// Takes a current ticket's leaf back: it is no longer issued, and its units are left again.
+    /// Else nothing changes.
     pub fn give_back(&mut self, ticket: Ticket)
         ensures given { IsTrue (is_current self.old ticket) → IsGiveBack self.old self.new ticket }
         ensures stale { is_current self.old ticket ≡ false → self.new ≡ self.old }
@@ -216,7 +220,8 @@ impl<N: Naming> Board<N> {
         self.steps = self.steps.wrapping_add(1);
     }
 
-    /// Moves units from what is left to a current ticket's grant: as many as are wanted and left, and none where the board was stopped.
+    /// Moves units from what is left to a current ticket's grant: as many as are wanted and left,
+    /// and none where the board was stopped.
     pub fn extend(&mut self, ticket: &mut Ticket, want: u64) -> u64
         requires { ticket.old.grant + want ≤ 15 }
         ensures units { result ≡ (if is_current self.old ticket.old then min want
@@ -252,7 +257,8 @@ impl<N: Naming> Board<N> {
         self.steps = self.steps.wrapping_add(issued);
     }
 
-    /// Writes the box of a ticket's path over another box. False exactly where the tree has no such path; then nothing changes.
+    /// Writes the box of a ticket's path over another box. False exactly where the tree has no such
+    /// path; then nothing changes.
     pub fn box_of(&self, ticket: &Ticket, into: &mut IBox) -> bool
         requires dims { length into.old ≡ length self.now.root }
         ensures there { IsTrue result ↔ IsSome (subtree self.now.tree ticket.now.path) }
@@ -271,8 +277,8 @@ impl<N: Naming> Board<N> {
         true
     }
 
-    /// Issues a leaf as `take` does, or says why not: `Done` where nothing is issued, `Changed` where `steps` differs from `seen`,
-    /// and else `Same`.
+    /// Issues a leaf as `take` does, or says why not: `Done` where nothing is issued, `Changed`
+    /// where `steps` differs from `seen`, and else `Same`.
     pub fn look(&mut self, seen: u64) -> Look
         ensures look { IsLook self.old self.new seen result }
         ensures rose { HasRisen self.old self.new 0 }
@@ -290,8 +296,9 @@ impl<N: Naming> Board<N> {
         Look::Same
     }
 
-    /// Takes in what a stage of the opening has settled: the paving becomes its join with the stage, except that issued leaves stay open
-    /// with nothing below them. Answers how many settled nodes were added. A refusal changes nothing.
+    /// Takes in what a stage of the opening has settled: the paving becomes its join with the
+    /// stage, except that issued leaves stay open with nothing below them. Answers how many settled
+    /// nodes were added. A refusal changes nothing.
     pub fn absorb(&mut self, alloc: Global, stage: &Paving) -> Result<u64, AbsorbRefused>
         requires root { stage.now.root ≡ N.root }
         requires stage { IsStage N.rule N.depth N.root N.opening stage.now.tree }

@@ -24,7 +24,8 @@ fn deal_one(leaves: &mut Leaves, at: Path, children: &mut Batch<Ticket>)
     }
 }
 
-/// Offers the open leaves at and below a path of a stage in preorder, as if its node stood at another path.
+/// Offers the open leaves at and below a path of a stage in preorder, as if its node stood at
+/// another path.
 pub(crate) fn deal(
     leaves: &mut Leaves,
     stage: &Paving,

@@ -19,7 +19,8 @@ use pv_tree::{Batch, Outcome, Paving};
 use std::marker::Model;
 use std::sync::ledger::{Blank, Book};
 
-/// A board with the books of settlings and endings. Once an ending is booked nothing is issued, and nothing can be taken.
+/// A board with the books of settlings and endings. Once an ending is booked nothing is issued, and
+/// nothing can be taken.
 #[derive(Drop)]
 pub struct Desk<N: Naming> {
     board: Board<N>,

@@ -24,7 +24,7 @@ pub(crate) struct Leaves {
     pub(crate) stopped: bool,
 }
 
-/// There is room for so many free leaves: one more than a tree has settled nodes.
+/// The most free leaves that there is room for: one more than a tree has settled nodes.
 pub(crate) const MOST_LEAVES: usize = 100_001;
 
 impl Leaves {
@@ -49,7 +49,8 @@ impl Leaves {
         })
     }
 
-    /// How many units are not used: those of the issued leaves with their grants, and those that are left.
+    /// How many units are not used: those of the issued leaves with their grants, and those that
+    /// are left.
     pub(crate) fn unused(&self) -> u64
         requires { HasRoom self.now }
         ensures { result ≡ issued (marks_of self.now) + granted

@@ -1,4 +1,5 @@
-//! The board: one paving that several workers settle, which of its leaves are issued to whom, and what is left of a budget.
+//! The board: one paving that several workers settle, which of its leaves are issued to whom, and
+//! what is left of a budget.
 #![tactic(auto)]
 
 mod absorbing;

@@ -32,7 +32,7 @@ fn is_path(a: Path, b: Path) -> bool
 }
 
 impl Marks {
-    /// No marks, with room for so many.
+    /// No marks, with room for `room` of them.
     pub(crate) fn new(alloc: Global, room: usize) -> Result<Marks, Memory>
         ensures none { IfOk result (λ m. values m.slots ≡ []) }
         ensures room { IfOk result (λ m. room ≤ m.slots.capacity) }

@@ -2,8 +2,8 @@
 use std::marker::{Brand, PhantomData};
 use std::sync::ledger::Ledger;
 
-/// Names the one tree that a board, its tickets' holders and their counts are for. Contracts alone read its members;
-/// the call that opens a board picks them.
+/// Names the one tree that a board, its tickets' holders and their counts are for. Contracts alone
+/// read its members; the call that opens a board picks them.
 pub trait Naming {
     ghost use Rattle.std.specs.Prelude.{ℕ, List};
     ghost use Rattle.pv_interval.specs.Bounds.{Bounds};

@@ -24,7 +24,8 @@ pub enum OpenRefused {
 }
 
 impl<N: Naming> Board<N> {
-    /// A board on a paving, with a budget of 1 to 100,000 settlings. It makes all room that settling needs.
+    /// A board on a paving, with a budget of 1 to 100,000 settlings. It makes all room that
+    /// settling needs.
     pub fn open(alloc: Global, opening: Paving, budget: u64) -> Result<Board<N>, OpenRefused>
         requires root { opening.root ≡ N.root }
         requires tree { opening.tree ≡ N.opening }

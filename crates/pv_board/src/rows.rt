@@ -1,4 +1,5 @@
-//! Worked boards over the box [0,1]: a stop, a budget of one, a recall, and an opening with too many settled nodes.
+//! Worked boards over the box [0,1]: a stop, a budget of one, a recall, and an opening with too
+//! many settled nodes.
 ghost use Rattle.std.specs.Prelude.{◌≡◌, ◌≤◌, length};
 ghost use Rattle.pv_board.specs.Rules.{IsFitting};
 
@@ -144,7 +145,8 @@ fn opens_with<S: Settler>(
     opens::<Brand, S>(alloc, settler, opening, budget, row, scratch)
 }
 
-/// Whether a budget is refused that is too much beside the opening's settled nodes, and the opening handed back.
+/// Whether a budget is refused that is too much beside the opening's settled nodes, and the opening
+/// handed back.
 fn refuses<N: Naming, S: Settler>(
     alloc: Global,
     settler: &S,

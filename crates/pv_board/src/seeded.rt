@@ -50,7 +50,7 @@ fn next(seed: u64) -> u64 {
     b ^ (b << 17)
 }
 
-/// The open leaf that so many come in front of in preorder, or the last one.
+/// The open leaf before which `place` others come in preorder, or the last one.
 fn some_open(paving: &Paving, place: u64) -> Option<Path>
     ensures { IfSome result (λ p. subtree paving.now.tree p ≡ Some leaf) }
 {
@@ -192,7 +192,8 @@ impl Plain {
         }
     }
 
-    /// Adds the open leaves at and below a node of a stage, all of them free. Answers how many nodes are settled there.
+    /// Adds the open leaves at and below a node of a stage, all of them free. Answers how many
+    /// nodes are settled there.
     fn add_below(&mut self, stage: &Paving, path: Path) -> Result<u64, Memory> {
         match stage.shape_at(path) {
             Shape::Absent => Ok(0),
@@ -212,7 +213,8 @@ impl Plain {
         }
     }
 
-    /// Puts what a stage has at a free leaf in the leaf's place. Answers how many nodes that settles.
+    /// Puts what a stage has at a free leaf in the leaf's place. Answers how many nodes that
+    /// settles.
     fn absorb_at(&mut self, stage: &Paving, leaf: PlainLeaf) -> Result<u64, Memory> {
         if leaf.issued.is_some() {
             return Ok(0);
@@ -224,7 +226,8 @@ impl Plain {
         self.add_below(stage, leaf.path)
     }
 
-    /// Puts what a stage has at the free leaves in their places. Answers how many nodes that settles.
+    /// Puts what a stage has at the free leaves in their places. Answers how many nodes that
+    /// settles.
     fn absorb(&mut self, alloc: Global, stage: &Paving) -> Result<u64, Memory> {
         let leaves = Vec::from_slice(alloc, self.leaves.as_slice())?;
         let mut added = 0u64;

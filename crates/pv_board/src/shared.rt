@@ -1,4 +1,4 @@
-//! A board behind a lock, for several callers.
+//! A board in a lock, for several callers.
 ghost use Rattle.std.specs.Prelude.{◌≡◌, ◌≢◌, ◌+◌, ◌-◌, ◌<◌, ◌≤◌, [], false, IsTrue, is_some, IsSome, Some, length, if◌then◌else◌};
 ghost use Rattle.pv_tree.specs.Trees.{leaf, subtree, box_of};
 ghost use Rattle.pv_tree.specs.Stages.{full_of};
@@ -19,7 +19,8 @@ use pv_tree::{Batch, Outcome, Paving};
 use std::sync::ledger::Blank;
 use std::sync::{Condvar, Mutex, Wait};
 
-/// A board that several callers settle. Each call but `idle` takes the lock, makes the board's call of its name, and lets go.
+/// A board that several callers settle. Each call but `idle` takes the lock, makes the board's call
+/// of its name, and lets go.
 #[derive(Drop)]
 pub struct Shared<N: Naming> {
     desk: Mutex<Desk<N>>,
@@ -27,7 +28,7 @@ pub struct Shared<N: Naming> {
 }
 
 impl<N: Naming> Shared<N> {
-    /// Puts a board behind a lock. The counts have all 32 parts.
+    /// Puts a board in a lock. The counts have all 32 parts.
     pub fn new(board: Board<N>, settlings: Blank, endings: Blank) -> (Shared<N>, Told<N>)
         requires idle { issued board.marks ≡ 0 }
         requires used { board.used ≡ 0 }
@@ -72,8 +73,8 @@ impl<N: Naming> Shared<N> {
         settled
     }
 
-    /// Puts a stage of a ticket's leaf in the leaf's place, and wakes all who wait. The children are tickets of the first open leaves of
-    /// the stage, in preorder.
+    /// Puts a stage of a ticket's leaf in the leaf's place, and wakes all who wait. The children
+    /// are tickets of the first open leaves of the stage, in preorder.
     pub fn settle_stage<R: Wait>(
         &self,
         rt: &R,
@@ -126,7 +127,8 @@ impl<N: Naming> Shared<N> {
         self.desk.lock(rt).extend(ticket, want)
     }
 
-    /// Writes the box that a ticket's path has in the full tree over another box. False where the tree has no such path yet.
+    /// Writes the box that a ticket's path has in the full tree over another box. False where the
+    /// tree has no such path yet.
     pub fn box_of<R: Wait>(&self, rt: &R, ticket: &Ticket, into: &mut IBox) -> bool
         requires dims { length into.old ≡ N.dims }
         ensures is { IsTrue result → into.new ≡
@@ -139,7 +141,8 @@ impl<N: Naming> Shared<N> {
         self.desk.lock(rt).box_of(ticket, into)
     }
 
-    /// Writes the box of a ticket's path as `box_of` does, and moves units to its grant as `extend` does, both at once.
+    /// Writes the box of a ticket's path as `box_of` does, and moves units to its grant as `extend`
+    /// does, both at once.
     pub fn prepare<R: Wait>(&self, rt: &R, ticket: &mut Ticket, want: u64, into: &mut IBox) -> bool
         requires units { ticket.old.grant + want ≤ 15 }
         requires dims { length into.old ≡ N.dims }
@@ -168,7 +171,8 @@ impl<N: Naming> Shared<N> {
         self.changed.notify_all();
     }
 
-    /// Waits until there is a leaf to settle, all is done, or the board's number differs from `seen`. It may wait for another thread.
+    /// Waits until there is a leaf to settle, all is done, or the board's number differs from
+    /// `seen`. It may wait for another thread.
     pub fn idle<R: Wait>(&self, rt: &R, seen: u64, told: &mut Told<N>) -> Look
         requires { IsLow told.old }
         ensures told { told.new ≡ told_of told.old result }
@@ -187,7 +191,8 @@ impl<N: Naming> Shared<N> {
         unreachable!()
     }
 
-    /// The board, once all parts are back: what was used is what was settled, and after an ending nothing can be taken.
+    /// The board, once all parts are back: what was used is what was settled, and after an ending
+    /// nothing can be taken.
     pub fn into_board(self, told: Told<N>) -> Board<N>
         requires { told.parts ≡ 32 }
         ensures used { result.used ≡ told.settled }

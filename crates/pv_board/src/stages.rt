@@ -97,7 +97,8 @@ fn is_whole(paving: &Paving) -> bool {
         && paving.counts().settled() == 5
 }
 
-/// Cuts the root, gives its low child back, absorbs a stage that settled that one, and settles the high child.
+/// Cuts the root, gives its low child back, absorbs a stage that settled that one, and settles the
+/// high child.
 fn absorbs_low<N: Naming, S: Settler>(
     alloc: Global,
     settler: &S,
@@ -157,7 +158,8 @@ fn root_issued<N: Naming, S: Settler>(
     Ok(absorbed == Absorbed::Added(0) && is_open && has(board, 0, 1, 4))
 }
 
-/// Absorbs a stage on a new board: so much comes of it, and so many nodes are settled then.
+/// Absorbs a stage on a new board. Tells whether that comes of it and as many nodes are settled
+/// then as are named.
 fn absorbs_first<N: Naming, S: Settler>(
     alloc: Global,
     settler: &S,
@@ -310,8 +312,8 @@ fn opens_with<S: Settler>(
     opens::<Brand, S>(alloc, settler, opening, stage, budget, row, scratch)
 }
 
-/// What is left after a row on a board over the box [0,1], for the points from a limit on and paths of so many steps. The stage has the
-/// first four leaves settled.
+/// What is left after a row on a board over the box [0,1], for the points from a limit on and paths
+/// of so many steps. The stage has the first four leaves settled.
 fn row_leaves(
     alloc: Global,
     limit: Num,

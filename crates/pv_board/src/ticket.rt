@@ -6,8 +6,8 @@ use crate::mark::Mark;
 use pv_tree::Path;
 use std::marker::Model;
 
-/// The right to settle an open leaf. It is current as long as the board has its path issued with its grant.
-/// A ticket that is dropped leaves its path issued.
+/// The right to settle an open leaf. It is current as long as the board has its path issued with
+/// its grant. A ticket that is dropped leaves its path issued.
 #[derive(Drop)]
 pub struct Ticket {
     mark: Mark,

@@ -16,7 +16,8 @@ use pv_num::{End, Num};
 pub enum Bisector {
     /// The widest place, and the first among equals.
     Largest,
-    /// The first place at or behind the depth's turn, going round.
+    /// The first place that can be cut, from the path's length modulo the number of places on,
+    /// going round.
     Round,
 }
 
@@ -67,7 +68,7 @@ impl IBox {
         }
     }
 
-    // The first place at or behind the turn of the path's length, going round.
+    // The first place that can be cut from the turn of the path's length on, going round.
     fn in_turn(&self, path_len: u32) -> Option<(u8, Num)>
         ensures turn { result ≡ round_from (path_len % length self.now) self.now }
         ensures place { IfSome result (λ c. c.0 < length self.now) }
@@ -137,7 +138,8 @@ impl IBox {
     }
 }
 
-// Whether the best of the later candidates is wider than this: then it stays, whether or not there is a cut here.
+// Whether the best of the later candidates is wider than this: then it stays, whether or not there
+// is a cut here.
 fn is_wider(later: &Option<Candidate>, width: Num) -> bool
     ensures { IsTrue result → (cut : Option Extended) (var : ℕ) → wider_of cut var width later.now ≡
         later.now }

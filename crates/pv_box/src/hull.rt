@@ -69,7 +69,8 @@ fn greatest_upper_end(q: u32, i: u8, boxes: &[IBox], at: usize) -> Option<Num>
     raised(q, i, boxes, end, best)
 }
 
-// The lesser of this end, where it lies in enough, and the best so far. It is not counted where it can't matter.
+// The lesser of this end, where it lies in enough, and the best so far. It is not counted where it
+// can't matter.
 fn lowered(q: u32, i: u8, boxes: &[IBox], end: Num, best: Option<Num>) -> Option<Num>
     requires { All (λ b. i < length b) boxes.now }
     ensures { result ≡ lower_of (is_in_enough q (column i boxes.now) end) end best }

@@ -25,8 +25,8 @@ use std::alloc::Global;
 use std::sync::Wait;
 use std::thread::Threads;
 
-/// What some rounds make of the paving of the system in a file that is kept under a name. Each round settles what the
-/// budget allows, and is kept before the next begins.
+/// What some rounds make of the paving of the system in a file that is kept under a name. Each
+/// round settles what the budget allows, and is kept before the next begins.
 pub(crate) fn campaign<'a, F: Folder, P: Keeper, G: Gate + Sync, R: Threads + Wait + Sync>(
     rt: &R,
     alloc: Global,

@@ -24,8 +24,8 @@ use pv_tree::Paving;
 use std::alloc::Global;
 use std::thread::Threads;
 
-/// Stores a product where a file is asked for, prints it, and answers the status with which the command ends. The lines of a
-/// paving are made by so many workers.
+/// Stores a product where a file is asked for, prints it, and answers the status with which the
+/// command ends. The lines of a paving are made by `workers` workers.
 pub(crate) fn deliver<'a, F: Folder, K: Sink, R: Threads + Sync>(
     rt: &R,
     alloc: Global,

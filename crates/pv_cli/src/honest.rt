@@ -13,8 +13,8 @@ ghost use Rattle.pv_cli.specs.declared.request.Settings.{Settings};
 use pv_settle::SystemSettler;
 use pv_tree::Paving;
 
-/// Does nothing. Where a paving of the search box is a stage of the open one, it covers the box, it is sound, and
-/// without an open leaf it is the full tree.
+/// Does nothing. Where a paving of the search box is a stage of the open one, it covers the box, it
+/// is sound, and without an open leaf it is the full tree.
 pub(crate) fn learn_honest(paving: &Paving, settler: &SystemSettler)
     requires root { paving.now.root ≡ search_box (rule_of settler.now) }
     requires dims { length paving.now.root ≡ dims_of (rule_of settler.now) }

@@ -21,8 +21,8 @@ use pv_parse::{ParseRefused, parse_expr};
 use pv_settle::SystemSettler;
 use std::alloc::Global;
 
-/// A bound below the least value of an expression over the set of the system in a file, and a point of the set with a
-/// bound above the value there, where the search finds one.
+/// A bound below the least value of an expression over the set of the system in a file, and a point
+/// of the set with a bound above the value there, where the search finds one.
 pub(crate) fn least<'a, F: Folder>(
     alloc: Global,
     folder: &mut F,
@@ -77,7 +77,7 @@ fn objective_of<'a>(
     Ok(Objective::of(alloc, &expr, settler.dims())?)
 }
 
-// What so many settled boxes of a settler's search box tell of the least value of an objective.
+// What a number of settled boxes of a settler's search box tell of the least value of an objective.
 fn found_by(
     alloc: Global,
     settler: &SystemSettler,

@@ -32,13 +32,15 @@ use std::thread::Threads;
 
 /// Runs the command that the words give, of which word 0 is the program's name.
 ///
-/// With status 0 or 1 the words ask for something, and what comes of it over the folder was printed. Else the
-/// refusal is the first in this order: words and values, system, contractor program, expression or plane, paving files,
-/// work, printing; and its line is told on the standard error.
+/// With status 0 or 1 the words ask for something, and what comes of it over the folder was
+/// printed. Else the refusal is the first in this order: words and values, system, contractor
+/// program, expression or plane, paving files, work, printing; and its line is told on the standard
+/// error.
 ///
-/// `run`, `resume` and `campaign` work on as many threads as their words say, and join them: the call may wait for them. Each worker enters the
-/// gate with its number and a path before it settles the node there. `campaign` works so in each of its rounds, and what it
-/// settles is kept under its name: all else that is kept stays, and for every other command all of it.
+/// `run`, `resume` and `campaign` work on as many threads as their words say, and join them: the
+/// call may wait for them. Each worker enters the gate with its number and a path before it settles
+/// the node there. `campaign` works so in each of its rounds, and what it settles is kept under its
+/// name: all else that is kept stays, and for every other command all of it.
 pub fn paver_main<F: Folder, K: Sink, E: Sink, G: Gate + Sync, P: Keeper, R: Threads + Wait + Sync>(
     rt: &R,
     alloc: Global,

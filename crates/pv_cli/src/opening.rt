@@ -34,7 +34,8 @@ pub(crate) struct Opening {
     pub paving: Paving,
 }
 
-/// The join of the files of these names, which hold pavings of the system in a file by the settings.
+/// The join of the files of these names, which hold pavings of the system in a file by the
+/// settings.
 pub(crate) fn opening_in<'a, F: Folder>(
     alloc: Global,
     folder: &mut F,

@@ -26,7 +26,8 @@ pub enum Refusal<'a> {
     Contract {
         byte: u32,
     },
-    /// The text of the expression whose least value is sought has a fault at a byte, counted from 0.
+    /// The text of the expression whose least value is sought has a fault at a byte, counted from
+    /// 0.
     Objective {
         byte: u32,
         cause: Cause,
@@ -35,8 +36,8 @@ pub enum Refusal<'a> {
     NoFile {
         name: &'a str,
     },
-    /// The file of this name is no paving file of the system by the settings, or what is kept under this name is no
-    /// campaign of them.
+    /// The file of this name is no paving file of the system by the settings, or what is kept under
+    /// this name is no campaign of them.
     Paving {
         name: &'a str,
         fault: FileFault,
@@ -57,17 +58,20 @@ pub enum Refusal<'a> {
     NotPrinted,
     /// There was no memory.
     Memory,
-    /// The tree of the files or of a campaign has `settled` settled nodes, and with the budget too many.
+    /// The tree of the files or of a campaign has `settled` settled nodes, and with the budget too
+    /// many.
     TreeLimit {
         settled: u64,
     },
-    /// A file has another outcome at a path than the join of those before it. Both outcomes are lines of files.
+    /// A file has another outcome at a path than the join of those before it. Both outcomes are
+    /// lines of files.
     Disagree {
         path: Path,
         joined: Vec<u8>,
         file: Vec<u8>,
     },
-    /// A file has another outcome at a path than its system gives. Both outcomes are lines of files.
+    /// A file has another outcome at a path than its system gives. Both outcomes are lines of
+    /// files.
     Differs {
         path: Path,
         file: Vec<u8>,
@@ -75,8 +79,8 @@ pub enum Refusal<'a> {
     },
 }
 
-/// Why a file is no paving file of a system by settings, or what is kept no campaign of them. Lines are counted from 1,
-/// rows from 0.
+/// Why a file is no paving file of a system by settings, or what is kept no campaign of them. Lines
+/// are counted from 1, rows from 0.
 #[derive(Clone, Copy, Debug, PartialEq, Eq)]
 pub enum FileFault {
     /// It is longer than 70,000,000 bytes.

@@ -70,7 +70,8 @@ fn resumed<G: Gate + Sync, R: Threads + Wait + Sync>(
     requires dims { length opening.paving.root ≡ dims_of (rule_of opening.settler) }
     requires limit { settled_in opening.paving.tree + effort.now.boxes ≤ 100000 }
     ensures { IfOk result
-        (λ p. GivesResumed (rule_of opening.settler) opening.paving.tree effort.now.boxes (made p)) }
+        (λ p. GivesResumed (rule_of opening.settler) opening.paving.tree effort.now.boxes
+        (made p)) }
 {
     let Opening { settler, paving } = opening;
     let identity = settler.identity(alloc)?;

@@ -36,7 +36,8 @@ use std::alloc::Global;
 use std::sync::Wait;
 use std::thread::Threads;
 
-/// A report on the full tree of the system that the circles make: its summary, and the digest of its file.
+/// A report on the full tree of the system that the circles make: its summary, and the digest of
+/// its file.
 pub(crate) fn sample<'a, G: Gate + Sync, R: Threads + Wait + Sync>(
     rt: &R,
     alloc: Global,

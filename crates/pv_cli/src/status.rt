@@ -8,7 +8,8 @@ pub enum Status {
     Done,
     /// The budget ended the work with leaves still open.
     OpenLeft,
-    /// The words, a value in them, the contractor program or the plane of a picture is refused.
+    /// The words, a value in them, the contractor program, the expression of `least` or the plane
+    /// of a picture is refused.
     Usage,
     /// The text of the system is refused.
     SystemRefused,

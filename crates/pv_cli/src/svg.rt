@@ -101,7 +101,7 @@ fn scene_in<'a, F: Folder>(
         Ok(system) => system,
         Err(refusal) => return Err(refusal),
     };
-    // They are judged behind the contractor program, but the settler keeps the system.
+    // They are judged after the contractor program, but the settler keeps the system.
     let axes = axes_in(&system, view);
     let settler = match settler_for(alloc, system, settings) {
         Ok(settler) => settler,

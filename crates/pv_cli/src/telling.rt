@@ -18,8 +18,8 @@ pub enum Unread {
     Memory,
 }
 
-/// Tells that the words of a command line can't be read, and answers the status with which the program ends.
-/// It takes no memory.
+/// Tells that the words of a command line can't be read, and answers the status with which the
+/// program ends. It takes no memory.
 pub fn tell_unread<E: Sink>(err: &mut E, why: Unread) -> Status
     ensures { Tells (refusal_for why) result (stream (E.written err.old) (E.faults err.old))
         (stream (E.written err.new) (E.faults err.new)) }

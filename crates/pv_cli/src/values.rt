@@ -74,7 +74,7 @@ pub(crate) fn levels_of<'a>(alloc: Global, text: &str) -> Result<Vec<Num>, Refus
     }
 }
 
-// The word before the first comma, and what stands behind that.
+// The word before the first comma, and what comes after that.
 fn first_word(text: &str) -> Option<(&str, &str)>
     ensures { MatchOption result (words_between text.now ≡ text.now ∷ [])
         (λ r. (words_between text.now ≡ r.0.now ∷ words_between r.1.now)
@@ -110,7 +110,7 @@ fn level_of(word: &str) -> Option<Num>
     }
 }
 
-// The number behind a minus.
+// The number after a minus.
 fn below_zero(word: &[u8]) -> Option<Num>
     requires { (slice_index word.now 0 == 45) ≡ true }
     ensures { MatchOption result ((n : Extended) → IsLevel word.now n → ⊥)

@@ -23,7 +23,8 @@ pub enum Binary {
     Max,
 }
 
-/// One step of an expression in postfix form: it takes its arguments from a stack and puts its value there.
+/// One step of an expression in postfix form: it takes its arguments from a stack and puts its
+/// value there.
 #[derive(Clone, Copy)]
 pub enum Op {
     Constant(Fraction),

@@ -52,8 +52,9 @@ fn marks(alloc: Global, code: &[Op]) -> Result<Vec<bool>, Memory>
     Ok(uses)
 }
 
-/// The expression that a code leaves on top of the stack, with the arguments in place of the parameters. An argument is
-/// moved to where it stands last, and copied elsewhere, so that a chain of calls copies nothing.
+/// The expression that a code leaves on top of the stack, with the arguments in place of the
+/// parameters. An argument is moved to where it stands last, and copied elsewhere, so that a chain
+/// of calls copies nothing.
 #[cycle(expansion)]
 fn expand(
     alloc: Global,
@@ -156,7 +157,7 @@ fn called(
     Ok(expand(alloc, &functions[..i], code, arguments)?)
 }
 
-// The last so many, in the order in which they were put there.
+// The last `n`, in the order in which they were put there.
 fn last(stack: &mut Vec<Expr>, n: u8) -> Result<Vec<Expr>, Memory>
     ensures values { IfOk result (λ es. map term_of es.items ≡
         reverse (take n (stack_of stack.old.items))) }

@@ -4,7 +4,8 @@ ghost use Rattle.std.specs.Prelude.{◌≡◌, ◌<◌, ◌≤◌, ◌^◌, ◌+
 ghost use Rattle.pv_expr.specs.Systems.{IsFraction};
 ghost use Rattle.pv_code.specs.Fractions.{signed};
 
-/// `p/q`. Those that a text writes are in lowest terms, with the absolute value of p below 10^37 and q from 1 to 10^36.
+/// `p/q`. Those that a text writes are in lowest terms, with the absolute value of p below 10^37
+/// and q from 1 to 10^36.
 #[derive(Clone, Copy, Debug, PartialEq, Eq)]
 pub struct Fraction {
     pub p: i128,

@@ -1,5 +1,5 @@
-//! Expressions in postfix form, with calls of functions: how large they are once their calls are expanded, and their
-//! expansion to trees.
+//! Expressions in postfix form, with calls of functions: how large they are once their calls are
+//! expanded, and their expansion to trees.
 #![tactic(auto)]
 
 mod code;

@@ -52,7 +52,8 @@ impl Place {
     }
 }
 
-/// The size of an expanded expression, by its parts: the places of the parameters, and last those of its own nodes.
+/// The size of an expanded expression, by its parts: the places of the parameters, and last those
+/// of its own nodes.
 #[derive(Clone, Copy)]
 pub struct Measure {
     pub places: [Place; 13],
@@ -75,7 +76,7 @@ impl Measure {
         Measure::of_parameter(12)
     }
 
-    /// With copies of another, so many and so deep.
+    /// With copies of another, as many and as deep as a place says.
     pub(crate) fn with(&self, other: &Measure, at: Place) -> Measure
         ensures { (args : List Term) (nodes depth : ℕ) (t : Term) →
             IsSizeOf self.now args nodes depth →
@@ -102,8 +103,8 @@ impl Measure {
     }
 }
 
-/// The nodes with those of a constraint's sides, behind so many before it. None where they are more than the limit, or where a
-/// side is too deep.
+/// The nodes with those of a constraint's sides, after `before` nodes. None where they are more
+/// than the limit, or where a side is too deep.
 pub(crate) fn with_sides(left: &Measure, right: &Measure, before: u64) -> Option<u64>
     ensures { (t u : Term) (r : Relation) → IsSize left.now [] t → IsSize right.now [] u →
         IsRoom before (record { left = t; relation = r; right = u }) result }

@@ -1,4 +1,5 @@
-// What a code leaves on the stack: how large each value is with its calls expanded, and the part of its code that is used.
+// What a code leaves on the stack: how large each value is with its calls expanded, and the part of
+// its code that is used.
 
 ghost use Rattle.std.specs.Prelude.{All, ◌≡◌, ℕ, ◌≤◌, ◌<◌, List, [], ◌∷◌, ◌++◌, length, reverse, take, drop, IfOk, OnOk};
 ghost use Rattle.pv_expr.specs.declared.constraint.Relation.{Relation};
@@ -235,8 +236,8 @@ fn is_used(uses: &[bool], i: usize) -> bool
     }
 }
 
-/// The nodes of all constraints up to and with one, whose code leaves its two sides and has so many nodes before it. None
-/// where they are more than the limit, or where a side is too deep.
+/// The nodes of all constraints up to and with one, whose code leaves its two sides and has
+/// `before` nodes before it. None where they are more than the limit, or where a side is too deep.
 pub fn nodes_with(
     alloc: Global,
     functions: &[Function],

@@ -67,7 +67,7 @@ impl Program {
     }
 
     /// As `contract`, with each revision made through a counter, which then tells as many more as
-    /// the contraction needs, and after want of memory at most so many more.
+    /// the contraction needs, and after want of memory at most as many.
     pub fn contract_by<C: Counter>(
         &self,
         alloc: Global,
@@ -86,7 +86,8 @@ impl Program {
         ensures counted { OnOk result (C.told counter.new ≡
             raised (C.told counter.old)
             (revisions (sides_in graphs.now) (plan_of self.now) bx.now)) }
-        ensures at_most { OnErr result (RoseAtMost (revisions (sides_in graphs.now) (plan_of self.now) bx.now)
+        ensures at_most { OnErr result (RoseAtMost
+            (revisions (sides_in graphs.now) (plan_of self.now) bx.now)
             (C.told counter.old) (C.told counter.new)) }
     {
         graphs.learn();
@@ -109,7 +110,8 @@ impl Program {
         ensures counted { OnOk result (C.told counter.new ≡
             raised (C.told counter.old)
             (revisions (sides_in graphs.now) (plan_of self.now) bx.now)) }
-        ensures at_most { OnErr result (RoseAtMost (revisions (sides_in graphs.now) (plan_of self.now) bx.now)
+        ensures at_most { OnErr result (RoseAtMost
+            (revisions (sides_in graphs.now) (plan_of self.now) bx.now)
             (C.told counter.old) (C.told counter.new)) }
     {
         let mut scratch = Scratch::new(alloc);
@@ -139,7 +141,8 @@ fn narrow_by<C: Counter>(
     ensures counted { OnOk result (C.told counter.new ≡
         raised (C.told counter.old)
         (revisions (sides_in graphs.now) (plan_of program.now) bx.old)) }
-    ensures at_most { OnErr result (RoseAtMost (revisions (sides_in graphs.now) (plan_of program.now) bx.old)
+    ensures at_most { OnErr result (RoseAtMost
+        (revisions (sides_in graphs.now) (plan_of program.now) bx.old)
         (C.told counter.old) (C.told counter.new)) }
 {
     match program {

@@ -85,10 +85,11 @@ impl Known {
         }
     }
 
-    // What is known behind a step of several parts.
+    // What is known after a step of several parts.
     pub(crate) fn behind(self, graphs: &Graphs, answer: Revised) -> Known
-        ensures { (b d : List Bounds) → IsBox d → AreWithin d b → Knows (sides_in graphs.now) self b →
-            IsSoFar answer b d → Knows (sides_in graphs.now) result d }
+        ensures { (b d : List Bounds) → IsBox d → AreWithin d b →
+            Knows (sides_in graphs.now) self b → IsSoFar answer b d →
+            Knows (sides_in graphs.now) result d }
     {
         graphs.learn();
         match answer {
@@ -104,8 +105,9 @@ impl Known {
 // The marked constraints that have none of some variables.
 fn spared(graphs: &Graphs, clean: Marks, changed: Marks) -> Marks
     ensures kept { (k : ℕ) → is_marked result k ≡ true → is_marked clean k ≡ true }
-    ensures spared { (k v : ℕ) → k < length (sides_in graphs.now) → v < 12 → is_marked result k ≡ true →
-        is_marked changed v ≡ true → has_variable v (side_at (sides_in graphs.now) k) ≡ false }
+    ensures spared { (k v : ℕ) → k < length (sides_in graphs.now) → v < 12 →
+        is_marked result k ≡ true → is_marked changed v ≡ true →
+        has_variable v (side_at (sides_in graphs.now) k) ≡ false }
 {
     let mut left = clean;
     for v in 0..12u8 {

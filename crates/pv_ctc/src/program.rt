@@ -9,11 +9,12 @@ pub enum Program {
     Compose(Vec<Program>),
     /// The hull of the results that are not empty.
     Union(Vec<Program>),
-    /// The least box that holds what lies in at least so many of the results.
+    /// The least box that holds what lies in at least that number of the results.
     QInter(u32, Vec<Program>),
-    /// Its part, repeated at most so many times, until a turn changes nothing.
+    /// Its part, repeated at most that number of times, until a turn changes nothing.
     Fix(u32, Box<Program>),
-    /// All constraints in order, repeated at most so many times, until a turn changes nothing.
+    /// All constraints in order, repeated at most that number of times, until a turn changes
+    /// nothing.
     Prop(u32),
 }
 

@@ -42,16 +42,18 @@ impl<T: Drop> From<AllocFailed<T>> for ProgramRefused {
 }
 
 impl Program {
-    /// Reads the program of a text, for a system of `count` constraints. Ok comes exactly where the text is at most 4,096
-    /// bytes long and the one spelling of a program of at most 256 nodes, each number in its range: that of a constraint
-    /// below `count`, of turns from 1 to 64, and of a `qinter` from 1 to the number of programs in its list.
+    /// Reads the program of a text, for a system of `count` constraints. Ok comes exactly where the
+    /// text is at most 4,096 bytes long and the one spelling of a program of at most 256 nodes,
+    /// each number in its range: that of a constraint below `count`, of turns from 1 to 64, and of
+    /// a `qinter` from 1 to the number of programs in its list.
     ///
     /// # Errors
     ///
-    /// `Bad` where it is not, with the byte where the first wrong token begins: one that no program's text has there, a
-    /// number outside its range (of a `qinter` from 1 to 256) or with a leading zero, the name of the 257th node, or the
-    /// `)` of a `qinter` with too few programs. Where the text ends too early the byte is its length, and in a text of
-    /// more than 4,096 bytes it is 4,096. `Memory` for want of memory.
+    /// `Bad` where it is not, with the byte where the first wrong token begins: one that no
+    /// program's text has there, a number outside its range (of a `qinter` from 1 to 256) or with a
+    /// leading zero, the name of the 257th node, or the `)` of a `qinter` with too few programs.
+    /// Where the text ends too early the byte is its length, and in a text of more than 4,096 bytes
+    /// it is 4,096. `Memory` for want of memory.
     pub fn read(alloc: Global, text: &[u8], count: u32) -> Result<Program, ProgramRefused>
         ensures fits { IfOk result (λ p. IsFor count (plan_of p)) }
         ensures spelled { IfOk result (λ p. text.now ≡ program_text (plan_of p)) }
@@ -222,7 +224,7 @@ impl<'a> Reader<'a> {
         Ok(program)
     }
 
-    // What stands between the parentheses behind a word.
+    // What stands between the parentheses after a word.
     #[cycle(reading)]
     fn arguments(&mut self, alloc: Global, word: Word) -> Result<Program, ProgramRefused>
         ensures named { IfOk result (λ _. self.old.named ≤ self.new.named) }

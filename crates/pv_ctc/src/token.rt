@@ -159,7 +159,7 @@ fn number_of(digits: &[u8]) -> Token
     }
 }
 
-// Whether further digits stand behind a 0.
+// Whether further digits come after a 0.
 fn leads_with_zero(digits: &[u8]) -> bool
     ensures { result ≡ leads_with_zero digits.now }
 {

@@ -1,5 +1,5 @@
-//! Systems of constraints as trees: expressions over numbered variables, relations, domains, and the
-//! canonical text of a system.
+//! Systems of constraints as trees: expressions over numbered variables, relations, domains, and
+//! the canonical text of a system.
 #![tactic(auto)]
 
 mod canonical;

@@ -18,7 +18,8 @@ pub(crate) fn end_at(text: &[u8], mark: u8) -> usize
     }
 }
 
-/// Where the first line feed is, or the text's end. A line is longer than a word, so it is searched by vectors.
+/// Where the first line feed is, or the text's end. A line is longer than a word, so it is searched
+/// by vectors.
 pub(crate) fn line_end(text: &[u8]) -> usize
     ensures within { result ≤ length text.now }
     ensures free { IsFree 10 (take result text.now) }

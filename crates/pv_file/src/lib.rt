@@ -1,7 +1,7 @@
 //! Paving files: the text of a paving in two versions, written and read.
 //!
-//! A file has a line for its version, one for the identity of what it is a paving of, and one for each
-//! node in preorder. The root's box is not in it.
+//! A file has a line for its version, one for the identity of what it is a paving of, and one for
+//! each node in preorder. The root's box is not in it.
 #![tactic(auto)]
 
 mod cut;

@@ -14,8 +14,8 @@ use pv_num::{Memory, Num};
 use pv_tree::{Outcome, Path, Paving, Shape};
 use std::alloc::Global;
 
-/// Appends the line of the node at a path, in version 1 and without its line feed. After a refusal the
-/// text is as before.
+/// Appends the line of the node at a path, in version 1 and without its line feed. After a refusal
+/// the text is as before.
 pub fn write_node(alloc: Global, p: &Paving, path: Path, out: &mut Vec<u8>) -> Result<(), Memory>
     requires there { IsSome (subtree p.now.tree path) }
     ensures line { OnOk result
@@ -53,8 +53,8 @@ fn write_to(p: &Paving, path: Path, shape: &Shape, to: &mut IBox)
     }
 }
 
-/// Appends the line of an outcome, in version 1 and without its line feed. After a refusal the text is
-/// as before.
+/// Appends the line of an outcome, in version 1 and without its line feed. After a refusal the text
+/// is as before.
 pub fn write_outcome(o: &Outcome, out: &mut Vec<u8>) -> Result<(), Memory>
     ensures line { OnOk result (out.new.items ≡ out.old.items ++ outcome_line o.now) }
     ensures unchanged { OnErr result (out.new.items ≡ out.old.items) }
@@ -82,7 +82,8 @@ fn push_outcome(o: &Outcome, out: &mut Vec<u8>) -> Result<(), Memory>
     }
 }
 
-/// Appends the line of a node by its shape, its box, and what it kept of that box, without its line feed.
+/// Appends the line of a node by its shape, its box, and what it kept of that box, without its line
+/// feed.
 pub(crate) fn push_shape(
     version: Version,
     shape: &Shape,
@@ -117,7 +118,7 @@ pub(crate) fn keeps(shape: &Shape) -> bool
     }
 }
 
-/// A box with so many places, to write over.
+/// A box of `places` places, to write over.
 pub(crate) fn scratch_box(alloc: Global, places: u8) -> Result<IBox, Memory>
     requires some { 0 < places }
     requires few { places ≤ 12 }

@@ -19,8 +19,8 @@ use pv_num::{Memory, Num};
 use pv_tree::Outcome;
 use std::alloc::Global;
 
-/// The outcome of a version 1 line without its line feed. None exactly where the bytes are no such line
-/// of an outcome that is right for the box.
+/// The outcome of a version 1 line without its line feed. None exactly where the bytes are no such
+/// line of an outcome that is right for the box.
 pub fn read_outcome(alloc: Global, line: &[u8], bx: &IBox) -> Result<Option<Outcome>, Memory>
     ensures sound { IfOk result (λ r. IfSome r (λ o. line.now ≡ outcome_line o)) }
     ensures right { IfOk result (λ r. IfSome r (λ o. IsRightFor bx.now o)) }
@@ -30,8 +30,8 @@ pub fn read_outcome(alloc: Global, line: &[u8], bx: &IBox) -> Result<Option<Outc
     read_line(alloc, Version::One, line, bx)
 }
 
-/// The outcome of a line without its line feed. None exactly where the bytes are no line of an outcome
-/// that is right for the box.
+/// The outcome of a line without its line feed. None exactly where the bytes are no line of an
+/// outcome that is right for the box.
 pub(crate) fn read_line(
     alloc: Global,
     version: Version,
@@ -83,7 +83,8 @@ fn read_kept(
     }
 }
 
-// Puts the intervals that the text writes for the places from the i-th on behind those that are there.
+// Puts the intervals that the text writes for the places from the i-th on after those that are
+// there.
 fn read_ends(
     version: Version,
     bx: &IBox,
@@ -136,7 +137,8 @@ fn read_part(version: Version, old: Interval, bytes: &[u8]) -> Option<PartRead<'
     }
 }
 
-// The given interval, where neither end moved. Most places of most nodes are so, so this comes first.
+// The given interval, where neither end moved. Most places of most nodes are so, so this comes
+// first.
 fn read_kept_part(old: Interval, bytes: &[u8]) -> Option<PartRead<'_>>
     ensures sound { IfSome result
         (λ r. bytes.now ≡ part_text Version.Two old r.part ++ r.rest.now) }

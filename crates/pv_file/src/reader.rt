@@ -24,9 +24,9 @@ const MOST_SETTLED: u64 = 100_000;
 // The number of the first node's line.
 const FIRST_NODE: u64 = 3;
 
-/// The paving of a file, of either version, over a root box. A refusal but want of memory is the first
-/// fault of the bytes, which are then no file of a paving over that box for that identity with at most
-/// 100,000 settled nodes.
+/// The paving of a file, of either version, over a root box. A refusal but want of memory is the
+/// first fault of the bytes, which are then no file of a paving over that box for that identity
+/// with at most 100,000 settled nodes.
 pub fn read(
     alloc: Global,
     bytes: &[u8],
@@ -234,7 +234,7 @@ fn take_node<'a>(
     }
 }
 
-// Where a reading stands: at the line of a node, after so many settled ones.
+// Where a reading stands: at the line of a node, with the number of settled ones before it.
 #[derive(Clone, Copy)]
 struct Place {
     path: Path,

@@ -52,7 +52,7 @@ impl<'a> Scribe<'a> {
         })
     }
 
-    /// Passes so many nodes, or all that are to come.
+    /// Passes `nodes` nodes, or all that are to come.
     pub fn pass(&mut self, nodes: u64)
         ensures come { self.new.pending ≡ after_steps nodes self.old.pending }
         ensures text { self.new.text ≡ self.old.text }
@@ -60,7 +60,7 @@ impl<'a> Scribe<'a> {
         skip(&mut self.walk, nodes);
     }
 
-    /// Makes the lines of so many nodes, or of all that are to come, in place of those made before.
+    /// Makes the lines of `nodes` nodes, or of all that are to come, in place of those made before.
     pub fn make(&mut self, version: Version, nodes: u64)
         ensures { IfSome self.new.text
             (λ t. AreWritten version nodes self.old.pending self.new.pending t) }
@@ -89,7 +89,7 @@ impl<'a> Scribe<'a> {
     }
 }
 
-// Takes so many steps of a walk, or all that are left.
+// Takes `nodes` steps of a walk, or all that are left.
 fn skip(walk: &mut Walk<'_>, nodes: u64)
     ensures root { walk.new.root ≡ walk.old.root }
     ensures come { walk.new.pending ≡ after_steps nodes walk.old.pending }
@@ -103,7 +103,7 @@ fn skip(walk: &mut Walk<'_>, nodes: u64)
     }
 }
 
-// Writes the lines of so many nodes, or of all that are to come.
+// Writes the lines of `nodes` nodes, or of all that are to come.
 fn push_lines(
     walk: &mut Walk<'_>,
     version: Version,

@@ -136,8 +136,8 @@ pub(crate) fn push_visited(
     Ok(())
 }
 
-// Writes the box of the node that a walk has just visited, and what the node kept of it, over two boxes.
-// They are left alone where it kept nothing.
+// Writes the box of the node that a walk has just visited, and what the node kept of it, over two
+// boxes. They are left alone where it kept nothing.
 fn write_boxes(walk: &Walk<'_>, shape: &Shape, bx: &mut IBox, to: &mut IBox)
     requires shape { shape.now ≡ shape_of (Some walk.now.here.tree) }
     requires bx { length bx.old ≡ length walk.now.root }

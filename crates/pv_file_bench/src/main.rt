@@ -1,9 +1,10 @@
-//! Work on a paving file, for measuring: prints how many settled nodes it has, and how many bytes were written.
+//! Work on a paving file, for measuring: prints how many settled nodes it has, and how many bytes
+//! were written.
 //!
 //!     pv_file_bench paving write 10
 //!
-//! The file is one over [0,1] in 4 variables, for the identity of 32 bytes 2a. It is read once, and then the named work
-//! is done so many times.
+//! The file is one over [0,1] in 4 variables, for the identity of 32 bytes 2a. It is read once, and
+//! then the named work is done as often as the words say.
 #![tactic(auto)]
 
 mod work;

@@ -74,7 +74,7 @@ fn once(alloc: Global, work: Work, text: &[u8], paving: &Paving) -> Result<Done,
     })
 }
 
-/// Reads the file, and then does the work so many times.
+/// Reads the file, and then does the work `times` times.
 pub fn after(alloc: Global, work: Work, times: u64, text: &[u8]) -> Result<Done, FileRefused> {
     let root = root(alloc)?;
     let paving = read(alloc, text, IDENTITY, &root)?;

@@ -18,7 +18,7 @@ pub enum Cause {
     UnknownName,
     /// A name that is declared once more.
     DuplicateName,
-    /// No whole number from 0 to 32 behind `^`.
+    /// No whole number from 0 to 32 after `^`.
     BadExponent,
     /// The name of a 13th variable.
     TooManyVariables,

@@ -74,7 +74,7 @@ impl Counts {
         Counts { phase, ..self }
     }
 
-    /// The counts behind a token that the grammar allows, or which limit or declaration forbids it.
+    /// The counts after a token that the grammar allows, or which limit or declaration forbids it.
     pub fn counted(self, symbol: Symbol) -> Result<Counts, Cause>
         ensures { result ≡ counted self symbol }
     {

@@ -1,4 +1,5 @@
-//! That the grammar reads tokens in one way, and that its items and its trees say the same, as contracts.
+//! That the grammar reads tokens in one way, and that its items and its trees say the same, as
+//! contracts.
 ghost use Rattle.std.specs.Prelude.{[], ◌↔◌};
 ghost use Rattle.pv_grammar.specs.Counting.{AreCounted, nothing};
 ghost use Rattle.pv_grammar.specs.Limits.{IsExpressionWithin, IsSystemWithin};
@@ -14,9 +15,10 @@ pub fn one_reading()
     ensures expressions { IsReadOnce expression_items }
 {}
 
-/// The trees of the grammar and its items have the same texts, each of one tree, and say the same of it: among tokens whose names are
-/// known, the items derive with a code what a tree with that code has as its tokens; and the code means what the tree means. It
-/// holds by its contract alone; the call does nothing.
+/// The trees of the grammar and its items have the same texts, each of one tree, and say the same
+/// of it: among tokens whose names are known, the items derive with a code what a tree with that
+/// code has as its tokens; and the code means what the tree means. It holds by its contract alone;
+/// the call does nothing.
 pub fn trees()
     ensures systems { SystemsAgree }
     ensures expressions { ExpressionsAgree }
@@ -26,7 +28,8 @@ pub fn trees()
     ensures term { ExpressionsMeanAlike }
 {}
 
-/// A tree's tokens can be counted exactly where the tree is within the limits. It holds by its contract alone; the call does nothing.
+/// A tree's tokens can be counted exactly where the tree is within the limits. It holds by its
+/// contract alone; the call does nothing.
 pub fn limits()
     ensures systems { (x : System) →
         AreCounted (nothing Phase.Between) (system_symbols x []) ↔ IsSystemWithin x }

@@ -1,5 +1,6 @@
-//! The grammar of systems and of single expressions, over tokens whose names are resolved: a predictive machine that
-//! writes the code of what it reads, and the limits that are counted token by token.
+//! The grammar of systems and of single expressions, over tokens whose names are resolved: a
+//! predictive machine that writes the code of what it reads, and the limits that are counted token
+//! by token.
 #![tactic(auto)]
 
 mod cause;

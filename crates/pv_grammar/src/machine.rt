@@ -1,4 +1,5 @@
-// The grammar as a predictive machine: a stack of the items that are still to come, and the code of what was read.
+// The grammar as a predictive machine: a stack of the items that are still to come, and the code of
+// what was read.
 
 ghost use Rattle.std.specs.Bool.{OnTrue, OnFalse};
 ghost use Rattle.std.specs.Prelude.{◌≡◌, ◌≢◌, [], ◌∷◌, ◌++◌, IfOk, OnOk, None};
@@ -71,7 +72,8 @@ impl Machine {
         self.code
     }
 
-    /// Takes off the items that end before the token, writes their code, and takes off the item that the token meets.
+    /// Takes off the items that end before the token, writes their code, and takes off the item
+    /// that the token meets.
     pub fn settle(&mut self, symbol: Symbol) -> Result<Option<Item>, Memory>
         ensures { IfOk result (λ met. Settles symbol
             (pile self.old.stack.items) self.old.code.items met

@@ -1,4 +1,5 @@
-// The table of the grammar: what an item does with a token. Each function here is the definition of the same name.
+// The table of the grammar: what an item does with a token. Each function here is the definition of
+// the same name.
 
 ghost use Rattle.std.specs.Prelude.{◌≡◌, [], ◌∷◌, IfOk, Some};
 ghost use Rattle.pv_grammar.specs.Grammar as grammar;
@@ -90,7 +91,7 @@ impl Machine {
         }
     }
 
-    // Items behind this token alone.
+    // Items after this token alone.
     fn word(&mut self, fixed: Fixed, items: &[Item], symbol: Symbol) -> Result<bool, Memory>
         ensures { IfOk result
             (Moves (grammar.with_more items.now (grammar.exactly fixed symbol)) self.old self.new) }
@@ -101,7 +102,7 @@ impl Machine {
         }
     }
 
-    // Items behind a token that is taken.
+    // Items after a token that is taken.
     fn behind(&mut self, items: &[Item]) -> Result<bool, Memory>
         ensures { IfOk result (Moves (grammar.behind items.now) self.old self.new) }
     {
@@ -109,7 +110,7 @@ impl Machine {
         Ok(true)
     }
 
-    // An expression, and items behind it.
+    // An expression, and items after it.
     fn expression(&mut self, more: &[Item]) -> Result<bool, Memory>
         ensures { IfOk result
             (Moves (grammar.behind (grammar.expression_behind more.now)) self.old self.new) }

@@ -20,7 +20,7 @@ use std::collections::HashMap;
 /// Expressions as numbered nodes, in which no two are equal.
 #[derive(Drop)]
 pub struct Builder {
-    /// The nodes so far, each behind those that it reads.
+    /// The nodes so far, each after those that it reads.
     pub nodes: Vec<Node>,
     /// The intervals of the constants among them.
     pub ready: Vec<Interval>,

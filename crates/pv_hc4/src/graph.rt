@@ -108,7 +108,8 @@ impl Graph {
         ))
     }
 
-    /// Every graph's sides are over its variables. It holds by its contract alone; the call does nothing.
+    /// Every graph's sides are over its variables. It holds by its contract alone; the call does
+    /// nothing.
     pub fn learn(&self)
         ensures { AreOver self.now.dims (sides_of self.now) }
     {

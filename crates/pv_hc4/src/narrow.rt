@@ -68,8 +68,8 @@ fn is_left(rests: bool, target: Interval, own: Interval) -> bool
 }
 
 // Narrows the box by all occurrences below a node; false where a step is empty, and then the box is
-// somewhere between. `entry` is the box that the values were made for.
-// A target that is the node's own interval narrows nothing, and is left alone where `rests` says so.
+// somewhere between. `entry` is the box that the values were made for. A target that is the node's
+// own interval narrows nothing, and is left alone where `rests` says so.
 pub(crate) fn narrow(
     nodes: &[Node],
     values: &[Interval],

@@ -13,7 +13,8 @@ mod power;
 mod product;
 mod quotient;
 
-/// A closed interval of numbers. Its lower end is at most its upper one, and an infinite end is no bound.
+/// A closed interval of numbers. Its lower end is at most its upper one, and an infinite end is no
+/// bound.
 #[derive(Clone, Copy, Debug, PartialEq, Eq)]
 pub struct Interval {
     lo: Num,

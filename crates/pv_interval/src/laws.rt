@@ -4,9 +4,9 @@ ghost use Rattle.pv_interval.specs.Tables.{sum_of, difference_of, product_of, ne
 ghost use Rattle.pv_interval.specs.Inclusion.{HoldsPairs, HoldsEach, HoldsPowers, HoldsQuotients, HoldsLeft, HoldsRight, HoldsCommon};
 ghost use Rattle.pv_interval.specs.Subsets.{KeepsPairs, KeepsEach, KeepsPowers, KeepsQuotients, KeepsMeets};
 
-/// The inclusion property (Jaulin et al., 2001): where rational numbers lie in the arguments of an operation, and the
-/// operation is defined for them, its result lies in the operation's interval. It holds by its contract alone; the
-/// call does nothing.
+/// The inclusion property (Jaulin et al., 2001): where rational numbers lie in the arguments of an
+/// operation, and the operation is defined for them, its result lies in the operation's interval.
+/// It holds by its contract alone; the call does nothing.
 pub fn inclusion()
     ensures sums { HoldsPairs plus sum_of }
     ensures differences { HoldsPairs minus difference_of }
@@ -22,8 +22,8 @@ pub fn inclusion()
     ensures meets { HoldsCommon }
 {}
 
-/// Operations are inclusion monotone (Moore, 1966): of parts of intervals the result lies in the result of the whole.
-/// It holds by its contract alone; the call does nothing.
+/// Operations are inclusion monotone (Moore, 1966): of parts of intervals the result lies in the
+/// result of the whole. It holds by its contract alone; the call does nothing.
 pub fn monotony()
     ensures sums { KeepsPairs sum_of }
     ensures differences { KeepsPairs difference_of }

@@ -57,8 +57,9 @@ pub trait Folder {
     /// How often a store has failed, up to 2^64 - 1.
     ghost store_faults: { Self → ℕ };
 
-    /// Puts the whole content of a name into an empty list, if it has at most `limit` bytes. A longer
-    /// content leaves its first `limit + 1` bytes there, and every other refusal leaves the list empty.
+    /// Puts the whole content of a name into an empty list, if it has at most `limit` bytes. A
+    /// longer content leaves its first `limit + 1` bytes there, and every other refusal leaves the
+    /// list empty.
     fn fetch(&mut self, name: &str, limit: u64, into: &mut Vec<u8>) -> Result<(), FetchRefused>
         requires { into.old.items ≡ [] }
         ensures whole { OnOk result (IsWhole (content self.old name.now) limit into.new.items) }

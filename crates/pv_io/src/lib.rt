@@ -1,8 +1,8 @@
 //! The outside as two traits: a sink that takes bytes, and a folder of named files.
 //!
-//! What may go wrong outside is counted: an answer `Failed` comes only where the count of faults rose
-//! in that call. Those in memory tell their contents and can be made to fail at chosen calls. The real
-//! ones tell no contents.
+//! What may go wrong outside is counted: an answer `Failed` comes only where the count of faults
+//! rose in that call. Those in memory tell their contents and can be made to fail at chosen calls.
+//! The real ones tell no contents.
 #![tactic(auto)]
 
 mod folder;

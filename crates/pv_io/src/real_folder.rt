@@ -124,7 +124,8 @@ fn read_up_to<F: Read>(file: &mut F, limit: u64, into: &mut Vec<u8>) -> Result<(
     Err(FetchRefused::Failed)
 }
 
-// One read, whose bytes go behind those that are there. A read that a signal cut short is tried again.
+// One read, whose bytes go after those that are there. A read that a signal cut short is tried
+// again.
 fn read_some<F: Read>(file: &mut F, buffer: &mut [u8], into: &mut Vec<u8>) -> Turn
     requires { 0 < length buffer.old }
     ensures no_more { length into.new.items ≤ length into.old.items + length buffer.old }

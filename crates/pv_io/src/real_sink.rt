@@ -40,7 +40,8 @@ impl<W: Write> Sink for RealSink<W> {
         ensures taken { OnOk result
             (Appends (W.contents (writer_of self.old)) (W.contents (writer_of self.new)) bytes.now) }
         ensures taken_front { IsErrOf result WriteRefused.Failed
-            → AppendsSome (W.contents (writer_of self.old)) (W.contents (writer_of self.new)) bytes.now }
+            → AppendsSome (W.contents (writer_of self.old)) (W.contents (writer_of self.new))
+            bytes.now }
     {
         if takes_all(&mut self.inner, bytes) {
             return Ok(());

@@ -34,7 +34,7 @@ impl Script {
         self.failing.contains(&self.next)
     }
 
-    /// Goes on to the call behind the next one.
+    /// Goes on to the call after the next one.
     pub fn advance(&mut self)
         ensures { self.new ≡ record self.old { next = one_more self.old.next } }
     {

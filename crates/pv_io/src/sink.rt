@@ -23,7 +23,7 @@ impl From<AllocError> for WriteRefused {
     }
 }
 
-/// What takes bytes, one piece behind another.
+/// What takes bytes, one piece after another.
 pub trait Sink {
     /// The bytes that were taken so far, where the sink tells them.
     ghost written: { Self → Option (List ℕ) };

@@ -12,7 +12,8 @@ use pv_num::Memory;
 use pv_tree::{Outcome, Paving, Settler, Shape, Walk};
 use std::alloc::Global;
 
-/// Whether the node just visited, which has this shape, is settled so. `scratch` takes what the node kept.
+/// Whether the node just visited, which has this shape, is settled so. `scratch` takes what the
+/// node kept.
 fn shows(walk: &Walk<'_>, shape: Shape, outcome: &Outcome, scratch: &mut IBox) -> bool
     requires shape { shape ≡ shape_of (Some walk.now.here.tree) }
     requires scratch { length scratch.old ≡ length walk.now.root }
@@ -54,7 +55,8 @@ fn shows(walk: &Walk<'_>, shape: Shape, outcome: &Outcome, scratch: &mut IBox) -
     }
 }
 
-/// The settler's outcome for the node just visited, which has this shape, where the node is settled otherwise.
+/// The settler's outcome for the node just visited, which has this shape, where the node is settled
+/// otherwise.
 fn differing<S: Settler>(
     alloc: Global,
     settler: &S,
@@ -84,7 +86,8 @@ fn differing<S: Settler>(
     }
 }
 
-/// Whether a paving is a stage of its open root box by a settler. Then it covers its box, and it is sound.
+/// Whether a paving is a stage of its open root box by a settler. Then it covers its box, and it is
+/// sound.
 pub fn audit<S: Settler>(alloc: Global, settler: &S, paving: &Paving) -> Result<Audit, Memory>
     requires { length paving.now.root ≡ S.dims settler.now }
     ensures verdict { IfOk result (λ v.

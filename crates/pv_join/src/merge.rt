@@ -66,8 +66,8 @@ fn settle_as(
     }
 }
 
-/// Lays a paving over another from a path down: each node that is open there takes the other's outcome.
-/// A refusal leaves what was laid so far.
+/// Lays a paving over another from a path down: each node that is open there takes the other's
+/// outcome. A refusal leaves what was laid so far.
 pub fn overlay(
     alloc: Global,
     into: &mut Paving,

@@ -8,7 +8,7 @@ use pv_num::Memory;
 use pv_tree::{Outcome, Path, Paving, Shape};
 use std::alloc::Global;
 
-/// A box of so many places.
+/// A box of `places` places.
 pub(crate) fn blank(alloc: Global, places: u8) -> Result<IBox, Memory>
     requires some { 0 < places }
     requires few { places ≤ 12 }

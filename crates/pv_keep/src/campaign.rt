@@ -44,9 +44,9 @@ impl Model for Campaign {
 }
 
 impl Campaign {
-    /// Begins a name and opens what is kept of it: the paving over a root box whose settled nodes the
-    /// rows are. An absent name is there from then on, with this identity and no rows, also after some
-    /// refusals; all else that is kept stays.
+    /// Begins a name and opens what is kept of it: the paving over a root box whose settled nodes
+    /// the rows are. An absent name is there from then on, with this identity and no rows, also
+    /// after some refusals; all else that is kept stays.
     pub fn open<P: Keeper>(
         alloc: Global,
         keeper: &mut P,
@@ -92,8 +92,9 @@ impl Campaign {
         &self.paving
     }
 
-    /// Joins a stage to the paving and keeps the rows of the nodes that are settled in it and were open,
-    /// and answers their number. After a refusal the campaign and the kept rows are as before.
+    /// Joins a stage to the paving and keeps the rows of the nodes that are settled in it and were
+    /// open, and answers their number. After a refusal the campaign and the kept rows are as
+    /// before.
     pub fn save_round<P: Keeper>(
         &mut self,
         alloc: Global,
@@ -112,7 +113,8 @@ impl Campaign {
         ensures count { IfOk result (λ n. settled_count self.new.tree ≡
             settled_count self.old.tree + n) }
         ensures unchanged { OnErr result (self.new ≡ self.old) }
-        ensures stage { (rule : Rule) (depth : ℕ) (opening : Tree) → IsStage rule depth self.old.root opening self.old.tree
+        ensures stage { (rule : Rule) (depth : ℕ) (opening : Tree)
+            → IsStage rule depth self.old.root opening self.old.tree
             → IsStage rule depth self.old.root opening stage.now.tree
             → IsStage rule depth self.old.root opening self.new.tree }
         ensures saved { (name : List ℕ) → P.begun keeper.old ≡ Some name
@@ -147,7 +149,8 @@ impl Campaign {
         ensures root { IfOk result (λ p. p.root ≡ self.now.root) }
         ensures joined { IfOk result (λ p. IsJoin self.now.tree stage.now.tree p.tree) }
         ensures grows { IfOk result (λ p. Grows self.now.tree p.tree) }
-        ensures stage { (rule : Rule) (depth : ℕ) (opening : Tree) → IsStage rule depth self.now.root opening self.now.tree
+        ensures stage { (rule : Rule) (depth : ℕ) (opening : Tree)
+            → IsStage rule depth self.now.root opening self.now.tree
             → IsStage rule depth self.now.root opening stage.now.tree
             → IfOk result (λ p. IsStage rule depth self.now.root opening p.tree) }
         ensures not_failed { result ≢ Err SaveRefused.Failed }
@@ -160,8 +163,8 @@ impl Campaign {
     }
 }
 
-// Keeps the rows of the nodes that are settled in a paving and were open in an earlier stage of it, and
-// answers their number.
+// Keeps the rows of the nodes that are settled in a paving and were open in an earlier stage of it,
+// and answers their number.
 fn keep_new<P: Keeper>(
     alloc: Global,
     keeper: &mut P,

@@ -90,8 +90,8 @@ pub trait Keeper {
     /// How often the outside has failed, up to 2^64 - 1.
     ghost faults: { Self → ℕ };
 
-    /// Begins a name: what follows is said of it. An absent name is there from now on with this identity
-    /// and no rows. After a refusal no name is begun.
+    /// Begins a name: what follows is said of it. An absent name is there from now on with this
+    /// identity and no rows. After a refusal no name is begun.
     fn begin(&mut self, name: &str, identity: [u8; 32]) -> Result<(), BeginRefused>
         ensures begun { OnOk result (begun self.new ≡ Some name.now) }
         ensures there { OnOk result
@@ -107,8 +107,9 @@ pub trait Keeper {
         ensures no_fault { IsErrOf result BeginRefused.Memory → faults self.new ≡ faults self.old }
         ensures counts_on { faults self.old ≤ faults self.new };
 
-    /// Puts the rows of the name that is begun into an empty list, if there are at most `limit`. Where
-    /// there are more, the first `limit + 1` are put there, and every other refusal leaves the list empty.
+    /// Puts the rows of the name that is begun into an empty list, if there are at most `limit`.
+    /// Where there are more, the first `limit + 1` are put there, and every other refusal leaves
+    /// the list empty.
     fn load(&mut self, limit: u64, into: &mut Rows) -> Result<(), LoadRefused>
         requires begun { IsSome (begun self.old) }
         requires there { (name : List ℕ) → begun self.old ≡ Some name →

@@ -81,7 +81,7 @@ fn place_all(rows: &mut Vec<Row>, more: Vec<Row>)
     }
 }
 
-// Copies the first so many rows.
+// Copies the first `count` rows.
 fn copy_front(alloc: Global, rows: &[Row], count: usize, into: &mut Rows) -> Result<(), Memory>
     requires count { count ≤ length rows.now }
     requires empty { into.old ≡ [] }
@@ -118,7 +118,8 @@ impl KeptRows {
         }
     }
 
-    /// Puts all rows into an empty list, or the first `limit + 1` where there are more than the limit.
+    /// Puts all rows into an empty list, or the first `limit + 1` where there are more than the
+    /// limit.
     pub(crate) fn load(&self, alloc: Global, limit: u64, into: &mut Rows) -> Result<(), LoadRefused>
         requires { into.old ≡ [] }
         ensures all { OnOk result ((into.new ≡ self.now) × (length self.now ≤ limit)) }

@@ -1,8 +1,8 @@
 //! Campaigns: pavings that are kept between rounds under a name.
 //!
-//! A keeper keeps an identity and rows for each name: a row is the path of a settled node and its line.
-//! A campaign begins with what is kept, and each round saves the nodes that it settled. Whatever rounds
-//! there were, and wherever one failed, what is kept is a stage of the opening.
+//! A keeper keeps an identity and rows for each name: a row is the path of a settled node and its
+//! line. A campaign begins with what is kept, and each round saves the nodes that it settled.
+//! Whatever rounds there were, and wherever one failed, what is kept is a stage of the opening.
 #![tactic(auto)]
 
 mod campaign;

@@ -218,7 +218,8 @@ impl Keeper for MemKeeper {
         ensures all { (name : List ℕ) → begun_in self.old ≡ Some name
             → OnOk result (AreAll (kept_in self.old name) limit into.new) }
         ensures too_many { (name : List ℕ) → begun_in self.old ≡ Some name
-            → IsErrOf result LoadRefused.TooMany → AreTooMany (kept_in self.old name) limit into.new }
+            → IsErrOf result LoadRefused.TooMany
+            → AreTooMany (kept_in self.old name) limit into.new }
         ensures ordered { (name : List ℕ) → begun_in self.old ≡ Some name
             → OnOk result (IsOrdered (kept_in self.old name)) }
         ensures empty_failed { IsErrOf result LoadRefused.Failed → into.new ≡ [] }

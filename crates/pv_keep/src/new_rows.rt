@@ -18,8 +18,8 @@ use pv_num::laws::is_number;
 use pv_tree::{Outcome, Paving, Shape, Walk};
 use std::alloc::Global;
 
-/// The rows of the nodes that are settled in a paving and were open in an earlier stage of it. Both are
-/// walked over once, side by side.
+/// The rows of the nodes that are settled in a paving and were open in an earlier stage of it. Both
+/// are walked over once, side by side.
 pub(crate) fn new_rows(alloc: Global, earlier: &Paving, later: &Paving) -> Result<Rows, Memory>
     requires { Grows earlier.now.tree later.now.tree }
     ensures { IfOk result (λ rows.
@@ -41,8 +41,8 @@ pub(crate) fn new_rows(alloc: Global, earlier: &Paving, later: &Paving) -> Resul
     Ok(rows)
 }
 
-// Goes on in the earlier paving, unless the later one's node stands below an open leaf of it. Whether
-// that node was open.
+// Goes on in the earlier paving, unless the later one's node stands below an open leaf of it.
+// Whether that node was open.
 fn pass_old(old: &mut Walk<'_>, below: u64) -> bool
     ensures { Passes below old.old old.new result }
 {

@@ -14,8 +14,8 @@ use pv_num::Memory;
 use pv_tree::{Growth, MOST_STEPS, Outcome, Path, Paving};
 use std::alloc::Global;
 
-/// The paving over a root box whose settled nodes these rows are. The rows are in preorder, so they are
-/// met by one pass over the leaves of the growing tree.
+/// The paving over a root box whose settled nodes these rows are. The rows are in preorder, so they
+/// are met by one pass over the leaves of the growing tree.
 pub(crate) fn rebuild(alloc: Global, rows: &Rows, root: IBox) -> Result<Paving, CampaignRefused>
     ensures root { IfOk result (λ p. p.root ≡ root) }
     ensures made { IfOk result (λ p. Make root leaf rows.now p.tree) }
@@ -56,7 +56,8 @@ fn put_row(alloc: Global, growth: &mut Growth, row: &Row, bx: &mut IBox) -> Resu
     }
 }
 
-// Leaves open each leaf that comes before a path's. False exactly where the path is no leaf that is to come.
+// Leaves open each leaf that comes before a path's. False exactly where the path is no leaf that is
+// to come.
 fn pass_to(growth: &mut Growth, path: Path) -> bool
     ensures root { growth.new.root ≡ growth.old.root }
     ensures tree { growth.new.tree ≡ growth.old.tree }
@@ -73,7 +74,8 @@ fn pass_to(growth: &mut Growth, path: Path) -> bool
     false
 }
 
-// The outcome of a row's line. None where it is not right for the box, or may not stand at the path.
+// The outcome of a row's line. None where it is not right for the box, or may not stand at the
+// path.
 fn read_right(alloc: Global, row: &Row, bx: &IBox) -> Result<Option<Outcome>, Memory>
     ensures { IfOk result (λ read. IsReading row.now.path bx.now row.now.line read) }
 {

@@ -168,7 +168,7 @@ fn halving(alloc: Global, exponent: i16) -> Result<Vec<u8>, Fail> {
     Ok(text)
 }
 
-// 200 cuts, each in the low half of the one before, and a line behind them.
+// 200 cuts, each in the low half of the one before, and a line after them.
 fn deep(alloc: Global, last: &[u8]) -> Result<Rows, Fail> {
     let mut rows = Rows::new(alloc);
     let mut path = Path::root();

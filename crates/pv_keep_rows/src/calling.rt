@@ -31,7 +31,7 @@ pub(crate) struct Answer {
     pub(crate) err: MemSink,
 }
 
-// The words of a campaign of so many rounds.
+// The words of a campaign of `rounds` rounds.
 fn words_of(alloc: Global, rounds: &str) -> Result<Vec<String>, Fail> {
     let mut list = Vec::new(alloc);
     for word in [
@@ -43,7 +43,7 @@ fn words_of(alloc: Global, rounds: &str) -> Result<Vec<String>, Fail> {
     Ok(list)
 }
 
-/// A campaign of so many rounds of one node each under the name `k`.
+/// A campaign of `rounds` rounds of one node each under the name `k`.
 pub(crate) fn campaign<P: Keeper, R: Threads + Wait + Sync>(
     rt: &R,
     alloc: Global,

@@ -1,5 +1,5 @@
-//! Campaigns over databases on disks in memory: closed and opened again, stopped at each call of a disk, and made by
-//! somebody else. This crate is tests alone.
+//! Campaigns over databases on disks in memory: closed and opened again, stopped at each call of a
+//! disk, and made by somebody else. This crate is tests alone.
 #![tactic(auto)]
 
 #[cfg(test)]

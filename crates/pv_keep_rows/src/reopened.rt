@@ -1,4 +1,5 @@
-//! A campaign whose files are closed and opened again between two calls, and a database with a bad path.
+//! A campaign whose files are closed and opened again between two calls, and a database with a bad
+//! path.
 ghost use Rattle.std.specs.Prelude.{IsTrue, IfOk};
 ghost use Rattle.sqlite_disk.specs.Memory.{memory_is_usable};
 

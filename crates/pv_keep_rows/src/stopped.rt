@@ -1,8 +1,10 @@
-//! Campaigns over disks that stop at a call, and what is kept then, all that was not synced being lost.
+//! Campaigns over disks that stop at a call, and what is kept then, all that was not synced being
+//! lost.
 //!
-//! A campaign of five rounds makes 49 calls of its log: 17 while the connection is opened, and five or six for each
-//! commit. Of the database file it makes 14, all while it is opened: rows go into the log until it is copied, and what
-//! was read stays in memory. A fuse that lasts longer never blows, so the counting ends there.
+//! A campaign of five rounds makes 49 calls of its log: 17 while the connection is opened, and five
+//! or six for each commit. Of the database file it makes 14, all while it is opened: rows go into
+//! the log until it is copied, and what was read stays in memory. A fuse that lasts longer never
+//! blows, so the counting ends there.
 use crate::calling::{campaign, settled};
 use crate::counting::Counting;
 use pv_keep_sql::ConnectionKeeper;
@@ -118,8 +120,8 @@ impl Stopping {
     }
 }
 
-// What a campaign came to over disks that stop. A stop leaves as many settled nodes as saves were answered with Ok, or
-// one more.
+// What a campaign came to over disks that stop. A stop leaves as many settled nodes as saves were
+// answered with Ok, or one more.
 fn status_over<R: Abort + Threads + Wait + Sync>(
     rt: &R,
     alloc: Global,
@@ -145,7 +147,8 @@ fn status_over<R: Abort + Threads + Wait + Sync>(
     Ok(status)
 }
 
-// How many stops came while the connection was opened and how many behind that, until a campaign ended with none.
+// How many stops came while the connection was opened and how many behind that, until a campaign
+// ended with none.
 fn stops_of<R: Abort + Threads + Wait + Sync>(
     rt: &R,
     alloc: Global,

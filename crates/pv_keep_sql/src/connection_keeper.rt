@@ -10,8 +10,8 @@ use pv_keep::{BeginRefused, KeepRefused, Keeper, LoadRefused, Rows};
 use sqlite::{Alter, Connection};
 use std::alloc::Global;
 
-/// Keeps one campaign in the database of a connection. The first name that is begun is the campaign's, and a
-/// begin of another name fails. It tells no rows.
+/// Keeps one campaign in the database of a connection. The first name that is begun is the
+/// campaign's, and a begin of another name fails. It tells no rows.
 pub struct ConnectionKeeper<S: Alter> {
     alloc: Global,
     connection: Connection<S>,

@@ -24,8 +24,8 @@ const SET_IDENTITY: &str = "INSERT INTO head (id, identity) VALUES (1, ?1)";
 
 const ROWS: &str = "SELECT path, line FROM node ORDER BY path";
 
-/// How many rows a statement adds at most. Each statement copies the pages that it writes, so one for each row would
-/// take twice as long.
+/// How many rows a statement adds at most. Each statement copies the pages that it writes, so one
+/// for each row would take twice as long.
 const AT_ONCE: usize = 16;
 
 const ADD_ROWS: &str = "INSERT INTO node (path, line)
@@ -64,8 +64,8 @@ pub(crate) enum Extent {
     OneTooMany,
 }
 
-/// Sees to it that a database has the two tables and an identity. Where the identity is another one, or the
-/// database is refused, it stays as it was.
+/// Sees to it that a database has the two tables and an identity. Where the identity is another
+/// one, or the database is refused, it stays as it was.
 pub(crate) fn enter<S: Alter>(
     alloc: Global,
     connection: &mut Connection<S>,
@@ -90,8 +90,8 @@ pub(crate) fn enter<S: Alter>(
     Ok(entered)
 }
 
-// Makes the tables that are absent, and says whether one was. A database of another program is refused: it has
-// tables, and neither of these two.
+// Makes the tables that are absent, and says whether one was. A database of another program is
+// refused: it has tables, and neither of these two.
 fn make_tables<S: Alter>(change: &mut Transaction<'_, S>) -> Result<bool, Refused> {
     let own = count(change, OWN_TABLES)?;
     if own == 0 && count(change, OBJECTS)? > 0 {
@@ -132,7 +132,8 @@ fn set_identity<S: Alter>(
     Ok(())
 }
 
-// How a kept identity stands to the one that is asked for. One that is not 32 bytes long is refused.
+// How a kept identity stands to the one that is asked for. One that is not 32 bytes long is
+// refused.
 fn entered_as(identity: &[u8; 32], kept: &[u8]) -> Result<Entered, Refused>
     ensures { IfOk result (IsOther identity.now) }
 {
@@ -157,8 +158,8 @@ fn digest_of(bytes: &[u8]) -> Option<[u8; 32]>
     Some(digest)
 }
 
-/// Reads the kept rows into an empty list, one at a time in the order of their keys, up to the limit and one
-/// more.
+/// Reads the kept rows into an empty list, one at a time in the order of their keys, up to the
+/// limit and one more.
 pub(crate) fn read_rows<S: Alter>(
     alloc: Global,
     connection: &mut Connection<S>,

@@ -8,8 +8,9 @@ use crate::faults::{Refused, counted};
 use pv_keep::{BeginRefused, KeepRefused, Keeper, LoadRefused, Rows};
 use sqlite::{Connection, File, FileStore};
 
-/// Keeps campaigns in database files of the folder in which the program runs: a campaign's name is that of its
-/// file, which is made where it is absent. Beside it lies the log of the database, `NAME-wal`. It tells no rows.
+/// Keeps campaigns in database files of the folder in which the program runs: a campaign's name is
+/// that of its file, which is made where it is absent. Beside it lies the log of the database,
+/// `NAME-wal`. It tells no rows.
 pub struct FileKeeper<'a> {
     rt: &'a HostRuntime,
     open: Option<ConnectionKeeper<FileStore<File>>>,
@@ -39,8 +40,8 @@ impl<'a> FileKeeper<'a> {
         }
     }
 
-    /// Closes the file that is open: what is kept is copied from its log into the file itself. Where that can't be
-    /// done it stays in the log, and nothing is lost.
+    /// Closes the file that is open: what is kept is copied from its log into the file itself.
+    /// Where that can't be done it stays in the log, and nothing is lost.
     pub fn close(self) {
         let FileKeeper {
             rt: _,

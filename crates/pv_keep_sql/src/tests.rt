@@ -21,7 +21,8 @@ INSERT INTO head VALUES (1, x'07070707070707070707070707070707070707070707070707
 /// All that is no index.
 const OBJECTS: &str = "SELECT count(*) FROM sqlite_master WHERE type <> 'index'";
 
-/// What was answered to a load, and the rows that it left, a line each: the digits, a space and the line.
+/// What was answered to a load, and the rows that it left, a line each: the digits, a space and the
+/// line.
 #[derive(Drop)]
 struct Loaded {
     answer: Result<(), LoadRefused>,
@@ -288,7 +289,7 @@ fn a_row_that_no_node_has_fails_the_load(rt: HostRuntime) -> Result<(), Fail> {
     Ok(())
 }
 
-// What a begin answers where an identity of so many bytes 0 is kept.
+// What a begin answers where an identity of `count` bytes 0 is kept.
 fn begun_over(alloc: Global, count: u32) -> Result<Result<(), BeginRefused>, Fail> {
     let mut connection = keeper_of(alloc, "DELETE FROM head")?.into_connection();
     let bytes = vec![in alloc; 0u8; count as usize]?;

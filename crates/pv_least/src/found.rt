@@ -151,7 +151,8 @@ impl Least {
         requires few { self.old.settled < 2 ^ 63 }
         requires dims { HasDims objective.now.dims outcome.now }
         requires probe { length room.old.probe ≡ objective.now.dims }
-        ensures found { OnOk result (self.new ≡ settled_by (aim_of objective.now) self.old outcome.now) }
+        ensures found { OnOk result
+            (self.new ≡ settled_by (aim_of objective.now) self.old outcome.now) }
         ensures leaf { room.new.leaf ≡ room.old.leaf }
         ensures probe { length room.new.probe ≡ length room.old.probe }
     {

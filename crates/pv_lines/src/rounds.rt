@@ -15,7 +15,7 @@ use std::thread::Threads;
 // The lines of at most some more nodes are held at once.
 const MOST_HELD: u64 = 16_384;
 
-/// Hands the lines of all nodes to a sink, made by so many workers.
+/// Hands the lines of all nodes to a sink, made by `workers` workers.
 pub(crate) fn write_nodes<K: Sink, R: Threads + Sync>(
     rt: &R,
     alloc: Global,

@@ -1,4 +1,4 @@
-//! Scribes that stand one behind the other, and their turns.
+//! Scribes that stand one after the other, and their turns.
 ghost use Rattle.std.specs.Prelude.{◌≡◌, ℕ, ◌+◌, ◌-◌, ◌<◌, ◌≤◌, [], ◌∷◌, IfOk, length, get_or, vec_len, drop, OnOk, OnErr, IsErrOf};
 ghost use Rattle.pv_io.specs.Outside.{Rose, appended, AppendsFront};
 ghost use Rattle.pv_tree.specs.Pieces.{root_piece};
@@ -13,7 +13,7 @@ use std::alloc::Global;
 use std::thread;
 use std::thread::Threads;
 
-/// So many scribes, each a share behind the one before.
+/// `workers` scribes, each a share after the one before.
 pub(crate) fn spread<'a>(
     alloc: Global,
     p: &'a Paving,
@@ -37,7 +37,8 @@ pub(crate) fn spread<'a>(
     Ok(scribes)
 }
 
-/// Each scribe makes a share, and passes those of the others, in a thread of its own where one can be made.
+/// Each scribe makes a share, and passes those of the others, in a thread of its own where one can
+/// be made.
 pub(crate) fn turn_all<R: Threads + Sync>(
     rt: &R,
     version: Version,

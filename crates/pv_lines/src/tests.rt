@@ -30,7 +30,7 @@ fn paving(alloc: Global) -> Result<Paving, Fail> {
     Ok(read(alloc, &text, [0x2a; 32], &root)?)
 }
 
-// The lines by so many workers.
+// The lines by `workers` workers.
 fn lines_by<R: Threads + Sync>(
     rt: &R,
     alloc: Global,

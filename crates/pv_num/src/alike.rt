@@ -1,5 +1,5 @@
-//! Sums of numbers of one sign, in single words: nothing cancels, so the greater size fixes the exponent, and the class
-//! of the sum is that of both numbers.
+//! Sums of numbers of one sign, in single words: nothing cancels, so the greater size fixes the
+//! exponent, and the class of the sum is that of both numbers.
 ghost use Rattle.std.specs.Prelude.{◌≡◌, ◌↔◌, ℕ, ◌+◌, ◌*◌, ◌^◌, ◌<◌, ◌≤◌, ◌+ℤ◌, IsTrue, Some, true, false};
 ghost use Rattle.pv_num.specs.Rounding.{rounded};
 ghost use Rattle.pv_num.specs.Sizes.{size_of, IsSized, IsWhole, whole_of, with_sign, is_infinite_of, is_negative_of};

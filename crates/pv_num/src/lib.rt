@@ -1,4 +1,5 @@
-//! Numbers m * 2^e with a mantissa of 62 bits and two infinite ends, in exact arithmetic that rounds to a named side.
+//! Numbers m * 2^e with a mantissa of 62 bits and two infinite ends, in exact arithmetic that
+//! rounds to a named side.
 #![tactic(auto)]
 
 mod alike;

@@ -48,7 +48,8 @@ pub(crate) const MANTISSA_BITS: u16 = 62;
 
 pub(crate) const TOP_EXPONENT: u16 = 962;
 
-/// A value in `round` is counted in units of 2^-1024 beyond the exponent 0, so that quotients stay whole.
+/// A value in `round` is counted in units of 2^-1024 beyond the exponent 0, so that quotients stay
+/// whole.
 pub(crate) const FINE_BITS: u16 = 1024;
 
 pub(crate) const LARGEST: Magnitude = Magnitude {

@@ -40,7 +40,8 @@ impl Class {
     }
 }
 
-/// A number m * 2^e with whole m below 2^62 in size and e from -512 to 450, or one of the two infinite ends.
+/// A number m * 2^e with whole m below 2^62 in size and e from -512 to 450, or one of the two
+/// infinite ends.
 #[derive(Clone, Copy, Debug)]
 pub struct Num {
     pub(crate) class: Class,

@@ -40,7 +40,8 @@ impl Num {
         product(negative, self.size(), other.size(), side)
     }
 
-    /// The n-th power of a number that is not negative: n - 1 products, each rounded to the side, from the left.
+    /// The n-th power of a number that is not negative: n - 1 products, each rounded to the side,
+    /// from the left.
     pub fn pow(self, n: u8, side: End) -> Num
         requires not_negative { IsTrue (le (Fin (pos 0)) self) }
         requires exponent { n ≤ 32 }

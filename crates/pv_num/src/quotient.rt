@@ -62,7 +62,7 @@ fn inexact(rest: u128) -> u128
     if rest == 0 { 0 } else { 1 }
 }
 
-// A number shifted so that it has so many bits, and by how much.
+// A number shifted so that it has `bits` bits, and by how much.
 #[inline]
 fn left_aligned(n: u128, bits: u16) -> (u128, u16)
     requires positive { 0 < n }

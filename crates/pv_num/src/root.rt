@@ -13,8 +13,9 @@ use crate::square::first_of_squares;
 const TOP_INDEX: u128 = 962 * 0x2000_0000_0000_0000 + 0x3fff_ffff_ffff_ffff;
 
 impl Num {
-    /// The n-th root of a number that is not negative. Down: the greatest finite number whose power, rounded up, is
-    /// at most this one. Up: the least finite number whose power, rounded down, is at least this one, or +oo for +oo.
+    /// The n-th root of a number that is not negative. Down: the greatest finite number whose
+    /// power, rounded up, is at most this one. Up: the least finite number whose power, rounded
+    /// down, is at least this one, or +oo for +oo.
     pub fn root(self, n: u8, side: End) -> Num
         requires not_negative { IsTrue (le (Fin (pos 0)) self) }
         requires exponent { (1 ≤ n) × (n ≤ 32) }
@@ -96,7 +97,8 @@ fn narrowed(low: u128, high: u128, at: u128, reached: bool) -> (u128, u128)
     if reached { (low, at) } else { (at + 1, high) }
 }
 
-// An index between: near the end that moved last, and by doubled steps away from it, as far as the middle.
+// An index between: near the end that moved last, and by doubled steps away from it, as far as the
+// middle.
 #[inline]
 fn next_probe(low: u128, high: u128, step: u128, reached: bool) -> u128
     requires ordered { low ≤ high }
@@ -140,7 +142,8 @@ fn guess(z: Num, n: u8) -> u128
     near_root(z, n)
 }
 
-// The index of a root: near it by the mantissa alone, and then by one step of Newton's method with all bits.
+// The index of a root: near it by the mantissa alone, and then by one step of Newton's method with
+// all bits.
 fn near_root(z: Num, n: u8) -> u128
     requires { (1 ≤ n) × (n ≤ 32) }
 {
@@ -174,8 +177,8 @@ fn newton_steps(n: u8) -> u8 {
     if n <= 16 { 3 } else { 4 }
 }
 
-// The index of a root, right to 40 bits or so. With z = w 2^j (2^k)^n, w from 1 to 2 and j below n, it is the inverse
-// root of w 2^j that is found, a number from 1/2 to 1.
+// The index of a root, right to 40 bits or so. With z = w 2^j (2^k)^n, w from 1 to 2 and j below n,
+// it is the inverse root of w 2^j that is found, a number from 1/2 to 1.
 fn by_mantissa(z: Num, n: u8) -> u128
     requires { (1 ≤ n) × (n ≤ 32) }
 {
@@ -196,7 +199,8 @@ fn by_mantissa(z: Num, n: u8) -> u128
 
 const ONE_IN_32_BITS: u64 = 0x1_0000_0000;
 
-// Where the inverse root of (1 + fraction) 2^twos lies, with 41 bits behind the point; `share` is 1 / n in 32 bits.
+// Where the inverse root of (1 + fraction) 2^twos lies, with 41 bits behind the point; `share` is 1
+// / n in 32 bits.
 #[inline]
 fn by_logarithm(fraction: u64, twos: u64, share: u64) -> u64
     requires fraction { fraction < 65536 }
@@ -228,7 +232,8 @@ const ONE_IN_54_BITS: u64 = 0x40_0000_0000_0000;
 
 const WORD: u128 = 0x1_0000_0000_0000_0000;
 
-// w 2^twos y^count, with as many bits behind the point as w has; y has 41, and count is not below twos.
+// w 2^twos y^count, with as many bits behind the point as w has; y has 41, and count is not below
+// twos.
 #[inline]
 fn scaled(word: u64, inverse: u64, count: u8, twos: u64) -> u64 {
     let mut product = word;
@@ -251,7 +256,8 @@ const ONE_BELOW: u64 = 0x1_0000;
 // The exponent of 1.
 const UNIT_BITS: u64 = 512;
 
-// What the logarithm of 1 + x is above x, for x from 0 to 1, both times 2^16; 2^x is as much below 1 + x.
+// What the logarithm of 1 + x is above x, for x from 0 to 1, both times 2^16; 2^x is as much below
+// 1 + x.
 fn bend(x: u64) -> u64
     requires { x ≤ 65536 }
     ensures { result ≤ x }

@@ -5,7 +5,8 @@ ghost use Rattle.pv_num.specs.Sizes.{IsSizeOf, IsSizeAbove, IsFloor, IsCeiling, 
 
 use crate::magnitude::{FINE_BITS, LARGEST, MANTISSA_BITS, Magnitude, TOP_EXPONENT, Toward};
 
-/// The size next to `parts * 2^at / 2^1024` on the side that is asked for; None where it is above all sizes.
+/// The size next to `parts * 2^at / 2^1024` on the side that is asked for; None where it is above
+/// all sizes.
 #[inline(always)]
 pub(crate) fn round(parts: u128, at: u16, toward: Toward) -> Option<Magnitude>
     requires { at ≤ 4096 }

@@ -1,5 +1,5 @@
-//! Square roots: the whole part of the square root of a whole number of 124 bits is found by products, and tried by one
-//! comparison.
+//! Square roots: the whole part of the square root of a whole number of 124 bits is found by
+//! products, and tried by one comparison.
 ghost use Rattle.std.specs.Prelude.{◌≡◌, ◌+◌, ◌-◌, ◌*◌, ◌^◌, ◌<◌, ◌≤◌, pos, IfSome, IsTrue, true, false};
 ghost use Rattle.pv_num.specs.Extended.{Fin};
 ghost use Rattle.pv_num.specs.Roots.{size_at, is_reached, first_index, IsSquareOf};
@@ -8,7 +8,8 @@ ghost use Rattle.pv_num.specs.Sizes.{size_of};
 use crate::magnitude::Magnitude;
 use crate::num::{End, Num};
 
-// Of a square root, the first index whose square is beyond a number. None for numbers below 2^-450 and for other roots.
+// Of a square root, the first index whose square is beyond a number. None for numbers below 2^-450
+// and for other roots.
 pub(crate) fn first_of_squares(z: Num, n: u8, side: End) -> Option<u128>
     ensures fits { IfSome result (λ i. i < 962 * 2 ^ 61 + 2 ^ 62) }
     ensures below { IfSome result (λ i. 0 < i → is_reached side z n (size_at (i - 1)) ≡ false) }
@@ -23,8 +24,8 @@ pub(crate) fn first_of_squares(z: Num, n: u8, side: End) -> Option<u128>
 // The same for a size.
 fn first_of_size(z: Magnitude, side: End) -> Option<u128>
     ensures fits { IfSome result (λ i. i < 962 * 2 ^ 61 + 2 ^ 62) }
-    ensures below { IfSome result (λ i. 0 < i → is_reached side (Fin (pos (size_of z))) 2 (size_at (i - 1)) ≡
-        false) }
+    ensures below { IfSome result (λ i. 0 < i →
+        is_reached side (Fin (pos (size_of z))) 2 (size_at (i - 1)) ≡ false) }
     ensures here { IfSome result (λ i. is_reached side (Fin (pos (size_of z))) 2 (size_at i) ≡
         true) }
 {
@@ -85,7 +86,8 @@ fn as_square(z: Magnitude) -> Square
     }
 }
 
-// A line below 1 / sqrt(x), near it for x from 1/4 to 1: its value at 0 times 2^31, and its fall times 2^15.
+// A line below 1 / sqrt(x), near it for x from 1/4 to 1: its value at 0 times 2^31, and its fall
+// times 2^15.
 const START: u64 = 0xfc18_0000;
 
 const FALL: u64 = 0x90e3;

@@ -41,8 +41,9 @@ impl Num {
         self.add(other.neg(), side)
     }
 
-    /// A cut strictly between two finite numbers, near the middle: half their sum rounded down where that is above
-    /// the lower one, else rounded up. None where no such cut lies strictly between.
+    /// A cut strictly between two finite numbers, near the middle: half their sum rounded down
+    /// where that is above the lower one, else rounded up. None where no such cut lies strictly
+    /// between.
     pub fn middle(lo: Num, hi: Num) -> Option<Num>
         requires lo_finite { (lo ≢ NegInf) × (lo ≢ PosInf) }
         requires hi_finite { (hi ≢ NegInf) × (hi ≢ PosInf) }

@@ -1,4 +1,5 @@
-//! Sums of numbers of opposite signs, in single words: one bit below the greater mantissa is all that rounding needs.
+//! Sums of numbers of opposite signs, in single words: one bit below the greater mantissa is all
+//! that rounding needs.
 ghost use Rattle.std.specs.Prelude.{◌≡◌, ◌↔◌, ◌≢◌, ◌+◌, ◌-◌, ◌*◌, ◌^◌, ◌<◌, ◌≤◌, ◌+ℤ◌, IsTrue, Some, false};
 ghost use Rattle.pv_num.specs.Rounding.{rounded};
 ghost use Rattle.pv_num.specs.Sizes.{size_of, IsSized, IsWhole, whole_of, is_infinite_of, is_negative_of};

@@ -1,4 +1,4 @@
-// What is written behind a variable's name: its domain.
+// What is written after a variable's name: its domain.
 
 ghost use Rattle.std.specs.Bool.{OnTrue, OnFalse};
 ghost use Rattle.std.specs.Prelude.{◌≡◌, map, IfOk, IfSome, IsNone};
@@ -23,7 +23,7 @@ pub(crate) enum Awaited {
     Neither,
 }
 
-/// What is written behind a variable's name so far.
+/// What is written after a variable's name so far.
 #[derive(Clone, Copy)]
 pub(crate) struct Given {
     pub domain: Domain,
@@ -118,7 +118,8 @@ pub(crate) fn first_bad(given: &[Given]) -> Option<usize>
     }
 }
 
-// Whether the lower bound is not +oo, the upper one not -oo, and they are in order as exact numbers.
+// Whether the lower bound is not +oo, the upper one not -oo, and they are in order as exact
+// numbers.
 fn in_order(domain: Domain) -> bool
     ensures yes { OnTrue result (InOrder domain.lo domain.hi) }
     ensures no { OnFalse result (¬ InOrder domain.lo domain.hi) }

@@ -8,8 +8,9 @@ ghost use Rattle.pv_parse.specs.Sentences.{HasOneExpressionTree, HasOneTree, IsE
 
 use pv_grammar::Phase;
 
-/// A text of a system is at most one list of tokens. It is the text of a tree, and of one alone then, or it has a first fault, at one
-/// place and with one cause; and never both. It holds by its contract alone; the call does nothing.
+/// A text of a system is at most one list of tokens. It is the text of a tree, and of one alone
+/// then, or it has a first fault, at one place and with one cause; and never both. It holds by its
+/// contract alone; the call does nothing.
 pub fn one_system()
     ensures spelled { (t : List ℕ) → IsSpelledOnce t no_names (first_in Phase.Between) }
     ensures tree { (t : List ℕ) → HasOneTree t }
@@ -32,8 +33,9 @@ pub fn one_expression()
         IsAtMostOne (IsExpressionFault variables t) }
 {}
 
-/// A text is a system's, and means one then, or it has a fault, at one place and with one cause; and never both: so what `parse`
-/// says of a system or a fault leaves no text out, and no choice. It holds by its contract alone; the call does nothing.
+/// A text is a system's, and means one then, or it has a fault, at one place and with one cause;
+/// and never both: so what `parse` says of a system or a fault leaves no text out, and no choice.
+/// It holds by its contract alone; the call does nothing.
 pub fn one_outcome()
     ensures either { (t : List ℕ) → IsEither (IsSystemSentence t) (IsFaultOf t) }
     ensures apart { (t : List ℕ) → Excludes (IsSystemSentence t) (IsFaultOf t) }

@@ -31,9 +31,10 @@ const MAX_TEXT: usize = 65536;
 
 /// The system that a text means.
 ///
-/// A text that means none has one fault (`laws::one_outcome`): where it is longer than 65,536 bytes, at the first byte too many;
-/// else at the first token such that no text of a system begins with the tokens up to and with it; else at the bracket of the
-/// first bad domain; else at the start of the first constraint with which the system is too large.
+/// A text that means none has one fault (`laws::one_outcome`): where it is longer than 65,536
+/// bytes, at the first byte too many; else at the first token such that no text of a system begins
+/// with the tokens up to and with it; else at the bracket of the first bad domain; else at the
+/// start of the first constraint with which the system is too large.
 #[tactic(auto, using(crate::proofs::Refusals::long_system, crate::proofs::Meant::first_fault))]
 pub fn parse(alloc: Global, text: &[u8]) -> Result<System, ParseRefused>
     ensures means { IfOk result (λ s. IsMeaning text.now s) }
@@ -66,8 +67,9 @@ pub fn parse(alloc: Global, text: &[u8]) -> Result<System, ParseRefused>
 
 /// The expression that a text means, over the variables of a system.
 ///
-/// A text that means none has one fault (`laws::one_expression_outcome`): where it is longer than 65,536 bytes, at the first byte
-/// too many; else at the first token such that no expression begins with the tokens up to and with it.
+/// A text that means none has one fault (`laws::one_expression_outcome`): where it is longer than
+/// 65,536 bytes, at the first byte too many; else at the first token such that no expression begins
+/// with the tokens up to and with it.
 #[tactic(auto, using(crate::proofs::Refusals::long_expression, crate::proofs::Refusals::first_expression))]
 pub fn parse_expr(alloc: Global, system: &System, text: &[u8]) -> Result<Expr, ParseRefused>
     ensures over { IfOk result (λ e. IsOver (length system.now.names) (term_of e)) }

@@ -11,7 +11,8 @@ use std::fmt;
 pub enum ParseRefused {
     /// Memory ran out.
     Memory,
-    /// The first fault of the text. `byte` is counted from 0, `line` and `column`, in bytes, from 1.
+    /// The first fault of the text. `byte` is counted from 0, `line` and `column`, in bytes, from
+    /// 1.
     Fault {
         byte: u32,
         line: u32,

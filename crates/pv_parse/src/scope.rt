@@ -1,4 +1,5 @@
-// What the parts of a text declare beside names, token by token: variables with their domains, and where constraints begin.
+// What the parts of a text declare beside names, token by token: variables with their domains, and
+// where constraints begin.
 
 ghost use Rattle.std.specs.Prelude.{◌≡◌, ◌≤◌, ◌++◌, ◌∷◌, [], map, string_bytes, true, length, OnOk};
 ghost use Rattle.std.specs.Str.{IsAscii};
@@ -39,7 +40,7 @@ impl Begun {
 pub(crate) struct Scope {
     pub alloc: Global,
     pub variables: Vec<String>,
-    /// What is written behind the name of each variable.
+    /// What is written after the name of each variable.
     pub given: Vec<Given>,
     pub begun: Begun,
     /// Where each constraint begins.

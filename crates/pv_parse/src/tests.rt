@@ -1,5 +1,6 @@
-// What no clause says yet: a table of texts, and texts at the limits. The table of faults is run on the real program,
-// by tests/runners/reader_table.py: with it among these tests the prover does not finish.
+// What no clause says yet: a table of texts, and texts at the limits. The table of faults is run on
+// the real program, by tests/runners/reader_table.py: with it among these tests the prover does not
+// finish.
 
 mod systems;
 
@@ -150,7 +151,7 @@ fn doubling(alloc: Global, call: &[u8]) -> Result<Vec<u8>, AllocError> {
     Ok(text)
 }
 
-// The fault of a constraint that begins so many bytes before the end.
+// The fault of a constraint that begins `back` bytes before the end.
 fn too_large_before_end(text: &[u8], back: usize) -> Option<(u32, Cause)> {
     let byte = u32::try_from(text.len().checked_sub(back)?).ok()?;
     Some((byte, Cause::TooLarge))

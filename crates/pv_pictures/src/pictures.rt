@@ -16,7 +16,8 @@ use std::process::Abort;
 /// A mantissa and an exponent.
 pub(crate) type Spelled = (i64, i16);
 
-/// The root box, the node lines of version 1, the axes, the other places' numbers, and the lines of the rectangles.
+/// The root box, the node lines of version 1, the axes, the other places' numbers, and the lines of
+/// the rectangles.
 pub(crate) struct Case {
     pub(crate) root: &'static [(Spelled, Spelled)],
     pub(crate) lines: &'static str,

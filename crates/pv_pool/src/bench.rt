@@ -33,7 +33,7 @@ impl<J: Drop> Bench<J> {
     }
 }
 
-/// Benches for so many workers, each with a way to the deque of every other.
+/// Benches for `count` workers, each with a way to the deque of every other.
 pub fn furnish<J: Drop>(alloc: Global, count: usize) -> Result<Vec<Bench<J>>, Memory>
     requires { count ≤ 16 }
     ensures { IfOk result (λ bs. AreReady count bs.items) }

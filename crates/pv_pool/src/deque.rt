@@ -109,7 +109,9 @@ impl<J: Drop> Owner<J> {
         requires { 0 < (worker_view self.old.worker).parts }
         ensures same { worker_deque self.new.worker ≡ worker_deque self.old.worker }
         ensures pushed { MatchResult result
-            (λ _. worker_view self.new.worker ≡ hand (worker_view self.old.worker).parts ((worker_view self.old.worker).pushed ++ job ∷ []) (worker_view self.old.worker).taken)
+            (λ _. worker_view self.new.worker ≡ hand (worker_view self.old.worker).parts
+            ((worker_view self.old.worker).pushed ++ job ∷ [])
+            (worker_view self.old.worker).taken)
             (λ back. (back ≡ job) × (worker_view self.new.worker ≡ worker_view self.old.worker)) }
     {
         self.worker.push_as::<Pushing>(job)
@@ -120,8 +122,13 @@ impl<J: Drop> Owner<J> {
         requires { 0 < (worker_view self.old.worker).parts }
         ensures same { worker_deque self.new.worker ≡ worker_deque self.old.worker }
         ensures popped { MatchOption result
-            ((worker_view self.new.worker ≡ worker_view self.old.worker) × ((worker_view self.old.worker).parts ≡ 16 → SameBag (worker_view self.old.worker).pushed (worker_view self.old.worker).taken))
-            (λ x. worker_view self.new.worker ≡ hand (worker_view self.old.worker).parts (worker_view self.old.worker).pushed ((worker_view self.old.worker).taken ++ x ∷ [])) }
+            ((worker_view self.new.worker ≡ worker_view self.old.worker)
+            × ((worker_view self.old.worker).parts ≡ 16 →
+            SameBag (worker_view self.old.worker).pushed
+            (worker_view self.old.worker).taken))
+            (λ x. worker_view self.new.worker ≡ hand (worker_view self.old.worker).parts
+            (worker_view self.old.worker).pushed
+            ((worker_view self.old.worker).taken ++ x ∷ [])) }
         ensures within { IfSome result (λ _. (worker_view self.old.worker).parts ≡ 16 →
             length (worker_view self.new.worker).taken ≤ length
             (worker_view self.new.worker).pushed) }
@@ -183,7 +190,8 @@ impl<J: Drop> Thief<J> {
         ensures same { stealer_deque self.new.stealer ≡ stealer_deque self.old.stealer }
         ensures stolen { MatchOption result
             (view self.new.pass ≡ view self.old.pass)
-            (λ x. view self.new.pass ≡ hand (view self.old.pass).parts (view self.old.pass).pushed ((view self.old.pass).taken ++ x ∷ [])) }
+            (λ x. view self.new.pass ≡ hand (view self.old.pass).parts
+            (view self.old.pass).pushed ((view self.old.pass).taken ++ x ∷ [])) }
     {
         match self.stealer.steal_as::<Stealing>(&mut self.pass) {
             Steal::Success(job) => Some(job),

@@ -135,8 +135,8 @@ impl Work for Nothing {
     }
 }
 
-// Whether so many workers hand in each job of a comb that they are given. A push that is refused for
-// want of memory gives a job back; where none is, all jobs are worked.
+// Whether `workers` workers hand in each job of a comb that they are given. A push that is refused
+// for want of memory gives a job back; where none is, all jobs are worked.
 fn combs<R: Threads + Wait + Sync>(
     rt: &R,
     alloc: Global,
@@ -165,7 +165,7 @@ fn combs<R: Threads + Wait + Sync>(
     Ok(given == back && given == u128::from(handed_in) && all)
 }
 
-// Whether each of so many workers is told once that all is done, and nothing else is asked.
+// Whether each of `workers` workers is told once that all is done, and nothing else is asked.
 fn ends_at_once<R: Threads + Wait + Sync>(
     rt: &R,
     alloc: Global,

@@ -21,7 +21,7 @@ pub struct Room<J: Drop, T: Drop> {
 }
 
 impl<J: Drop, T: Drop> Room<J, T> {
-    /// Room for so many seats.
+    /// Room for `count` seats.
     pub fn new(alloc: Global, count: usize) -> Result<Room<J, T>, AllocError>
         ensures seats { IfOk result (λ r. (r.seats.items ≡ []) × (count ≤ vec_capacity r.seats)) }
         ensures told { IfOk result (λ r. (r.told.items ≡ []) × (count ≤ vec_capacity r.told)) }

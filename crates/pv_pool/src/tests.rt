@@ -33,8 +33,8 @@ struct State {
     steps: u64,
 }
 
-// Job n below `jobs` gives the jobs 2n + 1 and 2n + 2 where they are below it. Where `meets` is set,
-// the jobs 1 and 2 wait for each other.
+// Job n below `jobs` gives the jobs 2n + 1 and 2n + 2 where they are below it. Where `meets` is
+// set, the jobs 1 and 2 wait for each other.
 #[derive(Drop)]
 struct Doubling<'a, C> {
     clock: &'a C,

@@ -59,7 +59,8 @@ fn find<W: Work, R: Wait>(
     ensures found { MatchIdle result
         (λ _. Found (W.numbers told.old) (W.numbers told.new) (drawn bench.old) (drawn bench.new))
         ((W.numbers told.new ≡ after_end (W.numbers told.old)) × (drawn bench.new ≡ drawn bench.old))
-        (λ _. (W.numbers told.new ≡ after_look (W.numbers told.old)) × (drawn bench.new ≡ drawn bench.old)) }
+        (λ _. (W.numbers told.new ≡ after_look (W.numbers told.old))
+        × (drawn bench.new ≡ drawn bench.old)) }
 {
     if let Some(job) = bench.owner.pop() {
         return Idle::Job(job);

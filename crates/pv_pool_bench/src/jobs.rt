@@ -20,7 +20,8 @@ pub struct Counted {
     ends: u64,
 }
 
-/// Job n gives the jobs 2n + 1 and 2n + 2, as far as they are below `jobs`. No lock is taken while all workers are busy.
+/// Job n gives the jobs 2n + 1 and 2n + 2, as far as they are below `jobs`. No lock is taken while
+/// all workers are busy.
 #[derive(Drop)]
 struct Doubling {
     jobs: u64,
@@ -46,7 +47,7 @@ impl Doubling {
         }
     }
 
-    /// A job was handed in that gave so many.
+    /// A job was handed in that gave `count` further ones.
     fn hand_in(&self, count: u64) {
         if count > 1 {
             self.open.fetch_add(count - 1, Ordering::SeqCst);
@@ -139,7 +140,7 @@ fn accounts(alloc: Global, count: usize) -> Result<Vec<Counted>, Memory>
     Ok(told)
 }
 
-/// How many of so many jobs so many workers worked, or at least 1 and at most 16 of them.
+/// How many of `jobs` jobs `workers` workers worked, or at least 1 and at most 16 of them.
 pub fn work_all<R: Threads + Wait + Sync>(
     rt: &R,
     alloc: Global,

@@ -2,7 +2,8 @@
 //!
 //!     pv_pool_bench 1000000 4
 //!
-//! The first number is that of the jobs, the second that of the workers, of which there are 1 to 16.
+//! The first number is that of the jobs, the second that of the workers, of which there are 1 to
+//! 16.
 #![tactic(auto)]
 
 mod jobs;

@@ -1,4 +1,5 @@
-//! What programs leave of boxes, where they are sure, and how many revisions they need, with values from exact fractions.
+//! What programs leave of boxes, where they are sure, and how many revisions they need, with values
+//! from exact fractions.
 ghost use Rattle.std.specs.Prelude.{◌≡◌, ◌<◌, None};
 
 use crate::table;
@@ -20,8 +21,8 @@ pub(crate) enum Left {
     Places(Ends, Ends),
 }
 
-// A system of two variables, a program, what it leaves of the domains, whether it is sure on them, and how many
-// revisions the contraction needs.
+// A system of two variables, a program, what it leaves of the domains, whether it is sure on them,
+// and how many revisions the contraction needs.
 pub(crate) type Case = (&'static str, &'static str, Left, bool, u64);
 
 // Counts revisions in a number that a test can read.
@@ -44,7 +45,8 @@ impl Counter for Tally {
     }
 }
 
-// What a program leaves of the domains, by each call, how many revisions it made, and whether it is sure on them.
+// What a program leaves of the domains, by each call, how many revisions it made, and whether it is
+// sure on them.
 #[derive(Drop)]
 struct Worked {
     left: Option<IBox>,

@@ -1,5 +1,5 @@
-//! Projections: what the arguments of an operation can be where its result lies in a given interval, the step down of
-//! HC4-revise.
+//! Projections: what the arguments of an operation can be where its result lies in a given
+//! interval, the step down of HC4-revise.
 #![tactic(auto)]
 
 pub mod laws;

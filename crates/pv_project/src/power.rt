@@ -11,7 +11,8 @@ use crate::order::{meet_between, meet_both_signs};
 use pv_interval::Interval;
 use pv_num::{End, Num};
 
-/// The hull of the numbers of `x` whose power `n` lies in `z`; None where there are none. `n` is at most 32.
+/// The hull of the numbers of `x` whose power `n` lies in `z`; None where there are none. `n` is at
+/// most 32.
 #[inline]
 pub fn back_pow(z: Interval, x: Interval, n: u8) -> Option<Interval>
     requires { n ≤ 32 }

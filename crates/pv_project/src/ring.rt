@@ -1,4 +1,5 @@
-//! Sums, differences, products and quotients. The first argument is narrowed first, and the second by what is left of it.
+//! Sums, differences, products and quotients. The first argument is narrowed first, and the second
+//! by what is left of it.
 ghost use Rattle.std.specs.Prelude.{◌≡◌};
 ghost use Rattle.pv_interval.specs.Fractions.{plus, minus, times};
 ghost use Rattle.pv_project.specs.Kept.{KeepsPair, KeepsQuotient};
@@ -61,7 +62,8 @@ fn narrow_product(z: Interval, x: Interval, y: Interval) -> Option<(Interval, In
     Some((left, right))
 }
 
-/// The pairs of `x` and `y` whose quotient can lie in `z`; None where there are none, so where `y` is [0,0].
+/// The pairs of `x` and `y` whose quotient can lie in `z`; None where there are none, so where `y`
+/// is [0,0].
 #[inline]
 pub fn back_div(z: Interval, x: Interval, y: Interval) -> Option<(Interval, Interval)>
     ensures value { result ≡ back_div_of z x y }

@@ -1,4 +1,5 @@
-//! Cases of slopes and centered forms. Written by tests/generators/slope_vectors.py: change them there.
+//! Cases of slopes and centered forms. Written by tests/generators/slope_vectors.py: change them
+//! there.
 use crate::ranges::Case;
 use crate::settled::As::{Cut, Inner, Removed, Small};
 use crate::settled::Settled;

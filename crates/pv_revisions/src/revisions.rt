@@ -18,7 +18,8 @@ pub(crate) enum Left {
     Empty,
 }
 
-// A system of two variables, what a revision leaves of its domains, and whether its constraint is sure there.
+// A system of two variables, what a revision leaves of its domains, and whether its constraint is
+// sure there.
 pub(crate) type Case = (&'static str, Left, bool);
 
 fn first_graph(alloc: Global, system: &System) -> Option<Graph>

@@ -63,13 +63,14 @@ impl From<SaveRefused> for HoldRefused {
     }
 }
 
-/// Opens what is kept under a name, and goes on with it for `count` rounds, each of which settles at most `boxes` nodes
-/// by so many workers and is saved before the next begins. Where all rounds could bring the tree above 100,000 settled
-/// nodes, none is begun.
+/// Opens what is kept under a name, and goes on with it for `count` rounds, each of which settles
+/// at most `boxes` nodes by `workers` workers and is saved before the next begins. Where all rounds
+/// could bring the tree above 100,000 settled nodes, none is begun.
 ///
 /// # Errors
 ///
-/// What is kept is refused, the tree could become too large, memory was wanting, or the keeper failed in this call.
+/// What is kept is refused, the tree could become too large, memory was wanting, or the keeper
+/// failed in this call.
 pub fn hold<P: Keeper, S: KnowingSettler + Sync, G: Gate + Sync, R: Threads + Wait + Sync>(
     rt: &R,
     alloc: Global,

@@ -1,4 +1,5 @@
-//! Rounds of a campaign: each settles what a budget allows of the kept paving, and is saved before the next begins.
+//! Rounds of a campaign: each settles what a budget allows of the kept paving, and is saved before
+//! the next begins.
 #![tactic(auto)]
 
 mod campaign;

@@ -15,8 +15,8 @@ use std::alloc::Global;
 use std::sync::Wait;
 use std::thread::Threads;
 
-/// Does nothing. A paving of which nothing more is settled has spent the budget 0. Stages of stages are stages, and
-/// budgets that are spent one after another add up.
+/// Does nothing. A paving of which nothing more is settled has spent the budget 0. Stages of stages
+/// are stages, and budgets that are spent one after another add up.
 pub fn learn_rounds<S: Settler>(paving: &Paving, settler: &S)
     requires { length paving.now.root ≡ S.dims settler.now }
     ensures none { IsPaved (S.settle_of settler.now)
@@ -27,9 +27,9 @@ pub fn learn_rounds<S: Settler>(paving: &Paving, settler: &S)
     let _depth = settler.depth();
 }
 
-/// Goes on with a campaign, round by round, until `count` rounds are over or no leaf is open. Each round settles at
-/// most `boxes` nodes by so many workers, and is saved before the next one begins, so what is kept after a refusal is
-/// what the rounds before it left.
+/// Goes on with a campaign, round by round, until `count` rounds are over or no leaf is open. Each
+/// round settles at most `boxes` nodes by `workers` workers, and is saved before the next one
+/// begins, so what is kept after a refusal is what the rounds before it left.
 ///
 /// # Errors
 ///
@@ -112,7 +112,8 @@ where
         (IsPaved (S.settle_of settler.now) (S.depth_of settler.now)
         campaign.old.root campaign.old.tree boxes campaign.new.tree) }
     ensures saved { (name : List ℕ) → P.begun keeper.old ≡ Some name
-        → OnOk result (IsSaved (P.kept keeper.old name) (P.kept keeper.new name) campaign.new.tree) }
+        → OnOk result
+        (IsSaved (P.kept keeper.old name) (P.kept keeper.new name) campaign.new.tree) }
     ensures kept { (name : List ℕ) → P.begun keeper.old ≡ Some name
         → KeepsTree (P.kept keeper.new name) campaign.new.tree }
     ensures unchanged { OnErr result (campaign.new ≡ campaign.old) }

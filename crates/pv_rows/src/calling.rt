@@ -1,4 +1,5 @@
-//! Calls of the top call over a folder and streams in memory, with a gate or with none, and a keeper in memory.
+//! Calls of the top call over a folder and streams in memory, with a gate or with none, and a
+//! keeper in memory.
 use pv_cli::{Gate, NoGate, Status, paver_main};
 use pv_io::{MemFolder, MemSink};
 use pv_keep::{Keeper, MemKeeper};

@@ -1,4 +1,5 @@
-//! Worked examples of campaigns over a keeper in memory: their rounds, why they are refused, and what is kept.
+//! Worked examples of campaigns over a keeper in memory: their rounds, why they are refused, and
+//! what is kept.
 ghost use Rattle.std.specs.Prelude.{◌≡◌};
 ghost use Rattle.pv_keep.specs.Keeping.{absent};
 
@@ -16,7 +17,8 @@ use std::sync::Wait;
 use std::test::Fail;
 use std::thread::Threads;
 
-/// One call, what comes of it, and what is kept under a name then: the path and the line of each row.
+/// One call, what comes of it, and what is kept under a name then: the path and the line of each
+/// row.
 #[derive(Clone, Copy)]
 struct Turn {
     words: &'static str,
@@ -116,7 +118,8 @@ fn take<R: Abort + Threads + Wait + Sync, P: Keeper>(
     Ok(())
 }
 
-// Takes each turn over a keeper whose calls fail by a list, and looks at what is kept behind the last.
+// Takes each turn over a keeper whose calls fail by a list, and looks at what is kept behind the
+// last.
 fn check<R: Abort + Threads + Wait + Sync>(
     rt: &R,
     alloc: Global,
@@ -216,7 +219,8 @@ fn rounds_at_once(rt: HostRuntime) -> Result<(), Fail> {
     Ok(())
 }
 
-// Calls of the keeper that fail, and the rows that are kept then. Call 0 begins, call 1 loads, and the others save.
+// Calls of the keeper that fail, and the rows that are kept then. Call 0 begins, call 1 loads, and
+// the others save.
 const FAILED: [(u64, &str); 4] = [(1, ""), (2, ""), (3, ROOT), (0, "none")];
 
 #[test]

@@ -1,5 +1,5 @@
-//! Worked examples of settling by centered forms: one box where intervals of the sides need many, and files that
-//! neither form takes from the other.
+//! Worked examples of settling by centered forms: one box where intervals of the sides need many,
+//! and files that neither form takes from the other.
 use crate::files::{Named, Step, follow, shelf};
 use std::test::Fail;
 

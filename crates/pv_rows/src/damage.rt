@@ -114,7 +114,8 @@ fn a_file_with_another_byte(rt: HostRuntime) -> Result<(), Fail> {
     each_byte(&rt, rt.alloc(), WHOLE_1.as_bytes())
 }
 
-// Of the tree over [0, 1] that is cut in the middle on 16 levels: the cuts that come right before a leaf, and the leaf.
+// Of the tree over [0, 1] that is cut in the middle on 16 levels: the cuts that come right before a
+// leaf, and the leaf.
 fn push_leaf(alloc: Global, leaf: u32, out: &mut Vec<u8>) -> Result<(), Fail> {
     let first = 16u32.saturating_sub(leaf.trailing_zeros());
     for level in first..16 {

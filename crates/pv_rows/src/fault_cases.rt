@@ -4,7 +4,8 @@ use crate::files::{PART, SUMMARY, WHOLE};
 use crate::pictures::{HALF, USAGE};
 use crate::samples::TWO;
 
-/// A call, what comes of it where nothing fails, and the line for each call of the folder that fails.
+/// A call, what comes of it where nothing fails, and the line for each call of the folder that
+/// fails.
 pub(crate) struct Case {
     pub words: &'static str,
     pub status: u8,

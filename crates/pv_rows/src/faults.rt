@@ -1,4 +1,5 @@
-//! Commands whose outside fails: each call of the folder, of the standard output and of the standard error in turn.
+//! Commands whose outside fails: each call of the folder, of the standard output and of the
+//! standard error in turn.
 use crate::calling::paver;
 use crate::fault_cases::{CASES, Case};
 use crate::files::{FILES, shelf};
@@ -229,7 +230,8 @@ fn err_fails<R: Abort + Threads + Wait + Sync>(
     Ok(true)
 }
 
-// Each call of the standard error fails in turn: there are some exactly where there is a line, and the status stays.
+// Each call of the standard error fails in turn: there are some exactly where there is a line, and
+// the status stays.
 fn each_fails<R: Abort + Threads + Wait + Sync>(
     rt: &R,
     alloc: Global,

@@ -1,5 +1,5 @@
-//! Campaigns whose outside fails: each call of the keeper, of the folder and of both streams in turn, and which rows
-//! are kept then.
+//! Campaigns whose outside fails: each call of the keeper, of the folder and of both streams in
+//! turn, and which rows are kept then.
 use crate::calling::paver_keeping;
 use crate::campaigns::{ALL, ONE_SETTLED, ROOT, THREE, TWO, kept};
 use crate::files::{FILES, SUMMARY, shelf};
@@ -13,8 +13,8 @@ use std::sync::Wait;
 use std::test::Fail;
 use std::thread::Threads;
 
-// A campaign with one worker: what comes of it where nothing fails, and the rows that are kept where the keeper's call
-// with a number fails.
+// A campaign with one worker: what comes of it where nothing fails, and the rows that are kept
+// where the keeper's call with a number fails.
 struct Case {
     words: &'static str,
     status: u8,
@@ -207,7 +207,8 @@ fn the_folder_of_a_campaign_fails(rt: HostRuntime) -> Result<(), Fail> {
     Ok(())
 }
 
-// The call of the standard output with this number fails. Answers whether there is such a call. All rounds are kept.
+// The call of the standard output with this number fails. Answers whether there is such a call. All
+// rounds are kept.
 fn out_fails<R: Abort + Threads + Wait + Sync>(
     rt: &R,
     alloc: Global,

@@ -1,4 +1,5 @@
-//! The worked examples that cross crates: commands over a folder in memory, and numbers. This crate is tests alone.
+//! The worked examples that cross crates: commands over a folder in memory, and numbers. This crate
+//! is tests alone.
 #![tactic(auto)]
 
 #[cfg(test)]

@@ -1,4 +1,5 @@
-// Worked numbers: the ends of the range, and sums, products and quotients that no number is equal to.
+// Worked numbers: the ends of the range, and sums, products and quotients that no number is equal
+// to.
 
 use pv_num::{End, Num};
 use std::alloc::Global;

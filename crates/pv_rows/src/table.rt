@@ -1,4 +1,5 @@
-// The worked examples: the words behind the program's name, the text of the system `s`, and what comes of them.
+// The worked examples: the words behind the program's name, the text of the system `s`, and what
+// comes of them.
 
 /// One call of the program.
 #[derive(Clone, Copy)]

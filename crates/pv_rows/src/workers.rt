@@ -41,7 +41,7 @@ struct Answer {
     out: MemSink,
 }
 
-// The command with so many workers. It tells nothing on the standard error.
+// The command with `workers` workers. It tells nothing on the standard error.
 fn call<R: Abort + Threads + Wait + Sync>(
     rt: &R,
     alloc: Global,
@@ -209,8 +209,8 @@ fn a_budget_ends_eight_workers(rt: HostRuntime) -> Result<(), Fail> {
     Ok(())
 }
 
-// Two marks, each of which is set by one that then waits for the other, for a bounded time. As a gate it lets a path that begins
-// low wait for one that begins high, and the other way round.
+// Two marks, each of which is set by one that then waits for the other, for a bounded time. As a
+// gate it lets a path that begins low wait for one that begins high, and the other way round.
 #[derive(Drop)]
 struct Meeting<'a, C> {
     clock: &'a C,
@@ -278,7 +278,8 @@ fn opened(alloc: Global, settler: &SystemSettler) -> Result<Paving, Memory>
     Paving::open(alloc, root)
 }
 
-// Whether one worker hands in fewer tickets than there are nodes, and makes the paving of 323 settled nodes.
+// Whether one worker hands in fewer tickets than there are nodes, and makes the paving of 323
+// settled nodes.
 fn hands_stages_in<R: Threads + Wait + Sync>(rt: &R, alloc: Global) -> Option<bool> {
     let settler = settler_of(alloc, TWO_DISCS, -3)?;
     let opening = opened(alloc, &settler).ok()?;
@@ -351,7 +352,8 @@ impl<'a, S: Settler, C: Clock> Settler for Halves<'a, S, C> {
     ghost sound = { λ s. S.sound s.settler };
 }
 
-// Whether boxes of both halves were settled at the same time, and the paving has five settled nodes.
+// Whether boxes of both halves were settled at the same time, and the paving has five settled
+// nodes.
 fn meets_in_a_settler<R: Threads + Wait + Clock + Sync>(rt: &R, alloc: Global) -> Option<bool> {
     let settler = Halves {
         settler: settler_of(alloc, SYSTEM, -2)?,

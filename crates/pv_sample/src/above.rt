@@ -7,8 +7,8 @@ use pv_num::{Memory, Num};
 use pv_tree::{Outcome, Settler};
 use std::alloc::Global;
 
-/// Settles boxes for the points whose first coordinate is at least `limit`. The first `wide` cuts of a path go to
-/// place 1, where it can be cut, and the further ones to place 0.
+/// Settles boxes for the points whose first coordinate is at least `limit`. The first `wide` cuts
+/// of a path go to place 1, where it can be cut, and the further ones to place 0.
 #[derive(Drop)]
 pub struct Above {
     dims: u8,
@@ -40,7 +40,7 @@ impl Above {
     }
 }
 
-/// The place that is cut at a path of so many steps, if it can be.
+/// The place that is cut at a path of `path_len` steps, if it can be.
 fn turn(wide: u32, path_len: u32) -> u32
     ensures { result ≡ turn_of wide path_len }
 {

@@ -1,4 +1,5 @@
-//! A plain settler, whose set is a half-space, and settling by it: for worked examples of trees and for measurements.
+//! A plain settler, whose set is a half-space, and settling by it: for worked examples of trees and
+//! for measurements.
 #![tactic(auto)]
 
 mod above;

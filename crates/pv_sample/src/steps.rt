@@ -8,7 +8,8 @@ use pv_num::Memory;
 use pv_tree::{Growth, Path, Paving, Settler};
 use std::alloc::Global;
 
-/// Settles the first open leaf again and again, at most so many times. `scratch` takes the leaves' boxes.
+/// Settles the first open leaf again and again, at most `most` times. `scratch` takes the leaves'
+/// boxes.
 pub fn settle_first<S: Settler>(
     alloc: Global,
     settler: &S,
@@ -30,7 +31,7 @@ pub fn settle_first<S: Settler>(
     Ok(())
 }
 
-/// Settles the first open leaf again and again, at most so many times, in reserved room.
+/// Settles the first open leaf again and again, at most `most` times, in reserved room.
 pub fn settle_in_room<S: Settler>(
     alloc: Global,
     settler: &S,
@@ -79,7 +80,8 @@ fn settle_one<S: Settler>(
     Ok(())
 }
 
-/// The paving of a box after at most so many settlings in preorder. `scratch` takes the leaves' boxes.
+/// The paving of a box after at most `most` settlings in preorder. `scratch` takes the leaves'
+/// boxes.
 pub fn grow<S: Settler>(
     alloc: Global,
     settler: &S,

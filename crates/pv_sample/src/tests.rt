@@ -1,4 +1,5 @@
-//! Worked trees on the box [0,1]: made by `put`, in reserved room and from a stage, joined and audited.
+//! Worked trees on the box [0,1]: made by `put`, in reserved room and from a stage, joined and
+//! audited.
 ghost use Rattle.std.specs.Prelude.{◌≡◌, ◌≤◌, Some, IsSome, [], length, IfOk};
 ghost use Rattle.pv_tree.specs.Trees.{subtree, leaf, box_of, shape_of, to_at};
 
@@ -37,7 +38,7 @@ fn from_limit(limit: Num, depth: u32) -> Above
     Above::new(1, limit, 0, depth)
 }
 
-/// The paving of a box after so many settlings.
+/// The paving of a box after `most` settlings.
 fn paved(alloc: Global, root: &IBox, settler: &Above, most: u32) -> Result<Paving, Memory>
     requires { length root.now ≡ settler.now.dims }
     ensures { IfOk result (λ p. p.root ≡ root.now) }
@@ -179,7 +180,8 @@ fn graft_short(paving: &mut Paving, path: Path, stage: &Paving) -> Result<(), Fa
     Ok(())
 }
 
-/// Whether an audit finds its first difference at the path of this text; none where the text is empty.
+/// Whether an audit finds its first difference at the path of this text; none where the text is
+/// empty.
 fn audits_to(alloc: Global, settler: &Above, paving: &Paving, text: &str) -> Result<bool, Memory>
     requires { length paving.now.root ≡ settler.now.dims }
 {
@@ -197,7 +199,8 @@ fn is_disagreement(alloc: Global, refusal: JoinRefused, text: &str) -> Result<bo
     }
 }
 
-/// Whether the join of two pavings has these lines, or the path of this text is where they disagree.
+/// Whether the join of two pavings has these lines, or the path of this text is where they
+/// disagree.
 fn joins_to(alloc: Global, a: &Paving, b: &Paving, text: &str) -> Result<bool, Memory>
     requires same { a.now.root ≡ b.now.root }
     requires places { length a.now.root ≡ 1 }
@@ -208,7 +211,7 @@ fn joins_to(alloc: Global, a: &Paving, b: &Paving, text: &str) -> Result<bool, M
     }
 }
 
-/// A stage of the open box after so many settlings is honest.
+/// A stage of the open box after `most` settlings is honest.
 fn is_honest(alloc: Global, root: &IBox, settler: &Above, most: u32) -> Result<bool, Memory>
     requires { length root.now ≡ settler.now.dims }
 {

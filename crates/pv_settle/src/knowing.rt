@@ -94,7 +94,8 @@ impl SystemSettler {
         requires known { Knows (sides_in self.now.graphs) known to }
         ensures outcome { result.outcome ≡
             settle_unsure (rule_of self.now) to depth_left path_len }
-        ensures known { HoldsOfHalves (Knows (sides_in self.now.graphs) result.known) result.outcome }
+        ensures known { HoldsOfHalves
+            (Knows (sides_in self.now.graphs) result.known) result.outcome }
     {
         let _places = to.dims();
         if depth_left == 0 || to.is_small(self.settings.eps) {

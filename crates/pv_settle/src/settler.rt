@@ -91,8 +91,8 @@ impl SystemSettler {
         &self.graphs
     }
 
-    /// Every constraint is over the system's variables, and the program is one for so many
-    /// constraints. It holds by its contract alone; the call does nothing.
+    /// Every constraint is over the system's variables, and the program is one for as many
+    /// constraints as there are. It holds by its contract alone; the call does nothing.
     pub fn learn(&self)
         ensures dims { (rule_of self.now).graphs.dims ≡ dims_of (rule_of self.now) }
         ensures over { AllOver (rule_of self.now).graphs.dims

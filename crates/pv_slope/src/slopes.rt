@@ -97,9 +97,9 @@ impl Slopes {
     }
 
     /// The slope on a box of the left side minus the right side for variable `i`. From the box's
-    /// centre to any of its points the difference changes by a number of each slope times the change
-    /// of its variable, summed. None where an end of the box is infinite or a divisor's interval
-    /// contains 0.
+    /// centre to any of its points the difference changes by a number of each slope times the
+    /// change of its variable, summed. None where an end of the box is infinite or a divisor's
+    /// interval contains 0.
     pub fn slope(&self, alloc: Global, bx: &IBox, i: u8) -> Result<Option<Interval>, Memory>
         requires { length bx.now ≡ self.now.dims }
         ensures { IfOk result (λ s. s ≡ slope_where bx.now i (term_in self.now)) }
@@ -231,7 +231,8 @@ fn range_of(
     }
 }
 
-// The slope of node `root` for variable `i`. At the entry the columns have the constants' intervals.
+// The slope of node `root` for variable `i`. At the entry the columns have the constants'
+// intervals.
 fn slope_at(
     nodes: &[Node],
     root: usize,

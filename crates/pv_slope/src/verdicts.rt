@@ -58,7 +58,7 @@ fn all_have_none(parts: &[Program], tests: &[bool]) -> bool
     true
 }
 
-// Whether so many of the parts hold at no point that fewer than q are left.
+// Whether the parts that hold at no point are so many that fewer than q are left.
 #[cycle(emptiness)]
 fn more_have_none(q: u32, parts: &[Program], tests: &[bool]) -> bool
     requires some { 1 ≤ q }

@@ -9,10 +9,11 @@ use pv_num::{End, Num};
 /// The number of pixels of each axis.
 pub(crate) const PIXELS: u64 = 1000;
 
-/// The pixel, from 0 to 1000, of a number that lies on a finite axis. All of an axis without length is pixel 0.
+/// The pixel, from 0 to 1000, of a number that lies on a finite axis. All of an axis without length
+/// is pixel 0.
 ///
-/// It is the whole part of 1000 times the share of the axis that lies below the number, with each step
-/// rounded so that the pixel is never too high.
+/// It is the whole part of 1000 times the share of the axis that lies below the number, with each
+/// step rounded so that the pixel is never too high.
 pub(crate) fn pixel(axis: &Interval, v: Num) -> u64
     requires finite { IsFinite axis.now }
     requires on { IsTrue (holds axis.now v) }

@@ -13,8 +13,8 @@ use pv_num::{Memory, Num};
 use pv_tree::{Path, Paving, Walk};
 use std::alloc::Global;
 
-/// The picture of a paving on the plane of its places `x` and `y`, where the other places have the numbers
-/// `at`, in their order.
+/// The picture of a paving on the plane of its places `x` and `y`, where the other places have the
+/// numbers `at`, in their order.
 pub fn slice(alloc: Global, p: &Paving, x: u8, y: u8, at: &[Num]) -> Result<Picture, Memory>
     requires x { x < length p.now.root }
     requires y { y < length p.now.root }
@@ -41,7 +41,7 @@ pub fn slice(alloc: Global, p: &Paving, x: u8, y: u8, at: &[Num]) -> Result<Pict
     })
 }
 
-// A box with so many places, to write over.
+// A box of `places` places, to write over.
 fn scratch_box(alloc: Global, places: u8) -> Result<IBox, Memory>
     requires some { 0 < places }
     requires few { places ≤ 12 }

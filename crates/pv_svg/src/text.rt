@@ -14,7 +14,7 @@ use pv_num::Memory;
 pub(crate) const HEAD: &[u8] =
     b"<svg xmlns=\"http://www.w3.org/2000/svg\" width=\"1000\" height=\"1000\" viewBox=\"0 0 1000 1000\">\n";
 
-/// The line behind all rectangles.
+/// The line after all rectangles.
 pub(crate) const FOOT: &[u8] = b"</svg>\n";
 
 /// No line is longer.

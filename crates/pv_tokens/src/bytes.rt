@@ -3,7 +3,7 @@
 ghost use Rattle.std.specs.Prelude.{◌≡◌, ◌↔◌, IsTrue, slice_index};
 ghost use Rattle.pv_tokens.specs.Tokens.{IsDigit, IsNamed};
 
-/// The byte at a place, or 0 behind the text.
+/// The byte at a place, or 0 past the end of the text.
 pub(crate) fn byte_at(text: &[u8], at: usize) -> u8
     ensures { result ≡ slice_index text.now at }
 {
@@ -17,7 +17,7 @@ pub(crate) fn is_digit(byte: u8) -> bool
     matches!(byte, b'0'..=b'9')
 }
 
-/// Whether it may stand in a name behind the name's first letter.
+/// Whether it may stand in a name after the name's first letter.
 pub(crate) fn is_named(byte: u8) -> bool
     ensures { IsTrue result ↔ IsNamed byte }
 {

@@ -1,5 +1,5 @@
-//! Bytes to tokens: the longest match behind blanks and comments, the values of numbers, the words that can't be
-//! declared, and lines and columns.
+//! Bytes to tokens: the longest match after blanks and comments, the values of numbers, the words
+//! that can't be declared, and lines and columns.
 #![tactic(auto)]
 
 mod bytes;

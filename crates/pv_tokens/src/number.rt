@@ -28,7 +28,7 @@ pub struct Decimal {
 
 /// The value of an unsigned number that is the whole text, as a numerator and a denominator in
 /// lowest terms. None where the text is no number or is too wide: D·10^s with s below -36 or above
-/// 36, or with more than 37 digits in D and the zeros that s puts behind it.
+/// 36, or with more than 37 digits in D and the zeros that s puts after it.
 pub fn read_number(text: &[u8]) -> Option<(i128, u128)>
     ensures read { MatchOption result ((d : Decimal) → IsNumeral text.now d → TooWide d) (λ v.
         IsRead text.now v) }
@@ -97,7 +97,7 @@ fn decimal_of(text: &[u8], parts: Parts) -> Decimal
     }
 }
 
-// A value with more digits behind it, or `LIMIT` where that is less.
+// A value with more digits after it, or `LIMIT` where that is less.
 fn with_digits(value: u128, digits: &[u8]) -> u128
     requires least { value ≤ 10 ^ 37 }
     requires digits { EachIndex digits.now (λ k. IsDigit (slice_index digits.now k)) }
@@ -130,7 +130,7 @@ fn value_of(decimal: Decimal) -> Option<(i128, u128)>
     Some(in_lowest_terms(above, power_of_ten(places)))
 }
 
-// A number with zeros behind it, where it keeps below `LIMIT`.
+// A number with zeros after it, where it keeps below `LIMIT`.
 fn with_zeros(digits: u128, zeros: u32) -> Option<u128>
     requires { zeros ≤ 36 }
     ensures { MatchOption result (10 ^ 37 ≤ digits * 10 ^ zeros) (λ n. (n ≡ digits * 10 ^ zeros) ×

@@ -7,7 +7,7 @@ ghost use Rattle.pv_tokens.specs.Tokens.{IsDigit, IsExponent, IsFraction, IsNumb
 use crate::bytes::{byte_at, is_digit};
 
 /// The parts of a number by their places: its first digits go up to `point`, the point and the
-/// digits behind it up to `tail`, and the digits of its exponent from `power` up to `end`. Without
+/// digits after it up to `tail`, and the digits of its exponent from `power` up to `end`. Without
 /// an exponent all three of `tail`, `power` and `end` are its end.
 #[derive(Clone, Copy, Debug, PartialEq, Eq)]
 pub struct Parts {
@@ -29,7 +29,7 @@ pub(crate) fn parts_at(text: &[u8], start: usize) -> Parts
     exponent_at(text, point, tail)
 }
 
-// Where the point at a place and the digits behind it end.
+// Where the point at a place and the digits after it end.
 fn fraction_end(text: &[u8], point: usize) -> usize
     requires { point ≤ length text.now }
     ensures fraction { IsFraction text.now point result }

@@ -15,7 +15,7 @@ pub fn line_and_column(text: &[u8], byte: usize) -> (u32, u32)
     (1 + lines as u32, 1 + bytes_behind_line_feed(before) as u32)
 }
 
-// How many bytes stand behind the last line feed, or in all where there is none.
+// How many bytes come after the last line feed, or in all where there is none.
 fn bytes_behind_line_feed(before: &[u8]) -> usize
     ensures value { result ≡ behind_line_feed before.now }
     ensures most { result ≤ length before.now }

@@ -1,4 +1,4 @@
-//! The arena behind a paving: nodes by number, and the ends of their boxes in one flat vector.
+//! The arena of a paving: nodes by number, and the ends of their boxes in one flat vector.
 ghost use Rattle.std.specs.Prelude.{◌≡◌, ◌+◌, ◌*◌, ◌^◌, ◌<◌, ◌≤◌, ◌++◌, ℕ, Some, IfSome, length, take, vec_len, vec_capacity, slice_index_or};
 ghost use Rattle.pv_box.specs.Boxes.{IsBox, lower_half, upper_half};
 ghost use Rattle.pv_tree.specs.Trees.{KeepsBox, IsStrictlyInside, counts_of, settled, settled_of};
@@ -78,7 +78,8 @@ fn append(ends: &mut Vec<Interval>, bx: &IBox)
     }
 }
 
-/// Appends the ends of what an outcome kept, and gives the cell that shows the outcome with its children at `kids`.
+/// Appends the ends of what an outcome kept, and gives the cell that shows the outcome with its
+/// children at `kids`.
 pub(crate) fn lay_down(ends: &mut Vec<Interval>, outcome: &Outcome, kids: usize) -> Cell
     requires { vec_len ends.old + places_of outcome.now ≤ vec_capacity ends.old }
     ensures longer { IsLonger ends.old.items ends.new.items }
@@ -223,7 +224,8 @@ pub(crate) fn mark(nodes: &mut [Node], at: usize, kids: usize)
     }
 }
 
-/// Marks the nodes on a path's way, from the end of the path up, as closed where both their children are.
+/// Marks the nodes on a path's way, from the end of the path up, as closed where both their
+/// children are.
 pub(crate) fn close(nodes: &mut [Node], at: usize, path: Path, depth: u32)
     requires kids { HasKids nodes.old }
     requires there { at < length nodes.old }

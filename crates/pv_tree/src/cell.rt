@@ -1,7 +1,8 @@
-//! The nodes of the arena behind a paving.
+//! The nodes of a paving's arena.
 use pv_num::Num;
 
-/// What a node of the arena holds. The ends of its `to` begin at `start` in the paving's flat vector.
+/// What a node of the arena holds. The ends of its `to` begin at `start` in the paving's flat
+/// vector.
 #[derive(Clone, Copy)]
 pub(crate) enum Cell {
     Open,
@@ -12,7 +13,7 @@ pub(crate) enum Cell {
     Small {
         start: usize,
     },
-    /// The low child stands at `kids` and the high child behind it.
+    /// The low child stands at `kids` and the high child after it.
     Cut {
         start: usize,
         var: u8,

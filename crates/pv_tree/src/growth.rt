@@ -16,8 +16,8 @@ use pv_num::Memory;
 use std::alloc::Global;
 use std::marker::Model;
 
-/// A paving that is built in preorder: each open leaf in turn is settled, and then its children come next, or it is left open.
-/// A step takes the same time at each depth.
+/// A paving that is built in preorder: each open leaf in turn is settled, and then its children
+/// come next, or it is left open. A step takes the same time at each depth.
 #[derive(Drop)]
 pub struct Growth {
     root: IBox,

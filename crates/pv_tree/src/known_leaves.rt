@@ -38,7 +38,8 @@ impl Growth {
         ensures first { IsFirstBox self.old.holes scratch.new }
         ensures scratch { length scratch.new ≡ length scratch.old }
         ensures settled { self.new ≡ (if is_ok result
-            then settle_next self.old (S.settle_of settler.now scratch.new (S.depth_of settler.now - length path) (length path))
+            then settle_next self.old (S.settle_of settler.now scratch.new
+            (S.depth_of settler.now - length path) (length path))
             else self.old) }
         ensures facts { AreKnown (S.knows settler.now) (reverse facts.new.items) self.new.holes }
         ensures stage { (opening : Tree) → Paves self.old.root opening →
@@ -83,7 +84,8 @@ impl Growth {
         requires known { IsFirstKnown (S.knows settler.now) known self.old.holes }
         ensures root { self.new.root ≡ self.old.root }
         ensures settled { self.new ≡ (if is_ok result
-            then settle_next self.old (S.settle_of settler.now bx.now (S.depth_of settler.now - length path) (length path))
+            then settle_next self.old (S.settle_of settler.now bx.now
+            (S.depth_of settler.now - length path) (length path))
             else self.old) }
         ensures handed { IfOk result (IsHandedOn (S.knows settler.now)
             (S.settle_of settler.now bx.now (S.depth_of settler.now - length path)

@@ -1,4 +1,5 @@
-//! Pavings: trees of settled boxes over a root box, in an arena, and the trait of what settles a box.
+//! Pavings: trees of settled boxes over a root box, in an arena, and the trait of what settles a
+//! box.
 #![tactic(auto)]
 
 mod arena;

@@ -12,7 +12,8 @@ pub const MOST_STEPS: u32 = 200;
 /// Paths are ordered as their nodes in preorder.
 #[derive(Clone, Copy, PartialEq, Eq, PartialOrd, Ord)]
 pub struct Path {
-    // Step i is bit 63 - i % 64 of word i / 64, so that the words' order is that of the steps; the bits behind are 0.
+    // Step i is bit 63 - i % 64 of word i / 64, so that the words' order is that of the steps; the
+    // bits after it are 0.
     words: [u64; 4],
     len: u8,
 }
@@ -56,7 +57,7 @@ impl Path {
         u32::from(self.len)
     }
 
-    /// The path with a step to the low child behind it.
+    /// The path with a step to the low child at its end.
     pub fn low(self) -> Path
         requires { length self < 200 }
         ensures { result ≡ self ++ false ∷ [] }
@@ -68,7 +69,7 @@ impl Path {
         }
     }
 
-    /// The path with a step to the high child behind it.
+    /// The path with a step to the high child at its end.
     pub fn high(self) -> Path
         requires { length self < 200 }
         ensures { result ≡ self ++ true ∷ [] }

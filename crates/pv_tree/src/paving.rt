@@ -95,7 +95,7 @@ impl Paving {
         self.counts
     }
 
-    /// Makes room for at least so many settlings.
+    /// Makes room for at least `settles` settlings.
     pub fn reserve(&mut self, settles: u64) -> Result<(), Memory>
         ensures root { self.new.root ≡ self.old.root }
         ensures tree { self.new.tree ≡ self.old.tree }
@@ -255,7 +255,7 @@ impl Paving {
         }
     }
 
-    /// The first open leaf that stands behind a path's node in preorder.
+    /// The first open leaf that comes after a path's node in preorder.
     pub fn next_open(&self, after: Path) -> Option<Path>
         requires { IsSome (subtree self.now.tree after) }
         ensures next { result ≡ first (behind after (opens self.now.tree)) }

@@ -62,7 +62,8 @@ pub(crate) fn leftmost(nodes: &[Node], spot: Spot) -> Option<Path>
     }
 }
 
-/// The first open leaf at or below a node that stands behind the node of a path. The path leads through the first node.
+/// The first open leaf at or below a node that comes after the node of a path. The path leads
+/// through the first node.
 pub(crate) fn later(nodes: &[Node], spot: Spot, after: Path) -> Option<Path>
     requires spot { IsSpot nodes.now spot }
     requires through { length spot.path ≤ length after }

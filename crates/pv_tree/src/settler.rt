@@ -6,7 +6,8 @@ use std::alloc::Global;
 
 /// A way to settle boxes, and the set of points that it speaks of.
 ///
-/// The set is `inside`. No point of a box outside the outcome's `to` is in it, and every point of an inner `to` is.
+/// The set is `inside`. No point of a box outside the outcome's `to` is in it, and every point of
+/// an inner `to` is.
 pub trait Settler {
     ghost use Rattle.std.specs.Prelude.{◌≡◌, ℕ, ◌<◌, ◌≤◌, List, length, IfOk};
     ghost use Rattle.pv_interval.specs.Bounds.{Bounds};

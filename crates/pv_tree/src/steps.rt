@@ -19,7 +19,8 @@ use pv_num::Memory;
 use std::alloc::Global;
 
 impl Paving {
-    /// Settles an open leaf as a settler does, with the cuts that its depth leaves. `scratch` takes the leaf's box.
+    /// Settles an open leaf as a settler does, with the cuts that its depth leaves. `scratch` takes
+    /// the leaf's box.
     pub fn settle_leaf<S: Settler>(
         &mut self,
         alloc: Global,
@@ -52,8 +53,9 @@ impl Paving {
         }
     }
 
-    /// Does nothing. Its contract is what holds of all stages over this root box: the open box is one and is sound, each stage of a sound
-    /// opening is sound, and a stage with no open leaf is the full tree.
+    /// Does nothing. Its contract is what holds of all stages over this root box: the open box is
+    /// one and is sound, each stage of a sound opening is sound, and a stage with no open leaf is
+    /// the full tree.
     pub fn learn_stages<S: Settler>(&self, settler: &S)
         requires { length self.now.root ≡ S.dims settler.now }
         ensures open_stage { IsStage (S.settle_of settler.now)

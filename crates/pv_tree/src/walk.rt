@@ -15,7 +15,8 @@ use pv_num::Memory;
 use std::alloc::Global;
 use std::marker::Model;
 
-/// A walk over the nodes of a paving in preorder. A step takes the same time at each depth, and no memory.
+/// A walk over the nodes of a paving in preorder. A step takes the same time at each depth, and no
+/// memory.
 #[derive(Drop)]
 pub struct Walk<'a> {
     root: &'a IBox,
@@ -58,7 +59,8 @@ impl<'a> Walk<'a> {
         })
     }
 
-    /// Goes to the next node in preorder and answers its shape. None exactly where the walk is over.
+    /// Goes to the next node in preorder and answers its shape. None exactly where the walk is
+    /// over.
     pub fn next(&mut self) -> Option<Shape>
         ensures root { self.new.root ≡ self.old.root }
         ensures tree { self.new.tree ≡ self.old.tree }

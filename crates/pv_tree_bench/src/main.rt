@@ -2,8 +2,8 @@
 //!
 //!     pv_tree_bench join 10
 //!
-//! The tree has 98,815 settled nodes: 256 combs under a binary tree of 8 levels, with paths of up to 200 steps. It is
-//! made once, and then the named work is done so many times.
+//! The tree has 98,815 settled nodes: 256 combs under a binary tree of 8 levels, with paths of up
+//! to 200 steps. It is made once, and then the named work is done as often as the words say.
 #![tactic(auto)]
 
 mod work;

@@ -46,7 +46,8 @@ impl Work {
     }
 }
 
-/// The settler of the combs: 8 cuts in the second place, and then 192 toward the first place's lower end.
+/// The settler of the combs: 8 cuts in the second place, and then 192 toward the first place's
+/// lower end.
 fn settler() -> Above
     ensures { result.dims ≡ 2 }
 {
@@ -212,7 +213,7 @@ const NONE: Counts = Counts {
     open_leaves: 0,
 };
 
-/// The counts after the work was done so many times.
+/// The counts after the work was done `times` times.
 pub fn after(alloc: Global, work: Work, times: u64) -> Result<Counts, Memory> {
     let settler = settler();
     let tree = combs(alloc, &settler)?;

@@ -19,10 +19,10 @@ use pv_tree::{Batch, KnowingSettler, Outcome};
 use std::alloc::Global;
 use std::sync::Wait;
 
-// A leaf whose path has so many steps is settled together with nodes below it.
+// A leaf whose path has this number of steps or more is settled together with nodes below it.
 const STAGED_FROM: u32 = 4;
 
-// So many nodes are settled beyond the first.
+// The most nodes that are settled beyond the first.
 const MOST_GRANT: u64 = 15;
 
 /// What the workers share: the board, the settler and the gate.
@@ -130,8 +130,8 @@ impl<'a, N: Naming, S: KnowingSettler, G: Gate> Crew<'a, N, S, G> {
         }
     }
 
-    // Settles some nodes from the leaf of a ticket on, whose box is in the kit, with a grant for all but the first. The tasks of the
-    // stage's open leaves become `children`.
+    // Settles some nodes from the leaf of a ticket on, whose box is in the kit, with a grant for
+    // all but the first. The tasks of the stage's open leaves become `children`.
     fn settle_stage<R: Wait>(
         &self,
         rt: &R,

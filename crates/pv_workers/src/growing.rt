@@ -15,8 +15,9 @@ use pv_pool::Gate;
 use pv_tree::{Growth, KnowingSettler, Path, Paving};
 use std::alloc::Global;
 
-/// Settles the open leaves of an opening that is one open leaf, each time the first one in preorder, until none is left or the
-/// budget is spent. What is known of a box is handed to its halves.
+/// Settles the open leaves of an opening that is one open leaf, each time the first one in
+/// preorder, until none is left or the budget is spent. What is known of a box is handed to its
+/// halves.
 ///
 /// # Errors
 ///
@@ -51,7 +52,7 @@ pub(crate) fn grow<S: KnowingSettler, G: Gate>(
     })
 }
 
-// Settles up to so many leaves, and answers how many it settled.
+// Settles up to `budget` leaves, and answers how many it settled.
 fn grow_all<S: KnowingSettler, G: Gate>(
     alloc: Global,
     settler: &S,

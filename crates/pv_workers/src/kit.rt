@@ -8,7 +8,8 @@ use pv_num::Memory;
 use pv_tree::{Batch, KnowingSettler};
 use std::alloc::Global;
 
-/// What a worker keeps from one settling to the next, so that settling takes no memory but for the tree.
+/// What a worker keeps from one settling to the next, so that settling takes no memory but for the
+/// tree.
 #[derive(Drop)]
 pub(crate) struct Kit<S: KnowingSettler> {
     /// The box that is settled.
@@ -21,7 +22,7 @@ pub(crate) struct Kit<S: KnowingSettler> {
 }
 
 impl<S: KnowingSettler> Kit<S> {
-    /// A kit for boxes of so many places.
+    /// A kit for boxes of `places` places.
     pub(crate) fn of(alloc: Global, settler: &S, places: u8) -> Result<Kit<S>, Memory>
         requires some { 1 ≤ places }
         requires few { places ≤ 12 }
@@ -38,7 +39,7 @@ impl<S: KnowingSettler> Kit<S> {
     }
 }
 
-/// A box of so many places.
+/// A box of `places` places.
 pub(crate) fn blank(alloc: Global, places: u8) -> Result<IBox, Memory>
     requires some { 1 ≤ places }
     requires few { places ≤ 12 }

@@ -1,4 +1,5 @@
-//! Paving by several workers: each settles leaves of one shared board until nothing is left to settle.
+//! Paving by several workers: each settles leaves of one shared board until nothing is left to
+//! settle.
 #![tactic(auto)]
 
 mod account;

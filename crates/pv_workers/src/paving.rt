@@ -31,12 +31,13 @@ pub struct Paved {
     pub spent: u128,
 }
 
-/// Settles open leaves of an opening by 1 to 16 workers, until none is left or the budget of 1 to 100,000 settlings is spent.
-/// The gate is entered with the number of the worker and the path of the leaf before each settling. It joins its workers, and may
-/// wait for them.
+/// Settles open leaves of an opening by 1 to 16 workers, until none is left or the budget of 1 to
+/// 100,000 settlings is spent. The gate is entered with the number of the worker and the path of
+/// the leaf before each settling. It joins its workers, and may wait for them.
 ///
-/// Where the budget is enough the paving is the full tree of the opening, whatever the number of workers and their order. Else it is a
-/// stage of it with so many more settled nodes.
+/// Where the budget is enough the paving is the full tree of the opening, whatever the number of
+/// workers and their order. Else it is a stage of it with exactly the budget more
+/// settled nodes.
 ///
 /// # Errors
 ///
@@ -77,8 +78,9 @@ pub fn pave<S: Settler + Sync, G: Gate + Sync, R: Threads + Wait + Sync>(
     Ok(paved)
 }
 
-/// As `pave`, by a settler that knows: within what a worker settles at once, what is known of a box is handed to its halves. One
-/// worker grows an opening that is one open leaf with no board, and then each settling counts as one ticket.
+/// As `pave`, by a settler that knows: within what a worker settles at once, what is known of a box
+/// is handed to its halves. One worker grows an opening that is one open leaf with no board, and
+/// then each settling counts as one ticket.
 ///
 /// # Errors
 ///
@@ -200,7 +202,8 @@ fn is_leaf(paving: &Paving) -> bool
     matches!(paving.shape_at(Path::root()), Shape::OpenLeaf)
 }
 
-// Does nothing. Its contract is what a stage is that spent a budget or has no open leaf, and that a stage of a stage is one.
+// Does nothing. Its contract is what a stage is that spent a budget or has no open leaf, and that a
+// stage of a stage is one.
 fn learn_paved<S: Settler>(paving: &Paving, settler: &S)
     requires { length paving.now.root ≡ S.dims settler.now }
     ensures stages { (earlier opening : Tree) → Paves paving.now.root earlier →

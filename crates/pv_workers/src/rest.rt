@@ -17,8 +17,9 @@ use pv_pool::Gate;
 use pv_tree::{Paving, Settler};
 use std::alloc::Global;
 
-/// Recalls what is issued, and then takes a leaf, settles it and recalls in turn, until nothing can be taken. It answers how
-/// many leaves it settled. After a worker was told that all is done there are none.
+/// Recalls what is issued, and then takes a leaf, settles it and recalls in turn, until nothing can
+/// be taken. It answers how many leaves it settled. After a worker was told that all is done there
+/// are none.
 ///
 /// # Errors
 ///
@@ -47,7 +48,8 @@ pub(crate) fn settle_rest<N: Naming, S: Settler, G: Gate>(
     Ok(left)
 }
 
-// Takes a leaf, settles it and takes back what that issued. Answers false where no leaf can be taken.
+// Takes a leaf, settles it and takes back what that issued. Answers false where no leaf can be
+// taken.
 fn settle_one<N: Naming, S: Settler, G: Gate>(
     alloc: Global,
     ruled: &Ruled<N, S>,

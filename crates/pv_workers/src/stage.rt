@@ -16,8 +16,9 @@ use pv_pool::Gate;
 use pv_tree::{Growth, KnowingSettler, Outcome, Path, Paving, Settled};
 use std::alloc::Global;
 
-/// Settles up to so many nodes of the box in `kit.scratch`, which is that of a leaf at a path, each time the first open leaf.
-/// What is known of a box is handed to its halves. What is known of the stage's open leaves is left in `kit.facts`, that of the first one last.
+/// Settles up to `most` nodes of the box in `kit.scratch`, which is that of a leaf at a path, each
+/// time the first open leaf. What is known of a box is handed to its halves. What is known of the
+/// stage's open leaves is left in `kit.facts`, that of the first one last.
 ///
 /// # Errors
 ///

@@ -82,7 +82,8 @@ impl<'a, N: Naming, S: KnowingSettler> Task<'a, N, S> {
     }
 }
 
-/// Makes tasks of tickets, in their order. `facts` has what is known of their leaves, that of the first one last, and may go on.
+/// Makes tasks of tickets, in their order. `facts` has what is known of their leaves, that of the
+/// first one last, and may go on.
 pub(crate) fn hand_out<'a, N: Naming, S: KnowingSettler>(
     ruled: &'a Ruled<'a, N, S>,
     tickets: &mut Batch<Ticket>,

@@ -49,14 +49,15 @@ fn quarter() -> Above
     Above::new(1, Num::fin(1, -2).unwrap_or(Num::ZERO), 0, 2)
 }
 
-// The points of a square from about 1/3 on. Four cuts make 16 strips, and 16 further ones come nearer to the limit in each.
+// The points of a square from about 1/3 on. Four cuts make 16 strips, and 16 further ones come
+// nearer to the limit in each.
 fn third() -> Above
     ensures { result.dims ≡ 2 }
 {
     Above::new(2, Num::fin(0x1555_5555, -30).unwrap_or(Num::ZERO), 4, 20)
 }
 
-// Whether a paving has so many cuts, and removed, inner, small and open boxes.
+// Whether a paving has these numbers of cuts and of removed, inner, small and open boxes.
 fn has(paving: &Paving, cut: u64, removed: u64, inner: u64, small: u64, open_leaves: u64) -> bool {
     let counts = paving.counts();
     counts.cut == cut

@@ -34,7 +34,8 @@ fn square(alloc: Global) -> Result<Paving, Memory>
     Paving::open(alloc, IBox::new(parts))
 }
 
-/// Paves 2 to the power of `cuts` strips by so many workers, or at least 1 and at most 16 of them.
+/// Paves 2 to the power of `cuts` strips by `workers` workers, or at least 1 and at most 16 of
+/// them.
 pub fn pave_strips<R: Threads + Wait + Sync>(
     rt: &R,
     alloc: Global,

@@ -7,7 +7,8 @@ use crate::interval::{Interval, greater};
 use pv_num::{End, Num};
 
 impl Interval {
-    /// Holds the power `n` of each number of this interval; the power 0 is 1. The exponent is at most 32.
+    /// Holds the power `n` of each number of this interval; the power 0 is 1. The exponent is at
+    /// most 32.
     #[inline]
     pub fn pow(self, n: u8) -> Interval
         requires { n ≤ 32 }

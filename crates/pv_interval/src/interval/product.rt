@@ -1,4 +1,5 @@
-//! The product. The signs decide which two products of ends are computed; four are only where both intervals cross 0.
+//! The product. The signs decide which two products of ends are computed; four are only where both
+//! intervals cross 0.
 ghost use Rattle.std.specs.Prelude.{◌≡◌, IsTrue};
 ghost use Rattle.pv_num.specs.Order.{le};
 ghost use Rattle.pv_interval.specs.Fractions.{times};

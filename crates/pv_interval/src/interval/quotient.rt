@@ -1,4 +1,5 @@
-//! The quotient. The sign of the divisor and those of the ends decide which two quotients of ends are computed.
+//! The quotient. The sign of the divisor and those of the ends decide which two quotients of ends
+//! are computed.
 ghost use Rattle.std.specs.Prelude.{◌≡◌, IsTrue, false};
 ghost use Rattle.pv_num.specs.Order.{le, lt};
 ghost use Rattle.pv_num.specs.Arithmetic.{div_of};

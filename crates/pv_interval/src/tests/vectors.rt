@@ -1,4 +1,5 @@
-//! Cases of interval operations. Written by tests/generators/interval_vectors.py: change them there.
+//! Cases of interval operations. Written by tests/generators/interval_vectors.py: change them
+//! there.
 use crate::tests::Ends;
 use crate::tests::Operation::{self, Abs, Add, Hull, Max, Meet, Min, Mul, Neg, Pow, Quotient, Sub};
 
