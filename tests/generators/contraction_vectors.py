@@ -3,19 +3,11 @@
 computes on whole numbers, knows no marks and shares nothing with the program. It finds which constraints are clean
 anew from the whole history of revisions.
 
-Writes crates/pv_programs/src/table.rt. A number is written as a mantissa and an exponent; the exponent 999 stands for
-an infinite end.
+Writes crates/pv_programs/src/table.rt.
 """
-import os
-import sys
-from pathlib import Path
-
-import case_table
-
-sys.path.insert(0, str(Path(__file__).resolve().parents[1]))
-from reference import minibex  # noqa: E402
-from reference.paver import Settler  # noqa: E402
-from revision_vectors import ends  # noqa: E402
+from case_table import ends, write
+from reference import minibex
+from reference.paver import Settler
 
 THREE = ("[0,4]", "[0,4]", "x <= 2; x >= 1; x >= 3")
 RINGS = ("[-4,4]", "[-4,4]", "x^2 + y^2 <= 4; (x - 1)^2 + y^2 <= 4; (x - 6)^2 + y^2 <= 1")
@@ -85,11 +77,5 @@ HEADING = (
     "use crate::programs::Left::{Nothing, Places};\n"
 )
 
-
-def main():
-    path = os.path.join(os.path.dirname(__file__), "../../crates/pv_programs/src/table.rt")
-    case_table.write(path, HEADING, GROUPS, row)
-
-
 if __name__ == "__main__":
-    main()
+    write("pv_programs", HEADING, GROUPS, row)

@@ -10,10 +10,10 @@ import sys
 from pathlib import Path
 
 TOP = Path(__file__).resolve().parents[2]
-sys.path.insert(0, str(TOP))
-from tests.data.examples import LEAST, settings_of  # noqa: E402
-from tests.reference import least, minibex  # noqa: E402
-from tests.reference.paver import Settler  # noqa: E402
+sys.path.insert(0, str(TOP / "tests"))
+from data.examples import LEAST, settings_of  # noqa: E402
+from reference import least, minibex  # noqa: E402
+from reference.paver import Settler  # noqa: E402
 
 
 def answer_to(name, words):

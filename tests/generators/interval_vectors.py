@@ -5,9 +5,10 @@ An end is a Fraction, or -inf or +inf. The tables are those of interval arithmet
 m * 2^e with |m| < 2^62 and e from -512 to 450.
 """
 import math
-import os
 import random
 from fractions import Fraction
+
+from case_table import CRATES, table
 
 INF = math.inf
 TOP = Fraction((2**62 - 1) * 2**450)
@@ -239,18 +240,17 @@ def result_of(name, n, x, y):
     return BINARY[name](x, y)
 
 
+HEADING = """//! Cases of interval operations. Written by tests/generators/interval_vectors.py: change them there.
+use crate::tests::Ends;
+use crate::tests::Operation::{self, Abs, Add, Hull, Max, Meet, Min, Mul, Neg, Pow, Quotient, Sub};
+
+"""
+
+
 def main():
-    rows = []
-    for name, n, x, y in cases():
-        rows.append(f"    ({name}, {n}, {pair(x)}, {pair(y)}, {answer(result_of(name, n, x, y))}),")
-    path = os.path.join(os.path.dirname(__file__), "../../crates/pv_interval/src/tests/vectors.rt")
-    os.makedirs(os.path.dirname(path), exist_ok=True)
-    with open(path, "w") as out:
-        out.write("//! Cases of interval operations. Written by tests/generators/interval_vectors.py: change them there.\n")
-        out.write("use crate::tests::Ends;\n")
-        out.write("use crate::tests::Operation::{self, Abs, Add, Hull, Max, Meet, Min, Mul, Neg, Pow, Quotient, Sub};\n\n")
-        out.write(f"pub(super) static CASES: [(Operation, u8, Ends, Ends, Option<Ends>); {len(rows)}] = [\n")
-        out.write("\n".join(rows) + "\n];\n")
+    rows = [f"    ({name}, {n}, {pair(x)}, {pair(y)}, {answer(result_of(name, n, x, y))})," for name, n, x, y in cases()]
+    text = HEADING + table("CASES", "(Operation, u8, Ends, Ends, Option<Ends>)", rows, "super")
+    (CRATES / "pv_interval/src/tests/vectors.rt").write_text(text)
 
 
 if __name__ == "__main__":

@@ -5,20 +5,15 @@ The known value was worked out by hand. What the search tells comes from the ref
 is looked at that the known value lies between both bounds, and that no member that is drawn has a
 value below the lower one.
 
-Usage: least_vectors.py crates/pv_values/src/table.rt
+Writes crates/pv_values/src/table.rt.
 """
-import pathlib
 import random
-import sys
 from fractions import Fraction
 
-ROOT = pathlib.Path(__file__).resolve().parents[2]
-sys.path.insert(0, str(ROOT))
-
-from tests.generators import case_table  # noqa: E402
-from tests.reference import least, minibex  # noqa: E402
-from tests.reference.numbers import NEG_INF, POS_INF, as_fraction, is_finite, spelling  # noqa: E402
-from tests.reference.paver import Settler  # noqa: E402
+from case_table import write
+from reference import least, minibex
+from reference.numbers import NEG_INF, POS_INF, as_fraction, is_finite, spelling
+from reference.paver import Settler
 
 NONE, UNBOUNDED, HUGE = "Nowhere", "Unbounded", "Huge"
 X4, X10 = "x in [-4,4]", "x in [-10,10]"
@@ -149,4 +144,4 @@ use crate::values::Known::{At, Huge, Nowhere, Unbounded};
 
 if __name__ == "__main__":
     groups = {name: [worked(*case) for case in cases] for name, cases in GROUPS.items()}
-    case_table.write(sys.argv[1], HEADING, groups, row)
+    write("pv_values", HEADING, groups, row)

@@ -5,7 +5,8 @@ A number is a whole number N of units of 2^-512 that is m * 2^k with m < 2^62 an
 """
 import random
 from fractions import Fraction
-from pathlib import Path
+
+from case_table import CRATES, table
 
 UNIT = 1 << 512
 TOP = ((1 << 62) - 1) << 962
@@ -136,22 +137,18 @@ def cases():
             yield name, parts(a), parts(b), side, parts(op(a, b, side))
 
 
+HEADING = """//! Cases of exact arithmetic. Written by tests/generators/number_vectors.py: change them there.
+use crate::End::{self, Down, Up};
+use crate::tests::Operation::{self, Add, Div, Mul};
+use crate::tests::Spelled;
+
+"""
+
+
 def main():
-    lines = [
-        "//! Cases of exact arithmetic. Written by tests/generators/number_vectors.py: change them there.",
-        "use crate::End::{self, Down, Up};",
-        "use crate::tests::Operation::{self, Add, Div, Mul};",
-        "use crate::tests::Spelled;",
-        "",
-    ]
-    rows = list(cases())
-    lines.append(f"pub(super) static CASES: [(Operation, Spelled, Spelled, End, Spelled); {len(rows)}] = [")
-    for name, a, b, side, want in rows:
-        lines.append(f"    ({name}, {a}, {b}, {side}, {want}),")
-    lines.append("];")
-    target = Path(__file__).resolve().parents[2] / "crates/pv_num/src/tests/vectors.rt"
-    target.write_text("\n".join(lines) + "\n")
-    print(len(rows), "cases")
+    rows = [f"    ({name}, {a}, {b}, {side}, {want})," for name, a, b, side, want in cases()]
+    text = HEADING + table("CASES", "(Operation, Spelled, Spelled, End, Spelled)", rows, "super")
+    (CRATES / "pv_num/src/tests/vectors.rt").write_text(text)
 
 
 if __name__ == "__main__":

@@ -3,21 +3,16 @@
 slice, a rectangle and a pixel are. Of tests/reference only the rounding of fractions and the lines of pavings serve;
 nothing is shared with the program.
 
-Writes crates/pv_pictures/src/table.rt. A number is written as a mantissa and an exponent.
+Writes crates/pv_pictures/src/table.rt.
 """
-import os
 import random
-import sys
 from fractions import Fraction
 from math import floor
-from pathlib import Path
 
-import case_table
-
-sys.path.insert(0, str(Path(__file__).resolve().parents[1]))
-from reference import files  # noqa: E402
-from reference.numbers import DOWN, SCALE, TOP, UP, as_fraction, from_fraction, is_finite  # noqa: E402
-from reference.paver import halves  # noqa: E402
+from case_table import ends, spelled, write
+from reference import files
+from reference.numbers import DOWN, TOP, UP, as_fraction, from_fraction, is_finite
+from reference.paver import halves
 
 FILLS = {"X": "#cfd8dc", "I": "#43a047", "S": "#fdd835", "O": "#ffffff"}
 HEAD = '<svg xmlns="http://www.w3.org/2000/svg" width="1000" height="1000" viewBox="0 0 1000 1000">\n'
@@ -166,18 +161,6 @@ GROUPS = {
 }
 
 
-def parts(n):
-    """A number's mantissa and exponent."""
-    if n == 0:
-        return "(0, 0)"
-    trailing = (n & -n).bit_length() - 1
-    return f"({n >> trailing}, {trailing - SCALE})"
-
-
-def ends(box):
-    return ", ".join(f"({parts(lo)}, {parts(hi)})" for lo, hi in box)
-
-
 def text(value):
     return '"' + value.replace('"', '\\"').replace("\n", "\\n") + '"'
 
@@ -185,8 +168,8 @@ def text(value):
 def row(root, tree, x, y, at):
     lines = "".join(line + "\n" for line in files.lines(tree, root, 1))
     body = picture(tree, root, x, y, at).removeprefix(HEAD).removesuffix("</svg>\n")
-    return (f"Case {{ root: &[{ends(root)}], lines: {text(lines)}, x: {x}, y: {y}, "
-            f"at: &[{', '.join(map(parts, at))}], rectangles: {text(body)} }},")
+    return (f"Case {{ root: &[{', '.join(map(ends, root))}], lines: {text(lines)}, x: {x}, y: {y}, "
+            f"at: &[{', '.join(map(spelled, at))}], rectangles: {text(body)} }},")
 
 
 HEADING = """//! Cases of slices and their pictures. Written by tests/generators/pictures.py: change them there.
@@ -194,5 +177,4 @@ use crate::pictures::Case;
 """
 
 if __name__ == "__main__":
-    os.chdir(Path(__file__).resolve().parents[2])
-    case_table.write("crates/pv_pictures/src/table.rt", HEADING, GROUPS, row)
+    write("pv_pictures", HEADING, GROUPS, row)

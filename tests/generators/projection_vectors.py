@@ -5,11 +5,11 @@ The rules are those of interval_vectors.py, and roots are found by bisection ove
 the greatest number whose power, rounded up, is at most the given one; an upper root is the least number whose power,
 rounded down, is at least the given one.
 """
-import os
 import random
 from fractions import Fraction
 
-from interval_vectors import (DOWN, INF, UP, answer, greatest, hull, intervals, least, meet, minus, opposite, pair, plus,
+from case_table import CRATES, table
+from interval_vectors import (DOWN, INF, UP, answer, hull, intervals, meet, minus, opposite, pair, plus,
                               power, quotient, times)
 
 RANKS = 962 * 2**61 + 2**62
@@ -131,6 +131,14 @@ def both(answer_pair):
     return f"Some(({pair(answer_pair[0])}, {pair(answer_pair[1])}))"
 
 
+HEADING = """//! Cases of projections. Written by tests/generators/projection_vectors.py: change them there.
+use crate::tests::Ends;
+use crate::tests::Pairs::{self, Add, Div, Max, Min, Mul, Sub};
+use crate::tests::Singles::{self, Abs, Neg, Pow};
+
+"""
+
+
 def main():
     chance = random.Random(4)
     pool = intervals()
@@ -156,17 +164,9 @@ def main():
     for name, n, z, x in singles:
         found = back_pow(z, x, n) if name == "Pow" else back_neg(z, x) if name == "Neg" else back_abs(z, x)
         second.append(f"    ({name}, {n}, {pair(z)}, {pair(x)}, {answer(found)}),")
-    path = os.path.join(os.path.dirname(__file__), "../../crates/pv_project/src/tests/vectors.rt")
-    os.makedirs(os.path.dirname(path), exist_ok=True)
-    with open(path, "w") as out:
-        out.write("//! Cases of projections. Written by tests/generators/projection_vectors.py: change them there.\n")
-        out.write("use crate::tests::Ends;\n")
-        out.write("use crate::tests::Pairs::{self, Add, Div, Max, Min, Mul, Sub};\n")
-        out.write("use crate::tests::Singles::{self, Abs, Neg, Pow};\n\n")
-        out.write(f"pub(super) static PAIRS: [(Pairs, Ends, Ends, Ends, Option<(Ends, Ends)>); {len(first)}] = [\n")
-        out.write("\n".join(first) + "\n];\n\n")
-        out.write(f"pub(super) static SINGLES: [(Singles, u8, Ends, Ends, Option<Ends>); {len(second)}] = [\n")
-        out.write("\n".join(second) + "\n];\n")
+    tables = [table("PAIRS", "(Pairs, Ends, Ends, Ends, Option<(Ends, Ends)>)", first, "super"),
+              table("SINGLES", "(Singles, u8, Ends, Ends, Option<Ends>)", second, "super")]
+    (CRATES / "pv_project/src/tests/vectors.rt").write_text(HEADING + "\n".join(tables))
 
 
 if __name__ == "__main__":

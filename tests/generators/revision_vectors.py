@@ -2,19 +2,12 @@
 """Cases of HC4-revise and of the sure test, on boxes of two variables, worked out by the plain paver of
 tests/reference, which computes on whole numbers and shares nothing with the program.
 
-Writes crates/pv_revisions/src/table.rt. A number is written as a mantissa and an exponent; the exponent 999 stands for
-an infinite end.
+Writes crates/pv_revisions/src/table.rt.
 """
-import os
-import sys
-from pathlib import Path
-
-import case_table
-
-sys.path.insert(0, str(Path(__file__).resolve().parents[1]))
-from reference import minibex  # noqa: E402
-from reference.numbers import DOWN, NEG_INF, POS_INF, SCALE, UP  # noqa: E402
-from reference.paver import Constraint, Empty, bound  # noqa: E402
+from case_table import ends, write
+from reference import minibex
+from reference.numbers import DOWN, UP
+from reference.paver import Constraint, Empty, bound
 
 # x, y, constraint: ten cases a group
 GROUPS = {
@@ -117,19 +110,6 @@ GROUPS = {
 }
 
 
-def ends(x):
-    return f"({spelled(x[0])}, {spelled(x[1])})"
-
-
-def spelled(a):
-    if a in (NEG_INF, POS_INF):
-        return f"({1 if a > 0 else -1}, 999)"
-    if a == 0:
-        return "(0, 0)"
-    trailing = (a & -a).bit_length() - 1
-    return f"({a >> trailing}, {trailing - SCALE})"
-
-
 def row(x, y, text):
     system = f"Variables x in {x}, y in {y}; Constraints {text}; End"
     read = minibex.read(system)
@@ -150,11 +130,5 @@ HEADING = (
     "use crate::revisions::Left::{Changed, Empty, Kept};\n"
 )
 
-
-def main():
-    path = os.path.join(os.path.dirname(__file__), "../../crates/pv_revisions/src/table.rt")
-    case_table.write(path, HEADING, GROUPS, row)
-
-
 if __name__ == "__main__":
-    main()
+    write("pv_revisions", HEADING, GROUPS, row)

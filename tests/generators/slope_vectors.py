@@ -2,22 +2,15 @@
 """Cases of slopes and centered forms, on boxes of two variables, and of boxes settled by them, worked out by the plain paver of
 tests/reference, which computes on whole numbers and shares nothing with the program.
 
-Writes crates/pv_ranges/src/table.rt. A number is written as a mantissa and an exponent; the exponent 999 stands for an
-infinite end.
+Writes crates/pv_ranges/src/table.rt.
 """
-import os
-import sys
 from fractions import Fraction
-from pathlib import Path
 
-import case_table
-from revision_vectors import ends
-
-sys.path.insert(0, str(Path(__file__).resolve().parents[1]))
-from reference import minibex  # noqa: E402
-from reference.numbers import DOWN, UP, as_fraction, is_finite  # noqa: E402
-from reference.paver import Constraint, bound  # noqa: E402
-from reference.slopes import Centered, CenteredSettler, gap, ranged  # noqa: E402
+from case_table import ends, table, write
+from reference import minibex
+from reference.numbers import DOWN, UP, as_fraction, is_finite
+from reference.paver import Constraint, bound
+from reference.slopes import Centered, CenteredSettler, gap, ranged
 
 # x, y, constraint: ten cases a group
 GROUPS = {
@@ -180,14 +173,10 @@ HEADING = (
 
 
 def main():
-    path = os.path.join(os.path.dirname(__file__), "../../crates/pv_ranges/src/table.rt")
-    case_table.write(path, HEADING, GROUPS, row)
-    with open(path, "a") as out:
-        cases = [case for group in GROUPS.values() for case in group]
-        out.write(f"\npub(crate) static SLOPES: [Slope; {len(cases)}] = [\n")
-        out.write("\n".join(slope_row(k % 2, *case) for k, case in enumerate(cases)) + "\n];\n")
-        out.write(f"\npub(crate) static SETTLED: [Settled; {len(SETTLED)}] = [\n")
-        out.write("\n".join(settled_row(*case) for case in SETTLED) + "\n];\n")
+    cases = [case for group in GROUPS.values() for case in group]
+    slopes = table("SLOPES", "Slope", [slope_row(k % 2, *case) for k, case in enumerate(cases)])
+    settled = table("SETTLED", "Settled", [settled_row(*case) for case in SETTLED])
+    write("pv_ranges", HEADING, GROUPS, row, slopes, settled)
 
 
 if __name__ == "__main__":
