@@ -35,7 +35,8 @@ def paving_of(arguments, sentences=warnings_of):
 
 
 def roots(arguments):
-    """Prints each cluster of undecided boxes of a square system with its verdict. Status 1 where one is undecided."""
+    """Prints each cluster of undecided boxes of a square system with its verdict. Status 1 where one is undecided or a leaf is
+    open."""
     system = program.check(arguments.system, program=arguments.program)
     paving, warnings = paving_of(arguments, limits_of)
     found = find_roots(system, paving)

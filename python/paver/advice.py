@@ -63,31 +63,39 @@ def root_pairs(paving):
     return [pair for part in paving.roots()[:1] for pair in Box("open", part.root).exact]
 
 
-def budget_warning(counts, boxes):
-    """The sentence on open leaves; None where no leaf is open."""
+STORED = "go on from a file that --out stored by `paver resume SYSTEM FILE --out FILE2`, or take a larger eps"
+MORE = f"give more by --boxes (a paving has at most {MOST_BOXES} settled nodes)"
+WAYS = {
+    "run": f"{MORE}, {STORED}",
+    "resume": f"{MORE}, {STORED}",
+    "merge": STORED,
+    "run-centered": f"{MORE}, or take a larger eps",
+    "campaign": "call `paver campaign` again with the same --keep and settings (the settled nodes and --rounds times --boxes may "
+                f"come to {MOST_BOXES} at most), or begin another with a larger eps",
+}
+FULL = f"a paving has at most {MOST_BOXES} settled nodes: split the box (`python3 -m paver split`), or take a larger eps"
+
+
+def budget_warning(command, counts, boxes):
+    """The sentence on the open leaves that a command left; None where no leaf is open."""
     if not counts["open"]:
         return None
-    settled = counts["settled"]
-    if settled >= MOST_BOXES or (boxes or 0) >= MOST_BOXES:
-        way = (f"a paving has at most {MOST_BOXES} settled nodes: split the box (`python3 -m paver split`), or take a larger "
-               "eps")
-    else:
-        way = (f"give more by --boxes (a paving has at most {MOST_BOXES} settled nodes), go on from a file that --out "
-               "stored by `paver resume SYSTEM FILE --out FILE2`, or take a larger eps")
-    return (f"the budget ended the run: {counts['open']} leaves are open after {settled} settled nodes. What is printed "
-            f"is right as far as it goes; an open leaf says nothing. To go on: {way}.")
+    full = counts["settled"] >= MOST_BOXES or command != "merge" and (boxes or 0) >= MOST_BOXES
+    ended = "the join has open leaves" if command == "merge" else "the budget ended the run"
+    return (f"{ended}: {counts['open']} leaves are open after {counts['settled']} settled nodes. What is printed or kept is "
+            f"right as far as it goes; an open leaf says nothing. To go on: {FULL if full else WAYS[command]}.")
 
 
 def limits_of(answer, paving):
     """The sentences on what the budget and the depth left undone."""
     settings = answer.settings
     boxes = int(settings["boxes"]) if settings.get("boxes") else None
-    found = [budget_warning(paving.counts(), boxes), depth_warning(paving, settings)]
+    found = [budget_warning(answer.command, paving.counts(), boxes), depth_warning(paving, settings)]
     return [sentence for sentence in found if sentence]
 
 
 def warnings_of(answer, paving):
-    """The sentences for an answer of run, resume or merge and its paving; an empty list where nothing disappoints."""
+    """The sentences for an answer and its paving; an empty list where nothing disappoints."""
     found, counts = limits_of(answer, paving), paving.counts()
     if counts["settled"] and not counts["inner"] and not counts["small"] and not counts["open"]:
         found.append("nothing is kept: no rational point of the search box is in the set.")

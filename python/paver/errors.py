@@ -45,7 +45,8 @@ class WantOfMemory(PaverError):
 
 
 class TreeLimit(PaverError):
-    """Status 8: .settled nodes, and the budget with them, are above 100,000."""
+    """Status 8: .settled nodes and the budget (of a campaign that of all rounds) are together above 100,000; of a merge
+    .settled alone is."""
 
 
 class Disagree(PaverError):

@@ -47,8 +47,10 @@ def option_words(settings, known=OPTIONS):
 
 @dataclass
 class Answer:
-    """What run, run_centered, resume, merge and campaign answered: status 0, or 1 where leaves are open. `out` is the
-    file where the paving is, or a campaign's database; None where it was printed."""
+    """What run, run_centered, resume, merge and campaign answered: status 0, or 1 where leaves are open. `command` is the
+    program's word for which of them; `out` is the file where the paving is, or a campaign's database; None where it was
+    printed."""
+    command: str
     status: int
     text: str
     system: Path
@@ -131,7 +133,10 @@ def asked(words, program, timeout):
 
 
 def has(command, program=None):
-    """Whether the program has a command, or `run --out`: with it, a system that is not there is no file."""
+    """Whether the program has a command, or `run --out`: with it, a system that is not there is no file. A sample needs no
+    system."""
+    if command == "sample":
+        return call(["sample", "--seed=1", "--count=1"], program)[0] == 0
     words = {"run --out": ["run", "--out=none"]}.get(command, [command])
     pavings = ["none"] if command in ("resume", "merge", "audit", "audit-centered", "svg") else []
     words += {"svg": ["--x=x", "--y=y"], "least": ["--of=x"], "campaign": ["--keep=none"]}.get(command, [])
@@ -156,7 +161,7 @@ def paved(command, system, pavings, out, settings, known, program, timeout):
     words += [f"--out={out}"] if out is not None else []
     status, text = asked([*words, "--", system, *pavings], program, timeout)
     kept = {name: value for name, value in settings.items() if value is not None}
-    return Answer(status, text, Path(system), find(program), kept, None if out is None else str(out))
+    return Answer(command, status, text, Path(system), find(program), kept, None if out is None else str(out))
 
 
 def run(system, *, out=None, program=None, timeout=None, **options):
@@ -182,12 +187,12 @@ def merge(system, pavings, *, out=None, program=None, timeout=None, **settings):
 def campaign(system, keep, *, rounds=None, program=None, timeout=None, **options):
     """Goes on with the paving that is kept in the database `keep`, or begins one there, for 1 to 100 rounds (else one).
     Each round settles at most `boxes` nodes and keeps them before the next begins, so what whole rounds settled stays
-    whatever ends the call."""
+    whatever ends the call. With status 1 the same call again goes on from there."""
     words = ["campaign", *option_words(options, OPTIONS), f"--keep={keep}"]
     words += [] if rounds is None else [f"--rounds={rounds}"]
     status, text = asked([*words, "--", system], program, timeout)
     kept = {name: value for name, value in options.items() if value is not None}
-    return Answer(status, text, Path(system), find(program), kept, str(keep))
+    return Answer("campaign", status, text, Path(system), find(program), kept, str(keep))
 
 
 def audit(system, paving, *, program=None, timeout=None, **settings):

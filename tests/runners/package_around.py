@@ -11,11 +11,9 @@ import time
 from pathlib import Path
 
 import paver
-from package_checks import Skipped
+from package_checks import COMMANDS, Skipped
 
 TOP = Path(__file__).resolve().parents[2]
-COMMANDS = ["check", "run", "resume", "merge", "audit", "svg", "sample", "run-centered", "audit-centered", "least",
-            "campaign"]
 SETTINGS = ["eps", "depth", "bisect", "contract"]
 RUN_OPTIONS = [*SETTINGS, "boxes", "workers", "out"]
 SVG_OPTIONS = [*SETTINGS, "x", "y", "at"]

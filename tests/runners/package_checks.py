@@ -11,9 +11,11 @@ from pathlib import Path
 import paver
 from data.examples import EXAMPLES
 from paver import numbers, program
+from paver.advice import budget_warning
 from reference import numbers as plain
 
 EXAMPLE_FOLDER = Path(__file__).resolve().parents[2] / "examples"
+COMMANDS = ["check", "run", "resume", "merge", "audit", "svg", "sample", "run-centered", "audit-centered", "least", "campaign"]
 EXPECTED = Path(__file__).resolve().parents[1] / "data" / "summaries.txt"
 
 
@@ -125,14 +127,29 @@ def check_refusals():
 
 def check_answers():
     answer = paver.run(example("ring"), eps=Fraction(1), boxes=5)
-    assert (answer.status, answer.complete, answer.summary["open"] > 0) == (1, False, True)
-    assert any("budget" in sentence and "resume" in sentence for sentence in answer.warnings())
+    assert (answer.command, answer.status, answer.complete, answer.summary["open"] > 0) == ("run", 1, False, True)
+    assert any("budget" in sentence and "paver resume" in sentence for sentence in answer.warnings())
     shallow = paver.run(example("ring"), depth=4)
     assert any("--depth 12 suffices" in sentence for sentence in shallow.warnings()), shallow.warnings()
     enough = paver.run(example("ring"), depth=12)
     assert enough.complete and not any("wider" in sentence for sentence in enough.warnings())
     assert enough.paving().widest().width <= Fraction(1, 8)
     assert paver.run(example("ring"), eps=0.5).text == paver.run(example("ring"), eps="0.5").text
+
+
+def check_ways_to_go_on():
+    """What is advised where leaves are open is a call that the program takes."""
+    ring = example("ring")
+    with tempfile.TemporaryDirectory() as folder:
+        stored, kept = Path(folder) / "p", Path(folder) / "k"
+        found = {answer.command: answer.warnings()[0] for answer in (
+            paver.run(ring, boxes=7, out=stored), paver.resume(ring, stored, boxes=1), paver.merge(ring, stored),
+            paver.run_centered(ring, boxes=7), paver.campaign(ring, kept, boxes=7))}
+        assert {command for command, sentence in found.items() if "paver resume" in sentence} == {"run", "resume", "merge"}
+        assert {command for command, sentence in found.items() if "paver campaign" in sentence} == {"campaign"}
+        assert "--keep" in found["campaign"] and "the join has open leaves" in found["merge"]
+    full = budget_warning("campaign", {"settled": 100_000, "open": 1}, None)
+    assert "paver split" in full and "paver campaign" not in full
 
 
 def check_depths():
@@ -171,8 +188,8 @@ def check_digest(name, words, digest):
 # ---- stored files
 
 def check_missing():
-    """What an older program lacks is named."""
-    assert program.has("run") and program.has("check")
+    """What an older program lacks is named, and this one lacks nothing."""
+    assert all(map(program.has, COMMANDS))
     for command, work in (("resume", paver.resume), ("merge", paver.merge), ("audit", paver.audit),
                           ("run-centered", lambda system, _: paver.run_centered(system)),
                           ("audit-centered", paver.audit_centered)):
@@ -263,7 +280,12 @@ def check_sampled():
     lines = paver.sample(1, 2).splitlines()
     assert lines[0] == "sample seed 1 count 2" and len(lines) == 3
     assert lines[1] == "settled 911 cut 455 removed 0 inner 256 small 200 open 0"
-    raised(paver.UsageError, lambda: paver.sample(1, 17))
+    try:
+        paver.sample(1, 17)
+    except paver.UsageError as fault:
+        assert type(fault) is paver.UsageError, fault
+    else:
+        raise AssertionError("17 circles were taken")
 
 
 def check_least():
@@ -326,7 +348,7 @@ def check_kept_rows():
 
 def checks():
     expected = dict(line.split(" ", 2)[:2] for line in EXPECTED.read_text().splitlines())
-    named = [check_numbers, check_minibex_numbers, check_lines, check_refusals, check_answers, check_depths, check_canonical,
+    named = [check_numbers, check_minibex_numbers, check_lines, check_refusals, check_answers, check_ways_to_go_on, check_depths, check_canonical,
              check_missing, check_stored, check_resumed, check_merged, check_audited, check_centered, check_drawn, check_sampled,
              check_least, check_campaigns, check_kept_rows]
     found = [(check.__name__[6:].replace("_", " "), check, ()) for check in named]

@@ -20,8 +20,10 @@ INSTEAD = {
     "acosh": INVERSE, "asinh": INVERSE, "atanh": INVERSE,
     "sign": CASES, "chi": CASES, "floor": CASES, "ceil": CASES, "saw": CASES, "step": CASES,
     "pi": "a variable in [3.14159265358979323, 3.14159265358979324], or a rational number that is near enough",
-    "minimize": "a paving describes a set: ask for the points with objective <= level, or drop the line",
-    "maximize": "a paving describes a set: ask for the points with objective >= level, or drop the line",
+    "minimize": "leave the line out and ask for the least value by `paver least SYSTEM --of=OBJECTIVE`; or ask for the points "
+                "with objective <= level",
+    "maximize": "leave the line out and ask for the least value of its opposite by `paver least SYSTEM --of='-(OBJECTIVE)'`; or "
+                "ask for the points with objective >= level",
     "diff": "write the derivative out",
     "integer": "a whole number is no rational interval: run once for each value",
 }
