@@ -8,21 +8,19 @@ The answer has to be status 7 with its line, or the very answer of a call that i
 and a file that is stored is whole. Needs a C compiler, and says so where there is none. The last line is
 'N passed, M failed'.
 """
-import os
 import shutil
 import subprocess
 import sys
 import tempfile
+from functools import partial
 from pathlib import Path
 
-sys.path.insert(0, str(Path(__file__).resolve().parents[1]))
-from data.cases import RECIPROCAL, system  # noqa: E402
-from paving_files import TWO_DISCS  # noqa: E402
+from running import Count, Folder, answered, faults_in_folder, judged
+from data.cases import RECIPROCAL, system
+from paving_files import QUARTER, TWO_DISCS
 
-SECONDS = 60
 # Beyond so many allocations of one command every 7th is refused, and each of the last ones.
 EACH, LAST = 600, 150
-QUARTER = ["--eps", "0.25"]
 # By these the lines are so many that several workers make them.
 FINE = ["--eps", "0.0078125"]
 SOLID = system("x in [-2,2], y in [-2,2]", "x^2 + y^2 <= 2; x * y >= 0")
@@ -67,42 +65,35 @@ def commands():
     }
 
 
-class Tried:
-    def __init__(self, paver, shim, folder):
-        self.paver, self.shim, self.folder, self.faults = paver, shim, Path(folder), []
+class Tried(Folder):
+    """A folder in which allocations of the program are refused, and counted in a file beside it."""
 
-    def call(self, words, **refuse):
-        environment = {"LD_PRELOAD": str(self.shim), "REFUSE_COUNT": str(self.folder / "count"),
+    def __init__(self, shim, paver, path):
+        super().__init__(paver, Path(path) / "files")
+        self.shim, self.counted = shim, Path(path) / "count"
+        self.path.mkdir()
+
+    def refusing(self, words, **refuse):
+        environment = {"LD_PRELOAD": str(self.shim), "REFUSE_COUNT": str(self.counted),
                        **{name.upper(): str(value) for name, value in refuse.items()}}
-        done = subprocess.run([self.paver, *words], cwd=self.folder / "files", env=environment, capture_output=True,
-                              timeout=SECONDS, check=False)
-        return done.returncode, done.stdout, done.stderr
-
-    def files(self):
-        return {path.name: path.read_bytes() for path in (self.folder / "files").iterdir()}
-
-    def count(self):
-        return int((self.folder / "count").read_text())
+        return answered(self.paver, self.path, *words, env=environment)
 
     def prepare(self):
-        files = self.folder / "files"
-        files.mkdir()
-        (files / "s").write_bytes(SOLID)
-        (files / "r").write_bytes(RECIPROCAL)
-        (files / "d").write_bytes(TWO_DISCS)
-        (files / "bad").write_bytes(b"Variables x in [0,4]; Constraints x <= ; end\n")
+        for name, text in (("s", SOLID), ("r", RECIPROCAL), ("d", TWO_DISCS),
+                           ("bad", b"Variables x in [0,4]; Constraints x <= ; end\n")):
+            self.put(name, text)
         for name, budget in (("part", "1"), ("other", "2"), ("whole", "100")):
-            self.call(["run", "r", *QUARTER, "--boxes", budget, "--out", name])
-        self.call(["run", "s", *QUARTER, "--out", "plane"])
-        self.call(["run", "s", *FINE, "--out", "many"])
-        self.call(["run-centered", "s", *QUARTER, "--out", "centered"])
-        head = (files / "whole").read_bytes().split(b"\n")[:2]
-        (files / "foul").write_bytes(b"\n".join([*head, b"I = =", b""]))
+            self.call("run", "r", *QUARTER, "--boxes", budget, "--out", name)
+        self.call("run", "s", *QUARTER, "--out", "plane")
+        self.call("run", "s", *FINE, "--out", "many")
+        self.call("run-centered", "s", *QUARTER, "--out", "centered")
+        head = self.get("whole").split(b"\n")[:2]
+        self.put("foul", b"\n".join([*head, b"I = =", b""]))
 
     def try_command(self, status, words, stored):
         before = self.files()
-        wanted = self.call(words)
-        count, after = self.count(), self.files()
+        wanted = self.refusing(words)
+        count, after = int(self.counted.read_text()), self.files()
         new = after.get(stored)
         if wanted[0] != status or (stored and not new):
             self.faults.append(f"{' '.join(words)}: status {wanted[0]} where nothing is refused, {wanted[2]!r}")
@@ -110,12 +101,12 @@ class Tried:
         for how in ("refuse", "refuse_from"):
             for n in tried:
                 self.remove(stored)
-                got = self.call(words, **{how: n})
+                got = self.refusing(words, **{how: n})
                 self.judge(words, how, n, got, wanted, before, stored, new)
 
     def remove(self, stored):
         if stored:
-            (self.folder / "files" / stored).unlink(missing_ok=True)
+            (self.path / stored).unlink(missing_ok=True)
 
     def judge(self, words, how, n, got, wanted, before, stored, new):
         status, out, err = got
@@ -142,31 +133,20 @@ def built_shim(folder):
 
 
 def tried_all(kind, listed):
-    """Tries the commands whose names contain a word, each in a folder of its own."""
-    paver, word = os.path.abspath(sys.argv[1]), sys.argv[2] if len(sys.argv) > 2 else ""
-    passed = failed = 0
+    """Tries the commands whose names contain a word, each in a folder of its own; the status of the runner."""
     with tempfile.TemporaryDirectory() as made:
         shim = built_shim(made)
         if not shim:
             print("skipped: there is no C compiler here")
-            print("0 passed, 0 failed")
+            Count().end()
             return 0
-        for name, (status, words, stored) in listed.items():
-            if word not in name:
-                continue
-            folder = Path(made) / name.replace(" ", "_")
-            folder.mkdir()
-            tried = kind(paver, shim, folder)
-            tried.prepare()
-            try:
-                tried.try_command(status, words, stored)
-            except (subprocess.TimeoutExpired, OSError, ValueError) as fault:
-                tried.faults.append(str(fault))
-            passed, failed = passed + (not tried.faults), failed + bool(tried.faults)
-            for fault in tried.faults[:6]:
-                print(f"{name}: {fault}")
-    print(f"{passed} passed, {failed} failed")
-    return 1 if failed or not passed else 0
+        return judged([(name, faults_in_folder, partial(kind, shim), partial(tried, command))
+                       for name, command in listed.items()]).end()
+
+
+def tried(command, folder):
+    folder.prepare()
+    folder.try_command(*command)
 
 
 if __name__ == "__main__":

@@ -8,11 +8,10 @@ find the database sound, with the rows of whole rounds, and of all of them where
 file may change. Needs a C compiler, and says so where there is none. The last line is 'N passed, M failed'.
 """
 import sys
-from pathlib import Path
 
-sys.path.insert(0, str(Path(__file__).resolve().parents[1]))
-from allocations import QUARTER, Tried, tried_all  # noqa: E402
-from campaigns import ROWS, is_stage, make, stock, identity_of  # noqa: E402
+from allocations import Tried, tried_all
+from campaigns import ROWS, identity_of, is_stage, make, stock
+from paving_files import QUARTER
 
 ENDINGS = ["", "-wal", "-shm", "-journal"]
 
@@ -42,11 +41,10 @@ class TriedCampaign(Tried):
 
     def remove(self, stored):
         """The database as the call finds it."""
-        files = self.folder / "files"
         for ending in ENDINGS:
-            (files / f"{stored}{ending}").unlink(missing_ok=True)
+            (self.path / f"{stored}{ending}").unlink(missing_ok=True)
         if stored in self.begun:
-            make(files / stored, *self.begun[stored])
+            make(self.path / stored, *self.begun[stored])
 
     def others(self, files, stored):
         return {name: text for name, text in files.items() if name not in [stored + ending for ending in ENDINGS]}
@@ -66,14 +64,14 @@ class TriedCampaign(Tried):
                                f"others kept {kept}, sound {sound}, rows {rows}")
 
     def rows(self, stored):
-        if not (self.folder / "files" / stored).exists():
+        if not (self.path / stored).exists():
             return True, []
-        sound, _, rows = stock(self.folder / "files", stored)
+        sound, _, rows = stock(self.path, stored)
         return sound, rows
 
     def try_command(self, status, words, stored):
         self.remove(stored)
-        self.call(words)
+        self.call(*words)
         self.wanted_rows = self.rows(stored)[1]
         if status == 0 and self.wanted_rows != ROWS:
             self.faults.append(f"{' '.join(words)}: {self.wanted_rows} where nothing is refused")

@@ -19,13 +19,12 @@ import time
 from fractions import Fraction
 from pathlib import Path
 
-sys.path.insert(0, str(Path(__file__).resolve().parents[1]))
-from data.cases import RECIPROCAL, USAGE, system  # noqa: E402
-from paving_files import QUARTER, WHOLE_SUMMARY, call  # noqa: E402
-from reference import files  # noqa: E402
-from reference.paver import halves, node_line  # noqa: E402
+from running import SECONDS, Folder, answered, judged_in_folders, word
+from data.cases import RECIPROCAL, USAGE, system
+from paving_files import QUARTER, WHOLE_SUMMARY, call
+from reference import files
+from reference.paver import node_line
 
-SECONDS = 120
 KILLS = 50
 NOBODY = 65534
 SHORT_LOG = 55
@@ -84,22 +83,25 @@ def stock(folder, name):
     return sound, identity and identity[0], rows
 
 
-class Campaigns:
+class Campaigns(Folder):
     """A folder in which campaigns run, and what was not as wanted."""
 
-    def __init__(self, paver, name, source):
-        self.paver, self.path, self.source, self.faults = paver, Path(name), source, []
+    def __init__(self, paver, path):
+        super().__init__(paver, path)
+        self.source = random.Random(int(word(3) or 1))
 
     def words(self, rounds, boxes, options, name, text):
-        (self.path / "s").write_bytes(text)
-        return [self.paver, "campaign", "s", f"--keep={name}", *options, "--rounds", str(rounds), "--boxes", str(boxes)]
+        self.put("s", text)
+        return ["campaign", "s", f"--keep={name}", *options, "--rounds", str(rounds), "--boxes", str(boxes)]
 
-    def run(self, status, out=b"", err=b"", rounds=1, boxes=1, options=QUARTER, name="k", text=RECIPROCAL, **how):
+    def run(self, status, out=b"", err=b"", rounds=1, boxes=1, options=QUARTER, name="k", text=RECIPROCAL):
         words = self.words(rounds, boxes, options, name, text)
-        got = subprocess.run(words, cwd=self.path, stdin=subprocess.DEVNULL, capture_output=True, timeout=SECONDS, check=False, **how)
-        if (got.returncode, got.stderr) != (status, err) or (out is not None and got.stdout != out):
-            self.faults.append(f"{words[1:]}: {(got.returncode, got.stdout, got.stderr)} in place of {(status, out, err)}")
-        return got
+        given = answered(self.paver, self.path, *words)
+        if given != (status, given[1] if out is None else out, err):
+            self.faults.append(f"{words}: {given} in place of {(status, out, err)}")
+
+    def start(self, *words):
+        return subprocess.Popen([self.paver, *words], cwd=self.path, stdout=subprocess.DEVNULL, stderr=subprocess.DEVNULL)
 
     def keeps(self, rows, name="k", identity=None):
         """Stock sqlite3 finds these rows, in this order, and the identity."""
@@ -109,8 +111,8 @@ class Campaigns:
 
     def contents(self):
         """The bytes of each file, but for logs that are too short to hold anything, which an open may leave."""
-        found = {p.name: p.read_bytes() for p in self.path.iterdir() if p.is_file() and p.name != "s"}
-        return {name: data for name, data in found.items() if len(data) > SHORT_LOG or not name.endswith("-wal")}
+        return {name: data for name, data in self.files().items()
+                if name != "s" and (len(data) > SHORT_LOG or not name.endswith("-wal"))}
 
     def refused(self, name="k", status=10, err=None, **how):
         """A campaign ends with a status and a line, prints nothing and leaves each file as it was."""
@@ -162,11 +164,11 @@ def names_are_those_of_files(f):
 
 
 def words_are_judged(f):
-    (f.path / "s").write_bytes(RECIPROCAL)
+    f.put("s", RECIPROCAL)
     for words in (["--rounds", "0"], ["--rounds", "101"], ["--rounds", "x"], ["--out", "o"], ["--boxes", "0"]):
-        got = subprocess.run([f.paver, "campaign", "s", "--keep", "k", *words], cwd=f.path, capture_output=True, check=False)
-        if (got.returncode, got.stdout, got.stderr) != (2, b"", USAGE) or f.contents():
-            f.faults.append(f"{words}: {got}")
+        given = answered(f.paver, f.path, "campaign", "s", "--keep", "k", *words)
+        if given != (2, b"", USAGE) or f.contents():
+            f.faults.append(f"{words}: {given}")
     f.run(8, b"", b"tree limit: 0 settled\n", rounds=100, boxes=1001)
     f.keeps([])
 
@@ -213,7 +215,7 @@ def databases_that_hold_no_campaign(f):
                       ("columns", "CREATE TABLE head (a TEXT, b TEXT);")):
         sqlite3.connect(f.path / name).executescript(sql).connection.close()
         f.refused(name)
-    (f.path / "text").write_bytes(b"Variables x in [0,1];\n" * 400)
+    f.put("text", b"Variables x in [0,1];\n" * 400)
     f.refused("text")
     make(f.path / "twice", ROWS, identity)
     os.link(f.path / "twice", f.path / "second name")
@@ -224,13 +226,13 @@ def databases_that_hold_no_campaign(f):
 
 def databases_cut_short(f):
     f.run(0, WHOLE_SUMMARY, boxes=5)
-    whole = (f.path / "k").read_bytes()
+    whole = f.get("k")
     for length in sorted({1, 15, 16, 100, 511, 512, 4095, 4096, 4097, len(whole) - 1} | {f.source.randrange(2, len(whole)) for _ in range(10)}):
         (f.path / "k-wal").unlink(missing_ok=True)
-        (f.path / "k").write_bytes(whole[:length])
+        f.put("k", whole[:length])
         if length > 1:
             f.refused()
-    (f.path / "k").write_bytes(b"")
+    f.put("k", b"")
     f.run(0, WHOLE_SUMMARY, boxes=5)
     f.keeps(ROWS)
 
@@ -249,8 +251,7 @@ def locked_databases(f):
 
 
 def one_campaign_at_a_time(f):
-    words = f.words(100, 50, DISC_EPS, "k", DISC)
-    first = subprocess.Popen(words, cwd=f.path, stdout=subprocess.DEVNULL, stderr=subprocess.DEVNULL)
+    first = f.start(*f.words(100, 50, DISC_EPS, "k", DISC))
     while not (f.path / "k").exists() or (f.path / "k").stat().st_size == 0:
         time.sleep(0.001)
     os.kill(first.pid, 19)
@@ -264,20 +265,19 @@ def folders_that_may_not_be_written(f):
     f.run(1, ONE_SUMMARY)
     with tempfile.TemporaryDirectory() as name:
         os.chmod(name, 0o755)
-        folder = Campaigns(shutil.copy(f.paver, Path(name) / "paver"), Path(name) / "closed", f.source)
+        folder = Campaigns(shutil.copy(f.paver, Path(name) / "paver"), Path(name) / "closed")
         folder.path.mkdir()
         for file in ("k", "k-wal"):
             if (f.path / file).exists():
                 shutil.copy(f.path / file, folder.path / file)
                 os.chmod(folder.path / file, 0o444)
-        (folder.path / "s").write_bytes(RECIPROCAL)
+        folder.put("s", RECIPROCAL)
         os.chmod(folder.path, 0o555)
-        words = [folder.paver, "campaign", "s", "--keep=k", *QUARTER]
         before = folder.contents()
-        got = subprocess.run(words, cwd=folder.path, capture_output=True, check=False, **({"user": NOBODY} if os.geteuid() == 0 else {}))
+        given = answered(folder.paver, folder.path, "campaign", "s", "--keep=k", *QUARTER, **({"user": NOBODY} if os.geteuid() == 0 else {}))
         os.chmod(folder.path, 0o755)
-        if (got.returncode, got.stdout, got.stderr) != (10, b"", FAULT) or folder.contents() != before:
-            f.faults.append(f"in a folder that may not be written: {got}")
+        if given != (10, b"", FAULT) or folder.contents() != before:
+            f.faults.append(f"in a folder that may not be written: {given}")
 
 
 def full_disks(f):
@@ -287,11 +287,11 @@ def full_disks(f):
         for file in ("k", "k-wal"):
             (f.path / file).unlink(missing_ok=True)
         words = f.words(5, 1, QUARTER, "k", RECIPROCAL)
-        got = subprocess.run(words, cwd=f.path, capture_output=True, check=False, restore_signals=False,
-                             preexec_fn=lambda size=size: resource.setrlimit(resource.RLIMIT_FSIZE, (size, size)))
-        ended = got.returncode == 0
-        if not ended and (got.returncode, got.stdout, got.stderr) != (10, b"", FAULT):
-            f.faults.append(f"files of {size} bytes: {got}")
+        given = answered(f.paver, f.path, *words, restore_signals=False,
+                         preexec_fn=lambda size=size: resource.setrlimit(resource.RLIMIT_FSIZE, (size, size)))
+        ended = given[0] == 0
+        if not ended and given != (10, b"", FAULT):
+            f.faults.append(f"files of {size} bytes: {given}")
         f.run(0, WHOLE_SUMMARY, rounds=5)
         f.keeps(ROWS)
     if not ended:
@@ -315,17 +315,16 @@ def is_stage(rows, whole, boxes):
 
 def killed_campaigns(f):
     boxes, kills, number = 7, 0, 0
-    (f.path / "s").write_bytes(DISC)
-    subprocess.run([f.paver, "run", "s", *DISC_EPS, "--out", "whole"], cwd=f.path, stdout=subprocess.DEVNULL, check=True)
+    f.put("s", DISC)
+    f.call("run", "s", *DISC_EPS, "--out", "whole")
     reference = call(DISC, eps=Fraction(1, 64))
-    rows = rows_of(reference.read("whole", (f.path / "whole").read_bytes()))
+    rows = rows_of(reference.read("whole", f.get("whole")))
     identity, whole = bytes.fromhex(reference.identity), set(rows)
     start = time.perf_counter()
     f.run(1, None, rounds=100, boxes=boxes, options=DISC_EPS, name="timed", text=DISC)
     spent = time.perf_counter() - start
     while kills < KILLS and not f.faults:
-        words = f.words(100, boxes, [*DISC_EPS, "--workers", f.source.choice("124")], f"k{number}", DISC)
-        process = subprocess.Popen(words, cwd=f.path, stdout=subprocess.DEVNULL, stderr=subprocess.DEVNULL)
+        process = f.start(*f.words(100, boxes, [*DISC_EPS, "--workers", f.source.choice("124")], f"k{number}", DISC))
         time.sleep(f.source.random() * spent)
         process.kill()
         status = process.wait()
@@ -347,9 +346,8 @@ def little_memory(f):
         for limit in range(400 * 4096, 1 << 27, 16 << 10):
             for kept in f.path.glob("k*"):
                 kept.unlink()
-            got = subprocess.run(f.words(5, boxes, options, "k", RECIPROCAL), cwd=f.path, stdin=subprocess.DEVNULL,
-                                 capture_output=True, timeout=SECONDS, check=False,
-                                 preexec_fn=lambda limit=limit: resource.setrlimit(resource.RLIMIT_AS, (limit, limit)))
+            got = f.call(*f.words(5, boxes, options, "k", RECIPROCAL),
+                         preexec_fn=lambda limit=limit: resource.setrlimit(resource.RLIMIT_AS, (limit, limit)))
             if got.returncode in (127, -signal.SIGSEGV, -signal.SIGKILL):
                 continue
             sound, _, rows = stock(f.path, "k") if (f.path / "k").exists() else (True, None, [])
@@ -370,21 +368,5 @@ CHECKS = [rounds_are_kept, tables_are_strict, names_are_those_of_files, words_ar
           folders_that_may_not_be_written, full_disks, little_memory, killed_campaigns]
 
 
-def main():
-    paver = os.path.abspath(sys.argv[1])
-    word = sys.argv[2] if len(sys.argv) > 2 else ""
-    seed = int(sys.argv[3]) if len(sys.argv) > 3 else 1
-    passed = failed = 0
-    for check in (check for check in CHECKS if word in check.__name__):
-        with tempfile.TemporaryDirectory() as name:
-            folder = Campaigns(paver, name, random.Random(seed))
-            check(folder)
-        passed, failed = passed + (not folder.faults), failed + bool(folder.faults)
-        for fault in folder.faults[:5]:
-            print(f"{check.__name__}: {fault}"[:1500])
-    print(f"{passed} passed, {failed} failed")
-    return 1 if failed or not passed else 0
-
-
 if __name__ == "__main__":
-    sys.exit(main())
+    sys.exit(judged_in_folders(Campaigns, CHECKS))

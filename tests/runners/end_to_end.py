@@ -7,47 +7,31 @@ output and standard error, its status, and the files that are there afterwards.
 runs the cases whose names contain WORD. The last line is 'N passed, M failed'.
 """
 import hashlib
-import os
-import subprocess
 import sys
 import tempfile
-from pathlib import Path
 
-sys.path.insert(0, str(Path(__file__).resolve().parents[1]))
-from data.cases import CASES  # noqa: E402
-from data.examples import CENTERED, EXAMPLES  # noqa: E402
-from data.reader_cases import canonical  # noqa: E402
-from soundness import faults_of_paving  # noqa: E402
-
-HERE = Path(__file__).resolve().parent
-TOP = HERE.parents[1]
-SECONDS = 120
-
-
-def run(paver, words, folder, stdout=subprocess.PIPE):
-    return subprocess.run([paver, *words], cwd=folder, stdin=subprocess.DEVNULL, stdout=stdout,
-                          stderr=subprocess.PIPE, timeout=SECONDS)
-
-
-def contents(folder):
-    return {p.name: p.read_bytes() for p in sorted(folder.iterdir()) if p.is_file()}
+from running import TOP, Folder, judged, program, run
+from data.cases import CASES
+from data.examples import CENTERED, EXAMPLES
+from data.reader_cases import canonical
+from soundness import faults_of_paving
 
 
 def faults_of_case(paver, case):
     """What is wrong with the answer to a case, as a list of lines."""
     with tempfile.TemporaryDirectory() as name:
-        folder = Path(name)
+        folder = Folder(paver, name)
         for file, data in case.files.items():
-            (folder / file).write_bytes(data)
+            folder.put(file, data)
         for made in case.folders:
-            (folder / made).mkdir()
-        before = contents(folder)
+            (folder.path / made).mkdir()
+        before = folder.files()
         if case.full_disk:
             with open("/dev/full", "wb") as full:
-                answer = run(paver, case.words, folder, full)
+                answer = folder.call(*case.words, stdout=full)
         else:
-            answer = run(paver, case.words, folder)
-        after = contents(folder)
+            answer = folder.call(*case.words)
+        after = folder.files()
     faults = []
     if answer.returncode != case.status:
         faults.append(f"status {answer.returncode} in place of {case.status}")
@@ -63,7 +47,7 @@ def faults_of_case(paver, case):
 def faults_of_example(paver, command, name, words, expected):
     """An example has to print what the slow reference printed, and its paving has to be sound at sampled points."""
     system = TOP / "examples" / f"{name}.mbx"
-    answer = run(paver, [command, str(system), *words], HERE)
+    answer = run(paver, TOP, command, system, *words)
     if answer.returncode not in (0, 1):
         return [f"status {answer.returncode}, {answer.stderr!r}"]
     digest, summary = expected[name]
@@ -79,7 +63,7 @@ def faults_of_example(paver, command, name, words, expected):
 def faults_of_check(paver, name):
     """The canonical text of an example, beside that of the reference reader."""
     system = TOP / "examples" / f"{name}.mbx"
-    answer = run(paver, ["check", str(system)], HERE)
+    answer = run(paver, TOP, "check", system)
     wanted = canonical(system.read_text())
     return [] if answer.returncode == 0 and answer.stdout == wanted else [f"{answer.stdout[:300]!r} {answer.stderr!r}"]
 
@@ -90,26 +74,14 @@ def expected_summaries(file):
 
 
 def main():
-    paver, word = os.path.abspath(sys.argv[1]), sys.argv[2] if len(sys.argv) > 2 else ""
+    paver = program()
     expected, by_slopes = expected_summaries("summaries.txt"), expected_summaries("centered_summaries.txt")
-    checks = [(case.name, faults_of_case, (paver, case)) for case in CASES]
-    checks += [(f"example {name}", faults_of_example, (paver, "run", name, words, expected)) for name, words in EXAMPLES]
-    checks += [(f"centered example {name}", faults_of_example, (paver, "run-centered", name, words, by_slopes))
+    checks = [(case.name, faults_of_case, paver, case) for case in CASES]
+    checks += [(f"example {name}", faults_of_example, paver, "run", name, words, expected) for name, words in EXAMPLES]
+    checks += [(f"centered example {name}", faults_of_example, paver, "run-centered", name, words, by_slopes)
                for name, words in EXAMPLES if name in CENTERED]
-    checks += [(f"check of {name}", faults_of_check, (paver, name)) for name, _ in EXAMPLES]
-    passed = failed = 0
-    for name, check, arguments in checks:
-        if word not in name:
-            continue
-        try:
-            faults = check(*arguments)
-        except (subprocess.TimeoutExpired, OSError) as fault:
-            faults = [str(fault)]
-        passed, failed = passed + (not faults), failed + bool(faults)
-        for fault in faults:
-            print(f"{name}: {fault}")
-    print(f"{passed} passed, {failed} failed")
-    return 1 if failed or not passed else 0
+    checks += [(f"check of {name}", faults_of_check, paver, name) for name, _ in EXAMPLES]
+    return judged(checks).end()
 
 
 if __name__ == "__main__":

@@ -9,24 +9,20 @@ and what is no campaign is a fault of the keeper. Where bytes were changed the m
 no other rows than those of the full tree with status 0 and 1, and no change with another status. The last line is
 'N passed, M failed'.
 """
-import os
 import random
 import sqlite3
-import subprocess
 import sys
 import tempfile
 from fractions import Fraction
-from pathlib import Path
 
-sys.path.insert(0, str(Path(__file__).resolve().parents[1]))
-from campaigns import QUARTER, ROWS, TABLES, identity_of, rows_of, stock  # noqa: E402
-from paving_files import call  # noqa: E402
-from data.cases import RECIPROCAL, system  # noqa: E402
-from reference import files  # noqa: E402
+from running import Count, Folder, answered, count_and_seed, faults_of, program
+from campaigns import FAULT as LINE, QUARTER, TABLES, identity_of, rows_of, stock
+from paving_files import call
+from data.cases import RECIPROCAL, system
+from reference import files
 
-SECONDS = 60
 TWO = system("x in [0,1], y in [-1,2]", "x*y <= 0.5; x + y >= 0")
-FAULT = (10, b"", b"keeper fault: k\n")
+FAULT = (10, b"", LINE)
 LINES = ["X", "O", "", "C", "X ", "I 0:0 1:0", "S 0:0 1:-2", "C 0 1:-1 0:0 1:0", "C 1 1:-1 0:0 1:0", "I 1:0 0:0", "é", "X" * 660, "X" * 661]
 LOOSE = TABLES.replace(") STRICT", ")")
 OTHERS = [TABLES.replace("TEXT PRIMARY KEY", "BLOB PRIMARY KEY"), TABLES.replace("path TEXT PRIMARY KEY NOT NULL", "path TEXT"),
@@ -104,15 +100,17 @@ def altered(source, rows):
     return rows
 
 
-class Fuzz:
-    def __init__(self, paver, folder, source):
-        self.paver, self.folder, self.source = paver, folder, source
+class Fuzz(Folder):
+    """A folder with a database that is made anew at each turn, and what was not as wanted at the last one."""
+
+    def __init__(self, paver, path, source):
+        super().__init__(paver, path)
+        self.source = source
         self.models = [Model(RECIPROCAL, QUARTER, eps=Fraction(1, 4)), Model(TWO, ["--eps", "0.5"], eps=Fraction(1, 2))]
-        self.faults = []
 
     def write(self, rows, identity, tables):
         """A database by stock sqlite3 in a random form."""
-        connection = sqlite3.connect(self.folder / "k", isolation_level=None)
+        connection = sqlite3.connect(self.path / "k", isolation_level=None)
         size, mode = self.source.choice([512, 1024, 4096, 4096, 32768]), self.source.choice(["DELETE", "WAL", "PERSIST"])
         connection.executescript(f"PRAGMA page_size = {size}; PRAGMA journal_mode = {mode};{tables}")
         connection.execute("INSERT INTO head VALUES (1, ?)", [identity])
@@ -122,10 +120,8 @@ class Fuzz:
         connection.close()
 
     def run(self, model, boxes=100):
-        (self.folder / "s").write_bytes(model.text)
-        words = [self.paver, "campaign", "s", "--keep", "k", "--boxes", str(boxes), *model.options]
-        got = subprocess.run(words, cwd=self.folder, stdin=subprocess.DEVNULL, capture_output=True, timeout=SECONDS, check=False)
-        return got.returncode, got.stdout, got.stderr
+        self.put("s", model.text)
+        return answered(self.paver, self.path, "campaign", "s", "--keep", "k", "--boxes", str(boxes), *model.options)
 
     def judge(self, wanted, got, title):
         if wanted != got:
@@ -134,7 +130,7 @@ class Fuzz:
     def goes_on(self, model, got, before, title):
         """A campaign that was gone on with to its end keeps the full tree where its rows were the tree's."""
         if got[0] == 0 and set(before) <= set(model.full):
-            self.judge((True, model.identity, model.full), stock(self.folder, "k"), title)
+            self.judge((True, model.identity, model.full), stock(self.path, "k"), title)
 
     def rows(self):
         """Good tables with rows of any kind."""
@@ -151,19 +147,19 @@ class Fuzz:
             self.goes_on(model, got, rows, title)
         else:
             self.judge((wanted[0], b"", wanted[1]), got, title)
-            self.judge((True, identity, sorted(rows)), stock(self.folder, "k"), title)
+            self.judge((True, identity, sorted(rows)), stock(self.path, "k"), title)
 
     def tables(self):
         """Tables of another form: they are gone on with as they are, or are a fault, and stay as they are but for an identity."""
         model, tables = self.source.choice(self.models), self.source.choice(OTHERS)
-        connection = sqlite3.connect(self.folder / "k", isolation_level=None)
+        connection = sqlite3.connect(self.path / "k", isolation_level=None)
         connection.executescript(tables)
         before = connection.execute("SELECT * FROM sqlite_master").fetchall()
         connection.close()
         got = self.run(model)
         if got[0] not in (0, 1, 4):
             self.judge(FAULT, got, tables)
-            connection = sqlite3.connect(self.folder / "k")
+            connection = sqlite3.connect(self.path / "k")
             after = connection.execute("SELECT * FROM sqlite_master").fetchall()
             held = [row[1] for row in after if row[1] != "head" and row[0] == "table"
                     and connection.execute(f"SELECT count(*) FROM {row[1]}").fetchone() != (0,)]
@@ -175,7 +171,7 @@ class Fuzz:
         model = self.source.choice(self.models)
         rows = stage(self.source, model.full)
         self.write(rows, model.identity, TABLES)
-        data, kind = bytearray((self.folder / "k").read_bytes()), self.source.randrange(4)
+        data, kind = bytearray(self.get("k")), self.source.randrange(4)
         if kind == 0:
             del data[self.source.randrange(1, len(data)):]
         elif kind == 1:
@@ -185,9 +181,9 @@ class Fuzz:
             data[self.source.randrange(min(100, len(data)))] ^= 1 << self.source.randrange(8)
         else:
             name = self.source.choice(["k-wal", "k-journal"])
-            (self.folder / name).write_bytes(self.source.choice([b"", self.source.randbytes(600), b"\x37\x7f\x06\x82" + self.source.randbytes(5000),
-                                                                bytes.fromhex("d9d505f920a163d7") + self.source.randbytes(600)]))
-        (self.folder / "k").write_bytes(data)
+            self.put(name, self.source.choice([b"", self.source.randbytes(600), b"\x37\x7f\x06\x82" + self.source.randbytes(5000),
+                                               bytes.fromhex("d9d505f920a163d7") + self.source.randbytes(600)]))
+        self.put("k", data)
         got, title = self.run(model), f"damage {kind}"
         if got[0] in (0, 1):
             self.judge(b"", got[2], title)
@@ -197,30 +193,24 @@ class Fuzz:
             self.judge((b"", b"paving k: "), (got[1], got[2][:10]), title)
         else:
             self.judge(FAULT, got, title)
-            self.judge(bytes(data), (self.folder / "k").read_bytes(), title)
+            self.judge(bytes(data), self.get("k"), title)
 
     def turn(self):
-        for file in self.folder.iterdir():
+        for file in self.path.iterdir():
             file.unlink()
-        before = len(self.faults)
+        self.faults = []
         self.source.choice([self.rows, self.rows, self.rows, self.tables, self.damage, self.damage])()
-        return len(self.faults) == before
+        return self.faults
 
 
 def main():
-    paver = os.path.abspath(sys.argv[1])
-    count = int(sys.argv[2]) if len(sys.argv) > 2 else 300
-    seed = int(sys.argv[3]) if len(sys.argv) > 3 else 1
-    passed = failed = 0
+    turns, seed = count_and_seed(300)
+    count = Count()
     with tempfile.TemporaryDirectory() as name:
-        fuzz = Fuzz(paver, Path(name), random.Random(seed))
-        for _ in range(count):
-            good = fuzz.turn()
-            passed, failed = passed + good, failed + (not good)
-        for fault in fuzz.faults[:10]:
-            print(fault[:1000])
-    print(f"{passed} passed, {failed} failed")
-    return 1 if failed or not passed else 0
+        fuzz = Fuzz(program(), name, random.Random(seed))
+        for turn in range(turns):
+            count.judge(f"turn {turn}", faults_of(fuzz.turn))
+    return count.end()
 
 
 if __name__ == "__main__":

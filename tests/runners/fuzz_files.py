@@ -6,19 +6,16 @@ of full trees, and random edits of them; and one file of each version with each 
 
 The last line is 'N passed, M failed'. Words whose answer differs are printed with both answers.
 """
-import os
 import random
-import subprocess
 import sys
 import tempfile
 from fractions import Fraction
-from pathlib import Path
 
-sys.path.insert(0, str(Path(__file__).resolve().parents[1]))
-from data.cases import system  # noqa: E402
-from paving_files import call  # noqa: E402
-from reference import files  # noqa: E402
-from reference.commands import answer  # noqa: E402
+from running import Count, Folder, answered, count_and_seed, program
+from data.cases import system
+from paving_files import call
+from reference import files
+from reference.commands import answer
 
 SYSTEMS = [
     (system("x in [0,1]", "1/x >= 0"), ["--eps", "0.25"], {"eps": Fraction(1, 4)}),
@@ -171,25 +168,18 @@ def are_same(words, got, wanted):
 
 
 def main():
-    paver = os.path.abspath(sys.argv[1])
-    count = int(sys.argv[2]) if len(sys.argv) > 2 else 1000
-    maker = Maker(random.Random(int(sys.argv[3]) if len(sys.argv) > 3 else 1))
-    passed = failed = 0
+    rounds, seed = count_and_seed(1000)
+    maker, count = Maker(random.Random(seed)), Count()
     with tempfile.TemporaryDirectory() as name:
-        folder = Path(name)
-        for words, made, work in maker.works(count):
-            (folder / "o").unlink(missing_ok=True)
+        folder = Folder(program(), name)
+        for words, made, work in maker.works(rounds):
+            (folder.path / "o").unlink(missing_ok=True)
             for file, data in made.items():
-                (folder / file).write_bytes(data)
-            got = subprocess.run([paver, *words], cwd=folder, stdin=subprocess.DEVNULL, capture_output=True, timeout=120)
-            stored = (folder / "o").read_bytes() if (folder / "o").exists() else None
+                folder.put(file, data)
+            given = *answered(folder.paver, folder.path, *words), folder.files().get("o")
             wanted = answer(work)
-            same = are_same(words, (got.returncode, got.stdout, got.stderr, stored), wanted)
-            passed, failed = passed + same, failed + (not same)
-            if not same and failed <= 10:
-                print(words, (got.returncode, got.stdout[:200], got.stderr, stored), "in place of", wanted, made)
-    print(f"{passed} passed, {failed} failed")
-    return 1 if failed or not passed else 0
+            count.compare(are_same(words, given, wanted), f"{words} over {made}", given, wanted)
+    return count.end()
 
 
 if __name__ == "__main__":

@@ -6,17 +6,14 @@ encodings, of random bytes, and with sizes round the limits.
 
 The last line is 'N passed, M failed'. A text that differs is printed with both answers.
 """
-import os
 import random
-import subprocess
 import sys
 import tempfile
 import threading
-from pathlib import Path
 
-sys.path.insert(0, str(Path(__file__).resolve().parents[1]))
-from data.reader_cases import canonical  # noqa: E402
-from reference.faults import line_of  # noqa: E402
+from running import Count, Folder, answered, count_and_seed, program
+from data.reader_cases import canonical
+from reference.faults import line_of
 
 NAMES = ["x", "y", "z", "k", "f", "g", "a", "b", "_t", "x1", "in", "oo", "min", "sqr", "sin", "pi", "End", "end",
          "Variables", "return", "abs", "undeclared"]
@@ -182,20 +179,14 @@ def wanted_of(data):
 
 
 def main():
-    paver = os.path.abspath(sys.argv[1])
-    count, seed = (int(word) for word in (sys.argv[2:] + ["800", "1"][len(sys.argv) - 2:])[:2])
-    passed = failed = 0
-    with tempfile.TemporaryDirectory() as folder:
-        for data in texts(count, seed):
-            (Path(folder) / "s").write_bytes(data)
-            done = subprocess.run([paver, "check", "s"], cwd=folder, capture_output=True, timeout=60)
-            given, wanted = (done.returncode, done.stdout, done.stderr), wanted_of(data)
-            same = given == wanted
-            passed, failed = passed + same, failed + (not same)
-            if not same and failed < 6:
-                print(f"{data[:600]!r}\n  given {str(given)[:400]}\n  wanted {str(wanted)[:400]}")
-    print(f"{passed} passed, {failed} failed")
-    return failed > 0
+    count = Count()
+    with tempfile.TemporaryDirectory() as name:
+        folder = Folder(program(), name)
+        for data in texts(*count_and_seed(800)):
+            folder.put("s", data)
+            given, wanted = answered(folder.paver, folder.path, "check", "s"), wanted_of(data)
+            count.compare(given == wanted, data, given, wanted)
+    return count.end()
 
 
 if __name__ == "__main__":
@@ -205,4 +196,4 @@ if __name__ == "__main__":
     thread = threading.Thread(target=lambda: result.append(main()))
     thread.start()
     thread.join()
-    sys.exit(0 if result == [False] else 1)
+    sys.exit(0 if result == [0] else 1)

@@ -7,21 +7,18 @@ Each system is paved by one worker, whose leaves come in preorder, and by severa
 done; what is stored is audited by both, gone on with, kept by a campaign, searched for a least value, and drawn. The last
 line is 'N passed, M failed'; a call that differs is printed with both answers.
 """
-import os
 import random
-import subprocess
 import sys
 import tempfile
 from fractions import Fraction
-from pathlib import Path
 
-HERE = Path(__file__).resolve().parent
-sys.path[:0] = [str(HERE.parent), str(HERE.parent / "generators")]
-from data.reader_cases import canonical  # noqa: E402
-from pictures import picture  # noqa: E402
-from reference import least, minibex  # noqa: E402
-from reference.commands import Call, answer  # noqa: E402
-from reference.numbers import DOWN, from_fraction, is_finite  # noqa: E402
+from running import Count, Folder, answered, count_and_seed, program
+from data.reader_cases import canonical
+from fuzz_words import Programs
+from pictures import picture
+from reference import least, minibex
+from reference.commands import Call, answer
+from reference.numbers import DOWN, from_fraction, is_finite
 
 PLAIN = ["0", "1", "2", "3", "0.1", "0.5", "1.5", "0.3333", "7", "10"]
 ODD = ["1e-3", "1e3", "2.5e-10", "1e15", "1e30", "1e36", "1e-36", "1e-20", "123456789012345678901234567890",
@@ -33,7 +30,7 @@ SETTINGS = {"eps": ["0.125", "0", "1", "0.5", "1e-36", "1e36", "0.1", "3", "1e-5
 
 
 class Systems:
-    """Makes systems of a few variables, expressions over them, and contractor texts."""
+    """Makes systems of a few variables, expressions over them, and settings."""
 
     def __init__(self, source):
         self.source = source
@@ -42,21 +39,17 @@ class Systems:
         return self.source.choice(PLAIN if self.source.random() < 0.7 else PLAIN + ODD)
 
     def expression(self, depth, names):
-        kind = self.source.randrange(12 if depth > 0 else 2)
-        if kind == 0:
-            return self.number()
-        if kind == 1:
-            return self.source.choice(names)
+        kind, pick = self.source.randrange(12 if depth > 0 else 2), self.source.choice
+        if kind < 2:
+            return pick(names) if kind else self.number()
         inner = self.expression(depth - 1, names)
-        if kind == 2:
-            return f"-({inner})"
-        if kind == 3:
-            return f"{self.source.choice(['abs', 'sqr'])}({inner})"
-        if kind == 4:
-            return f"{self.source.choice(['min', 'max'])}({inner}, {self.expression(depth - 1, names)})"
+        if kind < 4:
+            return f"{pick(['abs', 'sqr']) if kind == 3 else '-'}({inner})"
         if kind == 5:
-            return f"({inner})^{self.source.choice([0, 1, 2, 3, 4, 5, 7, 8, 31, 32])}"
-        return f"({inner}) {self.source.choice('//**+-')} ({self.expression(depth - 1, names)})"
+            return f"({inner})^{pick([0, 1, 2, 3, 4, 5, 7, 8, 31, 32])}"
+        sign = pick(["min", "max"] if kind == 4 else "//**+-")
+        other = self.expression(depth - 1, names)
+        return f"{sign}({inner}, {other})" if kind == 4 else f"({inner}) {sign} ({other})"
 
     def domain(self):
         low, high = sorted((self.source.choice(["", "-"]) + self.number() for _ in range(2)), key=Fraction)
@@ -72,48 +65,38 @@ class Systems:
         variables = ", ".join(name + self.domain() for name in names)
         return f"Variables {variables};\nConstraints {'; '.join(constraints)}; end\n", names, count
 
-    def contract(self, count, depth):
-        kind = self.source.choice(["hc4", "prop", "fix", "compose", "union", "qinter"][:6 if depth else 2])
-        if kind == "hc4":
-            return f"hc4({self.source.randrange(count)})"
-        if kind == "prop":
-            return f"prop({self.source.choice([1, 2, 8, 64])})"
-        if kind == "fix":
-            return f"fix({self.source.choice([1, 3, 64])},{self.contract(count, depth - 1)})"
-        parts = [self.contract(count, depth - 1) for _ in range(self.source.choice([1, 2, 3]))]
-        head = f"{self.source.randint(1, len(parts))}," if kind == "qinter" else ""
-        return f"{kind}({head}{','.join(parts)})"
-
     def settings(self, count):
         found = {name: self.source.choice(values) for name, values in SETTINGS.items()}
-        found["contract"] = "prop(8)" if self.source.random() < 0.5 else self.contract(count, self.source.randrange(3))
+        programs = Programs(self.source, count, [1, 2, 3])
+        found["contract"] = "prop(8)" if self.source.random() < 0.5 else programs.good(self.source.randrange(3))
         return found
 
 
 class Comparison:
     """A system, its settings and a budget: the program's answers beside the reference's."""
 
-    def __init__(self, calls, made, settings, budget, centered):
-        self.calls, self.settings, self.budget, self.centered = calls, settings, budget, centered
+    def __init__(self, folder, count, source, made, settings, budget, centered):
+        self.folder, self.count, self.source = folder, count, source
+        self.settings, self.budget, self.centered = settings, budget, centered
         self.text, self.names, _ = made
-        self.source = calls.source
         self.system = minibex.read(self.text)
         self.known = Call(self.system, canonical(self.text), centered, eps=Fraction(settings["eps"]), depth=settings["depth"],
                           bisector=settings["bisect"], contract=settings["contract"])
-        (calls.folder / "s").write_text(self.text)
-        for left in (*calls.folder.glob("p*"), *calls.folder.glob("k*")):
+        for left in folder.path.iterdir():
             left.unlink()
+        folder.put("s", self.text.encode())
 
     def name(self, command):
         return f"{command}-centered" if self.centered else command
 
     def is_as(self, wanted, *words):
         """The call has this answer; where leaves are open, several workers settle as many nodes as one."""
-        given = self.calls.run(*words, *(f"--{name}={value}" for name, value in self.settings.items()))
+        options = (f"--{name}={value}" for name, value in self.settings.items())
+        given = answered(self.folder.paver, self.folder.path, *words, *options)
         good = given == tuple(wanted[:3])
         if wanted[0] == 1 and words[0] in SETTLING and "--workers=1" not in words:
             good = (given[0], given[1].split()[:2], given[2]) == (1, wanted[1].split()[:2], b"")
-        self.calls.count(good, f"{words} {self.settings}\n{self.text}", given, wanted[:3])
+        self.count.compare(good, f"{words} {self.settings}\n{self.text}", given, wanted[:3])
 
     def paved(self):
         """By one worker and by several, and stored; what is stored is honest by both."""
@@ -121,9 +104,9 @@ class Comparison:
         self.is_as(self.known.run(self.budget, None), self.name("run"), "s", boxes, "--workers=1")
         wanted = self.known.run(self.budget, "p")
         self.is_as(wanted, self.name("run"), "s", boxes, f"--workers={self.source.choice([2, 3, 16])}", "--out=p")
-        stored = (self.calls.folder / "p").read_bytes()
+        stored = self.folder.get("p")
         if wanted[0] == 0:
-            self.calls.count(stored == wanted[3], f"the file of\n{self.text}", stored, wanted[3])
+            self.count.compare(stored == wanted[3], f"the file of\n{self.text}", stored, wanted[3])
         self.is_as(answer(lambda: self.known.audit("p", stored)), self.name("audit"), "s", "p")
         self.is_as((0, b"honest\n", b""), self.name("audit"), "s", "p")
         return stored
@@ -160,36 +143,19 @@ class Comparison:
             self.drawn(stored)
 
 
-class Calls:
-    """Calls of the binary in a folder, and how many of them answered as they should."""
-
-    def __init__(self, paver, folder, source):
-        self.paver, self.folder, self.source, self.passed, self.failed = paver, folder, source, 0, 0
-
-    def run(self, *words):
-        done = subprocess.run([self.paver, *words], cwd=self.folder, capture_output=True, timeout=120, check=False)
-        return done.returncode, done.stdout, done.stderr
-
-    def count(self, good, what, given, wanted):
-        self.passed, self.failed = self.passed + good, self.failed + (not good)
-        if not good and self.failed < 6:
-            print(f"{what}\n  given {str(given)[:400]}\n  wanted {str(wanted)[:400]}")
-
-
 def main():
-    count, seed = (int(word) for word in (sys.argv[2:] + ["40", "1"][len(sys.argv) - 2:])[:2])
-    source = random.Random(seed)
+    rounds, seed = count_and_seed(40)
+    source, count = random.Random(seed), Count()
     systems = Systems(source)
-    with tempfile.TemporaryDirectory() as folder:
-        calls = Calls(os.path.abspath(sys.argv[1]), Path(folder), source)
-        for _ in range(count):
+    with tempfile.TemporaryDirectory() as name:
+        folder = Folder(program(), name)
+        for _ in range(rounds):
             made = systems.system()
             budget = source.choice([1, 2, 3, 5, 10, 25, 40])
-            Comparison(calls, made, systems.settings(made[2]), budget, source.random() < 0.3).all()
-    print(f"{calls.passed} passed, {calls.failed} failed")
-    return calls.failed > 0
+            Comparison(folder, count, source, made, systems.settings(made[2]), budget, source.random() < 0.3).all()
+    return count.end()
 
 
 if __name__ == "__main__":
     sys.setrecursionlimit(20_000)
-    sys.exit(1 if main() else 0)
+    sys.exit(main())

@@ -8,45 +8,41 @@ reference does. Good words of each command, in any order and with either spellin
 same call answers in its plain form, and words with one thing wrong end with the usage line. The last line is
 'N passed, M failed'; a call that differs is printed with both answers.
 """
-import os
 import random
-import subprocess
 import sys
 import tempfile
 from fractions import Fraction
-from pathlib import Path
 
-sys.path.insert(0, str(Path(__file__).resolve().parents[1]))
-from data.cases import USAGE, system  # noqa: E402
-from data.reader_cases import canonical  # noqa: E402
-from reference import least, minibex  # noqa: E402
-from reference.commands import Call  # noqa: E402
-from reference.faults import first_expression_fault  # noqa: E402
-from reference.programs import refused_at  # noqa: E402
-from runners.fuzz_reader import Maker  # noqa: E402
+from running import Count, Folder, answered, count_and_seed, program
+from data.cases import USAGE, system
+from fuzz_reader import Maker
+from paving_files import call
+from reference import least, minibex
+from reference.faults import first_expression_fault
+from reference.programs import refused_at
 
 CONSTRAINTS = 3
 SYSTEM = system("x in [0,4], y in [0,4]", "x + y <= 4; x >= 1; y^2 <= x")
-NAMES = ["hc4", "compose", "union", "qinter", "fix", "prop"]
+NAMES = ["hc4", "prop", "fix", "compose", "union", "qinter"]
 PIECES = ["(", ")", ",", "0", "1", "2", "3", "64", "65", "256", "257", "00", "01", "-1", "1.0", " ", "\n", "hc", "hc4x",
           "Prop", "8a", "\u00e9", "((", "()", ",,", "9" * 30] + NAMES
 
 
 class Programs:
-    """Makes contractor texts."""
+    """Makes contractor texts for a system of so many constraints, with lists of these lengths."""
 
-    def __init__(self, source):
-        self.source = source
+    def __init__(self, source, constraints, lengths):
+        self.source, self.constraints, self.lengths = source, constraints, lengths
 
     def good(self, depth):
-        kind = self.source.choice(NAMES if depth else ["hc4", "prop"])
+        kind = self.source.choice(NAMES if depth else NAMES[:2])
         if kind == "hc4":
-            return f"hc4({self.source.randrange(CONSTRAINTS)})"
+            return f"hc4({self.source.randrange(self.constraints)})"
         if kind == "prop":
             return f"prop({self.source.choice([1, 2, 8, 64])})"
         if kind == "fix":
             return f"fix({self.source.choice([1, 3, 64])},{self.good(depth - 1)})"
-        parts = [self.good(depth - 1) for _ in range(self.source.choice([1, 2, 3, 5]))]
+        parts = [self.good(depth - 1) for _ in range(self.source.choice(self.lengths))]
         head = f"{self.source.randint(1, len(parts))}," if kind == "qinter" else ""
         return f"{kind}({head}{','.join(parts)})"
 
@@ -189,50 +185,42 @@ class Words:
 READ = minibex.read(SYSTEM.decode())
 
 
-def called(**settings):
-    return Call(READ, canonical(SYSTEM.decode()), **settings)
+def known(**settings):
+    return call(SYSTEM, **{"eps": Fraction(1, 8)} | settings)
 
 
-class Calls:
-    """Calls of the binary, and how many of them answered as they should."""
+class Calls(Folder):
+    """A folder in which each call is made beside the reference's."""
 
-    def __init__(self, paver, folder):
-        self.paver, self.folder, self.passed, self.failed = paver, folder, 0, 0
-        self.wide = called(eps=Fraction(4)).settler
+    def __init__(self, paver, path):
+        super().__init__(paver, path)
+        self.count, self.wide = Count(), known(eps=Fraction(4)).settler
 
     def answer(self, words):
         """The answer of a call that finds no campaign."""
-        for kept in Path(self.folder).glob("k*"):
+        for kept in self.path.glob("k*"):
             kept.unlink()
-        done = subprocess.run([self.paver, *words], cwd=self.folder, capture_output=True, timeout=60, check=False)
-        return done.returncode, done.stdout, done.stderr
+        return answered(self.paver, self.path, *words)
 
-    def check(self, words, given, wanted):
-        good = given == wanted
-        self.passed, self.failed = self.passed + good, self.failed + (not good)
-        if not good and self.failed < 6:
-            print(f"{words}\n  given {str(given)[:300]}\n  wanted {str(wanted)[:300]}")
+    def is_as(self, wanted, words):
+        given = self.answer(words)
+        self.count.compare(given == wanted, words, given, wanted)
 
     def program(self, text):
-        words = ["run", "s", "--boxes=1", "--eps=0.125", f"--contract={text}"]
-        status, out, err = self.answer(words)
         place = refused_at(text.encode(), CONSTRAINTS)
-        if place is None:
-            self.check(words, (status, out, err), called(contract=text).run(1, None)[:3])
-        else:
-            self.check(words, (status, out, err), (2, b"", f"contract: refused at byte {place}\n".encode()))
+        wanted = known(contract=text).run(1, None)[:3] if place is None else (
+            2, b"", f"contract: refused at byte {place}\n".encode())
+        self.is_as(wanted, ["run", "s", "--boxes=1", "--eps=0.125", f"--contract={text}"])
 
+    def least(self, text):
+        lower, found, _, done = least.least(self.wide, least.expression(READ, text), 1)
+        lines = "".join(line + "\n" for line in least.printed(lower, found))
+        return 0 if done else 1, lines.encode(), b""
 
     def objective(self, text):
-        words = ["least", "s", "--boxes=1", "--eps=4", f"--of={text}"]
-        status, out, err = self.answer(words)
         fault = first_expression_fault(text.encode(), ["x", "y"])
-        if fault is None:
-            lower, found, _, done = least.least(self.wide, least.expression(READ, text), 1)
-            lines = "".join(line + "\n" for line in least.printed(lower, found))
-            self.check(words, (status, out, err), (0 if done else 1, lines.encode(), b""))
-        else:
-            self.check(words, (status, out, err), (2, b"", "objective: byte {}: {}\n".format(*fault).encode()))
+        wanted = self.least(text) if fault is None else (2, b"", "objective: byte {}: {}\n".format(*fault).encode())
+        self.is_as(wanted, ["least", "s", "--boxes=1", "--eps=4", f"--of={text}"])
 
 
 def objectives(source, count):
@@ -245,31 +233,28 @@ def objectives(source, count):
 
 
 def main():
-    count, seed = (int(word) for word in (sys.argv[2:] + ["600", "1"][len(sys.argv) - 2:])[:2])
+    count, seed = count_and_seed(600)
     source = random.Random(seed)
     words = Words(source)
-    with tempfile.TemporaryDirectory() as folder:
-        (Path(folder) / "s").write_bytes(SYSTEM)
-        for name, budget in (("p", 3), ("q", 9)):
-            (Path(folder) / name).write_bytes(called().run(budget, "o")[3])
-        calls = Calls(os.path.abspath(sys.argv[1]), folder)
-        for text in Programs(source).texts(count // 4):
+    with tempfile.TemporaryDirectory() as name:
+        calls = Calls(program(), name)
+        calls.put("s", SYSTEM)
+        for paving, budget in (("p", 3), ("q", 9)):
+            calls.put(paving, known().run(budget, "o")[3])
+        for text in Programs(source, CONSTRAINTS, [1, 2, 3, 5]).texts(count // 4):
             calls.program(text)
         for text in objectives(source, count // 4):
             calls.objective(text)
         for _ in range(count // 4):
             made, plain = words.good()
-            calls.check(made, calls.answer(made), calls.answer(plain))
+            calls.is_as(calls.answer(plain), made)
         for _ in range(count // 4):
-            made = words.bad()
-            calls.check(made, calls.answer(made), (2, b"", USAGE))
+            calls.is_as((2, b"", USAGE), words.bad())
         for _ in range(10):
-            made = words.bytes_that_are_no_text()
-            calls.check(made, calls.answer(made), (2, b"", USAGE))
-    print(f"{calls.passed} passed, {calls.failed} failed")
-    return calls.failed > 0
+            calls.is_as((2, b"", USAGE), words.bytes_that_are_no_text())
+    return calls.count.end()
 
 
 if __name__ == "__main__":
     sys.setrecursionlimit(20_000)
-    sys.exit(1 if main() else 0)
+    sys.exit(main())

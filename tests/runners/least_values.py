@@ -8,32 +8,26 @@ printed bounds. No rational member that is drawn has a value below the lower bou
 expression is defined, and its value is at most the upper bound. Lines and status are those of the plain paver. The examples
 are asked with growing budgets, as the gallery shows them. The last line is 'N passed, M failed'.
 """
-import os
-import subprocess
 import sys
 import tempfile
 from pathlib import Path
 
-TOP = Path(__file__).resolve().parents[2]
-sys.path.insert(0, str(TOP))
-sys.path.insert(1, str(TOP / "tests"))
-from tests.data.examples import LEAST, least_answers  # noqa: E402
-from tests.generators.least_vectors import GROUPS, HUGE, NONE, UNBOUNDED, members  # noqa: E402
-from tests.reference import least, minibex  # noqa: E402
-from tests.reference.numbers import NEG_INF, POS_INF, as_fraction, is_finite  # noqa: E402
-from tests.reference.paver import Settler  # noqa: E402
-from tests.runners.soundness import end  # noqa: E402
+from running import TOP, judged, program, run, word
+from data.examples import LEAST, least_answers
+from least_vectors import GROUPS, HUGE, NONE, UNBOUNDED, members
+from reference import least, minibex
+from reference.numbers import NEG_INF, POS_INF, as_fraction, is_finite
+from reference.paver import Settler
+from soundness import end
 
 DRAWN = 2000  # points of one system; those that are members are looked at
 MEMBERS = 10_000  # so many of all systems at least
-SECONDS = 120
 
 
 def ask(paver, text, *words):
     with tempfile.TemporaryDirectory() as folder:
         (Path(folder) / "s").write_text(text)
-        return subprocess.run([paver, "least", "s", *words], cwd=folder, stdin=subprocess.DEVNULL, capture_output=True,
-                              timeout=SECONDS, check=False)
+        return run(paver, folder, "least", "s", *words)
 
 
 def is_above(number, value_there):
@@ -85,56 +79,39 @@ def read(text):
     return lower, (end(lines[1][1]), [end(word) for word in lines[2][1:]])
 
 
-def looked_at(paver, domains, constraints, of, budget, known):
+def faults_of_case(looked, domains, constraints, of, budget, known):
+    """What is wrong with the answer to a case; how many members were looked at is added to a list."""
     text = f"Variables {domains}; Constraints {constraints}; end"
     system = minibex.read(text)
     e = least.expression(system, of)
-    answer = ask(paver, text, f"--of={of}", f"--boxes={budget}")
+    answer = ask(program(), text, f"--of={of}", f"--boxes={budget}")
     lower, found, _, done = least.least(Settler(system), e, budget)
     wanted = "".join(f"{line}\n" for line in least.printed(lower, found)).encode()
     if answer.stderr or answer.returncode != (0 if done else 1) or answer.stdout != wanted:
-        return [f"status {answer.returncode}, {answer.stdout!r} {answer.stderr!r} in place of {wanted!r}"], 0
+        return [f"status {answer.returncode}, {answer.stdout!r} {answer.stderr!r} in place of {wanted!r}"]
     lower, found = read(answer.stdout)
-    faults, looked = faults_of_members(system, e, lower)
+    faults, more = faults_of_members(system, e, lower)
+    looked.append(more)
     faults += faults_of_known(lower, found, known)
-    faults += faults_of_point(system, e, *found) if found is not None else []
-    return faults, looked
+    return faults + (faults_of_point(system, e, *found) if found is not None else [])
 
 
-def faults_of_example(paver, name, words, wanted):
-    system = TOP / "examples" / f"{name}.mbx"
-    answer = subprocess.run([paver, "least", str(system), *words], stdin=subprocess.DEVNULL, capture_output=True,
-                            timeout=SECONDS, check=False)
+def faults_of_example(name, words, wanted):
+    answer = run(program(), TOP, "least", TOP / "examples" / f"{name}.mbx", *words)
     given = " ".join([str(answer.returncode), *answer.stdout.decode().split()])
     return [] if given == wanted and not answer.stderr else [f"{given} {answer.stderr!r} in place of {wanted}"]
 
 
 def main():
-    paver, word = os.path.abspath(sys.argv[1]), sys.argv[2] if len(sys.argv) > 2 else ""
-    passed = failed = looked = 0
-    for group in GROUPS.values():
-        for case in group:
-            name = f"{case[1]}: {case[2]}"
-            if word not in name:
-                continue
-            faults, more = looked_at(paver, *case)
-            looked += more
-            passed, failed = passed + (not faults), failed + bool(faults)
-            for fault in faults:
-                print(f"{name}: {fault}")
-    print(f"{looked} members looked at")
-    if not word and looked < MEMBERS:
-        failed += 1
+    looked, answers = [], least_answers()
+    checks = [(f"{case[1]}: {case[2]}", faults_of_case, looked, *case) for group in GROUPS.values() for case in group]
+    checks += [(" ".join([name, *words]), faults_of_example, name, words, answers[name, tuple(words)]) for name, words in LEAST]
+    count = judged(checks)
+    print(f"{sum(looked)} members looked at")
+    if not word() and sum(looked) < MEMBERS:
+        count.failed += 1
         print(f"fewer than {MEMBERS} members")
-    answers = least_answers()
-    for name, words in LEAST:
-        if word in name:
-            faults = faults_of_example(paver, name, words, answers[name, tuple(words)])
-            passed, failed = passed + (not faults), failed + bool(faults)
-            for fault in faults:
-                print(f"{name} {' '.join(words)}: {fault}")
-    print(f"{passed} passed, {failed} failed")
-    return 1 if failed or not passed else 0
+    return count.end()
 
 
 if __name__ == "__main__":

@@ -13,11 +13,10 @@ import signal
 import subprocess
 import sys
 import time
-from pathlib import Path
 
-sys.path.insert(0, str(Path(__file__).resolve().parents[1]))
-from data.cases import RECIPROCAL, system  # noqa: E402
-from outside import PRINTING, RING, SECONDS, Folder, checked, prepared  # noqa: E402
+from running import SECONDS, judged_in_folders
+from data.cases import system
+from outside import PRINTING, RING, Kept, prepared
 
 # Without a bound on the budget this runs for long: every node is a sliver of the plane.
 LONG = system("x in [0,9999999], y in [0,9999999]", "x < y")
@@ -31,7 +30,7 @@ def file_size_limit(f):
         def limited(handler=handler):
             resource.setrlimit(resource.RLIMIT_FSIZE, (512, 512))
             signal.signal(signal.SIGXFSZ, handler)
-        done = f.run("run", "s", "--out", "p", preexec_fn=limited)
+        done = f.call("run", "s", "--out", "p", preexec_fn=limited)
         assert (done.returncode, done.stdout, done.stderr) == (status, b"", line), done
         assert {name: text for name, text in f.files().items() if name != "p"} == before
 
@@ -55,8 +54,8 @@ def killed_in_a_store(f):
     refused when it is read. A pipe that is read slowly holds the store up until the signal has come."""
     f.put("s", RING)
     words = ["run", "s", "--eps", "0.00390625", "--boxes", "100000"]
-    summary = f.run(*words, "--out", "whole").stdout
-    whole = (f.path / "whole").read_bytes()
+    summary = f.call(*words, "--out", "whole").stdout
+    whole = f.get("whole")
     assert len(whole) > 200_000 and summary.count(b"\n") == 1
     os.mkfifo(f.path / "pipe")
     before = f.files()
@@ -81,8 +80,8 @@ def killed_at_any_time(f):
     f.put("s", RING)
     words = ["run", "s", "--eps", "0.00390625", "--boxes", "100000", "--out", "p"]
     start = time.perf_counter()
-    assert f.run(*words).returncode == 0
-    whole, spent = (f.path / "p").read_bytes(), time.perf_counter() - start
+    assert f.call(*words).returncode == 0
+    whole, spent = f.get("p"), time.perf_counter() - start
     before = {name: text for name, text in f.files().items() if name != "p"}
     for turn in range(40):
         f.put("p", b"as it was\n")
@@ -99,7 +98,7 @@ def stopped_and_continued(f):
     """A run that is stopped for a while and goes on answers what it would have answered."""
     f.put("s", RING)
     words = ["run", "s", "--eps", "0.00390625", "--boxes", "100000", "--workers", "4", "--out"]
-    summary = f.run(*words, "whole").stdout
+    summary = f.call(*words, "whole").stdout
     for _ in range(5):
         with subprocess.Popen([f.paver, *words, "p"], cwd=f.path, stdout=subprocess.PIPE) as child:
             for _ in range(5):
@@ -108,7 +107,7 @@ def stopped_and_continued(f):
                 time.sleep(0.005)
                 child.send_signal(signal.SIGCONT)
             assert (child.stdout.read(), child.wait(SECONDS)) == (summary, 0)
-        assert (f.path / "p").read_bytes() == (f.path / "whole").read_bytes()
+        assert f.get("p") == f.get("whole")
 
 
 # Calls of each command over the files of `prepared`, some by four workers, and the file that is stored.
@@ -117,13 +116,11 @@ STARVED = [(words, None) for words in PRINTING] + [
     (["run-centered", "s", "--workers", "4", "--out", "new"], "new"),
     (["resume", "s", "part", "--workers", "4", "--out", "new"], "new"), (["merge", "s", "part", "p", "--out", "new"], "new"), (["check", "bad"], None), (["audit", "s", "bad"], None),
     (["run", "no"], None), (["run", "s", "--eps"], None)]
-# The file that `prepared` made is what these store; a merge of a part and the whole is the whole.
-STORES = {"run": "p", "run-centered": "c", "resume": "p", "merge": "p"}
 
 
 def starts(f, words, limit):
     """Whether the program begins at all with so much address space: the loader says 127 where it doesn't."""
-    done = f.run(*words, preexec_fn=lambda: resource.setrlimit(resource.RLIMIT_AS, (limit, limit)))
+    done = f.call(*words, preexec_fn=lambda: resource.setrlimit(resource.RLIMIT_AS, (limit, limit)))
     return done.returncode not in (127, -signal.SIGSEGV, -signal.SIGKILL)
 
 
@@ -133,14 +130,14 @@ def little_memory(f):
     prepared(f)
     least = next(limit for limit in range(400 * 4096, 1 << 24, 16 << 10) if starts(f, ["check", "no"], limit))
     for words, stored in STARVED:
-        wanted = f.run(*words)
-        new = (f.path / stored).read_bytes() if stored else None
+        wanted = f.call(*words)
+        new = f.get(stored) if stored else None
         right = 0
         for limit in range(least, 1 << 27, 16 << 10):
             if stored:
                 (f.path / stored).unlink(missing_ok=True)
             before = f.files()
-            done = f.run(*words, preexec_fn=lambda limit=limit: resource.setrlimit(resource.RLIMIT_AS, (limit, limit)))
+            done = f.call(*words, preexec_fn=lambda limit=limit: resource.setrlimit(resource.RLIMIT_AS, (limit, limit)))
             now = f.files()
             held = now.pop(stored, None)
             assert now == before and held in (new, None), (words, limit)
@@ -167,7 +164,7 @@ def small_disk(f):
     try:
         f.put("s", RING)
         f.refused(["run", "s", "--eps", "0.00390625", "--boxes", "100000", "--out", "disk/p"], 6, b"write fault: disk/p\n")
-        assert f.run("run", "s", "--eps", "1", "--out", "disk/p").returncode == 0
+        assert f.call("run", "s", "--eps", "1", "--out", "disk/p").returncode == 0
     finally:
         subprocess.run(["umount", str(disk)], check=True)
 
@@ -209,7 +206,7 @@ def slow_texts(f):
         spent = []
         for _ in range(3):
             start = time.perf_counter()
-            f.run("check", "s")
+            f.call("check", "s")
             spent.append(time.perf_counter() - start)
         assert min(spent) < 0.3, (text[:60], spent)
 
@@ -222,7 +219,7 @@ DEEP = [system("x", "(" * 100 + "x" + ")" * 100 + "<=1"), system("x", "-" * 999 
 def little_stack(f):
     """A stack of 1 MiB is enough for the deepest texts, programs and trees, on the first thread and on workers."""
     def run(*words):
-        done = f.run(*words, preexec_fn=lambda: resource.setrlimit(resource.RLIMIT_STACK, (1 << 20, 1 << 20)))
+        done = f.call(*words, preexec_fn=lambda: resource.setrlimit(resource.RLIMIT_STACK, (1 << 20, 1 << 20)))
         assert done.returncode in (0, 1) and not done.stderr, (words, done)
     for text in DEEP:
         f.put("s", text)
@@ -261,7 +258,7 @@ def no_threads(f):
     """Where no thread can be started a run by several workers wants memory, or answers as it should. Root has no limit."""
     prepared(f)
     shutil.copy(f.paver, f.path / "program")
-    other = Folder(str(f.path / "program"), f.path)
+    other = Kept(str(f.path / "program"), f.path)
     os.chmod(f.path, 0o755)
 
     def limited():
@@ -269,9 +266,9 @@ def no_threads(f):
             os.setuid(65534)
         resource.setrlimit(resource.RLIMIT_NPROC, (1, 1))
     for words in PRINTING:
-        right = f.run(*words).stdout
+        right = f.call(*words).stdout
         workers = ["--workers", "4"] if words[0].startswith(("run", "resume")) else []
-        done = other.run(*words, *workers, preexec_fn=limited)
+        done = other.call(*words, *workers, preexec_fn=limited)
         answers = ((0, right, b""), (7, b"", b"want of memory\n"))
         assert (done.returncode, done.stdout, done.stderr) in answers, (words, done)
 
@@ -281,4 +278,4 @@ CHECKS = [file_size_limit, killed_in_the_middle, killed_in_a_store, killed_at_an
 
 
 if __name__ == "__main__":
-    sys.exit(checked(CHECKS))
+    sys.exit(judged_in_folders(Kept, CHECKS))

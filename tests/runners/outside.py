@@ -9,14 +9,11 @@ runs the checks whose names contain WORD. The last line is 'N passed, M failed'.
 import os
 import subprocess
 import sys
-import tempfile
 import time
-from pathlib import Path
 
-sys.path.insert(0, str(Path(__file__).resolve().parents[1]))
-from data.cases import HALF_LINE, RECIPROCAL, USAGE, system  # noqa: E402
+from running import SECONDS, Folder, judged_in_folders
+from data.cases import HALF_LINE, RECIPROCAL, USAGE, system
 
-SECONDS = 120
 RING = system("x in [-3,3], y in [-3,3]", "x^2 + y^2 >= 1; x^2 + y^2 <= 4")
 PRINT_FAULT = b"write fault: standard output\n"
 # A call of each command that prints, over the files of `prepared`.
@@ -33,27 +30,13 @@ REFUSED = [(["run", "--eps"], 2, USAGE), (["run", "s", "--contract", "x"], 2, b"
            (["run", "no"], 11, b"no file: no\n")]
 
 
-class Folder:
-    """The files of a run, and how they stood before it."""
+class Kept(Folder):
+    """A folder in which a call that is refused changes nothing."""
 
-    def __init__(self, paver, path):
-        self.paver, self.path = paver, Path(path)
-
-    def put(self, name, text):
-        (self.path / name).write_bytes(text)
-
-    def files(self):
-        return {path.name: path.read_bytes() for path in self.path.iterdir() if path.is_file()}
-
-    def run(self, *words, **more):
-        more.setdefault("stdout", subprocess.PIPE)
-        more.setdefault("stderr", subprocess.PIPE)
-        return subprocess.run([self.paver, *words], cwd=self.path, timeout=SECONDS, check=False, **more)
-
-    def refused(self, words, status, line, changed=(), **more):
+    def refused(self, words, status, line, changed=(), **how):
         """The call has this status and line, and changes nothing but the named files."""
         before = self.files()
-        done = self.run(*words, **more)
+        done = self.call(*words, **how)
         assert done.returncode == status, (words, done.returncode, done.stderr)
         assert done.stderr in (line, None), (words, done.stderr)
         after = {name: text for name, text in self.files().items() if name not in changed}
@@ -71,7 +54,7 @@ def prepared(f):
     f.put("bad", system("x in [0,4]", "x + <= 1"))
     for words in (["run", "s", "--out", "p"], ["run-centered", "s", "--out", "c"],
                   ["run", "s", "--boxes", "1", "--out", "part"]):
-        assert f.run(*words).returncode in (0, 1), words
+        assert f.call(*words).returncode in (0, 1), words
 
 
 def broken():
@@ -83,18 +66,18 @@ def broken():
 def closed_streams(f):
     prepared(f)
     for words in PRINTING:
-        whole = f.run(*words)
+        whole = f.call(*words)
         assert (whole.returncode, whole.stderr) == (0, b"") and whole.stdout, (words, whole)
         f.refused(words, 6, PRINT_FAULT, stdout=None, preexec_fn=closed(1))
-        done = f.run(*words, stdin=None, preexec_fn=closed(0))
+        done = f.call(*words, stdin=None, preexec_fn=closed(0))
         assert (done.returncode, done.stdout) == (0, whole.stdout), words
-        done = f.run(*words, stderr=None, preexec_fn=closed(2))
+        done = f.call(*words, stderr=None, preexec_fn=closed(2))
         assert (done.returncode, done.stdout) == (0, whole.stdout), words
     for words, status, _ in REFUSED:
         done = f.refused(words, status, None, stderr=None, preexec_fn=closed(2))
         assert done.stdout == b"", words
     f.refused(["run", "s", "--eps", "1", "--out", "q"], 6, PRINT_FAULT, changed=["q"], stdout=None, preexec_fn=closed(1))
-    done = f.run("audit", "s", "q", "--eps", "1")
+    done = f.call("audit", "s", "q", "--eps", "1")
     assert (done.returncode, done.stdout) == (0, b"honest\n"), done
 
 
@@ -114,7 +97,7 @@ def full_and_broken_streams(f):
 def campaigns_on_bad_streams(f):
     """A campaign saves all its rounds before it prints: a call after the fault finds them, and has nothing left to do."""
     prepared(f)
-    summary = f.run("run", "s").stdout.split(b"\n")[0] + b"\n"
+    summary = f.call("run", "s").stdout.split(b"\n")[0] + b"\n"
     kept = ["k", "k-wal", "k-shm", "k-journal"]
     words = ["campaign", "s", "--keep", "k"]
     for made in (lambda: open("/dev/full", "wb"), broken):
@@ -122,7 +105,7 @@ def campaigns_on_bad_streams(f):
             (f.path / name).unlink(missing_ok=True)
         with made() as stream:
             f.refused(words, 6, PRINT_FAULT, changed=kept, stdout=stream)
-        done = f.run(*words, "--boxes", "1")
+        done = f.call(*words, "--boxes", "1")
         assert (done.returncode, done.stdout, done.stderr) == (0, summary, b""), done
     words = ["campaign", "s", "--keep", "no/such"]
     f.refused(words, 10, b"keeper fault: no/such\n")
@@ -145,7 +128,7 @@ def reader_that_leaves(f):
 
 def slow_reader(f):
     f.put("s", RING)
-    whole = f.run("run", "s").stdout
+    whole = f.call("run", "s").stdout
     with subprocess.Popen([f.paver, "run", "s"], cwd=f.path, stdout=subprocess.PIPE) as child:
         said = b""
         while piece := os.read(child.stdout.fileno(), 997):
@@ -156,7 +139,7 @@ def slow_reader(f):
 
 def files_without_an_end(f):
     f.put("s", RECIPROCAL)
-    done = f.run("check", "/dev/zero")
+    done = f.call("check", "/dev/zero")
     assert (done.returncode, done.stdout) == (3, b"") and done.stderr.startswith(b"system: line 1 column "), done.stderr
     f.refused(["merge", "s", "/dev/zero"], 4, b"paving /dev/zero: too long\n")
     # 70,000,000 bytes are read, and the second line is no identity
@@ -180,7 +163,7 @@ def growing_file(f):
     with subprocess.Popen([sys.executable, "-c", grow], cwd=f.path) as child:
         try:
             for _ in range(5):
-                done = f.run("audit", "s", "p")
+                done = f.call("audit", "s", "p")
                 assert done.returncode == 4 and done.stderr.startswith(b"paving p: "), done
         finally:
             child.kill()
@@ -197,7 +180,7 @@ def growing_system(f):
         try:
             answers = set()
             for _ in range(2000):
-                done = f.run("check", "s")
+                done = f.call("check", "s")
                 answers.add(done.returncode)
                 assert done.stderr == wanted.get(done.returncode), done
                 if answers == {0, 3}:
@@ -211,18 +194,18 @@ def text_from_a_pipe(f):
     """A system that comes in pieces, with pauses; and a paving that goes into a pipe."""
     f.put("s", RING)
     os.mkfifo(f.path / "pipe")
-    whole = f.run("check", "s").stdout
+    whole = f.call("check", "s").stdout
     with subprocess.Popen([f.paver, "check", "pipe"], cwd=f.path, stdout=subprocess.PIPE) as child:
         with open(f.path / "pipe", "wb", buffering=0) as pipe:
             for at in range(len(RING)):
                 pipe.write(RING[at:at + 1])
                 time.sleep(0.001)
         assert (child.stdout.read(), child.wait(SECONDS)) == (whole, 0)
-    assert f.run("run", "s", "--out", "p").returncode == 0
+    assert f.call("run", "s", "--out", "p").returncode == 0
     with subprocess.Popen([f.paver, "run", "s", "--out", "pipe"], cwd=f.path, stdout=subprocess.DEVNULL) as child:
         with open(f.path / "pipe", "rb") as pipe:
             said = pipe.read()
-        assert (child.wait(SECONDS), said) == (0, (f.path / "p").read_bytes())
+        assert (child.wait(SECONDS), said) == (0, f.get("p"))
 
 
 def odd_names(f):
@@ -236,11 +219,11 @@ def odd_names(f):
         f.refused(["check", f"./{name}"], 5, b"read fault: ./" + odd + b"\n")
         (f.path / name).rmdir()
         f.put(name, HALF_LINE)
-        done = f.run("run", f"./{name}", "--out", "p")
+        done = f.call("run", f"./{name}", "--out", "p")
         assert done.returncode == 0, (name, done.stderr)
         f.refused(["audit", "s", f"./{name}"], 4, b"paving ./" + odd + b": bad line 1\n")
-        done = f.run("run", "s", "--out", f"./{name}")
-        assert (done.returncode, (f.path / name).read_bytes()) == (0, (f.path / "p").read_bytes()), name
+        done = f.call("run", "s", "--out", f"./{name}")
+        assert (done.returncode, f.get(name)) == (0, f.get("p")), name
     f.refused(["check", ""], 11, b"no file: \n")
     f.refused(["check", "n" * 4000], 5, b"read fault: " + b"n" * 4000 + b"\n")
 
@@ -251,7 +234,7 @@ def links_and_devices(f):
         (f.path / name).symlink_to(to)
     f.refused(["check", "loop"], 5, b"read fault: loop\n")
     f.refused(["check", "nowhere"], 11, b"no file: nowhere\n")
-    assert f.run("check", "link").returncode == 0
+    assert f.call("check", "link").returncode == 0
     f.refused(["check", "s/t"], 5, b"read fault: s/t\n")
     f.refused(["run", "s", "--out", "loop"], 6, b"write fault: loop\n")
     f.refused(["run", "s", "--out", "/dev/full"], 6, b"write fault: /dev/full\n")
@@ -270,24 +253,5 @@ CHECKS = [closed_streams, full_and_broken_streams, campaigns_on_bad_streams, rea
           growing_system, text_from_a_pipe, odd_names, links_and_devices, no_words]
 
 
-def checked(checks):
-    """Runs the checks whose names contain a word, each in a folder of its own."""
-    paver, word = os.path.abspath(sys.argv[1]), sys.argv[2] if len(sys.argv) > 2 else ""
-    passed = failed = 0
-    for check in checks:
-        name = check.__name__.replace("_", " ")
-        if word not in name:
-            continue
-        with tempfile.TemporaryDirectory() as made:
-            try:
-                check(Folder(paver, made))
-                passed += 1
-            except (AssertionError, subprocess.TimeoutExpired, OSError) as fault:
-                failed += 1
-                print(f"{name}: {str(fault)[:600]}")
-    print(f"{passed} passed, {failed} failed")
-    return 1 if failed or not passed else 0
-
-
 if __name__ == "__main__":
-    sys.exit(checked(CHECKS))
+    sys.exit(judged_in_folders(Kept, CHECKS))

@@ -7,20 +7,17 @@ and joined, and are audited; and bad files, names, folders and disks.
 runs the checks whose names contain WORD. The last line is 'N passed, M failed'.
 """
 import hashlib
-import os
 import subprocess
 import sys
-import tempfile
-from pathlib import Path
+from fractions import Fraction
 
-sys.path.insert(0, str(Path(__file__).resolve().parents[1]))
-from data.cases import HALF_LINE, NO_MORE, RECIPROCAL, USAGE, lines, system  # noqa: E402
-from data.reader_cases import canonical  # noqa: E402
-from reference import files, minibex, sample  # noqa: E402
-from reference.commands import Call, answer  # noqa: E402
-from fractions import Fraction  # noqa: E402
+from running import Folder, judged_in_folders
+from data.cases import HALF_LINE, NO_MORE, RECIPROCAL, USAGE, lines, system
+from data.reader_cases import canonical
+from reference import minibex, sample
+from reference.commands import Call, answer
+from reference.numbers import UNIT, spelling
 
-SECONDS = 300
 QUARTER = ["--eps", "0.25"]
 TWO_DISCS = b"""/* two discs and a line */
 Constants
@@ -55,25 +52,14 @@ def file_of(version, nodes, identity=IDENTITY):
     return lines(f"paving {version}", f"identity {identity}", *nodes)
 
 
-class Folder:
-    def __init__(self, paver, name):
-        self.paver, self.path, self.faults = paver, Path(name), []
+class Noted(Folder):
+    """A folder that notes what is not as wanted."""
 
-    def put(self, name, data):
-        (self.path / name).write_bytes(data)
-
-    def get(self, name):
-        return (self.path / name).read_bytes()
-
-    def contents(self):
-        return {p.name: p.read_bytes() for p in sorted(self.path.iterdir()) if p.is_file()}
-
-    def run(self, words, status, out=b"", err=b"", changed=(), stdout=subprocess.PIPE):
+    def run(self, words, status, out=b"", err=b"", changed=(), **how):
         """Runs a command, and notes what is not as wanted; `out` None says that it may be anything."""
-        before = self.contents()
-        got = subprocess.run([self.paver, *words], cwd=self.path, stdin=subprocess.DEVNULL, stdout=stdout,
-                             stderr=subprocess.PIPE, timeout=SECONDS)
-        after = self.contents()
+        before = self.files()
+        got = self.call(*words, **how)
+        after = self.files()
         if got.returncode != status:
             self.faults.append(f"{words}: status {got.returncode} in place of {status}")
         if out is not None and got.stdout != out:
@@ -83,7 +69,6 @@ class Folder:
         moved = {name for name in before | after if before.get(name) != after.get(name)}
         if moved - set(changed):
             self.faults.append(f"{words}: changed {sorted(moved)}")
-        return got
 
     def same(self, one, other):
         if subprocess.run(["cmp", "--silent", one, other], cwd=self.path).returncode:
@@ -215,13 +200,11 @@ def each_byte_replaced(f):
         whole = file_of(version, nodes)
         for n in range(len(whole)):
             f.put("f", whole[:n] + b"#" + whole[n + 1:])
-            got = f.run(["merge", "s", "f", *QUARTER], 4, err=f"paving f: bad line {whole[:n].count(10) + 1}\n".encode())
-            del got
+            f.run(["merge", "s", "f", *QUARTER], 4, err=f"paving f: bad line {whole[:n].count(10) + 1}\n".encode())
 
 
 def complete(levels, box, leaf="X"):
     """The version 1 node lines of complete cuts in halves."""
-    from reference.numbers import spelling
     if not levels:
         return [leaf]
     low, high = box
@@ -231,7 +214,6 @@ def complete(levels, box, leaf="X"):
 
 
 def big_trees(f):
-    from reference.numbers import UNIT
     f.put("s", RECIPROCAL)
     f.put("f", file_of(1, complete(16, (0, UNIT))))
     f.run(["merge", "s", "f", *QUARTER], 4, err=b"paving f: too many nodes at line 100003\n")
@@ -382,25 +364,5 @@ CHECKS = [stored_runs, resumed_runs, merged_files, audited_files, workers_store_
           words_that_are_no_text, settings_of_others, centered_files]
 
 
-def main():
-    paver, word = os.path.abspath(sys.argv[1]), sys.argv[2] if len(sys.argv) > 2 else ""
-    passed = failed = 0
-    for check in CHECKS:
-        name = check.__name__.replace("_", " ")
-        if word not in name:
-            continue
-        with tempfile.TemporaryDirectory() as made:
-            folder = Folder(paver, made)
-            try:
-                check(folder)
-            except (subprocess.TimeoutExpired, OSError) as fault:
-                folder.faults.append(str(fault))
-        passed, failed = passed + (not folder.faults), failed + bool(folder.faults)
-        for fault in folder.faults[:10]:
-            print(f"{name}: {fault}")
-    print(f"{passed} passed, {failed} failed")
-    return 1 if failed or not passed else 0
-
-
 if __name__ == "__main__":
-    sys.exit(main())
+    sys.exit(judged_in_folders(Noted, CHECKS))

@@ -5,14 +5,12 @@
 
 The sign ¶ stands right before the fault of a text. The last line is 'N passed, M failed'.
 """
-import os
-import subprocess
 import sys
 import tempfile
 from pathlib import Path
 
-sys.path.insert(0, str(Path(__file__).resolve().parents[1]))
-from data.reader_cases import C, FAULTS, GOOD, canonical, place  # noqa: E402
+from running import Count, answered, program
+from data.reader_cases import C, FAULTS, GOOD, canonical, place
 
 ONE = "x<=1"
 FUNCTIONS = [f"function f{k}(a) return a; end " for k in range(64)]
@@ -67,36 +65,28 @@ GOOD_LIMITS = [
 ]
 
 
-def check(paver, folder, text):
+def check(folder, text):
     (Path(folder) / "s").write_bytes(text)
-    return subprocess.run([paver, "check", "s"], cwd=folder, capture_output=True, timeout=60)
+    return answered(program(), folder, "check", "s")
 
 
-def is_refused(answer, cause, text, byte):
+def line_of(cause, text, byte):
     line, column = place(text, byte)
-    wanted = f"system: line {line} column {column} byte {byte}: {cause}\n".encode()
-    return answer.returncode == 3 and answer.stderr == wanted and answer.stdout == b""
+    return f"system: line {line} column {column} byte {byte}: {cause}\n".encode()
 
 
 def main():
-    paver = os.path.abspath(sys.argv[1])
-    passed = failed = 0
+    count = Count()
     with tempfile.TemporaryDirectory() as folder:
         for cause, marked in FAULTS + LIMITS:
             byte, text = len(marked[:marked.index("¶")].encode()), marked.replace("¶", "").encode()
-            answer = check(paver, folder, text)
-            good = is_refused(answer, cause, text, byte)
-            passed, failed = passed + good, failed + (not good)
-            if not good:
-                print(f"{marked[:200]!r}: {answer.stderr!r} in place of {cause} at byte {byte}")
+            given, wanted = check(folder, text), (3, b"", line_of(cause, text, byte))
+            count.compare(given == wanted, marked[:200], given, wanted)
         for text in GOOD + GOOD_LIMITS:
-            answer = check(paver, folder, text.encode())
-            good = answer.returncode == 0 and (text in GOOD_LIMITS or answer.stdout == canonical(text))
-            passed, failed = passed + good, failed + (not good)
-            if not good:
-                print(f"{text[:200]!r}: {answer.stdout[:200]!r} {answer.stderr!r}")
-    print(f"{passed} passed, {failed} failed")
-    return failed > 0
+            given = check(folder, text.encode())
+            wanted = 0, given[1] if text in GOOD_LIMITS else canonical(text), b""
+            count.compare(given == wanted, text[:200], given, wanted)
+    return count.end()
 
 
 if __name__ == "__main__":

@@ -9,16 +9,13 @@ import os
 import random
 import shutil
 import struct
-import subprocess
 import sys
-import tempfile
 import zlib
 from fractions import Fraction
-from pathlib import Path
+from functools import partial
 
-TOP = Path(__file__).resolve().parents[2]
-sys.path[:0] = [str(TOP / "tests"), str(TOP / "python")]
-import paver as package  # noqa: E402
+from running import TOP, Count, Folder, faults_in_folder, judged, program, run
+import paver as package
 
 FILL = {"removed": (0xCF, 0xD8, 0xDC), "inner": (0x43, 0xA0, 0x47), "small": (0xFD, 0xD8, 0x35)}
 PIXELS = 1000
@@ -106,17 +103,15 @@ class Read:
         self.inner, self.small = self.paving.inner, self.paving.small
 
 
-def compare(program, folder, name, words, axes, at):
-    system, stored, drawn = TOP / "examples" / f"{name}.mbx", folder / "stored", folder / "drawn.svg"
-    subprocess.run([program, "run", system, *words, "--out", stored], check=True, stdout=subprocess.DEVNULL, timeout=120)
+def compare(name, words, axes, at, folder):
+    system, stored = TOP / "examples" / f"{name}.mbx", folder.path / "stored"
+    assert folder.call("run", system, *words, "--out", stored).returncode == 0
     settings = [word for k in range(0, len(words), 2) if words[k] != "--boxes" for word in words[k:k + 2]]
     others = [f"--at={','.join(at.values())}"] if at else []
-    svg = subprocess.run([program, "svg", system, stored, *settings, "--x", axes[0], "--y", axes[1], *others],
-                         check=True, capture_output=True, timeout=120).stdout
-    drawn.write_bytes(svg)
-    png = subprocess.run(["rsvg-convert", str(drawn)], check=True, capture_output=True, timeout=120).stdout
+    folder.put("drawn.svg", folder.call("svg", system, stored, *settings, "--x", axes[0], "--y", axes[1], *others).stdout)
+    png = run("rsvg-convert", folder.path, "drawn.svg").stdout
     rows, chance = pixels_of(png), random.Random(1)
-    known = package.check(system, program=program)
+    known = package.check(system, program=folder.paver)
     plane = Plane(Read(stored, known), list(known.names), axes, at)
     seen = {kind: 0 for kind in FILL}
     for _ in range(PIXELS):
@@ -129,22 +124,13 @@ def compare(program, folder, name, words, axes, at):
 
 
 def main():
-    program = os.path.abspath(sys.argv[1])
-    os.environ["PAVER"] = program
+    os.environ["PAVER"] = program()
     if not shutil.which("rsvg-convert"):
-        print("skipped: there is no rsvg-convert here\n0 passed, 0 failed")
+        print("skipped: there is no rsvg-convert here")
+        Count().end()
         return 0
-    passed = failed = 0
-    for picture in PICTURES:
-        with tempfile.TemporaryDirectory() as folder:
-            try:
-                compare(program, Path(folder), *picture)
-                passed += 1
-            except (AssertionError, subprocess.SubprocessError, OSError) as fault:
-                failed += 1
-                print(f"{picture[0]} {picture[2]}: {fault}")
-    print(f"{passed} passed, {failed} failed")
-    return 1 if failed or not passed else 0
+    return judged([(f"{name} {axes}", faults_in_folder, Folder, partial(compare, name, words, axes, at))
+                   for name, words, axes, at in PICTURES]).end()
 
 
 if __name__ == "__main__":

@@ -10,42 +10,39 @@ import os
 import sys
 import time
 import traceback
-from pathlib import Path
 
-HERE = Path(__file__).resolve().parent
-TOP = HERE.parents[1]
-sys.path[:0] = [str(HERE.parent), str(TOP / "python")]
-import package_around  # noqa: E402
-import package_checks  # noqa: E402
-import package_pavings  # noqa: E402
-import package_tools  # noqa: E402
-from package_checks import Skipped  # noqa: E402
+from running import Count, is_chosen, program, word
+import package_around
+import package_checks
+import package_pavings
+import package_tools
+from package_checks import Skipped
+
+
+def judge(count, name, check, arguments):
+    """A check of any kind; one that ends in another way than by an assertion shows where."""
+    try:
+        check(*arguments)
+        count.judge(name, [])
+    except Skipped as reason:
+        print(f"skipped: {name}: {reason}")
+    except Exception as fault:
+        count.judge(name, [f"{type(fault).__name__}: {fault}"])
+        if not isinstance(fault, AssertionError):
+            traceback.print_exc()
 
 
 def main():
-    os.environ["PAVER"] = os.path.abspath(sys.argv[1])
-    word = sys.argv[2] if len(sys.argv) > 2 else ""
-    checks = [*package_checks.checks(), *package_pavings.checks(), *package_tools.checks(),
-              *package_around.checks()]
-    passed = failed = 0
-    for name, check, arguments in checks:
-        if word not in name:
-            continue
-        begun = time.monotonic()
-        try:
-            check(*arguments)
-            passed += 1
-        except Skipped as reason:
-            print(f"skipped: {name}: {reason}")
-        except Exception as fault:  # a check that ends in any other way has failed
-            failed += 1
-            print(f"{name}: {type(fault).__name__}: {fault}")
-            if not isinstance(fault, AssertionError):
-                traceback.print_exc()
-        if time.monotonic() - begun > 20:
-            print(f"{name}: took {time.monotonic() - begun:.0f} s")
-    print(f"{passed} passed, {failed} failed")
-    return 1 if failed or not passed else 0
+    os.environ["PAVER"] = program()
+    count = Count()
+    for name, check, arguments in [*package_checks.checks(), *package_pavings.checks(), *package_tools.checks(),
+                                   *package_around.checks()]:
+        if is_chosen(name, word()):
+            begun = time.monotonic()
+            judge(count, name, check, arguments)
+            if time.monotonic() - begun > 20:
+                print(f"{name}: took {time.monotonic() - begun:.0f} s")
+    return count.end()
 
 
 if __name__ == "__main__":

@@ -7,22 +7,14 @@ runs the examples whose names contain WORD, each TIMES times (1 where it isn't g
 and 16 workers. A run that its budget ends settles exactly the budget, and its file is a paving that `audit` calls
 honest; a done run has one worker's bytes, on its standard output too. The last line is 'N passed, M failed'.
 """
-import subprocess
 import sys
 import tempfile
 from pathlib import Path
 
-sys.path.insert(0, str(Path(__file__).resolve().parents[1]))
-from data.examples import EXAMPLES  # noqa: E402
+from running import TOP, judged, program, run, word
+from data.examples import EXAMPLES
 
-TOP = Path(__file__).resolve().parents[2]
-SECONDS = 120
 BUDGET = "150"
-
-
-def run(paver, folder, *words):
-    return subprocess.run([paver, *map(str, words)], cwd=folder, stdin=subprocess.DEVNULL, capture_output=True,
-                          timeout=SECONDS, check=False)
 
 
 def settings(words):
@@ -31,12 +23,13 @@ def settings(words):
             for word in words[k:k + 2]]
 
 
-def faults_of(paver, name, words, times):
+def fault_of(paver, name, words, times):
+    """What differs between one worker and several, or None."""
     system = TOP / "examples" / f"{name}.mbx"
     with tempfile.TemporaryDirectory() as folder:
         alone = run(paver, folder, "run", system, *words, "--workers", "1", "--out", "one")
         one = (Path(folder) / "one").read_bytes()
-        for workers in (2, 4, 16):
+        for workers in ("2", "4", "16"):
             for _ in range(times):
                 more = run(paver, folder, "run", system, *words, "--workers", workers, "--out", "more")
                 if more.returncode != alone.returncode or more.stderr:
@@ -52,7 +45,7 @@ def faults_of(paver, name, words, times):
 
 def printed_apart(paver, folder, system, words):
     """Whether a done run prints other bytes by another number of workers."""
-    return len({run(paver, folder, "run", system, *words, "--workers", count).stdout for count in (1, 2, 4, 16)}) > 1
+    return len({run(paver, folder, "run", system, *words, "--workers", count).stdout for count in ("1", "2", "4", "16")}) > 1
 
 
 def cut_short(paver, folder, system, words):
@@ -72,21 +65,14 @@ def cut_short(paver, folder, system, words):
     return None
 
 
+def faults_of_example(*example):
+    fault = fault_of(*example)
+    return [fault] if fault else []
+
+
 def main():
-    paver = str(Path(sys.argv[1]).resolve())
-    times = int(sys.argv[2]) if len(sys.argv) > 2 else 1
-    word = sys.argv[3] if len(sys.argv) > 3 else ""
-    passed = failed = 0
-    for name, words in EXAMPLES:
-        if word in name:
-            fault = faults_of(paver, name, words, times)
-            if fault:
-                print(f"{name}: {fault}")
-                failed += 1
-            else:
-                passed += 1
-    print(f"{passed} passed, {failed} failed")
-    return 1 if failed else 0
+    times = int(word(2) or 1)
+    return judged([(name, faults_of_example, program(), name, words, times) for name, words in EXAMPLES], word(3)).end()
 
 
 if __name__ == "__main__":
