@@ -16,13 +16,14 @@ from functools import partial
 from pathlib import Path
 
 from running import Count, Folder, answered, faults_in_folder, judged
-from data.cases import RECIPROCAL, system
-from paving_files import QUARTER, TWO_DISCS
+from data.cases import HALF_LINE, RECIPROCAL, system
+from paving_files import A, B, QUARTER, TWO_DISCS, file_of
 
 # Beyond so many allocations of one command every 7th is refused, and each of the last ones.
 EACH, LAST = 600, 150
 # By these the lines are so many that several workers make them.
 FINE = ["--eps", "0.0078125"]
+HALF_SQUARE = system("x in [0,2], y in [0,2]", "x <= 1")
 SOLID = system("x in [-2,2], y in [-2,2]", "x^2 + y^2 <= 2; x * y >= 0")
 
 
@@ -36,19 +37,22 @@ def commands():
     return {
         "check": (0, ["check", "s"], None),
         "check of a refused text": (3, ["check", "bad"], None),
+        "a half line": (0, ["run", "h"], None),
+        "a quotient": (0, ["run", "r", *QUARTER], None),
         "run by one": by(1, ["run", "s", "--boxes", "400"]),
         "run by four": by(4, ["run", "s", "--boxes", "400"]),
-        "two discs by two": by(2, ["run", "d"]),
+        "two discs by two": (0, ["run", "d", "--workers", "2"], None),
         "run out by one": by(1, ["run", "s"], "new"),
         "run out by four": by(4, ["run", "s"], "new"),
         "run-centered by one": by(1, ["run-centered", "s"]),
         "run-centered by four": by(4, ["run-centered", "s"]),
         "run-centered out": by(4, ["run-centered", "s"], "new"),
-        "resume by one": by(1, ["resume", "r", "part"], "new"),
-        "resume by four": by(4, ["resume", "r", "part"], "new"),
+        "resume by one": by(1, ["resume", "r", "part", "--boxes", "4"], "new"),
+        "resume by four": by(4, ["resume", "r", "part", "--boxes", "4"], "new"),
         "many lines by four": (0, ["resume", "s", "many", *FINE, "--workers", "4"], None),
         "many lines out by four": (0, ["resume", "s", "many", *FINE, "--workers", "4", "--out", "new"], "new"),
         "merge": (1, ["merge", "r", "part", "other", *QUARTER, "--out", "new"], "new"),
+        "merge to the whole": (0, ["merge", "r", "A", "B", *QUARTER, "--out", "new"], "new"),
         "merge of two that disagree": (9, ["merge", "r", "other", "foul", *QUARTER], None),
         "audit": (0, ["audit", "r", "whole", *QUARTER], None),
         "audit that differs": (9, ["audit", "r", "foul", *QUARTER], None),
@@ -56,7 +60,8 @@ def commands():
         "a bad file": (4, ["audit", "r", "bad", *QUARTER], None),
         "no file": (11, ["run", "no"], None),
         "svg": (0, ["svg", "s", "plane", *QUARTER, "--x", "x", "--y", "y"], None),
-        "sample": (0, ["sample", "--seed", "7", "--count", "1"], None),
+        "svg of a half": (0, ["svg", "q", "half", "--x", "x", "--y", "y"], None),
+        "sample": (0, ["sample", "--seed", "1", "--count", "2"], None),
         "least": (0, ["least", "s", *QUARTER, "--boxes", "400", "--of", "x+y*y"], None),
         "least with no end": (1, ["least", "s", *QUARTER, "--boxes", "3", "--of", "x+y*y"], None),
         "a refused expression": (2, ["least", "s", "--of", "x+"], None),
@@ -79,12 +84,14 @@ class Tried(Folder):
         return answered(self.paver, self.path, *words, env=environment)
 
     def prepare(self):
-        for name, text in (("s", SOLID), ("r", RECIPROCAL), ("d", TWO_DISCS),
+        for name, text in (("s", SOLID), ("r", RECIPROCAL), ("d", TWO_DISCS), ("h", HALF_LINE), ("q", HALF_SQUARE),
+                           ("A", file_of(1, A)), ("B", file_of(1, B)),
                            ("bad", b"Variables x in [0,4]; Constraints x <= ; end\n")):
             self.put(name, text)
         for name, budget in (("part", "1"), ("other", "2"), ("whole", "100")):
             self.call("run", "r", *QUARTER, "--boxes", budget, "--out", name)
         self.call("run", "s", *QUARTER, "--out", "plane")
+        self.call("run", "q", "--out", "half")
         self.call("run", "s", *FINE, "--out", "many")
         self.call("run-centered", "s", *QUARTER, "--out", "centered")
         head = self.get("whole").split(b"\n")[:2]
