@@ -19,8 +19,6 @@ from running import Count, Folder, answered, faults_in_folder, judged
 from data.cases import HALF_LINE, RECIPROCAL, system
 from paving_files import A, B, QUARTER, TWO_DISCS, file_of
 
-# Beyond so many allocations of one command every 7th is refused, and each of the last ones.
-EACH, LAST = 600, 150
 # By these the lines are so many that several workers make them.
 FINE = ["--eps", "0.0078125"]
 HALF_SQUARE = system("x in [0,2], y in [0,2]", "x <= 1")
@@ -104,12 +102,15 @@ class Tried(Folder):
         new = after.get(stored)
         if wanted[0] != status or (stored and not new):
             self.faults.append(f"{' '.join(words)}: status {wanted[0]} where nothing is refused, {wanted[2]!r}")
-        tried = [n for n in range(1, count + 1) if n <= EACH or n % 7 == 0 or n > count - LAST]
         for how in ("refuse", "refuse_from"):
-            for n in tried:
+            for n in self.refused(count):
                 self.remove(stored)
                 got = self.refusing(words, **{how: n})
                 self.judge(words, how, n, got, wanted, before, stored, new)
+
+    def refused(self, count):
+        """Which of so many allocations are refused."""
+        return range(1, count + 1)
 
     def remove(self, stored):
         if stored:

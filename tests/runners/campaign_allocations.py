@@ -1,5 +1,6 @@
 #!/usr/bin/env python3
-"""Runs campaigns of the real binary with the n-th allocation refused, for every n in turn, and with all from the n-th on.
+"""Runs campaigns of the real binary with the n-th allocation refused, and with all from the n-th on, for the first n, the last
+and every seventh between.
 
     python3 tests/runners/campaign_allocations.py ./paver [WORD]
 
@@ -14,6 +15,7 @@ from campaigns import ROWS, identity_of, is_stage, make, stock
 from paving_files import QUARTER
 
 ENDINGS = ["", "-wal", "-shm", "-journal"]
+FIRST, LAST = 600, 150
 
 
 def campaign(status, rounds, boxes, workers, name="new"):
@@ -38,6 +40,9 @@ class TriedCampaign(Tried):
         self.begun = {"begun": (ROWS[:1], identity_of()), "others": (ROWS[:1], bytes(32))}
         for name in self.begun:
             self.remove(name)
+
+    def refused(self, count):
+        return [n for n in range(1, count + 1) if n <= FIRST or n % 7 == 0 or n > count - LAST]
 
     def remove(self, stored):
         """The database as the call finds it."""

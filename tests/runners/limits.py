@@ -278,4 +278,7 @@ CHECKS = [file_size_limit, killed_in_the_middle, killed_in_a_store, killed_at_an
 
 
 if __name__ == "__main__":
+    # where a shell has this run in the background, or by nohup, the program would ignore these
+    for number in (signal.SIGINT, signal.SIGHUP):
+        signal.signal(number, signal.SIG_DFL)
     sys.exit(judged_in_folders(Kept, CHECKS))
