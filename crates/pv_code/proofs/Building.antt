@@ -1,7 +1,7 @@
 -- The builder's stack, and the meanings of functions one by one.
 use Rattle.std.proofs.Common.{◌≡◌, ℕ, zero, suc, List, [], ◌∷◌, ◌++◌, ◌+◌, ◌-◌, ◌<◌, ◌≤◌, reverse, map, take, drop, get_or, refl, ap, sym, ◌∙◌, length, arith, inl, inr, Option, Some, None}
 use Rattle.std.proofs.lemmas.Bool.{cases_lt}
-use Rattle.std.proofs.lemmas.List.{take_all, length-drop, get_or_past, reverse-append, reverse-reverse, map-append, get_or_append_left, length-append, length-reverse, drop_all, drop_at, take-append-drop, take-map, take_at}
+use Rattle.std.proofs.lemmas.List.{take_all, drop-map, drop_more, get_or-map, length-drop, get_or_past, reverse-append, reverse-reverse, map-append, get_or_append_left, length-append, length-reverse, drop_all, drop_at, take-append-drop, take-map, take_at}
 use Rattle.std.proofs.Math.Seq.{get_or-append_seam}
 use Rattle.pv_expr.specs.declared.expr.Expr.{Expr}
 use Rattle.pv_expr.specs.Terms.{Term, term_of}
@@ -17,12 +17,6 @@ stack-push es e = ap reverse (map-append term_of es (e ∷ [])) ∙ reverse-appe
 pub stack-empty : stack_of [] ≡ []
 unfolding Expansion.stack_of
 stack-empty = refl
-
-pub take-exact : {A : Type 0} → (n : ℕ) (xs ys : List A) → length xs ≡ n → take n (xs ++ ys) ≡ xs
-take-exact zero [] ys e = refl
-take-exact zero (x ∷ xs) ys e = absurd (omega arith)
-take-exact (suc n) [] ys e = absurd (omega arith)
-take-exact (suc n) (x ∷ xs) ys e = ap (λ zs. x ∷ zs) (take-exact n xs ys (omega arith))
 
 pub behind-keeps : (codes : List (List Op)) (ms : List Meaning) (k : ℕ) → k < length ms → meaning_of (meanings_behind ms codes) k ≡ meaning_of ms k
 behind-keeps [] ms k h = refl
@@ -43,11 +37,6 @@ behind-at (c ∷ cs) ms (suc i) h =
     ap (meaning_of (meanings_behind (ms ++ body_meaning ms c ∷ []) cs)) (omega arith)
     ∙ behind-at cs (ms ++ body_meaning ms c ∷ []) i (omega arith)
 
-pub map-get_or : {A B : Type 0} → (f : A → B) (xs : List A) (i : ℕ) (d : A) (e : B) → i < length xs → get_or (map f xs) i e ≡ f (get_or xs i d)
-map-get_or f [] i d e h = absurd (omega arith)
-map-get_or f (x ∷ xs) zero d e h = refl
-map-get_or f (x ∷ xs) (suc i) d e h = map-get_or f xs i d e (omega arith)
-
 pub length-map : {A B : Type 0} → (f : A → B) (xs : List A) → length (map f xs) ≡ length xs
 length-map f [] = refl
 length-map f (x ∷ xs) = ap suc (length-map f xs)
@@ -60,7 +49,7 @@ meaning-at fs i d h =
     ap (meaning_of (meanings (map code_of fs))) (omega arith)
     ∙ behind-at (map code_of fs) [] i (omega arith)
     ∙ ap (λ cs. body_meaning (meanings cs) (get_or (map code_of fs) i [])) (take-map code_of i fs)
-    ∙ ap (body_meaning (meanings (map code_of (take i fs)))) (map-get_or code_of fs i d [] h)
+    ∙ ap (body_meaning (meanings (map code_of (take i fs)))) (get_or-map code_of fs i d [] h)
 
 pub last-parts : {A : Type 0} → (old : List A) (n first : ℕ) → first ≡ length old - n → (take n (reverse old) ≡ reverse (drop first old)) × (drop n (reverse old) ≡ reverse (take first old))
 last-parts old n first e =
@@ -80,16 +69,11 @@ last-parts old n first e =
           )
     ]
 
-map-drop : {A B : Type 0} → (f : A → B) (i : ℕ) (xs : List A) → drop i (map f xs) ≡ map f (drop i xs)
-map-drop f zero xs = refl
-map-drop f (suc i) [] = refl
-map-drop f (suc i) (x ∷ xs) = map-drop f i xs
-
 -- the last values of a stack are its top ones
 pub last-values : (old es : List Expr) (n first : ℕ) → first ≡ length old - n → es ≡ drop first old → map term_of es ≡ reverse (take n (stack_of old))
 unfolding Expansion.stack_of
 last-values old es n first f e =
-    sym (ap reverse (last-parts (map term_of old) n first (f ∙ ap (λ k. k - n) (sym (length-map term_of old)))).0 ∙ reverse-reverse (drop first (map term_of old)) ∙ map-drop term_of first old ∙ ap (map term_of) (sym e))
+    sym (ap reverse (last-parts (map term_of old) n first (f ∙ ap (λ k. k - n) (sym (length-map term_of old)))).0 ∙ reverse-reverse (drop first (map term_of old)) ∙ drop-map term_of first old ∙ ap (map term_of) (sym e))
 
 pub last-rest : (old new : List Expr) (n first : ℕ) → first ≡ length old - n → new ≡ take first old → stack_of new ≡ drop n (stack_of old)
 unfolding Expansion.stack_of
@@ -106,13 +90,6 @@ unfolding Expansion.stack_of
 stack-none [] [] e f = (refl, refl)
 stack-none [] (x ∷ xs) e f = absurd (omega arith)
 stack-none (x ∷ xs) new e f = absurd (omega arith)
-
--- one step more of a code that is run from a place on
-pub run-step : (ms : List Meaning) (args : List Term) (code : List Op) (i : ℕ) (d : Op) (st : List Term) → i < length code →
-    run ms args (drop i code) st ≡ run ms args (drop (suc i) code) (step ms args (get_or code i d) st)
-run-step ms args [] i d st h = absurd (omega arith)
-run-step ms args (o ∷ code) zero d st h = refl
-run-step ms args (o ∷ code) (suc i) d st h = run-step ms args code i d st (omega arith)
 
 behind-length : (cs : List (List Op)) (ms : List Meaning) → length (meanings_behind ms cs) ≡ length ms + length cs
 behind-length [] ms = omega arith
@@ -134,15 +111,12 @@ pub called-past : (fs : List Function) (i : ℕ) (args : List Term) → length f
 called-past fs i args h =
     sym (ap (λ (m : Meaning). m args) (get_or_past (meanings (map code_of fs)) i (λ z. nothing) (let e = count-of fs in omega (arith, e, h))))
 
+-- one step more of a code that is run from a place on
 pub run-more : (ms : List Meaning) (args : List Term) (code : List Op) (i : ℕ) (d : Op) (old new : List Expr) (o : Option Expr) (pushed : List Expr) (r : List Term) →
     i < length code → stacked o (stack_of new) ≡ step ms args (get_or code i d) (stack_of old) → stack_of pushed ≡ stacked o (stack_of new) →
     run ms args (drop i code) (stack_of old) ≡ r → run ms args (drop (i + 1) code) (stack_of pushed) ≡ r
 run-more ms args code i d old new o pushed r h made grown before =
-    let next : i + 1 ≡ suc i = omega arith in
-    ap (λ k. run ms args (drop k code) (stack_of pushed)) next
-    ∙ ap (run ms args (drop (suc i) code)) (grown ∙ made)
-    ∙ sym (run-step ms args code i d (stack_of old) h)
-    ∙ before
+    ap (run ms args (drop (i + 1) code)) (grown ∙ made) ∙ sym (ap (λ z. run ms args z (stack_of old)) (drop_more code i d h)) ∙ before
 
 pub stacked-push : (stack new : List Expr) (o : Option Expr) (e : Expr) → o ≡ Some e → new ≡ stack ++ e ∷ [] → stack_of new ≡ stacked o (stack_of stack)
 stacked-push stack new o e is grown = ap stack_of grown ∙ stack-push stack e ∙ ap (λ (x : Option Expr). stacked x (stack_of stack)) (sym is)

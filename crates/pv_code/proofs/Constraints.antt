@@ -3,14 +3,13 @@ use Rattle.std.proofs.Common.{◌≡◌, ℕ, zero, suc, List, [], ◌∷◌, �
 use Rattle.std.specs.List.{AllByRecursion}
 use Rattle.std.proofs.lemmas.List.Folds.{drop_split}
 use Rattle.std.proofs.lemmas.List.{length-append, length-drop, map-append, append_assoc, append-nil, drop_all, drop_more, get_or-drop, take_more}
-use Rattle.pv_expr.specs.declared.expr.Expr.{Expr}
 use Rattle.pv_expr.specs.declared.constraint.Relation.{Relation}
 use Rattle.pv_expr.specs.declared.constraint.Constraint.{Constraint}
-use Rattle.pv_expr.specs.Terms.{Term, term_of}
+use Rattle.pv_expr.specs.Terms.{Term}
 use Rattle.pv_code.specs.declared.code.Op.{Op}
 use Rattle.pv_code.specs.declared.code.Op.TheVariants.{Define, Relate}
 use Rattle.pv_code.specs.declared.expand.Function.{Function}
-use Rattle.pv_code.specs.Expansion.{Meaning, meaning_of, meanings, meanings_behind, body_meaning, top, below, run, code_of, filtered, callee, IsValue, Stand, KeepsBody, KeepsCode, Sides, sides_of, part_sides, constraints_behind, constraints_of}
+use Rattle.pv_code.specs.Expansion.{Meaning, meaning_of, meanings, meanings_behind, body_meaning, code_of, filtered, callee, IsValue, Stand, KeepsBody, Sides, sides_of, part_sides, constraints_behind, constraints_of}
 use Rattle.pv_code.specs.Sizes.{AreMeasured, IsMeasured}
 use Rattle.pv_code.proofs.Building.{length-map, count-of}
 use Rattle.pv_code.proofs.Sizing.{measured-more}
@@ -140,18 +139,3 @@ pub value-of : (o : Op) → (o ≡ Define → ⊥) → ((r : Relation) → o ≡
 value-of Define a b = absurd (a refl)
 value-of (Relate r) a b = absurd (b r refl)
 value-of o a b = tt
-
--- a constraint of the two values that its part leaves
-two-tops : (st : List Term) → (top (take 2 st) ≡ top st) × (top (below (take 2 st)) ≡ top (below st))
-two-tops [] = (refl, refl)
-two-tops (t ∷ []) = (refl, refl)
-two-tops (t ∷ (u ∷ st)) = (refl, refl)
-
-pub constraint-means : (fs : List Function) (part kept : List Op) (r : Relation) (left right : Expr) (st rest : List Term) → KeepsCode fs part 2 kept →
-    st ≡ run (meanings (map code_of fs)) [] kept [] → term_of right ≡ top st → rest ≡ below st → term_of left ≡ top rest →
-    (ms : List Meaning) → Stand fs ms → sides_of (record { left = left; relation = r; right = right }) ≡ part_sides ms part r
-constraint-means fs part kept r left right st rest keeps ran right-is rest-is left-is ms stand =
-    let same : st ≡ take 2 (run ms [] part []) = ran ∙ keeps ms [] stand in
-    let tops = two-tops (run ms [] part []) in
-    ap (λ (t : Term). record { left = term_of left; relation = r; right = t }) (right-is ∙ ap top same ∙ tops.0)
-    ∙ ap (λ (t : Term). record { left = t; relation = r; right = top (run ms [] part []) }) (left-is ∙ ap top rest-is ∙ ap (λ z. top (below z)) same ∙ tops.1)

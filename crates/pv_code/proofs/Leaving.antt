@@ -22,44 +22,38 @@ use Rattle.pv_code.proofs.Sizing.{measured-at, measured-past}
 
 pub all-at : (P : Value → Term → Type 0) (vs : List Value) (ts : List Term) (i : ℕ) (d : Value) → AreAll P vs ts → i < length vs → P (get_or vs i d) (argument ts i)
 all-at P [] [] i d s h = absurd (omega arith)
-all-at P [] (t ∷ ts) i d s h = absurd s
-all-at P (v ∷ vs) [] i d s h = absurd s
 all-at P (v ∷ vs) (t ∷ ts) zero d s h = s.0
 all-at P (v ∷ vs) (t ∷ ts) (suc i) d s h = all-at P vs ts i d s.1 (omega arith)
+all-at P vs ts i d s h = absurd s
 
 pub all-length : (P : Value → Term → Type 0) (vs : List Value) (ts : List Term) → AreAll P vs ts → length ts ≡ length vs
 all-length P [] [] s = refl
-all-length P [] (t ∷ ts) s = absurd s
-all-length P (v ∷ vs) [] s = absurd s
 all-length P (v ∷ vs) (t ∷ ts) s = ap suc (all-length P vs ts s.1)
+all-length P vs ts s = absurd s
 
 pub all-as : (P Q : Value → Term → Type 0) (vs : List Value) (ts : List Term) → ((v : Value) (t : Term) → P v t → Q v t) → AreAll P vs ts → AreAll Q vs ts
 all-as P Q [] [] h s = tt
-all-as P Q [] (t ∷ ts) h s = absurd s
-all-as P Q (v ∷ vs) [] h s = absurd s
 all-as P Q (v ∷ vs) (t ∷ ts) h s = (h v t s.0, all-as P Q vs ts h s.1)
+all-as P Q vs ts h s = absurd s
 
 all-append : (P : Value → Term → Type 0) (vs ws : List Value) (ts us : List Term) → AreAll P vs ts → AreAll P ws us → AreAll P (vs ++ ws) (ts ++ us)
 all-append P [] ws [] us s r = r
-all-append P [] ws (t ∷ ts) us s r = absurd s
-all-append P (v ∷ vs) ws [] us s r = absurd s
 all-append P (v ∷ vs) ws (t ∷ ts) us s r = (s.0, all-append P vs ws ts us s.1 r)
+all-append P vs ws ts us s r = absurd s
 
 all-reverse : (P : Value → Term → Type 0) (vs : List Value) (ts : List Term) → AreAll P vs ts → AreAll P (reverse vs) (reverse ts)
 all-reverse P [] [] s = tt
-all-reverse P [] (t ∷ ts) s = absurd s
-all-reverse P (v ∷ vs) [] s = absurd s
 all-reverse P (v ∷ vs) (t ∷ ts) s =
     subst (λ (z : List Value). AreAll P z (reverse (t ∷ ts))) (sym (reverse-append (v ∷ []) vs))
     (subst (λ (z : List Term). AreAll P (reverse vs ++ v ∷ []) z) (sym (reverse-append (t ∷ []) ts))
     (all-append P (reverse vs) (v ∷ []) (reverse ts) (t ∷ []) (all-reverse P vs ts s.1) (s.0, tt)))
+all-reverse P vs ts s = absurd s
 
 all-parts : (P : Value → Term → Type 0) (n : ℕ) (vs : List Value) (ts : List Term) → AreAll P vs ts → AreAll P (take n vs) (take n ts) × AreAll P (drop n vs) (drop n ts)
 all-parts P zero vs ts s = (tt, s)
 all-parts P (suc n) [] [] s = (tt, tt)
-all-parts P (suc n) [] (t ∷ ts) s = absurd s
-all-parts P (suc n) (v ∷ vs) [] s = absurd s
 all-parts P (suc n) (v ∷ vs) (t ∷ ts) s = let rest = all-parts P n vs ts s.1 in ((s.0, rest.0), rest.1)
+all-parts P (suc n) vs ts s = absurd s
 
 -- ---- The stack
 
@@ -108,18 +102,21 @@ few-arguments n ts h = omega (arith, length-reverse (take n ts), length-take n t
 
 -- ---- One value
 
-run-append : (ms : List Meaning) (args : List Term) (a b : List Op) (st : List Term) → run ms args (a ++ b) st ≡ run ms args b (run ms args a st)
+pub run-append : (ms : List Meaning) (args : List Term) (a b : List Op) (st : List Term) → run ms args (a ++ b) st ≡ run ms args b (run ms args a st)
 run-append ms args [] b st = refl
 run-append ms args (o ∷ a) b st = run-append ms args a b (step ms args o st)
+
+-- a code that ends with a step
+run-last : (ms : List Meaning) (args : List Term) (before new : List Op) (o o' : Op) (st mid : List Term) → new ≡ before ++ o ∷ [] → o ≡ o' → run ms args before st ≡ mid → run ms args new st ≡ step ms args o' mid
+run-last ms args before new o o' st mid grown is ran =
+    ap (λ z. run ms args z st) grown ∙ run-append ms args before (o ∷ []) st ∙ ap (step ms args o) ran ∙ ap (λ (z : Op). step ms args z mid) is
 
 -- of one step
 pub of-step : (x : Setting) (v : Value) (m : Measure) (o o' : Op) (t : Term) → v.measure ≡ m → v.code.items ≡ o ∷ [] → o ≡ o' →
     ((st : List Term) → step (meanings (map code_of x.functions)) x.arguments o' st ≡ t ∷ st) → (length x.arguments ≤ 12 → IsSize m x.arguments t) → Represents x v t
 of-step x v m o o' t measured-is code-is is steps sized = record {
   size = λ short measured few. subst (λ (n : Measure). IsSize n x.arguments t) (sym measured-is) (sized few);
-  code = λ stand st.
-      ap (λ z. run (meanings (map code_of x.functions)) x.arguments z st) code-is
-      ∙ ap (λ (z : Op). step (meanings (map code_of x.functions)) x.arguments z st) is ∙ steps st;
+  code = λ stand st. run-last (meanings (map code_of x.functions)) x.arguments [] v.code.items o o' st st code-is is refl ∙ steps st;
 }
 
 pub of-one : (x : Setting) (v r : Value) (o : Op) (u : CodeUnary.Unary) (t : Term) → o ≡ One u → r.code.items ≡ v.code.items ++ o ∷ [] →
@@ -127,12 +124,7 @@ pub of-one : (x : Setting) (v r : Value) (o : Op) (u : CodeUnary.Unary) (t : Ter
     Represents x v t → Represents x r (one (unary_of u) t)
 of-one x v r o u t is code sized s = record {
   size = λ short measured few. sized x.arguments t (unary_of u) few (s.size short measured few);
-  code = λ stand st.
-      let ps = meanings (map code_of x.functions) in
-      ap (λ z. run (meanings (map code_of x.functions)) x.arguments z st) code
-      ∙ run-append (meanings (map code_of x.functions)) x.arguments v.code.items (o ∷ []) st
-      ∙ ap (step (meanings (map code_of x.functions)) x.arguments o) (s.code stand st)
-      ∙ ap (λ (z : Op). step (meanings (map code_of x.functions)) x.arguments z (t ∷ st)) is;
+  code = λ stand st. run-last (meanings (map code_of x.functions)) x.arguments v.code.items r.code.items o (One u) st (t ∷ st) code is (s.code stand st);
 }
 
 pub of-two : (x : Setting) (v w r : Value) (o : Op) (b : CodeBinary.Binary) (t u : Term) → o ≡ Two b → r.code.items ≡ (v.code.items ++ w.code.items) ++ o ∷ [] →
@@ -141,11 +133,8 @@ pub of-two : (x : Setting) (v w r : Value) (o : Op) (b : CodeBinary.Binary) (t u
 of-two x v w r o b t u is code sized s s' = record {
   size = λ short measured few. sized x.arguments t u (binary_of b) few (s.size short measured few) (s'.size short measured few);
   code = λ stand st.
-      ap (λ z. run (meanings (map code_of x.functions)) x.arguments z st) code
-      ∙ run-append (meanings (map code_of x.functions)) x.arguments (v.code.items ++ w.code.items) (o ∷ []) st
-      ∙ ap (step (meanings (map code_of x.functions)) x.arguments o)
-      (run-append (meanings (map code_of x.functions)) x.arguments v.code.items w.code.items st ∙ ap (run (meanings (map code_of x.functions)) x.arguments w.code.items) (s.code stand st) ∙ s'.code stand (t ∷ st))
-      ∙ ap (λ (z : Op). step (meanings (map code_of x.functions)) x.arguments z (u ∷ (t ∷ st))) is;
+      run-last (meanings (map code_of x.functions)) x.arguments (v.code.items ++ w.code.items) r.code.items o (Two b) st (u ∷ (t ∷ st)) code is
+      (run-append (meanings (map code_of x.functions)) x.arguments v.code.items w.code.items st ∙ ap (run (meanings (map code_of x.functions)) x.arguments w.code.items) (s.code stand st) ∙ s'.code stand (t ∷ st));
 }
 
 -- a step that leaves a value on the stack

@@ -1,5 +1,5 @@
 -- The sizes of expanded expressions, by the places of their parts.
-use Rattle.std.proofs.Common.{◌≡◌, ◌≢◌, ℕ, zero, suc, ◌+◌, ◌*◌, ◌<◌, ◌≤◌, List, [], ◌∷◌, ◌++◌, get_or, set, get_or-set_same, get_or-set_other, length, replicate, refl, ap, sym, subst, ◌∙◌, ◌⊎◌, inl, inr, arith}
+use Rattle.std.proofs.Common.{◌≡◌, ◌≢◌, ℕ, zero, suc, ◌+◌, ◌*◌, ◌<◌, ◌≤◌, List, [], ◌∷◌, ◌++◌, get_or, set, get_or-set_same, get_or-set_other, length, replicate, refl, ap, sym, subst, ◌∙◌, inl, inr, arith}
 use Rattle.std.specs.Prelude.{max, min}
 use Rattle.std.proofs.lemmas.Bool.{cases_lt}
 use Rattle.std.proofs.lemmas.List.{get_or_past, get_or-replicate}
@@ -52,20 +52,15 @@ unfolding Sizes.total
 total-none f g none zero h = refl
 total-none f g none (suc n) h = ap (λ z. f z (g n)) (total-none f g none n (λ k l. h k (omega (arith, l)))) ∙ ap (f 0) (h n (omega arith)) ∙ none
 
-two-ways : (i n : ℕ) → i < suc n → (i < n) ⊎ (i ≡ n)
-two-ways zero zero h = inr refl
-two-ways zero (suc n) h = inl (omega arith)
-two-ways (suc i) zero h = absurd (omega (arith, h))
-two-ways (suc i) (suc n) h = elim (two-ways i n (omega (arith, h))) [ inl less ↦ inl (omega (arith, less)) | inr same ↦ inr (ap suc same) ]
-
 total-one : (f : ℕ → ℕ → ℕ) (g : ℕ → ℕ) → ((x : ℕ) → f x 0 ≡ x) → ((x : ℕ) → f 0 x ≡ x) →
     (n i : ℕ) → i < n → ((k : ℕ) → k ≢ i → g k ≡ 0) → total f g n ≡ g i
 unfolding Sizes.total
 total-one f g right left zero i l h = absurd (omega arith)
-total-one f g right left (suc n) i l h = elim (two-ways i n l) [
+total-one f g right left (suc n) i l h = elim (cases_lt i n) [
   | inl less ↦
       ap (f (total f g n)) (h n (λ same. omega (arith, same, less))) ∙ right (total f g n) ∙ total-one f g right left n i less h
-  | inr same ↦
+  | inr most ↦
+      let same : i ≡ n = omega (arith, l, most) in
       ap (λ z. f z (g n)) (total-none f g (left 0) n (λ k m. h k (λ q. omega (arith, q, m, same)))) ∙ left (g n) ∙ ap g (sym same)
 ]
 
@@ -78,10 +73,7 @@ depth_pos (one u t) = omega arith
 depth_pos (two b t u) = omega arith
 
 end-max : (a b d : ℕ) → end_of (max a b) d ≡ max (end_of a d) (end_of b d)
-end-max zero zero d = refl
-end-max zero (suc b) d = let m : max 0 (suc b) ≡ suc b = omega arith in ap (λ k. end_of k d) m ∙ omega arith
-end-max (suc a) zero d = let m : max (suc a) 0 ≡ suc a = omega arith in ap (λ k. end_of k d) m ∙ omega arith
-end-max (suc a) (suc b) d = let m : max (suc a) (suc b) ≡ suc (max a b) = omega arith in ap (λ k. end_of k d) m ∙ omega arith
+end-max a b d = grind arith
 
 -- where something ends within what is at a place
 abbrev shifted : ℕ → ℕ → ℕ
@@ -90,31 +82,19 @@ shifted (suc above) zero = 0
 shifted (suc above) (suc x) = suc x + above
 
 shifted-max : (r a b : ℕ) → shifted r (max a b) ≡ max (shifted r a) (shifted r b)
-shifted-max zero a b = refl
-shifted-max (suc r) zero zero = refl
-shifted-max (suc r) zero (suc b) = let m : max 0 (suc b) ≡ suc b = omega arith in ap (shifted (suc r)) m ∙ omega arith
-shifted-max (suc r) (suc a) zero = let m : max (suc a) 0 ≡ suc a = omega arith in ap (shifted (suc r)) m ∙ omega arith
-shifted-max (suc r) (suc a) (suc b) = let m : max (suc a) (suc b) ≡ suc (max a b) = omega arith in ap (shifted (suc r)) m ∙ omega arith
+shifted-max r a b = grind arith
 
 end-at : (x d : ℕ) → 1 ≤ x → end_of x d + 1 ≡ x + d
-end-at zero d h = absurd (omega arith)
-end-at (suc x) d h = omega arith
+end-at x d h = grind arith
 
 shifted-at : (above x : ℕ) → 1 ≤ x → shifted (suc above) x ≡ x + above
-shifted-at above zero h = absurd (omega arith)
-shifted-at above (suc x) h = refl
+shifted-at above x h = grind arith
 
 end-moved : (r a d : ℕ) → 1 ≤ d → cut (end_of (moved r a) d) ≡ cut (shifted r (end_of a d))
-end-moved zero a d h = refl
-end-moved (suc r) zero d h = refl
-end-moved (suc r) (suc a) d h =
-    let left = end-at (cut (suc a + r)) d (omega arith) in
-    let right = shifted-at r (a + d) (omega (arith, h)) in
-    omega (arith, left, right, h)
+end-moved r a d h = grind arith
 
 shifted-end : (r x d : ℕ) → 1 ≤ d → cut d ≡ cut x → cut (shifted r x) ≡ cut (end_of r d)
-shifted-end zero x d h e = refl
-shifted-end (suc r) x d h e = let at = shifted-at r x (omega (arith, h, e)) in omega (arith, at, e)
+shifted-end r x d h e = grind arith
 
 -- ---- One part more
 
@@ -202,13 +182,9 @@ size-none m args is = record {
       (λ k l. ap (λ (z : List Place). end_of (get_or z k nowhere).reach (depth_of (argument args k))) is ∙ ap (λ (p : Place). end_of p.reach (depth_of (argument args k))) (get_or-replicate 13 k nowhere nowhere l))));
 }
 
-pub nodes-begun : (places : List Place) (args : List Term) → 0 ≡ nodes_in 0 places args
+pub total-begun : (f : ℕ → ℕ → ℕ) (g : ℕ → ℕ) → 0 ≡ total f g 0
 unfolding Sizes.total
-nodes-begun places args = refl
-
-pub depth-begun : (places : List Place) (args : List Term) → 0 ≡ depth_in 0 places args
-unfolding Sizes.total
-depth-begun places args = refl
+total-begun f g = refl
 
 pub nodes-next : (places : List Place) (args : List Term) (i : ℕ) (p : Place) → p ≡ get_or places i nowhere →
     nodes_in i places args + node_count (argument args i) * p.uses ≡ nodes_in (i + 1) places args
@@ -245,20 +221,17 @@ whole-depth places i all p r e at h =
 
 pub measured-at : (fs : List Function) (ms : List Meaning) (k : ℕ) (d : Function) → AreMeasured fs ms → k < length fs → IsMeasured (get_or fs k d).measure (meaning_of ms k)
 measured-at [] [] k d m h = absurd (omega arith)
-measured-at [] (n ∷ ns) k d m h = absurd m
-measured-at (f ∷ fs) [] k d m h = absurd m
 measured-at (f ∷ fs) (n ∷ ns) zero d m h = m.0
 measured-at (f ∷ fs) (n ∷ ns) (suc k) d m h = measured-at fs ns k d m.1 (omega arith)
+measured-at fs ms k d m h = absurd m
 
 pub measured-past : (fs : List Function) (ms : List Meaning) (k : ℕ) (inner : List Term) → AreMeasured fs ms → length fs ≤ k → meaning_of ms k inner ≡ nothing
 measured-past [] [] k inner m h = refl
-measured-past [] (n ∷ ns) k inner m h = absurd m
-measured-past (f ∷ fs) [] k inner m h = absurd m
 measured-past (f ∷ fs) (n ∷ ns) zero inner m h = absurd (omega arith)
 measured-past (f ∷ fs) (n ∷ ns) (suc k) inner m h = measured-past fs ns k inner m.1 (omega arith)
+measured-past fs ms k inner m h = absurd m
 
 pub measured-more : (fs : List Function) (f : Function) (ms : List Meaning) (m : Meaning) → AreMeasured fs ms → IsMeasured f.measure m → AreMeasured (fs ++ f ∷ []) (ms ++ m ∷ [])
 measured-more [] f [] m all last = (last, tt)
-measured-more [] f (n ∷ ns) m all last = absurd all
-measured-more (g ∷ fs) f [] m all last = absurd all
 measured-more (g ∷ fs) f (n ∷ ns) m all last = (all.0, measured-more fs f ns m all.1 last)
+measured-more fs f ns m all last = absurd all

@@ -131,10 +131,6 @@ callee (f ∷ fs) (suc k) = callee fs k
 abbrev pub Stand : List Function → List Meaning → Type 0
 Stand fs ms = (k : ℕ) (args : List Term) → meaning_of ms k args ≡ meaning_of (meanings (map code_of fs)) k (filtered (callee fs k) args)
 
--- the used part of a code leaves the last so many values that the code leaves
-abbrev pub KeepsCode : List Function → List Op → ℕ → List Op → Type 0
-KeepsCode fs code n kept = (ms : List Meaning) (args : List Term) → Stand fs ms → run (meanings (map code_of fs)) args kept [] ≡ take n (run ms args code [])
-
 -- each parameter that occurs is marked
 abbrev pub IsMarked : List Bool → List Op → Type 0
 IsMarked uses code = (i : ℕ) → occurs i code ≡ true → is_used uses i ≡ true

@@ -91,9 +91,8 @@ IsMeasured m f = (args : List Term) → length args ≤ 12 → IsSize m args (f 
 -- the same of all functions
 abbrev pub AreMeasured : List Function → List Meaning → Type 0
 AreMeasured [] [] = Unit {0}
-AreMeasured [] (m ∷ ms) = ⊥
-AreMeasured (f ∷ fs) [] = ⊥
 AreMeasured (f ∷ fs) (m ∷ ms) = IsMeasured f.measure m × AreMeasured fs ms
+AreMeasured fs ms = ⊥
 
 -- a call has no more arguments than a function may have parameters
 abbrev pub IsShortCall : Op → Type 0

@@ -31,9 +31,8 @@ pub record Represents (x : Setting) (v : Value) (t : Term) : Type 0 where
 -- the same of each
 abbrev pub AreAll : (Value → Term → Type 0) → List Value → List Term → Type 0
 AreAll P [] [] = Unit {0}
-AreAll P [] (t ∷ ts) = ⊥
-AreAll P (v ∷ vs) [] = ⊥
 AreAll P (v ∷ vs) (t ∷ ts) = P v t × AreAll P vs ts
+AreAll P vs ts = ⊥
 
 -- a stack of values, the top last, is one of these terms, the top first
 unfoldable pub AreStacked : Setting → List Value → List Term → Type 0

@@ -6,6 +6,7 @@ ghost use Rattle.pv_code.specs.Expansion.{argument, body_meaning, meaning_of, me
 ghost use Rattle.pv_code.specs.Sizes.{AreMeasured, IsMeasured, IsShortCall};
 
 use crate::code::{Binary, Op, Unary};
+use crate::fraction::Fraction;
 use crate::measure::Measure;
 use crate::value::{topmost, values};
 use pv_expr::{Constraint, Expr, Relation};
@@ -120,10 +121,7 @@ fn made_by(
         (map term_of arguments.new)) }
 {
     Ok(Some(match op {
-        Op::Constant(value) => Expr::Const {
-            p: value.p,
-            q: value.q,
-        },
+        Op::Constant(Fraction { p, q }) => Expr::Const { p, q },
         Op::Variable(i) => Expr::Var(i),
         Op::Parameter(i) => argument(alloc, arguments, i, rest)?,
         Op::One(unary) => one(alloc, unary, taken(stack))?,

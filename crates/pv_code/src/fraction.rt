@@ -19,13 +19,9 @@ impl Fraction {
         ensures { result ≡ signed negative self }
     {
         if negative {
-            Fraction {
-                p: -self.p,
-                q: self.q,
-            }
-        } else {
-            self
+            return Fraction { p: -self.p, ..self };
         }
+        self
     }
 }
 

@@ -42,37 +42,6 @@ impl Value {
     {
         Ok(Value::of(alloc, Measure::leaf(), NOTHING)?)
     }
-
-    // Below a step of one argument.
-    fn below(self, op: Op) -> Result<Value, Memory>
-        ensures measure { IfOk result (λ v. (args : List Term) (t : Term) (u : Unary) →
-            length args ≤ 12 →
-            IsSize self.measure args t → IsSize v.measure args (one u t)) }
-        ensures code { IfOk result (λ v. v.code.items ≡ self.code.items ++ op ∷ []) }
-    {
-        let measure = Measure::leaf().with(&self.measure, BELOW);
-        let mut code = self.code;
-        code.push(op)?;
-        Ok(Value { measure, code })
-    }
-
-    // With another, below a step of two arguments.
-    fn joined(self, right: &Value, op: Op) -> Result<Value, Memory>
-        ensures measure { IfOk result (λ v. (args : List Term) (t u : Term) (b : Binary) →
-            length args ≤ 12 →
-            IsSize self.measure args t → IsSize right.now.measure args u →
-            IsSize v.measure args (two b t u)) }
-        ensures code { IfOk result (λ v. v.code.items ≡
-            (self.code.items ++ right.now.code.items) ++ op ∷ []) }
-    {
-        let measure = Measure::leaf()
-            .with(&self.measure, BELOW)
-            .with(&right.measure, BELOW);
-        let mut code = self.code;
-        code.extend_from_slice(right.code.as_slice())?;
-        code.push(op)?;
-        Ok(Value { measure, code })
-    }
 }
 
 /// The values that a code leaves on the stack.
@@ -106,10 +75,21 @@ fn take_step(
         Op::Constant(_) => Value::of(alloc, Measure::leaf(), op)?,
         Op::Variable(_) => Value::of(alloc, Measure::leaf(), op)?,
         Op::Parameter(i) => Value::of(alloc, Measure::of_parameter(i), op)?,
-        Op::One(_) => topmost(alloc, stack)?.below(op)?,
+        Op::One(_) => {
+            let mut value = topmost(alloc, stack)?;
+            value.measure = Measure::leaf().with(&value.measure, BELOW);
+            value.code.push(op)?;
+            value
+        }
         Op::Two(_) => {
             let right = topmost(alloc, stack)?;
-            topmost(alloc, stack)?.joined(&right, op)?
+            let mut left = topmost(alloc, stack)?;
+            left.measure = Measure::leaf()
+                .with(&left.measure, BELOW)
+                .with(&right.measure, BELOW);
+            left.code.extend_from_slice(right.code.as_slice())?;
+            left.code.push(op)?;
+            left
         }
         Op::Call { function, arity } => {
             let first = stack.len().saturating_sub(arity as usize);

@@ -1,6 +1,7 @@
 -- What is behind a token depends neither on what a name is declared as nor on which function is called, but for the code: so the
 -- items begin with tokens where a tree does, an undeclared or taken name as a known one.
 use Rattle.std.proofs.Common.{◌≡◌, ℕ, zero, suc, ◌-◌, List, [], ◌∷◌, ◌++◌, map, Option, Some, None, refl, sym, ap, ◌∙◌, subst, append_assoc, arith}
+use Rattle.std.proofs.lemmas.List.{map-append}
 use Rattle.pv_code.specs.declared.code.Op.{Op}
 use Rattle.pv_code.specs.declared.code.Op.TheVariants.{Call, Define}
 use Rattle.pv_grammar.specs.declared.machine.Item.{Item}
@@ -47,39 +48,12 @@ alike i s = refl
 
 -- ---- Lists that are alike
 
-abbrev pub ArePlain : List Item → List Item → Type 0
-ArePlain [] [] = Unit {0}
-ArePlain (i ∷ is) (j ∷ js) = (plain i ≡ plain j) × ArePlain is js
-ArePlain is js = ⊥
+plain_append : (is js ks ls : List Item) → map plain is ≡ map plain js → map plain ks ≡ map plain ls → map plain (is ++ ks) ≡ map plain (js ++ ls)
+plain_append is js ks ls h k = map-append plain is ks ∙ (λ i. h i ++ k i) ∙ sym (map-append plain js ls)
 
-abbrev pub AreAlike : List Symbol → List Symbol → Type 0
-AreAlike [] [] = Unit {0}
-AreAlike (s ∷ ss) (r ∷ rs) = (tame s ≡ tame r) × AreAlike ss rs
-AreAlike ss rs = ⊥
-
-plain_lists : (is js : List Item) → map plain is ≡ map plain js → ArePlain is js
-plain_lists [] [] e = tt
-plain_lists [] (j ∷ js) e = absurd (nil_cons e)
-plain_lists (i ∷ is) [] e = absurd (nil_cons (sym e))
-plain_lists (i ∷ is) (j ∷ js) e = (head_is e, plain_lists is js (tail_is e))
-
-plain_append : (is js ks ls : List Item) → ArePlain is js → ArePlain ks ls → ArePlain (is ++ ks) (js ++ ls)
-plain_append [] [] ks ls h k = k
-plain_append [] (j ∷ js) ks ls h k = absurd h
-plain_append (i ∷ is) [] ks ls h k = absurd h
-plain_append (i ∷ is) (j ∷ js) ks ls h k = (h.0, plain_append is js ks ls h.1 k)
-
-pub same_plain : (items : List Item) → ArePlain items items
-same_plain [] = tt
-same_plain (i ∷ items) = (refl, same_plain items)
-
-pub alike_behind : (before ss rs : List Symbol) → AreAlike ss rs → AreAlike (before ++ ss) (before ++ rs)
+pub alike_behind : (before ss rs : List Symbol) → map tame ss ≡ map tame rs → map tame (before ++ ss) ≡ map tame (before ++ rs)
 alike_behind [] ss rs h = h
-alike_behind (s ∷ before) ss rs h = (refl, alike_behind before ss rs h)
-
-pub alike_all : (ss : List Symbol) → AreAlike ss ss
-alike_all [] = tt
-alike_all (s ∷ ss) = (refl, alike_all ss)
+alike_behind (s ∷ before) ss rs h = ap (λ (z : List Symbol). tame s ∷ z) (alike_behind before ss rs h)
 
 tame_known : (s : Symbol) → tame s ≡ tame (as_known s)
 tame_known (FunctionName op arity) = refl
@@ -89,9 +63,9 @@ tame_twice : (s : Symbol) → tame s ≡ tame (tame s)
 tame_twice (FunctionName op arity) = ap (λ (n : ℕ). FunctionName (Call 0 (suc n)) (suc n)) (same_count arity)
 tame_twice s = refl
 
-pub alike_tame : (ss : List Symbol) → AreAlike ss (map tame ss)
-alike_tame [] = tt
-alike_tame (s ∷ ss) = (tame_twice s, alike_tame ss)
+pub alike_tame : (ss : List Symbol) → map tame ss ≡ map tame (map tame ss)
+alike_tame [] = refl
+alike_tame (s ∷ ss) = λ i. tame_twice s i ∷ alike_tame ss i
 
 -- ---- Derivations
 
@@ -116,20 +90,20 @@ produced_alike i j s r p e f made =
     ∙ (ap (λ (z : Symbol). shape (produced (plain i) z)) (sym f)
     ∙ (sym (alike i s) ∙ ap shape made))))
 
-pub derived_alike : (items : List Item) (ss : List Symbol) (code : List Op) → Derives items ss code → (items' : List Item) (ss' : List Symbol) → ArePlain items items' → AreAlike ss ss' →
+pub derived_alike : (items : List Item) (ss : List Symbol) (code : List Op) → Derives items ss code → (items' : List Item) (ss' : List Symbol) → map plain items ≡ map plain items' → map tame ss ≡ map tame ss' →
     (code' : List Op) × Derives items' ss' code'
 derived_alike items ss code (done) [] [] h k = ([], done)
-derived_alike items ss code (done) (j ∷ js) ss' h k = absurd h
-derived_alike items ss code (done) [] (r ∷ rs) h k = absurd k
-derived_alike items ss code (left_out i rest ss1 code1 may d) [] ss' h k = absurd h
+derived_alike items ss code (done) (j ∷ js) ss' h k = absurd (nil_cons h)
+derived_alike items ss code (done) [] (r ∷ rs) h k = absurd (nil_cons k)
+derived_alike items ss code (left_out i rest ss1 code1 may d) [] ss' h k = absurd (nil_cons (sym h))
 derived_alike items ss code (left_out i rest ss1 code1 may d) (j ∷ js) ss' h k =
-    let more = derived_alike rest ss1 code1 d js ss' h.1 k in
-    (step_of j ++ more.0, left_out j js ss' more.0 (plain_may j (subst MayEnd h.0 (may_plain i may))) more.1)
-derived_alike items ss code (begun i rest s ss1 p code1 made d) [] ss' h k = absurd h
-derived_alike items ss code (begun i rest s ss1 p code1 made d) (j ∷ js) [] h k = absurd k
+    let more = derived_alike rest ss1 code1 d js ss' (tail_is h) k in
+    (step_of j ++ more.0, left_out j js ss' more.0 (plain_may j (subst MayEnd (head_is h) (may_plain i may))) more.1)
+derived_alike items ss code (begun i rest s ss1 p code1 made d) [] ss' h k = absurd (nil_cons (sym h))
+derived_alike items ss code (begun i rest s ss1 p code1 made d) (j ∷ js) [] h k = absurd (nil_cons (sym k))
 derived_alike items ss code (begun i rest s ss1 p code1 made d) (j ∷ js) (r ∷ rs) h k =
-    let found = produced_alike i j s r p h.0 k.0 made in
-    let more = derived_alike (p.0 ++ rest) ss1 code1 d (found.0.0 ++ js) rs (plain_append p.0 found.0.0 rest js (plain_lists p.0 found.0.0 found.2) h.1) k.1 in
+    let found = produced_alike i j s r p (head_is h) (head_is k) made in
+    let more = derived_alike (p.0 ++ rest) ss1 code1 d (found.0.0 ++ js) rs (plain_append p.0 found.0.0 rest js found.2 (tail_is h)) (tail_is k) in
     (found.0.1 ++ more.0, begun j js r rs found.0 more.0 found.1 more.1)
 
 -- ---- Trees
@@ -158,10 +132,6 @@ pub known_append : (ss rs : List Symbol) → AreKnown ss → AreKnown rs → Are
 known_append [] rs h k = k
 known_append (s ∷ ss) rs h k = (h.0, known_append ss rs h.1 k)
 
-pub known_before : (ss rs : List Symbol) → AreKnown (ss ++ rs) → AreKnown ss
-known_before [] rs h = tt
-known_before (s ∷ ss) rs h = (h.0, known_before ss rs h.1)
-
 tame_is_known : (s : Symbol) → IsKnown (tame s)
 tame_is_known (FunctionName op arity) = refl
 tame_is_known s = tt
@@ -175,9 +145,9 @@ pub tree_begins : (items : List Item) (IsText : List Symbol → Type 0) → AreT
     BeginsByItems items (before ++ s ∷ []) → Begins IsText (before ++ as_known s ∷ [])
 tree_begins items IsText texts before s known name b =
     let ending : List Symbol = as_known s ∷ map tame b.rest in
-    let same : AreAlike (before ++ s ∷ b.rest) (before ++ ending) = alike_behind before (s ∷ b.rest) ending (tame_known s, alike_tame b.rest) in
+    let same = alike_behind before (s ∷ b.rest) ending (λ i. tame_known s i ∷ alike_tame b.rest i) in
     let found = derived_alike items (before ++ s ∷ b.rest) b.steps (subst (λ (z : List Symbol). Derives items z b.steps) (append_assoc before (s ∷ []) b.rest) b.derived)
-    items (before ++ ending) (same_plain items) same in
+    items (before ++ ending) refl same in
     let are : AreKnown (before ++ ending) = known_append before ending known (name, tame_are_known b.rest) in
     (map tame b.rest, subst IsText (sym (append_assoc before (as_known s ∷ []) (map tame b.rest))) (texts.tree (before ++ ending) found.0 found.1 are))
 
@@ -187,6 +157,6 @@ pub items_begin : (items : List Item) (IsText : List Symbol → Type 0) → AreT
 items_begin items IsText texts before s (rest, text) =
     let whole : IsText (before ++ as_known s ∷ rest) = subst IsText (append_assoc before (as_known s ∷ []) rest) text in
     let d = texts.derived (before ++ as_known s ∷ rest) whole in
-    let same : AreAlike (before ++ as_known s ∷ rest) (before ++ s ∷ rest) = alike_behind before (as_known s ∷ rest) (s ∷ rest) (sym (tame_known s), alike_all rest) in
-    let found = derived_alike items (before ++ as_known s ∷ rest) d.0 d.1 items (before ++ s ∷ rest) (same_plain items) same in
+    let same = alike_behind before (as_known s ∷ rest) (s ∷ rest) (λ i. sym (tame_known s) i ∷ map tame rest) in
+    let found = derived_alike items (before ++ as_known s ∷ rest) d.0 d.1 items (before ++ s ∷ rest) refl same in
     record { rest = rest; steps = found.0; derived = subst (λ (z : List Symbol). Derives items z found.0) (sym (append_assoc before (s ∷ []) rest)) found.1 }

@@ -1,5 +1,5 @@
 -- The limit that forbids a token, by the part of the text in which it would stand; and a sign may stand where a function's name may.
-use Rattle.std.proofs.Common.{◌≡◌, ℕ, zero, suc, ◌+◌, ◌-◌, nat_lt, Bool, true, false, List, [], ◌∷◌, ◌++◌, refl, sym, ap, ◌∙◌, subst, append_assoc, if◌then◌else◌, ◌⊎◌, inl, inr, Some, Ok, Err}
+use Rattle.std.proofs.Common.{◌≡◌, ℕ, zero, ◌+◌, ◌-◌, nat_lt, Bool, true, false, List, [], ◌∷◌, ◌++◌, refl, sym, ap, ◌∙◌, subst, append_assoc, if◌then◌else◌, ◌⊎◌, inl, inr, Some, Ok, Err}
 use Rattle.pv_code.specs.declared.code.Op.{Op}
 use Rattle.pv_code.specs.declared.code.Op.TheVariants.{One}
 use Rattle.pv_code.specs.declared.code.Unary.TheVariants.{Neg}
@@ -10,17 +10,18 @@ use Rattle.pv_grammar.specs.declared.counts.Phase.{Phase}
 use Rattle.pv_grammar.specs.declared.counts.Phase.TheVariants.{Parameters, Body, Variables, NextConstraint, Sides}
 use Rattle.pv_grammar.specs.declared.machine.Item.{Item}
 use Rattle.pv_grammar.specs.declared.machine.Item.TheVariants.{Exactly, MaybeConstraint, MaybePower, MoreArguments, MoreConstraints, MoreFactors, MoreTerms, Then, WantFactor, WantRelation}
-use Rattle.pv_grammar.specs.declared.symbol.Fixed.TheVariants.{Plus, Minus, Star, Slash, Caret, Open, Comma, Function as FunctionWord}
+use Rattle.pv_grammar.specs.declared.symbol.Fixed.TheVariants.{Minus, Open, Comma, Function as FunctionWord}
 use Rattle.pv_grammar.specs.declared.symbol.Symbol.{Symbol}
-use Rattle.pv_grammar.specs.declared.symbol.Symbol.TheVariants.{Fixed as FixedToken, Number, Declared, Constant as ConstantName, Variable as VariableName, Parameter as ParameterName, Function as Call, Unknown}
+use Rattle.pv_grammar.specs.declared.symbol.Symbol.TheVariants.{Fixed as FixedToken, Declared, Constant as ConstantName, Function as Call, Unknown}
 use Rattle.pv_grammar.specs.ByItems.{BeginsByItems}
 use Rattle.pv_grammar.specs.Causes.{as_known, limit_cause, name_cause, nought}
-use Rattle.pv_grammar.specs.Counting.{Counting, counted, moved, nested, next, operated}
+use Rattle.pv_grammar.specs.Counting.{Counting, counted, levels, moved, next, operates, where_below, within}
 use Rattle.pv_grammar.specs.Grammar.{Derives, Produced, begun, done, left_out, produced, step_of}
 use Rattle.pv_grammar.proofs.Following.{CalmAt}
 use Rattle.pv_grammar.proofs.Forward.{head_is, nil_cons, none_some, some_is, tail_is}
-use Rattle.pv_grammar.proofs.Passing.{IsOperator, call_is, open_is, operator_is}
+use Rattle.pv_grammar.proofs.Passing.{call_is, inside_is, operator_is}
 use Rattle.pv_grammar.proofs.Ready.{InExpression, made}
+use Rattle.pv_grammar.specs.Standings.{begins_expression}
 
 -- ---- Which limit forbids a token
 
@@ -42,8 +43,24 @@ fails_if : (c : Cause) (b : Bool) (x : Counts) → Fails c (if b then Ok x else 
 fails_if c true x = tt
 fails_if c false x = refl
 
-abbrev asked : Symbol → Counts → Counting
-asked s d = next (operated d s) (λ e. next (nested e s) (λ g. moved g s))
+fails_next : (c : Cause) (r : Counting) (f : Counts → Counting) → Fails c r → ((d : Counts) → Fails c (f d)) → Fails c (next r f)
+fails_next c (Ok d) f h g = g d
+fails_next c (Err cause) f h g = h
+
+abbrev IsPlainToken : Symbol → Type 0
+IsPlainToken Unknown = ⊥
+IsPlainToken (Declared true) = ⊥
+IsPlainToken (Call op n) = ⊥
+IsPlainToken s = Unit {0}
+
+operated_fails : (b : Bool) (x c : Counts) (t : Bool) → Fails TooDeep (if b then (if t then Ok x else Err TooDeep) else Ok c)
+operated_fails true x c t = fails_if TooDeep t x
+operated_fails false x c t = tt
+
+levels_fails : (s : Symbol) (c : Counts) → IsPlainToken s → Fails TooDeep (levels s c)
+levels_fails (FixedToken Open) c h = fails_if TooDeep (nat_lt c.level 100) _
+levels_fails (Call op n) c h = absurd h
+levels_fails s c h = tt
 
 -- where no level and no operation is counted
 where_calm : (P : ℕ → ℕ → Type 0) (l o : ℕ) → (l ≡ 0) × (o ≡ 0) → P 0 0 → P l o
@@ -53,51 +70,31 @@ begun_by : (b : Bool) (x : Counts) (f : Counts → Counting) → Fails TooManyCo
 begun_by true x f granted = granted
 begun_by false x f granted = refl
 
--- a constraint that begins
-begun_fails : (s : Symbol) (l o a f v k : ℕ) → (l ≡ 0) × (o ≡ 0) → Fails TooManyConstraints (asked s (made Sides 0 0 a f v (k + 1))) →
-    Fails TooManyConstraints (next (if nat_lt k 64 then Ok (made Sides l o a f v (k + 1)) else Err TooManyConstraints) (asked s))
-begun_fails s l o a f v k h granted =
-    begun_by (nat_lt k 64) (made Sides l o a f v (k + 1)) (asked s) (where_calm (λ x y. Fails TooManyConstraints (asked s (made Sides x y a f v (k + 1)))) l o h granted)
+-- a constraint that begins, or none does
+begun_fails : (b : Bool) (s : Symbol) (l o a f v k : ℕ) → (l ≡ 0) × (o ≡ 0) → Fails TooManyConstraints (within (made Sides 0 0 a f v (k + 1)) s) → Fails TooManyConstraints (moved (made NextConstraint l o a f v k) s) →
+    Fails TooManyConstraints (next (if b then where_below k 64 TooManyConstraints (made Sides l o a f v (k + 1)) else Ok (made NextConstraint l o a f v k)) (λ d. within d s))
+begun_fails true s l o a f v k h granted other =
+    begun_by (nat_lt k 64) (made Sides l o a f v (k + 1)) (λ d. within d s) (where_calm (λ x y. Fails TooManyConstraints (within (made Sides x y a f v (k + 1)) s)) l o h granted)
+begun_fails false s l o a f v k h granted other = other
 
-abbrev IsPlainToken : Symbol → Type 0
-IsPlainToken Unknown = ⊥
-IsPlainToken (Declared true) = ⊥
-IsPlainToken (Call op n) = ⊥
-IsPlainToken s = Unit {0}
-
-operator_fails : (p : Phase) (s : Symbol) (l o a f v k : ℕ) → InExpression p → IsOperator s → Fails TooDeep (counted (made p l o a f v k) s)
-operator_fails p s l o a f v k i t = subst (Fails TooDeep) (sym (operator_is p s i t l o a f v k)) (fails_if TooDeep (nat_lt o 1000) (made p l (o + 1) a f v k))
-
-open_fails : (p : Phase) (l o a f v k : ℕ) → InExpression p → Fails TooDeep (counted (made p l o a f v k) (FixedToken Open))
-open_fails p l o a f v k i = subst (Fails TooDeep) (sym (open_is p i l o a f v k)) (fails_if TooDeep (nat_lt l 100) (made p (l + 1) o a f v k))
+inside_fails : (p : Phase) (s : Symbol) (l o a f v k : ℕ) → InExpression p → IsPlainToken s → ((d : Counts) → Fails TooDeep (moved d s)) → Fails TooDeep (counted (made p l o a f v k) s)
+inside_fails p s l o a f v k i t g =
+    subst (Fails TooDeep) (sym (inside_is p s i l o a f v k))
+    (fails_next TooDeep _ _ (operated_fails (operates s) _ _ (nat_lt o 1000)) (λ d. fails_next TooDeep (levels s d) _ (levels_fails s d t) g))
 
 fails : (p : Phase) (s : Symbol) (l o a f v k : ℕ) → IsPlainToken s → CalmAt p l o → Fails (limit_cause p s) (counted (made p l o a f v k) s)
 fails Variables (Declared false) l o a f v k t h = fails_if TooManyVariables (nat_lt v 12) _
 fails Parameters (Declared false) l o a f v k t h = fails_if Unexpected (nat_lt a 12) _
 fails Parameters (FixedToken Comma) l o a f v k t h = fails_if Unexpected (nat_lt a 12) _
-fails Body (FixedToken Plus) l o a f v k t h = operator_fails Body (FixedToken Plus) l o a f v k tt tt
-fails Body (FixedToken Minus) l o a f v k t h = operator_fails Body (FixedToken Minus) l o a f v k tt tt
-fails Body (FixedToken Star) l o a f v k t h = operator_fails Body (FixedToken Star) l o a f v k tt tt
-fails Body (FixedToken Slash) l o a f v k t h = operator_fails Body (FixedToken Slash) l o a f v k tt tt
-fails Body (FixedToken Caret) l o a f v k t h = operator_fails Body (FixedToken Caret) l o a f v k tt tt
-fails Body (FixedToken Open) l o a f v k t h = open_fails Body l o a f v k tt
-fails Sides (FixedToken Plus) l o a f v k t h = operator_fails Sides (FixedToken Plus) l o a f v k tt tt
-fails Sides (FixedToken Minus) l o a f v k t h = operator_fails Sides (FixedToken Minus) l o a f v k tt tt
-fails Sides (FixedToken Star) l o a f v k t h = operator_fails Sides (FixedToken Star) l o a f v k tt tt
-fails Sides (FixedToken Slash) l o a f v k t h = operator_fails Sides (FixedToken Slash) l o a f v k tt tt
-fails Sides (FixedToken Caret) l o a f v k t h = operator_fails Sides (FixedToken Caret) l o a f v k tt tt
-fails Sides (FixedToken Open) l o a f v k t h = open_fails Sides l o a f v k tt
-fails NextConstraint (Number value exponent) l o a f v k t h = begun_fails (Number value exponent) l o a f v k h tt
-fails NextConstraint (ConstantName value) l o a f v k t h = begun_fails (ConstantName value) l o a f v k h tt
-fails NextConstraint (VariableName i) l o a f v k t h = begun_fails (VariableName i) l o a f v k h tt
-fails NextConstraint (ParameterName i) l o a f v k t h = begun_fails (ParameterName i) l o a f v k h tt
-fails NextConstraint (FixedToken Plus) l o a f v k t h = begun_fails (FixedToken Plus) l o a f v k h tt
-fails NextConstraint (FixedToken Minus) l o a f v k t h = begun_fails (FixedToken Minus) l o a f v k h tt
-fails NextConstraint (FixedToken Open) l o a f v k t h = begun_fails (FixedToken Open) l o a f v k h tt
 fails p (FixedToken FunctionWord) l o a f v k t h = fails_if TooManyFunctions (nat_lt f 64) _
-fails p Unknown l o a f v k t h = absurd t
+fails p (FixedToken Comma) l o a f v k t h = tt
+fails p (Declared false) l o a f v k t h = tt
 fails p (Declared true) l o a f v k t h = absurd t
+fails p Unknown l o a f v k t h = absurd t
 fails p (Call op n) l o a f v k t h = absurd t
+fails Body s l o a f v k t h = inside_fails Body s l o a f v k tt t (λ d. tt)
+fails Sides s l o a f v k t h = inside_fails Sides s l o a f v k tt t (λ d. tt)
+fails NextConstraint s l o a f v k t h = begun_fails (begins_expression s) s l o a f v k h tt tt
 fails p s l o a f v k t h = tt
 
 pub limit_at : (p : Phase) (s : Symbol) (l o a f v k : ℕ) (cause : Cause) → IsPlainToken s → CalmAt p l o → counted (made p l o a f v k) s ≡ Err cause → cause ≡ limit_cause p s
@@ -122,12 +119,12 @@ call_begun false x y cause f g granted e = (err_is e, λ d one. ok_not_err (sym 
 
 pub call_at : (p : Phase) (op : Op) (n : ℕ) (l o a f v k : ℕ) (cause : Cause) → CalmAt p l o → counted (made p l o a f v k) (Call op n) ≡ Err cause → CallErr p (made p l o a f v k) op n cause
 call_at Body op n l o a f v k cause h e =
-    call_by (nat_lt o 1000) (nat_lt l 100) (made Body l (o + 1) a f v k) (made Body l (o + 1) a f v k) cause _ (sym (call_is Body tt op n l o a f v k) ∙ e) (operator_is Body (FixedToken Minus) tt tt l o a f v k)
+    call_by (nat_lt o 1000) (nat_lt l 100) (made Body l (o + 1) a f v k) (made Body l (o + 1) a f v k) cause _ (sym (call_is Body tt op n l o a f v k) ∙ e) (operator_is Body (FixedToken Minus) tt (refl, λ d i. refl) l o a f v k)
 call_at Sides op n l o a f v k cause h e =
-    call_by (nat_lt o 1000) (nat_lt l 100) (made Sides l (o + 1) a f v k) (made Sides l (o + 1) a f v k) cause _ (sym (call_is Sides tt op n l o a f v k) ∙ e) (operator_is Sides (FixedToken Minus) tt tt l o a f v k)
+    call_by (nat_lt o 1000) (nat_lt l 100) (made Sides l (o + 1) a f v k) (made Sides l (o + 1) a f v k) cause _ (sym (call_is Sides tt op n l o a f v k) ∙ e) (operator_is Sides (FixedToken Minus) tt (refl, λ d i. refl) l o a f v k)
 call_at NextConstraint op n l o a f v k cause h e =
-    let one_more : ℕ → ℕ → Type 0 = λ x y. asked (Call op n) (made Sides x y a f v (k + 1)) ≡ Ok (made Sides x (y + 1) a f v (k + 1)) in
-    inl (call_begun (nat_lt k 64) (made Sides l o a f v (k + 1)) _ cause (asked (Call op n)) (asked (FixedToken Minus)) (where_calm one_more l o h refl) e)
+    let one_more : ℕ → ℕ → Type 0 = λ x y. within (made Sides x y a f v (k + 1)) (Call op n) ≡ Ok (made Sides x (y + 1) a f v (k + 1)) in
+    inl (call_begun (nat_lt k 64) (made Sides l o a f v (k + 1)) _ cause (λ d. within d (Call op n)) (λ d. within d (FixedToken Minus)) (where_calm one_more l o h refl) e)
 call_at p op n l o a f v k cause h e = absurd (ok_not_err e)
 
 -- ---- Names
@@ -142,7 +139,7 @@ unknown_by true x y c cause f g e h k = inr ((y, h), err_is (sym e ∙ k))
 unknown_by false x y c cause f g e h k = inl k
 
 unknown_at : (p : Phase) (l o a f v k : ℕ) (cause : Cause) → counted (made p l o a f v k) Unknown ≡ Err cause → NameErr (made p l o a f v k) Unknown cause
-unknown_at NextConstraint l o a f v k cause e = unknown_by (nat_lt k 64) (made Sides l o a f v (k + 1)) _ TooManyConstraints cause (asked Unknown) (asked (ConstantName nought)) refl refl e
+unknown_at NextConstraint l o a f v k cause e = unknown_by (nat_lt k 64) (made Sides l o a f v (k + 1)) _ TooManyConstraints cause (λ d. within d Unknown) (λ d. within d (ConstantName nought)) refl refl e
 unknown_at p l o a f v k cause e = inr ((_, refl), err_is e)
 
 taken_by : (b : Bool) (x : Counts) (c cause : Cause) → (if b then Err DuplicateName else Err c) ≡ failed cause →
@@ -188,7 +185,6 @@ signed_item MaybeConstraint op n p items rest ops made d =
     let more = put_in (q ++ (further ++ items)) rest ops whole (One Neg) q (further ++ items) refl in
     (_, begun MaybeConstraint items (FixedToken Minus) (Call op n ∷ rest) _ _ refl (begun WantFactor (Then (One Neg) ∷ (further ++ items)) (Call op n) rest (q, []) more.0 refl more.1))
 signed_item (MoreArguments zero) op n p items rest ops made d = absurd (none_some refl made)
-signed_item (MoreArguments (suc m)) op n p items rest ops made d = absurd (none_some refl made)
 signed_item i op n p items rest ops made d = absurd (none_some refl made)
 
 signed_text : (items : List Item) (all : List Symbol) (ops : List Op) → Derives items all ops → (before : List Symbol) (op : Op) (n : ℕ) (rest : List Symbol) → all ≡ before ++ Call op n ∷ rest →

@@ -21,38 +21,27 @@ leads_out i items ss code after may l = record {
 }
 
 -- where the token is met, what stood above it ended
-behind : Option Item → List Item → List Symbol → List Op → List Op → Type 0
-behind None rest ss code after = Leads rest ss code after
-behind (Some i) rest ss code after = Leads (i ∷ rest) ss code after
+settled : (s : Symbol) (items : List Item) (code : List Op) (i : Item) (rest : List Item) (code' : List Op) → Settles s items code (Some i) rest code' →
+    (ss : List Symbol) (after : List Op) → Leads (i ∷ rest) ss code' after → Leads items ss code after
+settled s items code i rest code' (met j items' ops meets) ss after l = l
+settled s items code i rest code' (ended j items' ops o rest' more may unlike h) ss after l =
+    leads_out j items' ss ops after may (settled s items' (ops ++ step_of j) i rest' more h ss after l)
 
-settled : (s : Symbol) (items : List Item) (code : List Op) (o : Option Item) (rest : List Item) (code' : List Op) → Settles s items code o rest code' →
-    (ss : List Symbol) (after : List Op) → behind o rest ss code' after → Leads items ss code after
-unfolding behind
-settled s items code o rest code' (emptied ops) ss after l = l
-settled s items code o rest code' (met i items' ops meets) ss after l = l
-settled s items code o rest code' (ended i items' ops o' rest' more may unlike h) ss after l =
-    leads_out i items' ss ops after may (settled s items' (ops ++ step_of i) o' rest' more h ss after l)
-
-leads_begun : (i : Item) (rest : List Item) (s : Symbol) (ss : List Symbol) (code after : List Op) (p : Produced) (items' : List Item) (code' : List Op) →
-    produced i s ≡ Some p → items' ≡ p.0 ++ rest → code' ≡ code ++ p.1 → Leads items' ss code' after → Leads (i ∷ rest) (s ∷ ss) code after
-leads_begun i rest s ss code after p items' code' e piled written l = record {
+leads_taken : (i : Item) (rest : List Item) (s : Symbol) (ss : List Symbol) (code after : List Op) (o : Option Produced) (items' : List Item) (code' : List Op) →
+    produced i s ≡ o → Follows o rest code items' code' → Leads items' ss code' after → Leads (i ∷ rest) (s ∷ ss) code after
+leads_taken i rest s ss code after None items' code' e f l = absurd f
+leads_taken i rest s ss code after (Some p) items' code' e (piled, written) l = record {
   steps = p.1 ++ l.steps;
   derived = begun i rest s ss p l.steps e (subst (λ (z : List Item). Derives z ss l.steps) piled l.derived);
   code_is = l.code_is ∙ ap (λ (z : List Op). z ++ l.steps) written ∙ append_assoc code p.1 l.steps;
 }
 
-leads_taken : (i : Item) (rest : List Item) (s : Symbol) (ss : List Symbol) (code after : List Op) (o : Option Produced) (items' : List Item) (code' : List Op) →
-    produced i s ≡ o → Follows o rest code items' code' → Leads items' ss code' after → Leads (i ∷ rest) (s ∷ ss) code after
-leads_taken i rest s ss code after None items' code' e f l = absurd f
-leads_taken i rest s ss code after (Some p) items' code' e f l = leads_begun i rest s ss code after p items' code' e f.0 f.1 l
-
 -- one token: settled, and then taken
 pub leads_back : (items rest items' : List Item) (code code' code'' after : List Op) (i : Item) (s : Symbol) (ss : List Symbol) →
     Settles s items code (Some i) rest code' → Follows (produced i s) rest code' items' code'' →
     Leads items' ss code'' after → Leads items (s ∷ ss) code after
-unfolding behind
 leads_back items rest items' code code' code'' after i s ss settles follows l =
-    settled s items code (Some i) rest code' settles (s ∷ ss) after
+    settled s items code i rest code' settles (s ∷ ss) after
     (leads_taken i rest s ss code' after (produced i s) items' code'' refl follows l)
 
 -- the end: nothing is left that must come

@@ -1,5 +1,5 @@
 -- An exponent is wanted exactly behind `^`, and the end of the text never.
-use Rattle.std.proofs.Common.{◌≡◌, zero, suc, Bool, true, false, List, [], ◌∷◌, ◌++◌, refl, sym, subst, Option, Some, None}
+use Rattle.std.proofs.Common.{◌≡◌, zero, Bool, true, false, List, [], ◌∷◌, ◌++◌, refl, sym, subst, Option, Some, None}
 use Rattle.pv_expr.specs.declared.constraint.Relation.TheVariants.{Eq}
 use Rattle.pv_code.specs.declared.code.Op.{Op}
 use Rattle.pv_grammar.specs.declared.symbol.Fixed.TheVariants.{Caret, EndOfText}
@@ -82,7 +82,6 @@ taken_plain i s rest code items' code' (Some p) made f u h =
 pub no_end : (i : Item) → IsUsual i → produced i (FixedToken EndOfText) ≡ None
 no_end (Exactly EndOfText) u = absurd u
 no_end (MoreArguments zero) u = refl
-no_end (MoreArguments (suc n)) u = refl
 no_end i u = refl
 
 pub behind_last : (ss : List Symbol) (s : Symbol) → behind_caret (ss ++ s ∷ []) ≡ is_caret s

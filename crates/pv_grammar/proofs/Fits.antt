@@ -14,8 +14,8 @@ use Rattle.pv_grammar.specs.declared.symbol.Symbol.TheVariants.{Fixed as FixedTo
 use Rattle.pv_grammar.specs.declared.machine.Item.{Item}
 use Rattle.pv_grammar.specs.declared.machine.Item.TheVariants.{Exactly, MaybeConstants, WantConstant, MoreConstants, MaybeConstant, WantEquals, MaybeSign, WantValue, MaybeFunctions, WantFunctionName, WantParameter, MoreParameters, MaybeSemicolon, WantVariable, MoreVariables, MaybeVariable, MaybeDomain, WantBound, WantRelation, MoreConstraints, MaybeConstraint, WantFactor, MoreFactors, MoreTerms, MaybePower, WantExponent, MoreArguments, Then}
 use Rattle.pv_grammar.specs.Grammar.{Follows, MayEnd, Produced, Settles, body_items, emptied, ended, expression_items, met, produced, step_of, system_items}
-use Rattle.pv_grammar.specs.Counting.{behind_comma, behind_end, behind_semicolon, counted, in_phase, nothing, turned, with_parameters, with_variables}
-use Rattle.pv_grammar.proofs.Ready.{Behind, FactorRoom, Gives, InExpression, IsApart, IsStill, Leaves, OpenRoom, Ready, ReadyAfter, aside, begun_seen, constraint_ready, gives_if, in_sides, inner_row, inside, kept_constraint, kept_factor, may_begin, opened, opened_sides, opened_still, phase_is, reads, seen, token, token_in}
+use Rattle.pv_grammar.specs.Counting.{behind_end, behind_semicolon, counted, in_phase, nothing, turned, with_parameters, with_variables}
+use Rattle.pv_grammar.proofs.Ready.{Behind, comma_in, FactorRoom, Gives, IsApart, IsStill, Leaves, OpenRoom, Ready, ReadyAfter, aside, begun_seen, constraint_ready, gives_if, in_sides, inner_row, inside, kept_constraint, kept_factor, may_begin, opened, opened_sides, opened_still, phase_is, reads, seen, token, token_in}
 use Rattle.pv_grammar.specs.Standings.{begins_expression}
 
 -- ---- What is to come within one part of a text
@@ -27,18 +27,13 @@ stays_in p c d m l = phase_is c d l ∙ m
 still_in : (p q : Phase) → q ≡ p → IsStill p → IsStill q
 still_in p q e h = subst IsStill (sym e) h
 
--- `=`, a sign or none, and the value
+-- a sign or none, and a value or a bound, which ask and leave the same
+signed_ready : (p : Phase) (e : Counts) (rest : List Item) → IsStill p → e.phase ≡ p → Behind (λ d. seen d ≡ seen e) rest → Ready e (MaybeSign ∷ WantValue ∷ rest)
+signed_ready p e rest h m g = (still_in p e.phase m h, λ d l. (still_in p d.phase (stays_in p e d m l) h, λ d' k. g d' (k ∙ l)))
+
+-- `=` and the value
 value_ready : (e : Counts) (rest : List Item) → e.phase ≡ Constants → Behind (λ d. seen d ≡ seen e) rest → Ready e (WantEquals ∷ MaybeSign ∷ WantValue ∷ rest)
-value_ready e rest m g = (
-  tt,
-  λ d1 l1. (
-    still_in Constants d1.phase (stays_in Constants e d1 m l1) tt,
-    λ d2 l2. (
-      still_in Constants d2.phase (stays_in Constants e d2 m (l2 ∙ l1)) tt,
-      λ d3 l3. g d3 (l3 ∙ (l2 ∙ l1)),
-    ),
-  ),
-)
+value_ready e rest m g = (tt, λ d l. signed_ready Constants d rest tt (stays_in Constants e d m l) (λ d' k. g d' (k ∙ l)))
 
 -- the variables aside
 abbrev rest_of : Counts → Counts
@@ -51,22 +46,13 @@ bounds_ready : (e : Counts) (rest : List Item) → Behind (λ d. seen d ≡ in_p
     Ready e (Exactly OpenBracket ∷ MaybeSign ∷ WantBound ∷ Exactly Comma ∷ MaybeSign ∷ WantBound ∷ Exactly CloseBracket ∷ rest)
 bounds_ready e rest g = (
   tt,
-  λ d1 l1. let m : d1.phase ≡ Bounds = ap (λ (x : Counts). x.phase) l1 in (
-    still_in Bounds d1.phase m tt,
-    λ d2 l2. (
-      still_in Bounds d2.phase (stays_in Bounds d1 d2 m l2) tt,
-      λ d3 l3. (
-        stays_in Bounds d1 d3 m (l3 ∙ l2),
-        λ d4 l4. (
-          still_in Bounds d4.phase (stays_in Bounds d1 d4 m (l4 ∙ (l3 ∙ l2))) tt,
-          λ d5 l5. (
-            still_in Bounds d5.phase (stays_in Bounds d1 d5 m (l5 ∙ (l4 ∙ (l3 ∙ l2)))) tt,
-            λ d6 l6. (tt, λ d7 l7. g d7 (l7 ∙ ap (in_phase Variables) (l6 ∙ (l5 ∙ (l4 ∙ (l3 ∙ (l2 ∙ l1))))))),
-          ),
-        ),
-      ),
-    ),
-  ),
+  λ d1 l1. let m : d1.phase ≡ Bounds = ap (λ (x : Counts). x.phase) l1 in
+      signed_ready Bounds d1 (Exactly Comma ∷ MaybeSign ∷ WantBound ∷ Exactly CloseBracket ∷ rest) tt m
+      (λ d2 l2. (
+        stays_in Bounds d1 d2 m l2,
+        λ d3 l3. signed_ready Bounds d3 (Exactly CloseBracket ∷ rest) tt (stays_in Bounds d1 d3 m (l3 ∙ l2))
+            (λ d4 l4. (tt, λ d5 l5. g d5 (l5 ∙ ap (in_phase Variables) (l4 ∙ (l3 ∙ (l2 ∙ l1)))))),
+      )),
 )
 
 variables_back : (c d : Counts) → c.phase ≡ Variables → seen d ≡ in_phase Variables (seen c) → rest_of d ≡ rest_of c
@@ -159,10 +145,6 @@ semicolon_apart p c m = search
 opened_open : (p : Phase) (n : ℕ) (c : Counts) → OpenRoom p n → opened p c ≡ c
 opened_open Body n c h = refl
 opened_open p n c h = search
-
-comma_in : (p : Phase) (c : Counts) → InExpression p → behind_comma p c ≡ Ok c
-comma_in Body c m = refl
-comma_in p c m = search
 
 pub seen_end : (p : Phase) (c : Counts) → seen (behind_end p c) ≡ behind_end p (seen c)
 seen_end Body c = refl

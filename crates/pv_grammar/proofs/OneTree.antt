@@ -1,5 +1,5 @@
 -- Tokens have one tree.
-use Rattle.std.proofs.Common.{◌≡◌, ◌≢◌, ℕ, zero, suc, List, [], ◌∷◌, ◌++◌, true, Option, Some, None, refl, ap, sym, subst, ◌∙◌}
+use Rattle.std.proofs.Common.{◌≡◌, ◌≢◌, ℕ, zero, suc, List, [], ◌∷◌, ◌++◌, true, Option, None, refl, ap, sym, subst, ◌∙◌}
 use Rattle.std.proofs.Props.{props}
 use Rattle.pv_code.specs.declared.code.Op.{Op}
 use Rattle.pv_code.specs.declared.code.Op.TheVariants.{One, Two, Call}
@@ -12,9 +12,9 @@ use Rattle.pv_grammar.specs.declared.symbol.Symbol.TheVariants.{Declared, Functi
 use Rattle.pv_grammar.specs.Grammar.{Derives, MayEnd, Produced, begun, done, expression_items, left_out, produced, system_items}
 use Rattle.pv_grammar.specs.Productions.{Expression, System, expression_symbols, product_of, relates, sum_of, system_of, system_symbols}
 use Rattle.pv_grammar.specs.TreeCodes.{IsCalled, IsKnown, expression_code, system_code}
-use Rattle.pv_grammar.proofs.Forward.{clash, head_is, none_some, shut, tail_is}
-use Rattle.pv_grammar.proofs.Orderly.{Orderly, OrderlyAfter, expression_orderly, behind, kept, system_orderly}
-use Rattle.pv_grammar.proofs.TreeBuilding.{Builds, Trees, all_code, all_symbols, builds, none_of, none_symbols}
+use Rattle.pv_grammar.proofs.Forward.{after_some, clash, head_is, shut, tail_is}
+use Rattle.pv_grammar.proofs.Orderly.{Orderly, expression_orderly, behind, system_orderly}
+use Rattle.pv_grammar.proofs.TreeBuilding.{Trees, TreesBehind, all_code, all_symbols, builds, none_of, none_symbols, of_parts, of_trees, symbols_behind}
 use Rattle.pv_grammar.proofs.TreeReadings.{Built, expression_is_read, expression_tokens, numbers, parts_of, reads, seen, seen_in, seen_out, system_reads, system_tokens, trees_of}
 
 none_same : (i : Item) (may may' : MayEnd i) → none_of i may ≡ none_of i may'
@@ -27,16 +27,12 @@ record Starts (i : Item) (s : Symbol) (rest : List Item) (x : Trees (i ∷ rest)
   symbols : s ∷ behind ≡ all_symbols (i ∷ rest) x
   begins : produced i s ≢ None
 
-starts_by : (i : Item) (s : Symbol) (rest : List Item) (o : Option Produced) (b : Builds i s rest o) (x : Trees (i ∷ rest)) → produced i s ≡ o → Built i s rest o b x → Starts i s rest x
-starts_by i s rest None b x e built = absurd built
-starts_by i s rest (Some p) b x e built = record {
-  behind = all_symbols (p.0 ++ rest) built.0;
-  symbols = (b built.0).symbols ∙ ap (all_symbols (i ∷ rest)) built.1;
-  begins = λ none. none_some none e;
+starts : (i : Item) (s : Symbol) (rest : List Item) (h : IsKnown s) (x : Trees (i ∷ rest)) → Built i s rest h x → Starts i s rest x
+starts i s rest h x (y, is) = record {
+  behind = symbols_behind (produced i s) rest y;
+  symbols = (builds i s rest h y).symbols ∙ ap (all_symbols (i ∷ rest)) is;
+  begins = λ none. subst (λ (o : Option Produced). TreesBehind o rest) none y;
 }
-
-starts : (i : Item) (s : Symbol) (rest : List Item) (h : IsKnown s) (x : Trees (i ∷ rest)) → Built i s rest (produced i s) (builds i s rest h) x → Starts i s rest x
-starts i s rest h x built = starts_by i s rest (produced i s) (builds i s rest h) x refl built
 
 called_once : (op : Op) (n : ℕ) → IsProp (IsCalled op n)
 called_once (Call f n) (suc m) = numbers n (suc m)
@@ -50,39 +46,29 @@ known_once (FunctionName op arity) = called_once op arity
 known_once (Declared true) = hlevel props
 known_once s = hlevel props
 
--- two trees that the same builder makes behind a token
-record Both (i : Item) (s : Symbol) (rest : List Item) (x y : Trees (i ∷ rest)) (o : Option Produced) : Type 0 where
-  builder : Builds i s rest o
-  left : Built i s rest o builder x
-  right : Built i s rest o builder y
-
 abbrev BeginsWith : (i : Item) (rest : List Item) (x : Trees (i ∷ rest)) (s : Symbol) → Type 0
-BeginsWith i rest x s = (h : IsKnown s) × Built i s rest (produced i s) (builds i s rest h) x
-
-both : (i : Item) (s : Symbol) (rest : List Item) (x y : Trees (i ∷ rest)) → BeginsWith i rest x s → BeginsWith i rest y s → Both i s rest x y (produced i s)
-both i s rest x y begins also = record {
-  builder = builds i s rest begins.0;
-  left = begins.1;
-  right = subst (λ (h : IsKnown s). Built i s rest (produced i s) (builds i s rest h) y) (known_once s also.0 begins.0) also.1;
-}
+BeginsWith i rest x s = (h : IsKnown s) × Built i s rest h x
 
 -- a tree whose first token is known begins with it
-begins_at : (i : Item) (s : Symbol) (rest : List Item) (ss : List Symbol) (x : Trees (i ∷ rest)) (s' : Symbol) (h : IsKnown s') → s ∷ ss ≡ all_symbols (i ∷ rest) x →
-    Built i s' rest (produced i s') (builds i s' rest h) x → BeginsWith i rest x s
+begins_at : (i : Item) (s : Symbol) (rest : List Item) (ss : List Symbol) (x : Trees (i ∷ rest)) (s' : Symbol) (h : IsKnown s') → s ∷ ss ≡ all_symbols (i ∷ rest) x → Built i s' rest h x → BeginsWith i rest x s
 begins_at i s rest ss x s' h e built = subst (BeginsWith i rest x) (head_is ((starts i s' rest h x built).symbols ∙ sym e)) (h, built)
 
-built_alike : (i : Item) (s : Symbol) (rest : List Item) (x y : Trees (i ∷ rest)) (p : Produced) (ss : List Symbol) → Both i s rest x y (Some p) →
-    s ∷ ss ≡ all_symbols (i ∷ rest) x → s ∷ ss ≡ all_symbols (i ∷ rest) y →
-    ((x' y' : Trees (p.0 ++ rest)) → ss ≡ all_symbols (p.0 ++ rest) x' → ss ≡ all_symbols (p.0 ++ rest) y' → x' ≡ y') → x ≡ y
-built_alike i s rest x y p ss b e f same =
-    let left_is = tail_is (e ∙ ap (all_symbols (i ∷ rest)) (sym b.left.1) ∙ sym (b.builder b.left.0).symbols) in
-    let right_is = tail_is (f ∙ ap (all_symbols (i ∷ rest)) (sym b.right.1) ∙ sym (b.builder b.right.0).symbols) in
-    sym b.left.1 ∙ ap (λ (z : Trees (p.0 ++ rest)). (b.builder z).trees) (same b.left.0 b.right.0 left_is right_is) ∙ b.right.1
+-- trees of what is behind the token are alike where their tokens are
+abbrev AreOne : Option Produced → List Item → List Symbol → Type 0
+AreOne o rest ss = (x y : TreesBehind o rest) → ss ≡ symbols_behind o rest x → ss ≡ symbols_behind o rest y → x ≡ y
+
+built_alike : (i : Item) (s : Symbol) (rest : List Item) (x y : Trees (i ∷ rest)) (ss : List Symbol) → BeginsWith i rest x s → BeginsWith i rest y s →
+    s ∷ ss ≡ all_symbols (i ∷ rest) x → s ∷ ss ≡ all_symbols (i ∷ rest) y → AreOne (produced i s) rest ss → x ≡ y
+built_alike i s rest x y ss (h, a) (k, b) e f same =
+    let c : Built i s rest h y = subst (λ (g : IsKnown s). Built i s rest g y) (known_once s k h) b in
+    let left_is = tail_is (e ∙ ap (all_symbols (i ∷ rest)) (sym a.1) ∙ sym (builds i s rest h a.0).symbols) in
+    let right_is = tail_is (f ∙ ap (all_symbols (i ∷ rest)) (sym c.1) ∙ sym (builds i s rest h c.0).symbols) in
+    sym a.1 ∙ ap (λ (z : TreesBehind (produced i s) rest). (builds i s rest h z).trees) (same a.0 c.0 left_is right_is) ∙ c.1
 
 one_tree : (items : List Item) (ss : List Symbol) (code : List Op) → Derives items ss code → Orderly items → (x y : Trees items) → ss ≡ all_symbols items x → ss ≡ all_symbols items y → x ≡ y
 one_tree items ss code (done) o x y e f = refl
 one_tree items ss code (left_out i rest ss' code' may d) o x y e f =
-    let never : (z : Trees (i ∷ rest)) (s : Symbol) (h : IsKnown s) → ss' ≡ all_symbols (i ∷ rest) z → Built i s rest (produced i s) (builds i s rest h) z → ⊥ =
+    let never : (z : Trees (i ∷ rest)) (s : Symbol) (h : IsKnown s) → ss' ≡ all_symbols (i ∷ rest) z → Built i s rest h z → ⊥ =
     λ z s h g built.
     (let begins = starts i s rest h z built in
     shut s begins.behind rest code' (behind i s rest o.0 may begins.begins) (subst (λ (w : List Symbol). Derives rest w code') (g ∙ sym begins.symbols) d)) in
@@ -107,17 +93,12 @@ one_tree items ss code (begun i rest s ss' p code' made d) o x y e f =
           elim (seen i y.0 rest y.1) [
             | seen_out m is ↦ absurd (never y m f is)
             | seen_in s2 h2 built2 ↦
-                let b = subst (Both i s rest x y) made (both i s rest x y (begins_at i s rest ss' x s1 h1 e built1) (begins_at i s rest ss' y s2 h2 f built2)) in
-                built_alike i s rest x y p ss' b e f (one_tree (p.0 ++ rest) ss' code' d (subst (λ (z : Option Produced). OrderlyAfter z rest) made (kept i s rest o)))
+                built_alike i s rest x y ss' (begins_at i s rest ss' x s1 h1 e built1) (begins_at i s rest ss' y s2 h2 f built2) e f
+                (subst (λ (z : Option Produced). AreOne z rest ss') (sym made) (one_tree (p.0 ++ rest) ss' code' d (after_some i s rest p o made)))
           ]
     ]
 
 -- ---- Systems and expressions
-
-abbrev of_trees : Trees system_items → System
-of_trees x =
-    let y = x.1.1.1.1.1.1.1 in
-    system_of x.0 x.1.0 x.1.1.1.0 x.1.1.1.1.0 x.1.1.1.1.1.0 (relates (sum_of (product_of y.0 y.1.0) y.1.1.0) y.1.1.1.0.0 y.1.1.1.0.1) y.1.1.1.1.0
 
 whole_system : (x : System) → of_trees (trees_of x) ≡ x
 whole_system (system_of block before v vs behind (relates (sum_of (product_of x xs) ts) r e) cs) = refl
@@ -128,9 +109,6 @@ one_system_tree x y e =
     ∙ ap of_trees
     (one_tree system_items (system_symbols x []) (system_code x []) (system_reads x).derived system_orderly (trees_of x) (trees_of y) (system_tokens x) (e ∙ system_tokens y))
     ∙ whole_system y
-
-abbrev of_parts : Trees expression_items → Expression
-of_parts x = sum_of (product_of x.0 x.1.0) x.1.1.0
 
 whole_expression : (e : Expression) → of_parts (parts_of e) ≡ e
 whole_expression (sum_of (product_of x xs) ts) = refl

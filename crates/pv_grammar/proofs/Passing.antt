@@ -7,14 +7,14 @@ use Rattle.pv_grammar.specs.declared.cause.Cause.TheVariants.{TooDeep, Unexpecte
 use Rattle.pv_grammar.specs.declared.counts.Counts.{Counts}
 use Rattle.pv_grammar.specs.declared.counts.Phase.{Phase}
 use Rattle.pv_grammar.specs.declared.counts.Phase.TheVariants.{Body, Sides}
-use Rattle.pv_grammar.specs.declared.symbol.Fixed.TheVariants.{Plus, Minus, Star, Slash, Caret, Open, Close, Comma}
+use Rattle.pv_grammar.specs.declared.symbol.Fixed.TheVariants.{Open, Close, Comma}
 use Rattle.pv_grammar.specs.declared.symbol.Symbol.{Symbol}
-use Rattle.pv_grammar.specs.declared.symbol.Symbol.TheVariants.{Fixed as FixedToken, Relation as RelationToken, Number, Constant as ConstantName, Variable as VariableName, Parameter as ParameterName, Function as Call}
-use Rattle.pv_grammar.specs.Counting.{Counted, Counting, counted, levels, moved, nested, next, operated, operates, where_below}
+use Rattle.pv_grammar.specs.declared.symbol.Symbol.TheVariants.{Fixed as FixedToken, Function as Call}
+use Rattle.pv_grammar.specs.Counting.{Counted, Counting, begins, counted, levels, moved, next, operates, where_below, within}
 use Rattle.pv_grammar.specs.Standings.{begins_expression}
 use Rattle.pv_grammar.specs.Limits.{IsExpressionWithin, arguments_depth, arguments_operations, expression_depth, expression_operations, factor_depth, factor_operations, factors_depth, factors_operations, power_operations, primary_depth, primary_operations, term_depth, term_operations, terms_depth, terms_operations}
 use Rattle.pv_grammar.specs.Productions.{Arguments, Expression, Factor, Factors, Power, Primary, Term, Terms, absolute_of, argument, arguments_symbols, call, constant_named, expression_symbols, factor_symbols, factors_symbols, greatest_of, least_of, minus, negative, no_argument, no_factor, no_power, no_term, number, over, parameter_at, parentheses, plus, positive, power_symbols, primary_symbols, product_of, raised, square_of, sum_of, term_symbols, terms_symbols, times, to_power, variable_at}
-use Rattle.pv_grammar.proofs.Ready.{InExpression, made}
+use Rattle.pv_grammar.proofs.Ready.{InExpression, comma_in, made}
 
 -- ---- Parts of a text
 
@@ -92,62 +92,38 @@ at c l o = made c.phase l o c.parameters c.functions c.variables c.constraints
 abbrev leveled : Symbol → Counts → Counting
 leveled s e = next (levels s e) (λ g. moved g s)
 
-if_same : (b : Bool) (x : Counting) → (if b then x else x) ≡ x
-if_same true x = refl
-if_same false x = refl
-
-next_same : (t u : Bool) (x y : Counts) (c : Cause) (f g : Counts → Counting) → f x ≡ g x → f y ≡ g y →
-    next (if t then (if u then Ok x else Err c) else Ok y) f ≡ next (if t then (if u then Ok x else Err c) else Ok y) g
-next_same true true x y c f g e h = e
-next_same true false x y c f g e h = refl
-next_same false u x y c f g e h = h
+pub inside_begun : (b : Bool) (p : Phase) (c : Counts) → InExpression p → (if b then begins p c else Ok c) ≡ Ok c
+inside_begun false p c i = refl
+inside_begun true Body c i = refl
+inside_begun true p c i = search
 
 -- within an expression a token counts as an operation, and then opens a level
-inside_is : (p : Phase) (s : Symbol) → InExpression p → (l o a f v k : ℕ) →
+pub inside_is : (p : Phase) (s : Symbol) → InExpression p → (l o a f v k : ℕ) →
     counted (made p l o a f v k) s ≡ next (if operates s then where_below o 1000 TooDeep (made p l (o + 1) a f v k) else Ok (made p l o a f v k)) (leveled s)
-inside_is Body s i l o a f v k =
-    ap (λ (r : Counting). next r (λ d. next (operated d s) (λ e. next (nested e s) (λ g. moved g s)))) (if_same (begins_expression s) (Ok (made Body l o a f v k)))
-    ∙ next_same (operates s) (nat_lt o 1000) (made Body l (o + 1) a f v k) (made Body l o a f v k) TooDeep (λ e. next (nested e s) (λ g. moved g s)) (leveled s) refl refl
-inside_is Sides s i l o a f v k =
-    ap (λ (r : Counting). next r (λ d. next (operated d s) (λ e. next (nested e s) (λ g. moved g s)))) (if_same (begins_expression s) (Ok (made Sides l o a f v k)))
-    ∙ next_same (operates s) (nat_lt o 1000) (made Sides l (o + 1) a f v k) (made Sides l o a f v k) TooDeep (λ e. next (nested e s) (λ g. moved g s)) (leveled s) refl refl
+inside_is Body s i l o a f v k = ap (λ (r : Counting). next r (λ d. within d s)) (inside_begun (begins_expression s) Body (made Body l o a f v k) i)
+inside_is Sides s i l o a f v k = ap (λ (r : Counting). next r (λ d. within d s)) (inside_begun (begins_expression s) Sides (made Sides l o a f v k) i)
 inside_is p s i l o a f v k = absurd i
 
-pass : (b : Bool) (x y : Counts) (cause : Cause) (f : Counts → Counting) → f x ≡ Ok y → next (if b then Ok x else Err cause) f ≡ (if b then Ok y else Err cause)
-pass true x y cause f e = e
-pass false x y cause f e = refl
+pub pass : (b : Bool) (x : Counts) (r : Counting) (cause : Cause) (f : Counts → Counting) → f x ≡ r → next (if b then Ok x else Err cause) f ≡ (if b then r else Err cause)
+pass true x r cause f e = e
+pass false x r cause f e = refl
 
-abbrev pub IsOperator : Symbol → Type 0
-IsOperator (FixedToken Plus) = Unit {0}
-IsOperator (FixedToken Minus) = Unit {0}
-IsOperator (FixedToken Star) = Unit {0}
-IsOperator (FixedToken Slash) = Unit {0}
-IsOperator (FixedToken Caret) = Unit {0}
-IsOperator s = ⊥
+-- a token that counts as an operation or does not, with nothing more
+abbrev pub IsPlain : Bool → Symbol → Type 0
+IsPlain b s = (operates s ≡ b) × ((c : Counts) → InExpression c.phase → leveled s c ≡ Ok c)
 
-pub operator_is : (p : Phase) (s : Symbol) → InExpression p → IsOperator s → (l o a f v k : ℕ) → counted (made p l o a f v k) s ≡ where_below o 1000 TooDeep (made p l (o + 1) a f v k)
-operator_is p (FixedToken Plus) i t l o a f v k = inside_is p (FixedToken Plus) i l o a f v k ∙ pass (nat_lt o 1000) _ _ TooDeep (leveled (FixedToken Plus)) refl
-operator_is p (FixedToken Minus) i t l o a f v k = inside_is p (FixedToken Minus) i l o a f v k ∙ pass (nat_lt o 1000) _ _ TooDeep (leveled (FixedToken Minus)) refl
-operator_is p (FixedToken Star) i t l o a f v k = inside_is p (FixedToken Star) i l o a f v k ∙ pass (nat_lt o 1000) _ _ TooDeep (leveled (FixedToken Star)) refl
-operator_is p (FixedToken Slash) i t l o a f v k = inside_is p (FixedToken Slash) i l o a f v k ∙ pass (nat_lt o 1000) _ _ TooDeep (leveled (FixedToken Slash)) refl
-operator_is p (FixedToken Caret) i t l o a f v k = inside_is p (FixedToken Caret) i l o a f v k ∙ pass (nat_lt o 1000) _ _ TooDeep (leveled (FixedToken Caret)) refl
-operator_is p s i t l o a f v k = absurd t
+pub operator_is : (p : Phase) (s : Symbol) → InExpression p → IsPlain true s → (l o a f v k : ℕ) → counted (made p l o a f v k) s ≡ where_below o 1000 TooDeep (made p l (o + 1) a f v k)
+operator_is p s i t l o a f v k =
+    inside_is p s i l o a f v k
+    ∙ (ap (λ (b : Bool). next (if b then where_below o 1000 TooDeep (made p l (o + 1) a f v k) else Ok (made p l o a f v k)) (leveled s)) t.0
+    ∙ pass (nat_lt o 1000) _ _ TooDeep (leveled s) (t.1 _ i))
 
-abbrev IsQuiet : Symbol → Type 0
-IsQuiet (RelationToken r) = Unit {0}
-IsQuiet (Number value exponent) = Unit {0}
-IsQuiet (ConstantName value) = Unit {0}
-IsQuiet (VariableName i) = Unit {0}
-IsQuiet (ParameterName i) = Unit {0}
-IsQuiet (FixedToken Comma) = Unit {0}
-IsQuiet s = ⊥
+quiet_is : (p : Phase) (s : Symbol) → InExpression p → IsPlain false s → (l o a f v k : ℕ) → counted (made p l o a f v k) s ≡ Ok (made p l o a f v k)
+quiet_is p s i t l o a f v k =
+    inside_is p s i l o a f v k
+    ∙ (ap (λ (b : Bool). next (if b then where_below o 1000 TooDeep (made p l (o + 1) a f v k) else Ok (made p l o a f v k)) (leveled s)) t.0 ∙ t.1 _ i)
 
-quiet_is : (p : Phase) (s : Symbol) → InExpression p → IsQuiet s → (l o a f v k : ℕ) → counted (made p l o a f v k) s ≡ Ok (made p l o a f v k)
-quiet_is Body (FixedToken Comma) i t l o a f v k = refl
-quiet_is p (FixedToken Comma) i t l o a f v k = search
-quiet_is p s i t l o a f v k = search
-
-pub open_is : (p : Phase) → InExpression p → (l o a f v k : ℕ) → counted (made p l o a f v k) (FixedToken Open) ≡ where_below l 100 TooDeep (made p (l + 1) o a f v k)
+open_is : (p : Phase) → InExpression p → (l o a f v k : ℕ) → counted (made p l o a f v k) (FixedToken Open) ≡ where_below l 100 TooDeep (made p (l + 1) o a f v k)
 open_is p i l o a f v k = inside_is p (FixedToken Open) i l o a f v k ∙ pass (nat_lt l 100) _ _ TooDeep (λ g. moved g (FixedToken Open)) refl
 
 back_one : (n : ℕ) → n + 1 - 1 ≡ n
@@ -156,20 +132,15 @@ back_one n = omega arith
 close_is : (p : Phase) → InExpression p → (l o a f v k : ℕ) → counted (made p (l + 1) o a f v k) (FixedToken Close) ≡ Ok (made p l o a f v k)
 close_is p i l o a f v k = inside_is p (FixedToken Close) i (l + 1) o a f v k ∙ ap (λ (n : ℕ). Ok (made p n o a f v k)) (back_one l)
 
-twice : (b t : Bool) (x y : Counts) (c d : Cause) (f g : Counts → Counting) → f x ≡ next (if t then Ok x else Err d) g → g x ≡ Ok y →
-    next (if b then Ok x else Err c) f ≡ (if b then (if t then Ok y else Err d) else Err c)
-twice true t x y c d f g e h = e ∙ pass t x y d g h
-twice false t x y c d f g e h = refl
-
 pub call_is : (p : Phase) → InExpression p → (op : Op) (n l o a f v k : ℕ) →
     counted (made p l o a f v k) (Call op n) ≡ (if nat_lt o 1000 then where_below l 100 Unexpected (made p l (o + 1) a f v k) else Err TooDeep)
 call_is p i op n l o a f v k =
-    inside_is p (Call op n) i l o a f v k ∙ twice (nat_lt o 1000) (nat_lt l 100) _ _ TooDeep Unexpected (leveled (Call op n)) (λ g. moved g (Call op n)) refl refl
+    inside_is p (Call op n) i l o a f v k ∙ pass (nat_lt o 1000) _ _ TooDeep (leveled (Call op n)) (pass (nat_lt l 100) _ _ Unexpected (λ g. moved g (Call op n)) refl)
 
-operator : (c : Counts) (l o : ℕ) {s : Symbol} {k : List Symbol} → InExpression c.phase → IsOperator s → Passes (at c l o) (s ∷ k) (o < 1000) (at c l (o + 1)) k
+operator : (c : Counts) (l o : ℕ) {s : Symbol} {k : List Symbol} → InExpression c.phase → IsPlain true s → Passes (at c l o) (s ∷ k) (o < 1000) (at c l (o + 1)) k
 operator c l o {s = s} i t = bounded o 1000 TooDeep (operator_is c.phase s i t l o c.parameters c.functions c.variables c.constraints)
 
-quiet : (c : Counts) (l o : ℕ) {s : Symbol} {k : List Symbol} → InExpression c.phase → IsQuiet s → Passes (at c l o) (s ∷ k) (Unit {0}) (at c l o) k
+quiet : (c : Counts) (l o : ℕ) {s : Symbol} {k : List Symbol} → InExpression c.phase → IsPlain false s → Passes (at c l o) (s ∷ k) (Unit {0}) (at c l o) k
 quiet c l o {s = s} i t = free (quiet_is c.phase s i t l o c.parameters c.functions c.variables c.constraints)
 
 called : (c : Counts) (l o : ℕ) {op : Op} {n : ℕ} {k : List Symbol} → InExpression c.phase → Passes (at c l o) (Call op n ∷ k) ((o < 1000) × ((l < 100) × Unit {0})) (at c l (o + 1)) k
@@ -207,7 +178,7 @@ fit_both l o n m n' m' (a, b) = ((omega (arith, a), omega (arith, b)), (omega (a
 none : (c : Counts) (l o : ℕ) {k : List Symbol} → Part c l o k 0 0 k
 none c l o = means (λ r. nothing_fits l o) (λ r. tt) (same_at c l o (o + 0) (no_more o)) stay
 
-alone : (c : Counts) (l o : ℕ) {s : Symbol} {k : List Symbol} → InExpression c.phase → IsQuiet s → Part c l o (s ∷ k) 0 0 k
+alone : (c : Counts) (l o : ℕ) {s : Symbol} {k : List Symbol} → InExpression c.phase → IsPlain false s → Part c l o (s ∷ k) 0 0 k
 alone c l o i t = means (λ r. nothing_fits l o) (λ r. tt) (same_at c l o (o + 0) (no_more o)) (quiet c l o i t)
 
 two_parts : (c : Counts) (l o n m n' m' : ℕ) {ss k rest : List Symbol} → Part c l o ss n m k → Part c l (o + m) k n' m' rest → Part c l o ss (max n n') (m + m') rest
@@ -216,12 +187,12 @@ two_parts c l o n m n' m' p q = means (both_fit l o n m n' m') (fit_both l o n m
 two_inner : (c : Counts) (l o n m n' m' : ℕ) {ss k rest : List Symbol} → Part c (l + 1) o ss n m k → Inner c l (o + m) k n' m' rest → Inner c l o ss (max n n') (m + m') rest
 two_inner c l o n m n' m' p q = means (both_fit (l + 1) o n m n' m') (fit_both (l + 1) o n m n' m') (same_at c l (o + m + m') (o + (m + m')) (omega arith)) (join p (λ r. q))
 
-behind_operator : (c : Counts) (l o n m : ℕ) {s : Symbol} {k rest : List Symbol} → InExpression c.phase → IsOperator s → Part c l (o + 1) k n m rest → Part c l o (s ∷ k) n (suc m) rest
+behind_operator : (c : Counts) (l o n m : ℕ) {s : Symbol} {k rest : List Symbol} → InExpression c.phase → IsPlain true s → Part c l (o + 1) k n m rest → Part c l o (s ∷ k) n (suc m) rest
 behind_operator c l o n m i t p =
     means (λ (a, (b, d)). (b, omega (arith, a, d))) (λ (b, d). (omega (arith, d), (b, omega (arith, d)))) (same_at c l (o + 1 + m) (o + suc m) (omega arith))
     (join (operator c l o i t) (λ r. p))
 
-pub behind_quiet : (c : Counts) (l o n m : ℕ) {s : Symbol} {k rest : List Symbol} → InExpression c.phase → IsQuiet s → Part c l o k n m rest → Part c l o (s ∷ k) n m rest
+pub behind_quiet : (c : Counts) (l o n m : ℕ) {s : Symbol} {k rest : List Symbol} → InExpression c.phase → IsPlain false s → Part c l o k n m rest → Part c l o (s ∷ k) n m rest
 behind_quiet c l o n m {s = s} i t p = free_then (quiet_is c.phase s i t l o c.parameters c.functions c.variables c.constraints) p
 
 -- an expression and the closing parenthesis
@@ -242,13 +213,13 @@ behind_name c l o n m i p =
 
 two_arguments : (c : Counts) (l o n m n' m' : ℕ) {ss rest k : List Symbol} → InExpression c.phase → Part c (l + 1) o ss n m (FixedToken Comma ∷ rest) →
     Part c (l + 1) (o + m) rest n' m' (FixedToken Close ∷ k) → Inner c l o ss (max n n') (m + m') k
-two_arguments c l o n m n' m' i p q = two_inner c l o n m n' m' p (closed c l (o + m) n' m' i (behind_quiet c (l + 1) (o + m) n' m' i tt q))
+two_arguments c l o n m n' m' i p q = two_inner c l o n m n' m' p (closed c l (o + m) n' m' i (behind_quiet c (l + 1) (o + m) n' m' i (refl, λ d j. comma_in d.phase d j) q))
 
 -- ---- Expressions
 
 power_passes : (x : Power) (c : Counts) → InExpression c.phase → (l o : ℕ) (k : List Symbol) → Part c l o (power_symbols x k) 0 (power_operations x) k
 power_passes no_power c i l o k = none c l o
-power_passes (to_power value n) c i l o k = behind_operator c l o 0 0 i tt (alone c l (o + 1) i tt)
+power_passes (to_power value n) c i l o k = behind_operator c l o 0 0 i (refl, λ d j. refl) (alone c l (o + 1) i (refl, λ d j. refl))
 
 least_one : (n : ℕ) → max n 0 ≡ n
 least_one n = omega arith
@@ -260,9 +231,9 @@ mutual
   terms_passes : (ts : Terms) (c : Counts) → InExpression c.phase → (l o : ℕ) (k : List Symbol) → Part c l o (terms_symbols ts k) (terms_depth ts) (terms_operations ts) k
   terms_passes no_term c i l o k = none c l o
   terms_passes (plus t ts) c i l o k =
-      behind_operator c l o _ _ i tt (two_parts c l (o + 1) _ _ _ _ (term_passes t c i l (o + 1) (terms_symbols ts k)) (terms_passes ts c i l (o + 1 + term_operations t) k))
+      behind_operator c l o _ _ i (refl, λ d j. refl) (two_parts c l (o + 1) _ _ _ _ (term_passes t c i l (o + 1) (terms_symbols ts k)) (terms_passes ts c i l (o + 1 + term_operations t) k))
   terms_passes (minus t ts) c i l o k =
-      behind_operator c l o _ _ i tt (two_parts c l (o + 1) _ _ _ _ (term_passes t c i l (o + 1) (terms_symbols ts k)) (terms_passes ts c i l (o + 1 + term_operations t) k))
+      behind_operator c l o _ _ i (refl, λ d j. refl) (two_parts c l (o + 1) _ _ _ _ (term_passes t c i l (o + 1) (terms_symbols ts k)) (terms_passes ts c i l (o + 1 + term_operations t) k))
 
   term_passes : (t : Term) (c : Counts) → InExpression c.phase → (l o : ℕ) (k : List Symbol) → Part c l o (term_symbols t k) (term_depth t) (term_operations t) k
   term_passes (product_of x xs) c i l o k = two_parts c l o _ _ _ _ (factor_passes x c i l o (factors_symbols xs k)) (factors_passes xs c i l (o + factor_operations x) k)
@@ -270,22 +241,22 @@ mutual
   factors_passes : (xs : Factors) (c : Counts) → InExpression c.phase → (l o : ℕ) (k : List Symbol) → Part c l o (factors_symbols xs k) (factors_depth xs) (factors_operations xs) k
   factors_passes no_factor c i l o k = none c l o
   factors_passes (times x xs) c i l o k =
-      behind_operator c l o _ _ i tt (two_parts c l (o + 1) _ _ _ _ (factor_passes x c i l (o + 1) (factors_symbols xs k)) (factors_passes xs c i l (o + 1 + factor_operations x) k))
+      behind_operator c l o _ _ i (refl, λ d j. refl) (two_parts c l (o + 1) _ _ _ _ (factor_passes x c i l (o + 1) (factors_symbols xs k)) (factors_passes xs c i l (o + 1 + factor_operations x) k))
   factors_passes (over x xs) c i l o k =
-      behind_operator c l o _ _ i tt (two_parts c l (o + 1) _ _ _ _ (factor_passes x c i l (o + 1) (factors_symbols xs k)) (factors_passes xs c i l (o + 1 + factor_operations x) k))
+      behind_operator c l o _ _ i (refl, λ d j. refl) (two_parts c l (o + 1) _ _ _ _ (factor_passes x c i l (o + 1) (factors_symbols xs k)) (factors_passes xs c i l (o + 1 + factor_operations x) k))
 
   factor_passes : (x : Factor) (c : Counts) → InExpression c.phase → (l o : ℕ) (k : List Symbol) → Part c l o (factor_symbols x k) (factor_depth x) (factor_operations x) k
-  factor_passes (positive x) c i l o k = behind_operator c l o _ _ i tt (factor_passes x c i l (o + 1) k)
-  factor_passes (negative x) c i l o k = behind_operator c l o _ _ i tt (factor_passes x c i l (o + 1) k)
+  factor_passes (positive x) c i l o k = behind_operator c l o _ _ i (refl, λ d j. refl) (factor_passes x c i l (o + 1) k)
+  factor_passes (negative x) c i l o k = behind_operator c l o _ _ i (refl, λ d j. refl) (factor_passes x c i l (o + 1) k)
   factor_passes (raised x exponent) c i l o k =
       subst (λ (n : ℕ). Part c l o (primary_symbols x (power_symbols exponent k)) n (primary_operations x + power_operations exponent) k) (least_one (primary_depth x))
       (two_parts c l o _ _ _ _ (primary_passes x c i l o (power_symbols exponent k)) (power_passes exponent c i l (o + primary_operations x) k))
 
   primary_passes : (x : Primary) (c : Counts) → InExpression c.phase → (l o : ℕ) (k : List Symbol) → Part c l o (primary_symbols x k) (primary_depth x) (primary_operations x) k
-  primary_passes (number value exponent) c i l o k = alone c l o i tt
-  primary_passes (constant_named value) c i l o k = alone c l o i tt
-  primary_passes (variable_at n) c i l o k = alone c l o i tt
-  primary_passes (parameter_at n) c i l o k = alone c l o i tt
+  primary_passes (number value exponent) c i l o k = alone c l o i (refl, λ d j. refl)
+  primary_passes (constant_named value) c i l o k = alone c l o i (refl, λ d j. refl)
+  primary_passes (variable_at n) c i l o k = alone c l o i (refl, λ d j. refl)
+  primary_passes (parameter_at n) c i l o k = alone c l o i (refl, λ d j. refl)
   primary_passes (parentheses e) c i l o k = group c l o _ _ i (closed c l o _ _ i (expression_passes e c i (l + 1) o (FixedToken Close ∷ k)))
   primary_passes (absolute_of e) c i l o k = behind_name c l o _ _ i (closed c l (o + 1) _ _ i (expression_passes e c i (l + 1) (o + 1) (FixedToken Close ∷ k)))
   primary_passes (square_of e) c i l o k = behind_name c l o _ _ i (closed c l (o + 1) _ _ i (expression_passes e c i (l + 1) (o + 1) (FixedToken Close ∷ k)))
@@ -301,7 +272,7 @@ mutual
   arguments_passes : (more : Arguments) (c : Counts) → InExpression c.phase → (l o : ℕ) (k : List Symbol) → Inner c l o (arguments_symbols more k) (arguments_depth more) (arguments_operations more) k
   arguments_passes no_argument c i l o k = closed c l o 0 0 i (none c (l + 1) o)
   arguments_passes (argument e more) c i l o k =
-      two_inner c l o _ _ _ _ (behind_quiet c (l + 1) o _ _ i tt (expression_passes e c i (l + 1) o (arguments_symbols more k))) (arguments_passes more c i l (o + expression_operations e) k)
+      two_inner c l o _ _ _ _ (behind_quiet c (l + 1) o _ _ i (refl, λ d j. comma_in d.phase d j) (expression_passes e c i (l + 1) o (arguments_symbols more k))) (arguments_passes more c i l (o + expression_operations e) k)
 
 -- an expression that stands alone
 pub whole_passes : (e : Expression) (c : Counts) → InExpression c.phase → (k : List Symbol) → Passes (at c 0 0) (expression_symbols e k) (IsExpressionWithin e) (at c 0 (expression_operations e)) k

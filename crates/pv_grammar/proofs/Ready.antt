@@ -11,9 +11,9 @@ use Rattle.pv_grammar.specs.declared.symbol.Fixed.TheVariants.{Plus, Minus, Open
 use Rattle.pv_grammar.specs.declared.symbol.Symbol.{Symbol}
 use Rattle.pv_grammar.specs.declared.symbol.Symbol.TheVariants.{Fixed as FixedToken, Number, Constant as ConstantName, Variable as VariableName, Parameter as ParameterName, Function as Call, Unknown}
 use Rattle.pv_grammar.specs.declared.machine.Item.{Item}
-use Rattle.pv_grammar.specs.declared.machine.Item.TheVariants.{Exactly, MaybeConstants, WantConstant, MoreConstants, MaybeConstant, MaybeSign, WantValue, MaybeFunctions, WantFunctionName, WantParameter, MoreParameters, MaybeSemicolon, WantVariable, MoreVariables, MaybeVariable, MaybeDomain, WantBound, WantRelation, MoreConstraints, MaybeConstraint, WantFactor, MoreFactors, MoreTerms, MaybePower, WantExponent, MoreArguments, Then}
+use Rattle.pv_grammar.specs.declared.machine.Item.TheVariants.{Exactly, MaybeConstants, WantConstant, MoreConstants, MaybeConstant, WantEquals, MaybeSign, WantValue, MaybeFunctions, WantFunctionName, WantParameter, MoreParameters, MaybeSemicolon, WantVariable, MoreVariables, MaybeVariable, MaybeDomain, WantBound, WantRelation, MoreConstraints, MaybeConstraint, WantFactor, MoreFactors, MoreTerms, MaybePower, WantExponent, MoreArguments, Then}
 use Rattle.pv_grammar.specs.Grammar.{Produced, produced, with_more}
-use Rattle.pv_grammar.specs.Counting.{Counting, begins, begun, behind_end, counted, in_expression, in_level, in_phase, levels, moved, nested, next, operated, operates, with_constraints, with_operations, with_parameters, with_variables}
+use Rattle.pv_grammar.specs.Counting.{Counting, begins, begun, behind_comma, behind_end, counted, in_expression, in_level, in_phase, levels, moved, next, operated, operates, with_constraints, with_operations, with_parameters, with_variables}
 use Rattle.pv_grammar.specs.Standings.{begins_expression}
 
 abbrev pub made : Phase → ℕ → ℕ → ℕ → ℕ → ℕ → ℕ → Counts
@@ -108,16 +108,13 @@ Room WantVariable c = (c.phase ≡ Variables) × (nat_lt c.variables 12 ≡ true
 Room MoreVariables c = c.phase ≡ Variables
 Room MaybeVariable c = c.phase ≡ Variables
 Room MaybeDomain c = c.phase ≡ Variables
-Room WantRelation c = InExpression c.phase
 Room MoreConstraints c = c.phase ≡ Sides
 Room MaybeConstraint c = c.phase ≡ NextConstraint
 Room WantFactor c = FactorRoom c.phase c.constraints
-Room MoreFactors c = InExpression c.phase
-Room MoreTerms c = InExpression c.phase
-Room MaybePower c = InExpression c.phase
-Room WantExponent c = InExpression c.phase
-Room (MoreArguments n) c = InExpression c.phase
-Room i c = Unit {0}
+Room MaybeConstants c = Unit {0}
+Room WantEquals c = Unit {0}
+Room (Then op) c = Unit {0}
+Room i c = InExpression c.phase
 
 -- each text of the item leads from some counts to such
 abbrev pub Leaves : Item → Counts → Counts → Type 0
@@ -169,9 +166,8 @@ begun_keeps P false p c h = h
 begun_keeps P true NextConstraint c h = gives_if P (nat_lt c.constraints 64) _ _ (λ t. h) tt
 begun_keeps P true p c h = h
 
-operated_keeps : (P : Counts → Type 0) (c : Counts) (s : Symbol) → P c → ((o : ℕ) → in_expression c.phase ≡ true → P (with_operations o c)) → Gives P (operated c s)
-operated_keeps P c s h g =
-    gives_if P (in_expression c.phase) _ _ (λ t. gives_if P (operates s) _ _ (λ u. gives_if P (nat_lt c.operations 1000) _ _ (λ v. g (c.operations + 1) t) tt) h) h
+operated_keeps : (P : Counts → Type 0) (c : Counts) (s : Symbol) → P c → ((o : ℕ) → P (with_operations o c)) → Gives P (operated c s)
+operated_keeps P c s h g = gives_if P (operates s) _ _ (λ u. gives_if P (nat_lt c.operations 1000) _ _ (λ v. g (c.operations + 1)) tt) h
 
 levels_keeps : (P : Counts → Type 0) (s : Symbol) (c : Counts) → P c → ((l : ℕ) → P (in_level l c)) → Gives P (levels s c)
 levels_keeps P (FixedToken Open) c h g = gives_if P (nat_lt c.level 100) _ _ (λ t. g (c.level + 1)) tt
@@ -179,16 +175,16 @@ levels_keeps P (FixedToken Close) c h g = g (c.level - 1)
 levels_keeps P (Call op arity) c h g = gives_if P (nat_lt c.level 100) _ _ (λ t. h) tt
 levels_keeps P s c h g = h
 
-nested_keeps : (P : Counts → Type 0) (c : Counts) (s : Symbol) → P c → ((l : ℕ) → in_expression c.phase ≡ true → P (in_level l c)) → Gives P (nested c s)
-nested_keeps P c s h g = gives_if P (in_expression c.phase) _ _ (λ t. levels_keeps P s c h (λ l. g l t)) h
-
 -- what is known where a token moves the text on is known behind it, if it asks nothing of the operations and levels of an expression
 pub walk : (P Q : Counts → Type 0) (c : Counts) (s : Symbol) → Q (begun_seen (begins_expression s) c.phase c) →
     ((d : Counts) (l o : ℕ) → Q d → in_expression d.phase ≡ true → Q (in_level l (with_operations o d))) → ((d : Counts) → Q d → Gives P (moved d s)) → Gives P (counted c s)
 walk P Q c s starts keeps ends =
+    let R : Counts → Type 0 = λ d. Q d × (in_expression d.phase ≡ true) in
     gives_next P Q (begun c s) _ (begun_keeps Q (begins_expression s) c.phase c starts)
-    (λ d q. gives_next P Q (operated d s) _ (operated_keeps Q d s q (λ o t. keeps d d.level o q t))
-    (λ e r. gives_next P Q (nested e s) _ (nested_keeps Q e s r (λ l t. keeps e l e.operations r t)) ends))
+    (λ d q. gives_if P (in_expression d.phase) _ _
+    (λ t. gives_next P R (operated d s) _ (operated_keeps R d s (q, t) (λ o. (keeps d d.level o q t, t)))
+    (λ e r. gives_next P Q (levels s e) _ (levels_keeps Q s e r.0 (λ l. keeps e l e.operations r.0 r.1)) ends))
+    (ends d q))
 
 seen_begun : (b : Bool) (p : Phase) (c : Counts) → seen (begun_seen b p c) ≡ begun_seen b p (seen c)
 seen_begun false p c = refl
@@ -232,6 +228,10 @@ begun_in false p c h = refl
 pub opened_still : (p : Phase) (c : Counts) → IsStill p → opened p c ≡ c
 opened_still Constants c h = refl
 opened_still p c h = search
+
+pub comma_in : (p : Phase) (c : Counts) → InExpression p → behind_comma p c ≡ Ok c
+comma_in Body c m = refl
+comma_in p c m = search
 
 pub room_in : (p : Phase) (n : ℕ) → InExpression p → FactorRoom p n
 room_in Body n h = tt
@@ -308,20 +308,25 @@ factor_row : (items : List Item) (c e : Counts) (rest : List Item) → all_inner
 factor_row items c e rest all m l g = inside items e rest all (opened_inside c.phase c e m refl l) (λ d k. g d (k ∙ l))
 
 -- a function's name leaves room for its parenthesis
-nested_room : (p : Phase) (l o a f v k : ℕ) (op : Op) (arity : ℕ) → InExpression p → Gives (λ d. OpenRoom d.phase d.level) (nested (made p l o a f v k) (Call op arity))
-nested_room Body l o a f v k op arity h = gives_if _ (nat_lt l 100) _ _ (λ t. t) tt
-nested_room Sides l o a f v k op arity h = gives_if _ (nat_lt l 100) _ _ (λ t. t) tt
-nested_room p l o a f v k op arity h = absurd h
+in_room : (p : Phase) (n : ℕ) → InExpression p → nat_lt n 100 ≡ true → OpenRoom p n
+in_room Body n h e = e
+in_room Sides n h e = e
+in_room p n h e = absurd h
+
+in_true : (p : Phase) → InExpression p → in_expression p ≡ true
+in_true Body h = refl
+in_true p h = search
 
 call_room : (c e : Counts) (op : Op) (arity : ℕ) → MayBegin c.phase → counted c (Call op arity) ≡ Ok e → OpenRoom e.phase e.level
 call_room c e op arity m h =
     let P : Counts → Type 0 = λ d. OpenRoom d.phase d.level in
     let Q : Counts → Type 0 = λ d. seen d ≡ opened c.phase (seen c) in
+    let s : Symbol = Call op arity in
     subst (Gives P) h
-    (gives_next P Q (begun c (Call op arity)) _ (begun_keeps Q true c.phase c (seen_begun true c.phase c))
-    (λ d q. gives_next P Q (operated d (Call op arity)) _ (operated_keeps Q d (Call op arity) q (λ o t. q))
-    (λ x r. gives_next P P (nested x (Call op arity)) _
-    (nested_room x.phase x.level x.operations x.parameters x.functions x.variables x.constraints op arity (opened_inside c.phase c x m refl r)) (λ y z. z))))
+    (gives_next P Q (begun c s) _ (begun_keeps Q true c.phase c (seen_begun true c.phase c))
+    (λ d q. subst (λ (b : Bool). Gives P (if b then next (operated d s) (λ x. next (levels s x) (λ y. moved y s)) else moved d s)) (sym (in_true d.phase (opened_inside c.phase c d m refl q)))
+    (gives_next P Q (operated d s) _ (operated_keeps Q d s q (λ o. q))
+    (λ x r. gives_next P P (levels s x) _ (gives_if P (nat_lt x.level 100) _ _ (λ t. in_room x.phase x.level (opened_inside c.phase c x m refl r) t) tt) (λ y z. z)))))
 
 pub kept_factor : (s : Symbol) (c e : Counts) (rest : List Item) → MayBegin c.phase → counted c s ≡ Ok e → Behind (λ d. seen d ≡ opened c.phase (seen c)) rest → ReadyAfter (produced WantFactor s) e rest
 kept_factor (FixedToken Plus) c e rest m h g = factor_row (WantFactor ∷ []) c e rest refl m (token c e (FixedToken Plus) (λ d. refl) h) g

@@ -10,11 +10,11 @@ use Rattle.pv_code.specs.declared.fraction.Fraction.{Fraction}
 use Rattle.pv_grammar.specs.declared.machine.Item.{Item}
 use Rattle.pv_grammar.specs.declared.machine.Item.TheVariants.{Exactly, MaybeConstants, WantConstant, MoreConstants, MaybeConstant, WantEquals, MaybeSign, WantValue, MaybeFunctions, WantFunctionName, WantParameter, MoreParameters, MaybeSemicolon, WantVariable, MoreVariables, MaybeVariable, MaybeDomain, WantBound, WantRelation, MoreConstraints, MaybeConstraint, WantFactor, MoreFactors, MoreTerms, MaybePower, WantExponent, MoreArguments, Then}
 use Rattle.pv_grammar.specs.declared.symbol.Fixed.{Fixed}
-use Rattle.pv_grammar.specs.declared.symbol.Fixed.TheVariants.{Plus, Minus, Star, Slash, Caret, Open, Close, OpenBracket, CloseBracket, Comma, Semicolon as SemicolonToken, Constants as ConstantsWord, Variables as VariablesWord, Constraints as ConstraintsWord, Function as FunctionWord, Return, End, In, Oo, EndOfText}
+use Rattle.pv_grammar.specs.declared.symbol.Fixed.TheVariants.{Plus, Minus, Star, Slash, Caret, Open, Close, Comma, Semicolon as SemicolonToken, Constants as ConstantsWord, Function as FunctionWord, In, Oo, EndOfText}
 use Rattle.pv_grammar.specs.declared.symbol.Symbol.{Symbol}
 use Rattle.pv_grammar.specs.declared.symbol.Symbol.TheVariants.{Fixed as FixedToken, Relation as RelationToken, Number, Declared, Constant as ConstantName, Variable as VariableName, Parameter as ParameterName, Function as FunctionName, Unknown}
-use Rattle.pv_grammar.specs.Grammar.{Derives, MayEnd, Produced, begun, done, exponent, expression_items, factor, left_out, produced, step_of, system_items, with_more}
-use Rattle.pv_grammar.specs.Productions.{Arguments, Constant, ConstantBlock, Constants, Constraint, Constraints, Domain, Expression, Factor, Factors, Functions, Limit, Parameters, Power, Primary, Semicolon, Separator, Sign, Terms, Variable, Variables, absolute_of, argument, between, bound_of, call, comma, constant_and, constant_limit, constant_named, constant_of, constants, constants_separator, constraint_and, constraints_semicolon, count, function_and, function_of, greatest_of, infinite_limit, least_of, minus, minus_sign, negative, no_argument, no_constant, no_constants, no_constraint, no_domain, no_factor, no_function, no_parameter, no_power, no_semicolon, no_sign, no_term, no_variable, number, number_limit, one_semicolon, over, parameter_and, parameter_at, parentheses, plus, plus_sign, positive, product_of, raised, relates, semicolon, square_of, sum_of, system_of, times, to_power, variable_and, variable_at, variable_of, variables_separator, arguments_symbols, constant_block_symbols, constant_symbols, constants_symbols, constraint_symbols, constraints_symbols, domain_symbols, expression_symbols, factor_symbols, factors_symbols, functions_symbols, limit_symbol, parameters_symbols, power_symbols, primary_symbols, semicolon_symbols, separator_symbol, sign_symbols, terms_symbols, variable_symbols, variables_symbols}
+use Rattle.pv_grammar.specs.Grammar.{Derives, MayEnd, Produced, begun, done, exactly, expression_items, factor, fixed, left_out, produced, step_of, system_items, with_more}
+use Rattle.pv_grammar.specs.Productions.{Arguments, Constant, ConstantBlock, Constants, Constraint, Constraints, Domain, Expression, Factor, Factors, Functions, Limit, Parameters, Power, Primary, Semicolon, Separator, Sign, Terms, Variable, Variables, absolute_of, argument, between, bound_of, call, comma, constant_and, constant_limit, constant_named, constant_of, constants, constants_separator, constraint_and, constraints_semicolon, count, function_and, function_of, greatest_of, infinite_limit, least_of, minus, minus_sign, negative, no_argument, no_constant, no_constants, no_constraint, no_domain, no_factor, no_function, no_parameter, no_power, no_semicolon, no_sign, no_term, no_variable, number, number_limit, one_semicolon, over, parameter_and, parameter_at, parentheses, plus, plus_sign, positive, product_of, raised, relates, semicolon, square_of, sum_of, System, system_of, times, to_power, variable_and, variable_at, variable_of, variables_separator, arguments_symbols, constant_block_symbols, constant_symbols, constants_symbols, constraint_symbols, constraints_symbols, domain_symbols, expression_symbols, factor_symbols, factors_symbols, functions_symbols, limit_symbol, parameters_symbols, power_symbols, primary_symbols, semicolon_symbols, separator_symbol, sign_symbols, terms_symbols, variable_symbols, variables_symbols}
 use Rattle.pv_grammar.specs.TreeCodes.{AreKnown, IsCalled, IsKnown, IsOfExpression, IsOfSystem, arguments_code, constraint_code, constraints_code, expression_code, factor_code, factors_code, functions_code, power_code, primary_code, terms_code}
 
 -- ---- The trees of an item, with their tokens and their code in front of what follows
@@ -50,28 +50,16 @@ TreeOf WantExponent = Fraction × ℕ
 TreeOf (MoreArguments n) = (more : Arguments) × (count more ≡ n)
 TreeOf i = Unit {0}
 
-abbrev pub further_constant : Perhaps (Constant × Constants) → List Symbol → List Symbol
-further_constant nothing_more k = k
-further_constant (one_more x) k = constant_symbols x.0 (constants_symbols x.1 k)
-
-abbrev pub further_variable : Perhaps (Variable × Variables) → List Symbol → List Symbol
-further_variable nothing_more k = k
-further_variable (one_more x) k = variable_symbols x.0 (variables_symbols x.1 k)
-
-abbrev pub further_constraint : Perhaps (Constraint × Constraints) → List Symbol → List Symbol
-further_constraint nothing_more k = k
-further_constraint (one_more x) k = constraint_symbols x.0 (constraints_symbols x.1 k)
-
-abbrev pub further_code : Perhaps (Constraint × Constraints) → List Op → List Op
-further_code nothing_more k = k
-further_code (one_more x) k = constraint_code x.0 (constraints_code x.1 k)
+abbrev pub perhaps : {X S : Type 0} → (X → List S → List S) → Perhaps X → List S → List S
+perhaps f nothing_more k = k
+perhaps f (one_more x) k = f x k
 
 abbrev pub item_symbols : (i : Item) → TreeOf i → List Symbol → List Symbol
 item_symbols (Exactly f) x k = FixedToken f ∷ k
 item_symbols MaybeConstants x k = constant_block_symbols x k
 item_symbols WantConstant x k = constant_symbols x k
 item_symbols MoreConstants x k = constants_symbols x k
-item_symbols MaybeConstant x k = further_constant x k
+item_symbols MaybeConstant x k = perhaps (λ (y : Constant × Constants). λ m. constant_symbols y.0 (constants_symbols y.1 m)) x k
 item_symbols WantEquals x k = RelationToken Eq ∷ k
 item_symbols MaybeSign x k = sign_symbols x k
 item_symbols WantValue x k = Number x.0 x.1 ∷ k
@@ -82,12 +70,12 @@ item_symbols MoreParameters x k = parameters_symbols x k
 item_symbols MaybeSemicolon x k = semicolon_symbols x k
 item_symbols WantVariable x k = variable_symbols x k
 item_symbols MoreVariables x k = variables_symbols x k
-item_symbols MaybeVariable x k = further_variable x k
+item_symbols MaybeVariable x k = perhaps (λ (y : Variable × Variables). λ m. variable_symbols y.0 (variables_symbols y.1 m)) x k
 item_symbols MaybeDomain x k = domain_symbols x k
 item_symbols WantBound x k = limit_symbol x ∷ k
 item_symbols WantRelation x k = RelationToken x.0 ∷ expression_symbols x.1 k
 item_symbols MoreConstraints x k = constraints_symbols x k
-item_symbols MaybeConstraint x k = further_constraint x k
+item_symbols MaybeConstraint x k = perhaps (λ (y : Constraint × Constraints). λ m. constraint_symbols y.0 (constraints_symbols y.1 m)) x k
 item_symbols WantFactor x k = factor_symbols x k
 item_symbols MoreFactors x k = factors_symbols x k
 item_symbols MoreTerms x k = terms_symbols x k
@@ -100,7 +88,7 @@ abbrev pub item_code : (i : Item) → TreeOf i → List Op → List Op
 item_code MaybeFunctions x k = functions_code x k
 item_code WantRelation x k = expression_code x.1 (Relate x.0 ∷ k)
 item_code MoreConstraints x k = constraints_code x k
-item_code MaybeConstraint x k = further_code x k
+item_code MaybeConstraint x k = perhaps (λ (y : Constraint × Constraints). λ m. constraint_code y.0 (constraints_code y.1 m)) x k
 item_code WantFactor x k = factor_code x k
 item_code MoreFactors x k = factors_code x k
 item_code MoreTerms x k = terms_code x k
@@ -158,10 +146,22 @@ none_code i rest may x = search
 
 -- ---- A token, and trees of what must follow it
 
--- trees of what a token produces become trees of the item, behind that token
+-- trees of what is to come behind a token; none where the item does not begin with it
+abbrev pub TreesBehind : Option Produced → List Item → Type 0
+TreesBehind None rest = ⊥
+TreesBehind (Some p) rest = Trees (p.0 ++ rest)
+
+abbrev pub symbols_behind : (o : Option Produced) (rest : List Item) → TreesBehind o rest → List Symbol
+symbols_behind None rest x = []
+symbols_behind (Some p) rest x = all_symbols (p.0 ++ rest) x
+
+abbrev pub code_behind : (o : Option Produced) (rest : List Item) → TreesBehind o rest → List Op
+code_behind None rest x = []
+code_behind (Some p) rest x = p.1 ++ all_code (p.0 ++ rest) x
+
+-- they become trees of the item, behind that token
 abbrev pub Builds : Item → Symbol → List Item → Option Produced → Type 0
-Builds i s rest None = Unit {0}
-Builds i s rest (Some p) = (x : Trees (p.0 ++ rest)) → HasTrees (i ∷ rest) (s ∷ all_symbols (p.0 ++ rest) x) (p.1 ++ all_code (p.0 ++ rest) x)
+Builds i s rest o = (x : TreesBehind o rest) → HasTrees (i ∷ rest) (s ∷ symbols_behind o rest x) (code_behind o rest x)
 
 abbrev pub no_further : (more : Arguments) → count more ≡ 0 → no_argument ≡ more
 no_further no_argument e = refl
@@ -218,34 +218,28 @@ factor_builds (FunctionName op arity) rest h = λ x.
       steps = c.steps (power_code y.0 (all_code rest y.1));
     }
 factor_builds Unknown rest h = absurd h
-factor_builds s rest h = tt
+factor_builds s rest h = absurd
 
 abbrev pub alone_builds : (f : Fixed) (rest : List Item) (x : Trees rest) → HasTrees (Exactly f ∷ rest) (FixedToken f ∷ all_symbols rest x) (all_code rest x)
 alone_builds f rest = λ x. record { trees = (tt, x); symbols = refl; steps = refl }
 
-abbrev pub exactly_builds : (f : Fixed) (s : Symbol) (rest : List Item) → Builds (Exactly f) s rest (produced (Exactly f) s)
-exactly_builds Plus (FixedToken Plus) rest = alone_builds Plus rest
-exactly_builds Minus (FixedToken Minus) rest = alone_builds Minus rest
-exactly_builds Star (FixedToken Star) rest = alone_builds Star rest
-exactly_builds Slash (FixedToken Slash) rest = alone_builds Slash rest
-exactly_builds Caret (FixedToken Caret) rest = alone_builds Caret rest
-exactly_builds Open (FixedToken Open) rest = alone_builds Open rest
-exactly_builds Close (FixedToken Close) rest = alone_builds Close rest
-exactly_builds OpenBracket (FixedToken OpenBracket) rest = alone_builds OpenBracket rest
-exactly_builds CloseBracket (FixedToken CloseBracket) rest = alone_builds CloseBracket rest
-exactly_builds Comma (FixedToken Comma) rest = alone_builds Comma rest
-exactly_builds SemicolonToken (FixedToken SemicolonToken) rest = alone_builds SemicolonToken rest
-exactly_builds ConstantsWord (FixedToken ConstantsWord) rest = alone_builds ConstantsWord rest
-exactly_builds VariablesWord (FixedToken VariablesWord) rest = alone_builds VariablesWord rest
-exactly_builds ConstraintsWord (FixedToken ConstraintsWord) rest = alone_builds ConstraintsWord rest
-exactly_builds FunctionWord (FixedToken FunctionWord) rest = alone_builds FunctionWord rest
-exactly_builds Return (FixedToken Return) rest = alone_builds Return rest
-exactly_builds End (FixedToken End) rest = alone_builds End rest
-exactly_builds In (FixedToken In) rest = alone_builds In rest
-exactly_builds Oo (FixedToken Oo) rest = alone_builds Oo rest
-exactly_builds EndOfText (FixedToken EndOfText) rest = alone_builds EndOfText rest
-exactly_builds f (FixedToken EndOfText) rest = tt
-exactly_builds f s rest = tt
+-- where nothing is produced, the claim is the premise: one term serves all pairs
+abbrev pub BuildsAlone : Fixed → Fixed → List Item → Option Produced → Type 0
+BuildsAlone f g rest None = (x : Trees rest) → HasTrees (Exactly f ∷ rest) (FixedToken f ∷ all_symbols rest x) (all_code rest x)
+BuildsAlone f g rest (Some p) = Builds (Exactly f) (FixedToken g) rest (Some p)
+
+abbrev pub each_alone : (f g : Fixed) (rest : List Item) → BuildsAlone f g rest (fixed f g)
+each_alone EndOfText EndOfText rest = alone_builds EndOfText rest
+each_alone f EndOfText rest = alone_builds f rest
+each_alone f g rest = alone_builds f rest
+
+abbrev pub of_alone : (f g : Fixed) (rest : List Item) (o : Option Produced) → BuildsAlone f g rest o → Builds (Exactly f) (FixedToken g) rest o
+of_alone f g rest None h = absurd
+of_alone f g rest (Some p) h = h
+
+abbrev pub exactly_builds : (f : Fixed) (s : Symbol) (rest : List Item) → Builds (Exactly f) s rest (exactly f s)
+exactly_builds f (FixedToken g) rest = of_alone f g rest (fixed f g) (each_alone f g rest)
+exactly_builds f s rest = absurd
 
 -- a further constraint begins as an expression does
 abbrev pub further : List Item
@@ -259,28 +253,20 @@ of_further rest ss code h = record { trees = as_further rest h.trees; symbols = 
 
 abbrev pub constraint_builds : (s : Symbol) (rest : List Item) → IsKnown s → Builds MaybeConstraint s rest (with_more further (factor s))
 constraint_builds (FixedToken Plus) rest h = λ x. of_further rest _ _ (factor_builds (FixedToken Plus) (further ++ rest) h x)
-constraint_builds (FixedToken Minus) rest h = λ x. of_further rest _ _ (factor_builds (FixedToken Minus) (further ++ rest) h x)
-constraint_builds (FixedToken Open) rest h = λ x. of_further rest _ _ (factor_builds (FixedToken Open) (further ++ rest) h x)
-constraint_builds (Number value exponent) rest h = λ x. of_further rest _ _ (factor_builds (Number value exponent) (further ++ rest) h x)
-constraint_builds (ConstantName value) rest h = λ x. of_further rest _ _ (factor_builds (ConstantName value) (further ++ rest) h x)
-constraint_builds (VariableName i) rest h = λ x. of_further rest _ _ (factor_builds (VariableName i) (further ++ rest) h x)
-constraint_builds (ParameterName i) rest h = λ x. of_further rest _ _ (factor_builds (ParameterName i) (further ++ rest) h x)
-constraint_builds (FunctionName op arity) rest h = λ x. of_further rest _ _ (factor_builds (FunctionName op arity) (further ++ rest) h x)
-constraint_builds Unknown rest h = absurd h
-constraint_builds s rest h = tt
+constraint_builds s rest h = λ x. of_further rest _ _ (factor_builds s (further ++ rest) h x)
 
 abbrev pub semicolon_then : (rest : List Item) (o : Perhaps (Constraint × Constraints)) (x : Trees rest) →
-    HasTrees (MoreConstraints ∷ rest) (FixedToken SemicolonToken ∷ further_constraint o (all_symbols rest x)) (further_code o (all_code rest x))
+    HasTrees (MoreConstraints ∷ rest) (FixedToken SemicolonToken ∷ item_symbols MaybeConstraint o (all_symbols rest x)) (item_code MaybeConstraint o (all_code rest x))
 semicolon_then rest nothing_more x = record { trees = (constraints_semicolon, x); symbols = refl; steps = refl }
 semicolon_then rest (one_more c) x = record { trees = (constraint_and c.0 c.1, x); symbols = refl; steps = refl }
 
 abbrev pub separator_then_constant : (s : Separator) (rest : List Item) (o : Perhaps (Constant × Constants)) (x : Trees rest) →
-    HasTrees (MoreConstants ∷ rest) (separator_symbol s ∷ further_constant o (all_symbols rest x)) (all_code rest x)
+    HasTrees (MoreConstants ∷ rest) (separator_symbol s ∷ item_symbols MaybeConstant o (all_symbols rest x)) (all_code rest x)
 separator_then_constant s rest nothing_more x = record { trees = (constants_separator s, x); symbols = refl; steps = refl }
 separator_then_constant s rest (one_more c) x = record { trees = (constant_and s c.0 c.1, x); symbols = refl; steps = refl }
 
 abbrev pub separator_then_variable : (s : Separator) (rest : List Item) (o : Perhaps (Variable × Variables)) (x : Trees rest) →
-    HasTrees (MoreVariables ∷ rest) (separator_symbol s ∷ further_variable o (all_symbols rest x)) (all_code rest x)
+    HasTrees (MoreVariables ∷ rest) (separator_symbol s ∷ item_symbols MaybeVariable o (all_symbols rest x)) (all_code rest x)
 separator_then_variable s rest nothing_more x = record { trees = (variables_separator s, x); symbols = refl; steps = refl }
 separator_then_variable s rest (one_more v) x = record { trees = (variable_and s v.0 v.1, x); symbols = refl; steps = refl }
 
@@ -295,11 +281,9 @@ builds MoreTerms (FixedToken Minus) rest h = λ x. record { trees = (minus (prod
 builds MaybePower (FixedToken Caret) rest h = λ x. record { trees = (to_power x.0.0 x.0.1, x.1); symbols = refl; steps = refl }
 builds WantExponent (Number value (Some n)) rest h = λ x. record { trees = ((value, n), x); symbols = refl; steps = refl }
 builds (MoreArguments zero) (FixedToken Close) rest h = λ x. record { trees = ((no_argument, refl), x); symbols = refl; steps = refl }
-builds (MoreArguments (suc n)) (FixedToken Comma) rest h = λ x. record {
-  trees = ((argument (sum_of (product_of x.0 x.1.0) x.1.1.0) x.1.1.1.0.0, ap (λ (k : ℕ). suc k) x.1.1.1.0.1), x.1.1.1.1);
-  symbols = refl;
-  steps = refl;
-}
+builds (MoreArguments (suc n)) (FixedToken Comma) rest h = λ x.
+    (let is : suc (count x.1.1.1.0.0) ≡ suc n = ap (λ (k : ℕ). suc k) x.1.1.1.0.1 in
+    record { trees = ((argument (sum_of (product_of x.0 x.1.0) x.1.1.0) x.1.1.1.0.0, is), x.1.1.1.1); symbols = refl; steps = refl })
 builds WantRelation (RelationToken r) rest h = λ x. record { trees = ((r, sum_of (product_of x.0 x.1.0) x.1.1.0), x.1.1.1.1); symbols = refl; steps = refl }
 builds MaybeConstraint s rest h = constraint_builds s rest h
 builds MoreConstraints (FixedToken SemicolonToken) rest h = λ x. semicolon_then rest x.0 x.1
@@ -327,18 +311,15 @@ builds WantVariable (Declared false) rest h = λ x. record { trees = (variable_o
 builds MoreVariables (FixedToken Comma) rest h = λ x. separator_then_variable comma rest x.0 x.1
 builds MoreVariables (FixedToken SemicolonToken) rest h = λ x. separator_then_variable semicolon rest x.0 x.1
 builds MaybeVariable (Declared false) rest h = λ x. record { trees = (one_more (variable_of x.0, x.1.0), x.1.1); symbols = refl; steps = refl }
-builds MaybeDomain (FixedToken In) rest h = λ x. record {
-  trees = (between (bound_of x.1.0 x.1.1.0) (bound_of x.1.1.1.1.0 x.1.1.1.1.1.0), x.1.1.1.1.1.1.1);
-  symbols = refl;
-  steps = refl;
-}
+builds MaybeDomain (FixedToken In) rest h = λ x.
+    let y = x.1.1.1 in record { trees = (between (bound_of x.1.0 x.1.1.0) (bound_of y.1.0 y.1.1.0), y.1.1.1.1); symbols = refl; steps = refl }
 builds WantBound (Number value exponent) rest h = λ x. record { trees = (number_limit value exponent, x); symbols = refl; steps = refl }
 builds WantBound (ConstantName value) rest h = λ x. record { trees = (constant_limit value, x); symbols = refl; steps = refl }
 builds WantBound (FixedToken Oo) rest h = λ x. record { trees = (infinite_limit, x); symbols = refl; steps = refl }
 builds i (Declared true) rest h = absurd h
 builds i Unknown rest h = absurd h
-builds i (FixedToken EndOfText) rest h = tt
-builds i s rest h = tt
+builds i (FixedToken EndOfText) rest h = absurd
+builds i s rest h = absurd
 
 -- ---- Texts
 
@@ -364,15 +345,16 @@ derived_trees items ss code (left_out i rest ss' code' may d) h = leaves_out i r
 derived_trees items ss code (begun i rest s ss' p code' made d) h =
     begins i s rest p ss' code' (subst (λ (o : Option Produced). Builds i s rest o) made (builds i s rest h.0)) (derived_trees (p.0 ++ rest) ss' code' d h.1)
 
-pub system_tree : (ss : List Symbol) (code : List Op) → Derives system_items ss code → AreKnown ss → IsOfSystem ss code
-system_tree ss code d h =
-    let found = derived_trees system_items ss code d h in
-    let x = found.trees in
+abbrev pub of_trees : Trees system_items → System
+of_trees x =
     let y = x.1.1.1.1.1.1.1 in
-    (system_of x.0 x.1.0 x.1.1.1.0 x.1.1.1.1.0 x.1.1.1.1.1.0 (relates (sum_of (product_of y.0 y.1.0) y.1.1.0) y.1.1.1.0.0 y.1.1.1.0.1) y.1.1.1.1.0, found.symbols, found.steps)
+    system_of x.0 x.1.0 x.1.1.1.0 x.1.1.1.1.0 x.1.1.1.1.1.0 (relates (sum_of (product_of y.0 y.1.0) y.1.1.0) y.1.1.1.0.0 y.1.1.1.0.1) y.1.1.1.1.0
+
+abbrev pub of_parts : Trees expression_items → Expression
+of_parts x = sum_of (product_of x.0 x.1.0) x.1.1.0
+
+pub system_tree : (ss : List Symbol) (code : List Op) → Derives system_items ss code → AreKnown ss → IsOfSystem ss code
+system_tree ss code d h = let found = derived_trees system_items ss code d h in (of_trees found.trees, found.symbols, found.steps)
 
 pub expression_tree : (ss : List Symbol) (code : List Op) → Derives expression_items ss code → AreKnown ss → IsOfExpression ss code
-expression_tree ss code d h =
-    let found = derived_trees expression_items ss code d h in
-    let x = found.trees in
-    (sum_of (product_of x.0 x.1.0) x.1.1.0, found.symbols, found.steps)
+expression_tree ss code d h = let found = derived_trees expression_items ss code d h in (of_parts found.trees, found.symbols, found.steps)

@@ -10,23 +10,22 @@ use Rattle.pv_grammar.specs.declared.machine.Item.{Item}
 use Rattle.pv_grammar.specs.declared.machine.Item.TheVariants.{Exactly, MaybeConstants, WantConstant, MoreConstants, MaybeConstant, WantEquals, MaybeSign, WantValue, MaybeFunctions, WantFunctionName, WantParameter, MoreParameters, MaybeSemicolon, WantVariable, MoreVariables, MaybeVariable, MaybeDomain, WantBound, WantRelation, MoreConstraints, MaybeConstraint, WantFactor, MoreFactors, MoreTerms, MaybePower, WantExponent, MoreArguments, Then}
 use Rattle.pv_grammar.specs.declared.symbol.Fixed.TheVariants.{Plus, Minus, Star, Slash, Caret, Open, Close, Comma, Semicolon as SemicolonToken, Constants as ConstantsWord, Function as FunctionWord, In, Oo, EndOfText}
 use Rattle.pv_grammar.specs.declared.symbol.Symbol.{Symbol}
-use Rattle.pv_grammar.specs.declared.symbol.Symbol.TheVariants.{Fixed as FixedToken, Relation as RelationToken, Number, Declared, Constant as ConstantName, Variable as VariableName, Parameter as ParameterName, Function as FunctionName, Unknown}
-use Rattle.pv_grammar.specs.Grammar.{Derives, MayEnd, Produced, begun, done, expression_items, factor, left_out, produced, system_items, with_more}
+use Rattle.pv_grammar.specs.declared.symbol.Symbol.TheVariants.{Fixed as FixedToken, Relation as RelationToken, Number, Declared, Constant as ConstantName, Variable as VariableName, Parameter as ParameterName, Function as FunctionName}
+use Rattle.pv_grammar.specs.Grammar.{Derives, MayEnd, Produced, begun, done, expression_items, left_out, produced, system_items}
 use Rattle.pv_grammar.specs.Productions.{Arguments, Expression, Factor, Power, Primary, System, absolute_of, argument, between, bound_of, call, comma, constant_and, constant_limit, constant_named, constant_of, constants, constants_separator, constraint_and, constraints_semicolon, count, expression_symbols, function_and, function_of, greatest_of, infinite_limit, least_of, minus, minus_sign, negative, no_argument, no_constant, no_constants, no_constraint, no_domain, no_factor, no_function, no_parameter, no_power, no_semicolon, no_sign, no_term, no_variable, number, number_limit, one_semicolon, over, parameter_and, parameter_at, parentheses, plus, plus_sign, positive, product_of, raised, relates, semicolon, square_of, sum_of, system_of, system_symbols, times, to_power, variable_and, variable_at, variable_of, variables_separator}
 use Rattle.pv_grammar.specs.TreeCodes.{AreKnown, IsKnown, IsOfExpression, IsOfSystem, expression_code, system_code}
-use Rattle.pv_grammar.proofs.Forward.{head_is, nil_cons, tail_is}
-use Rattle.pv_grammar.proofs.TreeBuilding.{Builds, TreeOf, Trees, all_code, all_symbols, as_further, builds, constraint_builds, factor_builds, further, none_code, none_of, none_symbols, nothing_more, one_more}
+use Rattle.pv_grammar.proofs.Forward.{nil_cons, tail_is}
+use Rattle.pv_grammar.proofs.TreeBuilding.{TreeOf, Trees, TreesBehind, all_code, all_symbols, as_further, builds, code_behind, further, none_code, none_of, none_symbols, nothing_more, one_more, symbols_behind}
 
 -- ---- How a tree begins
 
 -- trees that are built behind a token
-abbrev pub Built : (i : Item) (s : Symbol) (rest : List Item) (o : Option Produced) → Builds i s rest o → Trees (i ∷ rest) → Type 0
-Built i s rest None b x = ⊥
-Built i s rest (Some p) b x = (y : Trees (p.0 ++ rest)) × ((b y).trees ≡ x)
+abbrev pub Built : (i : Item) (s : Symbol) (rest : List Item) → IsKnown s → Trees (i ∷ rest) → Type 0
+Built i s rest h x = (y : TreesBehind (produced i s) rest) × ((builds i s rest h y).trees ≡ x)
 
 pub data Seen (i : Item) (rest : List Item) (x : Trees (i ∷ rest)) : Type 0 where
   seen_out : (may : MayEnd i) → x ≡ (none_of i may, x.1) → Seen i rest x
-  seen_in : (s : Symbol) (h : IsKnown s) → Built i s rest (produced i s) (builds i s rest h) x → Seen i rest x
+  seen_in : (s : Symbol) (h : IsKnown s) → Built i s rest h x → Seen i rest x
 
 pub numbers : (a b : ℕ) → IsProp (a ≡ b)
 numbers a b = hlevel props
@@ -61,18 +60,9 @@ seen_arguments (suc n) (argument (sum_of (product_of x xs) ts) more) many rest r
     seen_in (FixedToken Comma) tt ((x, (xs, (ts, ((more, fewer), r)))), λ i. ((argument e more, numbers (suc (count more)) (suc n) (ap (λ (k : ℕ). suc k) fewer) many i), r))
 
 -- a further constraint begins as an expression does
-as_expression : (s : Symbol) (rest : List Item) (h : IsKnown s) (x : Trees (WantFactor ∷ (further ++ rest))) →
-    Built WantFactor s (further ++ rest) (factor s) (factor_builds s (further ++ rest) h) x → Built MaybeConstraint s rest (with_more further (factor s)) (constraint_builds s rest h) (as_further rest x)
+as_expression : (s : Symbol) (rest : List Item) (h : IsKnown s) (x : Trees (WantFactor ∷ (further ++ rest))) → Built WantFactor s (further ++ rest) h x → Built MaybeConstraint s rest h (as_further rest x)
 as_expression (FixedToken Plus) rest h x b = (b.0, ap (as_further rest) b.1)
-as_expression (FixedToken Minus) rest h x b = (b.0, ap (as_further rest) b.1)
-as_expression (FixedToken Open) rest h x b = (b.0, ap (as_further rest) b.1)
-as_expression (Number value exponent) rest h x b = (b.0, ap (as_further rest) b.1)
-as_expression (ConstantName value) rest h x b = (b.0, ap (as_further rest) b.1)
-as_expression (VariableName i) rest h x b = (b.0, ap (as_further rest) b.1)
-as_expression (ParameterName i) rest h x b = (b.0, ap (as_further rest) b.1)
-as_expression (FunctionName op arity) rest h x b = (b.0, ap (as_further rest) b.1)
-as_expression Unknown rest h x b = absurd h
-as_expression s rest h x b = absurd b
+as_expression s rest h x b = (b.0, ap (as_further rest) b.1)
 
 seen_further : (rest : List Item) (x : Trees (WantFactor ∷ (further ++ rest))) → Seen WantFactor (further ++ rest) x → Seen MaybeConstraint rest (as_further rest x)
 seen_further rest x (seen_out may e) = absurd may
@@ -153,23 +143,26 @@ read_out i rest ss x may is r =
     subst (λ (z : List Op). Reads (i ∷ rest) ss z) (sym (ap (all_code (i ∷ rest)) is ∙ none_code i rest may x.1))
     (record { derived = left_out i rest ss (all_code rest x.1) may r.derived; known = r.known })
 
-read_in : (i : Item) (rest : List Item) (s t : Symbol) (ss : List Symbol) (x : Trees (i ∷ rest)) (o : Option Produced) (b : Builds i s rest o) → produced i s ≡ o → IsKnown s →
-    Built i s rest o b x → t ∷ ss ≡ all_symbols (i ∷ rest) x → AreRead ss → Reads (i ∷ rest) (t ∷ ss) (all_code (i ∷ rest) x)
-read_in i rest s t ss x None b made h built e next = absurd built
-read_in i rest s t ss x (Some p) b made h (y, is) e next =
-    let whole : t ∷ ss ≡ s ∷ all_symbols (p.0 ++ rest) y = e ∙ ap (all_symbols (i ∷ rest)) (sym is) ∙ sym (b y).symbols in
-    let r = next (p.0 ++ rest) y (tail_is whole) in
-    subst (λ (z : Symbol). Reads (i ∷ rest) (z ∷ ss) (all_code (i ∷ rest) x)) (sym (head_is whole))
-    (subst (λ (z : List Op). Reads (i ∷ rest) (s ∷ ss) z) ((b y).steps ∙ ap (all_code (i ∷ rest)) is)
-    (record { derived = begun i rest s ss p (all_code (p.0 ++ rest) y) made r.derived; known = (h, r.known) }))
+read_behind : (i : Item) (rest : List Item) (s : Symbol) (o : Option Produced) (y : TreesBehind o rest) → produced i s ≡ o → IsKnown s →
+    ((items : List Item) (x : Trees items) → symbols_behind o rest y ≡ all_symbols items x → Reads items (symbols_behind o rest y) (all_code items x)) → Reads (i ∷ rest) (s ∷ symbols_behind o rest y) (code_behind o rest y)
+read_behind i rest s None y made h next = absurd y
+read_behind i rest s (Some p) y made h next =
+    let r = next (p.0 ++ rest) y refl in record { derived = begun i rest s _ p (all_code (p.0 ++ rest) y) made r.derived; known = (h, r.known) }
 
-begins_nothing : (i : Item) (s : Symbol) (rest : List Item) (o : Option Produced) (b : Builds i s rest o) (x : Trees (i ∷ rest)) → Built i s rest o b x → [] ≡ all_symbols (i ∷ rest) x → ⊥
-begins_nothing i s rest None b x built e = built
-begins_nothing i s rest (Some p) b x (y, is) e = nil_cons (e ∙ ap (all_symbols (i ∷ rest)) (sym is) ∙ sym (b y).symbols)
+read_in : (i : Item) (rest : List Item) (s t : Symbol) (ss : List Symbol) (x : Trees (i ∷ rest)) (h : IsKnown s) → Built i s rest h x → t ∷ ss ≡ all_symbols (i ∷ rest) x → AreRead ss →
+    Reads (i ∷ rest) (t ∷ ss) (all_code (i ∷ rest) x)
+read_in i rest s t ss x h (y, is) e next =
+    let whole : t ∷ ss ≡ s ∷ symbols_behind (produced i s) rest y = e ∙ ap (all_symbols (i ∷ rest)) (sym is) ∙ sym (builds i s rest h y).symbols in
+    subst (λ (z : List Symbol). Reads (i ∷ rest) z (all_code (i ∷ rest) x)) (sym whole)
+    (subst (λ (z : List Op). Reads (i ∷ rest) (s ∷ symbols_behind (produced i s) rest y) z) ((builds i s rest h y).steps ∙ ap (all_code (i ∷ rest)) is)
+    (read_behind i rest s (produced i s) y refl h (subst AreRead (tail_is whole) next)))
+
+begins_nothing : (i : Item) (s : Symbol) (rest : List Item) (h : IsKnown s) (x : Trees (i ∷ rest)) → Built i s rest h x → [] ≡ all_symbols (i ∷ rest) x → ⊥
+begins_nothing i s rest h x (y, is) e = nil_cons (e ∙ ap (all_symbols (i ∷ rest)) (sym is) ∙ sym (builds i s rest h y).symbols)
 
 -- where trees that begin with a token are read, all are
 read_items : (ss : List Symbol) →
-    ((i : Item) (rest : List Item) (s : Symbol) (h : IsKnown s) (x : Trees (i ∷ rest)) → Built i s rest (produced i s) (builds i s rest h) x → ss ≡ all_symbols (i ∷ rest) x → Reads (i ∷ rest) ss (all_code (i ∷ rest) x)) →
+    ((i : Item) (rest : List Item) (s : Symbol) (h : IsKnown s) (x : Trees (i ∷ rest)) → Built i s rest h x → ss ≡ all_symbols (i ∷ rest) x → Reads (i ∷ rest) ss (all_code (i ∷ rest) x)) →
     AreRead ss
 read_items ss begins [] x e = subst (λ (z : List Symbol). Reads [] z []) (sym e) (record { derived = done; known = tt })
 read_items ss begins (i ∷ rest) x e =
@@ -179,8 +172,8 @@ read_items ss begins (i ∷ rest) x e =
     ]
 
 pub reads : (ss : List Symbol) → AreRead ss
-reads [] = read_items [] (λ i rest s h x built e. absurd (begins_nothing i s rest (produced i s) (builds i s rest h) x built e))
-reads (t ∷ ss) = read_items (t ∷ ss) (λ i rest s h x built e. read_in i rest s t ss x (produced i s) (builds i s rest h) refl h built e (reads ss))
+reads [] = read_items [] (λ i rest s h x built e. absurd (begins_nothing i s rest h x built e))
+reads (t ∷ ss) = read_items (t ∷ ss) (λ i rest s h x built e. read_in i rest s t ss x h built e (reads ss))
 
 -- ---- Systems and expressions
 
@@ -190,24 +183,18 @@ trees_of (system_of block before v vs behind (relates (sum_of (product_of x xs) 
 pub system_tokens : (x : System) → system_symbols x [] ≡ all_symbols system_items (trees_of x)
 system_tokens (system_of block before v vs behind (relates (sum_of (product_of x xs) ts) r e) cs) = refl
 
-system_steps : (x : System) → all_code system_items (trees_of x) ≡ system_code x []
-system_steps (system_of block before v vs behind (relates (sum_of (product_of x xs) ts) r e) cs) = refl
-
 abbrev pub parts_of : Expression → Trees expression_items
 parts_of (sum_of (product_of x xs) ts) = (x, (xs, (ts, tt)))
 
 pub expression_tokens : (e : Expression) → expression_symbols e [] ≡ all_symbols expression_items (parts_of e)
 expression_tokens (sum_of (product_of x xs) ts) = refl
 
-expression_steps : (e : Expression) → all_code expression_items (parts_of e) ≡ expression_code e []
-expression_steps (sum_of (product_of x xs) ts) = refl
-
 pub system_reads : (x : System) → Reads system_items (system_symbols x []) (system_code x [])
-system_reads x = subst (λ (z : List Op). Reads system_items (system_symbols x []) z) (system_steps x) (reads (system_symbols x []) system_items (trees_of x) (system_tokens x))
+system_reads (system_of block before v vs behind (relates (sum_of (product_of x xs) ts) r e) cs) =
+    reads _ system_items (trees_of (system_of block before v vs behind (relates (sum_of (product_of x xs) ts) r e) cs)) refl
 
 pub expression_is_read : (e : Expression) → Reads expression_items (expression_symbols e []) (expression_code e [])
-expression_is_read e =
-    subst (λ (z : List Op). Reads expression_items (expression_symbols e []) z) (expression_steps e) (reads (expression_symbols e []) expression_items (parts_of e) (expression_tokens e))
+expression_is_read (sum_of (product_of x xs) ts) = reads _ expression_items (parts_of (sum_of (product_of x xs) ts)) refl
 
 -- the same of tokens and a code that are known to be a tree's
 text_of : (items : List Item) (ss : List Symbol) (code : List Op) (ss' : List Symbol) (code' : List Op) → Reads items ss' code' → ss ≡ ss' → code ≡ code' → Derives items ss code × AreKnown ss

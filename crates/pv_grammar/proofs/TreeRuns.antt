@@ -10,6 +10,7 @@ use Rattle.pv_code.specs.declared.code.Unary.TheVariants.{Neg, Abs, Pow}
 use Rattle.pv_code.specs.declared.code.Binary as CodeBinary
 use Rattle.pv_code.specs.declared.code.Binary.TheVariants.{Add, Sub, Mul, Div, Min, Max}
 use Rattle.pv_code.specs.Expansion.{Meaning, Sides, below, binary_of, body_meaning, constraints_behind, constraints_of, meaning_of, run, step, top, unary_of}
+use Rattle.pv_code.proofs.Leaving.{run-append}
 use Rattle.pv_grammar.specs.Productions.{Arguments, Constraint, Constraints, Expression, Factor, Factors, Functions, Power, Primary, System, Term as TermTree, Terms, absolute_of, argument, call, constant_named, constraint_and, constraints_semicolon, count, function_and, function_of, greatest_of, least_of, minus, negative, no_argument, no_constraint, no_factor, no_function, no_power, no_term, number, over, parameter_at, parentheses, plus, positive, product_of, raised, relates, square_of, sum_of, system_of, times, to_power, variable_at}
 use Rattle.pv_grammar.specs.TreeCodes.{arguments_code, constraint_code, constraints_code, expression_code, factor_code, factors_code, functions_code, power_code, primary_code, system_code, term_code, terms_code}
 use Rattle.pv_grammar.specs.Trees.{arguments_terms, constraint_sides, constraints_sides, expression_term, factor_term, factors_term, functions_behind, power_term, primary_term, system_constraints, term_term, terms_term}
@@ -29,25 +30,22 @@ record Piles (ms : List Meaning) (part code k : List Op) (f : List Term → List
   runs : (args st : List Term) → run ms args behind st ≡ reverse (f args) ++ run ms args part st
   plain : (args st : List Term) → run ms args code st ≡ run ms args k (reverse (f args) ++ st)
 
-run_last : (ms : List Meaning) (args : List Term) (code : List Op) (o : Op) (st : List Term) → run ms args (code ++ o ∷ []) st ≡ step ms args o (run ms args code st)
-run_last ms args [] o st = refl
-run_last ms args (p ∷ code) o st = run_last ms args code o (step ms args p st)
-
-push_constant : (ms : List Meaning) (part k : List Op) (v : _) → Pushes ms part (ConstantStep v ∷ k) k (λ args. primary_term ms args (constant_named v))
-push_constant ms part k v = record { behind = part ++ ConstantStep v ∷ []; same = refl; runs = λ args st. run_last ms args part (ConstantStep v) st; plain = λ args st. refl }
-
-push_variable : (ms : List Meaning) (part k : List Op) (i : ℕ) → Pushes ms part (VariableStep i ∷ k) k (λ args. primary_term ms args (variable_at i))
-push_variable ms part k i = record { behind = part ++ VariableStep i ∷ []; same = refl; runs = λ args st. run_last ms args part (VariableStep i) st; plain = λ args st. refl }
-
-push_parameter : (ms : List Meaning) (part k : List Op) (i : ℕ) → Pushes ms part (ParameterStep i ∷ k) k (λ args. primary_term ms args (parameter_at i))
-push_parameter ms part k i = record { behind = part ++ ParameterStep i ∷ []; same = refl; runs = λ args st. run_last ms args part (ParameterStep i) st; plain = λ args st. refl }
+-- a step that puts a value on the stack, whatever is there
+push_step : (ms : List Meaning) (part k : List Op) (o : Op) (f : List Term → Term) → constraints_behind ms part (o ∷ k) ≡ constraints_behind ms (part ++ o ∷ []) k → ((args st : List Term) → step ms args o st ≡ f args ∷ st) →
+    Pushes ms part (o ∷ k) k f
+push_step ms part k o f same is = record {
+  behind = part ++ o ∷ [];
+  same = same;
+  runs = λ args st. run-append ms args part (o ∷ []) st ∙ is args (run ms args part st);
+  plain = λ args st. ap (run ms args k) (is args st);
+}
 
 push_one : (ms : List Meaning) (part code k : List Op) (f : List Term → Term) (u : CodeUnary.Unary) → Pushes ms part code (One u ∷ k) f →
     Pushes ms part code k (λ args. one (unary_of u) (f args))
 push_one ms part code k f u p = record {
   behind = p.behind ++ One u ∷ [];
   same = p.same;
-  runs = λ args st. run_last ms args p.behind (One u) st ∙ ap (step ms args (One u)) (p.runs args st);
+  runs = λ args st. run-append ms args p.behind (One u ∷ []) st ∙ ap (step ms args (One u)) (p.runs args st);
   plain = λ args st. p.plain args st;
 }
 
@@ -58,7 +56,7 @@ push_two ms part code mid k f g b p t =
     record {
       behind = u.behind ++ Two b ∷ [];
       same = p.same ∙ u.same;
-      runs = λ args st. run_last ms args u.behind (Two b) st ∙ ap (step ms args (Two b)) (u.runs args st ∙ ap (λ (z : List Term). g args ∷ z) (p.runs args st));
+      runs = λ args st. run-append ms args u.behind (Two b ∷ []) st ∙ ap (step ms args (Two b)) (u.runs args st ∙ ap (λ (z : List Term). g args ∷ z) (p.runs args st));
       plain = λ args st. p.plain args st ∙ u.plain args (f args ∷ st);
     }
 
@@ -89,7 +87,7 @@ push_call : (ms : List Meaning) (part code k : List Op) (f : List Term → List 
 push_call ms part code k f m n many p = record {
   behind = p.behind ++ Call m n ∷ [];
   same = p.same;
-  runs = λ args st. run_last ms args p.behind (Call m n) st ∙ ap (step ms args (Call m n)) (p.runs args st) ∙ call_step ms args (f args) (run ms args part st) m n (many args);
+  runs = λ args st. run-append ms args p.behind (Call m n ∷ []) st ∙ ap (step ms args (Call m n)) (p.runs args st) ∙ call_step ms args (f args) (run ms args part st) m n (many args);
   plain = λ args st. p.plain args st ∙ ap (run ms args k) (call_step ms args (f args) st m n (many args));
 }
 
@@ -131,10 +129,10 @@ mutual
   factor_pushes (raised x w) ms part k = power_pushes w ms part _ k (λ args. primary_term ms args x) (primary_pushes x ms part (power_code w k))
 
   primary_pushes : (x : Primary) (ms : List Meaning) (part k : List Op) → Pushes ms part (primary_code x k) k (λ args. primary_term ms args x)
-  primary_pushes (number value exponent) ms part k = push_constant ms part k value
-  primary_pushes (constant_named value) ms part k = push_constant ms part k value
-  primary_pushes (variable_at i) ms part k = push_variable ms part k i
-  primary_pushes (parameter_at i) ms part k = push_parameter ms part k i
+  primary_pushes (number value exponent) ms part k = push_step ms part k (ConstantStep value) _ refl (λ args st. refl)
+  primary_pushes (constant_named value) ms part k = push_step ms part k (ConstantStep value) _ refl (λ args st. refl)
+  primary_pushes (variable_at i) ms part k = push_step ms part k (VariableStep i) _ refl (λ args st. refl)
+  primary_pushes (parameter_at i) ms part k = push_step ms part k (ParameterStep i) _ refl (λ args st. refl)
   primary_pushes (parentheses e) ms part k = expression_pushes e ms part k
   primary_pushes (absolute_of e) ms part k = push_one ms part _ k (λ args. expression_term ms args e) Abs (expression_pushes e ms part (One Abs ∷ k))
   primary_pushes (square_of e) ms part k = push_one ms part _ k (λ args. expression_term ms args e) (Pow 2) (expression_pushes e ms part (One (Pow 2) ∷ k))

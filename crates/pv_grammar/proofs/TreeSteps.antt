@@ -1,14 +1,12 @@
 -- One recursion over the tokens and the code of a tree: what holds of what follows is led over each token and each step. So each step
 -- of the code has the property that the tokens give it.
-use Rattle.std.proofs.Common.{ℕ, suc, false, List, [], ◌∷◌, Option, Some, None}
+use Rattle.std.proofs.Common.{ℕ, suc, false, List, [], ◌∷◌, Option, Some, None, rules}
 use Rattle.std.specs.Prelude.{All}
 use Rattle.std.specs.List.{AllByRecursion}
 use Rattle.std.proofs.lemmas.List.Elements.{All-cons, All-nil}
 use Rattle.pv_code.specs.declared.code.Op.{Op}
 use Rattle.pv_code.specs.declared.code.Op.TheVariants.{Constant as ConstantStep, Variable as VariableStep, Parameter as ParameterStep, One, Two, Call, Define, Relate}
-use Rattle.pv_code.specs.declared.code.Unary.{Unary}
 use Rattle.pv_code.specs.declared.code.Unary.TheVariants.{Abs, Neg, Pow}
-use Rattle.pv_code.specs.declared.code.Binary.{Binary}
 use Rattle.pv_code.specs.declared.code.Binary.TheVariants.{Add, Div, Max, Min, Mul, Sub}
 use Rattle.pv_code.proofs.Over.{IsStep}
 use Rattle.pv_grammar.specs.declared.symbol.Fixed.TheVariants.{Plus, Minus, Star, Slash, Caret, Open, Close, OpenBracket, CloseBracket, Comma, Semicolon as SemicolonToken, Constants as ConstantsWord, Variables as VariablesWord, Constraints as ConstraintsWord, Function as FunctionWord, Return, End, In, Oo}
@@ -20,12 +18,31 @@ use Rattle.pv_grammar.specs.TreeCodes.{arguments_code, constraint_code, constrai
 
 -- ---- What is led over tokens and steps
 
--- a token of an expression is none of these
+-- a token that leads neither to variables nor to constraints
+abbrev pub IsQuiet : Symbol → Type 0
+IsQuiet (FixedToken VariablesWord) = ⊥
+IsQuiet (FixedToken OpenBracket) = ⊥
+IsQuiet (FixedToken CloseBracket) = ⊥
+IsQuiet (FixedToken ConstraintsWord) = ⊥
+IsQuiet s = Unit {0}
+
+-- a token of an expression
 abbrev pub IsInner : Symbol → Type 0
-IsInner (FixedToken ConstraintsWord) = ⊥
+IsInner (FixedToken Plus) = Unit {0}
+IsInner (FixedToken Minus) = Unit {0}
+IsInner (FixedToken Star) = Unit {0}
+IsInner (FixedToken Slash) = Unit {0}
+IsInner (FixedToken Caret) = Unit {0}
+IsInner (FixedToken Open) = Unit {0}
+IsInner (FixedToken Close) = Unit {0}
+IsInner (FixedToken Comma) = Unit {0}
+IsInner (FixedToken f) = ⊥
 IsInner (RelationToken r) = ⊥
 IsInner (Declared taken) = ⊥
 IsInner s = Unit {0}
+
+pub inner_quiet : (s : Symbol) → IsInner s → IsQuiet s
+inner_quiet s i = search rules
 
 abbrev pub MayRaise : (Op → Type 0) → Option ℕ → Type 0
 MayRaise P None = Unit {0}
@@ -43,9 +60,9 @@ Writes P s = Unit {0}
 -- a step that no token need write
 abbrev pub IsOwn : Op → Type 0
 IsOwn (One Neg) = Unit {0}
-IsOwn (One Abs) = Unit {0}
 IsOwn (Two b) = Unit {0}
 IsOwn Define = Unit {0}
+IsOwn (Relate r) = Unit {0}
 IsOwn o = ⊥
 
 abbrev pub Family : Type 1
@@ -57,7 +74,7 @@ pub record Walks (P : Op → Type 0) (X : Family) : Type 0 where
   pub token : {ss : List Symbol} {k : List Op} (s : Symbol) → IsInner s → (Writes P s → X ss k) → X (s ∷ ss) k
   pub step : {ss : List Symbol} {k : List Op} (o : Op) → P o → X ss k → X ss (o ∷ k)
 
-all_write : (s : Symbol) → Writes (λ o. Unit {0}) s
+pub all_write : (s : Symbol) → Writes (λ o. Unit {0}) s
 all_write (Number value None) = (tt, tt)
 all_write (Number value (Some e)) = (tt, tt)
 all_write s = tt
@@ -68,132 +85,153 @@ walk_tokens Y goes = record { own = λ o h. tt; token = λ s i f. goes s _ i (f 
 
 -- ---- Expressions
 
-pass : {P : Op → Type 0} {X : Family} {ss : List Symbol} {k : List Op} (w : Walks P X) (s : Symbol) → IsInner s → X ss k → X (s ∷ ss) k
-pass w s i x = w.token s i (λ v. x)
+module _ {P : Op → Type 0} {X : Family} (w : Walks P X) where
+  pass : {ss : List Symbol} {k : List Op} (s : Symbol) → IsInner s → X ss k → X (s ∷ ss) k
+  pass s i x = w.token s i (λ v. x)
 
-turn : {P : Op → Type 0} {X : Family} {ss : List Symbol} {k : List Op} (w : Walks P X) (u : Unary) → P (One u) → X ss k → X ss (One u ∷ k)
-turn w u p x = w.step (One u) p x
+  write : {ss : List Symbol} {k : List Op} (o : Op) → IsOwn o → X ss k → X ss (o ∷ k)
+  write o i x = w.step o (w.own o i) x
 
-join : {P : Op → Type 0} {X : Family} {ss : List Symbol} {k : List Op} (w : Walks P X) (b : Binary) → X ss k → X ss (Two b ∷ k)
-join w b x = w.step (Two b) (w.own (Two b) tt) x
+  power_walk : {ss : List Symbol} {k : List Op} (x : Power) → X ss k → X (power_symbols x ss) (power_code x k)
+  power_walk no_power x = x
+  power_walk (to_power value e) x = pass (FixedToken Caret) tt (w.token (Number value (Some e)) tt (λ v. w.step (One (Pow e)) v.1 x))
 
-power_walk : {P : Op → Type 0} {X : Family} {ss : List Symbol} {k : List Op} (w : Walks P X) (x : Power) → X ss k → X (power_symbols x ss) (power_code x k)
-power_walk w no_power x = x
-power_walk w (to_power value e) x = pass w (FixedToken Caret) tt (w.token (Number value (Some e)) tt (λ v. turn w (Pow e) v.1 x))
+  mutual
+    sum_walk : {ss : List Symbol} {k : List Op} (e : Expression) → X ss k → X (expression_symbols e ss) (expression_code e k)
+    sum_walk (sum_of t ts) x = term_walk t (terms_walk ts x)
 
-mutual
-  pub expression_walk : {P : Op → Type 0} {X : Family} {ss : List Symbol} {k : List Op} (w : Walks P X) (e : Expression) → X ss k → X (expression_symbols e ss) (expression_code e k)
-  expression_walk w (sum_of t ts) x = term_walk w t (terms_walk w ts x)
+    terms_walk : {ss : List Symbol} {k : List Op} (ts : Terms) → X ss k → X (terms_symbols ts ss) (terms_code ts k)
+    terms_walk no_term x = x
+    terms_walk (plus t ts) x = pass (FixedToken Plus) tt (term_walk t (write (Two Add) tt (terms_walk ts x)))
+    terms_walk (minus t ts) x = pass (FixedToken Minus) tt (term_walk t (write (Two Sub) tt (terms_walk ts x)))
 
-  terms_walk : {P : Op → Type 0} {X : Family} {ss : List Symbol} {k : List Op} (w : Walks P X) (ts : Terms) → X ss k → X (terms_symbols ts ss) (terms_code ts k)
-  terms_walk w no_term x = x
-  terms_walk w (plus t ts) x = pass w (FixedToken Plus) tt (term_walk w t (join w Add (terms_walk w ts x)))
-  terms_walk w (minus t ts) x = pass w (FixedToken Minus) tt (term_walk w t (join w Sub (terms_walk w ts x)))
+    term_walk : {ss : List Symbol} {k : List Op} (t : Term) → X ss k → X (term_symbols t ss) (term_code t k)
+    term_walk (product_of f fs) x = factor_walk f (factors_walk fs x)
 
-  term_walk : {P : Op → Type 0} {X : Family} {ss : List Symbol} {k : List Op} (w : Walks P X) (t : Term) → X ss k → X (term_symbols t ss) (term_code t k)
-  term_walk w (product_of f fs) x = factor_walk w f (factors_walk w fs x)
+    factors_walk : {ss : List Symbol} {k : List Op} (fs : Factors) → X ss k → X (factors_symbols fs ss) (factors_code fs k)
+    factors_walk no_factor x = x
+    factors_walk (times f fs) x = pass (FixedToken Star) tt (factor_walk f (write (Two Mul) tt (factors_walk fs x)))
+    factors_walk (over f fs) x = pass (FixedToken Slash) tt (factor_walk f (write (Two Div) tt (factors_walk fs x)))
 
-  factors_walk : {P : Op → Type 0} {X : Family} {ss : List Symbol} {k : List Op} (w : Walks P X) (fs : Factors) → X ss k → X (factors_symbols fs ss) (factors_code fs k)
-  factors_walk w no_factor x = x
-  factors_walk w (times f fs) x = pass w (FixedToken Star) tt (factor_walk w f (join w Mul (factors_walk w fs x)))
-  factors_walk w (over f fs) x = pass w (FixedToken Slash) tt (factor_walk w f (join w Div (factors_walk w fs x)))
+    factor_walk : {ss : List Symbol} {k : List Op} (f : Factor) → X ss k → X (factor_symbols f ss) (factor_code f k)
+    factor_walk (positive f) x = pass (FixedToken Plus) tt (factor_walk f x)
+    factor_walk (negative f) x = pass (FixedToken Minus) tt (factor_walk f (write (One Neg) tt x))
+    factor_walk (raised p power) x = primary_walk p (power_walk power x)
 
-  factor_walk : {P : Op → Type 0} {X : Family} {ss : List Symbol} {k : List Op} (w : Walks P X) (f : Factor) → X ss k → X (factor_symbols f ss) (factor_code f k)
-  factor_walk w (positive f) x = pass w (FixedToken Plus) tt (factor_walk w f x)
-  factor_walk w (negative f) x = pass w (FixedToken Minus) tt (factor_walk w f (turn w Neg (w.own (One Neg) tt) x))
-  factor_walk w (raised p power) x = primary_walk w p (power_walk w power x)
+    primary_walk : {ss : List Symbol} {k : List Op} (p : Primary) → X ss k → X (primary_symbols p ss) (primary_code p k)
+    primary_walk (number value e) x = w.token (Number value e) tt (λ v. w.step (ConstantStep value) v.0 x)
+    primary_walk (constant_named value) x = w.token (ConstantName value) tt (λ v. w.step (ConstantStep value) v x)
+    primary_walk (variable_at i) x = w.token (VariableName i) tt (λ v. w.step (VariableStep i) v x)
+    primary_walk (parameter_at i) x = w.token (ParameterName i) tt (λ v. w.step (ParameterStep i) v x)
+    primary_walk (parentheses e) x = pass (FixedToken Open) tt (sum_walk e (pass (FixedToken Close) tt x))
+    primary_walk (absolute_of e) x = w.token (FunctionName (One Abs) 1) tt (λ v. pass (FixedToken Open) tt (sum_walk e (pass (FixedToken Close) tt (w.step (One Abs) v x))))
+    primary_walk (square_of e) x = w.token (FunctionName (One (Pow 2)) 1) tt (λ v. pass (FixedToken Open) tt (sum_walk e (pass (FixedToken Close) tt (w.step (One (Pow 2)) v x))))
+    primary_walk (least_of a b) x =
+        w.token (FunctionName (Two Min) 2) tt (λ v. pass (FixedToken Open) tt (sum_walk a (pass (FixedToken Comma) tt (sum_walk b (pass (FixedToken Close) tt (w.step (Two Min) v x))))))
+    primary_walk (greatest_of a b) x =
+        w.token (FunctionName (Two Max) 2) tt (λ v. pass (FixedToken Open) tt (sum_walk a (pass (FixedToken Comma) tt (sum_walk b (pass (FixedToken Close) tt (w.step (Two Max) v x))))))
+    primary_walk (call f e more) x =
+        w.token (FunctionName (Call f (suc (count more))) (suc (count more))) tt
+        (λ v. pass (FixedToken Open) tt (sum_walk e (arguments_walk more (w.step (Call f (suc (count more))) v x))))
 
-  primary_walk : {P : Op → Type 0} {X : Family} {ss : List Symbol} {k : List Op} (w : Walks P X) (p : Primary) → X ss k → X (primary_symbols p ss) (primary_code p k)
-  primary_walk w (number value e) x = w.token (Number value e) tt (λ v. w.step (ConstantStep value) v.0 x)
-  primary_walk w (constant_named value) x = w.token (ConstantName value) tt (λ v. w.step (ConstantStep value) v x)
-  primary_walk w (variable_at i) x = w.token (VariableName i) tt (λ v. w.step (VariableStep i) v x)
-  primary_walk w (parameter_at i) x = w.token (ParameterName i) tt (λ v. w.step (ParameterStep i) v x)
-  primary_walk w (parentheses e) x = pass w (FixedToken Open) tt (expression_walk w e (pass w (FixedToken Close) tt x))
-  primary_walk w (absolute_of e) x = pass w (FunctionName (One Abs) 1) tt (pass w (FixedToken Open) tt (expression_walk w e (pass w (FixedToken Close) tt (turn w Abs (w.own (One Abs) tt) x))))
-  primary_walk w (square_of e) x =
-      w.token (FunctionName (One (Pow 2)) 1) tt (λ v. pass w (FixedToken Open) tt (expression_walk w e (pass w (FixedToken Close) tt (turn w (Pow 2) v x))))
-  primary_walk w (least_of a b) x =
-      pass w (FunctionName (Two Min) 2) tt (pass w (FixedToken Open) tt (expression_walk w a (pass w (FixedToken Comma) tt (expression_walk w b (pass w (FixedToken Close) tt (join w Min x))))))
-  primary_walk w (greatest_of a b) x =
-      pass w (FunctionName (Two Max) 2) tt (pass w (FixedToken Open) tt (expression_walk w a (pass w (FixedToken Comma) tt (expression_walk w b (pass w (FixedToken Close) tt (join w Max x))))))
-  primary_walk w (call f e more) x =
-      w.token (FunctionName (Call f (suc (count more))) (suc (count more))) tt
-      (λ v. pass w (FixedToken Open) tt (expression_walk w e (arguments_walk w more (w.step (Call f (suc (count more))) v x))))
+    arguments_walk : {ss : List Symbol} {k : List Op} (more : Arguments) → X ss k → X (arguments_symbols more ss) (arguments_code more k)
+    arguments_walk no_argument x = pass (FixedToken Close) tt x
+    arguments_walk (argument e more) x = pass (FixedToken Comma) tt (sum_walk e (arguments_walk more x))
 
-  arguments_walk : {P : Op → Type 0} {X : Family} {ss : List Symbol} {k : List Op} (w : Walks P X) (more : Arguments) → X ss k → X (arguments_symbols more ss) (arguments_code more k)
-  arguments_walk w no_argument x = pass w (FixedToken Close) tt x
-  arguments_walk w (argument e more) x = pass w (FixedToken Comma) tt (expression_walk w e (arguments_walk w more x))
+pub expression_walk : {P : Op → Type 0} {X : Family} {ss : List Symbol} {k : List Op} (w : Walks P X) (e : Expression) → X ss k → X (expression_symbols e ss) (expression_code e k)
+expression_walk w e x = sum_walk w e x
 
--- ---- Up to the word `constraints`
+-- ---- Other parts of a system
 
+-- a token in front of the word `constraints`
 abbrev pub IsFront : Symbol → Type 0
 IsFront (FixedToken ConstraintsWord) = ⊥
 IsFront s = Unit {0}
 
--- what goes over each such token
-pub record Fronts (X : Family) : Type 0 where
-  pub front : {ss : List Symbol} {k : List Op} (s : Symbol) → IsFront s → X ss k → X (s ∷ ss) k
+quiet_front : (s : Symbol) → IsQuiet s → IsFront s
+quiet_front (FixedToken ConstraintsWord) q = q
+quiet_front s q = tt
 
-sign_front : {X : Family} {ss : List Symbol} {k : List Op} (f : Fronts X) (x : Sign) → X ss k → X (sign_symbols x ss) k
-sign_front f no_sign x = x
-sign_front f plus_sign x = f.front (FixedToken Plus) tt x
-sign_front f minus_sign x = f.front (FixedToken Minus) tt x
+-- what goes over each token of a kind
+pub record Fronts (Is : Symbol → Type 0) (X : Family) : Type 0 where
+  pub front : {ss : List Symbol} {k : List Op} (s : Symbol) → Is s → X ss k → X (s ∷ ss) k
 
-semicolon_front : {X : Family} {ss : List Symbol} {k : List Op} (f : Fronts X) (c : Semicolon) → X ss k → X (semicolon_symbols c ss) k
-semicolon_front f no_semicolon x = x
-semicolon_front f one_semicolon x = f.front (FixedToken SemicolonToken) tt x
+module _ {X : Family} (f : Fronts IsQuiet X) where
+  sign_front : {ss : List Symbol} {k : List Op} (x : Sign) → X ss k → X (sign_symbols x ss) k
+  sign_front no_sign x = x
+  sign_front plus_sign x = f.front (FixedToken Plus) tt x
+  sign_front minus_sign x = f.front (FixedToken Minus) tt x
 
-separator_front : {X : Family} {ss : List Symbol} {k : List Op} (f : Fronts X) (s : Separator) → X ss k → X (separator_symbol s ∷ ss) k
-separator_front f comma x = f.front (FixedToken Comma) tt x
-separator_front f semicolon x = f.front (FixedToken SemicolonToken) tt x
+  semicolon_front : {ss : List Symbol} {k : List Op} (c : Semicolon) → X ss k → X (semicolon_symbols c ss) k
+  semicolon_front no_semicolon x = x
+  semicolon_front one_semicolon x = f.front (FixedToken SemicolonToken) tt x
 
-constant_front : {X : Family} {ss : List Symbol} {k : List Op} (f : Fronts X) (c : Constant) → X ss k → X (constant_symbols c ss) k
-constant_front f (constant_of sign value e) x = f.front (Declared false) tt (f.front (RelationToken Eq) tt (sign_front f sign (f.front (Number value e) tt x)))
+  separator_front : {ss : List Symbol} {k : List Op} (s : Separator) → X ss k → X (separator_symbol s ∷ ss) k
+  separator_front comma x = f.front (FixedToken Comma) tt x
+  separator_front semicolon x = f.front (FixedToken SemicolonToken) tt x
 
-constants_front : {X : Family} {ss : List Symbol} {k : List Op} (f : Fronts X) (cs : Constants) → X ss k → X (constants_symbols cs ss) k
-constants_front f no_constant x = x
-constants_front f (constants_separator s) x = separator_front f s x
-constants_front f (constant_and s c more) x = separator_front f s (constant_front f c (constants_front f more x))
+  constant_front : {ss : List Symbol} {k : List Op} (c : Constant) → X ss k → X (constant_symbols c ss) k
+  constant_front (constant_of sign value e) x = f.front (Declared false) tt (f.front (RelationToken Eq) tt (sign_front sign (f.front (Number value e) tt x)))
 
-block_front : {X : Family} {ss : List Symbol} {k : List Op} (f : Fronts X) (b : ConstantBlock) → X ss k → X (constant_block_symbols b ss) k
-block_front f no_constants x = x
-block_front f (constants c more) x = f.front (FixedToken ConstantsWord) tt (constant_front f c (constants_front f more x))
+  constants_front : {ss : List Symbol} {k : List Op} (cs : Constants) → X ss k → X (constants_symbols cs ss) k
+  constants_front no_constant x = x
+  constants_front (constants_separator s) x = separator_front s x
+  constants_front (constant_and s c more) x = separator_front s (constant_front c (constants_front more x))
 
-parameters_front : {X : Family} {ss : List Symbol} {k : List Op} (f : Fronts X) (ps : Parameters) → X ss k → X (parameters_symbols ps ss) k
-parameters_front f no_parameter x = f.front (FixedToken Close) tt x
-parameters_front f (parameter_and more) x = f.front (FixedToken Comma) tt (f.front (Declared false) tt (parameters_front f more x))
+  pub block_front : {ss : List Symbol} {k : List Op} (b : ConstantBlock) → X ss k → X (constant_block_symbols b ss) k
+  block_front no_constants x = x
+  block_front (constants c more) x = f.front (FixedToken ConstantsWord) tt (constant_front c (constants_front more x))
 
-limit_front : {X : Family} {ss : List Symbol} {k : List Op} (f : Fronts X) (l : Limit) → X ss k → X (limit_symbol l ∷ ss) k
-limit_front f (number_limit value e) x = f.front (Number value e) tt x
-limit_front f infinite_limit x = f.front (FixedToken Oo) tt x
-limit_front f (constant_limit value) x = f.front (ConstantName value) tt x
+  parameters_front : {ss : List Symbol} {k : List Op} (ps : Parameters) → X ss k → X (parameters_symbols ps ss) k
+  parameters_front no_parameter x = f.front (FixedToken Close) tt x
+  parameters_front (parameter_and more) x = f.front (FixedToken Comma) tt (f.front (Declared false) tt (parameters_front more x))
 
-bound_front : {X : Family} {ss : List Symbol} {k : List Op} (f : Fronts X) (b : Bound) → X ss k → X (bound_symbols b ss) k
-bound_front f (bound_of sign limit) x = sign_front f sign (limit_front f limit x)
+  module _ {P : Op → Type 0} (w : Walks P X) where
+    pub functions_front : {ss : List Symbol} {k : List Op} (fs : Functions) → X ss k → X (functions_symbols fs ss) (functions_code fs k)
+    functions_front no_function x = x
+    functions_front (function_and (function_of more body inner outer) fs) x =
+        let behind = semicolon_front inner (f.front (FixedToken End) tt (semicolon_front outer (functions_front fs x))) in
+        f.front (FixedToken FunctionWord) tt (f.front (Declared false) tt (f.front (FixedToken Open) tt (f.front (Declared false) tt
+        (parameters_front more (f.front (FixedToken Return) tt (expression_walk w body (write w Define tt behind)))))))
 
-variable_front : {X : Family} {ss : List Symbol} {k : List Op} (f : Fronts X) (v : Variable) → X ss k → X (variable_symbols v ss) k
-variable_front f (variable_of no_domain) x = f.front (Declared false) tt x
-variable_front f (variable_of (between lo hi)) x =
-    f.front (Declared false) tt (f.front (FixedToken In) tt (f.front (FixedToken OpenBracket) tt
-    (bound_front f lo (f.front (FixedToken Comma) tt (bound_front f hi (f.front (FixedToken CloseBracket) tt x))))))
+    pub constraint_front : {ss : List Symbol} {k : List Op} (c : Constraint) → X ss k → X (constraint_symbols c ss) (constraint_code c k)
+    constraint_front (relates left r right) x = expression_walk w left (f.front (RelationToken r) tt (expression_walk w right (write w (Relate r) tt x)))
 
-variables_front : {X : Family} {ss : List Symbol} {k : List Op} (f : Fronts X) (vs : Variables) → X ss k → X (variables_symbols vs ss) k
-variables_front f no_variable x = x
-variables_front f (variables_separator s) x = separator_front f s x
-variables_front f (variable_and s v more) x = separator_front f s (variable_front f v (variables_front f more x))
+    pub constraints_front : {ss : List Symbol} {k : List Op} (cs : Constraints) → X ss k → X (constraints_symbols cs ss) (constraints_code cs k)
+    constraints_front no_constraint x = x
+    constraints_front constraints_semicolon x = f.front (FixedToken SemicolonToken) tt x
+    constraints_front (constraint_and c more) x = f.front (FixedToken SemicolonToken) tt (constraint_front c (constraints_front more x))
 
-functions_front : {P : Op → Type 0} {X : Family} {ss : List Symbol} {k : List Op} (w : Walks P X) (f : Fronts X) (fs : Functions) → X ss k → X (functions_symbols fs ss) (functions_code fs k)
-functions_front w f no_function x = x
-functions_front w f (function_and (function_of more body inner outer) fs) x =
-    f.front (FixedToken FunctionWord) tt (f.front (Declared false) tt (f.front (FixedToken Open) tt (f.front (Declared false) tt (parameters_front f more (f.front (FixedToken Return) tt
-    (expression_walk w body (w.step Define (w.own Define tt) (semicolon_front f inner (f.front (FixedToken End) tt (semicolon_front f outer (functions_front w f fs x)))))))))))
+module _ {X : Family} (f : Fronts IsFront X) where
+  quiet : Fronts IsQuiet X
+  quiet = record { front = λ s q x. f.front s (quiet_front s q) x }
+
+  limit_front : {ss : List Symbol} {k : List Op} (l : Limit) → X ss k → X (limit_symbol l ∷ ss) k
+  limit_front (number_limit value e) x = f.front (Number value e) tt x
+  limit_front infinite_limit x = f.front (FixedToken Oo) tt x
+  limit_front (constant_limit value) x = f.front (ConstantName value) tt x
+
+  bound_front : {ss : List Symbol} {k : List Op} (b : Bound) → X ss k → X (bound_symbols b ss) k
+  bound_front (bound_of sign limit) x = sign_front quiet sign (limit_front limit x)
+
+  variable_front : {ss : List Symbol} {k : List Op} (v : Variable) → X ss k → X (variable_symbols v ss) k
+  variable_front (variable_of no_domain) x = f.front (Declared false) tt x
+  variable_front (variable_of (between lo hi)) x =
+      f.front (Declared false) tt (f.front (FixedToken In) tt (f.front (FixedToken OpenBracket) tt
+      (bound_front lo (f.front (FixedToken Comma) tt (bound_front hi (f.front (FixedToken CloseBracket) tt x))))))
+
+  variables_front : {ss : List Symbol} {k : List Op} (vs : Variables) → X ss k → X (variables_symbols vs ss) k
+  variables_front no_variable x = x
+  variables_front (variables_separator s) x = separator_front quiet s x
+  variables_front (variable_and s v more) x = separator_front quiet s (variable_front v (variables_front more x))
 
 -- all of a system up to its constraints
-pub system_front : {P : Op → Type 0} {X : Family} (w : Walks P X) (f : Fronts X) (b : ConstantBlock) (before : Functions) (v : Variable) (vs : Variables) (behind : Functions) (c : Constraint) (cs : Constraints) →
+pub system_front : {P : Op → Type 0} {X : Family} (w : Walks P X) (f : Fronts IsFront X) (b : ConstantBlock) (before : Functions) (v : Variable) (vs : Variables) (behind : Functions) (c : Constraint) (cs : Constraints) →
     X (FixedToken ConstraintsWord ∷ constraint_symbols c (constraints_symbols cs (FixedToken End ∷ []))) (constraint_code c (constraints_code cs [])) →
     X (system_symbols (system_of b before v vs behind c cs) []) (system_code (system_of b before v vs behind c cs) [])
 system_front w f b before v vs behind c cs x =
-    block_front f b (functions_front w f before (f.front (FixedToken VariablesWord) tt (variable_front f v (variables_front f vs (functions_front w f behind x)))))
+    let q = quiet f in
+    block_front q b (functions_front q w before (f.front (FixedToken VariablesWord) tt (variable_front f v (variables_front f vs (functions_front q w behind x)))))
 
 -- ---- The steps of a code
 
@@ -203,39 +241,27 @@ record Steps (n : ℕ) (ss : List Symbol) (k : List Op) : Type 0 where
 
 own_step : (n : ℕ) (o : Op) → IsOwn o → IsStep n o
 own_step n (One Neg) h = tt
-own_step n (One Abs) h = tt
-own_step n (Two b) h = tt
-own_step n Define h = tt
-own_step n o h = absurd h
+own_step n o h = search
 
-walk_steps : (n : ℕ) → Walks (IsStep n) (Steps n)
-walk_steps n = record {
-  own = own_step n;
-  token = λ s i f. record { steps = λ a. (f a.0).steps a.1 };
-  step = λ o p x. record { steps = λ a. All-cons (IsStep n) o _ p (x.steps a) };
-}
+module _ (n : ℕ) where
+  walk_steps : Walks (IsStep n) (Steps n)
+  walk_steps = record {
+    own = own_step n;
+    token = λ s i f. record { steps = λ a. (f a.0).steps a.1 };
+    step = λ o p x. record { steps = λ a. All-cons (IsStep n) o _ p (x.steps a) };
+  }
 
-front_steps : (n : ℕ) → Fronts (Steps n)
-front_steps n = record { front = λ s i x. record { steps = λ a. x.steps a.1 } }
+  front_steps : (Is : Symbol → Type 0) → Fronts Is (Steps n)
+  front_steps Is = record { front = λ s i x. record { steps = λ a. x.steps a.1 } }
 
-constraint_steps : (n : ℕ) (c : Constraint) (ss : List Symbol) (k : List Op) → Steps n ss k → Steps n (constraint_symbols c ss) (constraint_code c k)
-constraint_steps n (relates left r right) ss k x =
-    let w = walk_steps n in
-    let behind : Steps n (RelationToken r ∷ expression_symbols right ss) (expression_code right (Relate r ∷ k)) =
-    record { steps = λ a. (expression_walk w right (w.step (Relate r) tt x)).steps a.1 } in
-    expression_walk w left behind
+  none_steps : (ss : List Symbol) → Steps n ss []
+  none_steps ss = record { steps = λ a. All-nil (IsStep n) }
 
-constraints_steps : (n : ℕ) (cs : Constraints) → Steps n (constraints_symbols cs (FixedToken End ∷ [])) (constraints_code cs [])
-constraints_steps n no_constraint = record { steps = λ a. All-nil (IsStep n) }
-constraints_steps n constraints_semicolon = record { steps = λ a. All-nil (IsStep n) }
-constraints_steps n (constraint_and c more) =
-    let rest = constraint_steps n c (constraints_symbols more (FixedToken End ∷ [])) (constraints_code more []) (constraints_steps n more) in
-    record { steps = λ a. rest.steps a.1 }
+  pub system_steps : (x : System) → AllByRecursion (Writes (IsStep n)) (system_symbols x []) → All (IsStep n) (system_code x [])
+  system_steps (system_of b before v vs behind c cs) a =
+      let q = front_steps IsQuiet in
+      let sides = constraint_front q walk_steps c (constraints_front q walk_steps cs (none_steps (FixedToken End ∷ []))) in
+      (system_front walk_steps (front_steps IsFront) b before v vs behind c cs (record { steps = λ all. sides.steps all.1 })).steps a
 
-pub system_steps : (n : ℕ) (x : System) → AllByRecursion (Writes (IsStep n)) (system_symbols x []) → All (IsStep n) (system_code x [])
-system_steps n (system_of b before v vs behind c cs) a =
-    let rest = constraint_steps n c (constraints_symbols cs (FixedToken End ∷ [])) (constraints_code cs []) (constraints_steps n cs) in
-    (system_front (walk_steps n) (front_steps n) b before v vs behind c cs (record { steps = λ all. rest.steps all.1 })).steps a
-
-pub expression_steps : (n : ℕ) (e : Expression) → AllByRecursion (Writes (IsStep n)) (expression_symbols e []) → All (IsStep n) (expression_code e [])
-expression_steps n e a = (expression_walk (walk_steps n) e (record { steps = λ all. All-nil (IsStep n) })).steps a
+  pub expression_steps : (e : Expression) → AllByRecursion (Writes (IsStep n)) (expression_symbols e []) → All (IsStep n) (expression_code e [])
+  expression_steps e a = (expression_walk walk_steps e (none_steps [])).steps a

@@ -5,16 +5,16 @@ use Rattle.pv_grammar.specs.declared.cause.Cause.TheVariants.{TooManyVariables, 
 use Rattle.pv_grammar.specs.declared.counts.Counts.{Counts}
 use Rattle.pv_grammar.specs.declared.counts.Phase.{Phase}
 use Rattle.pv_grammar.specs.declared.counts.Phase.TheVariants.{Between, Constants as ConstantsPhase, FunctionName as NamePhase, Parameters as ParametersPhase, Body, Variables as VariablesPhase, Bounds, NextConstraint, Sides}
-use Rattle.pv_grammar.specs.declared.symbol.Fixed.TheVariants.{CloseBracket, Comma, Variables as VariablesWord, Constraints as ConstraintsWord, Function as FunctionWord, Return, End}
+use Rattle.pv_grammar.specs.declared.symbol.Fixed.TheVariants.{CloseBracket, Comma, Minus, Plus, Semicolon as SemicolonToken, Variables as VariablesWord, Constraints as ConstraintsWord, Function as FunctionWord, Return, End}
 use Rattle.pv_grammar.specs.declared.symbol.Symbol.{Symbol}
 use Rattle.pv_grammar.specs.declared.symbol.Symbol.TheVariants.{Fixed as FixedToken, Relation as RelationToken, Number}
-use Rattle.pv_grammar.specs.Counting.{AreCounted, Counting, counted, in_phase, moved, nested, next, nothing, operated, where_below, with_parameters, with_variables}
+use Rattle.pv_grammar.specs.Counting.{AreCounted, Counting, counted, in_phase, next, nothing, where_below, with_parameters, with_variables, within}
 use Rattle.pv_grammar.specs.Limits.{AreConstraintsWithin, AreFunctionsWithin, IsConstraintWithin, IsExpressionWithin, IsFunctionWithin, IsLimitedExpression, IsLimitedSystem, IsSystemWithin, constraints_count, expression_depth, expression_operations, functions_count, parameters_count, variables_count}
 use Rattle.pv_grammar.specs.Productions.{Bound, Constant, ConstantBlock, Constants, Constraint, Constraints, Domain, Expression, Factor, Function, Functions, IsExpression, IsSystem, Limit, Parameters, Primary, Semicolon, Separator, Sign, System, Variable, Variables, between, bound_of, bound_symbols, comma, constant_and, constant_block_symbols, constant_limit, constant_of, constant_symbols, constants, constants_separator, constants_symbols, constraint_and, constraint_symbols, constraints_semicolon, constraints_symbols, domain_symbols, expression_symbols, factor_symbols, factors_symbols, function_and, function_of, function_symbols, functions_symbols, infinite_limit, limit_symbol, minus_sign, no_constant, no_constants, no_constraint, no_domain, no_function, no_parameter, no_semicolon, no_sign, no_variable, number_limit, one_semicolon, parameter_and, parameters_symbols, parentheses, plus_sign, power_symbols, primary_symbols, product_of, raised, relates, semicolon, semicolon_symbols, separator_symbol, sign_symbols, sum_of, system_of, system_symbols, terms_symbols, variable_and, variable_of, variable_symbols, variables_separator, variables_symbols}
 use Rattle.pv_grammar.specs.Standings.{begins_expression}
 use Rattle.pv_grammar.proofs.Following.{IsCalm}
-use Rattle.pv_grammar.proofs.Passing.{Passes, at, behind_quiet, bounded, expression_passes, free, free_then, is_less, join, less_is, means, no_more, stay, whole_passes}
-use Rattle.pv_grammar.proofs.Ready.{IsStill, made}
+use Rattle.pv_grammar.proofs.Passing.{Passes, at, behind_quiet, bounded, expression_passes, free, free_then, is_less, join, less_is, inside_begun, means, no_more, pass, stay, whole_passes}
+use Rattle.pv_grammar.proofs.Ready.{made}
 
 -- ---- Tokens that are only counted in passing
 
@@ -25,36 +25,27 @@ after_free p q = means (λ r. r.1) (λ r. (tt, r)) refl (join p (λ r. q))
 before_free : {R : Type 0} {c e f : Counts} {ss k rest : List Symbol} → Passes c ss R e k → Passes e k (Unit {0}) f rest → Passes c ss R f rest
 before_free p q = means (λ r. r.0) (λ r. (r, tt)) refl (join p (λ r. q))
 
-sign_passes : (x : Sign) (p : Phase) → IsStill p → (c : Counts) (k : List Symbol) → Passes (in_phase p c) (sign_symbols x k) (Unit {0}) (in_phase p c) k
-sign_passes no_sign p h c k = stay
-sign_passes plus_sign ConstantsPhase h c k = free refl
-sign_passes plus_sign Bounds h c k = free refl
-sign_passes plus_sign p h c k = absurd h
-sign_passes minus_sign ConstantsPhase h c k = free refl
-sign_passes minus_sign Bounds h c k = free refl
-sign_passes minus_sign p h c k = absurd h
+sign_passes : (x : Sign) (c : Counts) → counted c (FixedToken Plus) ≡ Ok c → counted c (FixedToken Minus) ≡ Ok c → (k : List Symbol) → Passes c (sign_symbols x k) (Unit {0}) c k
+sign_passes no_sign c plus minus k = stay
+sign_passes plus_sign c plus minus k = free plus
+sign_passes minus_sign c plus minus k = free minus
 
-abbrev IsList : Phase → Type 0
-IsList ConstantsPhase = Unit {0}
-IsList VariablesPhase = Unit {0}
-IsList p = ⊥
+separator_passes : (x : Separator) (c : Counts) → counted c (FixedToken Comma) ≡ Ok c → counted c (FixedToken SemicolonToken) ≡ Ok c → (k : List Symbol) → Passes c (separator_symbol x ∷ k) (Unit {0}) c k
+separator_passes comma c one other k = free one
+separator_passes semicolon c one other k = free other
 
-separator_passes : (x : Separator) (p : Phase) → IsList p → (c : Counts) (k : List Symbol) → Passes (in_phase p c) (separator_symbol x ∷ k) (Unit {0}) (in_phase p c) k
-separator_passes comma ConstantsPhase h c k = free refl
-separator_passes comma VariablesPhase h c k = free refl
-separator_passes comma p h c k = absurd h
-separator_passes semicolon ConstantsPhase h c k = free refl
-separator_passes semicolon VariablesPhase h c k = free refl
-separator_passes semicolon p h c k = absurd h
+semicolon_passes : (x : Semicolon) (c : Counts) → counted c (FixedToken SemicolonToken) ≡ Ok c → (k : List Symbol) → Passes c (semicolon_symbols x k) (Unit {0}) c k
+semicolon_passes no_semicolon c one k = stay
+semicolon_passes one_semicolon c one k = free one
 
 constant_passes : (x : Constant) (c : Counts) (k : List Symbol) → Passes (in_phase ConstantsPhase c) (constant_symbols x k) (Unit {0}) (in_phase ConstantsPhase c) k
-constant_passes (constant_of sign value exponent) c k = free_then refl (free_then refl (after_free (sign_passes sign ConstantsPhase tt c (Number value exponent ∷ k)) (free refl)))
+constant_passes (constant_of sign value exponent) c k = free_then refl (free_then refl (after_free (sign_passes sign (in_phase ConstantsPhase c) refl refl (Number value exponent ∷ k)) (free refl)))
 
 constants_passes : (x : Constants) (c : Counts) (k : List Symbol) → Passes (in_phase ConstantsPhase c) (constants_symbols x k) (Unit {0}) (in_phase ConstantsPhase c) k
 constants_passes no_constant c k = stay
-constants_passes (constants_separator s) c k = separator_passes s ConstantsPhase tt c k
+constants_passes (constants_separator s) c k = separator_passes s (in_phase ConstantsPhase c) refl refl k
 constants_passes (constant_and s x more) c k =
-    after_free (separator_passes s ConstantsPhase tt c (constant_symbols x (constants_symbols more k)))
+    after_free (separator_passes s (in_phase ConstantsPhase c) refl refl (constant_symbols x (constants_symbols more k)))
     (after_free (constant_passes x c (constants_symbols more k)) (constants_passes more c k))
 
 -- ---- Functions
@@ -82,14 +73,6 @@ word_is : (p : Phase) → IsAround p → (o f v n : ℕ) → counted (made p 0 o
 word_is Between h o f v n = refl
 word_is p h o f v n = search
 
-inner_passes : (x : Semicolon) (c : Counts) (k : List Symbol) → Passes (in_phase Body c) (semicolon_symbols x k) (Unit {0}) (in_phase Body c) k
-inner_passes no_semicolon c k = stay
-inner_passes one_semicolon c k = free refl
-
-outer_passes : (x : Semicolon) (c : Counts) (k : List Symbol) → Passes (in_phase Between c) (semicolon_symbols x k) (Unit {0}) (in_phase Between c) k
-outer_passes no_semicolon c k = stay
-outer_passes one_semicolon c k = free refl
-
 abbrev function_operations : Function → ℕ
 function_operations (function_of more body inner outer) = expression_operations body
 
@@ -105,7 +88,7 @@ function_passes (function_of more body inner outer) p h o f v n k =
     (λ r. free_then refl (free_then refl (free_then refl
     (join (parameters_passes more (made ParametersPhase 0 o 1 (f + 1) v n) 1 (FixedToken Return ∷ text))
     (λ r'. free_then refl (before_free (whole_passes body start tt (semicolon_symbols inner last))
-    (after_free (inner_passes inner (at start 0 (expression_operations body)) last) (free_then refl (outer_passes outer end k))))))))))
+    (after_free (semicolon_passes inner (at start 0 (expression_operations body)) refl last) (free_then refl (semicolon_passes outer end refl k))))))))))
 
 -- ---- Variables
 
@@ -115,7 +98,7 @@ limit_passes infinite_limit c k = free refl
 limit_passes (constant_limit value) c k = free refl
 
 bound_passes : (x : Bound) (c : Counts) (k : List Symbol) → Passes (in_phase Bounds c) (bound_symbols x k) (Unit {0}) (in_phase Bounds c) k
-bound_passes (bound_of sign limit) c k = after_free (sign_passes sign Bounds tt c (limit_symbol limit ∷ k)) (limit_passes limit c k)
+bound_passes (bound_of sign limit) c k = after_free (sign_passes sign (in_phase Bounds c) refl refl (limit_symbol limit ∷ k)) (limit_passes limit c k)
 
 domain_passes : (x : Domain) (c : Counts) (k : List Symbol) → Passes (in_phase VariablesPhase c) (domain_symbols x k) (Unit {0}) (in_phase VariablesPhase c) k
 domain_passes no_domain c k = stay
@@ -135,10 +118,10 @@ variables_passes : (vs : Variables) (c : Counts) (v : ℕ) (k : List Symbol) →
     Passes (declaring c v) (variables_symbols vs k) (v + variables_count vs ≤ max v 12) (declaring c (v + variables_count vs)) k
 variables_passes no_variable c v k = means (λ (r : Unit {0}). omega arith) (λ r. tt) (ap (declaring c) (no_more v)) stay
 variables_passes (variables_separator s) c v k =
-    means (λ (r : Unit {0}). omega arith) (λ r. tt) (ap (declaring c) (no_more v)) (separator_passes s VariablesPhase tt (with_variables v c) k)
+    means (λ (r : Unit {0}). omega arith) (λ r. tt) (ap (declaring c) (no_more v)) (separator_passes s (declaring c v) refl refl k)
 variables_passes (variable_and s x more) c v k =
     means (λ (a, b). omega (arith, a, b)) (λ r. (omega (arith, r), omega (arith, r))) (ap (declaring c) (omega arith))
-    (after_free (separator_passes s VariablesPhase tt (with_variables v c) (variable_symbols x (variables_symbols more k)))
+    (after_free (separator_passes s (declaring c v) refl refl (variable_symbols x (variables_symbols more k)))
     (join (variable_passes x c v (variables_symbols more k)) (λ r. variables_passes more c (v + 1) k)))
 
 -- ---- Constraints
@@ -163,18 +146,13 @@ if_ok : (b : Bool) (r : Counting) (cause : Cause) (m : Counts) → (if b then r 
 if_ok true r cause m h = (refl, h)
 if_ok false r cause m h = cc
 
-first_is : (b t : Bool) (c e : Counts) (g : Counts → Counting) → b ≡ true →
-    next (if b then (if t then Ok e else Err TooManyConstraints) else Ok c) g ≡ (if t then next (if b then Ok e else Ok e) g else Err TooManyConstraints)
-first_is true true c e g h = refl
-first_is true false c e g h = refl
-first_is false t c e g h = cc
-
 -- where a constraint may begin, its first token is counted as one more constraint, and then as within it
 first_passes : (ss : List Symbol) → starts ss ≡ true → (o a f v k : ℕ) → Passes (made NextConstraint 0 o a f v k) ss (k < 64) (made Sides 0 o a f v (k + 1)) ss
 first_passes [] h o a f v k = cc
 first_passes (s ∷ rest) h o a f v k =
-    let g : Counts → Counting = λ d. next (operated d s) (λ e. next (nested e s) (λ x. moved x s)) in
-    let is = first_is (begins_expression s) (nat_lt k 64) (made NextConstraint 0 o a f v k) (made Sides 0 o a f v (k + 1)) g h in
+    let g : Counts → Counting = λ d. within d s in
+    let is = ap (λ (b : Bool). next (if b then where_below k 64 TooManyConstraints (made Sides 0 o a f v (k + 1)) else Ok (made NextConstraint 0 o a f v k)) g) h
+    ∙ (pass (nat_lt k 64) (made Sides 0 o a f v (k + 1)) _ TooManyConstraints g refl ∙ ap (λ (r : Counting). if nat_lt k 64 then next r g else Err TooManyConstraints) (sym (inside_begun (begins_expression s) Sides (made Sides 0 o a f v (k + 1)) tt))) in
     record {
       forth = λ d (m, one, more). let found = if_ok (nat_lt k 64) _ TooManyConstraints m (sym is ∙ one) in (less_is k 64 found.0, (m, found.1, more));
       back = λ d r (m, one, more).
@@ -189,7 +167,7 @@ sides_passes (relates left r right) f v k rest =
     let c : Counts = made Sides 0 0 0 f v k in
     means (λ ((a, b), (d, e)). (a, omega (arith, d), omega (arith, b, e))) (λ (a, b, d). ((a, omega (arith, d)), (omega (arith, b), omega (arith, d)))) refl
     (join (whole_passes left c tt (RelationToken r ∷ expression_symbols right rest))
-    (λ less. behind_quiet c 0 (expression_operations left) (expression_depth right) (expression_operations right) tt tt (expression_passes right c tt 0 (expression_operations left) rest)))
+    (λ less. behind_quiet c 0 (expression_operations left) (expression_depth right) (expression_operations right) tt (refl, λ d i. refl) (expression_passes right c tt 0 (expression_operations left) rest)))
 
 constraint_passes : (x : Constraint) (f v k : ℕ) (rest : List Symbol) →
     Passes (made NextConstraint 0 0 0 f v k) (constraint_symbols x rest) ((k < 64) × IsConstraintWithin x) (made Sides 0 (constraint_operations x) 0 f v (k + 1)) rest

@@ -75,10 +75,7 @@ operates (Call op arity) = true
 operates s = false
 
 abbrev pub operated : Counts → Symbol → Counting
-operated c s =
-    if in_expression c.phase
-    then (if operates s then where_below c.operations 1000 TooDeep (with_operations (c.operations + 1) c) else Ok c)
-    else Ok c
+operated c s = if operates s then where_below c.operations 1000 TooDeep (with_operations (c.operations + 1) c) else Ok c
 
 -- a function's name opens no level, but the parenthesis that must follow does
 abbrev pub levels : Symbol → Counts → Counting
@@ -86,9 +83,6 @@ levels (FixedToken Open) c = where_below c.level 100 TooDeep (in_level (c.level 
 levels (FixedToken Close) c = Ok (in_level (c.level - 1) c)
 levels (Call op arity) c = where_below c.level 100 Unexpected c
 levels s c = Ok c
-
-abbrev pub nested : Counts → Symbol → Counting
-nested c s = if in_expression c.phase then levels s c else Ok c
 
 -- ---- Declarations: at most 12 variables, and 12 parameters
 
@@ -142,9 +136,12 @@ abbrev pub next : Counting → (Counts → Counting) → Counting
 next (Err cause) f = Err cause
 next (Ok c) f = f c
 
+abbrev pub within : Counts → Symbol → Counting
+within c s = if in_expression c.phase then next (operated c s) (λ d. next (levels s d) (λ e. moved e s)) else moved c s
+
 -- the counts behind a token, or the first cause that forbids it
 abbrev pub counted : Counts → Symbol → Counting
-counted c s = next (begun c s) (λ d. next (operated d s) (λ e. next (nested e s) (λ f. moved f s)))
+counted c s = next (begun c s) (λ d. within d s)
 
 -- the tokens are within the limits, and lead from some counts to others
 abbrev pub Counted : Counts → List Symbol → Counts → Type 0

@@ -116,9 +116,6 @@ constraints_sides fs no_constraint = []
 constraints_sides fs constraints_semicolon = []
 constraints_sides fs (constraint_and c more) = constraint_sides fs c ∷ constraints_sides fs more
 
-abbrev pub system_functions : System → List Meaning
-system_functions (system_of block before v vs behind c cs) = functions_behind behind (functions_behind before [])
-
 -- in a constraint all functions are known
 abbrev pub system_constraints : System → List Sides
 system_constraints (system_of block before v vs behind c cs) =

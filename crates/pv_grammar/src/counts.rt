@@ -1,7 +1,7 @@
 // The part of the text that a token stands in, and the counts that have limits.
 
 ghost use Rattle.std.specs.Prelude.{◌≡◌};
-ghost use Rattle.pv_grammar.specs.Counting.{begun, counted, declared, in_phase, moved, nested, operated, turned};
+ghost use Rattle.pv_grammar.specs.Counting.{begun, counted, declared, in_phase, levels, moved, operated, turned};
 
 use crate::cause::Cause;
 use crate::symbol::{Fixed, Symbol};
@@ -78,15 +78,10 @@ impl Counts {
     pub fn counted(self, symbol: Symbol) -> Result<Counts, Cause>
         ensures { result ≡ counted self symbol }
     {
-        match self.begun(symbol) {
-            Ok(made) => match made.operated(symbol) {
-                Ok(made) => match made.nested(symbol) {
-                    Ok(made) => made.moved(symbol),
-                    Err(cause) => Err(cause),
-                },
-                Err(cause) => Err(cause),
-            },
-            Err(cause) => Err(cause),
+        let counts = self.begun(symbol)?;
+        match counts.phase {
+            Phase::Body | Phase::Sides => counts.operated(symbol)?.levels(symbol)?.moved(symbol),
+            _ => counts.moved(symbol),
         }
     }
 
@@ -109,20 +104,11 @@ impl Counts {
         }
     }
 
-    fn is_in_expression(self) -> bool
-        ensures { result ≡ Rattle.pv_grammar.specs.Counting.in_expression self.phase }
-    {
-        match self.phase {
-            Phase::Body | Phase::Sides => true,
-            _ => false,
-        }
-    }
-
     // An operation of an expression.
     fn operated(self, symbol: Symbol) -> Result<Counts, Cause>
         ensures { result ≡ operated self symbol }
     {
-        if !self.is_in_expression() || !symbol.operates() {
+        if !symbol.operates() {
             return Ok(self);
         }
         if self.operations < MAX_OPERATIONS {
@@ -135,12 +121,9 @@ impl Counts {
     }
 
     // A parenthesis of an expression.
-    fn nested(self, symbol: Symbol) -> Result<Counts, Cause>
-        ensures { result ≡ nested self symbol }
+    fn levels(self, symbol: Symbol) -> Result<Counts, Cause>
+        ensures { result ≡ levels symbol self }
     {
-        if !self.is_in_expression() {
-            return Ok(self);
-        }
         match symbol {
             Symbol::Fixed(Fixed::Open) if self.level >= MAX_LEVEL => Err(Cause::TooDeep),
             Symbol::Fixed(Fixed::Open) => Ok(Counts {

@@ -99,15 +99,6 @@ impl Machine {
         Ok(())
     }
 
-    // Puts an item on the stack.
-    fn put(&mut self, item: Item) -> Result<(), Memory>
-        ensures stack { OnOk result (pile self.new.stack.items ≡ item ∷ pile self.old.stack.items) }
-        ensures code { OnOk result (self.new.code ≡ self.old.code) }
-    {
-        self.stack.push(item)?;
-        Ok(())
-    }
-
     /// Puts items on the stack, the first on top.
     pub(crate) fn put_all(&mut self, items: &[Item]) -> Result<(), Memory>
         ensures stack { OnOk result (pile self.new.stack.items ≡
@@ -117,7 +108,7 @@ impl Machine {
         let mut i = items.len();
         while i > 0 {
             i -= 1;
-            self.put(items[i])?;
+            self.stack.push(items[i])?;
         }
         Ok(())
     }

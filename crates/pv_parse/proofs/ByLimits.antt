@@ -5,8 +5,7 @@ use Rattle.pv_grammar.specs.declared.symbol.Symbol.{Symbol}
 use Rattle.pv_grammar.specs.Counting.{AreCounted, Counted, standing_of}
 use Rattle.pv_grammar.specs.Standings.{Standing}
 use Rattle.pv_grammar.proofs.Following.{stands_behind}
-use Rattle.pv_parse.specs.ByCounts.{MarksToWithin, MarksWithin, SpellsToWithin, SpellsWithin}
-use Rattle.pv_parse.specs.Declarations.{Mark, Marks, MarksTo}
+use Rattle.pv_parse.specs.ByCounts.{SpellsToWithin, SpellsWithin}
 use Rattle.pv_parse.specs.Meanings.{Names, learnt}
 use Rattle.pv_parse.specs.Sentences.{Spells, SpellsTo, bytes_of}
 
@@ -33,19 +32,3 @@ pub counted_of : (t : List ℕ) (n : Names) (c : Counts) (from : ℕ) (ss : List
 counted_of t n c from [] to m h = (c, refl)
 counted_of t n c from (s ∷ ss) to m (x, d, next, inside, stands, one, rest) =
     let more = counted_of t (learnt (standing_of c) s (bytes_of t x) n) d x.end ss to m rest in (more.0, (d, one, more.1))
-
-marked_to : (t : List ℕ) (c : Counts) (from : ℕ) (ss : List Symbol) (marks : List Mark) (to : ℕ) (e : Counts) → MarksToWithin t c from ss marks to e → MarksTo t (standing_of c) from ss marks to
-marked_to t c from [] marks to e (none, at, is) = (none, at)
-marked_to t c from (s ∷ ss) marks to e (x, d, rest, next, one, are, more) =
-    (x, rest, next, are, subst (λ (y : Standing). MarksTo t y x.end ss rest to) (stands_behind c d s one) (marked_to t d x.end ss rest to e more))
-
-pub marked_of : (t : List ℕ) (c : Counts) (ss : List Symbol) (marks : List Mark) → MarksWithin t c ss marks → Marks t (standing_of c) ss marks
-marked_of t c ss marks (to, e, h) = (to, marked_to t c 0 ss marks to e h)
-
-counted_to : (t : List ℕ) (c : Counts) (from : ℕ) (ss : List Symbol) (marks : List Mark) (to : ℕ) (e : Counts) → MarksTo t (standing_of c) from ss marks to → Counted c ss e → MarksToWithin t c from ss marks to e
-counted_to t c from [] marks to e (none, at) is = (none, at, is)
-counted_to t c from (s ∷ ss) marks to e (x, rest, next, are, more) (d, one, within) =
-    (x, d, rest, next, one, are, counted_to t d x.end ss rest to e (subst (λ (y : Standing). MarksTo t y x.end ss rest to) (sym (stands_behind c d s one)) more) within)
-
-pub counted_marks : (t : List ℕ) (c : Counts) (ss : List Symbol) (marks : List Mark) → Marks t (standing_of c) ss marks → AreCounted c ss → MarksWithin t c ss marks
-counted_marks t c ss marks (to, h) (e, within) = (to, e, counted_to t c 0 ss marks to e h within)

@@ -1,6 +1,6 @@
 -- What is first wrong in a text by the items of the grammar and the counts is so by its trees and their limits.
 use Rattle.pv_code.specs.declared.code.Op.{Op}
-use Rattle.pv_grammar.proofs.Alike.{AreTexts, alike_behind, alike_tame, derived_alike, items_begin, known_append, same_plain, tame, tame_are_known, tree_begins, expression_texts, system_texts}
+use Rattle.pv_grammar.proofs.Alike.{AreTexts, alike_behind, alike_tame, derived_alike, items_begin, known_append, tame, tame_are_known, tree_begins, expression_texts, system_texts}
 use Rattle.pv_grammar.proofs.Beyond.{call_at, limit_at, name_at, sign_begins}
 use Rattle.pv_grammar.proofs.Fits.{expression_starts, system_starts, kept, left}
 use Rattle.pv_grammar.proofs.Following.{calm_after, stands_after}
@@ -98,7 +98,7 @@ module _ (start : Counts) (items : List Item) (IsText IsLimited : List Symbol �
       let ss : List Symbol = before ++ s ∷ [] in
       let behind : Counted start ss d = counted_one start before c d s within one in
       let g = goes_by items (ss ++ b.rest) b.steps b.derived start ready ss b.rest d refl behind in
-      let plain = derived_alike items (ss ++ g.rest) g.code g.derived items (ss ++ map tame g.rest) (same_plain items) (alike_behind ss g.rest (map tame g.rest) (alike_tame g.rest)) in
+      let plain = derived_alike items (ss ++ g.rest) g.code g.derived items (ss ++ map tame g.rest) refl (alike_behind ss g.rest (map tame g.rest) (alike_tame g.rest)) in
       let are : AreKnown (ss ++ map tame g.rest) = known_append ss (map tame g.rest) (known_append before (s ∷ []) known (name, tt)) (tame_are_known g.rest) in
       (map tame g.rest, limited.limited (ss ++ map tame g.rest) (texts.tree (ss ++ map tame g.rest) plain.0 plain.1 are) (g.counts, counted_all start ss d (map tame g.rest) g.counts behind (tame_counted d g.rest g.counts g.within)))
 

@@ -1,5 +1,5 @@
 -- What is to come has a text that stays within the limits, where the counts fit it.
-use Rattle.std.proofs.Common.{◌≡◌, ℕ, zero, suc, ◌+◌, ◌-◌, false, List, [], ◌∷◌, ◌++◌, refl, sym, ap, ◌∙◌, subst, Some, Ok, pos}
+use Rattle.std.proofs.Common.{◌≡◌, ℕ, zero, suc, ◌+◌, ◌-◌, false, List, [], ◌∷◌, ◌++◌, refl, sym, ◌∙◌, subst, Some, Ok, pos}
 use Rattle.pv_expr.specs.declared.constraint.Relation.TheVariants.{Eq}
 use Rattle.pv_code.specs.declared.code.Op.{Op}
 use Rattle.pv_code.specs.declared.code.Op.TheVariants.{Relate}
@@ -13,8 +13,8 @@ use Rattle.pv_grammar.specs.declared.symbol.Symbol.TheVariants.{Fixed as FixedTo
 use Rattle.pv_grammar.specs.declared.machine.Item.{Item}
 use Rattle.pv_grammar.specs.declared.machine.Item.TheVariants.{Exactly, WantConstant, WantEquals, MaybeSign, WantValue, WantFunctionName, WantParameter, MoreConstraints, MaybeConstraint, MoreParameters, WantVariable, MaybeDomain, WantBound, WantRelation, WantFactor, MoreFactors, MoreTerms, MaybePower, WantExponent, MoreArguments, Then}
 use Rattle.pv_grammar.specs.Grammar.{Derives, MayEnd, Produced, begun as begun_text, done, left_out, produced, step_of}
-use Rattle.pv_grammar.specs.Counting.{Counted, behind_end, counted, in_level, in_phase, with_constraints, levels, moved, operates, turned, with_parameters, with_variables, standing_of}
-use Rattle.pv_grammar.proofs.Ready.{FactorRoom, FixedRoom, InExpression, IsStill, Leaves, OpenRoom, Ready, Room, fixed_behind, opened, opened_in, room_in, seen}
+use Rattle.pv_grammar.specs.Counting.{Counted, behind_end, counted, in_level, in_phase, with_constraints, levels, moved, operates, with_parameters, with_variables, standing_of}
+use Rattle.pv_grammar.proofs.Ready.{FactorRoom, FixedRoom, InExpression, IsStill, Leaves, OpenRoom, Ready, Room, fixed_behind, in_sides, opened, opened_in, phase_is, room_in, seen}
 use Rattle.pv_grammar.proofs.Fits.{seen_end}
 use Rattle.pv_tokens.specs.declared.token.Kind.TheVariants.{Name}
 use Rattle.pv_parse.specs.ByItems.{AreBounded, AreWithin}
@@ -38,15 +38,8 @@ abbrev Closes : (Counts → Type 0) → List Item → Type 0
 Closes P rest = (n : Names) → AreBounded n → (d : Counts) → P d → ClosesFrom n d rest
 
 out : (i : Item) (n : Names) (c : Counts) (rest : List Item) → MayEnd i → ClosesFrom n c rest → ClosesFrom n c (i ∷ rest)
-out i n c rest may h = record {
-  symbols = h.symbols;
-  steps = step_of i ++ h.steps;
-  counts = h.counts;
-  pieces = h.pieces;
-  derived = left_out i rest h.symbols h.steps may h.derived;
-  within = h.within;
-  spelled = h.spelled;
-}
+out i n c rest may h =
+    record { symbols = h.symbols; steps = step_of i ++ h.steps; counts = h.counts; pieces = h.pieces; derived = left_out i rest h.symbols h.steps may h.derived; within = h.within; spelled = h.spelled }
 
 by_piece : (i : Item) (n : Names) (c d : Counts) (rest : List Item) (s : Symbol) (x : Piece) (p : Produced) → produced i s ≡ Some p → counted c s ≡ Ok d → IsPiece x → StandsFor c.phase n x.bytes x.kind s →
     ClosesFrom (learnt (standing_of c) s x.bytes n) d (p.0 ++ rest) → ClosesFrom n c (i ∷ rest)
@@ -64,6 +57,11 @@ by_token : (i : Item) (n : Names) (b : AreBounded n) (c d : Counts) (rest : List
     ((m : Names) → AreBounded m → ClosesFrom m d (p.0 ++ rest)) → ClosesFrom n c (i ∷ rest)
 by_token i n b c d rest s x p e one g =
     by_piece i n c d rest s x.piece p e one x.is_piece (x.stands c.phase n) (g (learnt (standing_of c) s x.piece.bytes n) (learnt_bounded c s x.piece.bytes n b))
+
+-- the one token that may stand there
+exactly : (f : Fixed) → IsClosing f → (n : Names) (b : AreBounded n) (c d : Counts) (rest : List Item) → produced (Exactly f) (FixedToken f) ≡ Some ([], []) → counted c (FixedToken f) ≡ Ok d →
+    ((m : Names) → AreBounded m → ClosesFrom m d rest) → ClosesFrom n c (Exactly f ∷ rest)
+exactly f is n b c d rest e one g = by_token (Exactly f) n b c d rest (FixedToken f) (fixed_token f is) ([], []) e one g
 
 -- a fresh name
 by_name : (i : Item) (n : Names) (b : AreBounded n) (c d : Counts) (rest : List Item) (p : Produced) → ((most : ℕ) → AreWithin n most → StandsFor c.phase n (fresh most) Name (Declared false)) → produced i (Declared false) ≡ Some p → counted c (Declared false) ≡ Ok d →
@@ -129,22 +127,12 @@ close_expression n b c rest h g =
     close_number n b c (MoreFactors ∷ MoreTerms ∷ rest) (room_in c.phase c.constraints h)
     (λ m k d l. out MoreFactors m d (MoreTerms ∷ rest) tt (out MoreTerms m d rest tt (g m k d (l ∙ opened_in c.phase (seen c) h))))
 
-in_sides : (c d : Counts) → seen d ≡ seen c → InExpression c.phase → InExpression d.phase
-in_sides c d l h = subst InExpression (sym (ap (λ (x : Counts). x.phase) l)) h
-
 close_arguments : (a : ℕ) (n : Names) (b : AreBounded n) (c : Counts) (rest : List Item) → InExpression c.phase → Closes (λ d. seen d ≡ seen c) rest → ClosesFrom n c (MoreArguments a ∷ rest)
 close_arguments zero n b c rest h g =
     by_token (MoreArguments zero) n b c (in_level (c.level - 1) c) rest (FixedToken Close) (fixed_token Close tt) _ refl (close_at c.phase c h) (λ m k. g m k (in_level (c.level - 1) c) refl)
 close_arguments (suc a) n b c rest h g =
     by_token (MoreArguments (suc a)) n b c c rest (FixedToken Comma) (fixed_token Comma tt) _ refl (comma_at c.phase c h)
-    (λ m k. close_expression m k c (MoreArguments a ∷ rest) h (λ m' k' d l. close_arguments a m' k' d rest (in_sides c d l h) (λ m'' k'' d' l'. g m'' k'' d' (l' ∙ l))))
-
--- a token that leads to a phase
-close_phase : (f : Fixed) → IsClosing f → (n : Names) (b : AreBounded n) (c d : Counts) (rest : List Item) (p : Produced) → produced (Exactly f) (FixedToken f) ≡ Some p → p.0 ≡ [] →
-    begins_expression (FixedToken f) ≡ false → operates (FixedToken f) ≡ false → levels (FixedToken f) c ≡ Ok c →
-    turned f c ≡ Ok d → ((m : Names) → AreBounded m → ClosesFrom m d rest) → ClosesFrom n c (Exactly f ∷ rest)
-close_phase f x n b c d rest p e none begins_none operates_not l t g =
-    by_token (Exactly f) n b c d rest (FixedToken f) (fixed_token f x) p e (quiet_at c.phase c (FixedToken f) begins_none operates_not l ∙ t) (λ m k. subst (λ (z : List Item). ClosesFrom m d (z ++ rest)) (sym none) (g m k))
+    (λ m k. close_expression m k c (MoreArguments a ∷ rest) h (λ m' k' d l. close_arguments a m' k' d rest (in_sides c.phase d.phase (phase_is c d l) h) (λ m'' k'' d' l'. g m'' k'' d' (l' ∙ l))))
 
 -- an item that stands in one phase alone
 in_part : (q : Phase) (i : Item) (n : Names) (c : Counts) (rest : List Item) → c.phase ≡ q → (Closes (λ d. Leaves i (in_phase q c) d) rest → ClosesFrom n (in_phase q c) (i ∷ rest)) →
@@ -154,35 +142,23 @@ in_part q i n c rest e = subst (λ (p : Phase). Closes (λ d. Leaves i (in_phase
 close_fixed : (f : Fixed) (n : Names) (b : AreBounded n) (c : Counts) (rest : List Item) → FixedRoom f c → Closes (λ d. seen d ≡ fixed_behind f (seen c)) rest → ClosesFrom n c (Exactly f ∷ rest)
 close_fixed Open n b c rest h g =
     let z = open_at c.phase c h in
-    by_token (Exactly Open) n b c z.counts rest (FixedToken Open) (fixed_token Open tt) _ refl z.one (λ m k. g m k z.counts z.holds)
-close_fixed Comma n b c rest h g = in_part Bounds (Exactly Comma) n c rest h (λ g'. close_phase Comma tt n b (in_phase Bounds c) _ rest _ refl refl refl refl refl refl (λ m k. g' m k _ refl)) g
-close_fixed Return n b c rest h g = close_phase Return tt n b c _ rest _ refl refl refl refl refl refl (λ m k. g m k _ refl)
-close_fixed VariablesWord n b c rest h g = close_phase VariablesWord tt n b c _ rest _ refl refl refl refl refl refl (λ m k. g m k _ refl)
-close_fixed ConstraintsWord n b c rest h g = close_phase ConstraintsWord tt n b c _ rest _ refl refl refl refl refl refl (λ m k. g m k _ refl)
-close_fixed OpenBracket n b c rest h g = close_phase OpenBracket tt n b c _ rest _ refl refl refl refl refl refl (λ m k. g m k _ refl)
-close_fixed CloseBracket n b c rest h g = close_phase CloseBracket tt n b c _ rest _ refl refl refl refl refl refl (λ m k. g m k _ refl)
-close_fixed End n b c rest h g = close_phase End tt n b c _ rest _ refl refl refl refl refl refl (λ m k. g m k (behind_end c.phase c) (seen_end c.phase c))
+    exactly Open tt n b c z.counts rest refl z.one (λ m k. g m k z.counts z.holds)
+close_fixed Comma n b c rest h g = in_part Bounds (Exactly Comma) n c rest h (λ g'. exactly Comma tt n b (in_phase Bounds c) (in_phase Bounds c) rest refl refl (λ m k. g' m k _ refl)) g
+close_fixed Return n b c rest h g = exactly Return tt n b c _ rest refl (quiet_at c.phase c (FixedToken Return) refl refl refl) (λ m k. g m k _ refl)
+close_fixed VariablesWord n b c rest h g = exactly VariablesWord tt n b c _ rest refl (quiet_at c.phase c (FixedToken VariablesWord) refl refl refl) (λ m k. g m k _ refl)
+close_fixed ConstraintsWord n b c rest h g = exactly ConstraintsWord tt n b c _ rest refl (quiet_at c.phase c (FixedToken ConstraintsWord) refl refl refl) (λ m k. g m k _ refl)
+close_fixed OpenBracket n b c rest h g = exactly OpenBracket tt n b c _ rest refl (quiet_at c.phase c (FixedToken OpenBracket) refl refl refl) (λ m k. g m k _ refl)
+close_fixed CloseBracket n b c rest h g = exactly CloseBracket tt n b c _ rest refl (quiet_at c.phase c (FixedToken CloseBracket) refl refl refl) (λ m k. g m k _ refl)
+close_fixed End n b c rest h g = exactly End tt n b c _ rest refl (quiet_at c.phase c (FixedToken End) refl refl refl) (λ m k. g m k (behind_end c.phase c) (seen_end c.phase c))
 close_fixed f n b c rest h g = absurd h
-
-close_relation : (n : Names) (b : AreBounded n) (c : Counts) (rest : List Item) → InExpression c.phase → Closes (λ d. seen d ≡ seen c) rest → ClosesFrom n c (WantRelation ∷ rest)
-close_relation n b c rest h g =
-    by_token WantRelation n b c c rest (RelationToken Eq) equal_token _ refl (quiet_at c.phase c (RelationToken Eq) refl refl refl)
-    (λ m k. close_expression m k c (Then (Relate Eq) ∷ rest) h (λ m' k' d l. out (Then (Relate Eq)) m' d rest tt (g m' k' d l)))
-
-close_exponent : (n : Names) (b : AreBounded n) (c : Counts) (rest : List Item) → InExpression c.phase → Closes (λ d. seen d ≡ seen c) rest → ClosesFrom n c (WantExponent ∷ rest)
-close_exponent n b c rest h g =
-    let z = number_at c.phase c (room_in c.phase c.constraints h) in
-    by_token WantExponent n b c z.counts rest number zero_token _ refl z.one (λ m k. g m k z.counts (z.holds ∙ opened_in c.phase (seen c) h))
-
-close_constant : (n : Names) (b : AreBounded n) (c : Counts) (rest : List Item) → c.phase ≡ Constants → Closes (λ d. seen d ≡ seen c) rest → ClosesFrom n c (WantConstant ∷ rest)
-close_constant n b c rest h =
-    in_part Constants WantConstant n c rest h (λ g. by_name WantConstant n b (in_phase Constants c) (in_phase Constants c) rest _ (fresh_known n) refl refl
-    (λ m k. by_token WantEquals m k (in_phase Constants c) (in_phase Constants c) (MaybeSign ∷ WantValue ∷ rest) (RelationToken Eq) equal_token _ refl refl
-    (λ m' k'. out MaybeSign m' (in_phase Constants c) (WantValue ∷ rest) tt (by_token WantValue m' k' (in_phase Constants c) (in_phase Constants c) rest number zero_token _ refl refl (λ l r. g l r (in_phase Constants c) refl)))))
 
 close : (i : Item) (n : Names) (b : AreBounded n) (c : Counts) (rest : List Item) → Room i c → Closes (λ d. Leaves i c d) rest → ClosesFrom n c (i ∷ rest)
 close (Exactly f) n b c rest h g = close_fixed f n b c rest h g
-close WantConstant n b c rest h g = close_constant n b c rest h g
+close WantConstant n b c rest h g =
+    let d : Counts = in_phase Constants c in
+    in_part Constants WantConstant n c rest h (λ g'. by_name WantConstant n b d d rest _ (fresh_known n) refl refl
+    (λ m k. by_token WantEquals m k d d (MaybeSign ∷ WantValue ∷ rest) (RelationToken Eq) equal_token _ refl refl
+    (λ m' k'. out MaybeSign m' d (WantValue ∷ rest) tt (by_token WantValue m' k' d d rest number zero_token _ refl refl (λ l r. g' l r d refl))))) g
 close WantEquals n b c rest h g = by_token WantEquals n b c c rest (RelationToken Eq) equal_token _ refl (quiet_at c.phase c (RelationToken Eq) refl refl refl) (λ m k. g m k c refl)
 close WantValue n b c rest h g = by_token WantValue n b c c rest number zero_token _ refl (value_at c.phase c h) (λ m k. g m k c refl)
 close WantFunctionName n b c rest h g =
@@ -195,9 +171,13 @@ close WantVariable n b c rest h g =
     let d : Counts = in_phase Variables (with_variables (c.variables + 1) c) in
     in_part Variables WantVariable n c rest h.0 (λ g'. by_name WantVariable n b (in_phase Variables c) d rest _ (fresh_known n) refl (rw h.1) (λ m k. out MaybeDomain m d rest tt (g' m k d refl))) g
 close WantBound n b c rest h g = by_token WantBound n b c c rest number zero_token _ refl (value_at c.phase c h) (λ m k. g m k c refl)
-close WantRelation n b c rest h g = close_relation n b c rest h g
+close WantRelation n b c rest h g =
+    by_token WantRelation n b c c rest (RelationToken Eq) equal_token _ refl (quiet_at c.phase c (RelationToken Eq) refl refl refl)
+    (λ m k. close_expression m k c (Then (Relate Eq) ∷ rest) h (λ m' k' d l. out (Then (Relate Eq)) m' d rest tt (g m' k' d l)))
 close WantFactor n b c rest h g = close_number n b c rest h g
-close WantExponent n b c rest h g = close_exponent n b c rest h g
+close WantExponent n b c rest h g =
+    let z = number_at c.phase c (room_in c.phase c.constraints h) in
+    by_token WantExponent n b c z.counts rest number zero_token _ refl z.one (λ m k. g m k z.counts (z.holds ∙ opened_in c.phase (seen c) h))
 close (MoreArguments a) n b c rest h g = close_arguments a n b c rest h g
 close MoreConstraints n b c rest h g = out MoreConstraints n c rest tt (g n b c tt)
 close MaybeConstraint n b c rest h g = out MaybeConstraint n c rest tt (g n b c tt)

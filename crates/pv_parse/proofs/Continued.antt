@@ -1,8 +1,11 @@
--- A text that is cut behind a token, and goes on with a blank or ends there, has the same tokens up to there.
-use Rattle.std.proofs.Common.{Ok, ◌≡◌, ℕ, zero, suc, ◌+◌, ◌-◌, ◌<◌, ◌≤◌, inl, inr, List, [], ◌∷◌, ◌++◌, length, get_or, refl, sym, ap, ◌∙◌, subst, arith, ⊎_elim}
-use Rattle.std.proofs.lemmas.List.{ext_get_or}
+-- A text that is cut behind a token has the same tokens up to there, where it goes on with those of a closing, each behind a blank.
+use Rattle.std.proofs.Common.{Ok, ◌≡◌, ℕ, zero, suc, ◌+◌, ◌-◌, ◌<◌, ◌≤◌, inl, inr, List, [], ◌∷◌, ◌++◌, length, get_or, take, length-append, refl, sym, ap, ◌∙◌, subst, arith, ⊎_elim}
+use Rattle.std.proofs.lemmas.List.{ext_get_or, get_or_append_left, get_or-append-add, get_or-take, length-take-le}
+use Rattle.pv_code.specs.declared.code.Op.{Op}
 use Rattle.pv_grammar.specs.declared.counts.Counts.{Counts}
+use Rattle.pv_grammar.specs.declared.machine.Item.{Item}
 use Rattle.pv_grammar.specs.declared.symbol.Symbol.{Symbol}
+use Rattle.pv_grammar.specs.Grammar.{Derives}
 use Rattle.pv_grammar.specs.Counting.{Counted, Counting, counted, standing_of}
 use Rattle.pv_tokens.specs.declared.numeral.Parts.{Parts}
 use Rattle.pv_tokens.specs.declared.token.Kind.{Kind}
@@ -14,12 +17,14 @@ use Rattle.pv_tokens.specs.Tokens.IsWord.{name, number, less_equal, greater_equa
 use Rattle.pv_tokens.proofs.Exists.{Opens, next_on, next_takes, next_within, opens, separated_on, separates_on, separator_from, word_within}
 use Rattle.pv_tokens.proofs.Numerals.{exponent_longer, exponent_on, fraction_on}
 use Rattle.pv_tokens.proofs.Slices.{byte_in, length_slice}
+use Rattle.pv_parse.specs.ByItems.{ClosesByItems}
 use Rattle.pv_parse.specs.Meanings.{Names, learnt}
-use Rattle.pv_parse.specs.Sentences.{StandsFor, bytes_of}
+use Rattle.pv_parse.specs.Sentences.{bytes_of}
 use Rattle.pv_parse.specs.ByCounts.{SpellsToWithin}
+use Rattle.pv_parse.proofs.Pieces.{IsPiece, Mean, Piece, Placed}
 
 -- two texts share their first bytes
-pub record Shares (t u : List ℕ) (f : ℕ) : Type 0 where
+record Shares (t u : List ℕ) (f : ℕ) : Type 0 where
   pub same : (k : ℕ) → k < f → get_or t k 0 ≡ get_or u k 0
   pub inside : f ≤ length t
   pub other : f ≤ length u
@@ -28,7 +33,7 @@ turned : (t u : List ℕ) (f : ℕ) → Shares t u f → Shares u t f
 turned t u f h = record { same = λ k l. sym (h.same k l); inside = h.other; other = h.inside }
 
 -- a blank, or what a text reads as behind its end
-abbrev pub IsGap : ℕ → Type 0
+abbrev IsGap : ℕ → Type 0
 IsGap b = b ≤ 32
 
 -- what is counted is counted once
@@ -104,15 +109,17 @@ module _ (t u : List ℕ) (f : ℕ) (h : Shares t u f) where
       (k, separates_shared i k (omega arith) first, separated_shared n k j l rest)
 
 -- no word goes over a gap
-pub stops_at : (u : List ℕ) (i f : ℕ) (kind : Kind) (k : ℕ) → i < f → IsGap (get_or u f 0) → IsWord u i kind k → k ≤ f
+stops_at : (u : List ℕ) (i f : ℕ) (kind : Kind) (k : ℕ) → i < f → IsGap (get_or u f 0) → IsWord u i kind k → k ≤ f
 stops_at u i f kind k l g w = grind arith
 
 -- ---- Tokens
 
-spells_on : (t : List ℕ) (n : Names) (c : Counts) (from : ℕ) (ss : List Symbol) (to : ℕ) (m : Names) → SpellsToWithin t n c from ss to m → from ≤ to
-spells_on t n c from [] to m h = omega (arith, h.0)
-spells_on t n c from (s ∷ ss) to m (x, d, next, inner, stands, one, rest) =
-    omega (arith, next_on t from x next, next_takes t from x inner next, spells_on t (learnt (standing_of c) s (bytes_of t x) n) d x.end ss to m rest)
+-- tokens go on, within the text
+spells_on : (t : List ℕ) (n : Names) (c : Counts) (from : ℕ) (ss : List Symbol) (to : ℕ) (m : Names) → from ≤ length t → SpellsToWithin t n c from ss to m → (from ≤ to) × (to ≤ length t)
+spells_on t n c from [] to m l h = (omega (arith, h.0), omega (arith, h.0))
+spells_on t n c from (s ∷ ss) to m l (x, d, next, inner, stands, one, rest) =
+    let (on, inside) = spells_on t (learnt (standing_of c) s (bytes_of t x) n) d x.end ss to m (next_within t from x next) rest in
+    (omega (arith, next_on t from x next, next_takes t from x inner next, on), inside)
 
 module _ (t u : List ℕ) (f : ℕ) (h : Shares t u f) (g : IsGap (get_or u f 0)) where
   longest_shared : (i : ℕ) (kind : Kind) (j : ℕ) → i < f → j ≤ f → IsLongest t i kind j → IsLongest u i kind j
@@ -144,37 +151,136 @@ module _ (t u : List ℕ) (f : ℕ) (h : Shares t u f) (g : IsGap (get_or u f 0)
       ext_get_or 0 (bytes_of t x) (bytes_of u x) (t_long ∙ sym u_long)
       (λ i b. byte_in t x.start x.end (x.start + i) i refl (omega arith) ∙ (h.same (x.start + i) (omega arith) ∙ sym (byte_in u x.start x.end (x.start + i) i refl (omega arith))))
 
-  pub spells_shared : (n : Names) (c : Counts) (from : ℕ) (ss : List Symbol) (to : ℕ) (m : Names) → to ≤ f → SpellsToWithin t n c from ss to m → SpellsToWithin u n c from ss to m
+  spells_shared : (n : Names) (c : Counts) (from : ℕ) (ss : List Symbol) (to : ℕ) (m : Names) → to ≤ f → SpellsToWithin t n c from ss to m → SpellsToWithin u n c from ss to m
   spells_shared n c from [] to m l s = s
   spells_shared n c from (s ∷ ss) to m l (x, d, next, inner, stands, one, rest) =
-      let below : x.end ≤ to = spells_on t (learnt (standing_of c) s (bytes_of t x) n) d x.end ss to m rest in
-      let bytes : bytes_of t x ≡ bytes_of u x = bytes_shared x (omega arith) in (
-        x,
-        d,
-        next_shared from x (omega arith) inner next,
-        inner,
-        subst (λ (z : List ℕ). StandsFor c.phase n z x.kind s) bytes stands,
-        one,
-        subst (λ (z : List ℕ). SpellsToWithin u (learnt (standing_of c) s z n) d x.end ss to m) bytes (spells_shared (learnt (standing_of c) s (bytes_of t x) n) d x.end ss to m l rest),
-      )
-
--- tokens end within the text
-pub spells_within : (t : List ℕ) (n : Names) (c : Counts) (from : ℕ) (ss : List Symbol) (to : ℕ) (m : Names) → from ≤ length t → SpellsToWithin t n c from ss to m → to ≤ length t
-spells_within t n c from [] to m l h = omega (arith, h.0)
-spells_within t n c from (s ∷ ss) to m l (x, d, next, inner, stands, one, rest) =
-    spells_within t (learnt (standing_of c) s (bytes_of t x) n) d x.end ss to m (next_within t from x next) rest
+      let (below, inside) = spells_on t (learnt (standing_of c) s (bytes_of t x) n) d x.end ss to m (next_within t from x next) rest in
+      let bytes : bytes_of t x ≡ bytes_of u x = bytes_shared x (omega arith) in
+      let more = spells_shared (learnt (standing_of c) s (bytes_of t x) n) d x.end ss to m l rest in
+      (x, d, next_shared from x (omega arith) inner next, inner, rw bytes at stands, one, rw bytes at more)
 
 pub spells_all : (t : List ℕ) (n : Names) (c : Counts) (from : ℕ) (xs : List Symbol) (mid : ℕ) (k : Names) (d : Counts) (ys : List Symbol) (to : ℕ) (m : Names) → SpellsToWithin t n c from xs mid k → Counted c xs d →
     SpellsToWithin t k d mid ys to m → SpellsToWithin t n c from (xs ++ ys) to m
 spells_all t n c from [] mid k d ys to m h e more = rw (e, h.0, h.1) more
 spells_all t n c from (s ∷ xs) mid k d ys to m (x, g, next, inner, stands, one, rest) (g', one', counts) more =
-    (x, g, next, inner, stands, one, spells_all t (learnt (standing_of c) s (bytes_of t x) n) g x.end xs mid k d ys to m rest (subst (λ (z : Counts). Counted z xs d) (ok_same (counted c s) one' one) counts) more)
+    (x, g, next, inner, stands, one, spells_all t (learnt (standing_of c) s (bytes_of t x) n) g x.end xs mid k d ys to m rest (rw (ok_same (counted c s) one' one) at counts) more)
 
 -- the end of a text is its next token there
-pub next_end : (t : List ℕ) → IsNext t (length t) (record { kind = End; start = length t; end = length t })
+next_end : (t : List ℕ) → IsNext t (length t) (record { kind = End; start = length t; end = length t })
 next_end t = record {
   separators = 0;
   gap = refl;
   begins = λ k s. omega (arith, (separates_on t (length t) k s).0, (separates_on t (length t) k s).1);
   longest = record { word = finish refl refl refl; longest = λ other k w. word_within t (length t) other k w };
 }
+
+-- ---- The text of a closing
+
+abbrev text_of : List Piece → List ℕ
+text_of [] = []
+text_of (x ∷ xs) = 32 ∷ (x.bytes ++ text_of xs)
+
+-- from a place on a text is these bytes
+record Ends (w : List ℕ) (at : ℕ) (p : List ℕ) : Type 0 where
+  each : (k : ℕ) → get_or w (at + k) 0 ≡ get_or p k 0
+  long : at + length p ≡ length w
+
+module _ (w : List ℕ) (at : ℕ) (first rest : List ℕ) (h : Ends w at (first ++ rest)) where
+  placed : Placed w at first
+  placed = record { each = λ k l. h.each k ∙ get_or_append_left first rest 0 k l; within = omega (arith, h.long, length-append first rest) }
+
+  ends_behind : Ends w (at + length first) rest
+  ends_behind = record {
+    each = λ k. let e : at + length first + k ≡ at + (length first + k) = omega arith in
+        ap (λ i. get_or w i 0) e ∙ h.each (length first + k) ∙ get_or-append-add first rest k 0;
+    long = omega (arith, h.long, length-append first rest);
+  }
+
+-- behind each token is a blank or the end
+gap_at : (w : List ℕ) (at : ℕ) (xs : List Piece) → Ends w at (text_of xs) → IsGap (get_or w at 0)
+gap_at w at [] h = grind (arith, h.each 0)
+gap_at w at (x ∷ xs) h = grind (arith, h.each 0)
+
+-- the token that the bytes behind a blank are
+abbrev token_at : ℕ → Piece → Token
+token_at at x = record { kind = x.kind; start = at + 1; end = at + 1 + length x.bytes }
+
+module _ (w : List ℕ) (at : ℕ) (x : Piece) (blank_there : IsBlank (get_or w at 0)) (there : Placed w (at + 1) x.bytes) where
+  next_piece : IsPiece x → IsGap (get_or w (at + 1 + length x.bytes) 0) → IsNext w at (token_at at x)
+  next_piece is g =
+      let first : get_or w (at + 1) 0 ≡ get_or x.bytes 0 0 = grind (arith, there.each 0, is.some) in
+      record {
+        separators = 1;
+        gap = (at + 1, blank blank_there refl, refl);
+        begins = λ k s. is.begins (get_or w (at + 1 + 1) 0) (subst (λ b. Opens b (get_or w (at + 1 + 1) 0)) first (opens w (at + 1) k s));
+        longest = record {
+          word = is.word w (at + 1) there;
+          longest = λ other k v. stops_at w (at + 1) (at + 1 + length x.bytes) other k (omega (arith, is.some)) g v;
+        };
+      }
+
+  bytes_there : x.bytes ≡ bytes_of w (token_at at x)
+  bytes_there =
+      ext_get_or 0 x.bytes (bytes_of w (token_at at x)) (omega (arith, length_slice w (at + 1) (at + 1 + length x.bytes) there.within))
+      (λ i l. sym (byte_in w (at + 1) (at + 1 + length x.bytes) (at + 1 + i) i refl (omega arith) ∙ there.each i l))
+
+-- the names that are known at the end, and the tokens up to there
+spells_tail : (xs : List Piece) (ss : List Symbol) (w : List ℕ) (at : ℕ) (n : Names) (c : Counts) → Ends w at (text_of xs) → Mean n c xs ss → (m : Names) × SpellsToWithin w n c at ss (length w) m
+spells_tail [] [] w at n c h means = (n, (omega (arith, h.long), refl))
+spells_tail [] (s ∷ ss) w at n c h means = absurd means
+spells_tail (x ∷ xs) [] w at n c h means = absurd means
+spells_tail (x ∷ xs) (s ∷ ss) w at n c h (d, is, stands, one, rest) =
+    let from_name : Ends w (at + 1) (x.bytes ++ text_of xs) = ends_behind w at (32 ∷ []) (x.bytes ++ text_of xs) h in
+    let there : Placed w (at + 1) x.bytes = placed w (at + 1) x.bytes (text_of xs) from_name in
+    let behind : Ends w (at + 1 + length x.bytes) (text_of xs) = ends_behind w (at + 1) x.bytes (text_of xs) from_name in
+    let blank_there : IsBlank (get_or w at 0) = inl (grind (arith, h.each 0)) in
+    let bytes = bytes_there w at x blank_there there in
+    let (m, more) = spells_tail xs ss w (at + 1 + length x.bytes) (learnt (standing_of c) s x.bytes n) d behind rest in
+    let more' = subst (λ (z : List ℕ). SpellsToWithin w (learnt (standing_of c) s z n) d (at + 1 + length x.bytes) ss (length w) m) bytes more in
+    (m, (token_at at x, d, next_piece w at x blank_there there is (gap_at w (at + 1 + length x.bytes) xs behind), is.inner, rw bytes at stands, one, more'))
+
+-- a text up to a place, and other bytes behind
+shares : (t v : List ℕ) (f : ℕ) → f ≤ length t → Shares t (take f t ++ v) f
+shares t v f l =
+    let cut : length (take f t) ≡ f = length-take-le f t l in
+    let whole : length (take f t ++ v) ≡ length (take f t) + length v = length-append (take f t) v in
+    record {
+      same = λ k b. sym (get_or_append_left (take f t) v 0 k (omega (arith, cut)) ∙ get_or-take f t k 0 b);
+      inside = l;
+      other = omega (arith, cut, whole);
+    }
+
+-- the tokens of a text up to a place, and some more, are a sentence of their own
+pub continued : (t : List ℕ) (known names : Names) (start counts final : Counts) (items : List Item) (before ss : List Symbol) (steps : List Op) (from : ℕ) (xs : List Piece) →
+    SpellsToWithin t known start 0 before from names → Counted start before counts → Mean names counts xs ss → Derives items (before ++ ss) steps → Counted start (before ++ ss) final →
+    ClosesByItems t known start items from before
+continued t known names start counts final items before ss steps from xs spelled within means derived limits =
+    let inside : from ≤ length t = (spells_on t known start 0 before from names (omega arith) spelled).1 in
+    let cut : length (take from t) ≡ from = length-take-le from t inside in
+    let w : List ℕ = take from t ++ text_of xs in
+    let behind : Ends w from (text_of xs) =
+    record { each = λ k. ap (λ i. get_or w (i + k) 0) (sym cut) ∙ get_or-append-add (take from t) (text_of xs) k 0; long = omega (arith, cut, length-append (take from t) (text_of xs)) } in
+    let first : SpellsToWithin w known start 0 before from names = spells_shared t w from (shares t (text_of xs) from inside) (gap_at w from xs behind) known start 0 before from names (omega arith) spelled in
+    let (m, last) = spells_tail xs ss w from names counts behind means in
+    record {
+      tail = text_of xs;
+      code = steps;
+      rest = ss;
+      tokens = refl;
+      sentence = record {
+        symbols = before ++ ss;
+        steps = steps;
+        counts = final;
+        spelled = (
+          length w,
+          m,
+          record { kind = End; start = length w; end = length w },
+          spells_all w known start 0 before from names counts ss (length w) m first within last,
+          next_end w,
+          refl,
+        );
+        within = limits;
+        derived = derived;
+        code_is = refl;
+      };
+    }

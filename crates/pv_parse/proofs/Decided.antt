@@ -25,7 +25,7 @@ use Rattle.pv_tokens.specs.Tokens.{IsDigit, IsNext}
 use Rattle.pv_tokens.proofs.Exists.{digits_from, next_from, next_more, next_on, next_takes, next_within}
 use Rattle.pv_tokens.proofs.OneRatio.{common}
 use Rattle.pv_tokens.proofs.Powers.{divided, least_power}
-use Rattle.pv_tokens.proofs.TokenNumbers.{same_numeral, token_numeral}
+use Rattle.pv_tokens.proofs.Slices.{same_numeral, token_numeral}
 use Rattle.pv_parse.specs.ByItems.{AreBounded, IsFirstByItems, IsSentence}
 use Rattle.pv_parse.specs.Faults.{IsEither, IsExpressionFault, IsSystemFault}
 use Rattle.pv_parse.specs.Meanings.{KnowsVariables, Names, learnt, no_names, variables_from}
@@ -33,12 +33,10 @@ use Rattle.pv_parse.specs.Sentences.{IsExpressionText, IsNumberSymbol, IsSystemT
 use Rattle.pv_parse.proofs.ByTrees.{expression_first, system_first}
 use Rattle.pv_parse.proofs.Pieces.{known_bounded, none_bounded}
 use Rattle.pv_parse.proofs.Reached.{Reached, forbidden, refused, starts, taken_not_end, taken_on, too_much, whole}
+use Rattle.pv_parse.proofs.Same.{same_refl}
 use Rattle.pv_parse.proofs.TreeTexts.{expression_sentence_tree, sentence_tree}
 
 -- ---- What a token stands for
-
-wide_or : (d : Decimal) → TooWide d ⊎ ¬ TooWide d
-wide_or d = grind arith
 
 abbrev AllDigits : List ℕ → Type 0
 AllDigits t = (k : ℕ) → k < length t → IsDigit (get_or t k 0)
@@ -60,13 +58,12 @@ number_some t d h =
     ⊎_elim
     (λ wide. (Never NumberTooWide, λ e k. subst TooWide (same_numeral t d e h k) wide))
     (λ narrow.
-    let a : ℕ = d.digits * 10 ^ (d.up - d.down) in
     let some : 1 ≤ 10 ^ (d.down - d.up) = least_power (d.down - d.up) in
     let c = common (10 ^ (d.down - d.up)) (d.digits * 10 ^ (d.up - d.down)) (10 ^ (d.down - d.up)) (omega arith) in
     let low = divided (d.digits * 10 ^ (d.up - d.down)) (10 ^ (d.down - d.up)) c.divisor (omega arith) c.gcd in
     let e = exponent_some t in
     (Number (record { p = pos (d.digits * 10 ^ (d.up - d.down) / c.divisor); q = 10 ^ (d.down - d.up) / c.divisor }) e.0, (record { decimal = d; numeral = h; narrow = narrow; value = low.1 }, e.1)))
-    (wide_or d)
+    (let h : TooWide d ⊎ ¬ TooWide d = grind arith in h)
 
 only : (x : Symbol) → (s : Symbol) × (s ≡ x)
 only x = (x, refl)
@@ -74,9 +71,6 @@ only x = (x, refl)
 stands_some : (p : Phase) (n : Names) (t : List ℕ) (kind : Kind) → (kind ≡ NumberKind → (d : Decimal) × IsNumeral t d) → (s : Symbol) × StandsFor p n t kind s
 stands_some p n t NumberKind h = let g = h refl in number_some t g.0 g.1
 stands_some p n t kind h = only _
-
-token_stands : (p : Phase) (n : Names) (t : List ℕ) (from : ℕ) (x : Token) → IsNext t from x → (s : Symbol) × StandsFor p n (bytes_of t x) x.kind s
-token_stands p n t from x next = stands_some p n (bytes_of t x) x.kind (λ is. token_numeral t from x next is)
 
 -- ---- What a token meets
 
@@ -135,7 +129,7 @@ reads : (n : ℕ) (t : List ℕ) (known : Names) (start : Counts) (first : List 
 reads zero t known start first names counts items code from r inside few = absurd (omega arith)
 reads (suc n) t known start first names counts items code from r inside few =
     let (x, next) = next_from t from inside in
-    let (s, stands) = token_stands counts.phase names t from x next in
+    let (s, stands) = stands_some counts.phase names (bytes_of t x) x.kind (λ is. token_numeral t from x next is) in
     let (o, rest, code', settles) = meets s items code in
     met_by t known names start counts first items code from r x s next stands
     (λ inner d items'' code'' k.
@@ -155,7 +149,7 @@ decides_system t =
 
 pub decides_expression : (variables : List (List ℕ)) (t : List ℕ) → IsEither (IsExpressionText variables t) (IsExpressionFault variables t)
 decides_expression variables t =
-    let knows : KnowsVariables variables (variables_from variables 0) = record { known = λ name. refl; parameter = λ name. refl; pending = refl; negative = refl } in
+    let knows : KnowsVariables variables (variables_from variables 0) = same_refl (variables_from variables 0) in
     ⊎_elim
     (λ (code, s). let found = expression_sentence_tree variables t (variables_from variables 0) code knows s in inl (variables_from variables 0, knows, found.0, found.1))
     (λ (byte, cause, f). inr (byte, cause, expression_first variables t (variables_from variables 0) byte cause knows f))

@@ -1,5 +1,5 @@
 -- The numbers that a text writes, and the constants that it declares, are fractions within the limits.
-use Rattle.std.proofs.Common.{◌≡◌, ℕ, ◌+◌, ◌<◌, ◌∙◌, zero, suc, Bool, true, false, List, [], ◌∷◌, ◌++◌, length, get_or, refl, sym, ap, subst, arith, neg_ℤ, unsigned_abs, Option, Some, if◌then◌else◌, option_to_list, map}
+use Rattle.std.proofs.Common.{◌≡◌, ℕ, ◌+◌, ◌<◌, ◌∙◌, zero, suc, Bool, true, false, List, [], ◌∷◌, ◌++◌, length, get_or, refl, sym, subst, arith, neg_ℤ, unsigned_abs, Option, Some, if◌then◌else◌, option_to_list, map}
 use Rattle.std.specs.Int.{IsGcd}
 use Rattle.std.specs.Str.{bytes_eq}
 use Rattle.std.proofs.lemmas.Int.{ints}
@@ -14,17 +14,17 @@ use Rattle.pv_grammar.specs.declared.counts.Phase.TheVariants.{Bounds}
 use Rattle.pv_grammar.specs.declared.symbol.Fixed.TheVariants.{End, Oo}
 use Rattle.pv_grammar.specs.declared.symbol.Symbol.{Symbol}
 use Rattle.pv_grammar.specs.declared.symbol.Symbol.TheVariants.{Fixed as FixedToken, Number, Declared, Constant}
-use Rattle.pv_grammar.specs.Trees.{infinite}
 use Rattle.pv_tokens.specs.declared.keyword.Word.{Word}
 use Rattle.pv_tokens.specs.declared.keyword.Word.TheVariants.{End as EndWord}
 use Rattle.pv_parse.specs.declared.names.Meaning.{Meaning}
 use Rattle.pv_parse.specs.declared.names.Meaning.TheVariants.{Constant as ConstantMeaning, Variable as VariableMeaning, Function as FunctionMeaning}
 use Rattle.pv_parse.specs.Declarations.{AreGood, Mark, declares, own}
 use Rattle.pv_parse.specs.Fractions.{HasFraction, HaveFractions, KnowsFractions}
-use Rattle.pv_parse.specs.Meanings.{AreSame, KnowsVariables, Names, learnt, no_names, numbered, variables_from}
-use Rattle.pv_parse.specs.Scopes.{Variable, bound_at, bounds_of, domain_in, domain_of, variable, variables_in}
+use Rattle.pv_parse.specs.Meanings.{AreSame, KnowsVariables, Names, learnt, no_names, numbered, use_of, variables_from}
+use Rattle.pv_parse.specs.Scopes.{Variable, bound_at, bounded, bounded_by, bounds_of, domain_in, everything, variable, variables_in}
 use Rattle.pv_parse.specs.Sentences.{name_symbol, word_symbol}
-use Rattle.pv_parse.proofs.Naming.{IsNew, Used, learnt_known, name_is, or_new}
+use Rattle.pv_parse.proofs.KnownNames.{name_is}
+use Rattle.pv_parse.proofs.Naming.{IsNew, learnt_known, or_new}
 use Rattle.std.specs.List.{AllByRecursion}
 use Rattle.pv_grammar.specs.Standings.{Standing, is_minus}
 use Rattle.pv_grammar.specs.Counting.{standing_of}
@@ -35,9 +35,8 @@ word_fraction : (w : Word) → HasFraction (word_symbol w)
 word_fraction EndWord = tt
 word_fraction w = tt
 
-used_fraction : (o : Option Meaning) → ((value : Fraction) → o ≡ Some (ConstantMeaning value) → IsLowest value) → Used HasFraction o
+used_fraction : (o : Option Meaning) → ((value : Fraction) → o ≡ Some (ConstantMeaning value) → IsLowest value) → HasFraction (use_of true o)
 used_fraction (Some (ConstantMeaning value)) h = h value refl
-used_fraction (Some (FunctionMeaning number zero)) h = tt
 used_fraction (Some (FunctionMeaning number (suc further))) h = tt
 used_fraction o h = tt
 
@@ -58,12 +57,9 @@ signed_lowest true v h =
       under_below = h.under_below;
     }
 
-same_constant : (v w : Fraction) → Some (ConstantMeaning v) ≡ Some (ConstantMeaning w) → v ≡ w
-same_constant v w e = cc
-
 new_fraction : (y : Standing) (s : Symbol) (n : Names) (m : Meaning) (v : Fraction) → HasFraction s → IsNew y s n m → Some m ≡ Some (ConstantMeaning v) → IsLowest v
 new_fraction y (Declared taken) n m v l (at, is) e = absurd (cc)
-new_fraction y (Number value exponent) n m v l is e = subst IsLowest (same_constant _ v (ap Some (sym is) ∙ e)) (signed_lowest n.negative value l)
+new_fraction y (Number value exponent) n m v l is e = subst IsLowest (let same : signed n.negative value ≡ v = cc in same) (signed_lowest n.negative value l)
 new_fraction y (FixedToken End) n m v l is e = absurd (cc)
 new_fraction y s n m v l is e = absurd is
 
@@ -87,14 +83,11 @@ variables_fractions variables n same = same_fractions n (variables_from variable
 
 -- ---- Domains
 
-infinite_bound : (b : Bool) → IsBound (infinite b)
-infinite_bound true = tt
-infinite_bound false = tt
-
 one_bound : (p : Phase) (s : Symbol) (negative : Bool) (bs : List Bound) → HasFraction s → AllByRecursion IsBound bs → AllByRecursion IsBound (option_to_list (bound_at p s negative) ++ bs)
 one_bound Bounds (Number v exponent) negative bs l h = (signed_lowest negative v l, h)
 one_bound Bounds (Constant v) negative bs l h = (signed_lowest negative v l, h)
-one_bound Bounds (FixedToken Oo) negative bs l h = (infinite_bound negative, h)
+one_bound Bounds (FixedToken Oo) true bs l h = (tt, h)
+one_bound Bounds (FixedToken Oo) false bs l h = (tt, h)
 one_bound p s negative bs l h = h
 
 own_bound : (b : Bool) (m : Mark) (ms : List Mark) (negative : Bool) → HasFraction m.symbol → AllByRecursion IsBound (bounds_of (is_minus m.symbol) ms) → AllByRecursion IsBound (bounds_of negative (if b then [] else m ∷ ms))
@@ -108,10 +101,9 @@ own_bounds (m ∷ ms) negative h = own_bound (declares m.phase m.symbol) m (own 
 abbrev pub HasBounds : Domain → Type 0
 HasBounds d = IsBound d.lo × IsBound d.hi
 
-domain_bounds : (bs : List Bound) → AllByRecursion IsBound bs → HasBounds (domain_of bs)
-domain_bounds [] h = (tt, tt)
-domain_bounds (lo ∷ []) h = (h.0, tt)
-domain_bounds (lo ∷ (hi ∷ more)) h = (h.0, h.1.0)
+domain_bounds : (bs : List Bound) (d : Domain) → AllByRecursion IsBound bs → HasBounds d → HasBounds (bounded_by bs d)
+domain_bounds [] d h k = k
+domain_bounds (b ∷ bs) d h k = domain_bounds bs (bounded b d) h.1 (k.1, h.0)
 
 domain_step : (b : Bool) (v : Variable) (vs : List Variable) → HasBounds v.domain → AllByRecursion HasBounds (map domain_in vs) → AllByRecursion HasBounds (map domain_in (if b then v ∷ vs else vs))
 domain_step true v vs h k = (h, k)
@@ -119,7 +111,7 @@ domain_step false v vs h k = k
 
 pub have_bounds : (ms : List Mark) → HaveFractions ms → AllByRecursion HasBounds (map domain_in (variables_in ms))
 have_bounds [] h = tt
-have_bounds (m ∷ ms) h = domain_step (declares m.phase m.symbol) (variable m.bytes ms) (variables_in ms) (domain_bounds (bounds_of false (own ms)) (own_bounds ms false h.1)) (have_bounds ms h.1)
+have_bounds (m ∷ ms) h = domain_step (declares m.phase m.symbol) (variable m.bytes ms) (variables_in ms) (domain_bounds (bounds_of false (own ms)) everything (own_bounds ms false h.1) (tt, tt)) (have_bounds ms h.1)
 
 -- by places
 pub domains_at : (ds : List Domain) → AllByRecursion HasBounds ds → AreGood ds → (k : ℕ) (d : Domain) → k < length ds → IsDomain (get_or ds k d)

@@ -18,7 +18,5 @@ pub mod Refusals
 pub mod Same
 pub mod Scopes
 pub mod Starts
-pub mod Tails
 pub mod TreeDomains
 pub mod TreeTexts
-pub mod TreeTokens

@@ -1,5 +1,5 @@
 -- What the reader found is what the text means.
-use Rattle.std.proofs.Common.{AllPairs, ◌≢◌, ◌≡◌, ℕ, ◌≤◌, List, [], ◌∷◌, length, map, refl, sym, ap, ◌∙◌, subst, arith, ⊎_elim, Bool, true, false, if◌then◌else◌, ◌<◌, ◌++◌, get_or, slice_get, Some}
+use Rattle.std.proofs.Common.{AllPairs, ◌≢◌, ◌≡◌, ℕ, ◌≤◌, List, [], ◌∷◌, length, map, refl, sym, ap, ◌∙◌, subst, arith, ⊎_elim, Bool, true, false, if◌then◌else◌, ◌<◌, get_or, slice_get, Some}
 use Rattle.std.specs.Prelude.{All}
 use Rattle.std.specs.List.{AllByRecursion}
 use Rattle.std.proofs.lemmas.List.Elements.{All-from_recursion}
@@ -13,13 +13,13 @@ use Rattle.pv_grammar.specs.declared.cause.Cause.TheVariants.{BadBounds}
 use Rattle.pv_grammar.specs.declared.counts.Counts.{Counts}
 use Rattle.pv_grammar.specs.declared.counts.Phase.TheVariants.{Between}
 use Rattle.pv_grammar.specs.declared.machine.Item.{Item}
-use Rattle.pv_grammar.specs.declared.symbol.Fixed.TheVariants.{Constraints, OpenBracket, Semicolon}
+use Rattle.pv_grammar.specs.declared.symbol.Fixed.TheVariants.{OpenBracket}
 use Rattle.pv_grammar.specs.declared.symbol.Symbol.{Symbol}
-use Rattle.pv_grammar.specs.declared.symbol.Symbol.TheVariants.{Fixed as FixedToken, Relation as RelationToken}
+use Rattle.pv_grammar.specs.declared.symbol.Symbol.TheVariants.{Fixed as FixedToken}
 use Rattle.pv_grammar.specs.Grammar.{system_items}
 use Rattle.pv_grammar.specs.Counting.{nothing}
+use Rattle.pv_grammar.specs.Standings.{Standing, first_in, standing_behind}
 use Rattle.pv_grammar.specs.TreeCodes.{IsOfSystem}
-use Rattle.pv_grammar.specs.Productions.{system_symbols}
 use Rattle.pv_grammar.specs.Trees.{system_constraints, system_domains}
 use Rattle.pv_grammar.proofs.TreeBuilding.{system_tree}
 use Rattle.pv_grammar.proofs.TreeSteps.{Writes, system_steps}
@@ -27,15 +27,12 @@ use Rattle.pv_code.proofs.Over.{IsStep}
 use Rattle.pv_grammar.proofs.TreeRuns.{system_means}
 use Rattle.pv_parse.specs.declared.refused.ParseRefused.{ParseRefused}
 use Rattle.pv_parse.specs.declared.refused.ParseRefused.TheVariants.{Memory, Fault}
-use Rattle.pv_parse.specs.declared.scope.Begun.{Begun}
-use Rattle.pv_parse.specs.declared.scope.Begun.TheVariants.{Outside, Next, At}
 use Rattle.pv_parse.specs.ByItems.{IsAt, IsFirstOfByItems, IsLargeAt}
-use Rattle.pv_parse.specs.Declarations.{AreGood, IsFirstBad, IsMeaning, Mark, Reading, begun_at, begun_behind, bracket_behind, bracket_of, brackets_in, declares, own, start_of, starts_from, starts_in}
+use Rattle.pv_parse.specs.Declarations.{AreGood, IsFirstBad, IsMeaning, Mark, Marks, MarksTo, Reading, begins_constraint, bracket_behind, bracket_of, brackets_in, declares, own, starts_in}
 use Rattle.pv_parse.specs.Faults.{IsRefusal}
 use Rattle.pv_parse.specs.Faults.IsFaultOf.{bounds, first, large}
 use Rattle.pv_parse.specs.Meanings.{Names, no_names}
-use Rattle.pv_parse.specs.Scopes.{IsToldAs, Scoped, Variable, bracket_given, bracket_in, domain_given, domain_in, name_of, nothing_scoped, variable, variables_in}
-use Rattle.pv_parse.proofs.ByLimits.{marked_of}
+use Rattle.pv_parse.specs.Scopes.{IsTold, IsToldAs, Scoped, Variable, bracket_in, domain_in, name_of, nothing_scoped, variables_in}
 use Rattle.pv_parse.proofs.ByTrees.{system_first}
 use Rattle.pv_parse.proofs.TreeTexts.{text_of_system, variables_many}
 use Rattle.pv_parse.proofs.KnownNames.{sentence_known}
@@ -44,30 +41,24 @@ use Rattle.pv_parse.proofs.Naming.{names_apart, steps_written, told_heard}
 use Rattle.pv_parse.proofs.TreeDomains.{brackets_named, domains_of_tree, names_named}
 use Rattle.pv_parse.proofs.Fractions.{HasBounds, domains_at, have_bounds}
 use Rattle.pv_parse.proofs.NameBytes.{begins_within}
-use Rattle.pv_parse.proofs.Declarations.{all_brackets, all_domains, all_names, all_starts, same_lengths}
-use Rattle.pv_parse.specs.ByCounts.{MarksWithin, MarksToWithin, SpellsWithin}
+use Rattle.pv_parse.proofs.Declarations.{all_starts, all_variables}
+use Rattle.pv_parse.specs.ByCounts.{SpellsWithin}
 
 -- ---- What was found, by the tokens
-
-abbrev pub IsTold : List ℕ → List Op → Scoped → Type 0
-IsTold t code new = IsToldAs t no_names (nothing Between) system_items [] code nothing_scoped new
 
 abbrev told_tree : (t : List ℕ) (code : List Op) (new : Scoped) (s : IsTold t code new) → IsOfSystem s.sentence.symbols s.sentence.steps
 told_tree t code new s =
     system_tree s.sentence.symbols s.sentence.steps s.sentence.derived (sentence_known t no_names (nothing Between) system_items [] code s.sentence)
 
-names_are : (t : List ℕ) (code : List Op) (new : Scoped) (s : IsTold t code new) → new.names ≡ map name_of (variables_in s.marks)
-names_are t code new s = ap (λ (z : Scoped). z.names) s.scoped ∙ all_names s.marks nothing_scoped
+variables_are : (t : List ℕ) (code : List Op) (new : Scoped) (s : IsTold t code new) → new.variables ≡ variables_in s.marks
+variables_are t code new s = ap (λ (z : Scoped). z.variables) s.scoped ∙ all_variables s.marks nothing_scoped refl
 
-names_length : (t : List ℕ) (code : List Op) (new : Scoped) (s : IsTold t code new) → length new.names ≡ length (variables_in s.marks)
-names_length t code new s = ap length (names_are t code new s) ∙ length-map name_of (variables_in s.marks)
-
-pub told_steps : {t : List ℕ} {code : List Op} {new : Scoped} → IsTold t code new → All (IsStep (length new.names)) code
+pub told_steps : {t : List ℕ} {code : List Op} {new : Scoped} → IsTold t code new → All (IsStep (length new.variables)) code
 told_steps {t = t} {code = code} {new = new} s =
-    let n : ℕ = length new.names in
+    let n : ℕ = length new.variables in
     let (x, symbols, steps) = told_tree t code new s in
     let written = steps_written n t no_names (nothing Between) s.sentence.symbols s.marks (told_heard t no_names (nothing Between) system_items code new s) s.fractions (λ name. tt) (omega arith)
-    (omega (arith, names_length t code new s)) in
+    (omega (arith, ap length (variables_are t code new s))) in
     subst (λ (z : List Op). All (IsStep n) z) (sym (s.sentence.code_is ∙ steps)) (system_steps n x (subst (AllByRecursion (Writes (IsStep n))) symbols written))
 
 pub told_at : {t : List ℕ} {known known' : Names} {start start' : Counts} {items items' : List Item} {code code' after : List Op} {old old' new : Scoped} →
@@ -79,50 +70,48 @@ told_at {t = t} {known' = known'} {start = start} {start' = start'} {items = ite
     (subst (λ (z : Counts). IsToldAs t known' z items code after old new) e
     (subst (λ (z : Names). IsToldAs t z start items code after old new) d s))))
 
-brackets_are : (t : List ℕ) (code : List Op) (new : Scoped) (s : IsTold t code new) → map bracket_given new.given ≡ map bracket_in (variables_in s.marks)
-brackets_are t code new s = ap (λ (z : Scoped). map bracket_given z.given) s.scoped ∙ all_brackets s.marks nothing_scoped refl
-
-domains_are : (t : List ℕ) (code : List Op) (new : Scoped) (s : IsTold t code new) → map domain_given new.given ≡ map domain_in (variables_in s.marks)
-domains_are t code new s = ap (λ (z : Scoped). map domain_given z.given) s.scoped ∙ all_domains s.marks nothing_scoped refl
+pub unsigned : {b : Bool} → b ≡ false → record { variables = []; starts = []; negative = b } ≡ nothing_scoped
+unsigned e = ap (λ (b : Bool). record { variables = []; starts = []; negative = b }) e
 
 starts_are : (t : List ℕ) (code : List Op) (new : Scoped) (s : IsTold t code new) → new.starts ≡ starts_in s.marks
 starts_are t code new s = ap (λ (z : Scoped). z.starts) s.scoped ∙ all_starts s.marks nothing_scoped
 
-pub as_many_domains : {t : List ℕ} {code : List Op} {new : Scoped} → IsTold t code new → length new.names ≡ length new.given
-as_many_domains s = subst (λ (z : Scoped). length z.names ≡ length z.given) (sym s.scoped) (same_lengths s.marks nothing_scoped refl)
-
-pub names_differ : {t : List ℕ} {code : List Op} {new : Scoped} → IsTold t code new → AllPairs (λ x y. x ≢ y) new.names
+pub names_differ : {t : List ℕ} {code : List Op} {new : Scoped} → IsTold t code new → AllPairs (λ x y. x ≢ y) (map name_of new.variables)
 names_differ {t = t} {code = code} {new = new} s =
-    subst (λ (z : List (List ℕ)). AllPairs (λ x y. x ≢ y) z) (sym (names_are t code new s))
+    subst (λ (z : List Variable). AllPairs (λ x y. x ≢ y) (map name_of z)) (sym (variables_are t code new s))
     (names_apart t no_names (nothing Between) s.sentence.symbols s.marks (told_heard t no_names (nothing Between) system_items code new s)).0
 
-pub domains_good : {t : List ℕ} {code : List Op} {new : Scoped} → IsTold t code new → AreGood (map domain_given new.given) → All IsDomain (map domain_given new.given)
+pub domains_good : {t : List ℕ} {code : List Op} {new : Scoped} → IsTold t code new → AreGood (map domain_in new.variables) → All IsDomain (map domain_in new.variables)
 domains_good {t = t} {code = code} {new = new} s good =
-    domains_at (map domain_given new.given) (subst (AllByRecursion HasBounds) (sym (domains_are t code new s)) (have_bounds s.marks s.fractions)) good
+    domains_at (map domain_in new.variables)
+    (subst (λ (z : List Variable). AllByRecursion HasBounds (map domain_in z)) (sym (variables_are t code new s)) (have_bounds s.marks s.fractions)) good
 
 -- ---- What a text's answer says
-
-abbrev told_marks : (t : List ℕ) (code : List Op) (new : Scoped) (s : IsTold t code new) → MarksWithin t (nothing Between) (system_symbols (told_tree t code new s).0 []) s.marks
-told_marks t code new s = subst (λ (z : List Symbol). MarksWithin t (nothing Between) z s.marks) (told_tree t code new s).1 s.marked
 
 abbrev read : (t : List ℕ) (code : List Op) (new : Scoped) → IsTold t code new → Reading t
 read t code new s = record {
   tree = (told_tree t code new s).0;
   spelled = text_of_system t (told_tree t code new s).0 (subst (SpellsWithin t no_names (nothing Between)) (told_tree t code new s).1 s.sentence.spelled);
   marks = s.marks;
-  marked = marked_of t (nothing Between) (system_symbols (told_tree t code new s).0 []) s.marks (told_marks t code new s);
+  marked = subst (λ (z : List Symbol). Marks t (first_in Between) z s.marks) (told_tree t code new s).1 s.marked;
 }
 
-read_domains : (t : List ℕ) (code : List Op) (new : Scoped) (s : IsTold t code new) → map domain_given new.given ≡ system_domains (read t code new s).tree
-read_domains t code new s =
-    domains_are t code new s ∙ domains_of_tree t (told_tree t code new s).0 s.marks (told_marks t code new s)
+-- lists with the same values have as many elements
+pub as_many : {X Y Z : Type 0} (f : X → Z) (g : Y → Z) (xs : List X) (ys : List Y) → map f xs ≡ map g ys → length xs ≡ length ys
+as_many f g xs ys e = sym (length-map f xs) ∙ (ap length e ∙ length-map g ys)
 
--- as many names as the tree has domains
-pub names_many : {t : List ℕ} {code : List Op} {new : Scoped} → IsTold t code new → (1 ≤ length new.names) × (length new.names ≤ 12)
-names_many {t = t} {code = code} {new = new} s =
+read_domains : (t : List ℕ) (code : List Op) (new : Scoped) (s : IsTold t code new) → map domain_in new.variables ≡ system_domains (read t code new s).tree
+read_domains t code new s =
+    ap (map domain_in) (variables_are t code new s) ∙ domains_of_tree t (told_tree t code new s).0 s.marks (read t code new s).marked
+
+read_brackets : (t : List ℕ) (code : List Op) (new : Scoped) (s : IsTold t code new) → map bracket_in new.variables ≡ brackets_in s.marks
+read_brackets t code new s = ap (map bracket_in) (variables_are t code new s) ∙ brackets_named s.marks
+
+-- as many variables as the tree has domains
+pub variables_count : {t : List ℕ} {code : List Op} {new : Scoped} → IsTold t code new → (1 ≤ length new.variables) × (length new.variables ≤ 12)
+variables_count {t = t} {code = code} {new = new} s =
     let r = read t code new s in
-    let same : length new.names ≡ length (system_domains r.tree) = as_many_domains s ∙ sym (length-map domain_given new.given) ∙ ap length (read_domains t code new s) in
-    subst (λ (n : ℕ). (1 ≤ n) × (n ≤ 12)) (sym same) (variables_many r.tree r.spelled.1)
+    subst (λ (n : ℕ). (1 ≤ n) × (n ≤ 12)) (sym (ap length (read_domains t code new s)) ∙ length-map domain_in new.variables) (variables_many r.tree r.spelled.1)
 
 read_constraints : (t : List ℕ) (code : List Op) (new : Scoped) (s : IsTold t code new) → constraints_of code ≡ system_constraints (read t code new s).tree
 read_constraints t code new s = ap constraints_of (s.sentence.code_is ∙ (told_tree t code new s).2) ∙ system_means (told_tree t code new s).0
@@ -132,17 +121,17 @@ first_fault t Memory short h = tt
 first_fault t (Fault byte line column cause) short h = first short (system_first t byte cause h)
 
 pub bad_bounds : {t : List ℕ} {code : List Op} {new : Scoped} (byte : ℕ) (e : ParseRefused) → length t ≤ 65536 → IsTold t code new →
-    IsFirstBad (map domain_given new.given) (map bracket_given new.given) byte → IsAt byte BadBounds e → IsRefusal t e
+    IsFirstBad (map domain_in new.variables) (map bracket_in new.variables) byte → IsAt byte BadBounds e → IsRefusal t e
 bad_bounds byte Memory short s bad at = absurd at
 bad_bounds {t = t} {code = code} {new = new} byte (Fault byte' line column cause) short s bad at =
     let tree = (read t code new s).tree in
     bounds short (read t code new s)
     (subst (λ (n : ℕ). IsFirstBad (system_domains tree) (brackets_in s.marks) n) (sym at.0)
-    (subst (λ (z : List ℕ). IsFirstBad (system_domains tree) z byte) (brackets_are t code new s ∙ brackets_named s.marks)
-    (subst (λ (z : List Domain). IsFirstBad z (map bracket_given new.given) byte) (read_domains t code new s) bad)))
+    (subst (λ (z : List ℕ). IsFirstBad (system_domains tree) z byte) (read_brackets t code new s)
+    (subst (λ (z : List Domain). IsFirstBad z (map bracket_in new.variables) byte) (read_domains t code new s) bad)))
     at.1
 
-pub too_large : {t : List ℕ} {code : List Op} {new : Scoped} (e : ParseRefused) → length t ≤ 65536 → IsTold t code new → AreGood (map domain_given new.given) → IsLargeAt new.starts code e →
+pub too_large : {t : List ℕ} {code : List Op} {new : Scoped} (e : ParseRefused) → length t ≤ 65536 → IsTold t code new → AreGood (map domain_in new.variables) → IsLargeAt new.starts code e →
     IsRefusal t e
 too_large Memory short s good h = tt
 too_large {t = t} {code = code} {new = new} (Fault byte line column cause) short s good (is, i, least, at) =
@@ -151,7 +140,7 @@ too_large {t = t} {code = code} {new = new} (Fault byte line column cause) short
     (subst (λ (z : List ℕ). slice_get z i ≡ Some byte) (starts_are t code new s) at) is
 
 pub meant : {t : List ℕ} {code : List Op} {new : Scoped} (p : Parts) → length t ≤ 65536 → IsTold t code new →
-    p.names ≡ new.names → p.domains ≡ map domain_given new.given → AreGood (map domain_given new.given) → map sides_of p.constraints ≡ constraints_of code → AreWithin (constraints_of code) → IsMeaning t p
+    p.names ≡ map name_of new.variables → p.domains ≡ map domain_in new.variables → AreGood (map domain_in new.variables) → map sides_of p.constraints ≡ constraints_of code → AreWithin (constraints_of code) → IsMeaning t p
 meant {t = t} {code = code} {new = new} p short s names domains good constraints within = record {
   text = record {
     reading = read t code new s;
@@ -159,14 +148,14 @@ meant {t = t} {code = code} {new = new} p short s names domains good constraints
     within = subst AreWithin (read_constraints t code new s) within;
     short = short;
   };
-  names = names ∙ (names_are t code new s ∙ names_named s.marks);
+  names = names ∙ (ap (map name_of) (variables_are t code new s) ∙ names_named s.marks);
   domains = domains ∙ read_domains t code new s;
   constraints = constraints ∙ read_constraints t code new s;
 }
 
 pub as_many_starts : {t : List ℕ} {code : List Op} {new : Scoped} → IsTold t code new → length new.starts ≡ length (constraints_of code)
 as_many_starts {t = t} {code = code} {new = new} s =
-    ap length (starts_are t code new s) ∙ tree_starts t (nothing Between) (told_tree t code new s).0 s.marks (told_marks t code new s) ∙ sym (ap length (read_constraints t code new s))
+    ap length (starts_are t code new s) ∙ tree_starts t (told_tree t code new s).0 s.marks (read t code new s).marked ∙ sym (ap length (read_constraints t code new s))
 
 -- ---- A bracket stands within the text, and so does each constraint's first token
 
@@ -188,51 +177,36 @@ own_within : (n : ℕ) (ms : List Mark) → AreInText n ms → (bracket : ℕ) �
 own_within n [] h bracket k = k
 own_within n (m ∷ ms) h bracket k = own_step (declares m.phase m.symbol) n m (own ms) bracket h.0 k (own_within n ms h.1)
 
-brackets_step : (b : Bool) (n : ℕ) (v : Variable) (vs : List Variable) → v.bracket ≤ n → AreIn n (map bracket_in vs) → AreIn n (map bracket_in (if b then v ∷ vs else vs))
-brackets_step true n v vs h k = (h, k)
-brackets_step false n v vs h k = k
+one_in : (b : Bool) (n place : ℕ) (places : List ℕ) → place ≤ n → AreIn n places → AreIn n (if b then place ∷ places else places)
+one_in true n place places h k = (h, k)
+one_in false n place places h k = k
 
-brackets_within : (n : ℕ) (ms : List Mark) → AreInText n ms → AreIn n (map bracket_in (variables_in ms))
+brackets_within : (n : ℕ) (ms : List Mark) → AreInText n ms → AreIn n (brackets_in ms)
 brackets_within n [] h = tt
-brackets_within n (m ∷ ms) h = brackets_step (declares m.phase m.symbol) n (variable m.bytes ms) (variables_in ms) (own_within n ms h.1 0 (omega arith)) (brackets_within n ms h.1)
+brackets_within n (m ∷ ms) h = one_in (declares m.phase m.symbol) n (bracket_of 0 (own ms)) (brackets_in ms) (own_within n ms h.1 0 (omega arith)) (brackets_within n ms h.1)
+
+starts_within : (n : ℕ) (ms : List Mark) → AreInText n ms → AreIn n (starts_in ms)
+starts_within n [] h = tt
+starts_within n (m ∷ ms) h = one_in (begins_constraint m.phase m.symbol) n m.start (starts_in ms) h.0 (starts_within n ms h.1)
 
 first_within : (n : ℕ) (ds : List Domain) (bs : List ℕ) (byte : ℕ) → AreIn n bs → IsFirstBad ds bs byte → byte ≤ n
 first_within n [] bs byte h bad = absurd bad
 first_within n (d ∷ ds) [] byte h bad = absurd bad
 first_within n (d ∷ ds) (b ∷ bs) byte h bad = ⊎_elim (λ (wrong, at). omega (arith, h.0, at)) (λ (good, later). first_within n ds bs byte h.1 later) bad
 
-abbrev IsBegunWithin : ℕ → Begun → Type 0
-IsBegunWithin n (At place) = place ≤ n
-IsBegunWithin n b = Unit {0}
-
-start_within : (n : ℕ) (s : Symbol) (start : ℕ) (b : Begun) (ms : List Mark) → start ≤ n → IsBegunWithin n b → ((c : Begun) → IsBegunWithin n c → AreIn n (starts_from c ms)) →
-    AreIn n (start_of s (begun_at start b) ++ starts_from (begun_behind s (begun_at start b)) ms)
-start_within n (RelationToken r) start Next ms h k more = (h, more (At start) h)
-start_within n (RelationToken r) start (At place) ms h k more = (k, more (At place) k)
-start_within n (FixedToken Constraints) start b ms h k more = more Next tt
-start_within n (FixedToken Semicolon) start Outside ms h k more = more Outside tt
-start_within n (FixedToken Semicolon) start b ms h k more = more Next tt
-start_within n s start Outside ms h k more = more Outside tt
-start_within n s start Next ms h k more = more (At start) h
-start_within n s start (At place) ms h k more = more (At place) k
-
-starts_within : (n : ℕ) (ms : List Mark) → AreInText n ms → (b : Begun) → IsBegunWithin n b → AreIn n (starts_from b ms)
-starts_within n [] h b k = tt
-starts_within n (m ∷ ms) h b k = start_within n m.symbol m.start b ms h.0 k (starts_within n ms h.1)
-
-marks_within : (t : List ℕ) (c : Counts) (from : ℕ) (ss : List Symbol) (marks : List Mark) (to : ℕ) (e : Counts) → MarksToWithin t c from ss marks to e → AreInText (length t) marks
-marks_within t c from [] marks to e (none, same, is) = subst (AreInText (length t)) (sym none) tt
-marks_within t c from (s ∷ ss) marks to e (x, d, rest, next, one, are, more) =
-    subst (AreInText (length t)) (sym are) (begins_within t from x next, marks_within t d x.end ss rest to e more)
+marks_within : (t : List ℕ) (y : Standing) (from : ℕ) (ss : List Symbol) (marks : List Mark) (to : ℕ) → MarksTo t y from ss marks to → AreInText (length t) marks
+marks_within t y from [] marks to (none, same) = subst (AreInText (length t)) (sym none) tt
+marks_within t y from (s ∷ ss) marks to (x, rest, next, are, more) =
+    subst (AreInText (length t)) (sym are) (begins_within t from x next, marks_within t (standing_behind y s) x.end ss rest to more)
 
 told_within : (t : List ℕ) (code : List Op) (new : Scoped) (s : IsTold t code new) → AreInText (length t) s.marks
-told_within t code new s = marks_within t (nothing Between) 0 s.sentence.symbols s.marks s.marked.0 s.marked.1 s.marked.2
+told_within t code new s = marks_within t (first_in Between) 0 s.sentence.symbols s.marks s.marked.0 s.marked.1
 
-pub bracket_in_text : {t : List ℕ} {code : List Op} {new : Scoped} {byte : ℕ} → IsTold t code new → IsFirstBad (map domain_given new.given) (map bracket_given new.given) byte → byte ≤ length t
+pub bracket_in_text : {t : List ℕ} {code : List Op} {new : Scoped} {byte : ℕ} → IsTold t code new → IsFirstBad (map domain_in new.variables) (map bracket_in new.variables) byte → byte ≤ length t
 bracket_in_text {t = t} {code = code} {new = new} {byte = byte} s =
-    first_within (length t) (map domain_given new.given) (map bracket_given new.given) byte
-    (subst (AreIn (length t)) (sym (brackets_are t code new s)) (brackets_within (length t) s.marks (told_within t code new s)))
+    first_within (length t) (map domain_in new.variables) (map bracket_in new.variables) byte
+    (subst (AreIn (length t)) (sym (read_brackets t code new s)) (brackets_within (length t) s.marks (told_within t code new s)))
 
 pub starts_in_text : {t : List ℕ} {code : List Op} {new : Scoped} → IsTold t code new → (k : ℕ) → k < length new.starts → get_or new.starts k 0 ≤ length t
 starts_in_text {t = t} {code = code} {new = new} s k =
-    All-from_recursion (λ k. k ≤ length t) new.starts (subst (AreIn (length t)) (sym (starts_are t code new s)) (starts_within (length t) s.marks (told_within t code new s) Outside tt)) k 0
+    All-from_recursion (λ k. k ≤ length t) new.starts (subst (AreIn (length t)) (sym (starts_are t code new s)) (starts_within (length t) s.marks (told_within t code new s))) k 0

@@ -21,10 +21,11 @@ use Rattle.pv_tokens.specs.Numbers.{IsRead, IsValue}
 use Rattle.pv_tokens.specs.Tokens.{IsNext}
 use Rattle.pv_tokens.proofs.OneRatio.{one_lowest}
 use Rattle.pv_tokens.proofs.Powers.{least_power}
-use Rattle.pv_tokens.proofs.TokenNumbers.{same_numeral}
+use Rattle.pv_tokens.proofs.Slices.{same_numeral}
 use Rattle.pv_tokens.proofs.Unique.{one_next}
 use Rattle.pv_parse.specs.Faults.{IsExpressionFault, IsFirst}
-use Rattle.pv_parse.specs.Meanings.{AreSame, KnowsVariables, Names, learnt, variables_from}
+use Rattle.pv_parse.specs.Meanings.{KnowsVariables, Names, learnt, variables_from}
+use Rattle.pv_parse.proofs.Same.{as_one}
 use Rattle.pv_parse.specs.Sentences.{IsExpressionText, IsNumberSymbol, MayRaise, Spells, SpellsTo, StandsFor, bytes_of}
 
 -- ---- Numbers
@@ -52,6 +53,13 @@ one_number t s s' h k = absurd (first_of (assumption (h, k)))
 one_symbol : (p : Phase) (n : Names) (t : List ℕ) (kind : Kind) (s s' : Symbol) → StandsFor p n t kind s → StandsFor p n t kind s' → s ≡ s'
 one_symbol p n t NumberKind s s' h k = one_number t s s' h k
 one_symbol p n t kind s s' h k = h ∙ sym k
+
+-- at one place is one token, and one symbol
+one_here : (t : List ℕ) (p : Phase) (n : Names) (from : ℕ) (x x' : Token) (s s' : Symbol) → IsNext t from x → IsNext t from x' →
+    StandsFor p n (bytes_of t x) x.kind s → StandsFor p n (bytes_of t x') x'.kind s' → (x' ≡ x) × (s' ≡ s)
+one_here t p n from x x' s s' next next' stands stands' =
+    let token : x' ≡ x = one_next t from x' x next' next in
+    (token, one_symbol p n (bytes_of t x) x.kind s' s (subst (λ (z : Token). StandsFor p n (bytes_of t z) z.kind s') token stands') stands)
 
 -- ---- Lists of tokens
 
@@ -90,13 +98,9 @@ compare t n y from [] to m [] to' m' h k = alike refl (sym h.0 ∙ k.0) (sym h.1
 compare t n y from [] to m (s ∷ ys) to' m' h (x, next, inside, stands, rest) = shorter (ahead_of_none t y n from to m s ys x h.0 h.1 next inside stands)
 compare t n y from (s ∷ xs) to m [] to' m' (x, next, inside, stands, rest) k = longer (ahead_of_none t y n from to' m' s xs x k.0 k.1 next inside stands)
 compare t n y from (s ∷ xs) to m (s' ∷ ys) to' m' (x, next, inside, stands, rest) (x', next', inside', stands', rest') =
-    let token : x' ≡ x = one_next t from x' x next' next in
-    let symbol : s' ≡ s = one_symbol y.phase n (bytes_of t x) x.kind s' s (subst (λ (z : Token). StandsFor y.phase n (bytes_of t z) z.kind s') token stands') stands in
-    let rest'' : SpellsTo t (learnt y s (bytes_of t x) n) (standing_behind y s) x.end ys to' m' =
-    subst (λ (z : Symbol). SpellsTo t (learnt y z (bytes_of t x) n) (standing_behind y z) x.end ys to' m') symbol
-    (subst (λ (z : Token). SpellsTo t (learnt y s' (bytes_of t z) n) (standing_behind y s') z.end ys to' m') token rest') in
-    subst (λ (z : Symbol). Compared t y (s ∷ xs) (z ∷ ys) to to' m m') (sym symbol)
-    (compared_behind t y s xs ys to to' m m' (compare t (learnt y s (bytes_of t x) n) (standing_behind y s) x.end xs to m ys to' m' rest rest''))
+    let (token, symbol) = one_here t y.phase n from x x' s s' next next' stands stands' in
+    let more : SpellsTo t (learnt y s (bytes_of t x) n) (standing_behind y s) x.end ys to' m' = rw (token, symbol) at rest' in
+    rw symbol (compared_behind t y s xs ys to to' m m' (compare t (learnt y s (bytes_of t x) n) (standing_behind y s) x.end xs to m ys to' m' rest more))
 
 -- nothing goes on behind the end of the text
 none_ahead : (t : List ℕ) (y : Standing) (xs ys : List Symbol) (to : ℕ) (m : Names) (x : Token) → IsNext t to x → x.kind ≡ End → Ahead t y xs ys to m → ⊥
@@ -124,13 +128,9 @@ module _ (t : List ℕ) (known : Names) (start : Standing) (IsText IsLimited : L
   fault_inside : (byte : ℕ) (cause : Cause) (f : IsFirst t known start IsText IsLimited byte cause) (ss : List Symbol) → Ahead t start f.before ss f.from f.names → Begins IsLimited ss → ⊥
   fault_inside byte cause f ss a (rest, text) =
       let p : Phase = (standing_after start f.before).phase in
-      let token : a.token ≡ f.token = one_next t f.from a.token f.token a.next f.next in
-      let symbol : a.symbol ≡ f.symbol =
-      one_symbol p f.names (bytes_of t f.token) f.token.kind a.symbol f.symbol (subst (λ (z : Token). StandsFor p f.names (bytes_of t z) z.kind a.symbol) token a.stands) f.stands in
-      let cut : ss ++ rest ≡ (f.before ++ f.symbol ∷ []) ++ (a.rest ++ rest) =
-      ap (λ (z : List Symbol). z ++ rest) a.cut ∙ (append_assoc f.before (a.symbol ∷ a.rest) rest
-      ∙ (ap (λ (z : Symbol). f.before ++ z ∷ (a.rest ++ rest)) symbol ∙ sym (append_assoc f.before (f.symbol ∷ []) (a.rest ++ rest)))) in
-      f.none (a.rest ++ rest, subst IsLimited cut text)
+      let (token, symbol) = one_here t p f.names f.from f.token a.token f.symbol a.symbol f.next a.next f.stands a.stands in
+      let whole : IsLimited (f.before ++ f.symbol ∷ (a.rest ++ rest)) = rw (a.cut, append_assoc f.before (a.symbol ∷ a.rest) rest, symbol) at text in
+      f.none (a.rest ++ rest, rw (append_assoc f.before (f.symbol ∷ []) (a.rest ++ rest)) whole)
 
   -- a text of the grammar within the limits has no fault
   pub no_fault : (ss : List Symbol) (byte : ℕ) (cause : Cause) → Spells t known start ss → IsLimited ss → IsFirst t known start IsText IsLimited byte cause → ⊥
@@ -148,17 +148,12 @@ module _ (t : List ℕ) (known : Names) (start : Standing) (IsText IsLimited : L
   module _ (part : IsPart IsLimited IsText) (byte byte' : ℕ) (cause cause' : Cause) (f : IsFirst t known start IsText IsLimited byte cause) (g : IsFirst t known start IsText IsLimited byte' cause') where
     fault_there : f.before ≡ g.before → f.from ≡ g.from → f.names ≡ g.names → (byte ≡ byte') × (cause ≡ cause')
     fault_there e k l =
+        let (next, stands, because) : IsNext t f.from g.token × StandsFor (standing_after start f.before).phase f.names (bytes_of t g.token) g.token.kind g.symbol
+        × IsCause IsText IsLimited f.before (standing_after start f.before).phase g.symbol cause' = rw (e, k, l) (g.next, g.stands, g.because) in
         let p : Phase = (standing_after start f.before).phase in
-        let token : g.token ≡ f.token = one_next t f.from g.token f.token (subst (λ (z : ℕ). IsNext t z g.token) (sym k) g.next) f.next in
-        let stands : StandsFor p f.names (bytes_of t f.token) f.token.kind g.symbol =
-        subst (λ (z : Names). StandsFor p z (bytes_of t f.token) f.token.kind g.symbol) (sym l)
-        (subst (λ (z : List Symbol). StandsFor (standing_after start z).phase g.names (bytes_of t f.token) f.token.kind g.symbol) (sym e)
-        (subst (λ (z : Token). StandsFor (standing_after start g.before).phase g.names (bytes_of t z) z.kind g.symbol) token g.stands)) in
-        let symbol : g.symbol ≡ f.symbol = one_symbol p f.names (bytes_of t f.token) f.token.kind g.symbol f.symbol stands f.stands in
-        let because : IsCause IsText IsLimited f.before p f.symbol cause' =
-        subst (λ (z : List Symbol). IsCause IsText IsLimited z (standing_after start z).phase f.symbol cause') (sym e)
-        (subst (λ (z : Symbol). IsCause IsText IsLimited g.before (standing_after start g.before).phase z cause') symbol g.because) in
-        (f.place ∙ (ap (λ (z : Token). z.start) (sym token) ∙ sym g.place), one_cause IsText IsLimited part f.before p f.symbol cause cause' f.because because)
+        let (token, symbol) = one_here t p f.names f.from f.token g.token f.symbol g.symbol f.next next f.stands stands in
+        let because' : IsCause IsText IsLimited f.before p f.symbol cause' = rw symbol at because in
+        (f.place ∙ (ap (λ (z : Token). z.start) (sym token) ∙ sym g.place), one_cause IsText IsLimited part f.before p f.symbol cause cause' f.because because')
 
     pub one_fault : (byte ≡ byte') × (cause ≡ cause')
     one_fault =
@@ -170,19 +165,13 @@ module _ (t : List ℕ) (known : Names) (start : Standing) (IsText IsLimited : L
 
 -- ---- The names of an expression's variables
 
--- names that are the same for each name are the same
-pub same_names : (n m : Names) → AreSame n m → n ≡ m
-same_names n m h = λ i. record { known = λ name. h.known name i; parameter = λ name. h.parameter name i; pending = h.pending i; negative = h.negative i }
-
 pub one_known : (variables : List (List ℕ)) (n m : Names) → KnowsVariables variables n → KnowsVariables variables m → n ≡ m
-one_known variables n m h k = same_names n (variables_from variables 0) h ∙ sym (same_names m (variables_from variables 0) k)
+one_known variables n m h k = as_one n (variables_from variables 0) h ∙ sym (as_one m (variables_from variables 0) k)
 
 pub expression_apart : (variables : List (List ℕ)) (t : List ℕ) (byte : ℕ) (cause : Cause) → IsExpressionText variables t → IsExpressionFault variables t byte cause → ⊥
 expression_apart variables t byte cause (n, knows, e, spelled) (m, knows', f) =
-    no_fault t n (first_in Sides) IsExpression IsLimitedExpression (expression_symbols e []) byte cause spelled.0 (e, refl, spelled.1)
-    (subst (λ (z : Names). IsFirst t z (first_in Sides) IsExpression IsLimitedExpression byte cause) (one_known variables m n knows' knows) f)
+    no_fault t n (first_in Sides) IsExpression IsLimitedExpression (expression_symbols e []) byte cause spelled.0 (e, refl, spelled.1) (rw (one_known variables m n knows' knows) at f)
 
 pub expression_fault : (variables : List (List ℕ)) (t : List ℕ) (byte byte' : ℕ) (cause cause' : Cause) → IsExpressionFault variables t byte cause → IsExpressionFault variables t byte' cause' → (byte ≡ byte') × (cause ≡ cause')
 expression_fault variables t byte byte' cause cause' (n, knows, f) (m, knows', g) =
-    one_fault t n (first_in Sides) IsExpression IsLimitedExpression expression_limited.text byte byte' cause cause' f
-    (subst (λ (z : Names). IsFirst t z (first_in Sides) IsExpression IsLimitedExpression byte' cause') (one_known variables m n knows' knows) g)
+    one_fault t n (first_in Sides) IsExpression IsLimitedExpression expression_limited.text byte byte' cause cause' f (rw (one_known variables m n knows' knows) at g)

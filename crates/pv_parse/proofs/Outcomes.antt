@@ -17,13 +17,10 @@ use Rattle.pv_grammar.specs.declared.cause.Cause.{Cause}
 use Rattle.pv_grammar.specs.declared.cause.Cause.TheVariants.{BadBounds, TextTooLong, TooLarge}
 use Rattle.pv_grammar.specs.declared.counts.Phase.TheVariants.{Between}
 use Rattle.pv_grammar.specs.declared.symbol.Symbol.{Symbol}
-use Rattle.pv_grammar.specs.Counting.{nothing}
 use Rattle.pv_grammar.specs.Limits.{IsLimitedSystem}
 use Rattle.pv_grammar.specs.Productions.{IsSystem, System, system_symbols}
 use Rattle.pv_grammar.specs.Standings.{Standing, first_in, standing_behind}
-use Rattle.pv_grammar.specs.TreeCodes.{system_code}
 use Rattle.pv_grammar.specs.Trees.{expression_term, system_constraints, system_domains}
-use Rattle.pv_grammar.proofs.TreeRuns.{system_means}
 use Rattle.pv_tokens.specs.declared.token.Token.{Token}
 use Rattle.pv_tokens.proofs.Unique.{one_next}
 use Rattle.pv_parse.specs.Declarations.{AreGood, IsExpressionSentence, IsFirstBad, IsMeaning, IsSystemSentence, Mark, MarksTo, MeansOne, MeansOneTerm, Reading, brackets_in, mark_of, names_in, starts_in}
@@ -33,14 +30,12 @@ use Rattle.pv_parse.specs.Faults.IsFaultOf.{bounds, first, large, long}
 use Rattle.pv_parse.specs.Meanings.{Names, learnt, no_names}
 use Rattle.pv_parse.specs.Scopes.{Variable, bracket_in, domain_in, name_of, variables_in}
 use Rattle.pv_parse.specs.Sentences.{IsExpressionText, IsExpressionTextOf, IsTextOf, SpellsTo, bytes_of}
-use Rattle.pv_grammar.proofs.Within.{system_limited, within_system}
-use Rattle.pv_parse.proofs.ByLimits.{counted_marks}
+use Rattle.pv_grammar.proofs.Within.{system_limited}
 use Rattle.pv_parse.proofs.Decided.{decides_expression, decides_system}
 use Rattle.pv_parse.proofs.OneSpelling.{expression_apart, expression_fault, no_fault, one_fault, one_known}
-use Rattle.pv_parse.proofs.Starts.{starts_count}
+use Rattle.pv_parse.proofs.Starts.{tree_starts}
 use Rattle.pv_parse.proofs.TreeDomains.{brackets_named, domains_of_tree, names_named}
-use Rattle.pv_parse.proofs.TreeTexts.{one_expression_tree_of, one_tree_of, tree_sentence}
-use Rattle.pv_parse.specs.ByCounts.{MarksWithin}
+use Rattle.pv_parse.proofs.TreeTexts.{one_expression_tree_of, one_tree_of}
 
 -- ---- A text has one reading
 
@@ -72,14 +67,11 @@ marks_of t n y from (s ∷ ss) to m (x, next, inside, stands, rest) =
     let (marks, more) = marks_of t (learnt y s (bytes_of t x) n) (standing_behind y s) x.end ss to m rest in
     (mark_of t y.phase s x ∷ marks, (x, marks, next, refl, more))
 
-reading_of : (t : List ℕ) (x : System) → IsTextOf t x → Reading t
+pub reading_of : (t : List ℕ) (x : System) → IsTextOf t x → Reading t
 reading_of t x text =
     let spelled = text.0 in
     let (marks, marked) = marks_of t no_names (first_in Between) 0 (system_symbols x []) spelled.0 spelled.1 spelled.3 in
     record { tree = x; spelled = text; marks = marks; marked = (spelled.0, marked) }
-
-counted_reading : (t : List ℕ) (r : Reading t) → MarksWithin t (nothing Between) (system_symbols r.tree []) r.marks
-counted_reading t r = counted_marks t (nothing Between) (system_symbols r.tree []) r.marks r.marked (within_system r.tree r.spelled.1)
 
 -- ---- Bad domains
 
@@ -174,8 +166,7 @@ large_or cs = ⊎_elim (λ within. inl (subst AreWithin (take_all (length cs) cs
 
 -- as many constraints begin as the tree has
 starts_many : (t : List ℕ) (r : Reading t) → length (starts_in r.marks) ≡ length (system_constraints r.tree)
-starts_many t r =
-    starts_count t no_names (nothing Between) (system_code r.tree []) (tree_sentence t (system_code r.tree []) r.tree r.spelled refl) r.marks (counted_reading t r) ∙ ap length (system_means r.tree)
+starts_many t r = tree_starts t r.tree r.marks r.marked
 
 sized : (t : List ℕ) → length t ≤ 65536 → (r : Reading t) → AreGood (system_domains r.tree) → IsEither (IsSystemSentence t) (IsFaultOf t)
 sized t short r good =
@@ -189,7 +180,7 @@ sized t short r good =
 
 read_text : (t : List ℕ) → length t ≤ 65536 → Reading t → IsEither (IsSystemSentence t) (IsFaultOf t)
 read_text t short r =
-    let domains : map domain_in (variables_in r.marks) ≡ system_domains r.tree = domains_of_tree t r.tree r.marks (counted_reading t r) in
+    let domains : map domain_in (variables_in r.marks) ≡ system_domains r.tree = domains_of_tree t r.tree r.marks r.marked in
     ⊎_elim
     (λ good. sized t short r (subst AreGood domains good))
     (λ (byte, bad).
@@ -263,7 +254,7 @@ one_system_meant t s s' m m' =
 pub domains_named : (t : List ℕ) (s : Parts) → IsMeaning t s → length s.domains ≡ length s.names
 domains_named t s m =
     let r = m.text.reading in
-    ap length (m.domains ∙ sym (domains_of_tree t r.tree r.marks (counted_reading t r)))
+    ap length (m.domains ∙ sym (domains_of_tree t r.tree r.marks r.marked))
     ∙ (length-map (variables_in r.marks) domain_in ∙ (sym (length-map (variables_in r.marks) name_of) ∙ ap length (names_named r.marks ∙ sym m.names)))
 
 -- ---- Texts of expressions

@@ -1,13 +1,13 @@
 -- Tokens that a closing is made of, and that there is always a fresh name.
-use Rattle.std.proofs.Common.{◌≡◌, ℕ, zero, suc, ◌+◌, ◌-◌, ◌<◌, ◌≤◌, ◌⊎◌, inl, Bool, true, false, eqb, leb, ◌&&◌, ◌||◌, List, [], ◌∷◌, length, get_or, refl, sym, ap, ◌∙◌, subst, Option, Some, None, is_some, codes, arith, pos, ⊎_elim, Ok}
+use Rattle.std.proofs.Common.{◌≡◌, ℕ, zero, suc, ◌+◌, ◌-◌, ◌<◌, ◌≤◌, ◌⊎◌, inl, Bool, true, false, eqb, leb, ◌&&◌, ◌||◌, List, [], ◌∷◌, length, get_or, replicate, refl, sym, ap, ◌∙◌, Option, Some, None, is_some, codes, arith, pos, ⊎_elim, Ok}
 use Rattle.std.specs.Str.{bytes_eq}
 use Rattle.std.proofs.lemmas.Bool.{cases_Bool, cond-false}
 use Rattle.std.specs.Bool.{Decides}
 use Rattle.std.proofs.lemmas.Bool.Decides.{Decides-by_and, nat_tests}
+use Rattle.std.proofs.lemmas.List.{length-replicate}
 use Rattle.std.proofs.lemmas.Nat.Gcd.{IsGcd-from_zero, IsGcd-swap}
 use Rattle.std.proofs.lemmas.Slice.Eq.{bytes_eq-Decides}
 use Rattle.pv_expr.specs.declared.constraint.Relation.TheVariants.{Eq}
-use Rattle.pv_code.specs.declared.fraction.Fraction.{Fraction}
 use Rattle.pv_grammar.specs.declared.counts.Counts.{Counts}
 use Rattle.pv_grammar.specs.declared.counts.Phase.{Phase}
 use Rattle.pv_grammar.specs.declared.counts.Phase.TheVariants.{Constants, FunctionName, Parameters, Body, Variables}
@@ -16,9 +16,10 @@ use Rattle.pv_grammar.specs.declared.symbol.Fixed.TheVariants.{Open as OpenMark,
 use Rattle.pv_grammar.specs.declared.symbol.Symbol.{Symbol}
 use Rattle.pv_grammar.specs.declared.symbol.Symbol.TheVariants.{Fixed as FixedToken, Relation as RelationToken, Number, Declared}
 use Rattle.pv_grammar.specs.Counting.{counted, standing_of}
+use Rattle.pv_grammar.specs.Standings.{Standing, moved_to}
 use Rattle.pv_tokens.specs.declared.numeral.Parts.{Parts}
 use Rattle.pv_tokens.specs.declared.token.Kind.{Kind}
-use Rattle.pv_tokens.specs.declared.token.Kind.TheVariants.{Name, Number as NumberKind, Equal, Open, Close, OpenBracket, CloseBracket, Comma, End}
+use Rattle.pv_tokens.specs.declared.token.Kind.TheVariants.{Name, Number as NumberKind, End}
 use Rattle.pv_tokens.specs.Numbers.{IsRead}
 use Rattle.pv_tokens.specs.Tokens.{IsLetter, IsNumber, IsWord, mark}
 use Rattle.pv_tokens.proofs.Exists.{Opens}
@@ -26,7 +27,7 @@ use Rattle.pv_tokens.specs.Tokens.IsWord.{name, number, single}
 use Rattle.pv_parse.specs.declared.names.Meaning.{Meaning}
 use Rattle.pv_parse.specs.declared.names.Meaning.TheVariants.{Variable as VariableMeaning}
 use Rattle.pv_parse.specs.ByItems.{AreBounded, AreWithin}
-use Rattle.pv_parse.specs.Meanings.{KnowsVariables, Names, no_names, numbered, is_taken, learnt, told, with_function, with_known, with_name, with_value}
+use Rattle.pv_parse.specs.Meanings.{KnowsVariables, Names, no_names, numbered, is_taken, learnt, told, with_known}
 use Rattle.pv_parse.specs.Sentences.{StandsFor}
 
 -- ---- Names stay bounded
@@ -49,78 +50,48 @@ module _ (n : Names) (most wide : ℕ) (on : most ≤ wide) (b : AreWithin n mos
     pending = wider.pending;
   }
 
-  name_within : (p : Phase) (c : Counts) (x : List ℕ) → length x ≤ wide → AreWithin (with_name p (standing_of c) x n) wide
-  name_within Constants c x k = record { known = wider.known; parameter = wider.parameter; pending = k }
-  name_within FunctionName c x k = record { known = wider.known; parameter = wider.parameter; pending = k }
-  name_within Parameters c x k = record {
+  told_within : (p : Phase) (y : Standing) (s : Symbol) (x : List ℕ) → length x ≤ wide → AreWithin (told (moved_to p y) s x n) wide
+  told_within Constants y (Declared taken) x k = record { known = wider.known; parameter = wider.parameter; pending = k }
+  told_within FunctionName y (Declared taken) x k = record { known = wider.known; parameter = wider.parameter; pending = k }
+  told_within Parameters y (Declared taken) x k = record {
     known = wider.known;
-    parameter = λ y l. cond-false (bytes_eq x y) (Some c.parameters) (n.parameter y) (other_name x y (omega arith)) ∙ b.parameter y (omega arith);
+    parameter = λ z l. cond-false (bytes_eq x z) (Some y.parameters) (n.parameter z) (other_name x z (omega arith)) ∙ b.parameter z (omega arith);
     pending = wider.pending;
   }
-  name_within Variables c x k = known_within x (VariableMeaning c.variables) k
-  name_within p c x k = wider
-
-  value_within : (p : Phase) (v : Fraction) → AreWithin (with_value p v n) wide
-  value_within Constants v = known_within n.pending _ wider.pending
-  value_within p v = wider
-
-  function_within : (p : Phase) (c : Counts) → AreWithin (with_function p (standing_of c) n) wide
-  function_within Body c = let h = known_within n.pending _ wider.pending in record { known = h.known; parameter = λ y l. refl; pending = h.pending }
-  function_within p c = wider
-
-  fixed_within : (c : Counts) (f : Fixed) (x : List ℕ) → AreWithin (told (standing_of c) (FixedToken f) x n) wide
-  fixed_within c EndWord x = function_within c.phase c
-  fixed_within c f x = wider
-
-  told_within : (c : Counts) (s : Symbol) (x : List ℕ) → length x ≤ wide → AreWithin (told (standing_of c) s x n) wide
-  told_within c (Declared taken) x k = name_within c.phase c x k
-  told_within c (Number value exponent) x k = value_within c.phase value
-  told_within c (FixedToken f) x k = fixed_within c f x
-  told_within c s x k = wider
+  told_within Variables y (Declared taken) x k = known_within x (VariableMeaning y.variables) k
+  told_within Constants y (Number value exponent) x k = known_within n.pending _ wider.pending
+  told_within Body y (FixedToken EndWord) x k = let h = known_within n.pending _ wider.pending in record { known = h.known; parameter = λ z l. refl; pending = h.pending }
+  told_within p y (FixedToken EndWord) x k = wider
+  told_within p y s x k = wider
 
 pub learnt_bounded : (c : Counts) (s : Symbol) (x : List ℕ) (n : Names) → AreBounded n → AreBounded (learnt (standing_of c) s x n)
 learnt_bounded c s x n (most, b) =
-    let h = told_within n most (most + length x) (omega arith) b c s x (omega arith) in
+    let h = told_within n most (most + length x) (omega arith) b c.phase (standing_of c) s x (omega arith) in
     (most + length x, record { known = h.known; parameter = h.parameter; pending = h.pending })
 
 -- where a text begins
 pub none_bounded : (n : Names) → n ≡ no_names → AreBounded n
-none_bounded n e = subst AreBounded (sym e) (0, record { known = λ name l. refl; parameter = λ name l. refl; pending = omega arith })
+none_bounded n e = rw e (0, record { known = λ name l. refl; parameter = λ name l. refl; pending = omega arith })
 
--- the length of all names together
-abbrev total : List (List ℕ) → ℕ
-total [] = 0
-total (v ∷ vs) = length v + total vs
-
-numbered_within : (vs : List (List ℕ)) (i : ℕ) (x : List ℕ) → total vs < length x → numbered vs i x ≡ None
-numbered_within [] i x h = refl
-numbered_within (v ∷ vs) i x h = cond-false (bytes_eq v x) (Some (VariableMeaning i)) (numbered vs (i + 1) x) (other_name v x (omega arith)) ∙ numbered_within vs (i + 1) x (omega arith)
+numbered_bounded : (vs : List (List ℕ)) (i : ℕ) → (most : ℕ) × ((x : List ℕ) → most < length x → numbered vs i x ≡ None)
+numbered_bounded [] i = (0, λ x l. refl)
+numbered_bounded (v ∷ vs) i =
+    let (most, h) = numbered_bounded vs (i + 1) in
+    (most + length v, λ x l. cond-false (bytes_eq v x) (Some (VariableMeaning i)) (numbered vs (i + 1) x) (other_name v x (omega arith)) ∙ h x (omega arith))
 
 pub known_bounded : (variables : List (List ℕ)) (n : Names) → KnowsVariables variables n → AreBounded n
-known_bounded variables n h = (
-  total variables,
-  record {
-    known = λ x l. h.known x ∙ numbered_within variables 0 x l;
-    parameter = λ x l. h.parameter x;
-    pending = let e : length n.pending ≡ 0 = ap length h.pending in omega (arith, e);
-  },
-)
+known_bounded variables n h =
+    let (most, b) = numbered_bounded variables 0 in
+    let none : length n.pending ≡ 0 = ap length h.pending in
+    (most, record { known = λ x l. h.known x ∙ b x l; parameter = λ x l. h.parameter x; pending = omega (arith, none) })
 
 -- ---- A fresh name
 
-abbrev pub underscores : ℕ → List ℕ
-underscores zero = []
-underscores (suc n) = 95 ∷ underscores n
-
-length_underscores : (n : ℕ) → length (underscores n) ≡ n
-length_underscores zero = refl
-length_underscores (suc n) = ap suc (length_underscores n)
-
 abbrev pub fresh : ℕ → List ℕ
-fresh most = 95 ∷ underscores most
+fresh most = 95 ∷ replicate most 95
 
 pub fresh_wide : (most : ℕ) → most < length (fresh most)
-fresh_wide most = let e : length (underscores most) ≡ most = length_underscores most in omega (arith, e)
+fresh_wide most = let e : length {A = ℕ} (replicate most 95) ≡ most = length-replicate most 95 in omega (arith, e)
 
 -- the letters of a name
 abbrev letter : ℕ → Bool
@@ -156,7 +127,7 @@ pub record IsPiece (x : Piece) : Type 0 where
 abbrev pub named : List ℕ → Piece
 named t = record { kind = Name; bytes = t }
 
-name_piece : (t : List ℕ) → letters t ≡ true → 0 < length t → IsPiece (named t)
+pub name_piece : (t : List ℕ) → letters t ≡ true → 0 < length t → IsPiece (named t)
 name_piece t h some =
     let first : IsLetter (get_or t 0 0) = letter_at t h 0 some in
     record {
@@ -168,12 +139,12 @@ name_piece t h some =
       begins = λ c o. grind arith;
     }
 
-letters_underscores : (n : ℕ) → letters (underscores n) ≡ true
-letters_underscores zero = refl
-letters_underscores (suc n) = letters_underscores n
+underscores : (n : ℕ) → letters (replicate n 95) ≡ true
+underscores zero = refl
+underscores (suc n) = underscores n
 
 pub fresh_piece : (most : ℕ) → IsPiece (named (fresh most))
-fresh_piece most = name_piece (fresh most) (letters_underscores most) (omega arith)
+fresh_piece most = name_piece (fresh most) (underscores most) (omega arith)
 
 -- a fresh name can be declared
 pub fresh_known : (n : Names) (most : ℕ) → AreWithin n most → Declared false ≡ Declared (is_some (n.known (fresh most)))
@@ -188,16 +159,16 @@ fresh_taken n most b =
 -- ---- Words, marks and the number 0
 
 -- a byte that is a token of its own wherever it stands
-abbrev StandsAlone : ℕ → Type 0
-StandsAlone b = ((40 ≤ b) × (b ≤ 46)) ⊎ ((b ≡ 61) ⊎ ((91 ≤ b) × (b ≤ 93)))
+abbrev pub StandsAlone : ℕ → Type 0
+StandsAlone b = ((40 ≤ b) × (b ≤ 46)) ⊎ ((b ≡ 59) ⊎ ((b ≡ 61) ⊎ ((91 ≤ b) × (b ≤ 94))))
 
-mark_piece : (k : Kind) (b : ℕ) → k ≡ mark b → StandsAlone b → ¬ (k ≡ End) → IsPiece (record { kind = k; bytes = b ∷ [] })
-mark_piece k b is alone inner = record {
+pub mark_piece : (b : ℕ) → StandsAlone b → IsPiece (record { kind = mark b; bytes = b ∷ [] })
+mark_piece b alone = record {
   some = omega arith;
-  inner = inner;
+  inner = λ e. grind arith;
   word = λ w i p.
       let e : get_or w i 0 ≡ b = grind (arith, p.each 0) in
-      single (is ∙ ap mark (sym e)) (record { inside = omega (arith, p.within); no_letter = λ l. grind arith; no_digit = λ d. grind arith }) refl;
+      single (ap mark (sym e)) (record { inside = omega (arith, p.within); no_letter = λ l. grind arith; no_digit = λ d. grind arith }) refl;
   begins = λ c o. grind arith;
 }
 
@@ -238,11 +209,11 @@ zero_token = record {
   stands = λ p n. (zero_read, record { digits = λ k l. (grind arith, grind arith); value = refl; most = omega arith });
 }
 
-pub equal_token : Plain (RelationToken Eq)
-equal_token = record { piece = record { kind = Equal; bytes = 61 ∷ [] }; is_piece = mark_piece Equal 61 refl (grind arith) (λ e. grind arith); stands = λ p n. refl }
+mark_token : (s : Symbol) (b : ℕ) → StandsAlone b → ((p : Phase) (n : Names) → StandsFor p n (b ∷ []) (mark b) s) → Plain s
+mark_token s b alone stands = record { piece = record { kind = mark b; bytes = b ∷ [] }; is_piece = mark_piece b alone; stands = stands }
 
-mark_token : (f : Fixed) (k : Kind) (b : ℕ) → k ≡ mark b → StandsAlone b → ¬ (k ≡ End) → ((p : Phase) (n : Names) → StandsFor p n (b ∷ []) k (FixedToken f)) → Plain (FixedToken f)
-mark_token f k b is alone inner stands = record { piece = record { kind = k; bytes = b ∷ [] }; is_piece = mark_piece k b is alone inner; stands = stands }
+pub equal_token : Plain (RelationToken Eq)
+equal_token = mark_token (RelationToken Eq) 61 (grind arith) (λ p n. refl)
 
 word_token : (f : Fixed) (t : List ℕ) → letters t ≡ true → 0 < length t → ((p : Phase) (n : Names) → StandsFor p n t Name (FixedToken f)) → Plain (FixedToken f)
 word_token f t h some stands = record { piece = named t; is_piece = name_piece t h some; stands = stands }
@@ -261,11 +232,11 @@ Closes EndWord = Unit {0}
 Closes f = ⊥
 
 pub fixed_token : (f : Fixed) → Closes f → Plain (FixedToken f)
-fixed_token OpenMark h = mark_token OpenMark Open 40 refl (grind arith) (λ e. grind arith) (λ p n. refl)
-fixed_token CloseMark h = mark_token CloseMark Close 41 refl (grind arith) (λ e. grind arith) (λ p n. refl)
-fixed_token CommaMark h = mark_token CommaMark Comma 44 refl (grind arith) (λ e. grind arith) (λ p n. refl)
-fixed_token OpenBracketMark h = mark_token OpenBracketMark OpenBracket 91 refl (grind arith) (λ e. grind arith) (λ p n. refl)
-fixed_token CloseBracketMark h = mark_token CloseBracketMark CloseBracket 93 refl (grind arith) (λ e. grind arith) (λ p n. refl)
+fixed_token OpenMark h = mark_token (FixedToken OpenMark) 40 (grind arith) (λ p n. refl)
+fixed_token CloseMark h = mark_token (FixedToken CloseMark) 41 (grind arith) (λ p n. refl)
+fixed_token CommaMark h = mark_token (FixedToken CommaMark) 44 (grind arith) (λ p n. refl)
+fixed_token OpenBracketMark h = mark_token (FixedToken OpenBracketMark) 91 (grind arith) (λ p n. refl)
+fixed_token CloseBracketMark h = mark_token (FixedToken CloseBracketMark) 93 (grind arith) (λ p n. refl)
 fixed_token ReturnWord h = word_token ReturnWord (codes "return") refl (omega arith) (λ p n. refl)
 fixed_token VariablesWord h = word_token VariablesWord (codes "variables") refl (omega arith) (λ p n. refl)
 fixed_token ConstraintsWord h = word_token ConstraintsWord (codes "constraints") refl (omega arith) (λ p n. refl)

@@ -9,7 +9,7 @@ use Rattle.pv_grammar.specs.declared.symbol.Symbol.{Symbol}
 use Rattle.pv_grammar.specs.ByItems.{BeginsByItems, IsCauseByItems, IsStart}
 use Rattle.pv_grammar.specs.Causes.{behind_caret, refusal}
 use Rattle.pv_grammar.specs.ByItems.IsCauseByItems.{not_allowed, beyond}
-use Rattle.pv_grammar.specs.Grammar.{Derives, Follows, MayEnd, Produced, Settles, emptied, ended, is_exponent, met, produced, step_of}
+use Rattle.pv_grammar.specs.Grammar.{Derives, Follows, MayEnd, Settles, emptied, ended, is_exponent, met, produced, step_of}
 use Rattle.pv_grammar.specs.Counting.{Counted, counted, standing_of}
 use Rattle.pv_grammar.proofs.Derivations.{Leads, leads_back, leads_end}
 use Rattle.pv_grammar.proofs.Exponents.{AtExponent, expression_plain, system_plain, Met, behind_last, no_end, settled_met, taken_plain}
@@ -17,7 +17,6 @@ use Rattle.pv_grammar.proofs.Fits.{expression_starts, settled_ready, system_star
 use Rattle.pv_grammar.proofs.Forward.{Closing, GoesOn, closing, refused_forth, settled_forth, settled_orderly, settled_whole, taken_forth, taken_orderly}
 use Rattle.pv_grammar.proofs.Orderly.{Orderly, expression_orderly, system_orderly}
 use Rattle.pv_grammar.proofs.Ready.{Ready}
-use Rattle.pv_tokens.specs.declared.token.Kind.{Kind}
 use Rattle.pv_tokens.specs.declared.token.Kind.TheVariants.{End}
 use Rattle.pv_tokens.specs.declared.token.Token.{Token}
 use Rattle.pv_tokens.specs.Tokens.{IsNext}
@@ -28,10 +27,9 @@ use Rattle.pv_parse.specs.Declarations.{mark_of}
 use Rattle.pv_parse.specs.Fractions.{HasFraction}
 use Rattle.pv_parse.specs.Scopes.{IsToldAs, Scoped, followed}
 use Rattle.pv_parse.proofs.Closings.{ClosesFrom, closes}
-use Rattle.pv_parse.proofs.Continued.{spells_all}
+use Rattle.pv_parse.proofs.Continued.{continued, spells_all}
 use Rattle.pv_parse.proofs.Declarations.{Told, told_none, told_one}
 use Rattle.pv_parse.proofs.Pieces.{learnt_bounded}
-use Rattle.pv_parse.proofs.Tails.{continued}
 use Rattle.pv_parse.specs.ByCounts.{SpellsToWithin}
 
 pub record Reached (t : List ℕ) (known names : Names) (start counts : Counts) (first : List Item) (initial : List Op) (items : List Item) (code : List Op) (from : ℕ) : Type 0 where
@@ -45,12 +43,12 @@ pub record Reached (t : List ℕ) (known names : Names) (start counts : Counts) 
   pub forth : (ss : List Symbol) → GoesOn first (before ++ ss) → GoesOn items ss
   pub back : (ss : List Symbol) (after : List Op) → Leads items ss code after → Leads first (before ++ ss) initial after
 
--- the same, where the names that are kept are those that the tokens declare, and the scope is what they lead to
+-- the same, where the names that are kept are those that the tokens declare, and the state is what they lead to
 pub record ReachedAs (kept : Names) (t : List ℕ) (known : Names) (start counts : Counts) (first : List Item) (initial : List Op) (items : List Item) (code : List Op) (from : ℕ) (old new : Scoped) : Type 0 where
   pub names : Names
   pub same : AreSame kept names
   pub reached : Reached t known names start counts first initial items code from
-  pub told : Told t start reached.before from counts old new
+  pub told : Told t start reached.before from old new
 
 begun_at : (start : Counts) (items : List Item) → IsStart start items → Orderly items × Ready start items × AtExponent false items
 begun_at start items is = ⊎_elim (λ (e, f). rw (e, f) (system_orderly, system_starts, system_plain)) (λ (e, f). rw (e, f) (expression_orderly, expression_starts, expression_plain)) is
@@ -68,10 +66,6 @@ counted_all c (r ∷ ss) d rest e (m, first, to) more = (m, first, counted_all m
 
 pub counted_one : (c : Counts) (ss : List Symbol) (d e : Counts) (s : Symbol) → Counted c ss d → counted d s ≡ Ok e → Counted c (ss ++ s ∷ []) e
 counted_one c ss d e s h one = counted_all c ss d (s ∷ []) e h (e, one, refl)
-
-follows_some : (o : Option Produced) (rest : List Item) (code : List Op) (items' : List Item) (code' : List Op) → Follows o rest code items' code' → o ≢ None
-follows_some None rest code items' code' f e = f
-follows_some (Some p) rest code items' code' f e = cc
 
 abbrev MeetsOf : Option Item → Symbol → Type 0
 MeetsOf None s = Unit {0}
@@ -130,17 +124,17 @@ module _ (t : List ℕ) (known names : Names) (start counts : Counts) (first : L
           counts = counts;
           spelled = (from, names, x, r.spelled, is_next, ends);
           within = r.within;
-          derived = subst (λ (z : List Symbol). Derives first z l.steps) (append-nil r.before) l.derived;
+          derived = rw (append-nil r.before) at l.derived;
           code_is = l.code_is;
         }
 
-    pub whole_told : (rest : List Item) (code' : List Op) → IsNext t from x → x.kind ≡ End → Settles s items code None rest code' → (old new : Scoped) → Told t start r.before from counts old new →
+    pub whole_told : (rest : List Item) (code' : List Op) → IsNext t from x → x.kind ≡ End → Settles s items code None rest code' → (old new : Scoped) → Told t start r.before from old new →
         IsToldAs t known start first initial code' old new
     unfolding whole
     whole_told rest code' is_next ends settles old new h = record {
       sentence = whole rest code' is_next ends settles;
       marks = h.marks;
-      marked = (from, counts, h.marked);
+      marked = (from, h.marked);
       fractions = h.fractions;
       scoped = h.scoped;
     }
@@ -172,8 +166,7 @@ module _ (t : List ℕ) (known names : Names) (start counts : Counts) (first : L
         -- a token that an item takes is not the end of the text
         pub taken_not_end : StandsFor counts.phase names (bytes_of t x) x.kind s → Settles s items code (Some i) rest code' → Follows (produced i s) rest code' items'' code'' → ¬ (x.kind ≡ End)
         taken_not_end stands settles follows ends =
-            follows_some (produced i s) rest code' items'' code'' follows
-            (ap (λ (z : Symbol). produced i z) (subst (λ (k : Kind). StandsFor counts.phase names (bytes_of t x) k s) ends stands) ∙ no_end i (met_here settles).1)
+            let none : produced i s ≡ None = ap (λ (z : Symbol). produced i z) (rw ends at stands) ∙ no_end i (met_here settles).1 in rw none at follows
 
         -- a token that the grammar takes
         begins_with : Settles s items code (Some i) rest code' → Follows (produced i s) rest code' items'' code'' → BeginsByItems first (r.before ++ s ∷ [])
@@ -182,7 +175,7 @@ module _ (t : List ℕ) (known names : Names) (start counts : Counts) (first : L
             let here : Leads items'' c.symbols code'' (code'' ++ c.steps) = record { steps = c.steps; derived = c.derived; code_is = refl } in
             let l : Leads first (r.before ++ s ∷ c.symbols) initial (code'' ++ c.steps) =
             r.back (s ∷ c.symbols) (code'' ++ c.steps) (leads_back items rest items'' code code' code'' (code'' ++ c.steps) i s c.symbols settles follows here) in
-            record { rest = c.symbols; steps = l.steps; derived = subst (λ (z : List Symbol). Derives first z l.steps) (sym (append_assoc r.before (s ∷ []) c.symbols)) l.derived }
+            record { rest = c.symbols; steps = l.steps; derived = rw (append_assoc r.before (s ∷ []) c.symbols) l.derived }
 
         -- the limits or the declarations forbid it
         pub forbidden : (cause : Cause) → IsNext t from x → StandsFor counts.phase names (bytes_of t x) x.kind s → Settles s items code (Some i) rest code' → Follows (produced i s) rest code' items'' code'' →
@@ -209,22 +202,20 @@ module _ (t : List ℕ) (known names : Names) (start counts next : Counts) (firs
         orderly = taken_orderly i s rest code' items'' code'' (produced i s) refl follows o;
         ready = taken_ready i s counts next rest code' items'' code'' (produced i s) refl follows one (settled_ready s counts items code (Some i) rest code' settles r.ready);
         bounded = learnt_bounded counts s (bytes_of t x) names r.bounded;
-        exponent = subst (λ (b : Bool). AtExponent b items'') (sym (behind_last r.before s)) (taken_plain i s rest code' items'' code'' (produced i s) refl follows m.1 m.2);
+        exponent = rw (behind_last r.before s) (taken_plain i s rest code' items'' code'' (produced i s) refl follows m.1 m.2);
         forth = λ ss g.
             taken_forth i s rest code' items'' code'' (produced i s) refl follows o ss
             (settled_forth s items code (Some i) rest code' settles ss (r.forth (s ∷ ss) (subst (GoesOn first) (append_assoc r.before (s ∷ []) ss) g)));
-        back = λ ss after l.
-            subst (λ (z : List Symbol). Leads first z initial after) (sym (append_assoc r.before (s ∷ []) ss))
-            (r.back (s ∷ ss) after (leads_back items rest items'' code code' code'' after i s ss settles follows l));
+        back = λ ss after l. rw (append_assoc r.before (s ∷ []) ss) (r.back (s ∷ ss) after (leads_back items rest items'' code code' code'' after i s ss settles follows l));
       }
 
-  pub taken_told : (old new newer : Scoped) → Told t start r.before from counts old new → HasFraction s → newer ≡ followed (mark_of t counts.phase s x) new → Told t start taken_on.before x.end next old newer
+  pub taken_told : (old new newer : Scoped) → Told t start r.before from old new → HasFraction s → newer ≡ followed (mark_of t counts.phase s x) new → Told t start taken_on.before x.end old newer
   unfolding taken_on
-  taken_told old new newer h fraction is = told_one t start r.before from counts next old new newer x s h is_next one fraction is
+  taken_told old new newer h fraction is = told_one t start r.before from counts old new newer x s h r.within is_next fraction is
 
 -- ---- What the tokens declare
 
 pub starts_told : (t : List ℕ) (known : Names) (start : Counts) (items : List Item) (code : List Op) (is : IsStart start items) (few : AreBounded known) (s : Scoped) →
-    Told t start (starts t known start items code is few).before 0 start s s
+    Told t start (starts t known start items code is few).before 0 s s
 unfolding starts
 starts_told t known start items code is few s = told_none t start s

@@ -27,7 +27,7 @@ pub same_refl : (n : Names) → AreSame n n
 same_refl n = record { known = λ name. refl; parameter = λ name. refl; pending = refl; negative = refl }
 
 -- functions that agree are equal
-as_one : (n m : Names) → AreSame n m → n ≡ m
+pub as_one : (n m : Names) → AreSame n m → n ≡ m
 as_one n m h = λ i. record { known = λ name. h.known name i; parameter = λ name. h.parameter name i; pending = h.pending i; negative = h.negative i }
 
 by_one : (n m : Names) → n ≡ m → AreSame n m

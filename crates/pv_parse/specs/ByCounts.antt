@@ -1,5 +1,5 @@
 -- Which tokens a text has, each within the limits that are counted token by token. It is for the reader's own functions and proofs: no
--- public contract cites it. `proofs/ByLimits` leads from it to what `Sentences` and `Declarations` say.
+-- public contract cites it. `proofs/ByLimits` leads from it to what `Sentences` says.
 use Rattle.std.specs.Prelude.{◌≡◌, ℕ, List, [], ◌∷◌, Ok}
 use Rattle.pv_grammar.specs.declared.counts.Counts.{Counts}
 use Rattle.pv_grammar.specs.declared.symbol.Symbol.{Symbol}
@@ -7,7 +7,6 @@ use Rattle.pv_grammar.specs.Counting.{counted, standing_of}
 use Rattle.pv_tokens.specs.declared.token.Kind.TheVariants.{End}
 use Rattle.pv_tokens.specs.declared.token.Token.{Token}
 use Rattle.pv_tokens.specs.Tokens.{IsNext}
-use Rattle.pv_parse.specs.Declarations.{Mark, mark_of}
 use Rattle.pv_parse.specs.Meanings.{Names, learnt}
 use Rattle.pv_parse.specs.Sentences.{StandsFor, bytes_of}
 
@@ -20,13 +19,3 @@ SpellsToWithin t n c from (s ∷ ss) to m =
 
 abbrev pub SpellsWithin : List ℕ → Names → Counts → List Symbol → Type 0
 SpellsWithin t n c ss = (to : ℕ) × (m : Names) × (x : Token) × SpellsToWithin t n c 0 ss to m × IsNext t to x × (x.kind ≡ End)
-
--- as `MarksTo` of `Declarations`, with the counts behind the tokens
-abbrev pub MarksToWithin : List ℕ → Counts → ℕ → List Symbol → List Mark → ℕ → Counts → Type 0
-MarksToWithin t c from [] marks to e = (marks ≡ []) × (from ≡ to) × (c ≡ e)
-MarksToWithin t c from (s ∷ ss) marks to e =
-    (x : Token) × (d : Counts) × (rest : List Mark) × IsNext t from x × (counted c s ≡ Ok d) × (marks ≡ mark_of t c.phase s x ∷ rest)
-    × MarksToWithin t d x.end ss rest to e
-
-abbrev pub MarksWithin : List ℕ → Counts → List Symbol → List Mark → Type 0
-MarksWithin t c ss marks = (to : ℕ) × (e : Counts) × MarksToWithin t c 0 ss marks to e

@@ -1,22 +1,20 @@
 -- What a text means: the names of its variables, where their domains and its constraints begin, and the system of its tree.
-use Rattle.std.specs.Prelude.{◌≡◌, ℕ, ◌++◌, ◌≤◌, Bool, true, false, List, [], ◌∷◌, length, map, if◌then◌else◌, ◌⊎◌}
+use Rattle.std.specs.Prelude.{◌≡◌, ℕ, ◌≤◌, Bool, true, false, List, [], ◌∷◌, length, map, if◌then◌else◌, ◌⊎◌}
 use Rattle.pv_expr.specs.declared.domain.Domain.{Domain}
 use Rattle.pv_expr.specs.Systems.{InOrder, Parts}
 use Rattle.pv_expr.specs.Terms.{Term}
 use Rattle.pv_code.specs.Expansion.{sides_of}
 use Rattle.pv_code.specs.Sizes.{AreWithin}
 use Rattle.pv_grammar.specs.declared.counts.Phase.{Phase}
-use Rattle.pv_grammar.specs.declared.counts.Phase.TheVariants.{Between, Variables}
-use Rattle.pv_grammar.specs.declared.symbol.Fixed.TheVariants.{Constraints, Semicolon, OpenBracket}
+use Rattle.pv_grammar.specs.declared.counts.Phase.TheVariants.{Between, NextConstraint, Variables}
+use Rattle.pv_grammar.specs.declared.symbol.Fixed.TheVariants.{OpenBracket}
 use Rattle.pv_grammar.specs.declared.symbol.Symbol.{Symbol}
-use Rattle.pv_grammar.specs.declared.symbol.Symbol.TheVariants.{Fixed as FixedToken, Relation as RelationToken, Declared}
+use Rattle.pv_grammar.specs.declared.symbol.Symbol.TheVariants.{Fixed as FixedToken, Declared}
 use Rattle.pv_grammar.specs.Productions.{Expression, System, system_symbols}
-use Rattle.pv_grammar.specs.Standings.{Standing, first_in, standing_behind}
+use Rattle.pv_grammar.specs.Standings.{Standing, begins_expression, first_in, standing_behind}
 use Rattle.pv_grammar.specs.Trees.{expression_term, system_constraints, system_domains}
 use Rattle.pv_tokens.specs.declared.token.Token.{Token}
 use Rattle.pv_tokens.specs.Tokens.{IsNext}
-use Rattle.pv_parse.specs.declared.scope.Begun.{Begun}
-use Rattle.pv_parse.specs.declared.scope.Begun.TheVariants.{Outside, Next, At}
 use Rattle.pv_parse.specs.Meanings.{KnowsVariables, Names}
 use Rattle.pv_parse.specs.Sentences.{IsExpressionTextOf, IsTextOf, bytes_of}
 
@@ -89,30 +87,15 @@ AreGood (d ∷ ds) = IsGood d × AreGood ds
 
 -- ---- Where constraints begin
 
--- where the constraint begins in which a token stands
-abbrev pub begun_at : ℕ → Begun → Begun
-begun_at start Outside = Outside
-begun_at start Next = At start
-begun_at start (At place) = At place
-
--- behind the word `constraints`, and behind each `;` from there on, the next token is the first one of a constraint
-abbrev pub begun_behind : Symbol → Begun → Begun
-begun_behind (FixedToken Constraints) b = Next
-begun_behind (FixedToken Semicolon) (At place) = Next
-begun_behind s b = b
-
--- each constraint has one relation
-abbrev pub start_of : Symbol → Begun → List ℕ
-start_of (RelationToken r) (At place) = place ∷ []
-start_of s b = []
-
-abbrev pub starts_from : Begun → List Mark → List ℕ
-starts_from b [] = []
-starts_from b (m ∷ ms) = start_of m.symbol (begun_at m.start b) ++ starts_from (begun_behind m.symbol (begun_at m.start b)) ms
+-- where a constraint may begin, a token that can begin an expression begins one
+abbrev pub begins_constraint : Phase → Symbol → Bool
+begins_constraint NextConstraint s = begins_expression s
+begins_constraint p s = false
 
 -- the places of the first tokens of the constraints, in order
 abbrev pub starts_in : List Mark → List ℕ
-starts_in ms = starts_from Outside ms
+starts_in [] = []
+starts_in (m ∷ ms) = if begins_constraint m.phase m.symbol then m.start ∷ starts_in ms else starts_in ms
 
 -- ---- The system that a text means
 

@@ -1,30 +1,29 @@
--- How the declarations that the reader keeps go on behind a token. It is for the proofs of the reader: no public contract cites it.
-use Rattle.std.specs.Prelude.{if◌then◌else◌, ◌++◌, ◌∷◌, ◌≡◌, Bool, List, None, Option, Some, [], false, map, option_to_list, string_bytes, ℕ}
+-- What the reader keeps of a text, and how a token changes it. It is for the proofs of the reader: no public contract cites it.
+use Rattle.std.specs.Prelude.{if◌then◌else◌, ◌++◌, ◌∷◌, ◌≡◌, Bool, Err, List, None, Ok, Option, Some, [], false, map, option_to_list, string_bytes, ℕ}
 use Rattle.pv_expr.specs.declared.domain.Bound.{Bound}
 use Rattle.pv_expr.specs.declared.domain.Bound.TheVariants.{MinusOo, PlusOo}
 use Rattle.pv_expr.specs.declared.domain.Domain.{Domain}
 use Rattle.pv_code.specs.declared.code.Op.{Op}
 use Rattle.pv_code.specs.Fractions.{signed}
+use Rattle.pv_grammar.specs.declared.cause.Cause.{Cause}
 use Rattle.pv_grammar.specs.declared.counts.Counts.{Counts}
 use Rattle.pv_grammar.specs.declared.counts.Phase.{Phase}
+use Rattle.pv_grammar.specs.declared.counts.Phase.TheVariants.{Between, Bounds, Variables}
 use Rattle.pv_grammar.specs.declared.machine.Item.{Item}
+use Rattle.pv_grammar.specs.declared.symbol.Fixed.TheVariants.{Oo, OpenBracket}
 use Rattle.pv_grammar.specs.declared.symbol.Symbol.{Symbol}
-use Rattle.pv_grammar.specs.Trees.{infinite, value_of}
-use Rattle.pv_grammar.specs.declared.counts.Phase.TheVariants.{Bounds}
-use Rattle.pv_grammar.specs.declared.symbol.Fixed.TheVariants.{Oo}
-use Rattle.pv_grammar.specs.declared.symbol.Symbol.TheVariants.{Constant, Fixed as FixedToken, Number}
-use Rattle.pv_parse.specs.declared.given.Awaited.{Awaited}
-use Rattle.pv_parse.specs.declared.given.Awaited.TheVariants.{Lower, Upper, Neither}
-use Rattle.pv_parse.specs.declared.scope.Begun.{Begun}
-use Rattle.pv_parse.specs.declared.scope.Begun.TheVariants.{Outside}
-use Rattle.pv_parse.specs.declared.given.Given.{Given}
-use Rattle.pv_parse.specs.declared.scope.Scope.{Scope}
-use Rattle.pv_parse.specs.ByItems.{IsSentence}
-use Rattle.pv_parse.specs.Declarations.{Mark, begun_at, begun_behind, bracket_behind, bracket_of, declares, own, start_of}
-use Rattle.pv_parse.specs.Fractions.{HaveFractions}
-use Rattle.pv_parse.specs.Meanings.{Names}
+use Rattle.pv_grammar.specs.declared.symbol.Symbol.TheVariants.{Constant, Declared, Fixed as FixedToken, Number}
+use Rattle.pv_grammar.specs.Counting.{counted, nothing, standing_of}
+use Rattle.pv_grammar.specs.Grammar.{system_items}
 use Rattle.pv_grammar.specs.Standings.{is_minus}
-use Rattle.pv_parse.specs.ByCounts.{MarksWithin}
+use Rattle.pv_grammar.specs.Trees.{infinite, value_of}
+use Rattle.pv_parse.specs.declared.state.State.{State}
+use Rattle.pv_parse.specs.declared.variable.Variable.{Variable as Kept}
+use Rattle.pv_parse.specs.ByItems.{IsSentence}
+use Rattle.pv_parse.specs.Declarations.{Mark, Marks, begins_constraint, bracket_of, declares, own}
+use Rattle.pv_parse.specs.Fractions.{HaveFractions}
+use Rattle.pv_parse.specs.Meanings.{AreSame, Names, learnt, no_names}
+use Rattle.pv_parse.specs.Views.{view}
 
 -- ---- Variables with what is written behind their names
 
@@ -46,11 +45,20 @@ abbrev pub bounds_of : Bool → List Mark → List Bound
 bounds_of negative [] = []
 bounds_of negative (m ∷ ms) = option_to_list (bound_at m.phase m.symbol negative) ++ bounds_of (is_minus m.symbol) ms
 
--- an omitted domain is [-oo, oo], else the lower bound is written first
+-- an omitted domain is [-oo, oo]
+abbrev pub everything : Domain
+everything = record { lo = MinusOo; hi = PlusOo }
+
+-- the lower bound comes first: the upper one moves it on to its place
+abbrev pub bounded : Bound → Domain → Domain
+bounded b d = record { lo = d.hi; hi = b }
+
+abbrev pub bounded_by : List Bound → Domain → Domain
+bounded_by [] d = d
+bounded_by (b ∷ bs) d = bounded_by bs (bounded b d)
+
 abbrev pub domain_of : List Bound → Domain
-domain_of [] = record { lo = MinusOo; hi = PlusOo }
-domain_of (lo ∷ []) = record { lo = lo; hi = PlusOo }
-domain_of (lo ∷ (hi ∷ more)) = record { lo = lo; hi = hi }
+domain_of bs = bounded_by bs everything
 
 -- a variable of a name, with what is written up to the next one
 abbrev pub variable : List ℕ → List Mark → Variable
@@ -70,38 +78,17 @@ domain_in v = v.domain
 abbrev pub bracket_in : Variable → ℕ
 bracket_in v = v.bracket
 
--- ---- What is written behind a variable's name
+-- ---- Variables, token by token
 
-abbrev pub nothing_given : Given
-nothing_given = record { domain = record { lo = MinusOo; hi = PlusOo }; awaited = Lower; negative = false; bracket = 0 }
+-- nothing is written behind the name yet
+abbrev pub unbounded : List ℕ → Variable
+unbounded name = record { name = name; domain = everything; bracket = 0 }
 
--- the lower bound comes first, then the upper one
-abbrev pub domain_behind : Option Bound → Awaited → Domain → Domain
-domain_behind (Some b) Lower d = record { lo = b; hi = d.hi }
-domain_behind (Some b) Upper d = record { lo = d.lo; hi = b }
-domain_behind o a d = d
+abbrev pub with_bound : Bound → Variable → Variable
+with_bound b v = record { name = v.name; domain = bounded b v.domain; bracket = v.bracket }
 
-abbrev pub awaited_behind : Option Bound → Awaited → Awaited
-awaited_behind (Some b) Lower = Upper
-awaited_behind (Some b) Upper = Neither
-awaited_behind o a = a
-
-abbrev pub bounded : Option Bound → Given → Given
-bounded o g = record { domain = domain_behind o g.awaited g.domain; awaited = awaited_behind o g.awaited; negative = g.negative; bracket = g.bracket }
-
-abbrev pub with_token : Symbol → ℕ → Given → Given
-with_token s start g = record { domain = g.domain; awaited = g.awaited; negative = is_minus s; bracket = bracket_behind s start g.bracket }
-
-abbrev pub given_behind : Phase → Symbol → ℕ → Given → Given
-given_behind p s start g = with_token s start (bounded (bound_at p s g.negative) g)
-
-abbrev pub domain_given : Given → Domain
-domain_given g = g.domain
-
-abbrev pub bracket_given : Given → ℕ
-bracket_given g = g.bracket
-
--- ---- All declarations
+abbrev pub with_bracket : ℕ → Variable → Variable
+with_bracket start v = record { name = v.name; domain = v.domain; bracket = start }
 
 -- the last of a list is changed
 abbrev pub with_last : {X : Type 0} → (X → X) → List X → List X
@@ -109,41 +96,66 @@ with_last f [] = []
 with_last f (x ∷ []) = f x ∷ []
 with_last f (x ∷ (y ∷ ys)) = x ∷ with_last f (y ∷ ys)
 
+abbrev pub behind_bound : Option Bound → List Variable → List Variable
+behind_bound None vs = vs
+behind_bound (Some b) vs = with_last (with_bound b) vs
+
+-- a token at a place with these bytes, where the one before is `-` or isn't
+abbrev pub variables_behind : Phase → Symbol → Bool → ℕ → List ℕ → List Variable → List Variable
+variables_behind p (FixedToken OpenBracket) negative start bytes vs = with_last (with_bracket start) vs
+variables_behind Variables (Declared taken) negative start bytes vs = vs ++ unbounded bytes ∷ []
+variables_behind p s negative start bytes vs = behind_bound (bound_at p s negative) vs
+
+abbrev pub starts_behind : Phase → Symbol → ℕ → List ℕ → List ℕ
+starts_behind p s start starts = if begins_constraint p s then starts ++ start ∷ [] else starts
+
+-- ---- The state
+
+-- what is declared, where constraints begin, and whether the token before is `-`
 pub record Scoped : Type 0 where
-  pub names : List (List ℕ)
-  pub given : List Given
-  pub begun : Begun
+  pub variables : List Variable
   pub starts : List ℕ
+  pub negative : Bool
 
 abbrev pub nothing_scoped : Scoped
-nothing_scoped = record { names = []; given = []; begun = Outside; starts = [] }
+nothing_scoped = record { variables = []; starts = []; negative = false }
 
-abbrev pub scoped : Scope → Scoped
-scoped s = record { names = map string_bytes s.variables.items; given = s.given.items; begun = s.begun; starts = s.starts.items }
+abbrev pub declared : Kept → Variable
+declared v = record { name = string_bytes v.name; domain = v.domain; bracket = v.bracket }
 
-abbrev pub names_behind : Mark → List (List ℕ) → List (List ℕ)
-names_behind m names = if declares m.phase m.symbol then names ++ m.bytes ∷ [] else names
-
-abbrev pub all_given_behind : Mark → List Given → List Given
-all_given_behind m given =
-    if declares m.phase m.symbol then given ++ nothing_given ∷ [] else with_last (given_behind m.phase m.symbol m.start) given
+abbrev pub scoped : State → Scoped
+scoped s = record { variables = map declared s.variables.items; starts = s.starts.items; negative = s.names.negative }
 
 abbrev pub followed : Mark → Scoped → Scoped
 followed m s = record {
-  names = names_behind m s.names;
-  given = all_given_behind m s.given;
-  begun = begun_behind m.symbol (begun_at m.start s.begun);
-  starts = s.starts ++ start_of m.symbol (begun_at m.start s.begun);
+  variables = variables_behind m.phase m.symbol s.negative m.start m.bytes s.variables;
+  starts = starts_behind m.phase m.symbol m.start s.starts;
+  negative = is_minus m.symbol;
 }
 
 abbrev pub scoped_behind : List Mark → Scoped → Scoped
 scoped_behind [] s = s
 scoped_behind (m ∷ ms) s = scoped_behind ms (followed m s)
 
--- the text is a sentence, and its tokens lead from one scope to the other
+-- a token leads from one state to the next
+pub record LeadsTo (old : State) (m : Mark) (new : State) : Type 0 where
+  pub counts : counted old.counts m.symbol ≡ Ok new.counts
+  pub names : AreSame (view new.names) (learnt (standing_of old.counts) m.symbol m.bytes (view old.names))
+  pub scoped : scoped new ≡ followed m (scoped old)
+
+-- or it is forbidden
+abbrev pub TakesIn : State → Mark → State → Option Cause → Type 0
+TakesIn old m new None = LeadsTo old m new
+TakesIn old m new (Some cause) = counted old.counts m.symbol ≡ Err cause
+
+-- the text is a sentence, and its tokens lead from one state to the other
 pub record IsToldAs (t : List ℕ) (known : Names) (start : Counts) (items : List Item) (before after : List Op) (old new : Scoped) : Type 0 where
   pub sentence : IsSentence t known start items before after
   pub marks : List Mark
-  pub marked : MarksWithin t start sentence.symbols marks
+  pub marked : Marks t (standing_of start) sentence.symbols marks
   pub fractions : HaveFractions marks
   pub scoped : new ≡ scoped_behind marks old
+
+-- the text is a system's
+abbrev pub IsTold : List ℕ → List Op → Scoped → Type 0
+IsTold t code new = IsToldAs t no_names (nothing Between) system_items [] code nothing_scoped new

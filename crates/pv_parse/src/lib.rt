@@ -2,12 +2,12 @@
 //! the cause of each refusal.
 #![tactic(auto)]
 
-mod given;
 pub mod laws;
 mod names;
 mod reader;
 mod refused;
-mod scope;
+mod state;
+mod variable;
 
 pub use pv_grammar::Cause;
 pub use pv_tokens::read_number;

@@ -1,16 +1,15 @@
-// What names stand for, token by token.
+// What names stand for.
 
 ghost use Rattle.std.specs.Prelude.{◌≡◌, ◌≢◌, ◌≤◌, [], length, IfOk, OnOk};
 ghost use Rattle.pv_grammar.specs.declared.counts.Phase.{Phase};
 ghost use Rattle.pv_parse.specs.Fractions.{HasFraction, KnowsFractions};
-ghost use Rattle.pv_parse.specs.Meanings.{AreSame, KnowsVariables, is_taken, learnt, meaning, no_names, told, use_of, with_known, with_parameter};
+ghost use Rattle.pv_parse.specs.Meanings.{AreSame, KnowsVariables, is_taken, meaning, no_names, use_of, with_known, with_parameter};
 ghost use Rattle.pv_parse.specs.Sentences.{IsNumberSymbol, StandsFor, bytes_of, word_symbol};
 ghost use Rattle.pv_parse.specs.Views.{found, view};
-ghost use Rattle.pv_grammar.specs.Counting.{standing_of};
 
 use pv_code::{Binary, Fraction, Op, Unary};
 use pv_expr::{Relation, System};
-use pv_grammar::{Cause, Counts, Fixed, Phase, Symbol};
+use pv_grammar::{Cause, Fixed, Phase, Symbol};
 use pv_num::Memory;
 use pv_tokens::{Kind, Token, Word, exponent_of, read_number, word_of};
 use std::alloc::Global;
@@ -67,7 +66,7 @@ impl Names {
     }
 
     #[tactic(auto, using(crate::proofs::Same::found_after))]
-    fn know(&mut self, name: Vec<u8>, meaning: Meaning) -> Result<(), Memory>
+    pub(crate) fn know(&mut self, name: Vec<u8>, meaning: Meaning) -> Result<(), Memory>
         ensures { OnOk result (AreSame (view self.new)
             (with_known name.items meaning (view self.old))) }
     {
@@ -76,12 +75,21 @@ impl Names {
     }
 
     #[tactic(auto, using(crate::proofs::Same::found_after))]
-    fn know_parameter(&mut self, name: Vec<u8>, place: u8) -> Result<(), Memory>
+    pub(crate) fn know_parameter(&mut self, name: Vec<u8>, place: u8) -> Result<(), Memory>
         ensures { OnOk result (AreSame (view self.new)
             (with_parameter name.items place (view self.old))) }
     {
         self.parameters.insert(name, place)?;
         Ok(())
+    }
+
+    /// The constant has its value, or the function its text.
+    pub(crate) fn know_pending(&mut self, meaning: Meaning) -> Result<(), Memory>
+        ensures { OnOk result (AreSame (view self.new)
+            (with_known (view self.old).pending meaning (view self.old))) }
+    {
+        let own = Vec::from_slice(self.alloc, self.pending.as_slice())?;
+        self.know(own, meaning)
     }
 
     /// What a token is for the grammar, here.
@@ -150,58 +158,6 @@ impl Names {
         matches!(self.known.get(name), Some(Meaning::Function { .. }))
             || self.pending.as_slice() == name
             || self.parameters.contains_key(name)
-    }
-
-    /// Takes in a token that the grammar and the limits allow, with the counts before it.
-    pub(crate) fn take_in(
-        &mut self,
-        symbol: Symbol,
-        counts: Counts,
-        text: &[u8],
-        token: Token,
-    ) -> Result<(), Memory>
-        requires ordered { token.start ≤ token.end }
-        requires within { token.end ≤ length text.now }
-        requires fraction { HasFraction symbol }
-        ensures { OnOk result (AreSame (view self.new)
-            (learnt (standing_of counts) symbol (bytes_of text.now token) (view self.old))) }
-    {
-        self.tell(symbol, counts, &text[token.start..token.end])?;
-        self.negative = symbol.is_minus();
-        Ok(())
-    }
-
-    fn tell(&mut self, symbol: Symbol, counts: Counts, name: &[u8]) -> Result<(), Memory>
-        requires { HasFraction symbol }
-        ensures { OnOk result (AreSame (view self.new)
-            (told (standing_of counts) symbol name.now (view self.old))) }
-    {
-        match (symbol, counts.phase) {
-            (Symbol::Declared { .. }, Phase::Constants | Phase::FunctionName) => {
-                self.pending = Vec::from_slice(self.alloc, name)?;
-            }
-            (Symbol::Declared { .. }, Phase::Parameters) => {
-                let own = Vec::from_slice(self.alloc, name)?;
-                self.know_parameter(own, counts.parameters)?;
-            }
-            (Symbol::Declared { .. }, Phase::Variables) => {
-                let own = Vec::from_slice(self.alloc, name)?;
-                self.know(own, Meaning::Variable(counts.variables))?;
-            }
-            (Symbol::Number { value, .. }, Phase::Constants) => {
-                let own = Vec::from_slice(self.alloc, self.pending.as_slice())?;
-                self.know(own, Meaning::Constant(value.signed(self.negative)))?;
-            }
-            (Symbol::Fixed(Fixed::End), Phase::Body) => {
-                let own = Vec::from_slice(self.alloc, self.pending.as_slice())?;
-                let number = counts.functions.saturating_sub(1);
-                let arity = counts.parameters;
-                self.know(own, Meaning::Function { number, arity })?;
-                self.parameters.clear();
-            }
-            _ => {}
-        }
-        Ok(())
     }
 }
 

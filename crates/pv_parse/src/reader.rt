@@ -9,20 +9,20 @@ ghost use Rattle.pv_code.specs.Sizes.{AreWithin, IsShortCall};
 ghost use Rattle.pv_grammar.specs.ByItems.{IsStart};
 ghost use Rattle.pv_grammar.specs.Causes.{refusal};
 ghost use Rattle.pv_grammar.specs.Grammar.{pile};
-ghost use Rattle.pv_parse.specs.ByItems.{AreBounded, IsAt, IsAtStart, IsFirstOfByItems, IsLargeAt, IsLong, IsSentence};
+ghost use Rattle.pv_parse.specs.ByItems.{AreBounded, IsAt, IsAtStart, IsFirstOfByItems, IsLargeAt, IsLong};
 ghost use Rattle.pv_parse.specs.Faults.{IsExpressionRefusal, IsPlaced, IsRefusal, SaysTooLong};
 ghost use Rattle.pv_parse.specs.Declarations.{IsExpressionMeaning, IsMeaning};
 ghost use Rattle.pv_parse.specs.Fractions.{KnowsFractions};
-ghost use Rattle.pv_parse.specs.Scopes.{IsToldAs, scoped};
+ghost use Rattle.pv_parse.specs.Scopes.{IsTold, IsToldAs, scoped};
 ghost use Rattle.pv_parse.specs.Views.{view};
 
-use crate::given::{domains_of, first_bad};
 use crate::names::Names;
 use crate::refused::ParseRefused;
-use crate::scope::Scope;
+use crate::state::State;
+use crate::variable::{first_bad, names_and_domains};
 use pv_code::{Function, Op, constraint, expression, nodes_with};
 use pv_expr::{Constraint, Expr, System};
-use pv_grammar::{Cause, Counts, Fixed, Machine, Phase, Symbol};
+use pv_grammar::{Cause, Fixed, Machine, Phase, Symbol};
 use pv_tokens::{Kind, Token, line_and_column, next_token};
 use std::alloc::Global;
 
@@ -35,7 +35,7 @@ const MAX_TEXT: usize = 65536;
 /// bytes, at the first byte too many; else at the first token such that no text of a system begins
 /// with the tokens up to and with it; else at the bracket of the first bad domain; else at the
 /// start of the first constraint with which the system is too large.
-#[tactic(auto, using(crate::proofs::Refusals::long_system, crate::proofs::Meant::first_fault))]
+#[tactic(auto, using(crate::proofs::Refusals::long_system))]
 pub fn parse(alloc: Global, text: &[u8]) -> Result<System, ParseRefused>
     ensures means { IfOk result (λ s. IsMeaning text.now s) }
     ensures placed { IfErr result (λ e. IsPlaced text.now e) }
@@ -43,26 +43,16 @@ pub fn parse(alloc: Global, text: &[u8]) -> Result<System, ParseRefused>
     ensures fault { IfErr result (IsRefusal text.now) }
 {
     refuse_long(text)?;
-    let mut names = Names::new(alloc);
-    let mut scope = Scope::new(alloc);
-    let mut machine = Machine::for_system(alloc)?;
-    read_tokens(
-        text,
-        Counts::none(Phase::Between),
-        &mut names,
-        &mut scope,
-        &mut machine,
-    )?;
-    if let Some(bracket) = first_bad(scope.given.as_slice()) {
+    let (state, code) = read_system(alloc, text)?;
+    if let Some(bracket) = first_bad(state.variables.as_slice()) {
         return Err(fault(text, bracket, Cause::BadBounds));
     }
-    let code = machine.into_code();
-    let constraints = match expanded(alloc, text, code.as_slice(), scope.starts.as_slice()) {
+    let constraints = match expanded(alloc, text, code.as_slice(), state.starts.as_slice()) {
         Ok(constraints) => constraints,
         Err(refused) => return Err(refused),
     };
-    let domains = domains_of(alloc, scope.given.as_slice())?;
-    Ok(System::new(scope.variables, domains, constraints))
+    let (names, domains) = names_and_domains(alloc, state.variables)?;
+    Ok(System::new(names, domains, constraints))
 }
 
 /// The expression that a text means, over the variables of a system.
@@ -81,18 +71,26 @@ pub fn parse_expr(alloc: Global, system: &System, text: &[u8]) -> Result<Expr, P
     if let Err(refused) = refuse_long(text) {
         return Err(refused);
     }
-    let mut names = Names::of_system(alloc, system)?;
-    let mut scope = Scope::new(alloc);
+    let names = Names::of_system(alloc, system)?;
+    let mut state = State::new(alloc, Phase::Sides, names);
     let mut machine = Machine::for_expression(alloc)?;
-    read_tokens(
-        text,
-        Counts::none(Phase::Sides),
-        &mut names,
-        &mut scope,
-        &mut machine,
-    )?;
+    read_tokens(text, &mut state, &mut machine)?;
     let e = expression(alloc, machine.into_code().as_slice())?;
     Ok(e)
+}
+
+// The state behind the tokens of a system, and their code.
+#[tactic(auto, using(crate::proofs::Meant::first_fault))]
+fn read_system(alloc: Global, text: &[u8]) -> Result<(State, Vec<Op>), ParseRefused>
+    requires short { length text.now ≤ 65536 }
+    ensures told { IfOk result (λ (state, code). IsTold text.now code.items (scoped state)) }
+    ensures placed { IfErr result (λ e. IsPlaced text.now e) }
+    ensures fault { IfErr result (IsRefusal text.now) }
+{
+    let mut state = State::new(alloc, Phase::Between, Names::new(alloc));
+    let mut machine = Machine::for_system(alloc)?;
+    read_tokens(text, &mut state, &mut machine)?;
+    Ok((state, machine.into_code()))
 }
 
 fn refuse_long(text: &[u8]) -> Result<(), ParseRefused>
@@ -124,44 +122,30 @@ fn fault(text: &[u8], byte: usize, cause: Cause) -> ParseRefused
     }
 }
 
-fn read_tokens(
-    text: &[u8],
-    start: Counts,
-    names: &mut Names,
-    scope: &mut Scope,
-    machine: &mut Machine,
-) -> Result<(), ParseRefused>
+fn read_tokens(text: &[u8], state: &mut State, machine: &mut Machine) -> Result<(), ParseRefused>
     requires short { length text.now ≤ 65536 }
-    requires start { IsStart start (pile machine.now.stack.items) }
-    requires names { AreBounded (view names.now) }
-    requires fractions { KnowsFractions (view names.now) }
+    requires start { IsStart state.now.counts (pile machine.now.stack.items) }
+    requires names { AreBounded (view state.now.names) }
+    requires fractions { KnowsFractions (view state.now.names) }
     ensures placed { IfErr result (λ e. IsPlaced text.now e) }
-    ensures sentence { OnOk result (IsSentence text.now (view names.old) start
-        (pile machine.old.stack.items) machine.old.code.items machine.new.code.items) }
-    ensures told { OnOk result (IsToldAs text.now (view names.old) start
+    ensures told { OnOk result (IsToldAs text.now (view state.old.names) state.old.counts
         (pile machine.old.stack.items) machine.old.code.items machine.new.code.items
-        (scoped scope.old) (scoped scope.new)) }
-    ensures fault { IfErr result (λ e. IsFirstOfByItems text.now (view names.old) start
-        (pile machine.old.stack.items) e) }
+        (scoped state.old) (scoped state.new)) }
+    ensures fault { IfErr result (λ e. IsFirstOfByItems text.now (view state.old.names)
+        state.old.counts (pile machine.old.stack.items) e) }
 {
     let mut from = 0;
-    let mut counts = start;
     loop {
         let token = next_token(text, from);
-        let symbol = names.symbol_of(text, token, counts.phase);
+        let symbol = state.names.symbol_of(text, token, state.counts.phase);
         let Some(item) = machine.settle(symbol)? else {
             return ended(text, token, symbol);
         };
         if !machine.take(item, symbol)? {
             return Err(fault(text, token.start, refusal(item.is_exponent(), symbol)));
         }
-        match counts.counted(symbol) {
-            Ok(next) => {
-                names.take_in(symbol, counts, text, token)?;
-                scope.take_in(symbol, counts.phase, text, token)?;
-                counts = next;
-            }
-            Err(cause) => return Err(fault(text, token.start, cause)),
+        if let Some(cause) = state.take_in(symbol, text, token)? {
+            return Err(fault(text, token.start, cause));
         }
         from = token.end;
     }

@@ -70,21 +70,20 @@ fraction_from t i within =
     (λ no_point. record { tail = i; fraction = inl refl; within = within; longest = λ j other. grind arith })
     (cases_eq (get_or t i 0) 46)
 
+-- an exponent of these parts behind whole digits and a fraction
+abbrev parts_by : ℕ → ℕ → Bool → ℕ → ℕ → Parts
+parts_by point tail negative power end = record { point = point; tail = tail; negative = negative; power = power; end = end }
+
 record LongestExponent (t : List ℕ) (point tail : ℕ) : Type 0 where
-  parts : Parts
-  point_is : parts.point ≡ point
-  tail_is : parts.tail ≡ tail
-  exponent : NoExponent parts ⊎ IsExponent t parts
-  longest : (p : Parts) → p.tail ≡ tail → IsExponent t p → p.end ≤ parts.end
+  negative : Bool
+  power : ℕ
+  end : ℕ
+  exponent : NoExponent (parts_by point tail negative power end) ⊎ IsExponent t (parts_by point tail negative power end)
+  longest : (p : Parts) → p.tail ≡ tail → IsExponent t p → p.end ≤ end
 
 no_exponent : (t : List ℕ) (point tail : ℕ) → ((p : Parts) → p.tail ≡ tail → ¬ IsExponent t p) → LongestExponent t point tail
-no_exponent t point tail none = record {
-  parts = record { point = point; tail = tail; negative = false; power = tail; end = tail };
-  point_is = refl;
-  tail_is = refl;
-  exponent = inl (record { negative = refl; power = refl; end = refl });
-  longest = λ p same some. absurd (none p same some);
-}
+no_exponent t point tail none =
+    record { negative = false; power = tail; end = tail; exponent = inl (record { negative = refl; power = refl; end = refl }); longest = λ p same some. absurd (none p same some) }
 
 abbrev IsMarked : List ℕ → ℕ → Type 0
 IsMarked t tail = (get_or t tail 0 ≡ 101) ⊎ (get_or t tail 0 ≡ 69)
@@ -96,9 +95,9 @@ signed_exponent t point tail power negative letter sign within one =
     let (end, digits) = digits_from t power within in
     ⊎_elim
     (λ some. record {
-      parts = record { point = point; tail = tail; negative = negative; power = power; end = end };
-      point_is = refl;
-      tail_is = refl;
+      negative = negative;
+      power = power;
+      end = end;
       exponent = inr (record { letter = letter; sign = sign; digits = digits.0; some = some });
       longest = λ p same other. grind (arith, one p same other, digits.0.ordered, digits.1, other.digits.each);
     })
@@ -127,17 +126,12 @@ number_from t i digit =
     let some : i < point = grind (arith, whole.0.ordered, whole.1) in
     let fraction = fraction_from t point whole.0.within in
     let exponent = exponent_from t point fraction.tail in
-    let p = exponent.parts in
+    let p = parts_by point fraction.tail exponent.negative exponent.power exponent.end in
     let on : p.tail ≤ p.end = exponent_on t p exponent.exponent in (
       p,
       (
-        record {
-          some = subst (λ n. i < n) (sym exponent.point_is) some;
-          whole = subst (λ n. Run IsDigit t i n) (sym exponent.point_is) whole.0;
-          fraction = subst (λ n. IsFraction t n p.tail) (sym exponent.point_is) (subst (λ n. IsFraction t point n) (sym exponent.tail_is) fraction.fraction);
-          exponent = exponent.exponent;
-        },
-        longest_number t i point fraction.tail p.end whole.0 whole.1 fraction.fraction fraction.longest (omega (arith, exponent.tail_is)) exponent.longest,
+        record { some = some; whole = whole.0; fraction = fraction.fraction; exponent = exponent.exponent },
+        longest_number t i point fraction.tail p.end whole.0 whole.1 fraction.fraction fraction.longest on exponent.longest,
       ),
     )
 

@@ -4,5 +4,4 @@ pub mod Numerals
 pub mod OneRatio
 pub mod Powers
 pub mod Slices
-pub mod TokenNumbers
 pub mod Unique

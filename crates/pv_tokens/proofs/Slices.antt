@@ -1,10 +1,15 @@
--- The bytes of a number in a text are a number of their own.
+-- The bytes of a number in a text are a number of their own; those of a number token have one value by digits and a power of ten.
 use Rattle.std.proofs.Common.{◌≡◌, ℕ, ◌+◌, ◌-◌, ◌<◌, ◌≤◌, inl, inr, List, length, get_or, drop, refl, sym, ◌∙◌, ap, subst, arith, ⊎_elim, length-take, length-drop, get_or-take, get_or-drop}
 use Rattle.std.specs.List.{slice_range}
+use Rattle.pv_tokens.specs.declared.token.Kind.{Kind}
+use Rattle.pv_tokens.specs.declared.token.Kind.TheVariants.{Number}
+use Rattle.pv_tokens.specs.declared.token.Token.{Token}
+use Rattle.pv_tokens.specs.declared.number.Decimal.{Decimal}
 use Rattle.pv_tokens.specs.declared.numeral.Parts.{Parts}
 use Rattle.pv_tokens.specs.Numbers.{IsNumeral, decimal_in}
-use Rattle.pv_tokens.specs.Tokens.{IsDigit, IsExponent, IsNumber, Run}
-use Rattle.pv_tokens.proofs.Decimals.{number_within}
+use Rattle.pv_tokens.specs.Tokens.{IsDigit, IsExponent, IsNext, IsNumber, IsWord, Run}
+use Rattle.pv_tokens.specs.Tokens.IsWord.{name, number, less_equal, greater_equal, single, finish}
+use Rattle.pv_tokens.proofs.Decimals.{number_within, one_numeral}
 use Rattle.pv_tokens.proofs.Numerals.{exponent_longer, exponent_on, fraction_on}
 
 pub length_slice : (t : List ℕ) (i j : ℕ) → j ≤ length t → length (slice_range t i j) ≡ j - i
@@ -65,3 +70,26 @@ numeral_in_slice t i p is = record {
   whole = sym (length_slice t i p.end (number_within t i p is));
   decimal = refl;
 }
+
+-- ---- The numbers of tokens
+
+-- a text is at most one number
+pub same_numeral : (t : List ℕ) (d e : Decimal) → IsNumeral t d → IsNumeral t e → d ≡ e
+same_numeral t d e of_d of_e = one_numeral t of_e.parts d of_e.number of_e.whole of_d ∙ sym of_e.decimal
+
+number_word : (t : List ℕ) (i : ℕ) (kind : Kind) (j : ℕ) → IsWord t i kind j → kind ≡ Number → (p : Parts) × IsNumber t i p × (p.end ≡ j)
+number_word t i kind j (number _ p n ends) is = (p, n, ends)
+number_word t i kind j (name other _) is = absurd (grind arith)
+number_word t i kind j (less_equal other _ _ _) is = absurd (grind arith)
+number_word t i kind j (greater_equal other _ _ _) is = absurd (grind arith)
+number_word t i kind j (single other _ _) is = absurd (grind arith)
+number_word t i kind j (finish other _ _) is = absurd (grind arith)
+
+word_numeral : (t : List ℕ) (i : ℕ) (kind : Kind) (j : ℕ) → IsWord t i kind j → kind ≡ Number → (d : Decimal) × IsNumeral (slice_range t i j) d
+word_numeral t i kind j word is =
+    let (p, n, ends) = number_word t i kind j word is in
+    subst (λ e. (d : Decimal) × IsNumeral (slice_range t i e) d) ends (decimal_in (slice_range t i p.end) (shifted i p), numeral_in_slice t i p n)
+
+-- the bytes of a number token are a number
+pub token_numeral : (t : List ℕ) (from : ℕ) (x : Token) → IsNext t from x → x.kind ≡ Number → (d : Decimal) × IsNumeral (slice_range t x.start x.end) d
+token_numeral t from x next is = word_numeral t x.start x.kind x.end next.longest.word is

@@ -82,19 +82,12 @@ fn decimal_of(text: &[u8], parts: Parts) -> Decimal
     let digits = with_digits(whole, behind);
     let places = behind.len() as u128;
     let power = with_digits(0, &text[parts.power..parts.end]);
-    if parts.negative {
-        Decimal {
-            digits,
-            up: 0,
-            down: places + power,
-        }
+    let (up, down) = if parts.negative {
+        (0, places + power)
     } else {
-        Decimal {
-            digits,
-            up: power,
-            down: places,
-        }
-    }
+        (power, places)
+    };
+    Decimal { digits, up, down }
 }
 
 // A value with more digits after it, or `LIMIT` where that is less.
@@ -126,18 +119,11 @@ fn value_of(decimal: Decimal) -> Option<(i128, u128)>
     }
     let zeros = decimal.up.saturating_sub(decimal.down) as u32;
     let places = decimal.down.saturating_sub(decimal.up) as u32;
-    let above = with_zeros(decimal.digits, zeros)?;
+    let above = decimal.digits.checked_mul(power_of_ten(zeros))?;
+    if above >= LIMIT {
+        return None;
+    }
     Some(in_lowest_terms(above, power_of_ten(places)))
-}
-
-// A number with zeros after it, where it keeps below `LIMIT`.
-fn with_zeros(digits: u128, zeros: u32) -> Option<u128>
-    requires { zeros ≤ 36 }
-    ensures { MatchOption result (10 ^ 37 ≤ digits * 10 ^ zeros) (λ n. (n ≡ digits * 10 ^ zeros) ×
-        (n < 10 ^ 37)) }
-{
-    let all = digits.checked_mul(power_of_ten(zeros))?;
-    if all < LIMIT { Some(all) } else { None }
 }
 
 fn power_of_ten(n: u32) -> u128

@@ -1,11 +1,11 @@
 use Rattle.std.proofs.Common.{◌≡◌, ◌∙◌, ap, refl, arith}
 use Rattle.pv_code.specs.Sizes.{cut, depth_in, nodes_in}
-use Rattle.pv_code.proofs.Sizing.{depth-begun, depth-next, nodes-begun, nodes-next, size-as, size-none}
+use Rattle.pv_code.proofs.Sizing.{depth-next, nodes-next, size-as, size-none, total-begun}
 use Rattle.pv_code.proofs.value.measure_of.Goals as goal
 
 pub loop-i-init : goal.loop-i-init
 loop-i-init c = λ args inner few all.
-    size-as _ args 0 0 _ _ (size-none _ args refl) (nodes-begun c.args.body.now.places inner) (depth-begun c.args.body.now.places inner)
+    size-as _ args 0 0 _ _ (size-none _ args refl) (total-begun _ _) (total-begun _ _)
 
 pub loop-i-preserved : goal.loop-i-preserved
 loop-i-preserved c = λ args inner few all.

@@ -8,9 +8,9 @@ use Rattle.pv_parse.proofs.reader.read_tokens.Given as goal
 
 abbrev pub invariant-loop-item : goal.invariant-loop-item
 invariant-loop-item l = record {
-  fractions : KnowsFractions (view l.names);
+  fractions : KnowsFractions (view l.state.names);
   within : l.from ≤ length l.text;
-  reached : ReachedAs (view l.names) l.text (view l.initial.names) l.fn.start l.counts (pile l.initial.machine.stack.items) l.initial.machine.code.items (pile l.machine.stack.items) l.machine.code.items l.from (scoped l.initial.scope) (scoped l.scope);
+  reached : ReachedAs (view l.state.names) l.text (view l.initial.state.names) l.initial.state.counts l.state.counts (pile l.initial.machine.stack.items) l.initial.machine.code.items (pile l.machine.stack.items) l.machine.code.items l.from (scoped l.initial.state) (scoped l.state);
 }
 
 abbrev pub decreases-loop-item : goal.decreases-loop-item

@@ -1,12 +1,12 @@
 use Rattle.std.proofs.Common.{◌≡◌, ◌∙◌, sym, ap, refl, arith, []}
 use Rattle.pv_code.specs.Sizes.{cut, depth_in, nodes_in}
-use Rattle.pv_code.proofs.Sizing.{depth-begun, nodes-begun, whole-depth, whole-nodes}
+use Rattle.pv_code.proofs.Sizing.{total-begun, whole-depth, whole-nodes}
 use Rattle.pv_code.proofs.measure.Measure.whole.Goals as goal
 
 pub loop-place-init : goal.loop-place-init
 loop-place-init c = record {
-  nodes = ap cut (nodes-begun c.args.self.now.places []);
-  depth = ap cut (depth-begun c.args.self.now.places []);
+  nodes = ap cut (total-begun _ _);
+  depth = ap cut (total-begun _ _);
 }
 
 pub loop-place-preserved : goal.loop-place-preserved
