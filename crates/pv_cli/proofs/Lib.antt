@@ -15,11 +15,17 @@ pub mod Refused
 pub mod Merges
 pub mod Stocks
 pub mod StatusLaws
+pub mod SampleLaws
 pub mod Campaigned
 pub mod CampaignLaws
 pub mod Levels
 pub mod Drawn
 pub mod Planes
 pub mod Few
+pub mod MadeTokens
+pub mod MadeNumbers
+pub mod MadeTexts
+pub mod MadeTrees
+pub mod MadeSystems
 pub mod Sampled
 pub mod Searched

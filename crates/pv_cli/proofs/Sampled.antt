@@ -7,9 +7,10 @@ use Rattle.pv_num.specs.Arithmetic.{ratio_of}
 use Rattle.pv_num.specs.declared.num.End.TheVariants.{Down}
 use Rattle.pv_num.proofs.Ratios.{ratio-from_zero, ratio-finite}
 use Rattle.pv_expr.specs.Systems.{Parts}
-use Rattle.pv_parse.specs.Declarations.{IsMeaning}
+use Rattle.pv_parse.specs.Declarations.{IsMeaning, IsSystemSentence}
 use Rattle.pv_parse.specs.declared.refused.ParseRefused.{ParseRefused}
 use Rattle.pv_parse.specs.declared.refused.ParseRefused.TheVariants as parse
+use Rattle.pv_parse.proofs.Outcomes.{system_apart}
 use Rattle.pv_ctc.specs.Refusals.{refused_at}
 use Rattle.pv_ctc.specs.Symbols.{digits_token, further, token_of, tokens_at}
 use Rattle.pv_tree.specs.Trees.{Tree, leaf}
@@ -22,6 +23,7 @@ use Rattle.pv_cli.specs.Systems.{IsFaultOf, IsRuleFor, RefusesSettings, refusal_
 use Rattle.pv_cli.specs.Pavings.{IsPaved, settled_in}
 use Rattle.pv_cli.specs.Products.{AreForSamples, RefusesSample, text_of, full_by}
 use Rattle.pv_cli.proofs.Few.{few_of_sample}
+use Rattle.pv_cli.proofs.MadeSystems.{sample_sentence}
 use Rattle.pv_cli.specs.Samples.{IsMadeRule}
 use Rattle.pv_cli.specs.declared.request.Circles.{Circles}
 use Rattle.pv_cli.specs.declared.request.Settings.{Settings}
@@ -38,11 +40,12 @@ eight_finite n is = subst (λ (x : Extended). x ≢ PosInf) (sym is) (ratio-fini
 
 -- ---- The system
 
--- the reader refuses the text
-pub not_read : (c : Circles) (text : List ℕ) (e : ParseRefused) (r : Refusal) → text ≡ text_of c → IsFaultOf text e → r ≡ refusal_of e → RefusesSample c r
-not_read c text parse.Memory r same fault is = subst (RefusesSample c) (sym is) tt
+-- the reader refuses the text for want of memory alone
+pub not_read : (c : Circles) (text : List ℕ) (e : ParseRefused) (r : Refusal) → text ≡ text_of c → IsFaultOf text e → r ≡ refusal_of e → RefusesSample r
+not_read c text parse.Memory r same fault is = subst RefusesSample (sym is) tt
 not_read c text (parse.Fault byte line column cause) r same fault is =
-    subst (RefusesSample c) (sym is) (subst (λ (t : List ℕ). IsFaultOf t (parse.Fault byte line column cause)) same fault)
+    let sentence : IsSystemSentence (text_of c) = sample_sentence c.seed c.count c.count_fits.0 c.count_fits.1 in
+    absurd (system_apart text byte cause (subst IsSystemSentence (sym same) sentence) fault.because)
 
 pub made_rule : (c : Circles) (s : Settings) (text : List ℕ) (system : Parts) (r : Result SystemSettler Refusal) → text ≡ text_of c → IsMeaning text system
     → IfOk r (λ x. IsRuleFor system s (rule_of x)) → IfOk r (λ x. IsMadeRule c s (rule_of x))
@@ -57,26 +60,25 @@ not_refused n = refl
 none_some : {byte : ℕ} → None ≡ Some byte → ⊥
 none_some e = cc
 
-no_rule : (c : Circles) (s : Settings) (system : Parts) (r : Refusal) → AreForSamples s → IsMeaning (text_of c) system → RefusesSettings system s r → RefusesSample c r
-no_rule c s system (Contract byte) for means h = none_some (sym (not_refused (length system.constraints)) ∙ subst (λ (t : List ℕ). refused_at (length system.constraints) t ≡ Some byte) for.contract h)
-no_rule c s system Memory for means h = tt
-no_rule c s system Usage for means h = h
-no_rule c s system (System line column byte cause) for means h = absurd h
-no_rule c s system (Objective byte cause) for means h = h
-no_rule c s system (NoFile n) for means h = h
-no_rule c s system (ReadFault n) for means h = h
-no_rule c s system (Paving n f) for means h = h
-no_rule c s system (NotStored n) for means h = h
-no_rule c s system (KeeperFault n) for means h = h
-no_rule c s system NotPrinted for means h = h
-no_rule c s system (TreeLimit n) for means h = h
-no_rule c s system (Disagree p a b) for means h = h
-no_rule c s system (Differs p a b) for means h = h
+no_rule : (s : Settings) (system : Parts) (r : Refusal) → AreForSamples s → RefusesSettings system s r → RefusesSample r
+no_rule s system (Contract byte) for h = none_some (sym (not_refused (length system.constraints)) ∙ subst (λ (t : List ℕ). refused_at (length system.constraints) t ≡ Some byte) for.contract h)
+no_rule s system Memory for h = tt
+no_rule s system Usage for h = h
+no_rule s system (System line column byte cause) for h = h
+no_rule s system (Objective byte cause) for h = h
+no_rule s system (NoFile n) for h = h
+no_rule s system (ReadFault n) for h = h
+no_rule s system (Paving n f) for h = h
+no_rule s system (NotStored n) for h = h
+no_rule s system (KeeperFault n) for h = h
+no_rule s system NotPrinted for h = h
+no_rule s system (TreeLimit n) for h = h
+no_rule s system (Disagree p a b) for h = h
+no_rule s system (Differs p a b) for h = h
 
-pub not_made : (c : Circles) (s : Settings) (text : List ℕ) (system : Parts) (r : Result SystemSettler Refusal) → AreForSamples s → text ≡ text_of c → IsMeaning text system
-    → IfErr r (RefusesSettings system s) → IfErr r (RefusesSample c)
-not_made c s text system (Ok x) for same means h = tt
-not_made c s text system (Err r) for same means h = no_rule c s system r for (subst (λ (t : List ℕ). IsMeaning t system) same means) h
+pub not_made : (s : Settings) (system : Parts) (r : Result SystemSettler Refusal) → AreForSamples s → IfErr r (RefusesSettings system s) → IfErr r RefusesSample
+not_made s system (Ok x) for h = tt
+not_made s system (Err r) for h = no_rule s system r for h
 
 -- ---- The paving
 

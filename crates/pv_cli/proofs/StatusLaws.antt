@@ -609,7 +609,7 @@ named keeps = refl
 one_command : (name : Text) (c d : Command) → name ≡ name_of c → name ≡ name_of d → c ≡ d
 one_command name c d e f = ap (λ (o : Option Command). unwrap_or o c) (sym (named c) ∙ ap command_in (sym e ∙ f) ∙ named d)
 
-abbrev command_of : Request → Command
+abbrev pub command_of : Request → Command
 command_of (Check system) = checks
 command_of (Run form system settings effort out) = runs form
 command_of (Resume system pavings settings effort out) = resumes
@@ -630,6 +630,14 @@ named_so name rows (Svg system paving settings view) h = h.0
 named_so name rows (Sample circles) h = h.0
 named_so name rows (Least system settings search) h = h.0
 named_so name rows (Campaign system settings effort rounds) h = h.0
+
+-- words ask for one command
+asked_alike : (found : Option (Text × List Row)) (q r : Request) → IsAsked found q → IsAsked found r → command_of q ≡ command_of r
+asked_alike None q r h k = absurd h
+asked_alike (Some p) q r h k = one_command p.0 (command_of q) (command_of r) (named_so p.0 p.1 q h) (named_so p.0 p.1 r k)
+
+pub ask_alike : (words : List Text) (q r : Request) → Asks words q → Asks words r → command_of q ≡ command_of r
+ask_alike words q r h k = asked_alike (subcommand_of paver_app words) q r h.1 k.1
 
 values_are_good : (name : Text) (rows : List Row) (q : Request) → IsAskedBy name rows q → HasBadValueFor (command_of q) rows → ⊥
 values_are_good name rows (Check system) h b = b

@@ -9,7 +9,6 @@ use Rattle.pv_box.specs.declared.choice.Bisector.TheVariants.{Largest}
 use Rattle.pv_interval.specs.Bounds.{Bounds}
 use Rattle.pv_made.specs.Circles.{sample_text}
 use Rattle.pv_parse.specs.Declarations.{IsMeaning}
-use Rattle.pv_parse.specs.declared.refused.ParseRefused.TheVariants.{Fault}
 use Rattle.pv_expr.specs.Systems.{Parts}
 use Rattle.pv_expr.specs.Canonical.{canonical_text}
 use Rattle.pv_settle.specs.Rules.{SettlerParts}
@@ -24,7 +23,7 @@ use Rattle.pv_file.specs.Lines.{lines_of, outcome_line}
 use Rattle.pv_file.specs.Texts.{file_text}
 use Rattle.pv_file.specs.declared.version.Version.TheVariants.{One, Two}
 use Rattle.pv_cli.specs.Requests.{names_in}
-use Rattle.pv_cli.specs.Systems.{Files, HasSystem, IsFaultOf, IsRuleFor, HasRule, RefusesSystem, RefusesRule, search_box}
+use Rattle.pv_cli.specs.Systems.{Files, HasSystem, IsRuleFor, HasRule, RefusesSystem, RefusesRule, search_box}
 use Rattle.pv_cli.specs.Pavings.{IsPaved, HoldInside, settled_in}
 use Rattle.pv_svg.specs.Planes.{Plane}
 use Rattle.pv_svg.specs.Rectangles.{picture_of}
@@ -45,7 +44,7 @@ use Rattle.pv_least.specs.declared.found.Least as known
 use Rattle.pv_cli.specs.declared.request.Request.{Request}
 use Rattle.pv_cli.specs.declared.request.Request.TheVariants.{Check, Run, Resume, Merge, Audit, Svg, Sample, Least, Campaign}
 use Rattle.pv_cli.specs.declared.refusal.Refusal.{Refusal}
-use Rattle.pv_cli.specs.declared.refusal.Refusal.TheVariants.{Usage, System, Memory, TreeLimit, Differs}
+use Rattle.pv_cli.specs.declared.refusal.Refusal.TheVariants.{Usage, Memory, TreeLimit, Differs}
 use Rattle.pv_cli.specs.declared.status.Status.{Status}
 use Rattle.pv_cli.specs.declared.status.Status.TheVariants.{Done, OpenLeft}
 
@@ -297,11 +296,10 @@ abbrev pub RefusesSvg : Files → Files → Text → Text → Settings → View 
 RefusesSvg before after system name s v Usage = HasNoPlaneIn before system s v
 RefusesSvg before after system name s v r = RefusesRule before after system s r ⊎ HasNoPicture before after system name s v r
 
--- why there is no sample
-abbrev pub RefusesSample : Circles → Refusal → Type 0
-RefusesSample c (System line column byte cause) = IsFaultOf (text_of c) (Fault byte line column cause)
-RefusesSample c Memory = Unit {0}
-RefusesSample c _ = ⊥
+-- why there is no sample: for want of memory alone, since the reader takes each text of circles
+abbrev pub RefusesSample : Refusal → Type 0
+RefusesSample Memory = Unit {0}
+RefusesSample _ = ⊥
 
 abbrev pub RefusesWork : Files → Files → Stock → Stock → Request → Refusal → Type 0
 RefusesWork before after u v (Check system) r = RefusesSystem before after system.now r
@@ -312,6 +310,6 @@ RefusesWork before after u v (Merge system pavings settings out) r =
     RefusesJoined before after system.now (names_in pavings.items) settings 0 r
 RefusesWork before after u v (Audit form system paving settings) r = RefusesAudit form before after system.now paving.now settings r
 RefusesWork before after u v (Svg system paving settings view) r = RefusesSvg before after system.now paving.now settings view r
-RefusesWork before after u v (Sample circles) r = RefusesSample circles r
+RefusesWork before after u v (Sample circles) r = RefusesSample r
 RefusesWork before after u v (Least system settings search) r = RefusesLeast before after system.now settings search.of.now r
 RefusesWork before after u v (Campaign system settings effort rounds) r = RefusesCampaign before after u v system.now settings effort.boxes rounds r

@@ -22,6 +22,7 @@ use Rattle.pv_cli.specs.Ends.{Outside, AreUntouched, IsDelivered, IsCutOff, IsLo
 use Rattle.pv_cli.specs.declared.request.Form.{Form}
 use Rattle.pv_cli.specs.declared.request.Form.TheVariants.{Natural}
 use Rattle.pv_cli.specs.declared.request.Settings.{Settings}
+use Rattle.pv_cli.specs.declared.request.Circles.{Circles}
 use Rattle.pv_cli.specs.declared.request.Search.{Search}
 use Rattle.pv_cli.specs.declared.request.Rounds.{Rounds}
 use Rattle.pv_grammar.specs.declared.cause.Cause.{Cause}
@@ -247,6 +248,14 @@ abbrev pub MemoryLeaves : Type 0
 MemoryLeaves =
     (words : List Text) (before after : Outside) → IsEnd words before after WantOfMemory
     → AreUntouched before.files after.files before.out after.out ⊎ (IsCutOffText words before after ⊎ IsUnwritten words before after)
+
+-- ---- The statuses of `sample`
+
+-- words that ask for a sample end with its report, or a write failed, or there was no memory
+abbrev pub SampleIsTaken : Type 0
+SampleIsTaken =
+    (words : List Text) (before after : Outside) (status : Status) (circles : Circles) → Asks words (Sample circles)
+    → IsEnd words before after status → (status ≡ Done) ⊎ ((status ≡ WriteFault) ⊎ (status ≡ WantOfMemory))
 
 -- ---- Every status
 

@@ -14,6 +14,7 @@ ghost use Rattle.pv_cli.specs.StatusLaws.{
   WriteFaultIsUnwritten,
   MemoryLeaves,
   OthersStay,
+  SampleIsTaken,
   AskingIsNotRefused,
   RefusedWordsEnd,
   UsageIsOfWords,
@@ -56,6 +57,12 @@ pub fn not_written()
 /// With status 7 nothing was stored or printed, or it is as with status 6.
 pub fn no_memory()
     ensures { MemoryLeaves }
+{}
+
+/// `sample`, once its words are read, ends with status 0, 6 or 7: the reader takes each text of its
+/// circles, and its settings give a rule.
+pub fn samples()
+    ensures { SampleIsTaken }
 {}
 
 /// With every status no file is changed but that of the name that is asked for.

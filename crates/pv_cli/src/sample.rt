@@ -45,7 +45,7 @@ pub(crate) fn sample<'a, G: Gate + Sync, R: Threads + Wait + Sync>(
     gate: &G,
 ) -> Result<Product, Refusal<'a>>
     ensures comes { IfOk result (λ p. ComesOfSample circles.now (made p)) }
-    ensures refused { IfErr result (RefusesSample circles.now) }
+    ensures refused { IfErr result RefusesSample }
 {
     let settings = settings();
     let settler = match settler_of(alloc, circles, &settings) {
@@ -103,7 +103,7 @@ fn settler_of<'a>(
 ) -> Result<SystemSettler, Refusal<'a>>
     requires { AreForSamples settings.now }
     ensures rule { IfOk result (λ s. IsMadeRule circles.now settings.now (rule_of s)) }
-    ensures refused { IfErr result (RefusesSample circles.now) }
+    ensures refused { IfErr result RefusesSample }
 {
     let text = sample_system(alloc, circles.seed, circles.count)?;
     let system = match parse(alloc, &text) {

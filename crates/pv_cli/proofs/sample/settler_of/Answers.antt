@@ -16,5 +16,4 @@ returns-clause-rule c =
 
 pub returns-clause-refused : goal.returns-clause-refused
 returns-clause-refused c =
-    let same : c.deref.result.now ≡ text_of c.args.circles.now = search rules in
-    not_made c.args.circles.now c.args.settings.now c.deref.result.now c.in-Ok.system c.settler_for.result c.requires same c.in-Ok.ensures.means c.settler_for.ensures.refused
+    not_made c.args.settings.now c.in-Ok.system c.settler_for.result c.requires c.settler_for.ensures.refused
