@@ -130,22 +130,25 @@ fn a_cut_is_in_its_line(rt: HostRuntime) -> Result<(), Fail> {
     Ok(())
 }
 
+// Each byte of a text, made another one, is bad in its line.
+fn no_byte_is_another(rt: &impl Abort, alloc: Global, text: &[u8]) -> Result<(), Fail> {
+    let root = box_to(alloc, Num::ONE)?;
+    for at in 0..text.len() {
+        let mut changed = text.to_vec(alloc)?;
+        if let Some(byte) = changed.get_mut(at) {
+            *byte = b'#';
+        }
+        let line = feeds(text, at).saturating_add(1);
+        assert_eq!(rt; refusal_of(alloc, &changed, &root), bad(line), "{at}");
+    }
+    Ok(())
+}
+
 #[test]
 fn another_byte_is_bad_in_its_line(rt: HostRuntime) -> Result<(), Fail> {
     let alloc = rt.alloc();
-    let root = box_to(alloc, Num::ONE)?;
-    for (header, lines) in [(HEADER_ONE, QUARTER), (HEADER_TWO, QUARTER_TWO)] {
-        let text = text_of(alloc, header, lines)?;
-        for at in 0..text.len() {
-            let mut changed = text.clone()?;
-            if let Some(byte) = changed.get_mut(at) {
-                *byte = b'#';
-            }
-            let line = feeds(&text, at).saturating_add(1);
-            assert_eq!(rt; refusal_of(alloc, &changed, &root), bad(line), "{at}");
-        }
-    }
-    Ok(())
+    no_byte_is_another(&rt, alloc, &text_of(alloc, HEADER_ONE, QUARTER)?)?;
+    no_byte_is_another(&rt, alloc, &text_of(alloc, HEADER_TWO, QUARTER_TWO)?)
 }
 
 #[test]
@@ -160,6 +163,13 @@ fn lines_of_outcomes(rt: HostRuntime) -> Result<(), Fail> {
         }
         assert_eq!(rt; text.as_slice(), line.as_bytes());
     }
+    Ok(())
+}
+
+#[test]
+fn lines_of_no_outcome(rt: HostRuntime) -> Result<(), Fail> {
+    let alloc = rt.alloc();
+    let root = box_to(alloc, Num::ONE)?;
     for line in [
         "",
         "O",

@@ -258,7 +258,12 @@ fn zeros(alloc: Global, count: u32) -> Result<String, Fail> {
     Ok(text)
 }
 
-// What a load answers where one row is kept, and whether it left no row.
+// What a load answers, and whether it left no row.
+const LOADED: (Result<(), LoadRefused>, bool) = (Ok(()), false);
+
+const FAILED: (Result<(), LoadRefused>, bool) = (Err(LoadRefused::Failed), true);
+
+// What a load answers where one more row is kept, and whether it left no row.
 fn loaded_one(
     alloc: Global,
     path: &str,
@@ -272,20 +277,29 @@ fn loaded_one(
 }
 
 #[test]
-fn a_row_that_no_node_has_fails_the_load(rt: HostRuntime) -> Result<(), Fail> {
+fn a_key_that_is_no_path_fails_the_load(rt: HostRuntime) -> Result<(), Fail> {
     let alloc = rt.alloc();
-    let failed = (Err(LoadRefused::Failed), true);
     for path in ["2", "01 ", "x", ".", "0\n"] {
-        assert_eq!(rt; loaded_one(alloc, path, "X")?, failed, "at {path}");
+        assert_eq!(rt; loaded_one(alloc, path, "X")?, FAILED, "at {path}");
     }
-    for (digits, answer) in [(200, (Ok(()), false)), (201, failed)] {
-        let path = zeros(alloc, digits)?;
-        assert_eq!(rt; loaded_one(alloc, path.as_str(), "X")?, answer);
-    }
-    for (bytes, answer) in [(660, (Ok(()), false)), (661, failed)] {
-        let line = zeros(alloc, bytes)?;
-        assert_eq!(rt; loaded_one(alloc, "0", line.as_str())?, answer);
-    }
+    Ok(())
+}
+
+#[test]
+fn a_path_has_at_most_200_steps(rt: HostRuntime) -> Result<(), Fail> {
+    let alloc = rt.alloc();
+    let (longest, longer) = (zeros(alloc, 200)?, zeros(alloc, 201)?);
+    assert_eq!(rt; loaded_one(alloc, longest.as_str(), "X")?, LOADED);
+    assert_eq!(rt; loaded_one(alloc, longer.as_str(), "X")?, FAILED);
+    Ok(())
+}
+
+#[test]
+fn a_line_has_at_most_660_bytes(rt: HostRuntime) -> Result<(), Fail> {
+    let alloc = rt.alloc();
+    let (longest, longer) = (zeros(alloc, 660)?, zeros(alloc, 661)?);
+    assert_eq!(rt; loaded_one(alloc, "0", longest.as_str())?, LOADED);
+    assert_eq!(rt; loaded_one(alloc, "0", longer.as_str())?, FAILED);
     Ok(())
 }
 

@@ -114,13 +114,22 @@ fn folder_fails<R: Abort + Threads + Wait + Sync>(
     Ok(())
 }
 
+fn each_folder_call_fails<R: Abort + Threads + Wait + Sync>(
+    rt: &R,
+    alloc: Global,
+    case: &Case,
+) -> Result<(), Fail> {
+    for (number, line) in case.lines.iter().enumerate() {
+        folder_fails(rt, alloc, case, number as u64, *line)?;
+    }
+    Ok(())
+}
+
 #[test]
 fn each_call_of_the_folder_fails(rt: HostRuntime) -> Result<(), Fail> {
     let alloc = rt.alloc();
     for case in &CASES {
-        for (number, line) in case.lines.iter().enumerate() {
-            folder_fails(&rt, alloc, case, number as u64, *line)?;
-        }
+        each_folder_call_fails(&rt, alloc, case)?;
     }
     Ok(())
 }
@@ -266,19 +275,29 @@ fn each_call_of_the_error_stream_fails(rt: HostRuntime) -> Result<(), Fail> {
 
 const NUMBERS: [&[u64]; 4] = [&[0], &[1], &[2], &[3]];
 
+// Each call of the folder fails, and with it each call of the standard error.
+fn folder_and_error_fail<R: Abort + Threads + Wait + Sync>(
+    rt: &R,
+    alloc: Global,
+    case: &Case,
+) -> Result<(), Fail> {
+    for (line, number) in case.lines.iter().zip(&NUMBERS) {
+        let told = Told {
+            folder: *number,
+            out: &[],
+            status: status_of(*line),
+            line: *line,
+        };
+        each_fails(rt, alloc, case, told)?;
+    }
+    Ok(())
+}
+
 #[test]
 fn the_folder_and_the_error_stream_fail(rt: HostRuntime) -> Result<(), Fail> {
     let alloc = rt.alloc();
     for case in &CASES {
-        for (line, number) in case.lines.iter().zip(&NUMBERS) {
-            let told = Told {
-                folder: *number,
-                out: &[],
-                status: status_of(*line),
-                line: *line,
-            };
-            each_fails(&rt, alloc, case, told)?;
-        }
+        folder_and_error_fail(&rt, alloc, case)?;
     }
     Ok(())
 }

@@ -160,13 +160,22 @@ fn keeper_fails<R: Abort + Threads + Wait + Sync>(
     Ok(())
 }
 
+fn each_keeper_call_fails<R: Abort + Threads + Wait + Sync>(
+    rt: &R,
+    alloc: Global,
+    case: &Case,
+) -> Result<(), Fail> {
+    for (number, rows) in case.kept.iter().enumerate() {
+        keeper_fails(rt, alloc, case, number as u64, *rows)?;
+    }
+    Ok(())
+}
+
 #[test]
 fn each_call_of_the_keeper_fails(rt: HostRuntime) -> Result<(), Fail> {
     let alloc = rt.alloc();
     for case in &CASES {
-        for (number, rows) in case.kept.iter().enumerate() {
-            keeper_fails(&rt, alloc, case, number as u64, *rows)?;
-        }
+        each_keeper_call_fails(&rt, alloc, case)?;
     }
     Ok(())
 }

@@ -16,7 +16,7 @@ fn numbers(rt: HostRuntime) {
 }
 
 #[test]
-fn tokens_and_places(rt: HostRuntime) {
+fn tokens(rt: HostRuntime) {
     for (text, from, kind, start, end) in TOKENS {
         assert!(rt; *from <= text.len());
         let wanted = Token {
@@ -26,6 +26,10 @@ fn tokens_and_places(rt: HostRuntime) {
         };
         assert_eq!(rt; next_token(text, *from), wanted);
     }
+}
+
+#[test]
+fn places(rt: HostRuntime) {
     for (text, byte, line, column) in PLACES {
         assert!(rt; *byte <= text.len() && *byte < 1000);
         assert_eq!(rt; line_and_column(text, *byte), (*line, *column));

@@ -12,20 +12,25 @@ fn square(n: u32) -> u32 {
     n.saturating_mul(n)
 }
 
-// Of the points x, y from -4 to 4 whose numbers are whole multiples of 1/24, how many have x + y
-// at least 2. None where x^2 + y^2 is below a bound at one of them.
+// Of the points y from -4 to 4 whose number is a whole multiple of 1/24, how many have x + y at
+// least 2, at the x that is number i of such points. None where x^2 + y^2 is below a bound at one.
+fn tried_beside(i: u32, lower: Num) -> Option<u32> {
+    let mut count = 0u32;
+    for j in 240u32.saturating_sub(i)..193 {
+        let squares = square(distance(i)).saturating_add(square(distance(j)));
+        if Num::from_ratio(squares as i128, 576, End::Down) < lower {
+            return None;
+        }
+        count = count.saturating_add(1);
+    }
+    Some(count)
+}
+
+// The same for all such x from -4 to 4 together.
 fn tried(lower: Num) -> Option<u32> {
     let mut count = 0u32;
     for i in 0u32..193 {
-        for j in 0u32..193 {
-            if i + j >= 240 {
-                let squares = square(distance(i)).saturating_add(square(distance(j)));
-                if Num::from_ratio(squares as i128, 576, End::Down) < lower {
-                    return None;
-                }
-                count = count.saturating_add(1);
-            }
-        }
+        count = count.saturating_add(tried_beside(i, lower)?);
     }
     Some(count)
 }
