@@ -166,7 +166,7 @@ spells_all t n c from (s ∷ xs) mid k d ys to m (x, g, next, inner, stands, one
     (x, g, next, inner, stands, one, spells_all t (learnt (standing_of c) s (bytes_of t x) n) g x.end xs mid k d ys to m rest (rw (ok_same (counted c s) one' one) at counts) more)
 
 -- the end of a text is its next token there
-next_end : (t : List ℕ) → IsNext t (length t) (record { kind = End; start = length t; end = length t })
+pub next_end : (t : List ℕ) → IsNext t (length t) (record { kind = End; start = length t; end = length t })
 next_end t = record {
   separators = 0;
   gap = refl;
