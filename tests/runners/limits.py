@@ -213,13 +213,15 @@ def slow_texts(f):
 
 DEEP = [system("x", "(" * 100 + "x" + ")" * 100 + "<=1"), system("x", "-" * 999 + "x<=1"),
         system("x", "x" + "+1" * 1000 + "<=1"),
-        b"Variables x; function f(a) return " + b"-" * 990 + b"a; end Constraints f(x) <= 1; end\n"]
+        # trees of 1,999 nodes on the way down; 2,000 are taken at the most
+        b"Variables x; function f(a) return " + b"-" * 999 + b"a; end Constraints " + b"-" * 999 + b"f(x) <= 1; end\n",
+        b"Variables x; function f(a) return a" + b"+1" * 999 + b"; end Constraints f(x)" + b"+1" * 999 + b" <= 1; end\n"]
 
 
 def little_stack(f):
-    """A stack of 1 MiB is enough for the deepest texts, programs and trees, on the first thread and on workers."""
+    """A stack of 2 MiB is enough for the deepest texts, programs and trees, on the first thread and on workers."""
     def run(*words):
-        done = f.call(*words, preexec_fn=lambda: resource.setrlimit(resource.RLIMIT_STACK, (1 << 20, 1 << 20)))
+        done = f.call(*words, preexec_fn=lambda: resource.setrlimit(resource.RLIMIT_STACK, (2 << 20, 2 << 20)))
         assert done.returncode in (0, 1) and not done.stderr, (words, done)
     for text in DEEP:
         f.put("s", text)
