@@ -3,6 +3,12 @@ _paver() {
     local word=${COMP_WORDS[COMP_CWORD]} before=${COMP_WORDS[COMP_CWORD-1]} command=${COMP_WORDS[1]}
     local settings="--eps --depth --bisect --contract"
     COMPREPLY=()
+    # `--name=value` comes as three words
+    if [ "$word" = "=" ]; then
+        word=
+    elif [ "$before" = "=" ]; then
+        before=${COMP_WORDS[COMP_CWORD-2]}
+    fi
     if [ "$COMP_CWORD" -eq 1 ]; then
         mapfile -t COMPREPLY < <(compgen -W "check run resume merge audit svg sample run-centered audit-centered least campaign" -- "$word")
         return

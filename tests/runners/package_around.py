@@ -77,9 +77,19 @@ def check_completions():
     assert sorted(completed("paver", "audit", "--")) == ["--bisect", "--contract", "--depth", "--eps"]
     assert "--boxes" not in completed("paver", "merge", "s", "--")
     assert completed("paver", "run", "s", "--bisect", "") == ["largest", "round"]
-    for file in ("_paver", "paver.fish"):
-        text = (TOP / "completions" / file).read_text()
-        assert all(word in text for word in [*COMMANDS, *OPTIONS]), file
+    assert completed("paver", "run", "s", "--bisect", "=", "l") == ["largest"]
+    assert completed("paver", "run", "s", "--bisect", "=") == ["largest", "round"]
+    assert completed("paver", "run", "s", "--eps", "=") == []
+
+
+def check_words_of_completions():
+    """Each command and each option stands in the files for zsh and for fish, and nothing else does."""
+    zsh, fish = ((TOP / "completions" / file).read_text() for file in ("_paver", "paver.fish"))
+    assert set(re.findall(r"'--([a-z]+)=\[", zsh)) == set(re.findall(r"^complete .* -l ([a-z]+) ", fish, re.M)) == set(OPTIONS)
+    assert set(re.findall(r" -a ([a-z-]+) -d", fish)) == set(COMMANDS)
+    assert re.findall(r"'([a-z-]+):", zsh[zsh.index("commands=("):zsh.index("_describe")]) == COMMANDS
+    cases = re.findall(r"^  ([a-z|-]+)\) _arguments", zsh, re.M)
+    assert sorted("|".join(cases).split("|")) == sorted(COMMANDS)
 
 
 def fish_offers(line):
@@ -207,6 +217,6 @@ def check_vim():
 
 
 def checks():
-    named = [check_man_page, check_man_page_by_groff, check_completions, check_fish, check_zsh, check_octave, check_install,
-             check_pip, check_vim]
+    named = [check_man_page, check_man_page_by_groff, check_completions, check_words_of_completions, check_fish, check_zsh,
+             check_octave, check_install, check_pip, check_vim]
     return [(check.__name__[6:].replace("_", " "), check, ()) for check in named]
