@@ -11,9 +11,9 @@ Numbers are exact Fractions; floats are rounded outward and come only where they
 from .advice import depth_that_suffices, warnings_of
 from .canonical import System
 from .cover import Box, Cluster
-from .errors import (ContractRefused, Disagree, KeeperFault, NoFile, NotInProgram, ObjectiveRefused, PaverError, PavingError,
-                     PavingRefused, ProgramFault, ProgramMissing, ReadFault, SystemRefused, TreeLimit, UsageError,
-                     WantOfMemory, WriteFault)
+from .errors import (
+    ContractRefused, Disagree, KeeperFault, NoFile, NotInProgram, ObjectiveRefused, PaverError, PavingError, PavingRefused,
+    ProgramFault, ProgramMissing, ReadFault, SystemRefused, TreeLimit, UsageError, WantOfMemory, WriteFault)
 from .paving import Parts, Paving
 from .picture import svg
 from .plots import plot, plot_projection
@@ -25,8 +25,8 @@ from .values import Bounds, least
 
 __all__ = [
     "Answer", "Bounds", "Box", "Cluster", "ContractRefused", "Disagree", "KeeperFault", "NoFile", "NotInProgram",
-    "ObjectiveRefused", "Parts", "Paving", "PaverError", "PavingError", "PavingRefused", "ProgramFault", "ProgramMissing", "ReadFault", "System",
-    "SystemRefused", "TreeLimit", "UsageError", "WantOfMemory", "WriteFault", "audit", "audit_centered", "campaign", "check",
-    "check_text", "depth_that_suffices", "draw", "find", "find_roots", "gather", "least", "merge", "plot", "plot_projection",
-    "resume", "run", "run_centered", "sample", "split", "svg", "warnings_of",
+    "ObjectiveRefused", "Parts", "Paving", "PaverError", "PavingError", "PavingRefused", "ProgramFault", "ProgramMissing",
+    "ReadFault", "System", "SystemRefused", "TreeLimit", "UsageError", "WantOfMemory", "WriteFault", "audit",
+    "audit_centered", "campaign", "check", "check_text", "depth_that_suffices", "draw", "find", "find_roots", "gather",
+    "least", "merge", "plot", "plot_projection", "resume", "run", "run_centered", "sample", "split", "svg", "warnings_of",
 ]

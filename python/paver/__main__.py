@@ -2,10 +2,11 @@
 import argparse
 import os
 import sys
+from fractions import Fraction
 from pathlib import Path
 
 from . import errors, explain, program
-from .advice import limits_of, warnings_of
+from .advice import limits_of, stored_sentences, warnings_of
 from .cover import KEPT
 from .ibex import translate
 from .numbers import as_float
@@ -22,13 +23,15 @@ def run_options(parser):
 
 
 def options_of(arguments):
-    return {name: getattr(arguments, name) for name in program.OPTIONS if getattr(arguments, name) is not None}
+    return {name: getattr(arguments, name) for name in program.OPTIONS if getattr(arguments, name, None) is not None}
 
 
 def paving_of(arguments, sentences=warnings_of):
     """The paving of a command, a file's or that of a run, and the sentences on it."""
-    if getattr(arguments, "paving", None):
-        return Paving.read(arguments.paving, system=arguments.system, program=arguments.program), []
+    if arguments.paving:
+        system = program.check(arguments.system, program=arguments.program)
+        paving = Paving.read(arguments.paving, system=system)
+        return paving, stored_sentences(paving, system, options_of(arguments))
     answer = program.run(arguments.system, program=arguments.program, **options_of(arguments))
     paving = answer.paving()
     return paving, sentences(answer, paving)
@@ -102,6 +105,12 @@ def print_summary(paving):
         print(f"widest small box {as_float(widest.width, True):.9g}: {widest!r}")
 
 
+def export(arguments):
+    """Prints the paving of a campaign's database as a stored file, which the program's audit, merge, resume and svg take."""
+    sys.stdout.write(Paving.read(arguments.paving).file_text())
+    return 0
+
+
 def csv_command(arguments):
     """Prints the kept boxes of a paving as CSV."""
     paving, warnings = paving_of(arguments)
@@ -110,11 +119,25 @@ def csv_command(arguments):
     return 0
 
 
+def values_of(words):
+    """The numbers that words as z=0.5 give for names; ValueError where one is no such word."""
+    found = {}
+    for word in words:
+        name, equals, number = word.partition("=")
+        try:
+            found[name] = Fraction(number)
+        except (ValueError, ZeroDivisionError):
+            equals = ""
+        if not equals:
+            raise ValueError(f"--at {word}: a variable and its number are expected, as --at z=0.5")
+    return found
+
+
 def plot_command(arguments):
     """Draws a slice, or the projection on two variables, into a picture file: SVG by the package itself, other forms by
     matplotlib where it is installed."""
     paving, warnings = paving_of(arguments)
-    at = dict(word.split("=", 1) for word in arguments.at or [])
+    at = values_of(arguments.at or [])
     names = [int(word) if word.isdigit() else word for word in (arguments.x, arguments.y)]
     title = Path(arguments.system).stem
     if arguments.picture.endswith(".svg"):
@@ -184,7 +207,10 @@ def more_commands(commands):
         return command
 
     add("from-ibex", from_ibex).add_argument("file")
+    add("export", export).add_argument("paving", help="the database of a campaign, or a stored paving")
     explained = add("explain", explain_command)
+    explained.usage = "%(prog)s SYSTEM [--groups N [--agree N]] [OPTIONS]"
+    explained.epilog = "OPTIONS, behind SYSTEM, are those of the program's run: what is refused of them is told too."
     explained.add_argument("system")
     explained.add_argument("--groups", type=int, help="constraints in each group of a qinter text")
     explained.add_argument("--agree", type=int, help="how many groups have to agree; else all but one")
@@ -197,6 +223,15 @@ def more_commands(commands):
     gathered = add("gather", gather_command)
     gathered.add_argument("folder")
     gathered.add_argument("--csv", action="store_true")
+
+
+def on_refused_options(arguments, fault):
+    """The lines on refused options of a command that runs the program."""
+    options = options_of(arguments)
+    if isinstance(fault, errors.ContractRefused):
+        system = program.check(arguments.system, program=arguments.program)
+        return explain.of_refused_contract(options["contract"], fault.byte, len(system.constraints))
+    return explain.option_faults(program.option_words(options)) or [f"paver: {fault}"]
 
 
 def main(words=None):
@@ -212,6 +247,9 @@ def main(words=None):
         text = Path(arguments.system).read_bytes().decode("latin-1")
         print("\n".join(explain.of_refused_system(arguments.system, text, fault)), file=sys.stderr)
         return 3
+    except errors.UsageError as fault:
+        print("\n".join(on_refused_options(arguments, fault)), file=sys.stderr)
+        return 2
     except BrokenPipeError:  # a reader as head ended early: nothing more can be said on standard output
         os.dup2(os.open(os.devnull, os.O_WRONLY), sys.stdout.fileno())
         return 6

@@ -86,6 +86,18 @@ def budget_warning(command, counts, boxes):
             f"right as far as it goes; an open leaf says nothing. To go on: {FULL if full else WAYS[command]}.")
 
 
+def stored_sentences(paving, system, settings):
+    """The sentences on a paving that was stored: whether its identity is the system's under these settings, and then what
+    the depth left undone. Printed text has no identity."""
+    settings = {name: value for name, value in settings.items() if name in ("eps", "depth", "bisect", "contract")}
+    known = [system.identity(**settings, centered=centered) for centered in (False, True)]
+    if paving.identity in (None, *known):
+        sentence = depth_warning(paving, settings) if paving.identity else None
+        return [sentence] if sentence else []
+    return ["the file has not the identity of this system under these settings, so it may be another system's: give --eps, "
+            "--depth, --bisect and --contract as its run had them, and this is compared."]
+
+
 def limits_of(answer, paving):
     """The sentences on what the budget and the depth left undone."""
     settings = answer.settings

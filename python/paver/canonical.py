@@ -3,8 +3,11 @@
 An expression is a list of steps in postfix order: ("const", Fraction), ("var", i), ("^", n), or an operation's sign
 alone, as ("+",) or ("neg",).
 """
+import hashlib
 import re
 from fractions import Fraction
+
+from .numbers import decimal, rounded
 
 PRECEDENCE = {"+": 1, "-": 1, "*": 2, "/": 2, "neg": 2, "^": 3}
 
@@ -16,6 +19,7 @@ class Constraint:
         self.relation, self.left, self.right = relation, left, right
 
     def infix(self, names):
+        """The constraint as Minibex writes it, with these names for the variables."""
         return f"{infix(self.left, names)} {self.relation} {infix(self.right, names)}"
 
 
@@ -39,6 +43,14 @@ class System:
         except (IndexError, ValueError) as fault:
             raise ValueError("this is no canonical text") from fault
         return cls(names, root, constraints, text)
+
+    def identity(self, *, eps="0.125", depth=60, bisect="largest", contract="prop(8)", centered=False):
+        """The digits of the second line of a file that the program stores of this system under these settings; with
+        centered of one that run-centered stores."""
+        settings = [f"eps {rounded(Fraction(eps), False)}", f"depth {int(depth)}", f"bisect {bisect}",
+                    f"contract {contract}", *["centered"] * centered]
+        text = self.text + "".join(f"{line}\n" for line in settings)
+        return hashlib.sha256(text.encode()).hexdigest()
 
 
 def read_constraint(line):
@@ -108,7 +120,6 @@ def joined(kind, left, right):
 
 
 def constant_text(value):
-    from .numbers import decimal
     text = decimal(value)
     if text is None or len(text) > 12:
         return f"{value.numerator}/{value.denominator}" if value.denominator != 1 else str(value), 2

@@ -112,15 +112,19 @@ class Cover:
                 yield Box("removed", part)
 
     def inner(self):
+        """The boxes in which every rational point is in the set."""
         return self.boxes("inner")
 
     def small(self):
+        """The undecided boxes."""
         return self.boxes("small")
 
     def open(self):
+        """The boxes of the open leaves, of which nothing is said."""
         return self.boxes("open")
 
     def removed(self):
+        """The boxes in which no rational point is in the set."""
         return self.boxes("removed")
 
     def volumes(self):
@@ -168,6 +172,7 @@ class Cover:
         return list(self.names).index(name)
 
     def name_of(self, variable):
+        """The name of a variable, given by its number; v0, v1, .. where names are not known."""
         return self.names[variable] if self.names else f"v{variable}"
 
     def write_csv(self, file, kinds=("inner", "small", "open"), exactly=False):

@@ -26,7 +26,13 @@ CAUSES = {
     "TextTooLong": "the text has more than 65,536 bytes",
 }
 WHOLE = ("BadBounds", "TooLarge", "TextTooLong", "TooManyVariables", "TooManyConstraints", "TooManyFunctions", "TooDeep")
+BYTE_ORDER_MARK = "\xef\xbb\xbf"  # as single-byte characters
 RANGES = {"depth": (1, 200), "boxes": (1, 100000), "workers": (1, 16)}
+
+
+def shown(part):
+    """A part of a text of single-byte characters as people see it: as UTF-8, where it is such."""
+    return part.encode("latin-1").decode("utf-8", "replace")
 
 
 def caret(text, byte):
@@ -34,8 +40,13 @@ def caret(text, byte):
     start = text.rfind("\n", 0, byte) + 1
     end = text.find("\n", byte)
     line = text[start:] if end < 0 else text[start:end]
-    before = "".join("\t" if c == "\t" else " " for c in text[start:byte])
-    return f"    {line}\n    {before}^"
+    before = "".join("\t" if c == "\t" else " " for c in shown(text[start:byte]))
+    return f"    {shown(line)}\n    {before}^"
+
+
+def counted(count, noun):
+    """A number of things in words, as `1 variable`."""
+    return f"{count} {noun}{'' if count == 1 else 's'}"
 
 
 def alternatives(phrases):
@@ -52,24 +63,29 @@ def of_refused_system(name, text, fault):
     word = next((known for known in INSTEAD if word.startswith(known) and not word[len(known):][:1].isalnum()), None)
     if fault.cause == "NotInProfile" and word:
         lines.append(f"In place of `{word}`: {INSTEAD[word]}.")
+    elif fault.cause == "BadByte" and text.startswith(BYTE_ORDER_MARK):
+        return [*lines, "The file begins with a byte order mark: save it without one."]
     elif fault.cause not in WHOLE:
         found = expect.at_system(text, fault.byte)
         if found:
             lines.append(f"Expected here: {alternatives(found)}.")
-    if fault.cause in ("NotInProfile", "BadByte", "Unexpected"):
+    if text[fault.byte:fault.byte + 1] > "\x7f":
+        lines.append("Only comments have letters and signs beyond ASCII.")
+    elif fault.cause in ("NotInProfile", "BadByte", "Unexpected"):
         lines.append("If this is a file for IBEX, `python3 -m paver from-ibex FILE` writes what can be written of it.")
     return lines
 
 
 def of_refused_contract(text, byte, constraints):
     """The lines on a refused contractor text."""
+    text = text.encode("utf-8", "surrogateescape").decode("latin-1")
     lines = [f"--contract: refused at byte {byte}.", caret(text, byte)]
     if len(text) > 4096:
         return [*lines, "A contractor text has at most 4,096 bytes."]
     found = expect.at_program(text, byte, constraints)
     if found:
         lines.append(f"Expected here: {alternatives(found)}.")
-    if any(c.isspace() for c in text):
+    if any(c in " \t\r\n" for c in text):
         lines.append("A contractor text has no blanks.")
     return lines
 
@@ -161,7 +177,7 @@ def explained(name, words, path=None):
         return [f"there is no file {name}."], False
     except errors.ReadFault:
         return [f"the file {name} could not be read: is it a folder, or not yours to read?"], False
-    lines = [f"{name}: {len(system.names)} variables, {len(system.constraints)} constraints; it is taken.",
+    lines = [f"{name}: {counted(len(system.names), 'variable')}, {counted(len(system.constraints), 'constraint')}; it is taken.",
              *constraint_lines(system)]
     faults = option_faults(words)
     if faults:

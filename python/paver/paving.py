@@ -73,6 +73,13 @@ class Paving(Cover):
             data = "\n".join(["paving 1", f"identity {identity}", *lines, ""]).encode("latin-1")
         return cls.from_text(data.decode("latin-1"), root=root, names=names, system=system)
 
+    def file_text(self):
+        """The text of a file of this paving, which the program's resume, merge, audit and svg take; of a campaign's database
+        it is one of version 1. ValueError for printed text, which has no identity."""
+        if self.identity is None:
+            raise ValueError("printed text has no identity: store the paving by --out")
+        return "".join(f"{line}\n" for line in (f"paving {self.version}", f"identity {self.identity}", *self.lines))
+
     def _dims(self):
         if self.root is not None:
             return len(self.root) // 2
@@ -171,9 +178,11 @@ class Paving(Cover):
         return None
 
     def roots(self):
+        """The pavings of which this one is made: itself."""
         return [self]
 
     def boxes_known(self):
+        """Whether the search box is known."""
         return self.root is not None
 
 
@@ -189,17 +198,21 @@ class Parts(Cover):
             raise ValueError("the pavings have different numbers of variables")
 
     def counts(self):
+        """How many nodes of all parts are settled, cut, removed, inner, small and open."""
         found = [paving.counts() for paving in self.pavings]
         return {field: sum(counts[field] for counts in found) for field in FIELDS}
 
     def nodes(self):
+        """The nodes of the parts, one part after the other."""
         for paving in self.pavings:
             yield from paving.nodes()
 
     def roots(self):
+        """The pavings of the parts."""
         return self.pavings
 
     def boxes_known(self):
+        """Whether the search box of each part is known."""
         return all(paving.boxes_known() for paving in self.pavings)
 
 

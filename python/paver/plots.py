@@ -18,7 +18,8 @@ def rectangles(cover, x, y, at=None, kinds=()):
     others = set(range(cover.dims)) - {x, y}
     if x == y or set(at) != others:
         missing = ", ".join(cover.name_of(k) for k in sorted(others ^ set(at))) or cover.name_of(x)
-        raise ValueError(f"a slice takes two variables and a value for each other one, and no more: {missing}")
+        raise ValueError(f"a slice takes two variables and a value (at) for each other one, and no more: look at {missing}; "
+                         "a projection takes two variables alone")
     for box in cover.slice(at, kinds):
         floats = box.floats
         yield box.kind, floats[x], floats[y]

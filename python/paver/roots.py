@@ -35,6 +35,7 @@ class Root:
 
     @property
     def middle(self):
+        """The middle of the box, in Fractions."""
         return tuple((low + high) / 2 for low, high in self.box)
 
 

@@ -325,6 +325,34 @@ def check_campaigns():
         assert paver.Paving.read(name, system=ring).lines == printed.paving().lines
 
 
+def check_identities():
+    """A stored file has the identity that the package works out of its system and settings."""
+    ring = example("ring")
+    settings = [{}, {"eps": "0.3"}, {"eps": "1e-36", "depth": 2},
+                {"eps": 1, "depth": 9, "bisect": "round", "contract": "fix(2,hc4(1))"}]
+    with tempfile.TemporaryDirectory() as folder:
+        out = Path(folder) / "p"
+        for chosen in settings:
+            for work, centered in ((paver.run, False), (paver.run_centered, True)):
+                work(ring, out=out, **chosen)
+                stored = paver.Paving.read(out)
+                assert stored.identity == paver.check(ring).identity(**chosen, centered=centered), (chosen, centered)
+                assert stored.file_text() == out.read_text()
+
+
+def check_exported():
+    """The paving of a campaign is a file that the program audits and goes on from; printed text is none."""
+    needs("campaign")
+    ring = example("ring")
+    with tempfile.TemporaryDirectory() as folder:
+        kept, out = Path(folder) / "k", Path(folder) / "p"
+        assert not paver.campaign(ring, kept, eps=1, boxes=7).complete
+        out.write_text(paver.Paving.read(kept).file_text())
+        assert paver.audit(ring, out, eps=1)
+        assert paver.resume(ring, out, eps=1).text == paver.run(ring, eps=1).text
+    raised(ValueError, lambda: paver.run(ring, eps=1).paving().file_text())
+
+
 def check_kept_rows():
     """Rows that are no tree's, and databases that are no campaign's."""
     with tempfile.TemporaryDirectory() as folder:
@@ -348,9 +376,9 @@ def check_kept_rows():
 
 def checks():
     expected = dict(line.split(" ", 2)[:2] for line in EXPECTED.read_text().splitlines())
-    named = [check_numbers, check_minibex_numbers, check_lines, check_refusals, check_answers, check_ways_to_go_on, check_depths, check_canonical,
-             check_missing, check_stored, check_resumed, check_merged, check_audited, check_centered, check_drawn, check_sampled,
-             check_least, check_campaigns, check_kept_rows]
+    named = [check_numbers, check_minibex_numbers, check_lines, check_refusals, check_answers, check_ways_to_go_on, check_depths,
+             check_canonical, check_missing, check_stored, check_resumed, check_merged, check_audited, check_centered, check_drawn,
+             check_sampled, check_least, check_campaigns, check_identities, check_exported, check_kept_rows]
     found = [(check.__name__[6:].replace("_", " "), check, ()) for check in named]
     return found + [(f"the reference's text of {name}", check_digest, (name, words, expected[name]))
                     for name, words in EXAMPLES]

@@ -1,5 +1,4 @@
 """Checks of what the package reads in pavings, beside the reference's own reading of the printed text."""
-import contextlib
 import csv
 import io
 import random
@@ -320,37 +319,40 @@ def check_mutated_files():
     assert taken > 20
 
 
+def way_to_first_open(lines):
+    """The way to the first open leaf of node lines, followed from the root."""
+    waiting = [""]
+    for line in lines:
+        way = waiting.pop()
+        if line == "O":
+            return way or "."
+        if line[0] == "C":
+            waiting += [way + "1", way + "0"]
+    return None
+
+
 def check_open_leaf():
-    paving = paver.run(example("ring"), boxes=7).paving()
-    path, box = paving.path_of_first_open(), list(paving.boxes())
-    assert path == "0" * path.count("0") + "1" * path.count("1") or set(path) <= {"0", "1"}
-    assert paving.counts()["open"] == sum(b.kind == "open" for b in box) > 0
-    assert sum(paving.volumes().values()) == 36
+    for boxes in (1, 7, 40, 200):
+        paving = paver.run(example("ring"), boxes=boxes).paving()
+        assert paving.path_of_first_open() == way_to_first_open(paving.lines), paving.lines
+        assert paving.counts()["open"] == sum(box.kind == "open" for box in paving.boxes()) > 0
+        assert sum(paving.volumes().values()) == 36
+    assert paver.Paving.from_text(f"paving 1\n{IDENTITY}\nO\n").path_of_first_open() == "."
     assert paver.run(example("ring")).paving().path_of_first_open() is None
-
-
-@contextlib.contextmanager
-def without_matplotlib():
-    try:
-        import matplotlib  # noqa: F401
-    except ImportError:
-        yield True
-    else:
-        yield False
 
 
 def check_plots():
     """A picture is drawn where matplotlib is there; else the package says what is missing."""
     paving = paver.run(example("ring")).paving()
-    with without_matplotlib() as missing:
-        if missing:
-            raised(plots.PlotsMissing, lambda: paver.plot(paving))
-            raise Skipped("plots are skipped: matplotlib is not installed")
+    try:
         import matplotlib
-        matplotlib.use("Agg")
-        axes = paver.plot(paving, "x", "y", title="ring")
-        assert (axes.get_xlabel(), axes.get_ylabel(), axes.get_aspect()) == ("x", "y", 1.0)
-        paver.plot_projection(paving)
+    except ImportError as fault:
+        raised(plots.PlotsMissing, lambda: paver.plot(paving))
+        raise Skipped("plots are skipped: matplotlib is not installed") from fault
+    matplotlib.use("Agg")
+    axes = paver.plot(paving, "x", "y", title="ring")
+    assert (axes.get_xlabel(), axes.get_ylabel(), axes.get_aspect()) == ("x", "y", 1.0)
+    assert paver.plot_projection(paving).get_xlabel() == "x"
 
 
 TRUTHS = {

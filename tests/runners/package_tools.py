@@ -170,6 +170,9 @@ EXPLAINED = [
     ("Variables x in [0,4]; Constraints x <= 1; end", ["--width", "1"], ["no option"]),
     ("Variables x in [0,4]; Constraints x <= 1; end", ["--eps", "1", "--eps", "2"], ["twice"]),
     ("Variables x in [0,4]; Constraints x <= 1; end", ["--bisect"], ["needs a value"]),
+    ("\ufeffVariables x in [0,4]; Constraints x <= 1; end", [], ["line 1, column 1:", "byte order mark"]),
+    ("Variables x in [0,4]; /* ä */ Constraints x <= ü; end", [], ["column 49:", f"\n{' ' * 51}^\n", "beyond ASCII"]),
+    ("Variables x in [0,4]; Constraints x <= 1; end", ["--contract", "hc4(ä)"], ["byte 4", "\n    hc4(ä)\n        ^\n"]),
 ]
 
 
@@ -300,9 +303,39 @@ def check_summary_command():
     assert status == 0 and out.splitlines()[0] == "class,x_low,x_high,y_low,y_high"
 
 
+def check_stored_commands():
+    """Of a stored file it is said whether its identity is the system's under the given settings, and what the depth left."""
+    with tempfile.TemporaryDirectory() as folder:
+        stored, kept = Path(folder) / "p", Path(folder) / "k"
+        paver.run(example("ring"), depth=8, out=stored)
+        status, out, err = command("summary", example("ring"), stored, "--depth", "8")
+        assert status == 0 and out.startswith("settled 335 ") and "--depth 12 suffices" in err and "identity" not in err
+        for system, words in (("ring", []), ("two_discs", ["--depth", "8"])):
+            status, _, err = command("summary", example(system), stored, *words)
+            assert status == 0 and "has not the identity" in err, (system, err)
+        paver.campaign(example("ring"), kept, eps=1)
+        status, out, err = command("export", kept)
+        assert (status, out, err) == (0, paver.Paving.read(kept).file_text(), "")
+
+
+def check_refused_words():
+    """What is refused of the words of a command is said in sentences."""
+    ring = example("ring")
+    for words, phrase in ((["--eps", ".5"], "an unsigned number"), (["--boxes", "0"], "from 1 to 100000"),
+                          (["--contract", "hc4(2)"], "from 0 to 1"), (["--contract", "prop(8"], "Expected here: `)`")):
+        status, out, err = command("summary", ring, *words)
+        assert (status, out) == (2, "") and phrase in err, (words, err)
+    for word in ("z", "z=", "z=one", "z=1/0"):
+        status, _, err = command("plot", example("torus"), "--picture", "none.svg", "--eps", "2", "--at", word)
+        assert status == 2 and "as --at z=0.5" in err, (word, err)
+    status, _, err = command("plot", example("torus"), "--picture", "none.svg", "--eps", "2")
+    assert status == 2 and "look at z" in err, err
+
+
 def checks():
     named = [check_random_roots, check_roots_of_puma, check_roots_of_no_square, check_roots_command, check_ibex_command,
-             check_expected, check_explained_good, check_split_texts, check_split_again, check_summary_command]
+             check_expected, check_explained_good, check_split_texts, check_split_again, check_summary_command,
+             check_stored_commands, check_refused_words]
     found = [(check.__name__[6:].replace("_", " "), check, ()) for check in named]
     found += [(f"roots: {name}", check_roots, rest) for name, *rest in ROOTS]
     found += [(f"from IBEX: {name}", check_taken, rest) for name, *rest in TAKEN]
