@@ -23,7 +23,7 @@ def run_options(parser):
 
 
 def options_of(arguments):
-    return {name: getattr(arguments, name) for name in program.OPTIONS if getattr(arguments, name, None) is not None}
+    return {name: getattr(arguments, name) for name in program.OPTIONS if getattr(arguments, name) is not None}
 
 
 def paving_of(arguments, sentences=warnings_of):
@@ -225,13 +225,10 @@ def more_commands(commands):
     gathered.add_argument("--csv", action="store_true")
 
 
-def on_refused_options(arguments, fault):
-    """The lines on refused options of a command that runs the program."""
-    options = options_of(arguments)
-    if isinstance(fault, errors.ContractRefused):
-        system = program.check(arguments.system, program=arguments.program)
-        return explain.of_refused_contract(options["contract"], fault.byte, len(system.constraints))
-    return explain.option_faults(program.option_words(options)) or [f"paver: {fault}"]
+def on_refused_contract(arguments, fault):
+    """The lines on the refused contractor text of a command that runs the program."""
+    system = program.check(arguments.system, program=arguments.program)
+    return explain.of_refused_contract(arguments.contract, fault.byte, len(system.constraints))
 
 
 def main(words=None):
@@ -247,8 +244,8 @@ def main(words=None):
         text = Path(arguments.system).read_bytes().decode("latin-1")
         print("\n".join(explain.of_refused_system(arguments.system, text, fault)), file=sys.stderr)
         return 3
-    except errors.UsageError as fault:
-        print("\n".join(on_refused_options(arguments, fault)), file=sys.stderr)
+    except errors.ContractRefused as fault:
+        print("\n".join(on_refused_contract(arguments, fault)), file=sys.stderr)
         return 2
     except BrokenPipeError:  # a reader as head ended early: nothing more can be said on standard output
         os.dup2(os.open(os.devnull, os.O_WRONLY), sys.stdout.fileno())

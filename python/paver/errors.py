@@ -12,7 +12,7 @@ class PaverError(Exception):
 
 
 class UsageError(PaverError):
-    """Status 2: the words or a value are refused."""
+    """Status 2: the words or a value are refused. Its text says which setting or budget and why, where that is known."""
 
 
 class ContractRefused(UsageError):

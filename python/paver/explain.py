@@ -8,7 +8,7 @@ from .ibex.refusals import INSTEAD
 CAUSES = {
     "BadByte": "no token begins with this byte",
     "NumberTooWide": "this number is too long: at most 37 digits, and powers of ten from -36 to 36",
-    "NotInProfile": "this word of Minibex is outside the profile, as its values are no rational numbers",
+    "NotInProfile": "this word of Minibex is outside the profile",
     "TooManyVariables": "this is a 13th variable; 12 are taken",
     "TooManyConstraints": "a 65th constraint begins here; 64 are taken: a <= 0 and b <= 0 can be one as max(a, b) <= 0",
     "TooManyFunctions": "a 65th function begins here; 64 are taken",

@@ -8,6 +8,7 @@ import tempfile
 from dataclasses import dataclass, field
 from decimal import Decimal
 from fractions import Fraction
+from itertools import takewhile
 from pathlib import Path
 
 from . import errors, numbers
@@ -119,7 +120,7 @@ def fault_of(status, line):
 
 
 def asked(words, program, timeout):
-    """The standard output and status of a call with status 0 or 1; else its exception."""
+    """The status and standard output of a call with status 0 or 1; else its exception."""
     status, out, line = call(words, program, timeout)
     if status in (0, 1):
         return status, out
@@ -129,7 +130,15 @@ def asked(words, program, timeout):
         for command in stores:
             if not has(command, program):
                 raise errors.NotInProgram(status, f"the program has no `{command}`: it is older than this package")
+        fault.args = (option_sentences(words) or line,)
     raise fault
+
+
+def option_sentences(words):
+    """What is wrong with the settings, the budget and the workers among the words of a call, in sentences."""
+    from .explain import option_faults  # which calls this module
+    options = takewhile(lambda word: word != "--", map(str, words[1:]))
+    return " ".join(option_faults([word for word in options if word[2:].split("=")[0] in OPTIONS]))
 
 
 def has(command, program=None):

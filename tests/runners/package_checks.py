@@ -115,7 +115,8 @@ def check_lines():
 
 def check_refusals():
     ring = example("ring")
-    raised(paver.UsageError, lambda: paver.run(ring, depth=0))
+    raised(paver.UsageError, lambda: paver.run(ring, depth=0), args=("`--depth 0`: a whole number from 1 to 200 is expected.",))
+    raised(paver.UsageError, lambda: paver.resume(ring, []), args=("usage: paver COMMAND SYSTEM [OPTIONS] [PAVING..]",))
     raised(paver.ContractRefused, lambda: paver.run(ring, contract="union()"), byte=6)
     raised(paver.SystemRefused, lambda: paver.check_text("Variables x in [0,4];\nConstraints x + <= 1; end"),
            row=2, column=17, byte=38, cause="Unexpected")
