@@ -18,8 +18,8 @@ def depth_of(settings):
 
 def depth_that_suffices(root, eps, bisect="largest"):
     """A depth that lets every box become as narrow as eps. For `largest` it is the sum over the variables of
-    log2(width / eps), each rounded up; for `round`, which cuts narrow places too, the greatest of these for each
-    variable. root has pairs of exact values. None where a variable has no bounded domain, or eps is 0."""
+    log2(width / eps), each rounded up; for `round`, which cuts narrow places too, the greatest of these times the
+    number of variables. root has pairs of exact values. None where a variable has no bounded domain, or eps is 0."""
     halvings = []
     if not eps:
         return None
@@ -54,7 +54,7 @@ def depth_rule(paving, eps, depth, bisect):
     if enough > depth and bisect == "largest":
         return f"--depth {enough} suffices (the sum over the variables of log2(width/eps))"
     if enough > depth:
-        return f"--depth {enough} suffices (for each variable the greatest log2(width/eps), as `round` cuts each in turn)"
+        return f"--depth {enough} suffices (the greatest log2(width/eps) times the number of variables, as `round` cuts each in turn)"
     return "by the rule the depth suffices: these boxes can't be cut further, or the rounding of cuts took one more"
 
 
