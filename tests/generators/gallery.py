@@ -47,10 +47,7 @@ def title_of(name):
 def question_of(name):
     """The comment at the head of the file without its command, quoted line by line."""
     text = (TOP / "examples" / f"{name}.mbx").read_text()
-    if text.startswith("/*"):
-        lines = text[2:text.index("*/")].strip().splitlines()
-    else:
-        lines = [line[2:] for line in takewhile(lambda line: line.startswith("//"), text.splitlines())]
+    lines = [line[2:] for line in takewhile(lambda line: line.startswith("//"), text.splitlines())]
     return "\n".join(f"> {line.strip()}  " for line in lines if "  paver " not in line)
 
 
