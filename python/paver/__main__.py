@@ -76,10 +76,10 @@ def explain_command(arguments):
     """Says in sentences what is refused, or lists the constraints by number. Status 2 where something is refused."""
     lines, good = explain.explained(arguments.system, arguments.options, arguments.program)
     print("\n".join(lines))
-    if good and arguments.groups:
+    if good and arguments.groups is not None:
         system = program.check(arguments.system, program=arguments.program)
         groups = explain.groups_of(len(system.constraints), arguments.groups)
-        agree = arguments.agree or max(1, len(groups) - 1)
+        agree = max(1, len(groups) - 1) if arguments.agree is None else arguments.agree
         print(f"at least {agree} of {len(groups)} groups of constraints:")
         print(f"  --contract '{explain.qinter_text(groups, agree)}'")
     return 0 if good else 2

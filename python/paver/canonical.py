@@ -44,6 +44,12 @@ class System:
             raise ValueError("this is no canonical text") from fault
         return cls(names, root, constraints, text)
 
+    def variable(self, name):
+        """The number of the variable of a name; ValueError where there is none."""
+        if name not in self.names:
+            raise ValueError(f"there is no variable {name!r}")
+        return self.names.index(name)
+
     def identity(self, *, eps="0.125", depth=60, bisect="largest", contract="prop(8)", centered=False):
         """The digits of the second line of a file that the program stores of this system under these settings; with
         centered of one that run-centered stores."""

@@ -97,6 +97,8 @@ def constraint_lines(system):
 
 def groups_of(count, size):
     """Constraints in order, in groups of a size; the last may be smaller."""
+    if size < 1:
+        raise ValueError(f"groups of {size} constraints: a group has at least one")
     return [list(range(k, min(k + size, count))) for k in range(0, count, size)]
 
 

@@ -43,7 +43,7 @@ def axes_of(cover, x, y, near=False):
     roots = [Box("open", paving.root) for paving in cover.roots()] if cover.boxes_known() and not near else []
     hull = hull_of(roots or cover.boxes(*KEPT))
     if hull is None:
-        raise ValueError("nothing is kept and the search box is not known")
+        raise ValueError("nothing is kept to draw" if near else "nothing is kept, and the search box is not known")
     return tuple((as_float(hull[k][0], False), as_float(hull[k][1], True)) for k in (x, y))
 
 

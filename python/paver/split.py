@@ -38,6 +38,8 @@ def width_of(pair):
 def boxes_of(root, parts, variables=None):
     """The search box in that many parts: each time the first widest part is cut in its widest place. root has pairs of
     exact values; variables are the numbers of those that may be cut, else all. ValueError where it can't be cut."""
+    if parts < 1:
+        raise ValueError(f"{parts} parts: a box has at least one")
     able = range(len(root)) if variables is None else variables
     found = [list(root)]
     while len(found) < parts:
@@ -56,14 +58,17 @@ def boxes_of(root, parts, variables=None):
 def split(system, parts, folder, *, variables=None, program=None):
     """Writes the system's text once for each part, as folder/part-000.mbx and so on, with the part's ends for domains,
     and gives their paths. variables are the names of those that may be cut. The parts cover the search box and meet in
-    faces alone. ValueError where the box can't be cut into so many parts."""
+    faces alone. ValueError where the box can't be cut into so many parts, or a name is no variable's; FileExistsError where
+    the folder has parts already, which `gather` would take for these."""
     known = check(system, program=program)
     text = Path(system).read_text(encoding="latin-1")
     root = Box("open", known.root).exact
-    able = None if variables is None else [known.names.index(name) for name in variables]
+    boxes = boxes_of(root, parts, None if variables is None else [known.variable(name) for name in variables])
     folder, paths = Path(folder), []
+    if any(folder.glob("part-*.mbx")):
+        raise FileExistsError(f"{folder} has parts already: name another folder, or take them away")
     folder.mkdir(parents=True, exist_ok=True)
-    for number, box in enumerate(boxes_of(root, parts, able)):
+    for number, box in enumerate(boxes):
         moved = {}
         for name, old, new in zip(known.names, root, box):
             sides = tuple(None if a == b else minibex(b) for a, b in zip(old, new))
@@ -77,11 +82,13 @@ def split(system, parts, folder, *, variables=None, program=None):
 
 def gather(folder, *, program=None):
     """The answers to a folder's parts as one: reads beside each part-NNN.mbx the file part-NNN.paving that --out
-    stored, or the printed text part-NNN.txt. FileNotFoundError names a part without an answer."""
+    stored, or the printed text part-NNN.txt. FileNotFoundError names a part without an answer, or a folder without parts."""
     found = []
     for path in sorted(Path(folder).glob("part-*.mbx")):
         answers = [path.with_suffix(end) for end in (".paving", ".txt") if path.with_suffix(end).exists()]
         if not answers:
             raise FileNotFoundError(f"no answer to {path}: neither .paving nor .txt")
         found.append(Paving.read(answers[0], system=path, program=program))
+    if not found:
+        raise FileNotFoundError(f"{folder} has no part-NNN.mbx")
     return Parts(found)

@@ -229,6 +229,8 @@ def check_explained_good():
     assert f"--contract '{text}'" in out
     assert paver.run(example("localisation"), eps="0.0625", contract=text).summary["inner"] == 15
     raised(ValueError, lambda: explain.qinter_text([[0], [1]], 3))
+    for words in (("--groups", "0"), ("--groups", "-1"), ("--groups", "2", "--agree", "0"), ("--groups", "2", "--agree", "6")):
+        assert command("explain", example("localisation"), *words)[0] == 2, words
 
 
 # ---- split and gather
@@ -293,6 +295,11 @@ def check_split_again():
         volumes = [paver.Box("open", paver.check(path).root).volume for path in (first, *second)]
         assert volumes[0] == volumes[1] + volumes[2]
         raised(ValueError, lambda: paver.split(example("ring"), 2, folder, variables=[]))
+        raised(ValueError, lambda: paver.split(example("ring"), 2, folder, variables=["z"]), args=("there is no variable 'z'",))
+        raised(ValueError, lambda: paver.split(example("ring"), 0, folder))
+        raised(FileNotFoundError, lambda: paver.gather(folder))
+        raised(FileExistsError, lambda: paver.split(example("ring"), 2, Path(folder) / "a"))
+        assert len(list((Path(folder) / "a").iterdir())) == 3
 
 
 def check_summary_command():
