@@ -15,15 +15,16 @@ from .picture import svg
 from .plots import drawing, plot, plot_projection
 from .roots import ONE, TESTED, NotSquare, find_roots
 from .split import gather, split
+from .values import least
 
 
-def run_options(parser):
-    for name in program.OPTIONS:
+def run_options(parser, names=program.OPTIONS):
+    for name in names:
         parser.add_argument(f"--{name}", help=f"as the program's --{name}")
 
 
 def options_of(arguments):
-    return {name: getattr(arguments, name) for name in program.OPTIONS if getattr(arguments, name) is not None}
+    return {name: getattr(arguments, name) for name in program.OPTIONS if getattr(arguments, name, None) is not None}
 
 
 def paving_of(arguments, sentences=warnings_of):
@@ -83,6 +84,20 @@ def explain_command(arguments):
         print(f"at least {agree} of {len(groups)} groups of constraints:")
         print(f"  --contract '{explain.qinter_text(groups, agree)}'")
     return 0 if good else 2
+
+
+def least_command(arguments):
+    """Prints the bounds of an expression's least value as floats that are rounded outward, and the point as exact fractions.
+    Status 1 where the budget ended the search."""
+    names = program.check(arguments.system, program=arguments.program).names
+    found = least(arguments.system, arguments.of, program=arguments.program, **options_of(arguments))
+    print(f"lower {as_float(found.lower, False)!r}")
+    print("upper none" if found.point is None else f"upper {as_float(found.upper, True)!r}")
+    for name, value in zip(names, found.point or ()):
+        print(f"  {name} = {value}" + ("" if value.denominator == 1 else f", about {float(value):.9g}"))
+    if not found.complete:
+        report(["the budget ended the search: the bounds hold all the same; more --boxes may bring them closer"])
+    return found.status
 
 
 def summary(arguments):
@@ -208,6 +223,10 @@ def more_commands(commands):
 
     add("from-ibex", from_ibex).add_argument("file")
     add("export", export).add_argument("paving", help="the database of a campaign, or a stored paving")
+    bounded = add("least", least_command)
+    bounded.add_argument("system")
+    bounded.add_argument("--of", required=True, help="the expression, over the variables")
+    run_options(bounded, (*program.SETTINGS, "boxes"))
     explained = add("explain", explain_command)
     explained.usage = "%(prog)s SYSTEM [--groups N [--agree N]] [OPTIONS]"
     explained.epilog = "OPTIONS, behind SYSTEM, are those of the program's run: what is refused of them is told too."
@@ -246,6 +265,9 @@ def main(words=None):
         return 3
     except errors.ContractRefused as fault:
         print("\n".join(on_refused_contract(arguments, fault)), file=sys.stderr)
+        return 2
+    except errors.ObjectiveRefused as fault:
+        print("\n".join(explain.of_refused_objective(arguments.of, fault)), file=sys.stderr)
         return 2
     except BrokenPipeError:  # a reader as head ended early: nothing more can be said on standard output
         os.dup2(os.open(os.devnull, os.O_WRONLY), sys.stdout.fileno())

@@ -35,6 +35,11 @@ def shown(part):
     return part.encode("latin-1").decode("utf-8", "replace")
 
 
+def single_bytes(word):
+    """A word of the command line as a text of single-byte characters."""
+    return word.encode("utf-8", "surrogateescape").decode("latin-1")
+
+
 def caret(text, byte):
     """The line of a byte and a caret under it; a tab stays a tab, so that the caret stands right."""
     start = text.rfind("\n", 0, byte) + 1
@@ -78,7 +83,7 @@ def of_refused_system(name, text, fault):
 
 def of_refused_contract(text, byte, constraints):
     """The lines on a refused contractor text."""
-    text = text.encode("utf-8", "surrogateescape").decode("latin-1")
+    text = single_bytes(text)
     lines = [f"--contract: refused at byte {byte}.", caret(text, byte)]
     if len(text) > 4096:
         return [*lines, "A contractor text has at most 4,096 bytes."]
@@ -87,6 +92,14 @@ def of_refused_contract(text, byte, constraints):
         lines.append(f"Expected here: {alternatives(found)}.")
     if any(c in " \t\r\n" for c in text):
         lines.append("A contractor text has no blanks.")
+    return lines
+
+
+def of_refused_objective(text, fault):
+    """The lines on a refused expression of least."""
+    lines = [f"--of: {CAUSES.get(fault.cause, fault.cause)} ({fault.cause}).", caret(single_bytes(text), fault.byte)]
+    if fault.cause == "UnknownName":
+        lines.append("The expression names the variables of the system, and not its constants and functions.")
     return lines
 
 

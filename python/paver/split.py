@@ -81,13 +81,14 @@ def split(system, parts, folder, *, variables=None, program=None):
 
 
 def gather(folder, *, program=None):
-    """The answers to a folder's parts as one: reads beside each part-NNN.mbx the file part-NNN.paving that --out
-    stored, or the printed text part-NNN.txt. FileNotFoundError names a part without an answer, or a folder without parts."""
+    """The answers to a folder's parts as one: reads beside each part-NNN.mbx the file part-NNN.paving that --out stored, the
+    printed text part-NNN.txt, or the database part-NNN.db of a campaign. FileNotFoundError names a part without an answer,
+    or a folder without parts."""
     found = []
     for path in sorted(Path(folder).glob("part-*.mbx")):
-        answers = [path.with_suffix(end) for end in (".paving", ".txt") if path.with_suffix(end).exists()]
+        answers = [path.with_suffix(end) for end in (".paving", ".txt", ".db") if path.with_suffix(end).exists()]
         if not answers:
-            raise FileNotFoundError(f"no answer to {path}: neither .paving nor .txt")
+            raise FileNotFoundError(f"no answer to {path}: none of .paving, .txt and .db")
         found.append(Paving.read(answers[0], system=path, program=program))
     if not found:
         raise FileNotFoundError(f"{folder} has no part-NNN.mbx")

@@ -302,6 +302,33 @@ def check_split_again():
         assert len(list((Path(folder) / "a").iterdir())) == 3
 
 
+def check_gathered_kinds():
+    """Answers to parts may be stored, printed or kept by a campaign."""
+    with tempfile.TemporaryDirectory() as folder:
+        stored, printed, kept = paver.split(example("ring"), 3, folder)
+        paver.run(stored, out=stored.with_suffix(".paving"))
+        printed.with_suffix(".txt").write_text(paver.run(printed).text)
+        paver.campaign(kept, kept.with_suffix(".db"))
+        whole = paver.gather(folder)
+        assert sum(whole.volumes().values()) == 36 and whole.counts()["open"] == 0 < whole.counts()["inner"]
+
+
+def check_least_command():
+    """The bounds in decimal lie outside the program's, and the point is exact; a refused expression is shown."""
+    system, words = example("least_derivative_gain"), ["--of", "kd", "--eps", "0.125"]
+    found = paver.least(system, "kd", eps="0.125")
+    status, out, err = command("least", system, *words)
+    lower, upper = (Fraction(float(re.search(rf"^{word} (.*)$", out, re.M).group(1))) for word in ("lower", "upper"))
+    assert status == 0 and err == "" and lower <= found.lower < found.upper <= upper and upper - lower < 1
+    point = re.findall(r"^  (\w+) = ([^,\n]*)", out, re.M)
+    assert point == [(name, str(value)) for name, value in zip(("kp", "ki", "kd"), found.point)]
+    status, out, err = command("least", system, *words, "--boxes", "1")
+    assert status == 1 and "upper none\n" in out and "the budget ended the search" in err
+    for of, phrase in (("kd+q", "names the variables"), ("sqrt(kd)", "NotInProfile"), ("kd +", "\n    kd +\n        ^")):
+        status, out, err = command("least", system, "--of", of)
+        assert (status, out) == (2, "") and phrase in err, (of, err)
+
+
 def check_summary_command():
     status, out, err = command("summary", example("ring"), "--depth", "8")
     assert status == 0 and out.startswith("settled 335 ") and "clusters 1\n" in out
@@ -342,7 +369,7 @@ def check_refused_words():
 def checks():
     named = [check_random_roots, check_roots_of_puma, check_roots_of_no_square, check_roots_command, check_ibex_command,
              check_expected, check_explained_good, check_split_texts, check_split_again, check_summary_command,
-             check_stored_commands, check_refused_words]
+             check_gathered_kinds, check_least_command, check_stored_commands, check_refused_words]
     found = [(check.__name__[6:].replace("_", " "), check, ()) for check in named]
     found += [(f"roots: {name}", check_roots, rest) for name, *rest in ROOTS]
     found += [(f"from IBEX: {name}", check_taken, rest) for name, *rest in TAKEN]
