@@ -200,7 +200,8 @@ def parser():
         command = commands.add_parser(name, help=work.__doc__, description=work.__doc__)
         command.set_defaults(work=work)
         command.add_argument("system")
-        command.add_argument("paving", nargs="?", help="a stored paving, printed text or a campaign's database; else the system is run")
+        command.add_argument("paving", nargs="?",
+                             help="a stored paving, printed text or a campaign's database; else the system is run")
         run_options(command)
     commands.choices["csv"].add_argument("--exactly", action="store_true", help="fractions in place of floats")
     drawn = commands.choices["plot"]

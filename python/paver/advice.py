@@ -54,7 +54,8 @@ def depth_rule(paving, eps, depth, bisect):
     if enough > depth and bisect == "largest":
         return f"--depth {enough} suffices (the sum over the variables of log2(width/eps))"
     if enough > depth:
-        return f"--depth {enough} suffices (the greatest log2(width/eps) times the number of variables, as `round` cuts each in turn)"
+        return (f"--depth {enough} suffices (the greatest log2(width/eps) times the number of variables, as `round` cuts each "
+                "in turn)")
     return "by the rule the depth suffices: these boxes can't be cut further, or the rounding of cuts took one more"
 
 
@@ -70,8 +71,8 @@ WAYS = {
     "resume": f"{MORE}, {STORED}",
     "merge": STORED,
     "run-centered": f"{MORE}, or take a larger eps",
-    "campaign": "call `paver campaign` again with the same --keep and settings (the settled nodes and --rounds times --boxes may "
-                f"come to {MOST_BOXES} at most), or begin another with a larger eps",
+    "campaign": "call `paver campaign` again with the same --keep and settings (the settled nodes and --rounds times --boxes "
+                f"may come to {MOST_BOXES} at most), or begin another with a larger eps",
 }
 FULL = f"a paving has at most {MOST_BOXES} settled nodes: split the box (`python3 -m paver split`), or take a larger eps"
 

@@ -192,8 +192,8 @@ def explained(name, words, path=None):
         return [f"there is no file {name}."], False
     except errors.ReadFault:
         return [f"the file {name} could not be read: is it a folder, or not yours to read?"], False
-    lines = [f"{name}: {counted(len(system.names), 'variable')}, {counted(len(system.constraints), 'constraint')}; it is taken.",
-             *constraint_lines(system)]
+    counts = f"{counted(len(system.names), 'variable')}, {counted(len(system.constraints), 'constraint')}"
+    lines = [f"{name}: {counts}; it is taken.", *constraint_lines(system)]
     faults = option_faults(words)
     if faults:
         return [*lines, *faults], False

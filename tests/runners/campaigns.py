@@ -138,8 +138,9 @@ def rounds_are_kept(f):
 def tables_are_strict(f):
     f.run(1, ONE_SUMMARY)
     connection = sqlite3.connect(f.path / "k")
-    for insert in ("INSERT INTO head VALUES (2, 'text')", "INSERT INTO head VALUES (2, 3)", "INSERT INTO node VALUES (x'30', 'X')",
-                   "INSERT INTO node VALUES ('0', x'58')", "INSERT INTO node VALUES (NULL, 'X')"):
+    for insert in ("INSERT INTO head VALUES (2, 'text')", "INSERT INTO head VALUES (2, 3)",
+                   "INSERT INTO node VALUES (x'30', 'X')", "INSERT INTO node VALUES ('0', x'58')",
+                   "INSERT INTO node VALUES (NULL, 'X')"):
         try:
             connection.execute(insert)
             f.faults.append(f"{insert} was taken")
@@ -175,7 +176,8 @@ def words_are_judged(f):
 
 def databases_of_stock_sqlite(f):
     identity = identity_of()
-    for count, pragmas in ((0, ""), (1, "PRAGMA journal_mode = WAL;"), (2, "PRAGMA page_size = 512;"), (4, "PRAGMA page_size = 65536;"),
+    for count, pragmas in ((0, ""), (1, "PRAGMA journal_mode = WAL;"), (2, "PRAGMA page_size = 512;"),
+                           (4, "PRAGMA page_size = 65536;"),
                            (5, "PRAGMA page_size = 1024; PRAGMA journal_mode = TRUNCATE;")):
         name = f"stock{count}"
         make(f.path / name, random.Random(count).sample(ROWS[:count], count), identity, pragmas)
@@ -191,7 +193,8 @@ def kept_rows_are_refused(f):
     make(f.path / "other", ROWS, identity_of(eps=Fraction(1, 2)))
     f.refused("other", 4, b"paving other: wrong identity\n")
     bad = [("skips", [ROWS[0], ROWS[2]], 1), ("no cut", [("0", "X")], 0), ("wide", [ROWS[0], ("0", "I 0:0 1:0")], 1),
-           ("behind", [*ROWS, ("10", "X")], 5), ("spelt", [("", "C 0 1:-1 0:0 2:-1")], 0), ("line", [*ROWS[:4], ("1", "X\n")], 4)]
+           ("behind", [*ROWS, ("10", "X")], 5), ("spelt", [("", "C 0 1:-1 0:0 2:-1")], 0),
+           ("line", [*ROWS[:4], ("1", "X\n")], 4)]
     for name, rows, row in bad:
         make(f.path / name, rows, identity)
         f.refused(name, 4, f"paving {name}: bad row {row}\n".encode())
@@ -211,7 +214,8 @@ def databases_that_hold_no_campaign(f):
     for length in (0, 31, 33):
         make(f.path / f"short{length}", ROWS, bytes(length))
         f.refused(f"short{length}")
-    for name, sql in (("foreign", "CREATE TABLE note (id INTEGER PRIMARY KEY, text TEXT);"), ("view", "CREATE VIEW one AS SELECT 1;"),
+    for name, sql in (("foreign", "CREATE TABLE note (id INTEGER PRIMARY KEY, text TEXT);"),
+                      ("view", "CREATE VIEW one AS SELECT 1;"),
                       ("columns", "CREATE TABLE head (a TEXT, b TEXT);")):
         sqlite3.connect(f.path / name).executescript(sql).connection.close()
         f.refused(name)
@@ -227,7 +231,8 @@ def databases_that_hold_no_campaign(f):
 def databases_cut_short(f):
     f.run(0, WHOLE_SUMMARY, boxes=5)
     whole = f.get("k")
-    for length in sorted({1, 15, 16, 100, 511, 512, 4095, 4096, 4097, len(whole) - 1} | {f.source.randrange(2, len(whole)) for _ in range(10)}):
+    drawn = {f.source.randrange(2, len(whole)) for _ in range(10)}
+    for length in sorted({1, 15, 16, 100, 511, 512, 4095, 4096, 4097, len(whole) - 1} | drawn):
         (f.path / "k-wal").unlink(missing_ok=True)
         f.put("k", whole[:length])
         if length > 1:
@@ -242,7 +247,8 @@ def locked_databases(f):
     f.run(1, ONE_SUMMARY)
     holds = "import sqlite3, sys; c = sqlite3.connect('k', isolation_level=None); c.execute(sys.argv[1]); print(); input()"
     for lock in ("BEGIN EXCLUSIVE", "BEGIN IMMEDIATE"):
-        holder = subprocess.Popen([sys.executable, "-c", holds, lock], cwd=f.path, stdin=subprocess.PIPE, stdout=subprocess.PIPE)
+        holder = subprocess.Popen([sys.executable, "-c", holds, lock], cwd=f.path, stdin=subprocess.PIPE,
+                                  stdout=subprocess.PIPE)
         holder.stdout.readline()
         f.refused()
         holder.communicate(b"\n")
@@ -274,7 +280,8 @@ def folders_that_may_not_be_written(f):
         folder.put("s", RECIPROCAL)
         os.chmod(folder.path, 0o555)
         before = folder.contents()
-        given = answered(folder.paver, folder.path, "campaign", "s", "--keep=k", *QUARTER, **({"user": NOBODY} if os.geteuid() == 0 else {}))
+        nobody = {"user": NOBODY} if os.geteuid() == 0 else {}
+        given = answered(folder.paver, folder.path, "campaign", "s", "--keep=k", *QUARTER, **nobody)
         os.chmod(folder.path, 0o755)
         if given != (10, b"", FAULT) or folder.contents() != before:
             f.faults.append(f"in a folder that may not be written: {given}")
@@ -298,7 +305,8 @@ def full_disks(f):
         f.faults.append("no campaign came to its end")
     disk = f.path / "disk"
     disk.mkdir()
-    if subprocess.run(["mount", "-t", "tmpfs", "-o", "size=64k", "none", str(disk)], capture_output=True, check=False).returncode:
+    mount = ["mount", "-t", "tmpfs", "-o", "size=64k", "none", str(disk)]
+    if subprocess.run(mount, capture_output=True, check=False).returncode:
         return
     try:
         f.run(10, b"", b"keeper fault: disk/k\n", name="disk/k")
@@ -363,9 +371,9 @@ def little_memory(f):
             f.faults.append(f"{workers} workers: right {right} times alone")
 
 
-CHECKS = [rounds_are_kept, tables_are_strict, names_are_those_of_files, words_are_judged, databases_of_stock_sqlite, kept_rows_are_refused,
-          databases_that_hold_no_campaign, databases_cut_short, locked_databases, one_campaign_at_a_time,
-          folders_that_may_not_be_written, full_disks, little_memory, killed_campaigns]
+CHECKS = [rounds_are_kept, tables_are_strict, names_are_those_of_files, words_are_judged, databases_of_stock_sqlite,
+          kept_rows_are_refused, databases_that_hold_no_campaign, databases_cut_short, locked_databases,
+          one_campaign_at_a_time, folders_that_may_not_be_written, full_disks, little_memory, killed_campaigns]
 
 
 if __name__ == "__main__":

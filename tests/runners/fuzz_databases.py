@@ -23,11 +23,13 @@ from reference import files
 
 TWO = system("x in [0,1], y in [-1,2]", "x*y <= 0.5; x + y >= 0")
 FAULT = (10, b"", LINE)
-LINES = ["X", "O", "", "C", "X ", "I 0:0 1:0", "S 0:0 1:-2", "C 0 1:-1 0:0 1:0", "C 1 1:-1 0:0 1:0", "I 1:0 0:0", "é", "X" * 660, "X" * 661]
+LINES = ["X", "O", "", "C", "X ", "I 0:0 1:0", "S 0:0 1:-2", "C 0 1:-1 0:0 1:0", "C 1 1:-1 0:0 1:0", "I 1:0 0:0", "é",
+         "X" * 660, "X" * 661]
 LOOSE = TABLES.replace(") STRICT", ")")
 OTHERS = [TABLES.replace("TEXT PRIMARY KEY", "BLOB PRIMARY KEY"), TABLES.replace("path TEXT PRIMARY KEY NOT NULL", "path TEXT"),
-          TABLES.replace("line TEXT", "line BLOB"), TABLES.replace("identity BLOB", "identity TEXT"), TABLES.replace("path", "place"),
-          TABLES.replace("head", "top"), TABLES.replace("node", "leaf"), "CREATE TABLE head (a); CREATE TABLE node (b);",
+          TABLES.replace("line TEXT", "line BLOB"), TABLES.replace("identity BLOB", "identity TEXT"),
+          TABLES.replace("path", "place"), TABLES.replace("head", "top"), TABLES.replace("node", "leaf"),
+          "CREATE TABLE head (a); CREATE TABLE node (b);",
           "CREATE VIEW head AS SELECT 1 AS id, zeroblob(32) AS identity; CREATE TABLE node (path TEXT, line TEXT);"]
 
 
@@ -150,7 +152,8 @@ class Fuzz(Folder):
             self.judge((True, identity, sorted(rows)), stock(self.path, "k"), title)
 
     def tables(self):
-        """Tables of another form: they are gone on with as they are, or are a fault, and stay as they are but for an identity."""
+        """Tables of another form: they are gone on with as they are, or are a fault, and stay as they are but for an
+        identity."""
         model, tables = self.source.choice(self.models), self.source.choice(OTHERS)
         connection = sqlite3.connect(self.path / "k", isolation_level=None)
         connection.executescript(tables)
@@ -181,7 +184,8 @@ class Fuzz(Folder):
             data[self.source.randrange(min(100, len(data)))] ^= 1 << self.source.randrange(8)
         else:
             name = self.source.choice(["k-wal", "k-journal"])
-            self.put(name, self.source.choice([b"", self.source.randbytes(600), b"\x37\x7f\x06\x82" + self.source.randbytes(5000),
+            self.put(name, self.source.choice([b"", self.source.randbytes(600),
+                                               b"\x37\x7f\x06\x82" + self.source.randbytes(5000),
                                                bytes.fromhex("d9d505f920a163d7") + self.source.randbytes(600)]))
         self.put("k", data)
         got, title = self.run(model), f"damage {kind}"

@@ -114,7 +114,8 @@ def stopped_and_continued(f):
 STARVED = [(words, None) for words in PRINTING] + [
     (["run", "s", "--eps", "0.03125", "--out", "new"], "new"), (["run", "s", "--workers", "4", "--out", "new"], "new"),
     (["run-centered", "s", "--workers", "4", "--out", "new"], "new"),
-    (["resume", "s", "part", "--workers", "4", "--out", "new"], "new"), (["merge", "s", "part", "p", "--out", "new"], "new"), (["check", "bad"], None), (["audit", "s", "bad"], None),
+    (["resume", "s", "part", "--workers", "4", "--out", "new"], "new"),
+    (["merge", "s", "part", "p", "--out", "new"], "new"), (["check", "bad"], None), (["audit", "s", "bad"], None),
     (["run", "no"], None), (["run", "s", "--eps"], None)]
 
 

@@ -249,8 +249,8 @@ def no_words(f):
     f.refused([b"\xff\xfe"], 2, USAGE)
 
 
-CHECKS = [closed_streams, full_and_broken_streams, campaigns_on_bad_streams, reader_that_leaves, slow_reader, files_without_an_end, growing_file,
-          growing_system, text_from_a_pipe, odd_names, links_and_devices, no_words]
+CHECKS = [closed_streams, full_and_broken_streams, campaigns_on_bad_streams, reader_that_leaves, slow_reader,
+          files_without_an_end, growing_file, growing_system, text_from_a_pipe, odd_names, links_and_devices, no_words]
 
 
 if __name__ == "__main__":

@@ -359,7 +359,8 @@ def check_kept_rows():
     with tempfile.TemporaryDirectory() as folder:
         name = Path(folder) / "k"
         connection = sqlite3.connect(name)
-        connection.executescript("CREATE TABLE head (id INTEGER PRIMARY KEY, identity BLOB); CREATE TABLE node (path TEXT, line TEXT);")
+        connection.executescript("CREATE TABLE head (id INTEGER PRIMARY KEY, identity BLOB);"
+                                 "CREATE TABLE node (path TEXT, line TEXT);")
         raised(paver.PavingError, lambda: paver.Paving.read(name), cause="no identity")
         connection.execute("INSERT INTO head VALUES (1, ?)", [bytes(32)])
         connection.executemany("INSERT INTO node VALUES (?, ?)", [("", "C 0 1:-1 0:0 1:0"), ("1", "X")])
@@ -377,9 +378,10 @@ def check_kept_rows():
 
 def checks():
     expected = dict(line.split(" ", 2)[:2] for line in EXPECTED.read_text().splitlines())
-    named = [check_numbers, check_minibex_numbers, check_lines, check_refusals, check_answers, check_ways_to_go_on, check_depths,
-             check_canonical, check_missing, check_stored, check_resumed, check_merged, check_audited, check_centered, check_drawn,
-             check_sampled, check_least, check_campaigns, check_identities, check_exported, check_kept_rows]
+    named = [check_numbers, check_minibex_numbers, check_lines, check_refusals, check_answers, check_ways_to_go_on,
+             check_depths, check_canonical, check_missing, check_stored, check_resumed, check_merged, check_audited,
+             check_centered, check_drawn, check_sampled, check_least, check_campaigns, check_identities, check_exported,
+             check_kept_rows]
     found = [(check.__name__[6:].replace("_", " "), check, ()) for check in named]
     return found + [(f"the reference's text of {name}", check_digest, (name, words, expected[name]))
                     for name, words in EXAMPLES]

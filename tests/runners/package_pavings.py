@@ -402,5 +402,6 @@ def checks():
             found.append((f"{check.__name__[6:]} of {name}", check, (name, words)))
         if name in TRUTHS:
             found.append((f"known points of {name}", check_truth, (name, words)))
-    more = [check_long_text, check_bad_texts, check_mutated_files, check_open_leaf, check_plots, check_half_lines, check_no_outlier]
+    more = [check_long_text, check_bad_texts, check_mutated_files, check_open_leaf, check_plots, check_half_lines,
+            check_no_outlier]
     return found + [(check.__name__[6:].replace("_", " "), check, ()) for check in more]
