@@ -14,7 +14,8 @@ class Call:
         self.settler = (CenteredSettler if centered else Settler)(system, **settings)
         depth, bisector = self.settler.depth, self.settler.bisector
         contract = settings.get("contract", "prop(8)")
-        text = f"eps {spelling(self.settler.eps)}\ndepth {depth}\nbisect {bisector}\ncontract {contract}\n" + ("centered\n" if centered else "")
+        form = "centered\n" if centered else ""
+        text = f"eps {spelling(self.settler.eps)}\ndepth {depth}\nbisect {bisector}\ncontract {contract}\n{form}"
         self.identity = hashlib.sha256(canonical + text.encode()).hexdigest()
 
     def write(self, tree, version=2):

@@ -281,6 +281,7 @@ def check_sampled():
     lines = paver.sample(1, 2).splitlines()
     assert lines[0] == "sample seed 1 count 2" and len(lines) == 3
     assert lines[1] == "settled 911 cut 455 removed 0 inner 256 small 200 open 0"
+    assert f"`{lines[2]}`" in (EXAMPLE_FOLDER.parent / "README.md").read_text()
     try:
         paver.sample(1, 17)
     except paver.UsageError as fault:
