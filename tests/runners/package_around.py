@@ -1,4 +1,5 @@
-"""Checks of what lies around the program: the man page, completions, installing, and the package for pip."""
+"""Checks of what lies around the program: README's commands, links of documents, the man page, completions, installing,
+and the package for pip."""
 import os
 import pty
 import re
@@ -216,7 +217,52 @@ def check_vim():
         assert result.read_text().strip().endswith("below/bad.mbx', 3, 7, 'Unexpected']]"), result.read_text()
 
 
+def commands_of(text):
+    """Of each command that a document shows behind `$` its words, the status in its comment, and the lines shown below it."""
+    for block in re.findall(r"^```\n(.*?)^```", text, re.M | re.S):
+        found = []
+        for line in block.splitlines():
+            words, _, comment = line.partition("   #")
+            if line.startswith("$ "):
+                found.append((words[2:].strip(), re.findall(r"status (\d+)", comment), []))
+            elif found:
+                found[-1][2].append(words.strip())
+        yield from found
+
+
+def check_readme():
+    """README's commands end with the statuses that it tells, and print the lines that it shows."""
+    shown = [command for command in commands_of((TOP / "README.md").read_text()) if command[0].startswith("./paver ")]
+    assert len(shown) > 10, shown
+    with tempfile.TemporaryDirectory() as folder:
+        for name, to in (("paver", os.environ["PAVER"]), ("examples", TOP / "examples")):
+            (Path(folder) / name).symlink_to(to)
+        for words, status, lines in shown:
+            if lines[:1] == ["^C"]:
+                continue
+            done = subprocess.run(["bash", "-c", words], cwd=folder, capture_output=True, text=True, timeout=300, check=False)
+            assert status in ([], [str(done.returncode)]), (words, done.returncode)
+            assert not lines or done.stdout.splitlines() == lines, (words, done.stdout[:500])
+
+
+def anchors_of(text):
+    """The anchors that the headings of a document have."""
+    return {re.sub(r"[^\w -]", "", heading.lower()).replace(" ", "-") for heading in re.findall(r"^#+ (.*)$", text, re.M)}
+
+
+def check_links():
+    """Each link of a document goes to a file or a folder, and to a heading where it names one."""
+    count = 0
+    for document in [TOP / "README.md", TOP / "python" / "README.md", *(TOP / "docs").glob("*.md")]:
+        for link in re.findall(r"\]\((?!https?:)([^)]+)\)", document.read_text()):
+            name, _, heading = link.partition("#")
+            target = document.parent / name if name else document
+            assert target.exists() and (not heading or heading in anchors_of(target.read_text())), (document, link)
+            count += 1
+    assert count > 200, count
+
+
 def checks():
-    named = [check_man_page, check_man_page_by_groff, check_completions, check_words_of_completions, check_fish, check_zsh,
-             check_octave, check_install, check_pip, check_vim]
+    named = [check_readme, check_links, check_man_page, check_man_page_by_groff, check_completions,
+             check_words_of_completions, check_fish, check_zsh, check_octave, check_install, check_pip, check_vim]
     return [(check.__name__[6:].replace("_", " "), check, ()) for check in named]
