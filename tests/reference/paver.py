@@ -3,7 +3,7 @@ import re
 from fractions import Fraction
 
 from . import intervals as iv
-from .numbers import DOWN, UP, NEG_INF, POS_INF, UNIT, from_fraction, is_finite, middle, spelling, sub
+from .numbers import DOWN, UP, from_fraction, middle, spelling, sub
 
 
 def bound(value, side):
