@@ -148,4 +148,5 @@ def minibex(value):
 
 def wide(value):
     """An exact value in few digits for people: it is not exact."""
-    return f"{as_float(value, True):.6g}"
+    shown = as_float(value, True)
+    return "over 1e308" if shown == math.inf != value else f"{shown:.6g}"

@@ -5,6 +5,15 @@ be written its line and a word of the form.
 """
 
 TAKEN = [
+    ("bounds beyond the numbers of the profile", """
+variables
+  x in [-1e50, 1e40], y in [1e40, 2e40];
+constraints
+  x <= 1;
+  y >= x;
+end
+""", """Variables x in [-oo,oo], y in [9999999999999999999999999999999999999,oo];
+Constraints x <= 1; y >= x; end"""),
     ("a vector and a loop", """
 variables
   x[3] in [-10, 10];
@@ -255,6 +264,14 @@ constraints
   heaviside(x) >= 0;
 end
 """, [(4, "sign"), (5, "floor"), (6, "heaviside")]),
+    ("what is too large", f"""variables
+  x in [0, 1], y[100000000] in [0, 1]; z in [0, 1e12345];
+constraints
+  x <= 1e400;
+  x^1e350 <= 1;
+  x >= 0.{'1' * 2000};
+end
+""", [(2, "number 1e12345"), (2, "entries"), (4, "over 1e308"), (5, "exponent over"), (6, "number 0.11")]),
     ("a form that is no Minibex", """variables
   x in [-1, 1];
 constraints

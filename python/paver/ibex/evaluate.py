@@ -3,6 +3,7 @@ import math
 from fractions import Fraction
 
 from .. import minibex as profile
+from ..numbers import wide
 from . import terms
 from .refusals import INSTEAD, Refusal, refused_word
 from .terms import Array, scalar
@@ -10,6 +11,7 @@ from .terms import Array, scalar
 ARGUMENTS = {"abs": 1, "sqr": 1}
 MOST_PARAMETERS = 12
 MOST_TURNS = 10000  # of one loop or sum, and of a power
+MOST_ENTRIES = 10000  # of one array
 
 
 class IntervalConstant:
@@ -156,7 +158,7 @@ class Evaluator:
     def power(self, e):
         base, n = self.scalar(e[2]), self.number_of_exponent(e)
         if abs(n) > MOST_TURNS:
-            raise Refusal(e[1], f"the exponent {float(n):g}", f"one up to {MOST_TURNS}")
+            raise Refusal(e[1], f"the exponent {wide(n)}", f"one up to {MOST_TURNS}")
         if n.denominator != 1:
             raise Refusal(e[1], f"the exponent {n}, which is no whole number", INSTEAD["root"])
         return scalar(terms.raised(base, int(n)))
@@ -305,4 +307,6 @@ def shape_of(evaluator, dims):
     sizes = [evaluator.whole(e) for e in dims]
     if len(sizes) > 2 or any(size < 1 for size in sizes):
         raise Refusal(dims[0][1], "an array of that shape", "one or two indices, each at least 1")
+    if math.prod(sizes) > MOST_ENTRIES:
+        raise Refusal(dims[0][1], "an array of so many entries", f"at most {MOST_ENTRIES}, of which 12 variables")
     return (sizes + [1, 1])[0], (sizes + [1, 1])[1]

@@ -16,6 +16,7 @@ TOKEN = re.compile(
     r"|(?P<number>(?:[0-9]+(?:\.[0-9]*)?|\.[0-9]+)(?:[eE][+-]?[0-9]+)?)|(?P<sign><=|>=|!=|<>|:=|[<>=+*/^()\[\],;:'{}-])"
     r"|(?P<bad>.)", re.S)
 BLOCKS = {"constants", "variables", "constraints", "function", "return", "end", "minimize", "maximize"}
+MOST_DIGITS = 1000  # of a number, with its exponent
 RELATIONS = ("=", "<=", ">=", "<", ">")
 
 
@@ -34,6 +35,15 @@ def tokens(text):
         line += match.group().count("\n")
         at = match.end()
     return found + [Token("end", "the end of the text", line)]
+
+
+def exact_value(token):
+    """The exact value of a number; Refusal where it is so long that it would take room and time and be refused all the same."""
+    exponent = token.text.lower().partition("e")[2].lstrip("+-0")
+    if len(token.text) > MOST_DIGITS or len(exponent) > 3:
+        shown = token.text if len(token.text) <= 20 else f"{token.text[:20]}.."
+        raise Refusal(token.line, f"the number {shown}", "at most 37 digits, and powers of ten from -36 to 36")
+    return Fraction(token.text)
 
 
 class File:
@@ -279,7 +289,7 @@ class Reader:
     def primary(self):
         token = self.token
         if token.kind == "number":
-            return ("number", token.line, Fraction(self.step().text))
+            return ("number", token.line, exact_value(self.step()))
         if self.meets("("):
             return self.group()
         if self.meets("["):

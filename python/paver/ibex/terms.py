@@ -5,7 +5,7 @@ A term is ("number", Fraction), ("constant", name, Fraction), ("name", name), ("
 """
 from fractions import Fraction
 
-from ..numbers import minibex
+from ..numbers import minibex, wide
 from .refusals import Refusal
 
 MOST_POWER = 32
@@ -84,7 +84,7 @@ def number_text(value, line):
         return text, 5 if value >= 0 else 3
     parts = [minibex(part) for part in (value.numerator, value.denominator)]
     if None in parts:
-        raise Refusal(line, f"the number {float(value):.6g}, which has more than 37 digits", "round it")
+        raise Refusal(line, f"the number {wide(value)}, which has more than 37 digits", "round it")
     return "/".join(parts), 2
 
 

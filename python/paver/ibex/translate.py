@@ -9,6 +9,7 @@ from .refusals import Refusal
 from .syntax import read
 from .terms import Array, scalar
 
+GREATEST = 10 ** 37 - 1  # of the whole numbers of the profile
 MOST = {"variables": 12, "constraints": 64, "functions": 64, "bytes": 65536}
 
 
@@ -200,7 +201,9 @@ class Translator:
 
 
 def outward(value, up):
-    """A number of few digits next to a value on its side."""
+    """A number of few digits next to a value on its side; an infinite end, or the greatest number, beyond all numbers."""
+    if abs(value) > GREATEST:
+        return ("-" if value < 0 else "") + ("oo" if (value > 0) == up else str(GREATEST))
     places = 30
     scaled, rest = divmod(value.numerator * 10 ** places, value.denominator)
     found = minibex(Fraction(scaled + (1 if up and rest else 0), 10 ** places))
