@@ -272,6 +272,12 @@ constraints
   x >= 0.{'1' * 2000};
 end
 """, [(2, "number 1e12345"), (2, "entries"), (4, "over 1e308"), (5, "exponent over"), (6, "number 0.11")]),
+    ("a vector in itself", """variables
+  x[2] in [-1, 1];
+constraints
+  x in x;
+end
+""", [(4, "`x` as a set")]),
     ("a form that is no Minibex", """variables
   x in [-1, 1];
 constraints

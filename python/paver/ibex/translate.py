@@ -115,9 +115,11 @@ class Translator:
                 return found
             raise Refusal(line, f"{len(found)} domains for {count} entries", "one for each, or one for all")
         if count > 1 and domain[0] == "name":
-            array = self.evaluator.value(domain)
-            if len(array.terms) == count:
-                return [(terms.value_of(term),) * 2 for term in array.terms]
+            values = [terms.value_of(term) for term in self.evaluator.value(domain).terms]
+            if None in values:
+                raise Refusal(line, f"`{domain[2]}` as a set", "an interval, or constants")
+            if len(values) == count:
+                return [(value, value) for value in values]
         value = self.evaluator.number(domain)
         return [(value, value)] * count
 
