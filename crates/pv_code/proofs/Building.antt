@@ -10,21 +10,21 @@ use Rattle.pv_code.specs.declared.expand.Function.{Function}
 use Rattle.pv_code.specs.Expansion as Expansion
 use Rattle.pv_code.specs.Expansion.{Meaning, meaning_of, meanings, meanings_behind, body_meaning, top, stack_of, code_of, nothing, run, step, stacked, below}
 
-pub stack-push : (es : List Expr) (e : Expr) → stack_of (es ++ e ∷ []) ≡ term_of e ∷ stack_of es
+stack-push : (es : List Expr) (e : Expr) → stack_of (es ++ e ∷ []) ≡ term_of e ∷ stack_of es
 unfolding Expansion.stack_of
 stack-push es e = ap reverse (map-append term_of es (e ∷ [])) ∙ reverse-append (map term_of es) (term_of e ∷ [])
 
-pub stack-empty : stack_of [] ≡ []
+stack-empty : stack_of [] ≡ []
 unfolding Expansion.stack_of
 stack-empty = refl
 
-pub behind-keeps : (codes : List (List Op)) (ms : List Meaning) (k : ℕ) → k < length ms → meaning_of (meanings_behind ms codes) k ≡ meaning_of ms k
+behind-keeps : (codes : List (List Op)) (ms : List Meaning) (k : ℕ) → k < length ms → meaning_of (meanings_behind ms codes) k ≡ meaning_of ms k
 behind-keeps [] ms k h = refl
 behind-keeps (c ∷ cs) ms k h =
     let longer : length (ms ++ body_meaning ms c ∷ []) ≡ length ms + 1 = length-append ms (body_meaning ms c ∷ []) in
     behind-keeps cs (ms ++ body_meaning ms c ∷ []) k (omega arith) ∙ get_or_append_left ms (body_meaning ms c ∷ []) (λ args. nothing) k h
 
-pub behind-at : (codes : List (List Op)) (ms : List Meaning) (i : ℕ) → i < length codes →
+behind-at : (codes : List (List Op)) (ms : List Meaning) (i : ℕ) → i < length codes →
     meaning_of (meanings_behind ms codes) (length ms + i) ≡ body_meaning (meanings_behind ms (take i codes)) (get_or codes i [])
 behind-at [] ms i h = absurd (omega arith)
 behind-at (c ∷ cs) ms zero h =

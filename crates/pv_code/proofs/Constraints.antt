@@ -2,7 +2,7 @@
 use Rattle.std.proofs.Common.{◌≡◌, ℕ, zero, suc, List, [], ◌∷◌, ◌++◌, ◌+◌, ◌-◌, ◌<◌, ◌≤◌, map, take, drop, get_or, slice_range, refl, ap, sym, subst, ◌∙◌, length, arith}
 use Rattle.std.specs.List.{AllByRecursion}
 use Rattle.std.proofs.lemmas.List.Folds.{drop_split}
-use Rattle.std.proofs.lemmas.List.{length-append, length-drop, map-append, append_assoc, append-nil, drop_all, drop_more, get_or-drop, take_more}
+use Rattle.std.proofs.lemmas.List.{length-append, length-drop, length-map, map-append, append_assoc, append-nil, drop_all, drop_more, get_or-drop, take_more}
 use Rattle.pv_expr.specs.declared.constraint.Relation.{Relation}
 use Rattle.pv_expr.specs.declared.constraint.Constraint.{Constraint}
 use Rattle.pv_expr.specs.Terms.{Term}
@@ -11,7 +11,7 @@ use Rattle.pv_code.specs.declared.code.Op.TheVariants.{Define, Relate}
 use Rattle.pv_code.specs.declared.expand.Function.{Function}
 use Rattle.pv_code.specs.Expansion.{Meaning, meaning_of, meanings, meanings_behind, body_meaning, code_of, filtered, callee, IsValue, Stand, KeepsBody, Sides, sides_of, part_sides, constraints_behind, constraints_of}
 use Rattle.pv_code.specs.Sizes.{AreMeasured, IsMeasured}
-use Rattle.pv_code.proofs.Building.{length-map, count-of}
+use Rattle.pv_code.proofs.Building.{count-of}
 use Rattle.pv_code.proofs.Sizing.{measured-more}
 
 behind-append : (cs : List (List Op)) (ms : List Meaning) (c : List Op) →
@@ -65,7 +65,7 @@ part-more code from i d h v p =
     record { within = omega (arith, w); values = subst (AllByRecursion IsValue) (sym more) (values-and (slice_range code from i) (get_or code i d) p.values v) }
 
 -- the part, and the step behind it
-pub part-end : (code : List Op) (from i : ℕ) (d o : Op) → i < length code → get_or code i d ≡ o → IsPart code from i → drop from code ≡ slice_range code from i ++ o ∷ drop (i + 1) code
+part-end : (code : List Op) (from i : ℕ) (d o : Op) → i < length code → get_or code i d ≡ o → IsPart code from i → drop from code ≡ slice_range code from i ++ o ∷ drop (i + 1) code
 part-end code from i d o h is p = drop_split code from i p.within ∙ ap (λ z. slice_range code from i ++ z) (drop_more code i d h ∙ ap (λ (z : Op). z ∷ drop (i + 1) code) is)
 
 behind-part : (ms : List Meaning) (done part rest : List Op) → AllByRecursion IsValue part → constraints_behind ms done (part ++ rest) ≡ constraints_behind ms (done ++ part) rest
@@ -132,7 +132,7 @@ pub more-constraints : (fs : List Function) (code : List Op) (from i : ℕ) (cs 
 more-constraints fs code from i cs r d h is p made =
     let all = ap length (made-at fs code from i cs d (Relate r) h is p made) in
     let sum = length-append (map sides_of cs) (constraints_behind made.ms (slice_range code from i) (Relate r ∷ drop (i + 1) code)) in
-    let kept : length (map sides_of cs) ≡ length cs = length-map sides_of cs in
+    let kept : length (map sides_of cs) ≡ length cs = length-map cs sides_of in
     omega (arith, all, sum, kept)
 
 pub value-of : (o : Op) → (o ≡ Define → ⊥) → ((r : Relation) → o ≡ Relate r → ⊥) → IsValue o

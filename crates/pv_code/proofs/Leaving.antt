@@ -31,7 +31,7 @@ all-length P [] [] s = refl
 all-length P (v ∷ vs) (t ∷ ts) s = ap suc (all-length P vs ts s.1)
 all-length P vs ts s = absurd s
 
-pub all-as : (P Q : Value → Term → Type 0) (vs : List Value) (ts : List Term) → ((v : Value) (t : Term) → P v t → Q v t) → AreAll P vs ts → AreAll Q vs ts
+all-as : (P Q : Value → Term → Type 0) (vs : List Value) (ts : List Term) → ((v : Value) (t : Term) → P v t → Q v t) → AreAll P vs ts → AreAll Q vs ts
 all-as P Q [] [] h s = tt
 all-as P Q (v ∷ vs) (t ∷ ts) h s = (h v t s.0, all-as P Q vs ts h s.1)
 all-as P Q vs ts h s = absurd s

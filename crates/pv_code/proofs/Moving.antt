@@ -1,6 +1,7 @@
 -- A code leaves the same where the arguments that it names are the same.
-use Rattle.std.proofs.Common.{◌≡◌, ℕ, zero, suc, ◌-◌, List, [], ◌∷◌, Bool, true, false, ◌||◌, if◌then◌else◌, nat_eq, refl, sym, ap, ◌∙◌, subst, map, take, drop, length, arith}
+use Rattle.std.proofs.Common.{◌≡◌, ℕ, zero, suc, ◌-◌, List, [], ◌∷◌, Bool, true, false, if◌then◌else◌, nat_eq, refl, sym, ap, ◌∙◌, subst, map, take, drop, length, arith}
 use Rattle.std.proofs.Math.ListN.{set}
+use Rattle.std.proofs.lemmas.Bool.{or_left, or_right}
 use Rattle.std.proofs.lemmas.List.{get_or-set_other, map-set, take_rest}
 use Rattle.pv_expr.specs.Terms.{Term, term_of}
 use Rattle.pv_expr.specs.declared.expr.Expr.{Expr}
@@ -11,10 +12,6 @@ use Rattle.pv_code.specs.Expansion.{IsMarked, Meaning, RunsAlike, argument, filt
 itself : (k : ℕ) → nat_eq k k ≡ true
 itself k = grind arith
 
-either : (b : Bool) → (b || true) ≡ true
-either true = refl
-either false = refl
-
 step_alike : (ms : List Meaning) (a b : List Term) (o : Op) (st : List Term) → ((k : ℕ) → is_parameter k o ≡ true → argument b k ≡ argument a k) → step ms b o st ≡ step ms a o st
 step_alike ms a b (Parameter k) st h = ap (λ t. t ∷ st) (h k (itself k))
 step_alike ms a b o st h = refl
@@ -22,8 +19,8 @@ step_alike ms a b o st h = refl
 runs_alike : (code : List Op) (a b : List Term) → ((k : ℕ) → occurs k code ≡ true → argument b k ≡ argument a k) → RunsAlike code a b
 runs_alike [] a b h = λ ms st. refl
 runs_alike (o ∷ code) a b h = λ ms st.
-    ap (run ms b code) (step_alike ms a b o st (λ k e. h k (ap (λ c. c || occurs k code) e)))
-    ∙ runs_alike code a b (λ k e. h k (ap (λ c. is_parameter k o || c) e ∙ either (is_parameter k o))) ms (step ms a o st)
+    ap (run ms b code) (step_alike ms a b o st (λ k e. h k (or_left (is_parameter k o) (occurs k code) e)))
+    ∙ runs_alike code a b (λ k e. h k (or_right (is_parameter k o) (occurs k code) e)) ms (step ms a o st)
 
 -- where an argument that no step names is another one
 pub moved_alike : (code : List Op) (es : List Expr) (i : ℕ) (e : Expr) → occurs i code ≡ false → RunsAlike code (map term_of es) (map term_of (set es i e))

@@ -2,7 +2,7 @@
 use Rattle.std.proofs.Common.{◌≡◌, ℕ, zero, suc, ◌+◌, ◌<◌, ◌≤◌, List, [], ◌∷◌, ◌++◌, length, map, reverse, take, drop, get_or, refl, sym, ap, ◌∙◌, subst, arith}
 use Rattle.std.specs.List.{fold}
 use Rattle.std.specs.Prelude.{All, sum_by}
-use Rattle.std.proofs.lemmas.List.{get_or-map, reverse-append}
+use Rattle.std.proofs.lemmas.List.{get_or-map, length-map, reverse-append}
 use Rattle.std.proofs.lemmas.List.Elements.{All-cons, All-drop, All-head, All-nil, All-push, All-tail, All-take}
 use Rattle.std.proofs.lemmas.Nat.Gcd.{IsGcd-from_zero, IsGcd-swap}
 use Rattle.pv_expr.specs.declared.constraint.Constraint.{Constraint}
@@ -13,7 +13,6 @@ use Rattle.pv_code.specs.declared.code.Op.TheVariants.{Constant, Variable, Param
 use Rattle.pv_code.specs.Expansion.{Meaning, Sides, below, body_meaning, constraints_behind, constraints_of, nothing, run, sides_of, step, top, unary_of}
 use Rattle.pv_code.specs.Fractions.{IsLowest}
 use Rattle.pv_code.specs.Sizes.{AreWithin, IsShallow, IsShortCall, nodes_of}
-use Rattle.pv_code.proofs.Building.{length-map}
 
 -- a step that writes a variable below n, a constant within the limits, a power of at most 32, or a call of at most 12 arguments
 abbrev pub IsStep : ℕ → Op → Type 0
@@ -98,7 +97,7 @@ behind_over n ms part (o ∷ code) k p h = behind_over n ms (part ++ o ∷ []) c
 pub constraints_good : (n : ℕ) (cs : List Constraint) (code : List Op) → map sides_of cs ≡ constraints_of code → AreWithin (constraints_of code) → All (IsStep n) code → All (IsConstraint n) cs
 constraints_good n cs code e within steps = λ k d h.
     let at : get_or (constraints_of code) k (sides_of d) ≡ sides_of (get_or cs k d) = ap (λ (z : List Sides). get_or z k (sides_of d)) (sym e) ∙ get_or-map sides_of cs k d (sides_of d) h in
-    let inside : k < length (constraints_of code) = omega (arith, h, ap length e, length-map sides_of cs) in
+    let inside : k < length (constraints_of code) = omega (arith, h, ap length e, length-map cs sides_of) in
     let over = subst (IsSideOver n) at (behind_over n [] [] code (All-nil (KeepsOver n)) (All-nil (IsStep n)) steps k (sides_of d) inside) in
     let shallow = subst (λ (s : Sides). IsShallow s) at (within.shallow k (sides_of d) inside) in
     record { left_over = over.0; right_over = over.1; left_depth = shallow.left; right_depth = shallow.right }

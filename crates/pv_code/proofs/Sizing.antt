@@ -84,12 +84,6 @@ shifted (suc above) (suc x) = suc x + above
 shifted-max : (r a b : ℕ) → shifted r (max a b) ≡ max (shifted r a) (shifted r b)
 shifted-max r a b = grind arith
 
-end-at : (x d : ℕ) → 1 ≤ x → end_of x d + 1 ≡ x + d
-end-at x d h = grind arith
-
-shifted-at : (above x : ℕ) → 1 ≤ x → shifted (suc above) x ≡ x + above
-shifted-at above x h = grind arith
-
 end-moved : (r a d : ℕ) → 1 ≤ d → cut (end_of (moved r a) d) ≡ cut (shifted r (end_of a d))
 end-moved r a d h = grind arith
 
@@ -137,7 +131,7 @@ size-as m args n d n' d' s e f = record { nodes_are = ap cut (sym e) ∙ s.nodes
 abbrev root : Place
 root = record { uses = 1; reach = 1 }
 
-pub parameter-size : (args : List Term) (m : Measure) (i : ℕ) → m.places ≡ set (replicate 13 nowhere) i root → i < 13 → IsSize m args (argument args i)
+parameter-size : (args : List Term) (m : Measure) (i : ℕ) → m.places ≡ set (replicate 13 nowhere) i root → i < 13 → IsSize m args (argument args i)
 parameter-size args m i is l =
     let here : get_or m.places i nowhere ≡ root = ap (λ (z : List Place). get_or z i nowhere) is ∙ get_or-set_same (replicate 13 nowhere) i root nowhere l in
     let other : (k : ℕ) → k ≢ i → get_or m.places k nowhere ≡ nowhere = λ k o. ap (λ (z : List Place). get_or z k nowhere) is ∙ get_or-set_other (replicate 13 nowhere) i k root nowhere o ∙ none-at 13 k in

@@ -1,5 +1,6 @@
 -- What a code means: the expressions that it writes, with the body of each function in place of its calls.
-use Rattle.std.specs.Prelude.{◌≡◌, ℕ, zero, suc, ◌++◌, List, [], ◌∷◌, Bool, true, false, pos, map, reverse, take, drop, get_or, nat_eq, ◌||◌, Option, Some, None}
+use Rattle.std.specs.Prelude.{◌≡◌, ℕ, zero, suc, ◌++◌, List, [], ◌∷◌, Bool, true, false, pos, map, reverse, take, drop, get_or, nat_eq, Option, Some, None}
+use Rattle.std.specs.List.{list_any}
 use Rattle.pv_expr.specs.declared.expr.Expr.{Expr}
 use Rattle.pv_expr.specs.declared.constraint.Relation.{Relation}
 use Rattle.pv_expr.specs.declared.constraint.Constraint.{Constraint}
@@ -71,8 +72,7 @@ is_parameter i o = false
 
 -- some step of a code names a parameter
 abbrev pub occurs : ℕ → List Op → Bool
-occurs i [] = false
-occurs i (o ∷ code) = is_parameter i o || occurs i code
+occurs i code = list_any (is_parameter i) code
 
 -- a code leaves the same with either arguments
 abbrev pub RunsAlike : List Op → List Term → List Term → Type 0

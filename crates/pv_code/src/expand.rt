@@ -163,8 +163,7 @@ fn last(stack: &mut Vec<Expr>, n: u8) -> Result<Vec<Expr>, Memory>
         drop n (stack_of stack.old.items)) }
 {
     let first = stack.len().saturating_sub(n as usize);
-    let values = stack.split_off(first)?;
-    Ok(values)
+    Ok(stack.split_off(first)?)
 }
 
 fn taken(stack: &mut Vec<Expr>) -> Expr
@@ -204,21 +203,13 @@ fn argument(alloc: Global, arguments: &mut [Expr], i: u8, rest: &[Op]) -> Result
 fn occurs(code: &[Op], i: u8) -> bool
     ensures { result ≡ occurs i code.now }
 {
-    for op in code {
-        if is_parameter(*op, i) {
-            return true;
-        }
-    }
-    false
+    code.iter().any(|op| is_parameter(*op, i))
 }
 
 fn is_parameter(op: Op, i: u8) -> bool
     ensures { result ≡ is_parameter i op }
 {
-    match op {
-        Op::Parameter(k) => k == i,
-        _ => false,
-    }
+    matches!(op, Op::Parameter(k) if k == i)
 }
 
 fn one(alloc: Global, unary: Unary, a: Expr) -> Result<Expr, Memory>

@@ -110,12 +110,7 @@ pub(crate) fn with_sides(left: &Measure, right: &Measure, before: u64) -> Option
         IsRoom before (record { left = t; relation = r; right = u }) result }
 {
     let (left, right) = (left.whole(), right.whole());
-    if left.reach > MAX_DEPTH || right.reach > MAX_DEPTH {
-        return None;
-    }
+    let shallow = left.reach <= MAX_DEPTH && right.reach <= MAX_DEPTH;
     let nodes = before.saturating_add(left.uses).saturating_add(right.uses);
-    if nodes > MAX_NODES {
-        return None;
-    }
-    Some(nodes)
+    (shallow && nodes <= MAX_NODES).then_some(nodes)
 }

@@ -185,10 +185,8 @@ fn code_of(
     for i in 0..arguments.len() {
         code.extend_from_slice(used_at(uses, arguments, i))?;
     }
-    code.push(Op::Call {
-        function,
-        arity: arguments.len() as u8,
-    })?;
+    let arity = arguments.len() as u8;
+    code.push(Op::Call { function, arity })?;
     Ok(code)
 }
 
@@ -198,22 +196,16 @@ fn used_at<'a>(uses: &[bool], arguments: &'a [Value], i: usize) -> &'a [Op]
         AreAll (HasCode ms args) arguments.now ts →
         (st : List Term) → run ms args result.now st ≡ argument (filtered uses.now ts) i ∷ st }
 {
-    if !is_used(uses, i) {
-        return &[NOTHING];
-    }
     match arguments.get(i) {
-        Some(argument) => argument.code.as_slice(),
-        None => &[NOTHING],
+        Some(argument) if is_used(uses, i) => argument.code.as_slice(),
+        _ => &[NOTHING],
     }
 }
 
 fn is_used(uses: &[bool], i: usize) -> bool
     ensures { result ≡ is_used uses.now i }
 {
-    match uses.get(i) {
-        Some(used) => *used,
-        None => true,
-    }
+    uses.get(i).copied().unwrap_or(true)
 }
 
 /// The nodes of all constraints up to and with one, whose code leaves its two sides and has

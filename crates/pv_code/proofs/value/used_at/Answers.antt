@@ -1,14 +1,9 @@
-use Rattle.std.proofs.Common.{◌≡◌, ◌∙◌, ◌∷◌, ap, true, false, rules}
+use Rattle.std.proofs.Common.{◌≡◌, ◌≤◌, ◌⊎◌, ◌∙◌, ◌∷◌, ap, false, length, rules, true, ⊎_elim}
 use Rattle.pv_code.specs.declared.value.Value.{Value}
 use Rattle.pv_code.specs.Expansion.{is_used}
 use Rattle.pv_code.specs.Values.{HasCode}
 use Rattle.pv_code.proofs.Leaving.{past-at, unused-at, used-at}
 use Rattle.pv_code.proofs.value.used_at.Goals as goal
-
-pub returns-then-not-is_used : goal.returns-then-not-is_used
-returns-then-not-is_used c = λ ms args ts all st.
-    let unused : is_used c.args.uses.now c.args.i ≡ false = search rules in
-    ap (λ t. t ∷ st) (unused-at c.args.uses.now ts c.args.i unused)
 
 pub returns-in-Some : goal.returns-in-Some
 returns-in-Some c =
@@ -16,6 +11,7 @@ returns-in-Some c =
     λ ms args ts all st. used-at ms args ts c.args.uses.now c.args.arguments.now c.args.i _ _ c.in-Some.ensures.lookup.3.0 used
     (c.as_slice.ensures.value ∙ ap (λ (v : Value). v.code.items) c.in-Some.ensures.lookup.1) all st
 
-pub returns-in-None : goal.returns-in-None
-returns-in-None c = λ ms args ts all st.
-    ap (λ t. t ∷ st) (past-at (HasCode ms args) c.args.arguments.now ts c.args.uses.now c.args.i all c.in-None.ensures.lookup.3)
+pub returns-in_default : goal.returns-in_default
+returns-in_default c =
+    let left_out : (is_used c.args.uses.now c.args.i ≡ false) ⊎ (length c.args.arguments.now ≤ c.args.i) = search rules in
+    λ ms args ts all st. ap (λ t. t ∷ st) (⊎_elim (unused-at c.args.uses.now ts c.args.i) (past-at (HasCode ms args) c.args.arguments.now ts c.args.uses.now c.args.i all) left_out)
