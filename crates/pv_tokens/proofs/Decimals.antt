@@ -80,7 +80,7 @@ value_is d z p n b v zeros places above below lowest =
 -- ---- Digits of a text
 
 -- a value that is kept up to a limit takes one more digit
-pub one_more_digit : (limit x d : ℕ) → 0 < limit → min limit (min limit x * 10 + d) ≡ min limit (x * 10 + d)
+one_more_digit : (limit x d : ℕ) → 0 < limit → min limit (min limit x * 10 + d) ≡ min limit (x * 10 + d)
 one_more_digit limit x d some = omega arith
 
 pub kept_more : (limit all next : ℕ) (before ds : List ℕ) (k : ℕ) → 0 < limit → k < length ds → IsDigit (get_or ds k 0) → all ≡ min limit (digits_value 10 (before ++ take k ds)) → next ≡ min limit (all * 10 + (get_or ds k 0 - 48)) → next ≡ min limit (digits_value 10 (before ++ take (k + 1) ds))

@@ -47,7 +47,7 @@ run_from P decide none t i within =
     let stop = stop_from t (λ k. P (get_or t k 0)) (λ k. decide (get_or t k 0)) i within in
     (stop.at, (record { ordered = stop.ordered; within = stop.within; each = stop.each }, ⊎_elim (λ whole h. none (subst P (get_or_past t stop.at 0 (omega arith)) h)) (λ h. h) stop.ends))
 
-pub digit_or : (b : ℕ) → IsDigit b ⊎ ¬ IsDigit b
+digit_or : (b : ℕ) → IsDigit b ⊎ ¬ IsDigit b
 digit_or b = grind arith
 
 pub digits_from : (t : List ℕ) (i : ℕ) → i ≤ length t → (j : ℕ) × (Run IsDigit t i j × (¬ IsDigit (get_or t j 0)))

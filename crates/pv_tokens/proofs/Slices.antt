@@ -28,7 +28,7 @@ digits_in_slice t i j from to m n first last within before run = record {
 }
 
 -- the same parts, counted from place i
-abbrev pub shifted : ℕ → Parts → Parts
+abbrev shifted : ℕ → Parts → Parts
 shifted i p = record { point = p.point - i; tail = p.tail - i; negative = p.negative; power = p.power - i; end = p.end - i }
 
 exponent_in_slice : (t : List ℕ) (i : ℕ) (p : Parts) → i ≤ p.tail → p.end ≤ length t → IsExponent t p → IsExponent (slice_range t i p.end) (shifted i p)
@@ -44,7 +44,7 @@ exponent_in_slice t i p after within some =
       some = let more = some.some in omega arith;
     }
 
-pub number_in_slice : (t : List ℕ) (i : ℕ) (p : Parts) → IsNumber t i p → IsNumber (slice_range t i p.end) 0 (shifted i p)
+number_in_slice : (t : List ℕ) (i : ℕ) (p : Parts) → IsNumber t i p → IsNumber (slice_range t i p.end) 0 (shifted i p)
 number_in_slice t i p is =
     let within : p.end ≤ length t = number_within t i p is in
     let on : (i < p.point) × (p.point ≤ p.tail) × (p.tail ≤ p.end) = (is.some, fraction_on t p.point p.tail is.fraction, exponent_on t p is.exponent) in
@@ -63,7 +63,7 @@ number_in_slice t i p is =
     }
 
 -- the bytes of a number are the text of a number
-pub numeral_in_slice : (t : List ℕ) (i : ℕ) (p : Parts) → IsNumber t i p → IsNumeral (slice_range t i p.end) (decimal_in (slice_range t i p.end) (shifted i p))
+numeral_in_slice : (t : List ℕ) (i : ℕ) (p : Parts) → IsNumber t i p → IsNumeral (slice_range t i p.end) (decimal_in (slice_range t i p.end) (shifted i p))
 numeral_in_slice t i p is = record {
   parts = shifted i p;
   number = number_in_slice t i p is;

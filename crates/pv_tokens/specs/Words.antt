@@ -1,5 +1,6 @@
 -- The words that can't be declared, each a name. Block words have two spellings.
-use Rattle.std.specs.Prelude.{ℕ, List, Option, Some, None, Bool, ◌||◌, codes, if◌then◌else◌}
+use Rattle.std.specs.Prelude.{ℕ, List, [], ◌∷◌, Option, Some, None, Bool, ◌||◌, codes, if◌then◌else◌}
+use Rattle.std.specs.List.{list_any}
 use Rattle.std.specs.Str.{bytes_eq}
 use Rattle.pv_tokens.specs.declared.keyword.Word.{Word}
 use Rattle.pv_tokens.specs.declared.keyword.Word.TheVariants.{Constants, Variables, Constraints, Function, Return, End, In, Oo, Abs, Sqr, Min, Max, Outside}
@@ -8,19 +9,15 @@ abbrev pub is_either : List ℕ → List ℕ → List ℕ → Bool
 is_either name one other = bytes_eq name one || bytes_eq name other
 
 -- words of the language that this profile leaves out
-abbrev pub is_hyperbolic : List ℕ → Bool
-is_hyperbolic name = is_either name (codes "cosh") (codes "acosh") || (is_either name (codes "sinh") (codes "asinh") || is_either name (codes "tanh") (codes "atanh"))
-
-abbrev pub is_function_outside : List ℕ → Bool
-is_function_outside name =
-    is_either name (codes "sqrt") (codes "root") || (bytes_eq name (codes "exp") || (is_either name (codes "log") (codes "ln")
-    || (is_either name (codes "cos") (codes "acos") || (is_either name (codes "sin") (codes "asin") || (is_either name (codes "tan") (codes "atan")
-    || (bytes_eq name (codes "atan2") || bytes_eq name (codes "sign")))))))
+abbrev pub outside : List (List ℕ)
+outside =
+    codes "sqrt" ∷ codes "root" ∷ codes "exp" ∷ codes "log" ∷ codes "ln" ∷ codes "sign"
+    ∷ codes "cos" ∷ codes "acos" ∷ codes "sin" ∷ codes "asin" ∷ codes "tan" ∷ codes "atan" ∷ codes "atan2"
+    ∷ codes "cosh" ∷ codes "acosh" ∷ codes "sinh" ∷ codes "asinh" ∷ codes "tanh" ∷ codes "atanh"
+    ∷ codes "pi" ∷ codes "for" ∷ codes "sum" ∷ codes "Minimize" ∷ codes "minimize" ∷ []
 
 abbrev pub is_outside : List ℕ → Bool
-is_outside name =
-    is_function_outside name || (is_hyperbolic name || (bytes_eq name (codes "pi") || (bytes_eq name (codes "for") || (bytes_eq name (codes "sum")
-    || is_either name (codes "Minimize") (codes "minimize")))))
+is_outside name = list_any (bytes_eq name) outside
 
 -- the word that a name is, or none where the text may declare it
 abbrev pub word_in : List ℕ → Option Word

@@ -1,8 +1,9 @@
 // The words that can't be declared.
 
 ghost use Rattle.std.specs.Prelude.{◌≡◌, ◌||◌};
+ghost use Rattle.std.specs.List.{list_any};
 ghost use Rattle.std.specs.Str.{bytes_eq};
-ghost use Rattle.pv_tokens.specs.Words.{is_function_outside, is_hyperbolic, is_outside, word_in};
+ghost use Rattle.pv_tokens.specs.Words.{word_in};
 
 /// A word that no text can declare. Block words have two spellings.
 #[derive(Clone, Copy, Debug, PartialEq, Eq)]
@@ -22,6 +23,13 @@ pub enum Word {
     /// A word of the language that this profile leaves out.
     Outside,
 }
+
+/// The words of the language that this profile leaves out.
+const OUTSIDE: [&str; 24] = [
+    "sqrt", "root", "exp", "log", "ln", "sign", "cos", "acos", "sin", "asin", "tan", "atan",
+    "atan2", "cosh", "acosh", "sinh", "asinh", "tanh", "atanh", "pi", "for", "sum", "Minimize",
+    "minimize",
+];
 
 /// The word that a name is, or None where the text may declare it.
 pub fn word_of(name: &[u8]) -> Option<Word>
@@ -51,44 +59,18 @@ pub fn word_of(name: &[u8]) -> Option<Word>
         Some(Word::Min)
     } else if is_text(name, "max") {
         Some(Word::Max)
-    } else if is_outside(name) {
+    } else if is_any(name, &OUTSIDE) {
         Some(Word::Outside)
     } else {
         None
     }
 }
 
-// A word of the language that this profile leaves out.
-fn is_outside(name: &[u8]) -> bool
-    ensures { result ≡ is_outside name.now }
+// Whether it is one of these words.
+fn is_any(name: &[u8], words: &[&str]) -> bool
+    ensures { result ≡ list_any (λ word. bytes_eq name.now word.now) words.now }
 {
-    is_function_outside(name)
-        || is_hyperbolic(name)
-        || is_text(name, "pi")
-        || is_text(name, "for")
-        || is_text(name, "sum")
-        || is_either(name, "Minimize", "minimize")
-}
-
-fn is_function_outside(name: &[u8]) -> bool
-    ensures { result ≡ is_function_outside name.now }
-{
-    is_either(name, "sqrt", "root")
-        || is_text(name, "exp")
-        || is_either(name, "log", "ln")
-        || is_either(name, "cos", "acos")
-        || is_either(name, "sin", "asin")
-        || is_either(name, "tan", "atan")
-        || is_text(name, "atan2")
-        || is_text(name, "sign")
-}
-
-fn is_hyperbolic(name: &[u8]) -> bool
-    ensures { result ≡ is_hyperbolic name.now }
-{
-    is_either(name, "cosh", "acosh")
-        || is_either(name, "sinh", "asinh")
-        || is_either(name, "tanh", "atanh")
+    words.iter().any(|word| is_text(name, word))
 }
 
 fn is_either(name: &[u8], one: &str, other: &str) -> bool

@@ -62,12 +62,7 @@ fn are_digits(text: &[u8]) -> bool
     ensures { MatchBool result (EachIndex text.now (λ k. IsDigit (slice_index text.now k)))
         (¬ EachIndex text.now (λ k. IsDigit (slice_index text.now k))) }
 {
-    for byte in text {
-        if !is_digit(*byte) {
-            return false;
-        }
-    }
-    true
+    text.iter().all(|byte| is_digit(*byte))
 }
 
 // The digits and the power of ten of a number, without more of them than `value_of` needs.
@@ -91,18 +86,17 @@ fn decimal_of(text: &[u8], parts: Parts) -> Decimal
 }
 
 // A value with more digits after it, or `LIMIT` where that is less.
-fn with_digits(value: u128, digits: &[u8]) -> u128
+fn with_digits(mut value: u128, digits: &[u8]) -> u128
     requires least { value ≤ 10 ^ 37 }
     requires digits { EachIndex digits.now (λ k. IsDigit (slice_index digits.now k)) }
     ensures most { result ≤ 10 ^ 37 }
     ensures value { (before : List ℕ) → value ≡ min (10 ^ 37) (digits_value 10 before) → result ≡
         min (10 ^ 37) (digits_value 10 (before ++ digits.now)) }
 {
-    let mut all = value;
     for digit in digits {
-        all = (all * 10 + u128::from(*digit - b'0')).min(LIMIT);
+        value = (value * 10 + u128::from(*digit - b'0')).min(LIMIT);
     }
-    all
+    value
 }
 
 // The value in lowest terms, where it is not too wide.
@@ -150,15 +144,11 @@ fn in_lowest_terms(a: u128, b: u128) -> (i128, u128)
 }
 
 // The greatest common divisor.
-fn gcd(a: u128, b: u128) -> u128
+fn gcd(mut a: u128, mut b: u128) -> u128
     ensures { IsGcd a b result }
 {
-    let mut a = a;
-    let mut b = b;
     while b != 0 {
-        let rest = a % b;
-        a = b;
-        b = rest;
+        (a, b) = (b, a % b);
     }
     a
 }

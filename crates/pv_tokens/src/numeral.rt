@@ -50,28 +50,23 @@ fn exponent_at(text: &[u8], point: usize, tail: usize) -> Parts
     ensures exponent { NoExponent result ⊎ IsExponent text.now result }
     ensures longest { (p : Parts) → p.tail ≡ tail → IsExponent text.now p → p.end ≤ result.end }
 {
+    let mut parts = Parts {
+        point,
+        tail,
+        negative: false,
+        power: tail,
+        end: tail,
+    };
     if matches!(byte_at(text, tail), b'e' | b'E') {
         let negative = byte_at(text, tail + 1) == b'-';
         let signed = negative || byte_at(text, tail + 1) == b'+';
         let power = if signed { tail + 2 } else { tail + 1 };
         let end = digits_end(text, power);
         if power < end {
-            return Parts {
-                point,
-                tail,
-                negative,
-                power,
-                end,
-            };
+            (parts.negative, parts.power, parts.end) = (negative, power, end);
         }
     }
-    Parts {
-        point,
-        tail,
-        negative: false,
-        power: tail,
-        end: tail,
-    }
+    parts
 }
 
 // Where the digits from a place on end.

@@ -5,5 +5,5 @@ use Rattle.pv_tokens.proofs.number.with_digits.Goals as goal
 pub loop-digit-preserved : goal.loop-digit-preserved
 loop-digit-preserved c = record {
   most = omega arith;
-  value = λ before start. kept_more (10 ^ 37) c.loop-digit.all _ before c.args.digits.now c.loop-digit.digit-index (omega arith) (omega arith) (c.requires.digits _ (omega arith)) (c.loop-digit.invariant.value before start) (omega (arith, c.min-all.ensures, c.from.ensures));
+  so_far = λ before start. kept_more (10 ^ 37) c.loop-digit.value _ before c.args.digits.now c.loop-digit.digit-index (omega arith) (omega arith) (c.requires.digits _ (omega arith)) (c.loop-digit.invariant.so_far before start) (omega (arith, c.min-value.ensures, c.from.ensures));
 }
