@@ -1,7 +1,7 @@
 // The part of the text that a token stands in, and the counts that have limits.
 
 ghost use Rattle.std.specs.Prelude.{◌≡◌};
-ghost use Rattle.pv_grammar.specs.Counting.{begun, counted, declared, in_phase, levels, moved, operated, turned};
+ghost use Rattle.pv_grammar.specs.Counting.{begun, counted, declared, levels, moved, operated, turned};
 
 use crate::cause::Cause;
 use crate::symbol::{Fixed, Symbol};
@@ -68,12 +68,6 @@ impl Counts {
         }
     }
 
-    fn in_phase(self, phase: Phase) -> Counts
-        ensures { result ≡ in_phase phase self }
-    {
-        Counts { phase, ..self }
-    }
-
     /// The counts after a token that the grammar allows, or which limit or declaration forbids it.
     pub fn counted(self, symbol: Symbol) -> Result<Counts, Cause>
         ensures { result ≡ counted self symbol }
@@ -86,58 +80,45 @@ impl Counts {
     }
 
     // Where a constraint may begin, a token that begins one.
-    fn begun(self, symbol: Symbol) -> Result<Counts, Cause>
+    fn begun(mut self, symbol: Symbol) -> Result<Counts, Cause>
         ensures { result ≡ begun self symbol }
     {
-        match self.phase {
-            Phase::NextConstraint if symbol.begins() => {
-                if self.constraints < MAX_CONSTRAINTS {
-                    return Ok(Counts {
-                        phase: Phase::Sides,
-                        constraints: self.constraints + 1,
-                        ..self
-                    });
-                }
-                Err(Cause::TooManyConstraints)
+        if self.phase == Phase::NextConstraint && symbol.begins() {
+            if self.constraints >= MAX_CONSTRAINTS {
+                return Err(Cause::TooManyConstraints);
             }
-            _ => Ok(self),
+            self.phase = Phase::Sides;
+            self.constraints += 1;
         }
+        Ok(self)
     }
 
     // An operation of an expression.
-    fn operated(self, symbol: Symbol) -> Result<Counts, Cause>
+    fn operated(mut self, symbol: Symbol) -> Result<Counts, Cause>
         ensures { result ≡ operated self symbol }
     {
-        if !symbol.operates() {
-            return Ok(self);
+        if symbol.operates() {
+            if self.operations >= MAX_OPERATIONS {
+                return Err(Cause::TooDeep);
+            }
+            self.operations += 1;
         }
-        if self.operations < MAX_OPERATIONS {
-            return Ok(Counts {
-                operations: self.operations + 1,
-                ..self
-            });
-        }
-        Err(Cause::TooDeep)
+        Ok(self)
     }
 
     // A parenthesis of an expression.
-    fn levels(self, symbol: Symbol) -> Result<Counts, Cause>
+    fn levels(mut self, symbol: Symbol) -> Result<Counts, Cause>
         ensures { result ≡ levels symbol self }
     {
         match symbol {
-            Symbol::Fixed(Fixed::Open) if self.level >= MAX_LEVEL => Err(Cause::TooDeep),
-            Symbol::Fixed(Fixed::Open) => Ok(Counts {
-                level: self.level + 1,
-                ..self
-            }),
-            Symbol::Fixed(Fixed::Close) => Ok(Counts {
-                level: self.level.saturating_sub(1),
-                ..self
-            }),
+            Symbol::Fixed(Fixed::Open) if self.level >= MAX_LEVEL => return Err(Cause::TooDeep),
+            Symbol::Fixed(Fixed::Open) => self.level += 1,
+            Symbol::Fixed(Fixed::Close) => self.level = self.level.saturating_sub(1),
             // The `(` that must follow would open a level too many.
-            Symbol::Function { .. } if self.level >= MAX_LEVEL => Err(Cause::Unexpected),
-            _ => Ok(self),
+            Symbol::Function { .. } if self.level >= MAX_LEVEL => return Err(Cause::Unexpected),
+            _ => {}
         }
+        Ok(self)
     }
 
     // A declaration, or a token between the parts of the text.
@@ -153,57 +134,56 @@ impl Counts {
     }
 
     // The limit comes before what the name is declared as.
-    fn declared(self, taken: bool) -> Result<Counts, Cause>
+    fn declared(mut self, taken: bool) -> Result<Counts, Cause>
         ensures { result ≡ declared self.phase self taken }
     {
         match self.phase {
-            Phase::Variables if self.variables >= MAX_VARIABLES => Err(Cause::TooManyVariables),
-            Phase::Parameters if self.parameters >= MAX_PARAMETERS => Err(Cause::Unexpected),
-            _ if taken => Err(Cause::DuplicateName),
-            Phase::Variables => Ok(Counts {
-                variables: self.variables + 1,
-                ..self
-            }),
-            Phase::Parameters => Ok(Counts {
-                parameters: self.parameters + 1,
-                ..self
-            }),
-            Phase::FunctionName => Ok(self.in_phase(Phase::Parameters)),
-            _ => Ok(self),
+            Phase::Variables if self.variables >= MAX_VARIABLES => {
+                return Err(Cause::TooManyVariables);
+            }
+            Phase::Parameters if self.parameters >= MAX_PARAMETERS => return Err(Cause::Unexpected),
+            _ if taken => return Err(Cause::DuplicateName),
+            Phase::Variables => self.variables += 1,
+            Phase::Parameters => self.parameters += 1,
+            Phase::FunctionName => self.phase = Phase::Parameters,
+            _ => {}
         }
+        Ok(self)
     }
 
-    fn turned(self, fixed: Fixed) -> Result<Counts, Cause>
+    fn turned(mut self, fixed: Fixed) -> Result<Counts, Cause>
         ensures { result ≡ turned fixed self }
     {
         match fixed {
-            Fixed::Constants => Ok(self.in_phase(Phase::Constants)),
-            Fixed::Variables => Ok(self.in_phase(Phase::Variables)),
-            Fixed::Constraints => Ok(self.in_expression(Phase::NextConstraint)),
-            Fixed::Function if self.functions >= MAX_FUNCTIONS => Err(Cause::TooManyFunctions),
-            Fixed::Function => Ok(Counts {
-                phase: Phase::FunctionName,
-                functions: self.functions + 1,
-                ..self
-            }),
-            Fixed::Comma
-                if matches!(self.phase, Phase::Parameters) && self.parameters >= MAX_PARAMETERS => {
-                Err(Cause::Unexpected)
+            Fixed::Constants => self.phase = Phase::Constants,
+            Fixed::Variables | Fixed::CloseBracket => self.phase = Phase::Variables,
+            Fixed::Constraints => self = self.in_expression(Phase::NextConstraint),
+            Fixed::Function if self.functions >= MAX_FUNCTIONS => {
+                return Err(Cause::TooManyFunctions);
             }
-            Fixed::Return => Ok(self.in_expression(Phase::Body)),
-            Fixed::End if matches!(self.phase, Phase::Body) => Ok(Counts {
-                phase: Phase::Between,
-                parameters: 0,
-                ..self
-            }),
-            Fixed::End => Ok(self.in_phase(Phase::Between)),
-            Fixed::Semicolon if matches!(self.phase, Phase::Sides) => {
-                Ok(self.in_expression(Phase::NextConstraint))
+            Fixed::Function => {
+                self.phase = Phase::FunctionName;
+                self.functions += 1;
             }
-            Fixed::OpenBracket => Ok(self.in_phase(Phase::Bounds)),
-            Fixed::CloseBracket => Ok(self.in_phase(Phase::Variables)),
-            _ => Ok(self),
+            Fixed::Comma => {
+                if self.phase == Phase::Parameters && self.parameters >= MAX_PARAMETERS {
+                    return Err(Cause::Unexpected);
+                }
+            }
+            Fixed::Return => self = self.in_expression(Phase::Body),
+            Fixed::End => {
+                if self.phase == Phase::Body {
+                    self.parameters = 0;
+                }
+                self.phase = Phase::Between;
+            }
+            Fixed::Semicolon if self.phase == Phase::Sides => {
+                self = self.in_expression(Phase::NextConstraint);
+            }
+            Fixed::OpenBracket => self.phase = Phase::Bounds,
+            _ => {}
         }
+        Ok(self)
     }
 
     // Before the expressions of a constraint or a body.

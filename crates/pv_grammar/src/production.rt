@@ -26,15 +26,10 @@ impl Machine {
         ensures code { IfOk result (λ m. m.code.items ≡ []) }
     {
         let mut machine = Machine::empty(alloc);
-        machine.put_all(&[WantRelation, MoreConstraints, Exactly(Fixed::End)])?;
-        machine.put_all(&[
-            Exactly(Fixed::Constraints),
-            WantFactor,
-            MoreFactors,
-            MoreTerms,
-        ])?;
-        machine.put_all(&[WantVariable, MoreVariables, MaybeFunctions])?;
-        machine.put_all(&[MaybeConstants, MaybeFunctions, Exactly(Fixed::Variables)])?;
+        machine.expression(&[WantRelation, MoreConstraints, Exactly(Fixed::End)])?;
+        machine.put_all(&[MoreVariables, MaybeFunctions, Exactly(Fixed::Constraints)])?;
+        machine.put_all(&[Exactly(Fixed::Variables), WantVariable])?;
+        machine.put_all(&[MaybeConstants, MaybeFunctions])?;
         Ok(machine)
     }
 
@@ -133,8 +128,9 @@ impl Machine {
             Symbol::Fixed(Fixed::Plus) => self.behind(&[WantFactor]),
             Symbol::Fixed(Fixed::Minus) => self.behind(&[WantFactor, Then(Op::One(Unary::Neg))]),
             Symbol::Fixed(Fixed::Open) => self.expression(&[MoreArguments(0), MaybePower]),
-            Symbol::Number { value, .. } => self.operand(Op::Constant(value)),
-            Symbol::Constant(value) => self.operand(Op::Constant(value)),
+            Symbol::Number { value, .. } | Symbol::Constant(value) => {
+                self.operand(Op::Constant(value))
+            }
             Symbol::Variable(i) => self.operand(Op::Variable(i)),
             Symbol::Parameter(i) => self.operand(Op::Parameter(i)),
             Symbol::Function { op, arity } => self.call(op, arity.saturating_sub(1)),
