@@ -100,10 +100,9 @@ fn refuse_long(text: &[u8]) -> Result<(), ParseRefused>
     ensures size { IfErr result (IsLong text.now) }
 {
     if text.len() > MAX_TEXT {
-        Err(fault(text, MAX_TEXT, Cause::TextTooLong))
-    } else {
-        Ok(())
+        return Err(fault(text, MAX_TEXT, Cause::TextTooLong));
     }
+    Ok(())
 }
 
 fn fault(text: &[u8], byte: usize, cause: Cause) -> ParseRefused
@@ -173,13 +172,8 @@ fn refusal(behind_caret: bool, symbol: Symbol) -> Cause
     match symbol {
         Symbol::Never(cause) => cause,
         Symbol::Fixed(Fixed::EndOfText) => Cause::EndOfText,
-        _ => {
-            if behind_caret {
-                Cause::BadExponent
-            } else {
-                Cause::Unexpected
-            }
-        }
+        _ if behind_caret => Cause::BadExponent,
+        _ => Cause::Unexpected,
     }
 }
 

@@ -2,7 +2,7 @@
 
 use pv_grammar::Cause;
 use pv_num::Memory;
-use std::alloc::{AllocError, AllocFailed};
+use std::alloc::AllocFailed;
 use std::error::Error;
 use std::fmt;
 
@@ -36,17 +36,6 @@ impl fmt::Display for ParseRefused {
 }
 
 impl Error for ParseRefused {}
-
-impl From<AllocError> for ParseRefused {
-    ghost use Rattle.std.specs.Prelude.{◌≡◌};
-    ghost use Rattle.pv_parse.specs.declared.refused.ParseRefused.TheVariants.{Memory};
-
-    ghost from_gives = { λ _ e. e ≡ Memory };
-
-    fn from(_e: AllocError) -> ParseRefused {
-        ParseRefused::Memory
-    }
-}
 
 impl<T: Drop> From<AllocFailed<T>> for ParseRefused {
     ghost use Rattle.std.specs.Prelude.{◌≡◌};

@@ -131,18 +131,15 @@ impl State {
         ensures starts { self.new.starts ≡ self.old.starts }
     {
         let key = Vec::from_slice(self.alloc, name)?;
-        self.names
-            .know(key, Meaning::Variable(self.counts.variables))?;
+        let meaning = Meaning::Variable(self.counts.variables);
+        self.names.know(key, meaning)?;
         let own = String::from_utf8_lossy(self.alloc, name)?;
-        let variable = Variable {
+        let (lo, hi) = (Bound::MinusOo, Bound::PlusOo);
+        self.variables.push(Variable {
             name: own,
-            domain: Domain {
-                lo: Bound::MinusOo,
-                hi: Bound::PlusOo,
-            },
+            domain: Domain { lo, hi },
             bracket: 0,
-        };
-        self.variables.push(variable)?;
+        })?;
         Ok(())
     }
 }

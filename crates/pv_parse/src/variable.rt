@@ -39,10 +39,8 @@ pub(crate) fn bound(variables: &mut Vec<Variable>, bound: Bound)
         with_last (with_bound bound) (map declared variables.old.items) }
 {
     if let Some(last) = variables.last_mut() {
-        last.domain = Domain {
-            lo: last.domain.hi,
-            hi: bound,
-        };
+        last.domain.lo = last.domain.hi;
+        last.domain.hi = bound;
     }
 }
 
