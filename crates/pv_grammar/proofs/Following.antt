@@ -33,7 +33,7 @@ stands_behind c d s h =
     let x : Standing = moved_to (begins_in (begins_expression s) c.phase) (standing_of c) in
     subst (Gives (λ e. standing_of e ≡ moved_by s x)) h
     (walk _ (λ e. standing_of e ≡ x) c s (begun_stands (begins_expression s) c.phase c refl) (λ e l o q t. q)
-    (λ e q. subst (λ (z : Standing). Gives (λ y. standing_of y ≡ moved_by s z) (moved e s)) q (moved_stands s e.phase e.level e.operations e.parameters e.functions e.variables e.constraints)))
+    (λ e q t. subst (λ (z : Standing). Gives (λ y. standing_of y ≡ moved_by s z) (moved e s)) q (moved_stands s e.phase e.level e.operations e.parameters e.functions e.variables e.constraints)))
 
 pub stands_after : (c : Counts) (ss : List Symbol) (d : Counts) → Counted c ss d → standing_of d ≡ standing_after (standing_of c) ss
 stands_after c [] d h = ap standing_of (sym h)
@@ -71,7 +71,7 @@ moved_calm s p l o a f v k h = search
 counted_calm : (c : Counts) (s : Symbol) → IsCalm c → Gives IsCalm (counted c s)
 counted_calm c s h =
     walk IsCalm IsCalm c s (begun_calm (begins_expression s) c.phase c h) (λ d l o q t. calm_in d.phase l o t)
-    (λ d q. moved_calm s d.phase d.level d.operations d.parameters d.functions d.variables d.constraints q)
+    (λ d q t. moved_calm s d.phase d.level d.operations d.parameters d.functions d.variables d.constraints q)
 
 pub calm_after : (c : Counts) (ss : List Symbol) (d : Counts) → Counted c ss d → IsCalm c → IsCalm d
 calm_after c [] d h k = subst IsCalm h k

@@ -42,7 +42,7 @@ close_arguments zero rest c = by_token (MoreArguments zero) rest (FixedToken Clo
 close_arguments (suc n) rest c =
     by_token (MoreArguments (suc n)) rest (FixedToken Comma) _ refl (close_expression (MoreArguments n ∷ rest) (close_arguments n rest c))
 
-fixed_alone : (f : Fixed) → produced (Exactly f) (FixedToken f) ≡ Some ([], [])
+pub fixed_alone : (f : Fixed) → produced (Exactly f) (FixedToken f) ≡ Some ([], [])
 fixed_alone EndOfText = refl
 fixed_alone f = refl
 

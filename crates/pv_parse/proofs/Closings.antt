@@ -1,27 +1,27 @@
 -- What is to come has a text that stays within the limits, where the counts fit it.
-use Rattle.std.proofs.Common.{◌≡◌, ℕ, zero, suc, ◌+◌, ◌-◌, false, List, [], ◌∷◌, ◌++◌, refl, sym, ◌∙◌, subst, Some, Ok, pos}
+use Rattle.std.proofs.Common.{◌≡◌, ℕ, zero, suc, Bool, true, false, List, [], ◌∷◌, ◌++◌, refl, sym, subst, Option, Some, None, Ok, pos}
 use Rattle.pv_expr.specs.declared.constraint.Relation.TheVariants.{Eq}
 use Rattle.pv_code.specs.declared.code.Op.{Op}
 use Rattle.pv_code.specs.declared.code.Op.TheVariants.{Relate}
 use Rattle.pv_grammar.specs.declared.counts.Counts.{Counts}
 use Rattle.pv_grammar.specs.declared.counts.Phase.{Phase}
-use Rattle.pv_grammar.specs.declared.counts.Phase.TheVariants.{Constants, FunctionName, Parameters, Body, Variables, Bounds, NextConstraint, Sides}
+use Rattle.pv_grammar.specs.declared.counts.Phase.TheVariants.{Constants, FunctionName, Parameters, Body, Variables, NextConstraint, Sides}
 use Rattle.pv_grammar.specs.declared.symbol.Fixed.{Fixed}
-use Rattle.pv_grammar.specs.declared.symbol.Fixed.TheVariants.{Open, Close, OpenBracket, CloseBracket, Comma, Variables as VariablesWord, Constraints as ConstraintsWord, Return, End}
+use Rattle.pv_grammar.specs.declared.symbol.Fixed.TheVariants.{Open, Close, Comma, EndOfText}
 use Rattle.pv_grammar.specs.declared.symbol.Symbol.{Symbol}
 use Rattle.pv_grammar.specs.declared.symbol.Symbol.TheVariants.{Fixed as FixedToken, Relation as RelationToken, Number, Declared}
 use Rattle.pv_grammar.specs.declared.machine.Item.{Item}
-use Rattle.pv_grammar.specs.declared.machine.Item.TheVariants.{Exactly, WantConstant, WantEquals, MaybeSign, WantValue, WantFunctionName, WantParameter, MoreConstraints, MaybeConstraint, MoreParameters, WantVariable, MaybeDomain, WantBound, WantRelation, WantFactor, MoreFactors, MoreTerms, MaybePower, WantExponent, MoreArguments, Then}
+use Rattle.pv_grammar.specs.declared.machine.Item.TheVariants.{Exactly, WantConstant, WantEquals, MaybeSign, WantValue, WantFunctionName, WantParameter, MoreParameters, WantVariable, MaybeDomain, WantBound, WantRelation, WantFactor, MoreFactors, MoreTerms, MaybePower, WantExponent, MoreArguments, Then}
 use Rattle.pv_grammar.specs.Grammar.{Derives, MayEnd, Produced, begun as begun_text, done, left_out, produced, step_of}
-use Rattle.pv_grammar.specs.Counting.{Counted, behind_end, counted, in_level, in_phase, with_constraints, levels, moved, operates, with_parameters, with_variables, standing_of}
-use Rattle.pv_grammar.proofs.Ready.{FactorRoom, FixedRoom, InExpression, IsStill, Leaves, OpenRoom, Ready, Room, fixed_behind, in_sides, opened, opened_in, phase_is, room_in, seen}
-use Rattle.pv_grammar.proofs.Fits.{seen_end}
+use Rattle.pv_grammar.specs.Counting.{Counted, Counting, counted, in_phase, standing_of}
+use Rattle.pv_grammar.proofs.Ready.{IsAt, IsFound, Place, Ready, ReadyAfter, Rooms, behind, called, stands, through}
+use Rattle.pv_grammar.proofs.Fits.{kept, left}
+use Rattle.pv_grammar.proofs.Forward.{fixed_alone}
 use Rattle.pv_tokens.specs.declared.token.Kind.TheVariants.{Name}
 use Rattle.pv_parse.specs.ByItems.{AreBounded, AreWithin}
 use Rattle.pv_parse.specs.Meanings.{Names, learnt}
 use Rattle.pv_parse.specs.Sentences.{StandsFor}
 use Rattle.pv_parse.proofs.Pieces.{Closes as IsClosing, IsPiece, Mean, Piece, Plain, equal_token, fixed_token, fresh, fresh_known, fresh_piece, fresh_taken, learnt_bounded, named, zero_token}
-use Rattle.pv_grammar.specs.Standings.{begins_expression}
 
 -- a text of the items, which leads from some counts to others, and can be spelled where some names are declared
 pub record ClosesFrom (n : Names) (c : Counts) (items : List Item) : Type 0 where
@@ -33,157 +33,156 @@ pub record ClosesFrom (n : Names) (c : Counts) (items : List Item) : Type 0 wher
   pub within : Counted c symbols counts
   pub spelled : Mean n c pieces symbols
 
--- a text of what is to come behind an item, from all counts with a property
-abbrev Closes : (Counts → Type 0) → List Item → Type 0
-Closes P rest = (n : Names) → AreBounded n → (d : Counts) → P d → ClosesFrom n d rest
+-- a text of what is to come, wherever the counts fit it
+abbrev Closes : List Item → Type 0
+Closes items = (n : Names) → AreBounded n → (c : Counts) → Ready c items → ClosesFrom n c items
 
-out : (i : Item) (n : Names) (c : Counts) (rest : List Item) → MayEnd i → ClosesFrom n c rest → ClosesFrom n c (i ∷ rest)
-out i n c rest may h =
-    record { symbols = h.symbols; steps = step_of i ++ h.steps; counts = h.counts; pieces = h.pieces; derived = left_out i rest h.symbols h.steps may h.derived; within = h.within; spelled = h.spelled }
-
-by_piece : (i : Item) (n : Names) (c d : Counts) (rest : List Item) (s : Symbol) (x : Piece) (p : Produced) → produced i s ≡ Some p → counted c s ≡ Ok d → IsPiece x → StandsFor c.phase n x.bytes x.kind s →
-    ClosesFrom (learnt (standing_of c) s x.bytes n) d (p.0 ++ rest) → ClosesFrom n c (i ∷ rest)
-by_piece i n c d rest s x p e one is stands h = record {
-  symbols = s ∷ h.symbols;
-  steps = p.1 ++ h.steps;
-  counts = h.counts;
-  pieces = x ∷ h.pieces;
-  derived = begun_text i rest s h.symbols p h.steps e h.derived;
-  within = (d, one, h.within);
-  spelled = (d, is, stands, one, h.spelled);
-}
-
-by_token : (i : Item) (n : Names) (b : AreBounded n) (c d : Counts) (rest : List Item) (s : Symbol) (x : Plain s) (p : Produced) → produced i s ≡ Some p → counted c s ≡ Ok d →
-    ((m : Names) → AreBounded m → ClosesFrom m d (p.0 ++ rest)) → ClosesFrom n c (i ∷ rest)
-by_token i n b c d rest s x p e one g =
-    by_piece i n c d rest s x.piece p e one x.is_piece (x.stands c.phase n) (g (learnt (standing_of c) s x.piece.bytes n) (learnt_bounded c s x.piece.bytes n b))
-
--- the one token that may stand there
-exactly : (f : Fixed) → IsClosing f → (n : Names) (b : AreBounded n) (c d : Counts) (rest : List Item) → produced (Exactly f) (FixedToken f) ≡ Some ([], []) → counted c (FixedToken f) ≡ Ok d →
-    ((m : Names) → AreBounded m → ClosesFrom m d rest) → ClosesFrom n c (Exactly f ∷ rest)
-exactly f is n b c d rest e one g = by_token (Exactly f) n b c d rest (FixedToken f) (fixed_token f is) ([], []) e one g
-
--- a fresh name
-by_name : (i : Item) (n : Names) (b : AreBounded n) (c d : Counts) (rest : List Item) (p : Produced) → ((most : ℕ) → AreWithin n most → StandsFor c.phase n (fresh most) Name (Declared false)) → produced i (Declared false) ≡ Some p → counted c (Declared false) ≡ Ok d →
-    ((m : Names) → AreBounded m → ClosesFrom m d (p.0 ++ rest)) → ClosesFrom n c (i ∷ rest)
-by_name i n (most, b) c d rest p can e one g =
-    by_piece i n c d rest (Declared false) (named (fresh most)) p e one (fresh_piece most) (can most b)
-    (g (learnt (standing_of c) (Declared false) (fresh most) n) (learnt_bounded c (Declared false) (fresh most) n (most, b)))
+-- ---- The token with which the shortest text of an item begins is counted
 
 abbrev number : Symbol
 number = Number (record { p = pos 0; q = 1 }) (Some 0)
 
--- ---- Tokens that no limit forbids
+abbrev shortest : Item → Option Symbol
+shortest (Exactly f) = Some (FixedToken f)
+shortest WantConstant = Some (Declared false)
+shortest WantEquals = Some (RelationToken Eq)
+shortest WantValue = Some number
+shortest WantFunctionName = Some (Declared false)
+shortest WantParameter = Some (Declared false)
+shortest MoreParameters = Some (FixedToken Close)
+shortest WantVariable = Some (Declared false)
+shortest WantBound = Some number
+shortest WantRelation = Some (RelationToken Eq)
+shortest WantFactor = Some number
+shortest WantExponent = Some number
+shortest (MoreArguments zero) = Some (FixedToken Close)
+shortest (MoreArguments (suc n)) = Some (FixedToken Comma)
+shortest i = None
 
--- a token that begins no factor, counts as no operation and opens no level
-quiet_at : (p : Phase) (c : Counts) (s : Symbol) → begins_expression s ≡ false → operates s ≡ false → levels s (in_phase p c) ≡ Ok (in_phase p c) → counted (in_phase p c) s ≡ moved (in_phase p c) s
-quiet_at Body c s b o l = rw (b, o, l)
-quiet_at Sides c s b o l = rw (b, o, l)
-quiet_at p c s b o l = rw b
+-- a name stands where one is declared
+abbrev stands_in : Symbol → Phase → Bool
+stands_in (Declared taken) Constants = true
+stands_in (Declared taken) FunctionName = true
+stands_in (Declared taken) Parameters = true
+stands_in (Declared taken) Variables = true
+stands_in (Declared taken) p = false
+stands_in s p = true
 
--- counts behind a token, with a property
-record Past (c : Counts) (s : Symbol) (P : Counts → Type 0) : Type 0 where
-  counts : Counts
-  one : counted c s ≡ Ok counts
-  holds : P counts
+abbrev Goes : Bool → Counting → Type 0
+Goes true (Ok d) = Unit {0}
+Goes b r = ⊥
 
-number_at : (p : Phase) (c : Counts) → FactorRoom p c.constraints → Past (in_phase p c) number (λ d. seen d ≡ opened p (seen (in_phase p c)))
-number_at Body c h = record { counts = in_phase Body c; one = refl; holds = refl }
-number_at Sides c h = record { counts = in_phase Sides c; one = refl; holds = refl }
-number_at NextConstraint c h = record { counts = in_phase Sides (with_constraints (c.constraints + 1) c); one = rw h; holds = refl }
-number_at p c h = absurd h
+abbrev Granted : Option Symbol → Counts → Type 0
+Granted None c = Unit {0}
+Granted (Some s) c = Goes (stands_in s c.phase) (counted c s)
 
-value_at : (p : Phase) (c : Counts) → IsStill p → counted (in_phase p c) number ≡ Ok (in_phase p c)
-value_at Constants c h = refl
-value_at Bounds c h = refl
-value_at p c h = absurd h
+abbrev phase_of : Option Phase → Phase → Phase
+phase_of None p = p
+phase_of (Some q) p = q
 
-close_at : (p : Phase) (c : Counts) → InExpression p → counted (in_phase p c) (FixedToken Close) ≡ Ok (in_phase p (in_level (c.level - 1) c))
-close_at Body c h = refl
-close_at Sides c h = refl
-close_at p c h = absurd h
+granted_in : (i : Item) (o : Option Phase) (p : Phase) (a v k : Bool) (c : Counts) → Rooms a v k c → IsFound (behind i (stands o a v k)) → Granted (shortest i) (in_phase (phase_of o p) c)
+granted_in WantParameter (Some Parameters) p true v k c h f = rw h.0 tt
+granted_in WantVariable (Some Variables) p a true k c h f = rw h.1 tt
+granted_in WantFactor (Some NextConstraint) p a v true c h f = rw h.2 tt
+granted_in (MoreArguments zero) (Some Body) p a v k c h f = tt
+granted_in (Exactly EndOfText) (Some Body) p a v k c h f = absurd f
+granted_in (Exactly g) None Body a v k c h f = search
+granted_in i (Some Body) p a v k c h f = search
+granted_in i o p a v k c h f = search
 
-open_at : (p : Phase) (c : Counts) → OpenRoom p c.level → Past (in_phase p c) (FixedToken Open) (λ d. seen d ≡ seen (in_phase p c))
-open_at Body c h = record { counts = in_phase Body (in_level (c.level + 1) c); one = rw h; holds = refl }
-open_at Sides c h = record { counts = in_phase Sides (in_level (c.level + 1) c); one = rw h; holds = refl }
-open_at Parameters c h = record { counts = in_phase Parameters c; one = refl; holds = refl }
-open_at p c h = absurd h
+granted : (i : Item) (x : Place) (c : Counts) → IsAt x c → IsFound (behind i x) → Granted (shortest i) c
+granted (Exactly Open) (called (stands (Some Body) a v k)) c h f = subst (λ (p : Phase). Granted (Some (FixedToken Open)) (in_phase p c)) (sym h.1.0) (rw h.0 tt)
+granted (Exactly Open) (called (stands (Some Sides) a v k)) c h f = subst (λ (p : Phase). Granted (Some (FixedToken Open)) (in_phase p c)) (sym h.1.0) (rw h.0 tt)
+granted i (called x) c h f = search
+granted i (stands None a v k) c h f = granted_in i None c.phase a v k c h.1 f
+granted i (stands (Some q) a v k) c h f = subst (λ (p : Phase). Granted (shortest i) (in_phase p c)) (sym h.0) (granted_in i (Some q) c.phase a v k c h.1 f)
 
-comma_at : (p : Phase) (c : Counts) → InExpression p → counted (in_phase p c) (FixedToken Comma) ≡ Ok (in_phase p c)
-comma_at Body c h = refl
-comma_at Sides c h = refl
-comma_at p c h = absurd h
+found : (items : List Item) (o : Option Place) → IsFound (through items o) → IsFound o
+found items None f = f
+found items (Some x) f = tt
 
 -- ---- The text of each item
 
-close_number : (n : Names) (b : AreBounded n) (c : Counts) (rest : List Item) → FactorRoom c.phase c.constraints → Closes (λ d. seen d ≡ opened c.phase (seen c)) rest → ClosesFrom n c (WantFactor ∷ rest)
-close_number n b c rest h g =
-    let z = number_at c.phase c h in
-    by_token WantFactor n b c z.counts rest number zero_token _ refl z.one (λ m k. out MaybePower m z.counts rest tt (g m k z.counts z.holds))
+goes_on : (b : Bool) (r : Counting) → Goes b r → (b ≡ true) × ((d : Counts) × (r ≡ Ok d))
+goes_on true (Ok d) h = (refl, (d, refl))
+goes_on b r h = absurd h
+
+by_piece : (i : Item) (rest : List Item) (s : Symbol) (p : Produced) → produced i s ≡ Some p → shortest i ≡ Some s →
+    ((n : Names) → AreBounded n → (q : Phase) → stands_in s q ≡ true → (x : Piece) × IsPiece x × StandsFor q n x.bytes x.kind s) → Closes (p.0 ++ rest) → Closes (i ∷ rest)
+by_piece i rest s p e is spell g n b c (y, at_y, f) =
+    let (there, (d, one)) = goes_on (stands_in s c.phase) (counted c s) (subst (λ (o : Option Symbol). Granted o c) is (granted i y c at_y (found rest (behind i y) f))) in
+    let (x, piece, stands_for) = spell n b c.phase there in
+    let h : ClosesFrom (learnt (standing_of c) s x.bytes n) d (p.0 ++ rest) = g (learnt (standing_of c) s x.bytes n) (learnt_bounded c s x.bytes n b) d (subst (λ (o : Option Produced). ReadyAfter o d rest) e (kept i s c d rest (y, at_y, f) one)) in
+    record {
+      symbols = s ∷ h.symbols;
+      steps = p.1 ++ h.steps;
+      counts = h.counts;
+      pieces = x ∷ h.pieces;
+      derived = begun_text i rest s h.symbols p h.steps e h.derived;
+      within = (d, one, h.within);
+      spelled = (d, piece, stands_for, one, h.spelled);
+    }
+
+by_token : (i : Item) (rest : List Item) (s : Symbol) (x : Plain s) (p : Produced) → produced i s ≡ Some p → shortest i ≡ Some s → Closes (p.0 ++ rest) → Closes (i ∷ rest)
+by_token i rest s x p e is g = by_piece i rest s p e is (λ n b q there. (x.piece, x.is_piece, x.stands q n)) g
+
+fresh_at : (q : Phase) (n : Names) (most : ℕ) → AreWithin n most → stands_in (Declared false) q ≡ true → StandsFor q n (fresh most) Name (Declared false)
+fresh_at Constants n most b t = fresh_known n most b
+fresh_at FunctionName n most b t = fresh_known n most b
+fresh_at Variables n most b t = fresh_known n most b
+fresh_at Parameters n most b t = fresh_taken n most b
+fresh_at q n most b t = absurd (cc)
+
+-- a fresh name
+by_name : (i : Item) (rest : List Item) (p : Produced) → produced i (Declared false) ≡ Some p → shortest i ≡ Some (Declared false) → Closes (p.0 ++ rest) → Closes (i ∷ rest)
+by_name i rest p e is g = by_piece i rest (Declared false) p e is (λ n (most, b) q there. (named (fresh most), fresh_piece most, fresh_at q n most b there)) g
+
+out : (i : Item) (rest : List Item) → MayEnd i → Closes rest → Closes (i ∷ rest)
+out i rest may g n b c r =
+    let h : ClosesFrom n c rest = g n b c (left i c rest may r) in
+    record { symbols = h.symbols; steps = step_of i ++ h.steps; counts = h.counts; pieces = h.pieces; derived = left_out i rest h.symbols h.steps may h.derived; within = h.within; spelled = h.spelled }
 
 -- an expression, where one is being read
-close_expression : (n : Names) (b : AreBounded n) (c : Counts) (rest : List Item) → InExpression c.phase → Closes (λ d. seen d ≡ seen c) rest → ClosesFrom n c (WantFactor ∷ MoreFactors ∷ MoreTerms ∷ rest)
-close_expression n b c rest h g =
-    close_number n b c (MoreFactors ∷ MoreTerms ∷ rest) (room_in c.phase c.constraints h)
-    (λ m k d l. out MoreFactors m d (MoreTerms ∷ rest) tt (out MoreTerms m d rest tt (g m k d (l ∙ opened_in c.phase (seen c) h))))
+close_factor : (rest : List Item) → Closes rest → Closes (WantFactor ∷ rest)
+close_factor rest g = by_token WantFactor rest number zero_token _ refl refl (out MaybePower rest tt g)
 
-close_arguments : (a : ℕ) (n : Names) (b : AreBounded n) (c : Counts) (rest : List Item) → InExpression c.phase → Closes (λ d. seen d ≡ seen c) rest → ClosesFrom n c (MoreArguments a ∷ rest)
-close_arguments zero n b c rest h g =
-    by_token (MoreArguments zero) n b c (in_level (c.level - 1) c) rest (FixedToken Close) (fixed_token Close tt) _ refl (close_at c.phase c h) (λ m k. g m k (in_level (c.level - 1) c) refl)
-close_arguments (suc a) n b c rest h g =
-    by_token (MoreArguments (suc a)) n b c c rest (FixedToken Comma) (fixed_token Comma tt) _ refl (comma_at c.phase c h)
-    (λ m k. close_expression m k c (MoreArguments a ∷ rest) h (λ m' k' d l. close_arguments a m' k' d rest (in_sides c.phase d.phase (phase_is c d l) h) (λ m'' k'' d' l'. g m'' k'' d' (l' ∙ l))))
+close_expression : (rest : List Item) → Closes rest → Closes (WantFactor ∷ MoreFactors ∷ MoreTerms ∷ rest)
+close_expression rest g = close_factor (MoreFactors ∷ MoreTerms ∷ rest) (out MoreFactors (MoreTerms ∷ rest) tt (out MoreTerms rest tt g))
 
--- an item that stands in one phase alone
-in_part : (q : Phase) (i : Item) (n : Names) (c : Counts) (rest : List Item) → c.phase ≡ q → (Closes (λ d. Leaves i (in_phase q c) d) rest → ClosesFrom n (in_phase q c) (i ∷ rest)) →
-    Closes (λ d. Leaves i c d) rest → ClosesFrom n c (i ∷ rest)
-in_part q i n c rest e = subst (λ (p : Phase). Closes (λ d. Leaves i (in_phase p c) d) rest → ClosesFrom n (in_phase p c) (i ∷ rest)) (sym e)
+close_arguments : (a : ℕ) (rest : List Item) → Closes rest → Closes (MoreArguments a ∷ rest)
+close_arguments zero rest g = by_token (MoreArguments zero) rest (FixedToken Close) (fixed_token Close tt) _ refl refl g
+close_arguments (suc a) rest g =
+    by_token (MoreArguments (suc a)) rest (FixedToken Comma) (fixed_token Comma tt) _ refl refl (close_expression (MoreArguments a ∷ rest) (close_arguments a rest g))
 
-close_fixed : (f : Fixed) (n : Names) (b : AreBounded n) (c : Counts) (rest : List Item) → FixedRoom f c → Closes (λ d. seen d ≡ fixed_behind f (seen c)) rest → ClosesFrom n c (Exactly f ∷ rest)
-close_fixed Open n b c rest h g =
-    let z = open_at c.phase c h in
-    exactly Open tt n b c z.counts rest refl z.one (λ m k. g m k z.counts z.holds)
-close_fixed Comma n b c rest h g = in_part Bounds (Exactly Comma) n c rest h (λ g'. exactly Comma tt n b (in_phase Bounds c) (in_phase Bounds c) rest refl refl (λ m k. g' m k _ refl)) g
-close_fixed Return n b c rest h g = exactly Return tt n b c _ rest refl (quiet_at c.phase c (FixedToken Return) refl refl refl) (λ m k. g m k _ refl)
-close_fixed VariablesWord n b c rest h g = exactly VariablesWord tt n b c _ rest refl (quiet_at c.phase c (FixedToken VariablesWord) refl refl refl) (λ m k. g m k _ refl)
-close_fixed ConstraintsWord n b c rest h g = exactly ConstraintsWord tt n b c _ rest refl (quiet_at c.phase c (FixedToken ConstraintsWord) refl refl refl) (λ m k. g m k _ refl)
-close_fixed OpenBracket n b c rest h g = exactly OpenBracket tt n b c _ rest refl (quiet_at c.phase c (FixedToken OpenBracket) refl refl refl) (λ m k. g m k _ refl)
-close_fixed CloseBracket n b c rest h g = exactly CloseBracket tt n b c _ rest refl (quiet_at c.phase c (FixedToken CloseBracket) refl refl refl) (λ m k. g m k _ refl)
-close_fixed End n b c rest h g = exactly End tt n b c _ rest refl (quiet_at c.phase c (FixedToken End) refl refl refl) (λ m k. g m k (behind_end c.phase c) (seen_end c.phase c))
-close_fixed f n b c rest h g = absurd h
+-- the one token that may stand there
+closing : (f : Fixed) (x : Place) → IsFound (behind (Exactly f) x) → IsClosing f
+closing Open x h = tt
+closing f x h = search
 
-close : (i : Item) (n : Names) (b : AreBounded n) (c : Counts) (rest : List Item) → Room i c → Closes (λ d. Leaves i c d) rest → ClosesFrom n c (i ∷ rest)
-close (Exactly f) n b c rest h g = close_fixed f n b c rest h g
-close WantConstant n b c rest h g =
-    let d : Counts = in_phase Constants c in
-    in_part Constants WantConstant n c rest h (λ g'. by_name WantConstant n b d d rest _ (fresh_known n) refl refl
-    (λ m k. by_token WantEquals m k d d (MaybeSign ∷ WantValue ∷ rest) (RelationToken Eq) equal_token _ refl refl
-    (λ m' k'. out MaybeSign m' d (WantValue ∷ rest) tt (by_token WantValue m' k' d d rest number zero_token _ refl refl (λ l r. g' l r d refl))))) g
-close WantEquals n b c rest h g = by_token WantEquals n b c c rest (RelationToken Eq) equal_token _ refl (quiet_at c.phase c (RelationToken Eq) refl refl refl) (λ m k. g m k c refl)
-close WantValue n b c rest h g = by_token WantValue n b c c rest number zero_token _ refl (value_at c.phase c h) (λ m k. g m k c refl)
-close WantFunctionName n b c rest h g =
-    in_part FunctionName WantFunctionName n c rest h (λ g'. by_name WantFunctionName n b (in_phase FunctionName c) (in_phase Parameters c) rest _ (fresh_known n) refl refl (λ m k. g' m k (in_phase Parameters c) refl)) g
-close WantParameter n b c rest h g =
-    in_part Parameters WantParameter n c rest h.0 (λ g'. by_name WantParameter n b (in_phase Parameters c) (in_phase Parameters (with_parameters (c.parameters + 1) c)) rest _ (fresh_taken n) refl (rw h.1) (λ m k. g' m k _ refl)) g
-close MoreParameters n b c rest h g =
-    in_part Parameters MoreParameters n c rest h (λ g'. by_token MoreParameters n b (in_phase Parameters c) (in_phase Parameters c) rest (FixedToken Close) (fixed_token Close tt) _ refl refl (λ m k. g' m k _ refl)) g
-close WantVariable n b c rest h g =
-    let d : Counts = in_phase Variables (with_variables (c.variables + 1) c) in
-    in_part Variables WantVariable n c rest h.0 (λ g'. by_name WantVariable n b (in_phase Variables c) d rest _ (fresh_known n) refl (rw h.1) (λ m k. out MaybeDomain m d rest tt (g' m k d refl))) g
-close WantBound n b c rest h g = by_token WantBound n b c c rest number zero_token _ refl (value_at c.phase c h) (λ m k. g m k c refl)
-close WantRelation n b c rest h g =
-    by_token WantRelation n b c c rest (RelationToken Eq) equal_token _ refl (quiet_at c.phase c (RelationToken Eq) refl refl refl)
-    (λ m k. close_expression m k c (Then (Relate Eq) ∷ rest) h (λ m' k' d l. out (Then (Relate Eq)) m' d rest tt (g m' k' d l)))
-close WantFactor n b c rest h g = close_number n b c rest h g
-close WantExponent n b c rest h g =
-    let z = number_at c.phase c (room_in c.phase c.constraints h) in
-    by_token WantExponent n b c z.counts rest number zero_token _ refl z.one (λ m k. g m k z.counts (z.holds ∙ opened_in c.phase (seen c) h))
-close (MoreArguments a) n b c rest h g = close_arguments a n b c rest h g
-close MoreConstraints n b c rest h g = out MoreConstraints n c rest tt (g n b c tt)
-close MaybeConstraint n b c rest h g = out MaybeConstraint n c rest tt (g n b c tt)
-close i n b c rest h g = out i n c rest tt (g n b c refl)
+close_fixed : (f : Fixed) (rest : List Item) → Closes rest → Closes (Exactly f ∷ rest)
+close_fixed f rest g n b c (x, h, k) =
+    by_token (Exactly f) rest (FixedToken f) (fixed_token f (closing f x (found rest (behind (Exactly f) x) k))) ([], []) (fixed_alone f) refl g n b c (x, h, k)
+
+close : (i : Item) (rest : List Item) → Closes rest → Closes (i ∷ rest)
+close (Exactly f) rest g = close_fixed f rest g
+close WantConstant rest g =
+    by_name WantConstant rest _ refl refl (by_token WantEquals (MaybeSign ∷ WantValue ∷ rest) (RelationToken Eq) equal_token _ refl refl
+    (out MaybeSign (WantValue ∷ rest) tt (by_token WantValue rest number zero_token _ refl refl g)))
+close WantEquals rest g = by_token WantEquals rest (RelationToken Eq) equal_token _ refl refl g
+close WantValue rest g = by_token WantValue rest number zero_token _ refl refl g
+close WantFunctionName rest g = by_name WantFunctionName rest _ refl refl g
+close WantParameter rest g = by_name WantParameter rest _ refl refl g
+close MoreParameters rest g = by_token MoreParameters rest (FixedToken Close) (fixed_token Close tt) _ refl refl g
+close WantVariable rest g = by_name WantVariable rest _ refl refl (out MaybeDomain rest tt g)
+close WantBound rest g = by_token WantBound rest number zero_token _ refl refl g
+close WantRelation rest g =
+    by_token WantRelation rest (RelationToken Eq) equal_token _ refl refl (close_expression (Then (Relate Eq) ∷ rest) (out (Then (Relate Eq)) rest tt g))
+close WantFactor rest g = close_factor rest g
+close WantExponent rest g = by_token WantExponent rest number zero_token _ refl refl g
+close (MoreArguments a) rest g = close_arguments a rest g
+close i rest g = out i rest tt g
 
 -- items that the counts fit have a text within the limits
 pub closes : (n : Names) → AreBounded n → (c : Counts) (items : List Item) → Ready c items → ClosesFrom n c items
 closes n b c [] r = record { symbols = []; steps = []; counts = c; pieces = []; derived = done; within = refl; spelled = tt }
-closes n b c (i ∷ items) r = close i n b c items r.0 (λ m k d l. closes m k d items (r.1 d l))
+closes n b c (i ∷ items) r = close i items (λ m k d q. closes m k d items q) n b c r
