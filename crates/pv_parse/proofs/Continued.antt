@@ -1,12 +1,11 @@
 -- A text that is cut behind a token has the same tokens up to there, where it goes on with those of a closing, each behind a blank.
-use Rattle.std.proofs.Common.{Ok, ◌≡◌, ℕ, zero, suc, ◌+◌, ◌-◌, ◌<◌, ◌≤◌, inl, inr, List, [], ◌∷◌, ◌++◌, length, get_or, take, length-append, refl, sym, ap, ◌∙◌, subst, arith, ⊎_elim}
+use Rattle.std.proofs.Common.{◌≡◌, ℕ, zero, suc, ◌+◌, ◌-◌, ◌<◌, ◌≤◌, inl, inr, List, [], ◌∷◌, ◌++◌, length, get_or, take, length-append, refl, sym, ap, ◌∙◌, subst, arith, ⊎_elim}
 use Rattle.std.proofs.lemmas.List.{ext_get_or, get_or_append_left, get_or-append-add, get_or-take, length-take-le}
-use Rattle.pv_code.specs.declared.code.Op.{Op}
 use Rattle.pv_grammar.specs.declared.counts.Counts.{Counts}
-use Rattle.pv_grammar.specs.declared.machine.Item.{Item}
 use Rattle.pv_grammar.specs.declared.symbol.Symbol.{Symbol}
-use Rattle.pv_grammar.specs.Grammar.{Derives}
-use Rattle.pv_grammar.specs.Counting.{Counted, Counting, counted, standing_of}
+use Rattle.pv_grammar.specs.Counting.{standing_of}
+use Rattle.pv_grammar.specs.Standings.{Standing, standing_after, standing_behind}
+use Rattle.pv_grammar.proofs.Following.{stands_behind}
 use Rattle.pv_tokens.specs.declared.numeral.Parts.{Parts}
 use Rattle.pv_tokens.specs.declared.token.Kind.{Kind}
 use Rattle.pv_tokens.specs.declared.token.Kind.TheVariants.{End}
@@ -17,10 +16,8 @@ use Rattle.pv_tokens.specs.Tokens.IsWord.{name, number, less_equal, greater_equa
 use Rattle.pv_tokens.proofs.Exists.{Opens, next_on, next_takes, next_within, opens, separated_on, separates_on, separator_from, word_within}
 use Rattle.pv_tokens.proofs.Numerals.{exponent_longer, exponent_on, fraction_on}
 use Rattle.pv_tokens.proofs.Slices.{byte_in, length_slice}
-use Rattle.pv_parse.specs.ByItems.{ClosesByItems}
 use Rattle.pv_parse.specs.Meanings.{Names, learnt}
-use Rattle.pv_parse.specs.Sentences.{bytes_of}
-use Rattle.pv_parse.specs.ByCounts.{SpellsToWithin}
+use Rattle.pv_parse.specs.Sentences.{Spells, SpellsTo, bytes_of}
 use Rattle.pv_parse.proofs.Pieces.{IsPiece, Mean, Piece, Placed}
 
 -- two texts share their first bytes
@@ -35,10 +32,6 @@ turned t u f h = record { same = λ k l. sym (h.same k l); inside = h.other; oth
 -- a blank, or what a text reads as behind its end
 abbrev IsGap : ℕ → Type 0
 IsGap b = b ≤ 32
-
--- what is counted is counted once
-pub ok_same : {v w : Counts} (r : Counting) → r ≡ Ok v → r ≡ Ok w → v ≡ w
-ok_same r e f = cc
 
 -- ---- Words, blanks and comments
 
@@ -115,10 +108,10 @@ stops_at u i f kind k l g w = grind arith
 -- ---- Tokens
 
 -- tokens go on, within the text
-spells_on : (t : List ℕ) (n : Names) (c : Counts) (from : ℕ) (ss : List Symbol) (to : ℕ) (m : Names) → from ≤ length t → SpellsToWithin t n c from ss to m → (from ≤ to) × (to ≤ length t)
-spells_on t n c from [] to m l h = (omega (arith, h.0), omega (arith, h.0))
-spells_on t n c from (s ∷ ss) to m l (x, d, next, inner, stands, one, rest) =
-    let (on, inside) = spells_on t (learnt (standing_of c) s (bytes_of t x) n) d x.end ss to m (next_within t from x next) rest in
+spells_on : (t : List ℕ) (n : Names) (y : Standing) (from : ℕ) (ss : List Symbol) (to : ℕ) (m : Names) → from ≤ length t → SpellsTo t n y from ss to m → (from ≤ to) × (to ≤ length t)
+spells_on t n y from [] to m l h = (omega (arith, h.0), omega (arith, h.0))
+spells_on t n y from (s ∷ ss) to m l (x, next, inner, stands, rest) =
+    let (on, inside) = spells_on t (learnt y s (bytes_of t x) n) (standing_behind y s) x.end ss to m (next_within t from x next) rest in
     (omega (arith, next_on t from x next, next_takes t from x inner next, on), inside)
 
 module _ (t u : List ℕ) (f : ℕ) (h : Shares t u f) (g : IsGap (get_or u f 0)) where
@@ -151,19 +144,19 @@ module _ (t u : List ℕ) (f : ℕ) (h : Shares t u f) (g : IsGap (get_or u f 0)
       ext_get_or 0 (bytes_of t x) (bytes_of u x) (t_long ∙ sym u_long)
       (λ i b. byte_in t x.start x.end (x.start + i) i refl (omega arith) ∙ (h.same (x.start + i) (omega arith) ∙ sym (byte_in u x.start x.end (x.start + i) i refl (omega arith))))
 
-  spells_shared : (n : Names) (c : Counts) (from : ℕ) (ss : List Symbol) (to : ℕ) (m : Names) → to ≤ f → SpellsToWithin t n c from ss to m → SpellsToWithin u n c from ss to m
-  spells_shared n c from [] to m l s = s
-  spells_shared n c from (s ∷ ss) to m l (x, d, next, inner, stands, one, rest) =
-      let (below, inside) = spells_on t (learnt (standing_of c) s (bytes_of t x) n) d x.end ss to m (next_within t from x next) rest in
+  spells_shared : (n : Names) (y : Standing) (from : ℕ) (ss : List Symbol) (to : ℕ) (m : Names) → to ≤ f → SpellsTo t n y from ss to m → SpellsTo u n y from ss to m
+  spells_shared n y from [] to m l s = s
+  spells_shared n y from (s ∷ ss) to m l (x, next, inner, stands, rest) =
+      let (below, inside) = spells_on t (learnt y s (bytes_of t x) n) (standing_behind y s) x.end ss to m (next_within t from x next) rest in
       let bytes : bytes_of t x ≡ bytes_of u x = bytes_shared x (omega arith) in
-      let more = spells_shared (learnt (standing_of c) s (bytes_of t x) n) d x.end ss to m l rest in
-      (x, d, next_shared from x (omega arith) inner next, inner, rw bytes at stands, one, rw bytes at more)
+      let more = spells_shared (learnt y s (bytes_of t x) n) (standing_behind y s) x.end ss to m l rest in
+      (x, next_shared from x (omega arith) inner next, inner, rw bytes at stands, rw bytes at more)
 
-pub spells_all : (t : List ℕ) (n : Names) (c : Counts) (from : ℕ) (xs : List Symbol) (mid : ℕ) (k : Names) (d : Counts) (ys : List Symbol) (to : ℕ) (m : Names) → SpellsToWithin t n c from xs mid k → Counted c xs d →
-    SpellsToWithin t k d mid ys to m → SpellsToWithin t n c from (xs ++ ys) to m
-spells_all t n c from [] mid k d ys to m h e more = rw (e, h.0, h.1) more
-spells_all t n c from (s ∷ xs) mid k d ys to m (x, g, next, inner, stands, one, rest) (g', one', counts) more =
-    (x, g, next, inner, stands, one, spells_all t (learnt (standing_of c) s (bytes_of t x) n) g x.end xs mid k d ys to m rest (rw (ok_same (counted c s) one' one) at counts) more)
+pub spells_all : (t : List ℕ) (n : Names) (y : Standing) (from : ℕ) (xs : List Symbol) (mid : ℕ) (k : Names) (ys : List Symbol) (to : ℕ) (m : Names) → SpellsTo t n y from xs mid k →
+    SpellsTo t k (standing_after y xs) mid ys to m → SpellsTo t n y from (xs ++ ys) to m
+spells_all t n y from [] mid k ys to m h more = rw (h.0, h.1) more
+spells_all t n y from (s ∷ xs) mid k ys to m (x, next, inner, stands, rest) more =
+    (x, next, inner, stands, spells_all t (learnt y s (bytes_of t x) n) (standing_behind y s) x.end xs mid k ys to m rest more)
 
 -- the end of a text is its next token there
 pub next_end : (t : List ℕ) → IsNext t (length t) (record { kind = End; start = length t; end = length t })
@@ -176,7 +169,7 @@ next_end t = record {
 
 -- ---- The text of a closing
 
-abbrev text_of : List Piece → List ℕ
+abbrev pub text_of : List Piece → List ℕ
 text_of [] = []
 text_of (x ∷ xs) = 32 ∷ (x.bytes ++ text_of xs)
 
@@ -225,7 +218,7 @@ module _ (w : List ℕ) (at : ℕ) (x : Piece) (blank_there : IsBlank (get_or w 
       (λ i l. sym (byte_in w (at + 1) (at + 1 + length x.bytes) (at + 1 + i) i refl (omega arith) ∙ there.each i l))
 
 -- the names that are known at the end, and the tokens up to there
-spells_tail : (xs : List Piece) (ss : List Symbol) (w : List ℕ) (at : ℕ) (n : Names) (c : Counts) → Ends w at (text_of xs) → Mean n c xs ss → (m : Names) × SpellsToWithin w n c at ss (length w) m
+spells_tail : (xs : List Piece) (ss : List Symbol) (w : List ℕ) (at : ℕ) (n : Names) (c : Counts) → Ends w at (text_of xs) → Mean n c xs ss → (m : Names) × SpellsTo w n (standing_of c) at ss (length w) m
 spells_tail [] [] w at n c h means = (n, (omega (arith, h.long), refl))
 spells_tail [] (s ∷ ss) w at n c h means = absurd means
 spells_tail (x ∷ xs) [] w at n c h means = absurd means
@@ -236,8 +229,9 @@ spells_tail (x ∷ xs) (s ∷ ss) w at n c h (d, is, stands, one, rest) =
     let blank_there : IsBlank (get_or w at 0) = inl (grind (arith, h.each 0)) in
     let bytes = bytes_there w at x blank_there there in
     let (m, more) = spells_tail xs ss w (at + 1 + length x.bytes) (learnt (standing_of c) s x.bytes n) d behind rest in
-    let more' = subst (λ (z : List ℕ). SpellsToWithin w (learnt (standing_of c) s z n) d (at + 1 + length x.bytes) ss (length w) m) bytes more in
-    (m, (token_at at x, d, next_piece w at x blank_there there is (gap_at w (at + 1 + length x.bytes) xs behind), is.inner, rw bytes at stands, one, more'))
+    let more' = subst (λ (z : List ℕ). SpellsTo w (learnt (standing_of c) s z n) (standing_of d) (at + 1 + length x.bytes) ss (length w) m) bytes more in
+    (m, (token_at at x, next_piece w at x blank_there there is (gap_at w (at + 1 + length x.bytes) xs behind), is.inner, rw bytes at stands,
+    subst (λ (z : Standing). SpellsTo w (learnt (standing_of c) s (bytes_of w (token_at at x)) n) z (at + 1 + length x.bytes) ss (length w) m) (stands_behind c d s one) more'))
 
 -- a text up to a place, and other bytes behind
 shares : (t v : List ℕ) (f : ℕ) → f ≤ length t → Shares t (take f t ++ v) f
@@ -250,37 +244,16 @@ shares t v f l =
       other = omega (arith, cut, whole);
     }
 
--- the tokens of a text up to a place, and some more, are a sentence of their own
-pub continued : (t : List ℕ) (known names : Names) (start counts final : Counts) (items : List Item) (before ss : List Symbol) (steps : List Op) (from : ℕ) (xs : List Piece) →
-    SpellsToWithin t known start 0 before from names → Counted start before counts → Mean names counts xs ss → Derives items (before ++ ss) steps → Counted start (before ++ ss) final →
-    ClosesByItems t known start items from before
-continued t known names start counts final items before ss steps from xs spelled within means derived limits =
-    let inside : from ≤ length t = (spells_on t known start 0 before from names (omega arith) spelled).1 in
+-- the tokens of a text up to a place, and those of a closing, are the tokens of a text of their own
+pub continued : (t : List ℕ) (known names : Names) (y : Standing) (c : Counts) (before ss : List Symbol) (from : ℕ) (xs : List Piece) → SpellsTo t known y 0 before from names →
+    standing_of c ≡ standing_after y before → Mean names c xs ss → Spells (take from t ++ text_of xs) known y (before ++ ss)
+continued t known names y c before ss from xs spelled there means =
+    let inside : from ≤ length t = (spells_on t known y 0 before from names (omega arith) spelled).1 in
     let cut : length (take from t) ≡ from = length-take-le from t inside in
     let w : List ℕ = take from t ++ text_of xs in
     let behind : Ends w from (text_of xs) =
     record { each = λ k. ap (λ i. get_or w (i + k) 0) (sym cut) ∙ get_or-append-add (take from t) (text_of xs) k 0; long = omega (arith, cut, length-append (take from t) (text_of xs)) } in
-    let first : SpellsToWithin w known start 0 before from names = spells_shared t w from (shares t (text_of xs) from inside) (gap_at w from xs behind) known start 0 before from names (omega arith) spelled in
-    let (m, last) = spells_tail xs ss w from names counts behind means in
-    record {
-      tail = text_of xs;
-      code = steps;
-      rest = ss;
-      tokens = refl;
-      sentence = record {
-        symbols = before ++ ss;
-        steps = steps;
-        counts = final;
-        spelled = (
-          length w,
-          m,
-          record { kind = End; start = length w; end = length w },
-          spells_all w known start 0 before from names counts ss (length w) m first within last,
-          next_end w,
-          refl,
-        );
-        within = limits;
-        derived = derived;
-        code_is = refl;
-      };
-    }
+    let first : SpellsTo w known y 0 before from names = spells_shared t w from (shares t (text_of xs) from inside) (gap_at w from xs behind) known y 0 before from names (omega arith) spelled in
+    let (m, last) = spells_tail xs ss w from names c behind means in
+    let last' : SpellsTo w names (standing_after y before) from ss (length w) m = subst (λ (z : Standing). SpellsTo w names z from ss (length w) m) there last in
+    (length w, m, record { kind = End; start = length w; end = length w }, spells_all w known y 0 before from names ss (length w) m first last', next_end w, refl)

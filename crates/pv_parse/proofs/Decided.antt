@@ -26,15 +26,14 @@ use Rattle.pv_tokens.proofs.Exists.{digits_from, next_from, next_more, next_on, 
 use Rattle.pv_tokens.proofs.OneRatio.{common}
 use Rattle.pv_tokens.proofs.Powers.{divided, least_power}
 use Rattle.pv_tokens.proofs.Slices.{same_numeral, token_numeral}
-use Rattle.pv_parse.specs.ByItems.{AreBounded, IsFirstByItems, IsSentence}
+use Rattle.pv_parse.specs.ByItems.{AreBounded, IsFirstFrom, IsLimitedFrom}
 use Rattle.pv_parse.specs.Faults.{IsEither, IsExpressionFault, IsSystemFault}
 use Rattle.pv_parse.specs.Meanings.{KnowsVariables, Names, learnt, no_names, variables_from}
-use Rattle.pv_parse.specs.Sentences.{IsExpressionText, IsNumberSymbol, IsSystemText, MayRaise, StandsFor, bytes_of}
-use Rattle.pv_parse.proofs.ByTrees.{expression_first, system_first}
+use Rattle.pv_parse.specs.Sentences.{IsExpressionText, IsNumberSymbol, IsSystemText, MayRaise, Spells, StandsFor, bytes_of}
 use Rattle.pv_parse.proofs.Pieces.{known_bounded, none_bounded}
-use Rattle.pv_parse.proofs.Reached.{Reached, forbidden, refused, starts, taken_not_end, taken_on, too_much, whole}
+use Rattle.pv_parse.proofs.Reached.{Reached, starts}
+use Rattle.pv_parse.proofs.Taken.{forbidden, refused, taken_not_end, taken_on, too_much, whole}
 use Rattle.pv_parse.proofs.Same.{same_refl}
-use Rattle.pv_parse.proofs.TreeTexts.{expression_sentence_tree, sentence_tree}
 
 -- ---- What a token stands for
 
@@ -95,62 +94,54 @@ meets s (i ∷ items) code = meets_by s i items code (produced i s) refl (λ m. 
 
 -- ---- One token after another
 
--- the text is a sentence or has a first fault
-abbrev pub Decides : List ℕ → Names → Counts → List Item → Type 0
-Decides t known start items = ((code : List Op) × IsSentence t known start items [] code) ⊎ ((byte : ℕ) × (cause : Cause) × IsFirstByItems t known start items byte cause)
+-- the text is one within the limits or has a first fault
+abbrev pub Decides : List ℕ → Names → Counts → Type 0
+Decides t known start = IsEither ((ss : List Symbol) × Spells t known (standing_of start) ss × IsLimitedFrom start.phase ss) (IsFirstFrom t known start)
 
-module _ (t : List ℕ) (known names : Names) (start counts : Counts) (first : List Item) (items : List Item) (code : List Op) (from : ℕ)
-    (r : Reached t known names start counts first [] items code from) (x : Token) (s : Symbol) (next : IsNext t from x) (stands : StandsFor counts.phase names (bytes_of t x) x.kind s)
-    (go : ¬ (x.kind ≡ End) → (d : Counts) (items'' : List Item) (code'' : List Op) → Reached t known (learnt (standing_of counts) s (bytes_of t x) names) start d first [] items'' code'' x.end →
-    Decides t known start first) where
+module _ {t : List ℕ} {known names : Names} {start counts : Counts} {first : List Item} {initial : List Op} {items : List Item} {code : List Op} {from : ℕ}
+    (r : Reached t known names start counts first initial items code from) {x : Token} {s : Symbol} (next : IsNext t from x) (stands : StandsFor counts.phase names (bytes_of t x) x.kind s)
+    (go : ¬ (x.kind ≡ End) → (d : Counts) (items'' : List Item) (code'' : List Op) →
+    Reached t known (learnt (standing_of counts) s (bytes_of t x) names) start d first initial items'' code'' x.end → Decides t known start) where
   counted_by : (i : Item) (rest : List Item) (code' : List Op) (p : Produced) → Settles s items code (Some i) rest code' → Follows (produced i s) rest code' (p.0 ++ rest) (code' ++ p.1) →
-      (k : Result Counts Cause) → counted counts s ≡ k → Decides t known start first
-  counted_by i rest code' p settles follows (Ok d) e =
-      go (taken_not_end t known names start counts first [] items code from r x s i rest code' (p.0 ++ rest) (code' ++ p.1) stands settles follows) d (p.0 ++ rest) (code' ++ p.1)
-      (taken_on t known names start counts d first [] items code from r x s i rest code' (p.0 ++ rest) (code' ++ p.1) next stands settles follows e)
-  counted_by i rest code' p settles follows (Err cause) e =
-      inr (x.start, cause, forbidden t known names start counts first [] items code from r x s i rest code' (p.0 ++ rest) (code' ++ p.1) cause next stands settles follows e)
+      (k : Result Counts Cause) → counted counts s ≡ k → Decides t known start
+  counted_by i rest code' p settles follows (Ok d) e = go (taken_not_end r next stands settles _ _ follows) d (p.0 ++ rest) (code' ++ p.1) (taken_on r next stands settles _ _ follows e)
+  counted_by i rest code' p settles follows (Err cause) e = inr (x.start, cause, forbidden r next stands settles _ _ follows cause e)
 
-  taken_by : (i : Item) (rest : List Item) (code' : List Op) → Settles s items code (Some i) rest code' → (o : Option Produced) → produced i s ≡ o → Decides t known start first
-  taken_by i rest code' settles None e = inr (x.start, refusal (is_exponent i) s, refused t known names start counts first [] items code from r x s i rest code' (is_exponent i) next stands settles e refl)
+  taken_by : (i : Item) (rest : List Item) (code' : List Op) → Settles s items code (Some i) rest code' → (o : Option Produced) → produced i s ≡ o → Decides t known start
+  taken_by i rest code' settles None e = inr (x.start, refusal (is_exponent i) s, refused r next stands settles (is_exponent i) e refl)
   taken_by i rest code' settles (Some p) e = counted_by i rest code' p settles (rw e (refl, refl)) (counted counts s) refl
 
-  met_by : (o : Option Item) (rest : List Item) (code' : List Op) → Settles s items code o rest code' → Decides t known start first
+  met_by : (o : Option Item) (rest : List Item) (code' : List Op) → Settles s items code o rest code' → Decides t known start
   met_by None rest code' settles =
-      ⊎_elim
-      (λ ends. inl (code', whole t known names start counts first [] items code from r x s rest code' next ends settles))
-      (λ more. inr (x.start, refusal false s, too_much t known names start counts first [] items code from r x s rest code' next stands settles more.0))
-      (next_more t from x next)
+      ⊎_elim (λ ends. inl (whole r next stands settles ends)) (λ more. inr (x.start, refusal false s, too_much r next stands settles more.0)) (next_more t from x next)
   met_by (Some i) rest code' settles = taken_by i rest code' settles (produced i s) refl
 
 -- the rest of the text is read in so many steps
-reads : (n : ℕ) (t : List ℕ) (known : Names) (start : Counts) (first : List Item) (names : Names) (counts : Counts) (items : List Item) (code : List Op) (from : ℕ) →
-    Reached t known names start counts first [] items code from → from ≤ length t → length t < from + n → Decides t known start first
-reads zero t known start first names counts items code from r inside few = absurd (omega arith)
-reads (suc n) t known start first names counts items code from r inside few =
+reads : (n : ℕ) (t : List ℕ) (known : Names) (start : Counts) (first : List Item) (initial : List Op) (names : Names) (counts : Counts) (items : List Item) (code : List Op) (from : ℕ) →
+    Reached t known names start counts first initial items code from → from ≤ length t → length t < from + n → Decides t known start
+reads zero t known start first initial names counts items code from r inside few = absurd (omega arith)
+reads (suc n) t known start first initial names counts items code from r inside few =
     let (x, next) = next_from t from inside in
     let (s, stands) = stands_some counts.phase names (bytes_of t x) x.kind (λ is. token_numeral t from x next is) in
     let (o, rest, code', settles) = meets s items code in
-    met_by t known names start counts first items code from r x s next stands
+    met_by r next stands
     (λ inner d items'' code'' k.
-    reads n t known start first (learnt (standing_of counts) s (bytes_of t x) names) d items'' code'' x.end k (next_within t from x next)
+    reads n t known start first initial (learnt (standing_of counts) s (bytes_of t x) names) d items'' code'' x.end k (next_within t from x next)
     (let on = next_on t from x next in let more = next_takes t from x inner next in omega arith))
     o rest code' settles
 
-pub decides : (t : List ℕ) (known : Names) (start : Counts) (items : List Item) → IsStart start items → AreBounded known → Decides t known start items
-decides t known start items is few = reads (suc (length t)) t known start items known start items [] 0 (starts t known start items [] is few) (omega arith) (omega arith)
+decides : (t : List ℕ) (known : Names) (start : Counts) (items : List Item) → IsStart start items → AreBounded known → Decides t known start
+decides t known start items is few = reads (suc (length t)) t known start items [] known start items [] 0 (starts t known start items [] is few) (omega arith) (omega arith)
 
 pub decides_system : (t : List ℕ) → IsEither (IsSystemText t) (IsSystemFault t)
 decides_system t =
-    ⊎_elim
-    (λ (code, s). let found = sentence_tree t code s in inl (found.0, found.1))
-    (λ (byte, cause, f). inr (byte, cause, system_first t byte cause f))
-    (decides t no_names (nothing Between) system_items (inl (refl, refl)) (none_bounded no_names refl))
+    ⊎_elim (λ (ss, spelled, (x, e, within)). inl (x, (rw e at spelled, within))) (λ f. inr f) (decides t no_names (nothing Between) system_items (inl (refl, refl)) (none_bounded no_names refl))
 
 pub decides_expression : (variables : List (List ℕ)) (t : List ℕ) → IsEither (IsExpressionText variables t) (IsExpressionFault variables t)
 decides_expression variables t =
-    let knows : KnowsVariables variables (variables_from variables 0) = same_refl (variables_from variables 0) in
+    let n : Names = variables_from variables 0 in
+    let knows : KnowsVariables variables n = same_refl n in
     ⊎_elim
-    (λ (code, s). let found = expression_sentence_tree variables t (variables_from variables 0) code knows s in inl (variables_from variables 0, knows, found.0, found.1))
-    (λ (byte, cause, f). inr (byte, cause, expression_first variables t (variables_from variables 0) byte cause knows f))
-    (decides t (variables_from variables 0) (nothing Sides) expression_items (inr (refl, refl)) (known_bounded variables (variables_from variables 0) knows))
+    (λ (ss, spelled, (x, e, within)). inl (n, knows, x, (rw e at spelled, within)))
+    (λ (byte, cause, f). inr (byte, cause, (n, knows, f)))
+    (decides t n (nothing Sides) expression_items (inr (refl, refl)) (known_bounded variables n knows))

@@ -1,7 +1,6 @@
 -- The numbers that a text writes, and the constants that it declares, are fractions within the limits.
-use Rattle.std.proofs.Common.{◌≡◌, ℕ, ◌+◌, ◌<◌, ◌∙◌, zero, suc, Bool, true, false, List, [], ◌∷◌, ◌++◌, length, get_or, refl, sym, subst, arith, neg_ℤ, unsigned_abs, Option, Some, if◌then◌else◌, option_to_list, map}
+use Rattle.std.proofs.Common.{◌≡◌, ℕ, ◌+◌, ◌<◌, ◌∙◌, zero, suc, Bool, true, false, List, [], ◌∷◌, ◌++◌, length, get_or, refl, sym, subst, arith, neg_ℤ, unsigned_abs, Option, Some, option_to_list, map}
 use Rattle.std.specs.Int.{IsGcd}
-use Rattle.std.specs.Str.{bytes_eq}
 use Rattle.std.proofs.lemmas.Int.{ints}
 use Rattle.pv_expr.specs.declared.domain.Bound.{Bound}
 use Rattle.pv_expr.specs.declared.domain.Domain.{Domain}
@@ -17,15 +16,16 @@ use Rattle.pv_grammar.specs.declared.symbol.Symbol.TheVariants.{Fixed as FixedTo
 use Rattle.pv_tokens.specs.declared.keyword.Word.{Word}
 use Rattle.pv_tokens.specs.declared.keyword.Word.TheVariants.{End as EndWord}
 use Rattle.pv_parse.specs.declared.names.Meaning.{Meaning}
-use Rattle.pv_parse.specs.declared.names.Meaning.TheVariants.{Constant as ConstantMeaning, Variable as VariableMeaning, Function as FunctionMeaning}
+use Rattle.pv_parse.specs.declared.names.Meaning.TheVariants.{Constant as ConstantMeaning, Function as FunctionMeaning}
 use Rattle.pv_parse.specs.Declarations.{AreGood, Mark, declares, own}
 use Rattle.pv_parse.specs.Fractions.{HasFraction, HaveFractions, KnowsFractions}
-use Rattle.pv_parse.specs.Meanings.{AreSame, KnowsVariables, Names, learnt, no_names, numbered, use_of, variables_from}
+use Rattle.pv_parse.specs.Meanings.{AreSame, KnowsVariables, Names, learnt, no_names, use_of, variables_from}
 use Rattle.pv_parse.specs.Scopes.{Variable, bound_at, bounded, bounded_by, bounds_of, domain_in, everything, variable, variables_in}
 use Rattle.pv_parse.specs.Sentences.{name_symbol, word_symbol}
 use Rattle.pv_parse.proofs.KnownNames.{name_is}
-use Rattle.pv_parse.proofs.Naming.{IsNew, learnt_known, or_new}
+use Rattle.pv_parse.proofs.Naming.{IsNew, learnt_known, numbered_is}
 use Rattle.std.specs.List.{AllByRecursion}
+use Rattle.std.proofs.lemmas.Bool.{cond_both}
 use Rattle.pv_grammar.specs.Standings.{Standing, is_minus}
 use Rattle.pv_grammar.specs.Counting.{standing_of}
 
@@ -73,13 +73,10 @@ same_fractions n m same h = λ name v e. h name v (sym (same.known name) ∙ e)
 pub no_fractions : KnowsFractions no_names
 no_fractions = λ name v e. absurd (cc)
 
-numbered_fractions : (variables : List (List ℕ)) (i : ℕ) (name : List ℕ) (v : Fraction) → numbered variables i name ≡ Some (ConstantMeaning v) → IsLowest v
-numbered_fractions [] i name v = λ e. absurd (cc)
-numbered_fractions (x ∷ xs) i name v =
-    or_new (λ (o : Option Meaning). o ≡ Some (ConstantMeaning v) → IsLowest v) (bytes_eq x name) (VariableMeaning i) (numbered xs (i + 1) name) (λ e. absurd (cc)) (numbered_fractions xs (i + 1) name v)
-
 pub variables_fractions : (variables : List (List ℕ)) (n : Names) → KnowsVariables variables n → KnowsFractions n
-variables_fractions variables n same = same_fractions n (variables_from variables 0) same (λ name v e. numbered_fractions variables 0 name v e)
+variables_fractions variables n same =
+    same_fractions n (variables_from variables 0) same
+    (λ name v. numbered_is (λ (o : Option Meaning). o ≡ Some (ConstantMeaning v) → IsLowest v) (length variables + 0) (λ e. absurd (cc)) (λ i l e. absurd (cc)) variables 0 name (omega arith))
 
 -- ---- Domains
 
@@ -90,13 +87,11 @@ one_bound Bounds (FixedToken Oo) true bs l h = (tt, h)
 one_bound Bounds (FixedToken Oo) false bs l h = (tt, h)
 one_bound p s negative bs l h = h
 
-own_bound : (b : Bool) (m : Mark) (ms : List Mark) (negative : Bool) → HasFraction m.symbol → AllByRecursion IsBound (bounds_of (is_minus m.symbol) ms) → AllByRecursion IsBound (bounds_of negative (if b then [] else m ∷ ms))
-own_bound true m ms negative l h = tt
-own_bound false m ms negative l h = one_bound m.phase m.symbol negative (bounds_of (is_minus m.symbol) ms) l h
-
 own_bounds : (ms : List Mark) (negative : Bool) → HaveFractions ms → AllByRecursion IsBound (bounds_of negative (own ms))
 own_bounds [] negative h = tt
-own_bounds (m ∷ ms) negative h = own_bound (declares m.phase m.symbol) m (own ms) negative h.0 (own_bounds ms (is_minus m.symbol) h.1)
+own_bounds (m ∷ ms) negative h =
+    cond_both (declares m.phase m.symbol) [] (m ∷ own ms) (λ (z : List Mark). AllByRecursion IsBound (bounds_of negative z)) (λ yes. tt)
+    (λ no. one_bound m.phase m.symbol negative (bounds_of (is_minus m.symbol) (own ms)) h.0 (own_bounds ms (is_minus m.symbol) h.1))
 
 abbrev pub HasBounds : Domain → Type 0
 HasBounds d = IsBound d.lo × IsBound d.hi
@@ -105,13 +100,11 @@ domain_bounds : (bs : List Bound) (d : Domain) → AllByRecursion IsBound bs →
 domain_bounds [] d h k = k
 domain_bounds (b ∷ bs) d h k = domain_bounds bs (bounded b d) h.1 (k.1, h.0)
 
-domain_step : (b : Bool) (v : Variable) (vs : List Variable) → HasBounds v.domain → AllByRecursion HasBounds (map domain_in vs) → AllByRecursion HasBounds (map domain_in (if b then v ∷ vs else vs))
-domain_step true v vs h k = (h, k)
-domain_step false v vs h k = k
-
 pub have_bounds : (ms : List Mark) → HaveFractions ms → AllByRecursion HasBounds (map domain_in (variables_in ms))
 have_bounds [] h = tt
-have_bounds (m ∷ ms) h = domain_step (declares m.phase m.symbol) (variable m.bytes ms) (variables_in ms) (domain_bounds (bounds_of false (own ms)) everything (own_bounds ms false h.1) (tt, tt)) (have_bounds ms h.1)
+have_bounds (m ∷ ms) h =
+    cond_both (declares m.phase m.symbol) (variable m.bytes ms ∷ variables_in ms) (variables_in ms) (λ (z : List Variable). AllByRecursion HasBounds (map domain_in z))
+    (λ yes. (domain_bounds (bounds_of false (own ms)) everything (own_bounds ms false h.1) (tt, tt), have_bounds ms h.1)) (λ no. have_bounds ms h.1)
 
 -- by places
 pub domains_at : (ds : List Domain) → AllByRecursion HasBounds ds → AreGood ds → (k : ℕ) (d : Domain) → k < length ds → IsDomain (get_or ds k d)

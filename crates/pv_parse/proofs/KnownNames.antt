@@ -1,11 +1,9 @@
 -- What a name stands for. In a text within the limits each name is known: none is undeclared or declared twice, and a function is called
 -- with its step and as many arguments as it has parameters.
 use Rattle.std.proofs.Common.{◌≡◌, ℕ, suc, nat_lt, Bool, true, false, List, [], ◌∷◌, Option, Some, None, Ok, refl, sym, subst}
-use Rattle.pv_code.specs.declared.code.Op.{Op}
 use Rattle.pv_grammar.specs.declared.counts.Counts.{Counts}
 use Rattle.pv_grammar.specs.declared.counts.Phase.{Phase}
 use Rattle.pv_grammar.specs.declared.counts.Phase.TheVariants.{Between, Parameters, Body, Variables, Bounds, NextConstraint, Sides}
-use Rattle.pv_grammar.specs.declared.machine.Item.{Item}
 use Rattle.pv_grammar.specs.declared.symbol.Symbol.{Symbol}
 use Rattle.pv_grammar.specs.declared.symbol.Symbol.TheVariants.{Declared, Parameter, Function as Call, Unknown}
 use Rattle.pv_grammar.specs.Causes.{as_known}
@@ -19,10 +17,9 @@ use Rattle.pv_tokens.specs.declared.token.Kind.TheVariants.{Name, Number as Numb
 use Rattle.pv_tokens.specs.Words.{word_in}
 use Rattle.pv_parse.specs.declared.names.Meaning.{Meaning}
 use Rattle.pv_parse.specs.declared.names.Meaning.TheVariants.{Constant as ConstantMeaning, Variable as VariableMeaning, Function as FunctionMeaning}
-use Rattle.pv_parse.specs.ByCounts.{SpellsToWithin}
-use Rattle.pv_parse.specs.ByItems.{IsSentence}
 use Rattle.pv_parse.specs.Meanings.{Names, in_body, in_bounds, learnt, meaning, use_of}
-use Rattle.pv_parse.specs.Sentences.{IsNumberSymbol, StandsFor, bytes_of, name_symbol, word_symbol}
+use Rattle.pv_parse.specs.Sentences.{IsNumberSymbol, StandsFor, name_symbol, word_symbol}
+use Rattle.pv_parse.proofs.Pieces.{Mean, Piece}
 
 -- ---- What a name stands for
 
@@ -102,14 +99,12 @@ stands_known p n bytes Name s h =
 stands_known p n bytes NumberKind s h = number_known bytes s h
 stands_known p n bytes k s h = subst CountsAsKnown (sym h) tt
 
--- ---- Texts
+-- so it is, where it is counted
+pub counts_known : (p : Phase) (n : Names) (bytes : List ℕ) (k : Kind) (s : Symbol) (c d : Counts) → StandsFor p n bytes k s → counted c s ≡ Ok d → IsKnown s
+counts_known p n bytes k s c d stands one = counted_known s c d one (stands_known p n bytes k s stands)
 
-pub spelled_known : (t : List ℕ) (n : Names) (c : Counts) (from : ℕ) (ss : List Symbol) (to : ℕ) (m : Names) → SpellsToWithin t n c from ss to m → AreKnown ss
-spelled_known t n c from [] to m h = tt
-spelled_known t n c from (s ∷ ss) to m (x, d, next, inside, stands, one, rest) = (
-  counted_known s c d one (stands_known c.phase n (bytes_of t x) x.kind s stands),
-  spelled_known t (learnt (standing_of c) s (bytes_of t x) n) d x.end ss to m rest,
-)
-
-pub sentence_known : (t : List ℕ) (n : Names) (c : Counts) (items : List Item) (before after : List Op) (s : IsSentence t n c items before after) → AreKnown s.symbols
-sentence_known t n c items before after s = spelled_known t n c 0 s.symbols s.spelled.0 s.spelled.1 s.spelled.3
+pub mean_known : (n : Names) (c : Counts) (xs : List Piece) (ss : List Symbol) → Mean n c xs ss → AreKnown ss
+mean_known n c [] [] h = tt
+mean_known n c (x ∷ xs) (s ∷ ss) (d, is, stands, one, rest) =
+    (counts_known c.phase n x.bytes x.kind s c d stands one, mean_known (learnt (standing_of c) s x.bytes n) d xs ss rest)
+mean_known n c xs ss h = absurd h

@@ -1,5 +1,3 @@
-pub mod ByLimits
-pub mod ByTrees
 pub mod Closings
 pub mod Continued
 pub mod Decided
@@ -18,5 +16,6 @@ pub mod Refusals
 pub mod Same
 pub mod Scopes
 pub mod Starts
+pub mod Taken
 pub mod TreeDomains
 pub mod TreeTexts

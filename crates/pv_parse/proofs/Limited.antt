@@ -57,10 +57,7 @@ pub record IsExpanded (fs : List Function) (code : List Op) (from i : ℕ) (cs :
 
 pub expanded-same : {fs fs' : List Function} {code : List Op} {from from' i : ℕ} {cs cs' : List Constraint} {nodes nodes' : ℕ} → fs' ≡ fs → from' ≡ from → cs' ≡ cs → nodes' ≡ nodes →
     IsExpanded fs code from i cs nodes → IsExpanded fs' code from' i cs' nodes'
-expanded-same {fs = fs} {fs' = fs'} {code = code} {from = from} {from' = from'} {i = i} {cs = cs} {cs' = cs'} {nodes = nodes} {nodes' = nodes'} a b c d so =
-    subst (λ (z : List Function). IsExpanded z code from' i cs' nodes') (sym a)
-    (subst (λ (z : ℕ). IsExpanded fs code z i cs' nodes') (sym b)
-    (subst (λ (z : List Constraint). IsExpanded fs code from i z nodes') (sym c) (subst (λ (z : ℕ). IsExpanded fs code from i cs z) (sym d) so)))
+expanded-same a b c d so = rw (a, b, c, d) so
 
 pub value-next : {fs : List Function} {code : List Op} {from i : ℕ} {cs : List Constraint} {nodes : ℕ} (d : Op) → i < length code → IsValue (get_or code i d) → IsExpanded fs code from i cs nodes →
     IsExpanded fs code from (i + 1) cs nodes

@@ -1,7 +1,7 @@
 -- The names of a text: what a token declares; the names of the variables differ, and the steps of the code
 -- write variables that are there, constants within the limits, powers of at most 32, and calls of at most 12 arguments.
-use Rattle.std.proofs.Common.{◌≡◌, ℕ, suc, ◌-◌, Bool, true, false, cond, List, [], ◌∷◌, Option, Some, None, Ok, refl, ap, ◌∙◌, subst, ◌≢◌, map, sym, arith, is_some, AllPairs, if◌then◌else◌, ◌+◌, ◌<◌, ◌≤◌, nat_lt, length, rules, tests}
-use Rattle.std.proofs.lemmas.Bool.{cond-true, false≢true}
+use Rattle.std.proofs.Common.{◌≡◌, ℕ, suc, ◌-◌, Bool, true, false, List, [], ◌∷◌, Option, Some, None, Ok, refl, ap, ◌∙◌, subst, ◌≢◌, map, sym, arith, is_some, AllPairs, if◌then◌else◌, ◌+◌, ◌<◌, ◌≤◌, nat_lt, length, rules, tests}
+use Rattle.std.proofs.lemmas.Bool.{cond-true, cond_both, false≢true}
 use Rattle.std.proofs.lemmas.List.Elements.{All-cons, All-nil}
 use Rattle.std.proofs.lemmas.List.Kept.{AllPairs-cons}
 use Rattle.std.proofs.lemmas.Slice.Eq.{bytes_eq-Decides}
@@ -14,13 +14,12 @@ use Rattle.pv_code.specs.Expansion.{run, top}
 use Rattle.pv_code.specs.Fractions.{signed}
 use Rattle.pv_code.specs.declared.code.Op.{Op}
 use Rattle.pv_code.proofs.Over.{IsStep, term_over}
-use Rattle.pv_grammar.specs.Counting.{counted, standing_of, in_phase, nothing}
+use Rattle.pv_grammar.specs.Counting.{AreCounted, Counted, counted, standing_of, in_phase, nothing}
 use Rattle.pv_grammar.specs.Grammar.{expression_items}
 use Rattle.pv_grammar.specs.Standings.{Standing, moved_to, standing_behind}
 use Rattle.pv_grammar.specs.declared.counts.Counts.{Counts}
 use Rattle.pv_grammar.specs.declared.counts.Phase.{Phase}
 use Rattle.pv_grammar.specs.declared.counts.Phase.TheVariants.{Constants, Body, Variables, Sides, Parameters}
-use Rattle.pv_grammar.specs.declared.machine.Item.{Item}
 use Rattle.pv_grammar.specs.declared.symbol.Fixed.TheVariants.{End, Semicolon}
 use Rattle.pv_grammar.specs.declared.symbol.Symbol.{Symbol}
 use Rattle.pv_grammar.specs.declared.symbol.Symbol.TheVariants.{Fixed as FixedToken, Number, Declared, Never}
@@ -35,15 +34,15 @@ use Rattle.pv_tokens.specs.declared.token.Kind.{Kind}
 use Rattle.pv_tokens.specs.declared.token.Kind.TheVariants.{Name, Number as NumberKind}
 use Rattle.pv_tokens.specs.declared.token.Token.{Token}
 use Rattle.pv_tokens.proofs.Unique.{one_next}
-use Rattle.pv_parse.specs.ByCounts.{SpellsToWithin}
-use Rattle.pv_parse.specs.Declarations.{Mark, MarksTo, mark_of, declares}
+use Rattle.pv_parse.specs.ByItems.{IsToldAs}
+use Rattle.pv_parse.specs.Declarations.{Mark, Marks, MarksTo, mark_of, declares}
 use Rattle.pv_parse.specs.Fractions.{HasFraction, HaveFractions}
 use Rattle.pv_parse.specs.Meanings.{Names, learnt, use_of, KnowsVariables, numbered}
-use Rattle.pv_parse.specs.Scopes.{IsToldAs, Scoped, nothing_scoped, Variable, name_of, variable, variables_in}
-use Rattle.pv_parse.specs.Sentences.{StandsFor, bytes_of, name_symbol, word_symbol, IsNumberSymbol, MayRaise as MayBeRaised}
+use Rattle.pv_parse.specs.Scopes.{Scoped, nothing_scoped, Variable, name_of, variable, variables_in}
+use Rattle.pv_parse.specs.Sentences.{Spells, SpellsTo, StandsFor, bytes_of, name_symbol, word_symbol, IsNumberSymbol, MayRaise as MayBeRaised}
 use Rattle.pv_parse.specs.declared.names.Meaning.{Meaning}
 use Rattle.pv_parse.specs.declared.names.Meaning.TheVariants.{Constant as ConstantMeaning, Variable as VariableMeaning, Function as FunctionMeaning}
-use Rattle.pv_parse.proofs.KnownNames.{name_is, not_taken, sentence_known}
+use Rattle.pv_parse.proofs.KnownNames.{name_is, not_taken}
 use Rattle.pv_parse.proofs.NameBytes.{declared_name}
 use Rattle.pv_parse.proofs.TreeDomains.{none_declared}
 
@@ -55,15 +54,11 @@ IsNew y (Number value exponent) n m = m ≡ ConstantMeaning (signed n.negative v
 IsNew y (FixedToken End) n m = m ≡ FunctionMeaning (y.functions - 1) y.parameters
 IsNew y s n m = ⊥
 
-pub or_new : (P : Option Meaning → Type 0) (b : Bool) (m : Meaning) (o : Option Meaning) → P (Some m) → P o → P (cond b (Some m) o)
-or_new P true m o new old = new
-or_new P false m o new old = old
-
 learnt_in : (P : Option Meaning → Type 0) (p : Phase) (y : Standing) (s : Symbol) (bytes name : List ℕ) (n : Names) → ((m : Meaning) → IsNew (moved_to p y) s n m → P (Some m)) → P (n.known name) →
     P ((learnt (moved_to p y) s bytes n).known name)
-learnt_in P Variables y (Declared taken) bytes name n new old = or_new P (bytes_eq bytes name) _ (n.known name) (new (VariableMeaning y.variables) (refl, refl)) old
-learnt_in P Constants y (Number value exponent) bytes name n new old = or_new P (bytes_eq n.pending name) _ (n.known name) (new (ConstantMeaning (signed n.negative value)) refl) old
-learnt_in P Body y (FixedToken End) bytes name n new old = or_new P (bytes_eq n.pending name) _ (n.known name) (new (FunctionMeaning (y.functions - 1) y.parameters) refl) old
+learnt_in P Variables y (Declared taken) bytes name n new old = cond_both (bytes_eq bytes name) _ (n.known name) P (λ yes. new (VariableMeaning y.variables) (refl, refl)) (λ no. old)
+learnt_in P Constants y (Number value exponent) bytes name n new old = cond_both (bytes_eq n.pending name) _ (n.known name) P (λ yes. new (ConstantMeaning (signed n.negative value)) refl) (λ no. old)
+learnt_in P Body y (FixedToken End) bytes name n new old = cond_both (bytes_eq n.pending name) _ (n.known name) P (λ yes. new (FunctionMeaning (y.functions - 1) y.parameters) refl) (λ no. old)
 learnt_in P p y (FixedToken End) bytes name n new old = old
 learnt_in P p y s bytes name n new old = old
 
@@ -80,32 +75,29 @@ Heard t n c (s ∷ ss) marks =
     (x : Token) × (d : Counts) × (rest : List Mark) × StandsFor c.phase n (bytes_of t x) x.kind s × (counted c s ≡ Ok d) × (marks ≡ mark_of t c.phase s x ∷ rest)
     × Heard t (learnt (standing_of c) s (bytes_of t x) n) d ss rest
 
-heard : (t : List ℕ) (n : Names) (c : Counts) (from : ℕ) (ss : List Symbol) (to : ℕ) (m : Names) (marks : List Mark) (to' : ℕ) →
-    SpellsToWithin t n c from ss to m → MarksTo t (standing_of c) from ss marks to' → Heard t n c ss marks
-heard t n c from [] to m marks to' h k = k.0
-heard t n c from (s ∷ ss) to m marks to' (x, d, next, inside, stands, one, rest) (y, ms, next', are, more) =
+heard : (t : List ℕ) (n : Names) (c : Counts) (from : ℕ) (ss : List Symbol) (to : ℕ) (m : Names) (marks : List Mark) (to' : ℕ) (e : Counts) →
+    SpellsTo t n (standing_of c) from ss to m → Counted c ss e → MarksTo t (standing_of c) from ss marks to' → Heard t n c ss marks
+heard t n c from [] to m marks to' e h j k = k.0
+heard t n c from (s ∷ ss) to m marks to' e (x, next, inside, stands, rest) (d, one, counts) (y, ms, next', are, more) =
+    let told : Names = learnt (standing_of c) s (bytes_of t x) n in
     let same : y ≡ x = one_next t from y x next' next in
-    let more' : MarksTo t (standing_of d) x.end ss ms to' =
-    subst (λ (z : Token). MarksTo t (standing_of d) z.end ss ms to') same (subst (λ (z : Standing). MarksTo t z y.end ss ms to') (sym (stands_behind c d s one)) more) in
-    (x, d, ms, stands, one, are ∙ ap (λ (z : Token). mark_of t c.phase s z ∷ ms) same, heard t (learnt (standing_of c) s (bytes_of t x) n) d x.end ss to m ms to' rest more')
+    let behind : standing_behind (standing_of c) s ≡ standing_of d = sym (stands_behind c d s one) in
+    let (rest', more') : SpellsTo t told (standing_of d) x.end ss to m × MarksTo t (standing_of d) x.end ss ms to' =
+    subst (λ (z : Standing). SpellsTo t told z x.end ss to m × MarksTo t z x.end ss ms to') behind (rest, subst (λ (z : Token). MarksTo t (standing_behind (standing_of c) s) z.end ss ms to') same more) in
+    (x, d, ms, stands, one, are ∙ ap (λ (z : Token). mark_of t c.phase s z ∷ ms) same, heard t told d x.end ss to m ms to' e rest' counts more')
 
-pub told_heard : (t : List ℕ) (known : Names) (start : Counts) (items : List Item) (code : List Op) (new : Scoped) → (s : IsToldAs t known start items [] code nothing_scoped new) →
-    Heard t known start s.sentence.symbols s.marks
-told_heard t known start items code new s =
-    heard t known start 0 s.sentence.symbols s.sentence.spelled.0 s.sentence.spelled.1 s.marks s.marked.0 s.sentence.spelled.3 s.marked.1
+pub all_heard : (t : List ℕ) (n : Names) (c : Counts) (ss : List Symbol) (marks : List Mark) → Spells t n (standing_of c) ss → AreCounted c ss → Marks t (standing_of c) ss marks → Heard t n c ss marks
+all_heard t n c ss marks (to, m, x, h, next, ends) (e, k) (to', g) = heard t n c 0 ss to m marks to' e h k g
 
 -- ---- The names of the variables differ, since a name that is known is refused
-
-no_word : (w : Word) → Declared false ≡ word_symbol w → ⊥
-no_word EndWord e = cc
-no_word w e = cc
 
 none_of : (o : Option Meaning) → Declared false ≡ Declared (is_some o) → o ≡ None
 none_of None e = refl
 none_of (Some m) e = absurd (cc)
 
 free_name : (n : Names) (bytes : List ℕ) (w : Option Word) → Declared false ≡ name_symbol Variables n bytes w → n.known bytes ≡ None
-free_name n bytes (Some w) e = absurd (no_word w e)
+free_name n bytes (Some EndWord) e = absurd (cc)
+free_name n bytes (Some w) e = absurd (cc)
 free_name n bytes None e = none_of (n.known bytes) e
 
 -- such a name was not known
@@ -223,17 +215,19 @@ steps_written n t known c (s ∷ ss) marks (x, d, rest, stands, one, are, more) 
 
 -- ---- An expression
 
-numbered_below : (variables : List (List ℕ)) (i n : ℕ) (name : List ℕ) → length variables + i ≤ n → IsFit n (numbered variables i name)
-numbered_below [] i n name h = tt
-numbered_below (v ∷ vs) i n name h = or_new (IsFit n) (bytes_eq v name) (VariableMeaning i) (numbered vs (i + 1) name) (omega (arith, h)) (numbered_below vs (i + 1) n name (omega (arith, h)))
+-- what holds of no name and of each variable below n holds of the names of so many variables
+pub numbered_is : (P : Option Meaning → Type 0) (n : ℕ) → P None → ((i : ℕ) → i < n → P (Some (VariableMeaning i))) → (variables : List (List ℕ)) (i : ℕ) (name : List ℕ) → length variables + i ≤ n →
+    P (numbered variables i name)
+numbered_is P n none some [] i name h = none
+numbered_is P n none some (v ∷ vs) i name h =
+    cond_both (bytes_eq v name) (Some (VariableMeaning i)) (numbered vs (i + 1) name) P (λ yes. some i (omega (arith, h))) (λ no. numbered_is P n none some vs (i + 1) name (omega (arith, h)))
 
 pub expression_over : (variables : List (List ℕ)) (t : List ℕ) (known : Names) (code : List Op) (x : Term) (new : Scoped) → KnowsVariables variables known →
     IsToldAs t known (nothing Sides) expression_items [] code nothing_scoped new → x ≡ top (run [] [] code []) → IsOver (length variables) x
 expression_over variables t known code x new knows s is =
     let n : ℕ = length variables in
-    let (e, symbols, steps) = expression_tree s.sentence.symbols s.sentence.steps s.sentence.derived (sentence_known t known (nothing Sides) expression_items [] code s.sentence) in
-    let told = told_heard t known (nothing Sides) expression_items code new s in
+    let (e, symbols, steps) = expression_tree s.symbols s.steps s.derived s.are_known in
     let none = none_declared t e s.marks (rw symbols at s.marked) in
-    let fit : (name : List ℕ) → IsFit n (known.known name) = λ name. rw (knows.known name) (numbered_below variables 0 n name (omega arith)) in
-    let written = steps_written n t known (nothing Sides) s.sentence.symbols s.marks told s.fractions fit (omega arith) (omega (arith, none)) in
-    rw is (term_over n code (rw (s.sentence.code_is ∙ steps) (expression_steps n e (rw symbols at written))))
+    let fit : (name : List ℕ) → IsFit n (known.known name) = λ name. rw (knows.known name) (numbered_is (IsFit n) n tt (λ i l. l) variables 0 name (omega arith)) in
+    let written = steps_written n t known (nothing Sides) s.symbols s.marks (all_heard t known (nothing Sides) s.symbols s.marks s.spelled s.within s.marked) s.fractions fit (omega arith) (omega (arith, none)) in
+    rw is (term_over n code (rw (s.code_is ∙ steps) (expression_steps n e (rw symbols at written))))

@@ -64,39 +64,26 @@ one_here t p n from x x' s s' next next' stands stands' =
 -- ---- Lists of tokens
 
 -- the second list goes on behind the first
-record Ahead (t : List ℕ) (y : Standing) (xs ys : List Symbol) (to : ℕ) (m : Names) : Type 0 where
-  symbol : Symbol
-  rest : List Symbol
-  token : Token
-  cut : ys ≡ xs ++ symbol ∷ rest
-  next : IsNext t to token
-  inside : ¬ (token.kind ≡ End)
-  stands : StandsFor (standing_after y xs).phase m (bytes_of t token) token.kind symbol
+abbrev Ahead : List ℕ → Standing → List Symbol → List Symbol → ℕ → Names → Type 0
+Ahead t y xs ys to m =
+    (s : Symbol) × (rest : List Symbol) × (ys ≡ xs ++ s ∷ rest) × (x : Token) × IsNext t to x × (¬ (x.kind ≡ End)) × StandsFor (standing_after y xs).phase m (bytes_of t x) x.kind s
 
 data Compared (t : List ℕ) (y : Standing) (xs ys : List Symbol) (to to' : ℕ) (m m' : Names) : Type 0 where
   alike : xs ≡ ys → to ≡ to' → m ≡ m' → Compared t y xs ys to to' m m'
   shorter : Ahead t y xs ys to m → Compared t y xs ys to to' m m'
   longer : Ahead t y ys xs to' m' → Compared t y xs ys to to' m m'
 
-ahead_of_none : (t : List ℕ) (y : Standing) (n : Names) (from to : ℕ) (m : Names) (s : Symbol) (ys : List Symbol) (x : Token) → from ≡ to → n ≡ m →
-    IsNext t from x → ¬ (x.kind ≡ End) → StandsFor y.phase n (bytes_of t x) x.kind s → Ahead t y [] (s ∷ ys) to m
-ahead_of_none t y n from to m s ys x e f next inside stands = record { symbol = s; rest = ys; token = x; cut = refl; next = rw e at next; inside = inside; stands = rw f at stands }
-
-module _ (t : List ℕ) (y : Standing) (s : Symbol) where
-  ahead_behind : (xs ys : List Symbol) (to : ℕ) (m : Names) → Ahead t (standing_behind y s) xs ys to m → Ahead t y (s ∷ xs) (s ∷ ys) to m
-  ahead_behind xs ys to m a = record { symbol = a.symbol; rest = a.rest; token = a.token; cut = ap (λ (z : List Symbol). s ∷ z) a.cut; next = a.next; inside = a.inside; stands = a.stands }
-
-  compared_behind : (xs ys : List Symbol) (to to' : ℕ) (m m' : Names) → Compared t (standing_behind y s) xs ys to to' m m' → Compared t y (s ∷ xs) (s ∷ ys) to to' m m'
-  compared_behind xs ys to to' m m' (alike e f g) = alike (ap (λ (z : List Symbol). s ∷ z) e) f g
-  compared_behind xs ys to to' m m' (shorter a) = shorter (ahead_behind xs ys to m a)
-  compared_behind xs ys to to' m m' (longer a) = longer (ahead_behind ys xs to' m' a)
+compared_behind : (t : List ℕ) (y : Standing) (s : Symbol) (xs ys : List Symbol) (to to' : ℕ) (m m' : Names) → Compared t (standing_behind y s) xs ys to to' m m' → Compared t y (s ∷ xs) (s ∷ ys) to to' m m'
+compared_behind t y s xs ys to to' m m' (alike e f g) = alike (ap (λ (z : List Symbol). s ∷ z) e) f g
+compared_behind t y s xs ys to to' m m' (shorter (r, rest, e, x, next, inside, stands)) = shorter (r, rest, ap (λ (z : List Symbol). s ∷ z) e, x, next, inside, stands)
+compared_behind t y s xs ys to to' m m' (longer (r, rest, e, x, next, inside, stands)) = longer (r, rest, ap (λ (z : List Symbol). s ∷ z) e, x, next, inside, stands)
 
 -- two lists of tokens from one place are alike as far as both go
 compare : (t : List ℕ) (n : Names) (y : Standing) (from : ℕ) (xs : List Symbol) (to : ℕ) (m : Names) (ys : List Symbol) (to' : ℕ) (m' : Names) →
     SpellsTo t n y from xs to m → SpellsTo t n y from ys to' m' → Compared t y xs ys to to' m m'
 compare t n y from [] to m [] to' m' h k = alike refl (sym h.0 ∙ k.0) (sym h.1 ∙ k.1)
-compare t n y from [] to m (s ∷ ys) to' m' h (x, next, inside, stands, rest) = shorter (ahead_of_none t y n from to m s ys x h.0 h.1 next inside stands)
-compare t n y from (s ∷ xs) to m [] to' m' (x, next, inside, stands, rest) k = longer (ahead_of_none t y n from to' m' s xs x k.0 k.1 next inside stands)
+compare t n y from [] to m (s ∷ ys) to' m' h (x, next, inside, stands, rest) = shorter (s, ys, refl, x, rw h.0 at next, inside, rw h.1 at stands)
+compare t n y from (s ∷ xs) to m [] to' m' (x, next, inside, stands, rest) k = longer (s, xs, refl, x, rw k.0 at next, inside, rw k.1 at stands)
 compare t n y from (s ∷ xs) to m (s' ∷ ys) to' m' (x, next, inside, stands, rest) (x', next', inside', stands', rest') =
     let (token, symbol) = one_here t y.phase n from x x' s s' next next' stands stands' in
     let more : SpellsTo t (learnt y s (bytes_of t x) n) (standing_behind y s) x.end ys to' m' = rw (token, symbol) at rest' in
@@ -104,7 +91,7 @@ compare t n y from (s ∷ xs) to m (s' ∷ ys) to' m' (x, next, inside, stands, 
 
 -- nothing goes on behind the end of the text
 none_ahead : (t : List ℕ) (y : Standing) (xs ys : List Symbol) (to : ℕ) (m : Names) (x : Token) → IsNext t to x → x.kind ≡ End → Ahead t y xs ys to m → ⊥
-none_ahead t y xs ys to m x next ends a = a.inside (ap (λ (z : Token). z.kind) (one_next t to a.token x a.next next) ∙ ends)
+none_ahead t y xs ys to m x next ends (s, rest, cut, z, next', inside, stands) = inside (ap (λ (z : Token). z.kind) (one_next t to z x next' next) ∙ ends)
 
 pub one_spelling : (t : List ℕ) (n : Names) (y : Standing) (ss ss' : List Symbol) → Spells t n y ss → Spells t n y ss' → ss ≡ ss'
 one_spelling t n y ss ss' (to, m, x, spelled, next, ends) (to', m', x', spelled', next', ends') =
@@ -126,11 +113,10 @@ one_cause IsText IsLimited part before p s cause cause' h k = grind arith
 module _ (t : List ℕ) (known : Names) (start : Standing) (IsText IsLimited : List Symbol → Type 0) where
   -- what is spelled up to a fault does not go on as a text within the limits does
   fault_inside : (byte : ℕ) (cause : Cause) (f : IsFirst t known start IsText IsLimited byte cause) (ss : List Symbol) → Ahead t start f.before ss f.from f.names → Begins IsLimited ss → ⊥
-  fault_inside byte cause f ss a (rest, text) =
-      let p : Phase = (standing_after start f.before).phase in
-      let (token, symbol) = one_here t p f.names f.from f.token a.token f.symbol a.symbol f.next a.next f.stands a.stands in
-      let whole : IsLimited (f.before ++ f.symbol ∷ (a.rest ++ rest)) = rw (a.cut, append_assoc f.before (a.symbol ∷ a.rest) rest, symbol) at text in
-      f.none (a.rest ++ rest, rw (append_assoc f.before (f.symbol ∷ []) (a.rest ++ rest)) whole)
+  fault_inside byte cause f ss (s, more, cut, x, next, inside, stands) (rest, text) =
+      let (token, symbol) = one_here t (standing_after start f.before).phase f.names f.from f.token x f.symbol s f.next next f.stands stands in
+      let whole : IsLimited (f.before ++ f.symbol ∷ (more ++ rest)) = rw (cut, append_assoc f.before (s ∷ more) rest, symbol) at text in
+      f.none (more ++ rest, rw (append_assoc f.before (f.symbol ∷ []) (more ++ rest)) whole)
 
   -- a text of the grammar within the limits has no fault
   pub no_fault : (ss : List Symbol) (byte : ℕ) (cause : Cause) → Spells t known start ss → IsLimited ss → IsFirst t known start IsText IsLimited byte cause → ⊥

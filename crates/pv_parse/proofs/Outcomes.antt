@@ -2,7 +2,7 @@
 use Rattle.std.proofs.Common.{◌≡◌, ℕ, zero, suc, ◌+◌, ◌<◌, ◌≤◌, ◌⊎◌, inl, inr, ⊎_elim, List, [], ◌∷◌, length, map, take, get_or, slice_get, Some, refl, sym, ap, ◌∙◌, subst, arith, pos, ◌*ℤ◌, All, sum_by}
 use Rattle.std.proofs.lemmas.Bool.{cases_lt, cases_order}
 use Rattle.std.proofs.lemmas.Int.{ints, by_lt_z}
-use Rattle.std.proofs.lemmas.List.{length-map, take_all}
+use Rattle.std.proofs.lemmas.List.{length-map, take-take, take_all}
 use Rattle.std.proofs.lemmas.List.Elements.{All-cons, All-take}
 use Rattle.std.proofs.lemmas.List.Sums.{sum_by-take-le}
 use Rattle.std.proofs.lemmas.Option.{slice_get-get_or}
@@ -29,7 +29,7 @@ use Rattle.pv_parse.specs.Faults.IsExpressionFaultOf.{first as first_text, long 
 use Rattle.pv_parse.specs.Faults.IsFaultOf.{bounds, first, large, long}
 use Rattle.pv_parse.specs.Meanings.{Names, learnt, no_names}
 use Rattle.pv_parse.specs.Scopes.{Variable, bracket_in, domain_in, name_of, variables_in}
-use Rattle.pv_parse.specs.Sentences.{IsExpressionText, IsExpressionTextOf, IsTextOf, SpellsTo, bytes_of}
+use Rattle.pv_parse.specs.Sentences.{IsExpressionTextOf, IsTextOf, SpellsTo, bytes_of}
 use Rattle.pv_grammar.proofs.Within.{system_limited}
 use Rattle.pv_parse.proofs.Decided.{decides_expression, decides_system}
 use Rattle.pv_parse.proofs.OneSpelling.{expression_apart, expression_fault, no_fault, one_fault, one_known}
@@ -76,14 +76,12 @@ reading_of t x text =
 -- ---- Bad domains
 
 good_not_bad : (ds : List Domain) (bs : List ℕ) (byte : ℕ) → AreGood ds → IsFirstBad ds bs byte → ⊥
-good_not_bad [] bs byte h bad = absurd bad
-good_not_bad (d ∷ ds) [] byte h bad = absurd bad
 good_not_bad (d ∷ ds) (b ∷ bs) byte h bad = ⊎_elim (λ (wrong, at). wrong h.0) (λ (good, later). good_not_bad ds bs byte h.1 later) bad
+good_not_bad ds bs byte h bad = absurd bad
 
 one_bad : (ds : List Domain) (bs : List ℕ) (byte byte' : ℕ) → IsFirstBad ds bs byte → IsFirstBad ds bs byte' → byte ≡ byte'
-one_bad [] bs byte byte' h k = absurd h
-one_bad (d ∷ ds) [] byte byte' h k = absurd h
 one_bad (d ∷ ds) (b ∷ bs) byte byte' h k = grind (arith, one_bad ds bs byte byte')
+one_bad ds bs byte byte' h k = absurd h
 
 in_order_or : (lo hi : Bound) → InOrder lo hi ⊎ ¬ InOrder lo hi
 in_order_or (Value p q) (Value r s) = by_lt_z (r *ℤ pos q) (p *ℤ pos s) (λ more. inr (λ h. omega (arith, ints, more, h))) (λ h. inl h)
@@ -106,15 +104,9 @@ within_front n cs h = record {
   shallow = All-take IsShallow n cs h.shallow;
 }
 
-take_less : (n m : ℕ) (cs : List Sides) → n ≤ m → take n (take m cs) ≡ take n cs
-take_less zero m cs h = refl
-take_less (suc n) zero cs h = absurd (omega arith)
-take_less (suc n) (suc m) [] h = refl
-take_less (suc n) (suc m) (c ∷ cs) h = ap (λ (z : List Sides). c ∷ z) (take_less n m cs (omega arith))
-
 -- behind the first large constraint nothing is within the limits
 none_within : (cs : List Sides) (i n : ℕ) → IsFirstLarge cs i → i < n → AreWithin (take n cs) → ⊥
-none_within cs i n f on h = f.with_it (subst AreWithin (take_less (i + 1) n cs (omega arith)) (within_front (i + 1) (take n cs) h))
+none_within cs i n f on h = f.with_it (subst AreWithin (take-take (i + 1) n cs (omega arith)) (within_front (i + 1) (take n cs) h))
 
 within_not_large : (cs : List Sides) (i : ℕ) → AreWithin cs → IsFirstLarge cs i → ⊥
 within_not_large cs i h f = f.with_it (within_front (i + 1) cs h)
@@ -147,11 +139,8 @@ within_or cs =
     (λ few. ⊎_elim (λ shallow. inl (record { few_nodes = few; shallow = shallow })) (λ deep. inr (λ h. deep h.shallow)) (all_shallow_or cs))
     (cases_lt 65536 (sum_by nodes_of cs))
 
-none_is_within : AreWithin []
-none_is_within = record { few_nodes = omega arith; shallow = λ k d in_list. absurd (omega (arith, in_list)) }
-
 large_up_to : (cs : List Sides) (n : ℕ) → n ≤ length cs → AreWithin (take n cs) ⊎ ((i : ℕ) × IsFirstLarge cs i)
-large_up_to cs zero h = inl none_is_within
+large_up_to cs zero h = inl (record { few_nodes = omega arith; shallow = λ k d in_list. absurd (omega (arith, in_list)) })
 large_up_to cs (suc n) h =
     let next : n + 1 ≡ suc n = omega arith in
     ⊎_elim
@@ -164,16 +153,12 @@ large_or cs = ⊎_elim (λ within. inl (subst AreWithin (take_all (length cs) cs
 
 -- ---- Texts of systems
 
--- as many constraints begin as the tree has
-starts_many : (t : List ℕ) (r : Reading t) → length (starts_in r.marks) ≡ length (system_constraints r.tree)
-starts_many t r = tree_starts t r.tree r.marks r.marked
-
 sized : (t : List ℕ) → length t ≤ 65536 → (r : Reading t) → AreGood (system_domains r.tree) → IsEither (IsSystemSentence t) (IsFaultOf t)
 sized t short r good =
     ⊎_elim
     (λ within. inl (record { reading = r; good = good; within = within; short = short }))
     (λ (i, f).
-    let many = starts_many t r in
+    let many = tree_starts t r.tree r.marks r.marked in
     let present = f.present in
     inr (get_or (starts_in r.marks) i 0, TooLarge, large short r good i f (slice_get-get_or (starts_in r.marks) i 0 (omega (arith, many, present))) refl))
     (large_or (system_constraints r.tree))
@@ -184,9 +169,7 @@ read_text t short r =
     ⊎_elim
     (λ good. sized t short r (subst AreGood domains good))
     (λ (byte, bad).
-    let at : IsFirstBad (system_domains r.tree) (brackets_in r.marks) byte =
-    subst (λ (z : List ℕ). IsFirstBad (system_domains r.tree) z byte) (brackets_named r.marks)
-    (subst (λ (z : List Domain). IsFirstBad z (map bracket_in (variables_in r.marks)) byte) domains bad) in
+    let at : IsFirstBad (system_domains r.tree) (brackets_in r.marks) byte = rw (sym domains, sym (brackets_named r.marks)) bad in
     inr (byte, BadBounds, bounds short r at refl))
     (domains_or (variables_in r.marks))
 
@@ -259,9 +242,6 @@ domains_named t s m =
 
 -- ---- Texts of expressions
 
-text_of : (variables : List (List ℕ)) (t : List ℕ) → IsExpressionSentence variables t → IsExpressionText variables t
-text_of variables t s = (s.known, s.knows, s.tree, s.spelled)
-
 pub text_either : (variables : List (List ℕ)) (t : List ℕ) → IsEither (IsExpressionSentence variables t) (IsExpressionFaultOf variables t)
 text_either variables t =
     ⊎_elim
@@ -275,7 +255,7 @@ text_either variables t =
 
 pub text_apart : (variables : List (List ℕ)) (t : List ℕ) (byte : ℕ) (cause : Cause) → IsExpressionSentence variables t → IsExpressionFaultOf variables t byte cause → ⊥
 text_apart variables t byte cause s (long_text more at is) = let short = s.short in omega (arith, more, short)
-text_apart variables t byte cause s (first_text short f) = expression_apart variables t byte cause (text_of variables t s) f
+text_apart variables t byte cause s (first_text short f) = expression_apart variables t byte cause (s.known, s.knows, s.tree, s.spelled) f
 
 pub text_fault : (variables : List (List ℕ)) (t : List ℕ) (byte byte' : ℕ) (cause cause' : Cause) → IsExpressionFaultOf variables t byte cause → IsExpressionFaultOf variables t byte' cause' →
     (byte ≡ byte') × (cause ≡ cause')

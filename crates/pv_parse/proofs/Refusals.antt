@@ -1,5 +1,5 @@
 -- What a refused text's answer says.
-use Rattle.std.proofs.Common.{◌∙◌, ◌≡◌, ◌≤◌, Bool, Err, IfErr, IsOk, List, Ok, OnOk, Option, Result, [], ap, length, rules, subst, sym, ℕ}
+use Rattle.std.proofs.Common.{◌∙◌, ◌≡◌, ◌≤◌, Bool, Err, IsOk, List, Ok, OnOk, Option, Result, [], ap, length, rules, subst, ℕ}
 use Rattle.pv_expr.specs.Terms.{Term}
 use Rattle.pv_code.specs.declared.code.Op.{Op}
 use Rattle.pv_code.specs.Expansion.{run, top}
@@ -10,26 +10,22 @@ use Rattle.pv_grammar.specs.declared.machine.Item.{Item}
 use Rattle.pv_grammar.specs.declared.symbol.Symbol.{Symbol}
 use Rattle.pv_grammar.specs.Grammar.{Produced, Settles, Takes, expression_items}
 use Rattle.pv_grammar.specs.Counting.{nothing}
+use Rattle.pv_grammar.proofs.TreeBuilding.{expression_tree}
 use Rattle.pv_grammar.proofs.TreeRuns.{expression_means}
+use Rattle.pv_grammar.proofs.Within.{expression_within}
 use Rattle.pv_parse.specs.declared.refused.ParseRefused.{ParseRefused}
 use Rattle.pv_parse.specs.declared.refused.ParseRefused.TheVariants.{Memory, Fault}
-use Rattle.pv_parse.specs.ByItems.{IsAt, IsFirstByItems, IsFirstOfByItems, IsLong, IsSentence}
+use Rattle.pv_parse.specs.ByItems.{IsAt, IsFirstFrom, IsFirstOf, IsLong, IsToldAs}
 use Rattle.pv_parse.specs.Declarations.{IsExpressionMeaning}
 use Rattle.pv_parse.specs.Faults.{IsExpressionRefusal, IsRefusal}
 use Rattle.pv_parse.specs.Faults.IsExpressionFaultOf.{first as first_text, long as long_text}
 use Rattle.pv_parse.specs.Faults.IsFaultOf.{long}
 use Rattle.pv_parse.specs.Meanings.{KnowsVariables, Names}
-use Rattle.pv_parse.proofs.ByTrees.{expression_first}
-use Rattle.pv_parse.proofs.TreeTexts.{expression_sentence_tree}
+use Rattle.pv_parse.specs.Scopes.{Scoped, nothing_scoped}
 
-pub first_at : (t : List ℕ) (known : Names) (start : Counts) (items : List Item) (byte : ℕ) (cause : Cause) (e : ParseRefused) → IsAt byte cause e → IsFirstByItems t known start items byte cause → IsFirstOfByItems t known start items e
-first_at t known start items byte cause Memory h f = absurd h
-first_at t known start items byte cause (Fault byte' line column cause') h f =
-    subst (λ (n : ℕ). IsFirstByItems t known start items n cause') (sym h.0) (subst (λ (k : Cause). IsFirstByItems t known start items byte k) (sym h.1) f)
-
-pub if_err : {V E : Type 0} (P Q : E → Type 0) (r : Result V E) → ((e : E) → P e → Q e) → IfErr r P → IfErr r Q
-if_err P Q (Ok v) f h = h
-if_err P Q (Err e) f h = f e h
+pub first_at : (t : List ℕ) (known : Names) (start : Counts) (byte : ℕ) (cause : Cause) (e : ParseRefused) → IsAt byte cause e → IsFirstFrom t known start byte cause → IsFirstOf t known start e
+first_at t known start byte cause Memory h f = absurd h
+first_at t known start byte cause (Fault byte' line column cause') h f = rw (h.0, h.1) f
 
 pub on_ok : {V E P : Type 0} (r : Result V E) → (IsOk r → P) → OnOk r P
 on_ok (Ok v) f = f (search rules)
@@ -53,16 +49,16 @@ pub long_expression : (variables : List (List ℕ)) (t : List ℕ) (e : ParseRef
 long_expression variables t Memory h = tt
 long_expression variables t (Fault byte line column cause) h = long_text h.0 h.1 h.2
 
-pub first_expression : (variables : List (List ℕ)) (t : List ℕ) (n : Names) (e : ParseRefused) → length t ≤ 65536 → KnowsVariables variables n →
-    IsFirstOfByItems t n (nothing Sides) expression_items e → IsExpressionRefusal variables t e
+pub first_expression : (variables : List (List ℕ)) (t : List ℕ) (n : Names) (e : ParseRefused) → length t ≤ 65536 → KnowsVariables variables n → IsFirstOf t n (nothing Sides) e →
+    IsExpressionRefusal variables t e
 first_expression variables t n Memory short knows h = tt
-first_expression variables t n (Fault byte line column cause) short knows h = first_text short (expression_first variables t n byte cause knows h)
+first_expression variables t n (Fault byte line column cause) short knows h = first_text short (n, knows, h)
 
-pub expression_meant : (variables : List (List ℕ)) (t : List ℕ) (n : Names) (code : List Op) (x : Term) → length t ≤ 65536 → KnowsVariables variables n →
-    IsSentence t n (nothing Sides) expression_items [] code → x ≡ top (run [] [] code []) → IsExpressionMeaning variables t x
-expression_meant variables t n code x short knows s e =
-    let found = expression_sentence_tree variables t n code knows s in
+pub expression_meant : (variables : List (List ℕ)) (t : List ℕ) (n : Names) (code : List Op) (x : Term) (new : Scoped) → length t ≤ 65536 → KnowsVariables variables n →
+    IsToldAs t n (nothing Sides) expression_items [] code nothing_scoped new → x ≡ top (run [] [] code []) → IsExpressionMeaning variables t x
+expression_meant variables t n code x new short knows s e =
+    let (d, symbols, steps) = expression_tree s.symbols s.steps s.derived s.are_known in
     record {
-      text = record { known = n; knows = knows; tree = found.0; spelled = found.1; short = short };
-      term = e ∙ (ap (λ (z : List Op). top (run [] [] z [])) found.2 ∙ ap top (expression_means found.0 [] []));
+      text = record { known = n; knows = knows; tree = d; spelled = (rw symbols at s.spelled, expression_within d (rw symbols at s.within)); short = short };
+      term = e ∙ (ap (λ (z : List Op). top (run [] [] z [])) (s.code_is ∙ steps) ∙ ap top (expression_means d [] []));
     }

@@ -11,15 +11,9 @@ use Rattle.std.proofs.lemmas.List.{drop_all, drop_more}
 use Rattle.std.proofs.lemmas.Option.{get_or_from_slice_get, slice_get_within}
 use Rattle.std.proofs.lemmas.Map.Text.{is_eq-slice_cmp}
 use Rattle.std.proofs.lemmas.Slice.Eq.{bytes_eq-Decides}
-use Rattle.pv_grammar.specs.declared.counts.Counts.{Counts}
-use Rattle.pv_grammar.specs.declared.counts.Phase.{Phase}
-use Rattle.pv_grammar.specs.declared.symbol.Symbol.{Symbol}
-use Rattle.pv_tokens.specs.declared.token.Kind.{Kind}
 use Rattle.pv_parse.specs.declared.names.Meaning.TheVariants.{Variable as VariableMeaning}
-use Rattle.pv_parse.specs.Meanings.{AreSame, Names, learnt, no_names, variables_from, with_known}
-use Rattle.pv_parse.specs.Sentences.{StandsFor}
+use Rattle.pv_parse.specs.Meanings.{AreSame, Names, no_names, variables_from, with_known}
 use Rattle.pv_parse.specs.Views.{found}
-use Rattle.pv_grammar.specs.Counting.{standing_of}
 
 -- ---- Names that are declared alike
 
@@ -32,15 +26,6 @@ as_one n m h = λ i. record { known = λ name. h.known name i; parameter = λ na
 
 by_one : (n m : Names) → n ≡ m → AreSame n m
 by_one n m e = subst (λ (k : Names). AreSame n k) e (same_refl n)
-
-pub same_trans : (n m k : Names) → AreSame n m → AreSame m k → AreSame n k
-same_trans n m k a b = by_one n k (as_one n m a ∙ as_one m k b)
-
-pub stands_same : (p : Phase) (n m : Names) → AreSame n m → (bytes : List ℕ) (kind : Kind) (s : Symbol) → StandsFor p n bytes kind s → StandsFor p m bytes kind s
-stands_same p n m h bytes kind s stands = subst (λ (k : Names). StandsFor p k bytes kind s) (as_one n m h) stands
-
-pub learnt_same : (c : Counts) (s : Symbol) (name : List ℕ) (n m : Names) → AreSame n m → AreSame (learnt (standing_of c) s name n) (learnt (standing_of c) s name m)
-learnt_same c s name n m h = by_one _ _ (ap (learnt (standing_of c) s name) (as_one n m h))
 
 -- ---- Look-ups after an insertion
 

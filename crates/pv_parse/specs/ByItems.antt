@@ -1,67 +1,71 @@
 -- What the reader's own functions say of texts, for its proofs: texts by the items of the grammar and by a code, in place of trees. No
--- public contract cites it. `proofs/TreeTexts` and `proofs/ByTrees` lead from it to what `Sentences` and `Faults` say by trees.
-use Rattle.std.specs.Prelude.{◌++◌, ◌<◌, ◌≡◌, ◌≤◌, List, None, Some, [], length, slice_get, take, ℕ}
+-- public contract cites it. `proofs/TreeTexts` leads from it to what `Declarations` says by trees.
+use Rattle.std.specs.Prelude.{◌++◌, ◌<◌, ◌≡◌, ◌≤◌, List, None, Some, [], length, slice_get, ℕ}
 use Rattle.pv_code.specs.declared.code.Op.{Op}
 use Rattle.pv_code.specs.Expansion.{constraints_of}
 use Rattle.pv_code.specs.Sizes.{IsFirstLarge}
 use Rattle.pv_grammar.specs.declared.cause.Cause.{Cause}
 use Rattle.pv_grammar.specs.declared.cause.Cause.TheVariants.{TextTooLong, TooLarge}
 use Rattle.pv_grammar.specs.declared.counts.Counts.{Counts}
+use Rattle.pv_grammar.specs.declared.counts.Phase.{Phase}
+use Rattle.pv_grammar.specs.declared.counts.Phase.TheVariants.{Between}
 use Rattle.pv_grammar.specs.declared.machine.Item.{Item}
 use Rattle.pv_grammar.specs.declared.symbol.Symbol.{Symbol}
-use Rattle.pv_grammar.specs.ByItems.{IsCauseByItems}
+use Rattle.pv_grammar.specs.Counting.{AreCounted, standing_of}
 use Rattle.pv_grammar.specs.Grammar.{Derives}
-use Rattle.pv_grammar.specs.Counting.{Counted}
-use Rattle.pv_tokens.specs.declared.token.Kind.TheVariants.{End}
-use Rattle.pv_tokens.specs.declared.token.Token.{Token}
-use Rattle.pv_tokens.specs.Tokens.{IsNext}
+use Rattle.pv_grammar.specs.Limits.{IsLimitedExpression, IsLimitedSystem}
+use Rattle.pv_grammar.specs.Productions.{IsExpression, IsSystem}
+use Rattle.pv_grammar.specs.TreeCodes.{AreKnown, system_code}
 use Rattle.pv_parse.specs.declared.refused.ParseRefused.{ParseRefused}
 use Rattle.pv_parse.specs.declared.refused.ParseRefused.TheVariants.{Memory, Fault}
+use Rattle.pv_parse.specs.Declarations.{Mark, Marks, Reading}
+use Rattle.pv_parse.specs.Faults.{IsFirst}
+use Rattle.pv_parse.specs.Fractions.{HaveFractions}
 use Rattle.pv_parse.specs.Meanings.{Names}
-use Rattle.pv_parse.specs.Sentences.{StandsFor, bytes_of}
-use Rattle.pv_parse.specs.ByCounts.{SpellsWithin, SpellsToWithin}
+use Rattle.pv_parse.specs.Scopes.{Scoped, nothing_scoped, scoped_behind}
+use Rattle.pv_parse.specs.Sentences.{Spells}
 
--- ---- Texts of items
+-- ---- What was read
 
--- the text is a sentence of the items within the limits, where these names are declared before it, and its steps lead from one
--- code to the other
-pub record IsSentence (t : List ℕ) (known : Names) (start : Counts) (items : List Item) (before after : List Op) : Type 0 where
+-- the text is one of the items within the limits, where these names are declared before it, and its tokens lead from one code and
+-- state to the other
+pub record IsToldAs (t : List ℕ) (known : Names) (start : Counts) (items : List Item) (before after : List Op) (old new : Scoped) : Type 0 where
   pub symbols : List Symbol
+  pub spelled : Spells t known (standing_of start) symbols
+  pub within : AreCounted start symbols
+  pub are_known : AreKnown symbols
   pub steps : List Op
-  pub counts : Counts
-  pub spelled : SpellsWithin t known start symbols
-  pub within : Counted start symbols counts
   pub derived : Derives items symbols steps
   pub code_is : after ≡ before ++ steps
+  pub marks : List Mark
+  pub marked : Marks t (standing_of start) symbols marks
+  pub fractions : HaveFractions marks
+  pub scoped : new ≡ scoped_behind marks old
 
--- a sentence whose bytes begin with those of a text up to a place, and whose tokens begin with these
-pub record ClosesByItems (t : List ℕ) (known : Names) (start : Counts) (items : List Item) (from : ℕ) (before : List Symbol) : Type 0 where
-  pub tail : List ℕ
-  pub code : List Op
-  pub sentence : IsSentence (take from t ++ tail) known start items [] code
-  pub rest : List Symbol
-  pub tokens : sentence.symbols ≡ before ++ rest
+-- the text is a system's, by its tree
+pub record IsTold (t : List ℕ) (code : List Op) (new : Scoped) : Type 0 where
+  pub reading : Reading t
+  pub code_is : code ≡ system_code reading.tree []
+  pub fractions : HaveFractions reading.marks
+  pub scoped : new ≡ scoped_behind reading.marks nothing_scoped
 
--- the token at the byte is the first such that no sentence begins with the tokens up to and with it
-pub record IsFirstByItems (t : List ℕ) (known : Names) (start : Counts) (items : List Item) (byte : ℕ) (cause : Cause) : Type 0 where
-  pub before : List Symbol
-  pub from : ℕ
-  pub token : Token
-  pub symbol : Symbol
-  pub counts : Counts
-  pub names : Names
-  pub spelled : SpellsToWithin t known start 0 before from names
-  pub next : IsNext t from token
-  pub place : byte ≡ token.start
-  pub stands : StandsFor counts.phase names (bytes_of t token) token.kind symbol
-  pub within : Counted start before counts
-  pub closes : ClosesByItems t known start items from before
-  pub unfinished : token.kind ≡ End → (steps : List Op) → Derives items before steps → ⊥
-  pub because : IsCauseByItems items before counts symbol cause
+-- ---- The first fault
 
-abbrev pub IsFirstOfByItems : List ℕ → Names → Counts → List Item → ParseRefused → Type 0
-IsFirstOfByItems t known start items Memory = Unit {0}
-IsFirstOfByItems t known start items (Fault byte line column cause) = IsFirstByItems t known start items byte cause
+-- a text of a system begins between its parts, and one of an expression within it
+abbrev pub IsTextFrom : Phase → List Symbol → Type 0
+IsTextFrom Between = IsSystem
+IsTextFrom p = IsExpression
+
+abbrev pub IsLimitedFrom : Phase → List Symbol → Type 0
+IsLimitedFrom Between = IsLimitedSystem
+IsLimitedFrom p = IsLimitedExpression
+
+abbrev pub IsFirstFrom : List ℕ → Names → Counts → ℕ → Cause → Type 0
+IsFirstFrom t known start byte cause = IsFirst t known (standing_of start) (IsTextFrom start.phase) (IsLimitedFrom start.phase) byte cause
+
+abbrev pub IsFirstOf : List ℕ → Names → Counts → ParseRefused → Type 0
+IsFirstOf t known start Memory = Unit {0}
+IsFirstOf t known start (Fault byte line column cause) = IsFirstFrom t known start byte cause
 
 -- ---- Other faults
 

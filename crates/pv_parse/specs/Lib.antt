@@ -1,4 +1,3 @@
-pub mod ByCounts
 pub mod ByItems
 pub mod Declarations
 pub mod Faults

@@ -3,26 +3,20 @@ use Rattle.std.specs.Prelude.{if◌then◌else◌, ◌++◌, ◌∷◌, ◌≡�
 use Rattle.pv_expr.specs.declared.domain.Bound.{Bound}
 use Rattle.pv_expr.specs.declared.domain.Bound.TheVariants.{MinusOo, PlusOo}
 use Rattle.pv_expr.specs.declared.domain.Domain.{Domain}
-use Rattle.pv_code.specs.declared.code.Op.{Op}
 use Rattle.pv_code.specs.Fractions.{signed}
 use Rattle.pv_grammar.specs.declared.cause.Cause.{Cause}
-use Rattle.pv_grammar.specs.declared.counts.Counts.{Counts}
 use Rattle.pv_grammar.specs.declared.counts.Phase.{Phase}
-use Rattle.pv_grammar.specs.declared.counts.Phase.TheVariants.{Between, Bounds, Variables}
-use Rattle.pv_grammar.specs.declared.machine.Item.{Item}
+use Rattle.pv_grammar.specs.declared.counts.Phase.TheVariants.{Bounds, Variables}
 use Rattle.pv_grammar.specs.declared.symbol.Fixed.TheVariants.{Oo, OpenBracket}
 use Rattle.pv_grammar.specs.declared.symbol.Symbol.{Symbol}
 use Rattle.pv_grammar.specs.declared.symbol.Symbol.TheVariants.{Constant, Declared, Fixed as FixedToken, Number}
-use Rattle.pv_grammar.specs.Counting.{counted, nothing, standing_of}
-use Rattle.pv_grammar.specs.Grammar.{system_items}
+use Rattle.pv_grammar.specs.Counting.{counted, standing_of}
 use Rattle.pv_grammar.specs.Standings.{is_minus}
 use Rattle.pv_grammar.specs.Trees.{infinite, value_of}
 use Rattle.pv_parse.specs.declared.state.State.{State}
 use Rattle.pv_parse.specs.declared.variable.Variable.{Variable as Kept}
-use Rattle.pv_parse.specs.ByItems.{IsSentence}
-use Rattle.pv_parse.specs.Declarations.{Mark, Marks, begins_constraint, bracket_of, declares, own}
-use Rattle.pv_parse.specs.Fractions.{HaveFractions}
-use Rattle.pv_parse.specs.Meanings.{AreSame, Names, learnt, no_names}
+use Rattle.pv_parse.specs.Declarations.{Mark, begins_constraint, bracket_of, declares, own}
+use Rattle.pv_parse.specs.Meanings.{AreSame, learnt}
 use Rattle.pv_parse.specs.Views.{view}
 
 -- ---- Variables with what is written behind their names
@@ -147,15 +141,3 @@ pub record LeadsTo (old : State) (m : Mark) (new : State) : Type 0 where
 abbrev pub TakesIn : State → Mark → State → Option Cause → Type 0
 TakesIn old m new None = LeadsTo old m new
 TakesIn old m new (Some cause) = counted old.counts m.symbol ≡ Err cause
-
--- the text is a sentence, and its tokens lead from one state to the other
-pub record IsToldAs (t : List ℕ) (known : Names) (start : Counts) (items : List Item) (before after : List Op) (old new : Scoped) : Type 0 where
-  pub sentence : IsSentence t known start items before after
-  pub marks : List Mark
-  pub marked : Marks t (standing_of start) sentence.symbols marks
-  pub fractions : HaveFractions marks
-  pub scoped : new ≡ scoped_behind marks old
-
--- the text is a system's
-abbrev pub IsTold : List ℕ → List Op → Scoped → Type 0
-IsTold t code new = IsToldAs t no_names (nothing Between) system_items [] code nothing_scoped new

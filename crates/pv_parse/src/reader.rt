@@ -9,11 +9,11 @@ ghost use Rattle.pv_code.specs.Sizes.{AreWithin, IsShortCall};
 ghost use Rattle.pv_grammar.specs.ByItems.{IsStart};
 ghost use Rattle.pv_grammar.specs.Causes.{refusal};
 ghost use Rattle.pv_grammar.specs.Grammar.{pile};
-ghost use Rattle.pv_parse.specs.ByItems.{AreBounded, IsAt, IsAtStart, IsFirstOfByItems, IsLargeAt, IsLong};
+ghost use Rattle.pv_parse.specs.ByItems.{AreBounded, IsAt, IsAtStart, IsFirstOf, IsLargeAt, IsLong, IsTold, IsToldAs};
 ghost use Rattle.pv_parse.specs.Faults.{IsExpressionRefusal, IsPlaced, IsRefusal, SaysTooLong};
 ghost use Rattle.pv_parse.specs.Declarations.{IsExpressionMeaning, IsMeaning};
 ghost use Rattle.pv_parse.specs.Fractions.{KnowsFractions};
-ghost use Rattle.pv_parse.specs.Scopes.{IsTold, IsToldAs, scoped};
+ghost use Rattle.pv_parse.specs.Scopes.{scoped};
 ghost use Rattle.pv_parse.specs.Views.{view};
 
 use crate::names::Names;
@@ -80,7 +80,7 @@ pub fn parse_expr(alloc: Global, system: &System, text: &[u8]) -> Result<Expr, P
 }
 
 // The state behind the tokens of a system, and their code.
-#[tactic(auto, using(crate::proofs::Meant::first_fault))]
+#[tactic(auto, using(crate::proofs::Meant::first_fault, crate::proofs::TreeTexts::told_tree))]
 fn read_system(alloc: Global, text: &[u8]) -> Result<(State, Vec<Op>), ParseRefused>
     requires short { length text.now ≤ 65536 }
     ensures told { IfOk result (λ (state, code). IsTold text.now code.items (scoped state)) }
@@ -130,8 +130,7 @@ fn read_tokens(text: &[u8], state: &mut State, machine: &mut Machine) -> Result<
     ensures told { OnOk result (IsToldAs text.now (view state.old.names) state.old.counts
         (pile machine.old.stack.items) machine.old.code.items machine.new.code.items
         (scoped state.old) (scoped state.new)) }
-    ensures fault { IfErr result (λ e. IsFirstOfByItems text.now (view state.old.names)
-        state.old.counts (pile machine.old.stack.items) e) }
+    ensures fault { IfErr result (IsFirstOf text.now (view state.old.names) state.old.counts) }
 {
     let mut from = 0;
     loop {

@@ -11,8 +11,7 @@ use Rattle.pv_parse.specs.declared.variable.Variable.{Variable as Kept}
 use Rattle.pv_parse.specs.ByItems.{IsLargeAt}
 use Rattle.pv_parse.specs.Declarations.{AreGood, IsFirstBad}
 use Rattle.pv_parse.specs.Scopes.{bracket_in, declared, domain_in, name_of}
-use Rattle.pv_parse.proofs.Meant.{as_many, as_many_starts, bad_bounds, bracket_in_text, domains_good, meant, names_differ, starts_in_text, told_steps, too_large, variables_count}
-use Rattle.pv_parse.proofs.TreeTexts.{sentence_constraints}
+use Rattle.pv_parse.proofs.Meant.{as_many, as_many_starts, bad_bounds, bracket_in_text, constraints_count, domains_good, meant, names_differ, starts_in_text, told_steps, too_large, variables_count}
 use Rattle.pv_parse.proofs.reader.parse.Goals as goal
 
 pub fault-requires-clause-within : goal.fault-requires-clause-within
@@ -28,19 +27,19 @@ fault-requires-clause-short c =
 pub returns-in-Some-clause-fault : goal.returns-in-Some-clause-fault
 returns-in-Some-clause-fault c =
     let bad = subst (λ (z : List Kept). IsFirstBad (map domain_in (map declared z)) (map bracket_in (map declared z)) c.in-Some.bracket) c.as_slice.ensures.value c.in-Some.ensures.some in
-    bad_bounds c.in-Some.bracket c.fault.result (c.in_ok-refuse_long.ensures.short (search rules)) c.in_ok-state.ensures.told bad c.fault.ensures.at
+    bad_bounds c.in_ok-state.ensures.told c.in-Some.bracket c.fault.result (c.in_ok-refuse_long.ensures.short (search rules)) bad c.fault.ensures.at
 
 pub returns-in-Err-clause-fault : goal.returns-in-Err-clause-fault
 returns-in-Err-clause-fault c =
     let good = subst (λ (z : List Kept). AreGood (map domain_in (map declared z))) c.as_slice.ensures.value (c.in_default.ensures.none (search rules)) in
-    too_large c.in-Err.refused (c.in_ok-refuse_long.ensures.short (search rules)) c.in_ok-state.ensures.told good
+    too_large c.in_ok-state.ensures.told c.in-Err.refused (c.in_ok-refuse_long.ensures.short (search rules)) good
     (subst (λ (z : List ℕ). IsLargeAt z c.in_ok-state.code.items c.in-Err.refused) c.as_slice-3.ensures.value
     (subst (λ (z : List Op). IsLargeAt c.as_slice-3.result.now z c.in-Err.refused) c.as_slice-2.ensures.value c.in-Err.ensures.large))
 
 pub returns-clause-means : goal.returns-clause-means
 returns-clause-means c =
     let good = subst (λ (z : List Kept). AreGood (map domain_in (map declared z))) c.as_slice.ensures.value (c.in_default.ensures.none (search rules)) in
-    meant c.new.result (c.in_ok-refuse_long.ensures.short (search rules)) c.in_ok-state.ensures.told (c.new.ensures.names ∙ c.in_ok-names.ensures.names)
+    meant c.in_ok-state.ensures.told c.new.result (c.in_ok-refuse_long.ensures.short (search rules)) (c.new.ensures.names ∙ c.in_ok-names.ensures.names)
     (c.new.ensures.domains ∙ c.in_ok-names.ensures.domains) good (ap (map sides_of) c.new.ensures.constraints ∙ (c.in-Ok.ensures.means ∙ ap constraints_of c.as_slice-2.ensures.value))
     (subst (λ (z : List Op). AreWithin (constraints_of z)) c.as_slice-2.ensures.value (c.in-Ok.ensures.within (search rules)))
 
@@ -81,12 +80,12 @@ new-requires-clause-domains_good c =
 pub new-requires-clause-some_constraints : goal.new-requires-clause-some_constraints
 new-requires-clause-some_constraints c =
     let many = ap length (c.in-Ok.ensures.means ∙ ap constraints_of c.as_slice-2.ensures.value) in
-    omega (arith, many, length-map sides_of c.in-Ok.constraints.items, (sentence_constraints c.args.text.now c.in_ok-state.code.items c.in_ok-state.ensures.told.sentence).0)
+    omega (arith, many, length-map sides_of c.in-Ok.constraints.items, (constraints_count c.in_ok-state.ensures.told).0)
 
 pub new-requires-clause-few_constraints : goal.new-requires-clause-few_constraints
 new-requires-clause-few_constraints c =
     let many = ap length (c.in-Ok.ensures.means ∙ ap constraints_of c.as_slice-2.ensures.value) in
-    omega (arith, many, length-map sides_of c.in-Ok.constraints.items, (sentence_constraints c.args.text.now c.in_ok-state.code.items c.in_ok-state.ensures.told.sentence).1)
+    omega (arith, many, length-map sides_of c.in-Ok.constraints.items, (constraints_count c.in_ok-state.ensures.told).1)
 
 pub new-requires-clause-constraints_good : goal.new-requires-clause-constraints_good
 new-requires-clause-constraints_good c =

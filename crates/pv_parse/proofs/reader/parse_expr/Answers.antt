@@ -24,7 +24,7 @@ returns-clause-means c =
     let told = told_at (ap view c.new-state.ensures.names) c.new-state.ensures.counts c.in_ok-machine.ensures.stack c.in_ok-machine.ensures.code (c.new-state.ensures.scoped ∙ unsigned c.in_ok-names.ensures.negative)
     c.in_ok-read_tokens.ensures.told in
     expression_meant c.args.system.now.names c.args.text.now (view c.in_ok-names.names) c.read_tokens.new.machine.code.items (term_of c.in_ok-e.e)
-    (c.in_default.ensures.short (search rules)) c.in_ok-names.ensures told.sentence
+    _ (c.in_default.ensures.short (search rules)) c.in_ok-names.ensures told
     (c.in_ok-e.ensures ∙ ap (λ (z : List Op). top (run [] [] z [])) (c.as_slice.ensures.value ∙ c.into_code.ensures))
 
 pub returns-clause-over : goal.returns-clause-over
