@@ -21,7 +21,7 @@ use Rattle.pv_file.specs.declared.version.Version.{Version}
 use Rattle.pv_file.specs.declared.version.Version.TheVariants.{One, Two}
 use Rattle.pv_file.specs.Lines.{kept_text, pair_text, line_with, node_line_with, top_line, lines_of}
 use Rattle.pv_file.specs.Texts.{identity_text, header_text}
-use Rattle.pv_file.specs.Readings.{IsFree, IsPavingInFormat, TextsDiffer, OneIdentity}
+use Rattle.pv_file.specs.Readings.{IsFree, TextsDiffer, OneIdentity}
 use Rattle.pv_file.specs.Words.{IsKeptOf, end_text, part_text}
 use Rattle.pv_file.specs.Reading.{IsRightNode}
 use Rattle.pv_file.proofs.Bytes.{split_once, heads_same, tails_same, same_words}
@@ -29,7 +29,7 @@ use Rattle.pv_file.proofs.Places.{same_bounds}
 use Rattle.pv_file.proofs.Numbers.{number_plain, end_text_plain, decimal_plain, no_mark}
 use Rattle.pv_file.proofs.Ends.{kept_step, kept_ends}
 use Rattle.pv_file.proofs.Rights.{kept_inner, kept_small, kept_cut, few_places, line_inner, line_small, line_cut}
-use Rattle.pv_file.proofs.Fits.{FitsHole, fit_down, right_top, line_free}
+use Rattle.pv_file.proofs.Fits.{FitsHole, at_root, fit_down, right_top, line_free}
 use Rattle.pv_file.proofs.Steps.{same_line}
 use Rattle.pv_file.proofs.Wholes.{same_version, header_first, same_digest}
 use Rattle.pv_file.proofs.Headers.{identity_free}
@@ -252,9 +252,6 @@ same_tree v hole (cut to var at low high) t r q f g e =
     (sym (append_assoc (lines_of v (lower_half to var at) low) _ r) ∙ whole ∙ append_assoc (lines_of v (lower_half to var at) other.low) _ q) in
     let two = same_tree v (record { path = hole.path ++ true ∷ []; box = upper_half to var at }) high other.high r q mine.1.0 its.1.0 one.1 in
     (ap (λ (x : Tree). cut to var at x high) one.0 ∙ ap (λ (x : Tree). cut to var at other.low x) two.0 ∙ sym other.is, two.1)
-
-at_root : (b : List Bounds) (t : Tree) → IsPavingInFormat b t → FitsHole (record { path = []; box = b }) t
-at_root b t p = record { paves = p.paving.paves; numbers = p.numbers; depth = omega (arith, p.paving.depth) }
 
 pub texts-differ : TextsDiffer
 texts-differ v identity b s t p q e =

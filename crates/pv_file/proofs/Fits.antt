@@ -13,7 +13,7 @@ use Rattle.pv_tree.specs.declared.outcome.Outcome.TheVariants.{Removed, Inner, S
 use Rattle.pv_file.specs.declared.version.Version.{Version}
 use Rattle.pv_file.specs.declared.version.Version.TheVariants.{One, Two}
 use Rattle.pv_file.specs.Lines.{kept_text, pair_text, cut_text, node_line_with, top_line, lines_of}
-use Rattle.pv_file.specs.Readings.{IsFree, HasNumbers, settled_count}
+use Rattle.pv_file.specs.Readings.{IsFree, HasNumbers, IsPavingInFormat, settled_count}
 use Rattle.pv_file.specs.Words.{IsPlain, IsKeptOf, end_text, part_text}
 use Rattle.pv_file.specs.Reading.{IsRightNode, holes_after, tree_after, count_of}
 use Rattle.pv_file.proofs.Numbers.{decimal_plain, number_plain, end_text_plain}
@@ -26,6 +26,9 @@ pub record FitsHole (hole : Hole) (s : Tree) : Type 0 where
   pub paves : Paves hole.box s
   pub numbers : HasNumbers s
   pub depth : length hole.path + height s ≤ 200
+
+pub at_root : (b : List Bounds) (t : Tree) → IsPavingInFormat b t → FitsHole (record { path = []; box = b }) t
+at_root b t p = record { paves = p.paving.paves; numbers = p.numbers; depth = omega (arith, p.paving.depth) }
 
 abbrev pub FitHoles : List Hole → List Tree → Type 0
 FitHoles [] [] = Unit {0}

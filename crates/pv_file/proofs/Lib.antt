@@ -13,3 +13,4 @@ mod Fits
 mod Reached
 mod Wholes
 pub mod Different
+pub mod Lengths

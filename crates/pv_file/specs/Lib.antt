@@ -6,3 +6,4 @@ pub mod Words
 pub mod Reading
 pub mod Walks
 pub mod Scribes
+pub mod Lengths

@@ -1,0 +1,32 @@
+-- How long the texts of pavings are.
+use Rattle.std.specs.Prelude.{◌≡◌, ℕ, ◌+◌, ◌*◌, ◌<◌, ◌≤◌, Bool, List, [], ◌∷◌, ◌++◌, Some, length}
+use Rattle.pv_interval.specs.Bounds.{Bounds}
+use Rattle.pv_tree.specs.Trees.{Tree, box_of, counts_of, outcome_at}
+use Rattle.pv_tree.specs.declared.outcome.Outcome.{Outcome}
+use Rattle.pv_file.specs.declared.version.Version.{Version}
+use Rattle.pv_file.specs.Lines.{kept_text, line_with}
+use Rattle.pv_file.specs.Texts.{IsDigest, file_text}
+use Rattle.pv_file.specs.Readings.{IsPavingInFormat, settled_count}
+
+-- how many leaves are open
+abbrev pub open_count : Tree → ℕ
+open_count t = (counts_of t).open_leaves
+
+-- The line of a settled node of a paving, at whatever path, has at most 660 bytes with its line feed.
+abbrev pub LinesAreShort : Type 0
+LinesAreShort = (v : Version) (b : List Bounds) (t : Tree) (p : List Bool) (o : Outcome) → IsPavingInFormat b t → outcome_at t p ≡ Some o
+    → length (line_with (kept_text v (box_of b t p)) o ++ 10 ∷ []) ≤ 660
+
+-- Open leaves are at most one more than settled nodes.
+abbrev pub OpenLeavesAreFew : Type 0
+OpenLeavesAreFew = (t : Tree) → open_count t ≤ settled_count t + 1
+
+-- A paving's file has 83 bytes for its first two lines, at most 660 for each settled node and 2 for each open leaf.
+abbrev pub FilesAreShort : Type 0
+FilesAreShort = (v : Version) (identity : List ℕ) (b : List Bounds) (t : Tree) → IsDigest identity → IsPavingInFormat b t
+    → length (file_text v identity b t) ≤ 83 + (660 * settled_count t + 2 * open_count t)
+
+-- The file of a paving with at most 100,000 settled nodes has fewer than 67,000,000 bytes.
+abbrev pub FilesHaveLimit : Type 0
+FilesHaveLimit = (v : Version) (identity : List ℕ) (b : List Bounds) (t : Tree) → IsDigest identity → IsPavingInFormat b t
+    → settled_count t ≤ 100000 → length (file_text v identity b t) < 67000000
