@@ -5,7 +5,6 @@ mod Shuffles
 mod Placing
 mod Leaves
 mod Making
-mod Lengths
 mod SideBySide
 mod Opening
 mod Rounding
