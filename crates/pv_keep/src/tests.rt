@@ -1,8 +1,6 @@
-//! Campaigns over kept rows of each bad kind, over the keeper in memory, and the longest line.
-ghost use Rattle.pv_keep.specs.Keeping.{untold};
-ghost use Rattle.pv_keep.specs.Shelves.{name_of};
-
+//! Kept rows of each bad kind, campaigns over the keeper in memory, and the longest line.
 use super::*;
+use crate::rebuild::rebuild;
 use pv_box::IBox;
 use pv_interval::Interval;
 use pv_num::Num;
@@ -13,47 +11,6 @@ use std::test::Fail;
 const IDENTITY: [u8; 32] = [7; 32];
 
 const OTHER: [u8; 32] = [8; 32];
-
-// A keeper that gives some rows once, whatever they are, and tells nothing.
-#[derive(Drop)]
-struct Giving {
-    alloc: Global,
-    rows: Rows,
-    begun: Option<String>,
-}
-
-impl Keeper for Giving {
-    ghost begun = { λ k. name_of k.begun };
-
-    ghost kept = { λ _ _. untold };
-
-    ghost faults = { λ _. 0 };
-
-    fn begin(&mut self, name: &str, _identity: [u8; 32]) -> Result<(), BeginRefused> {
-        self.begun = None;
-        let name = String::from_str(self.alloc, name)?;
-        self.begun = Some(name);
-        Ok(())
-    }
-
-    fn load(&mut self, limit: u64, into: &mut Rows) -> Result<(), LoadRefused> {
-        let rows = std::mem::replace(&mut self.rows, Rows::new(self.alloc));
-        let count = rows.len();
-        if count <= limit {
-            *into = rows;
-            return Ok(());
-        }
-        if count == limit + 1 {
-            *into = rows;
-            return Err(LoadRefused::TooMany);
-        }
-        Err(LoadRefused::Memory)
-    }
-
-    fn save(&mut self, _rows: &Rows) -> Result<(), KeepRefused> {
-        Err(KeepRefused::Memory)
-    }
-}
 
 fn unit_box(alloc: Global) -> Result<IBox, Fail> {
     let zero = Num::fin(0, 0).ok_or("no zero")?;
@@ -94,20 +51,15 @@ fn rows_of(alloc: Global, texts: &[(&str, &str)]) -> Result<Rows, Fail> {
 }
 
 // How many nodes are settled in the paving of [0,1] that rows make, or why there is none.
-fn opened(alloc: Global, rows: Rows) -> Result<Result<u64, CampaignRefused>, Fail> {
-    let mut keeper = Giving {
-        alloc,
-        rows,
-        begun: None,
-    };
-    match Campaign::open(alloc, &mut keeper, "k", IDENTITY, unit_box(alloc)?) {
-        Ok(campaign) => Ok(Ok(campaign.paving().counts().settled())),
+fn rebuilt(alloc: Global, rows: &Rows) -> Result<Result<u64, CampaignRefused>, Fail> {
+    match rebuild(alloc, rows, unit_box(alloc)?) {
+        Ok(paving) => Ok(Ok(paving.counts().settled())),
         Err(refused) => Ok(Err(refused)),
     }
 }
 
 fn made(alloc: Global, texts: &[(&str, &str)]) -> Result<Result<u64, CampaignRefused>, Fail> {
-    opened(alloc, rows_of(alloc, texts)?)
+    rebuilt(alloc, &rows_of(alloc, texts)?)
 }
 
 fn bad(row: u64) -> Result<u64, CampaignRefused> {
@@ -192,27 +144,8 @@ fn deep(alloc: Global, last: &[u8]) -> Result<Rows, Fail> {
 fn no_cut_stands_behind_200_steps(rt: HostRuntime) -> Result<(), Fail> {
     let alloc = rt.alloc();
     let cut = halving(alloc, -200)?;
-    assert_eq!(rt; opened(alloc, deep(alloc, &cut)?)?, bad(200));
-    assert_eq!(rt; opened(alloc, deep(alloc, "X".as_bytes())?)?, Ok(201));
-    Ok(())
-}
-
-fn many(alloc: Global, count: u32) -> Result<Rows, Fail> {
-    let mut rows = Rows::new(alloc);
-    for _ in 0..count {
-        push(alloc, &mut rows, Path::root().low(), "X".as_bytes())?;
-    }
-    Ok(rows)
-}
-
-#[test]
-fn more_than_100_000_rows_are_too_many(rt: HostRuntime) -> Result<(), Fail> {
-    let alloc = rt.alloc();
-    assert_eq!(rt;
-        opened(alloc, many(alloc, 100_001)?)?,
-        Err(CampaignRefused::TooMany)
-    );
-    assert_eq!(rt; opened(alloc, many(alloc, 100_000)?)?, bad(0));
+    assert_eq!(rt; rebuilt(alloc, &deep(alloc, &cut)?)?, bad(200));
+    assert_eq!(rt; rebuilt(alloc, &deep(alloc, "X".as_bytes())?)?, Ok(201));
     Ok(())
 }
 
