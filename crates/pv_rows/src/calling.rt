@@ -1,26 +1,58 @@
-//! Calls of the top call over a folder and streams in memory, with a gate or with none, and a
-//! keeper in memory.
-use pv_cli::{Gate, NoGate, Status, paver_main};
-use pv_io::{MemFolder, MemSink};
+//! Calls of the top call over a folder, a keeper and streams in memory, whose calls fail by lists.
+use pv_cli::{Gate, NoGate, paver_main};
+use pv_io::{FetchRefused, Folder, MemFolder, MemSink};
 use pv_keep::{Keeper, MemKeeper};
 use std::alloc::Global;
+use std::collections::BTreeMap;
+use std::process::Abort;
 use std::sync::Wait;
+use std::test::Fail;
 use std::thread::Threads;
 
-/// What the words come to, with no gate.
-pub(crate) fn paver<R: Threads + Wait + Sync>(
-    rt: &R,
-    alloc: Global,
-    words: &[String],
-    folder: &mut MemFolder,
-    out: &mut MemSink,
-    err: &mut MemSink,
-) -> Status {
-    paver_at(rt, alloc, words, folder, out, err, &NoGate)
+/// The numbers of the calls that fail, of each part of the outside.
+#[derive(Clone, Copy)]
+pub(crate) struct Fails<'a> {
+    pub folder: &'a [u64],
+    pub out: &'a [u64],
+    pub err: &'a [u64],
+    pub keeper: &'a [u64],
 }
 
-/// What the words come to, where each worker enters a gate.
-pub(crate) fn paver_at<R: Threads + Wait + Sync, G: Gate + Sync>(
+pub(crate) const NONE: Fails<'static> = Fails {
+    folder: &[],
+    out: &[],
+    err: &[],
+    keeper: &[],
+};
+
+/// What a call came to.
+#[derive(Drop)]
+pub(crate) struct Answer {
+    pub status: u8,
+    pub out: MemSink,
+    pub err: MemSink,
+}
+
+impl Answer {
+    /// The call ended with this status, and printed and told this.
+    pub(crate) fn is(&self, rt: &impl Abort, words: &str, status: u8, out: &str, err: &str) {
+        assert_eq!(rt; self.status, status, "{words}");
+        assert_eq!(rt; self.out.bytes(), out.as_bytes(), "{words}");
+        assert_eq!(rt; self.err.bytes(), err.as_bytes(), "{words}");
+    }
+}
+
+// The words of a command line, behind the program's name.
+fn words_of(alloc: Global, words: &str) -> Result<Vec<String>, Fail> {
+    let mut list = vec![in alloc; String::from_str(alloc, "paver")?]?;
+    for word in words.split(' ').filter(|w| !w.is_empty()) {
+        list.push(String::from_str(alloc, word)?)?;
+    }
+    Ok(list)
+}
+
+// The top call by itself, so that no proof but this one carries what it promises.
+fn paver<R: Threads + Wait + Sync, G: Gate + Sync, P: Keeper>(
     rt: &R,
     alloc: Global,
     words: &[String],
@@ -28,20 +60,93 @@ pub(crate) fn paver_at<R: Threads + Wait + Sync, G: Gate + Sync>(
     out: &mut MemSink,
     err: &mut MemSink,
     gate: &G,
-) -> Status {
-    let mut keeper = MemKeeper::new(alloc, Vec::new(alloc));
-    paver_main(rt, alloc, words, folder, out, err, gate, &mut keeper)
+    keeper: &mut P,
+) -> u8 {
+    paver_main(rt, alloc, words, folder, out, err, gate, keeper).code()
 }
 
-/// What the words come to over a keeper, with no gate.
-pub(crate) fn paver_keeping<R: Threads + Wait + Sync, P: Keeper>(
+/// What the words come to, where the streams fail.
+pub(crate) fn call<R: Threads + Wait + Sync>(
     rt: &R,
     alloc: Global,
-    words: &[String],
+    words: &str,
     folder: &mut MemFolder,
-    out: &mut MemSink,
-    err: &mut MemSink,
+    fails: Fails<'_>,
+) -> Result<Answer, Fail> {
+    let mut keeper = MemKeeper::new(alloc, Vec::new(alloc));
+    call_keeping(rt, alloc, words, folder, fails, &mut keeper)
+}
+
+/// What they come to over a keeper.
+pub(crate) fn call_keeping<R: Threads + Wait + Sync, P: Keeper>(
+    rt: &R,
+    alloc: Global,
+    words: &str,
+    folder: &mut MemFolder,
+    fails: Fails<'_>,
     keeper: &mut P,
-) -> Status {
-    paver_main(rt, alloc, words, folder, out, err, &NoGate, keeper)
+) -> Result<Answer, Fail> {
+    call_at(rt, alloc, words, folder, fails, &NoGate, keeper)
+}
+
+/// What they come to over a keeper, where each worker enters a gate.
+pub(crate) fn call_at<R: Threads + Wait + Sync, G: Gate + Sync, P: Keeper>(
+    rt: &R,
+    alloc: Global,
+    words: &str,
+    folder: &mut MemFolder,
+    fails: Fails<'_>,
+    gate: &G,
+    keeper: &mut P,
+) -> Result<Answer, Fail> {
+    let list = words_of(alloc, words)?;
+    let mut out = MemSink::new(alloc, fails.out.to_vec(alloc)?);
+    let mut err = MemSink::new(alloc, fails.err.to_vec(alloc)?);
+    let status = paver(rt, alloc, &list, folder, &mut out, &mut err, gate, keeper);
+    Ok(Answer { status, out, err })
+}
+
+/// A folder with these files, which fails by a list.
+pub(crate) fn shelf(
+    alloc: Global,
+    files: &[(&str, &str)],
+    fails: &[u64],
+) -> Result<MemFolder, Fail> {
+    let mut map = BTreeMap::new(alloc);
+    for (name, text) in files {
+        let name = String::from_str(alloc, name)?;
+        map.insert(name, text.as_bytes().to_vec(alloc)?)?;
+    }
+    Ok(MemFolder::new(alloc, map, fails.to_vec(alloc)?))
+}
+
+/// A file holds this.
+pub(crate) fn holds(
+    rt: &impl Abort,
+    alloc: Global,
+    words: &str,
+    folder: &mut MemFolder,
+    name: &str,
+    text: &str,
+) {
+    let mut held = Vec::new(alloc);
+    let found = folder.fetch(name, 100_000, &mut held);
+    assert!(rt; found.is_ok(), "{words}: {name}");
+    assert_eq!(rt; held.as_slice(), text.as_bytes(), "{words}: {name}");
+}
+
+/// There is no such file.
+pub(crate) fn lacks(
+    rt: &impl Abort,
+    alloc: Global,
+    words: &str,
+    folder: &mut MemFolder,
+    name: &str,
+) {
+    let mut none = Vec::new(alloc);
+    let found = folder.fetch(name, 100_000, &mut none);
+    assert!(rt;
+        matches!(found, Err(FetchRefused::Absent)),
+        "{words}: {name}"
+    );
 }

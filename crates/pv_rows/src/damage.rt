@@ -1,50 +1,29 @@
 //! Paving files that are damaged or too large, as commands meet them.
-use crate::calling::paver;
+use crate::calling::{Answer, NONE, call, lacks, shelf};
 use crate::files::{SYSTEM, WHOLE, WHOLE_1};
-use crate::tests::words_of;
-use pv_cli::Status;
-use pv_io::{FetchRefused, Folder, MemFolder, MemSink};
+use pv_io::{Folder, MemFolder};
 use std::alloc::Global;
-use std::collections::BTreeMap;
 use std::process::Abort;
 use std::sync::Wait;
 use std::test::Fail;
 use std::thread::Threads;
 
-// What a call over the system and these files came to.
-#[derive(Drop)]
-struct Answer {
-    status: Status,
-    folder: MemFolder,
-    out: MemSink,
-    err: MemSink,
-}
-
-fn call<R: Threads + Wait + Sync>(
+// A call over the system and these files, and the folder behind it.
+fn call_over<R: Threads + Wait + Sync>(
     rt: &R,
     alloc: Global,
     words: &str,
     p: &[u8],
     q: &[u8],
-) -> Result<Answer, Fail> {
-    let list = words_of(alloc, words)?;
-    let mut files = BTreeMap::new(alloc);
-    files.insert(
-        String::from_str(alloc, "s")?,
-        SYSTEM.as_bytes().to_vec(alloc)?,
-    )?;
-    files.insert(String::from_str(alloc, "p")?, p.to_vec(alloc)?)?;
-    files.insert(String::from_str(alloc, "q")?, q.to_vec(alloc)?)?;
-    let mut folder = MemFolder::new(alloc, files, Vec::new(alloc));
-    let mut out = MemSink::new(alloc, Vec::new(alloc));
-    let mut err = MemSink::new(alloc, Vec::new(alloc));
-    let status = paver(rt, alloc, &list, &mut folder, &mut out, &mut err);
-    Ok(Answer {
-        status,
-        folder,
-        out,
-        err,
-    })
+) -> Result<(Answer, MemFolder), Fail> {
+    let mut folder = shelf(alloc, &[("s", SYSTEM)], &[])?;
+    for (name, bytes) in [("p", p), ("q", q)] {
+        if folder.store(name, bytes).is_err() {
+            return Err("not stored")?;
+        }
+    }
+    let answer = call(rt, alloc, words, &mut folder, NONE)?;
+    Ok((answer, folder))
 }
 
 const RESUME: &str = "resume s p --eps 0.25 --boxes 4 --out m";
@@ -54,15 +33,11 @@ fn refused<R: Abort + Threads + Wait + Sync>(
     rt: &R,
     alloc: Global,
     file: &[u8],
-    line: &[u8],
+    line: &str,
 ) -> Result<(), Fail> {
-    let mut answer = call(rt, alloc, RESUME, file, b"")?;
-    assert_eq!(rt; answer.status.code(), 4);
-    assert_eq!(rt; answer.err.bytes(), line);
-    assert_eq!(rt; answer.out.bytes(), "".as_bytes());
-    let mut held = Vec::new(alloc);
-    let found = answer.folder.fetch("m", 1000, &mut held);
-    assert!(rt; matches!(found, Err(FetchRefused::Absent)));
+    let (answer, mut folder) = call_over(rt, alloc, RESUME, file, b"")?;
+    answer.is(rt, RESUME, 4, "", line);
+    lacks(rt, alloc, RESUME, &mut folder, "m");
     Ok(())
 }
 
@@ -81,7 +56,7 @@ fn each_cut<R: Abort + Threads + Wait + Sync>(
     for end in 0..file.len() {
         let front = file.get(..end).unwrap_or(&[]);
         let line = bad_line(alloc, front)?;
-        refused(rt, alloc, front, line.as_bytes())?;
+        refused(rt, alloc, front, &line)?;
     }
     Ok(())
 }
@@ -103,7 +78,7 @@ fn each_byte<R: Abort + Threads + Wait + Sync>(
             *byte = b'#';
         }
         let line = bad_line(alloc, file.get(..place).unwrap_or(&[]))?;
-        refused(rt, alloc, &other, line.as_bytes())?;
+        refused(rt, alloc, &other, &line)?;
     }
     Ok(())
 }
@@ -147,13 +122,9 @@ fn a_join_that_is_too_large(rt: HostRuntime) -> Result<(), Fail> {
     let mut high = HEAD.to_vec(alloc)?;
     high.extend_from_slice(b"C 0 1:-1 = =\nO\n")?;
     push_leaves(alloc, 32_768, 65_536, &mut high)?;
-    let mut answer = call(&rt, alloc, "merge s p q --eps 0.25 --out m", &low, &high)?;
-    assert_eq!(rt; answer.status.code(), 8);
-    let line = b"tree limit: 131071 settled\n";
-    assert_eq!(rt; answer.err.bytes(), line.as_slice());
-    assert_eq!(rt; answer.out.bytes(), "".as_bytes());
-    let mut held = Vec::new(alloc);
-    let found = answer.folder.fetch("m", 1000, &mut held);
-    assert!(rt; matches!(found, Err(FetchRefused::Absent)));
+    let words = "merge s p q --eps 0.25 --out m";
+    let (answer, mut folder) = call_over(&rt, alloc, words, &low, &high)?;
+    answer.is(&rt, words, 8, "", "tree limit: 131071 settled\n");
+    lacks(&rt, alloc, words, &mut folder, "m");
     Ok(())
 }

@@ -1,11 +1,10 @@
 //! Commands whose outside fails: each call of the folder, of the standard output and of the
 //! standard error in turn.
-use crate::calling::paver;
+use crate::calling::{Answer, Fails, NONE, call, holds, lacks, shelf};
 use crate::fault_cases::{CASES, Case};
-use crate::files::{FILES, shelf};
-use crate::tests::words_of;
-use pv_cli::Status;
-use pv_io::{FetchRefused, Folder, MemFolder, MemSink, Sink};
+use crate::files::FILES;
+use crate::steps::{Comes, came_to, output_failed};
+use pv_io::{FetchRefused, Folder, MemFolder, Sink};
 use std::alloc::Global;
 use std::process::Abort;
 use std::sync::Wait;
@@ -15,74 +14,41 @@ use std::thread::Threads;
 // No command writes so often.
 const MOST_WRITES: u64 = 100;
 
-// What a call came to.
-#[derive(Drop)]
-struct Answer {
-    status: Status,
-    folder: MemFolder,
-    out: MemSink,
-    err: MemSink,
-}
-
-fn call<R: Threads + Wait + Sync>(
+// A call over the files, and the folder behind it.
+fn call_over<R: Threads + Wait + Sync>(
     rt: &R,
     alloc: Global,
     words: &str,
-    folder_fails: &[u64],
-    out_fails: &[u64],
-    err_fails: &[u64],
-) -> Result<Answer, Fail> {
-    let list = words_of(alloc, words)?;
-    let mut folder = shelf(alloc, &FILES, folder_fails)?;
-    let mut out = MemSink::new(alloc, out_fails.to_vec(alloc)?);
-    let mut err = MemSink::new(alloc, err_fails.to_vec(alloc)?);
-    let status = paver(rt, alloc, &list, &mut folder, &mut out, &mut err);
-    Ok(Answer {
-        status,
-        folder,
-        out,
-        err,
-    })
+    fails: Fails<'_>,
+) -> Result<(Answer, MemFolder), Fail> {
+    let mut folder = shelf(alloc, &FILES, fails.folder)?;
+    let answer = call(rt, alloc, words, &mut folder, fails)?;
+    Ok((answer, folder))
 }
 
 // Each file holds what it held.
-fn are_kept<R: Abort + Threads + Wait + Sync>(
-    rt: &R,
-    alloc: Global,
-    words: &str,
-    folder: &mut MemFolder,
-) -> Result<(), Fail> {
-    for file in &FILES {
-        let mut held = Vec::new(alloc);
-        let name = file.name;
-        let found = folder.fetch(name, 100_000, &mut held);
-        assert!(rt; found.is_ok(), "{words}: {name}");
-        assert_eq!(rt; held.as_slice(), file.text.as_bytes(), "{words}: {name}");
+fn are_kept(rt: &impl Abort, alloc: Global, words: &str, folder: &mut MemFolder) {
+    for (name, text) in &FILES {
+        holds(rt, alloc, words, folder, name, text);
     }
-    Ok(())
 }
 
-// The file that is asked for holds this, or nothing at all.
-fn is_written<R: Abort + Threads + Wait + Sync>(
-    rt: &R,
+// The file that is asked for holds what it is to hold, or nothing at all.
+fn is_written(
+    rt: &impl Abort,
     alloc: Global,
-    case: &Case,
+    words: &str,
+    comes: Comes,
     folder: &mut MemFolder,
     is_stored: bool,
-) -> Result<(), Fail> {
-    let words = case.words;
-    if case.file.is_empty() {
-        return Ok(());
+) {
+    if let Comes::Stores(_, _, file, text) = comes {
+        if is_stored {
+            holds(rt, alloc, words, folder, file, text);
+        } else {
+            lacks(rt, alloc, words, folder, file);
+        }
     }
-    let mut held = Vec::new(alloc);
-    let found = folder.fetch(case.file, 100_000, &mut held);
-    if is_stored {
-        assert!(rt; found.is_ok(), "{words}");
-        assert_eq!(rt; held.as_slice(), case.holds.as_bytes(), "{words}");
-    } else {
-        assert!(rt; matches!(found, Err(FetchRefused::Absent)), "{words}");
-    }
-    Ok(())
 }
 
 fn status_of(line: &str) -> u8 {
@@ -101,15 +67,17 @@ fn folder_fails<R: Abort + Threads + Wait + Sync>(
     number: u64,
     line: &str,
 ) -> Result<(), Fail> {
-    let words = case.words;
-    let mut answer = call(rt, alloc, words, &[number], &[], &[])?;
+    let (words, comes, _) = *case;
+    let fails = Fails {
+        folder: &[number],
+        ..NONE
+    };
+    let (answer, mut folder) = call_over(rt, alloc, words, fails)?;
     let status = status_of(line);
-    assert_eq!(rt; answer.status.code(), status, "{words}: {number}");
-    assert_eq!(rt; answer.out.bytes(), "".as_bytes(), "{words}: {number}");
-    assert_eq!(rt; answer.err.bytes(), line.as_bytes(), "{words}: {number}");
-    are_kept(rt, alloc, words, &mut answer.folder)?;
+    answer.is(rt, words, status, "", line);
+    are_kept(rt, alloc, words, &mut folder);
     if status == 5 {
-        is_written(rt, alloc, case, &mut answer.folder, false)?;
+        is_written(rt, alloc, words, comes, &mut folder, false);
     }
     Ok(())
 }
@@ -119,7 +87,8 @@ fn each_folder_call_fails<R: Abort + Threads + Wait + Sync>(
     alloc: Global,
     case: &Case,
 ) -> Result<(), Fail> {
-    for (number, line) in case.lines.iter().enumerate() {
+    let (_, _, lines) = *case;
+    for (number, line) in lines.iter().enumerate() {
         folder_fails(rt, alloc, case, number as u64, *line)?;
     }
     Ok(())
@@ -138,18 +107,19 @@ fn each_call_of_the_folder_fails(rt: HostRuntime) -> Result<(), Fail> {
 #[test]
 fn nothing_fails(rt: HostRuntime) -> Result<(), Fail> {
     let alloc = rt.alloc();
-    for case in &CASES {
-        let words = case.words;
-        let number = case.lines.len() as u64;
-        let mut answer = call(&rt, alloc, words, &[number], &[], &[])?;
-        assert_eq!(rt; answer.status.code(), case.status, "{words}");
-        assert_eq!(rt; answer.out.bytes(), case.out.as_bytes(), "{words}");
-        assert_eq!(rt; answer.err.bytes(), case.err.as_bytes(), "{words}");
+    for (words, comes, lines) in &CASES {
+        let number = [lines.len() as u64];
+        let fails = Fails {
+            folder: &number,
+            ..NONE
+        };
+        let (answer, mut folder) = call_over(&rt, alloc, words, fails)?;
+        came_to(&rt, words, &answer, *comes);
         let mut none = Vec::new(alloc);
-        let found = answer.folder.fetch("s", 100_000, &mut none);
+        let found = folder.fetch("s", 100_000, &mut none);
         assert!(rt; matches!(found, Err(FetchRefused::Failed)), "{words}");
-        are_kept(&rt, alloc, words, &mut answer.folder)?;
-        is_written(&rt, alloc, case, &mut answer.folder, case.status < 2)?;
+        are_kept(&rt, alloc, words, &mut folder);
+        is_written(&rt, alloc, words, *comes, &mut folder, comes.status() < 2);
     }
     Ok(())
 }
@@ -161,23 +131,15 @@ fn out_fails<R: Abort + Threads + Wait + Sync>(
     case: &Case,
     number: u64,
 ) -> Result<bool, Fail> {
-    let words = case.words;
-    let mut answer = call(rt, alloc, words, &[], &[number], &[])?;
-    are_kept(rt, alloc, words, &mut answer.folder)?;
-    is_written(rt, alloc, case, &mut answer.folder, case.status < 2)?;
-    let said = answer.out.bytes();
-    assert!(rt; case.out.as_bytes().starts_with(said), "{words}: {number}");
-    let is_whole = said == case.out.as_bytes();
-    if answer.out.write(b"").is_err() {
-        assert!(rt; is_whole, "{words}: {number}");
-        assert_eq!(rt; answer.status.code(), case.status, "{words}: {number}");
-        assert_eq!(rt; answer.err.bytes(), case.err.as_bytes(), "{words}");
-        return Ok(false);
-    }
-    assert_eq!(rt; answer.status.code(), 6, "{words}: {number}");
-    let line = b"write fault: standard output\n";
-    assert_eq!(rt; answer.err.bytes(), line.as_slice(), "{words}: {number}");
-    Ok(true)
+    let (words, comes, _) = *case;
+    let fails = Fails {
+        out: &[number],
+        ..NONE
+    };
+    let (mut answer, mut folder) = call_over(rt, alloc, words, fails)?;
+    are_kept(rt, alloc, words, &mut folder);
+    is_written(rt, alloc, words, comes, &mut folder, comes.status() < 2);
+    Ok(output_failed(rt, words, &mut answer, comes))
 }
 
 // How many calls of the standard output there are, each of which fails in turn.
@@ -199,10 +161,10 @@ fn count_of_out<R: Abort + Threads + Wait + Sync>(
 fn each_call_of_the_output_fails(rt: HostRuntime) -> Result<(), Fail> {
     let alloc = rt.alloc();
     for case in &CASES {
-        let words = case.words;
+        let (words, comes, _) = *case;
         let count = count_of_out(&rt, alloc, case)?;
         assert!(rt; count < MOST_WRITES, "{words}");
-        assert_eq!(rt; count == 0, case.out.is_empty(), "{words}");
+        assert_eq!(rt; count == 0, comes.out().is_empty(), "{words}");
     }
     Ok(())
 }
@@ -210,8 +172,7 @@ fn each_call_of_the_output_fails(rt: HostRuntime) -> Result<(), Fail> {
 // What fails beside the standard error, and what comes of a call then.
 #[derive(Clone, Copy)]
 struct Told {
-    folder: &'static [u64],
-    out: &'static [u64],
+    fails: Fails<'static>,
     status: u8,
     line: &'static str,
 }
@@ -220,14 +181,17 @@ struct Told {
 fn err_fails<R: Abort + Threads + Wait + Sync>(
     rt: &R,
     alloc: Global,
-    case: &Case,
+    words: &str,
     told: Told,
     number: u64,
 ) -> Result<bool, Fail> {
-    let words = case.words;
-    let mut answer = call(rt, alloc, words, told.folder, told.out, &[number])?;
-    assert_eq!(rt; answer.status.code(), told.status, "{words}: {number}");
-    are_kept(rt, alloc, words, &mut answer.folder)?;
+    let fails = Fails {
+        err: &[number],
+        ..told.fails
+    };
+    let (mut answer, mut folder) = call_over(rt, alloc, words, fails)?;
+    assert_eq!(rt; answer.status, told.status, "{words}: {number}");
+    are_kept(rt, alloc, words, &mut folder);
     let said = answer.err.bytes();
     assert!(rt; told.line.as_bytes().starts_with(said), "{words}: {number}");
     let is_whole = said == told.line.as_bytes();
@@ -244,12 +208,11 @@ fn err_fails<R: Abort + Threads + Wait + Sync>(
 fn each_fails<R: Abort + Threads + Wait + Sync>(
     rt: &R,
     alloc: Global,
-    case: &Case,
+    words: &str,
     told: Told,
 ) -> Result<(), Fail> {
-    let words = case.words;
     for number in 0..MOST_WRITES {
-        if !err_fails(rt, alloc, case, told, number)? {
+        if !err_fails(rt, alloc, words, told, number)? {
             assert_eq!(rt; number == 0, told.line.is_empty(), "{words}");
             return Ok(());
         }
@@ -261,14 +224,13 @@ fn each_fails<R: Abort + Threads + Wait + Sync>(
 #[test]
 fn each_call_of_the_error_stream_fails(rt: HostRuntime) -> Result<(), Fail> {
     let alloc = rt.alloc();
-    for case in &CASES {
+    for (words, comes, _) in &CASES {
         let told = Told {
-            folder: &[],
-            out: &[],
-            status: case.status,
-            line: case.err,
+            fails: NONE,
+            status: comes.status(),
+            line: comes.err(),
         };
-        each_fails(&rt, alloc, case, told)?;
+        each_fails(&rt, alloc, words, told)?;
     }
     Ok(())
 }
@@ -281,14 +243,17 @@ fn folder_and_error_fail<R: Abort + Threads + Wait + Sync>(
     alloc: Global,
     case: &Case,
 ) -> Result<(), Fail> {
-    for (line, number) in case.lines.iter().zip(&NUMBERS) {
+    let (words, _, lines) = *case;
+    for (line, number) in lines.iter().zip(&NUMBERS) {
         let told = Told {
-            folder: *number,
-            out: &[],
+            fails: Fails {
+                folder: *number,
+                ..NONE
+            },
             status: status_of(*line),
             line: *line,
         };
-        each_fails(rt, alloc, case, told)?;
+        each_fails(rt, alloc, words, told)?;
     }
     Ok(())
 }
@@ -305,15 +270,14 @@ fn the_folder_and_the_error_stream_fail(rt: HostRuntime) -> Result<(), Fail> {
 #[test]
 fn both_streams_fail(rt: HostRuntime) -> Result<(), Fail> {
     let alloc = rt.alloc();
-    for case in &CASES {
-        if !case.out.is_empty() {
-            let told = Told {
-                folder: &[],
-                out: &[0],
-                status: 6,
-                line: "write fault: standard output\n",
-            };
-            each_fails(&rt, alloc, case, told)?;
+    let told = Told {
+        fails: Fails { out: &[0], ..NONE },
+        status: 6,
+        line: "write fault: standard output\n",
+    };
+    for (words, comes, _) in &CASES {
+        if !comes.out().is_empty() {
+            each_fails(&rt, alloc, words, told)?;
         }
     }
     Ok(())

@@ -48,15 +48,14 @@ impl Keeper for Giving {
     }
 }
 
-/// So many rows of the root.
-pub(crate) fn rows_of(alloc: Global, count: u32) -> Result<Rows, Fail> {
+/// So many rows of one path.
+pub(crate) fn rows_of(alloc: Global, path: Path, count: u32) -> Result<Rows, Fail> {
     let mut rows = Rows::new(alloc);
     for _ in 0..count {
         let line = match Line::of(alloc, b"X") {
             Ok(Some(line)) => line,
             _ => return Err("no line")?,
         };
-        let path = Path::root();
         if rows.push(Row { path, line }).is_err() {
             return Err("no memory")?;
         }

@@ -1,11 +1,10 @@
 //! Campaigns whose outside fails: each call of the keeper, of the folder and of both streams in
 //! turn, and which rows are kept then.
-use crate::calling::paver_keeping;
-use crate::campaigns::{ALL, ONE_SETTLED, ROOT, THREE, TWO, kept};
-use crate::files::{FILES, SUMMARY, shelf};
-use crate::tests::words_of;
-use pv_cli::Status;
-use pv_io::{MemSink, Sink};
+use crate::calling::{Answer, Fails, NONE, call_keeping, shelf};
+use crate::campaigns::{ALL, ROOT, THREE, TWO, are_kept};
+use crate::files::{FILES, ONE_SETTLED, SUMMARY};
+use crate::steps::Comes::{self, Prints};
+use crate::steps::{came_to, output_failed};
 use pv_keep::{BeginRefused, Keeper, MemKeeper};
 use std::alloc::Global;
 use std::process::Abort;
@@ -17,8 +16,7 @@ use std::thread::Threads;
 // where the keeper's call with a number fails.
 struct Case {
     words: &'static str,
-    status: u8,
-    out: &'static str,
+    comes: Comes,
     rows: &'static str,
     kept: &'static [&'static str],
 }
@@ -29,133 +27,82 @@ const FOUR: &str = ". C 0 1:-1 0:0 1:0\n0 C 0 1:-2 0:0 1:-1\n00 S 0:0 1:-2\n01 I
 const CASES: [Case; 4] = [
     Case {
         words: "campaign s --eps 0.25 --keep k --boxes 1 --rounds 5 --workers 1",
-        status: 0,
-        out: SUMMARY,
+        comes: Prints(0, SUMMARY),
         rows: ALL,
         kept: &["none", "", "", ROOT, TWO, THREE, FOUR],
     },
     Case {
         words: "campaign s --eps 0.25 --keep k --boxes 2 --rounds 9 --workers 1",
-        status: 0,
-        out: SUMMARY,
+        comes: Prints(0, SUMMARY),
         rows: ALL,
         kept: &["none", "", "", TWO, FOUR],
     },
     Case {
         words: "campaign s --eps 0.25 --keep k --boxes 1 --workers 1",
-        status: 1,
-        out: ONE_SETTLED,
+        comes: Prints(1, ONE_SETTLED),
         rows: ROOT,
         kept: &["none", "", ""],
     },
     Case {
         words: "campaign s --eps 0.25 --keep k --workers 4",
-        status: 0,
-        out: SUMMARY,
+        comes: Prints(0, SUMMARY),
         rows: ALL,
         kept: &["none", "", ""],
     },
 ];
 
-// The calls that fail, of each part of the outside.
-#[derive(Clone, Copy)]
-struct Fails<'a> {
-    folder: &'a [u64],
-    out: &'a [u64],
-    err: &'a [u64],
-    keeper: &'a [u64],
-}
-
-const NONE: Fails<'static> = Fails {
-    folder: &[],
-    out: &[],
-    err: &[],
-    keeper: &[],
-};
-
-// What a call came to.
-#[derive(Drop)]
-struct Answer {
-    status: Status,
-    out: MemSink,
-    err: MemSink,
-    keeper: MemKeeper,
-}
-
-fn call<R: Threads + Wait + Sync>(
+// A call over the files, and the keeper behind it.
+fn call_over<R: Threads + Wait + Sync>(
     rt: &R,
     alloc: Global,
     words: &str,
     fails: Fails<'_>,
-) -> Result<Answer, Fail> {
-    let list = words_of(alloc, words)?;
+) -> Result<(Answer, MemKeeper), Fail> {
     let mut folder = shelf(alloc, &FILES, fails.folder)?;
-    let mut out = MemSink::new(alloc, fails.out.to_vec(alloc)?);
-    let mut err = MemSink::new(alloc, fails.err.to_vec(alloc)?);
     let mut keeper = MemKeeper::new(alloc, fails.keeper.to_vec(alloc)?);
-    let status = paver_keeping(
-        rt,
-        alloc,
-        &list,
-        &mut folder,
-        &mut out,
-        &mut err,
-        &mut keeper,
-    );
-    Ok(Answer {
-        status,
-        out,
-        err,
-        keeper,
-    })
+    let answer = call_keeping(rt, alloc, words, &mut folder, fails, &mut keeper)?;
+    Ok((answer, keeper))
 }
 
 // A call with these failures has this status and line, prints nothing, and keeps these rows.
 fn refused<R: Abort + Threads + Wait + Sync>(
     rt: &R,
     alloc: Global,
-    case: &Case,
+    words: &str,
     fails: Fails<'_>,
     status: u8,
     line: &str,
     rows: &str,
 ) -> Result<(), Fail> {
-    let words = case.words;
-    let mut answer = call(rt, alloc, words, fails)?;
-    assert_eq!(rt; answer.status.code(), status, "{words}");
-    assert_eq!(rt; answer.out.bytes(), "".as_bytes(), "{words}");
-    assert_eq!(rt; answer.err.bytes(), line.as_bytes(), "{words}");
-    let held = kept(alloc, &mut answer.keeper, "k")?;
-    assert_eq!(rt; held.as_slice(), rows.as_bytes(), "{words}");
-    Ok(())
+    let (answer, mut keeper) = call_over(rt, alloc, words, fails)?;
+    answer.is(rt, words, status, "", line);
+    are_kept(rt, alloc, words, &mut keeper, rows)
 }
 
 // The keeper's call with this number fails, and then each call of the standard error too.
 fn keeper_fails<R: Abort + Threads + Wait + Sync>(
     rt: &R,
     alloc: Global,
-    case: &Case,
+    words: &str,
     number: u64,
     rows: &str,
 ) -> Result<(), Fail> {
-    let words = case.words;
     let line = "keeper fault: k\n";
     let failing = Fails {
         keeper: &[number],
         ..NONE
     };
-    refused(rt, alloc, case, failing, 10, line, rows)?;
+    refused(rt, alloc, words, failing, 10, line, rows)?;
     for write in 0..8 {
         let untold = Fails {
             err: &[write],
             ..failing
         };
-        let mut answer = call(rt, alloc, words, untold)?;
-        assert_eq!(rt; answer.status.code(), 10, "{words}: {number}");
+        let (answer, mut keeper) = call_over(rt, alloc, words, untold)?;
+        assert_eq!(rt; answer.status, 10, "{words}: {number}");
         let said = answer.err.bytes();
         assert!(rt; line.as_bytes().starts_with(said), "{words}: {number}");
-        let held = kept(alloc, &mut answer.keeper, "k")?;
-        assert_eq!(rt; held.as_slice(), rows.as_bytes(), "{words}: {number}");
+        are_kept(rt, alloc, words, &mut keeper, rows)?;
     }
     Ok(())
 }
@@ -166,7 +113,7 @@ fn each_keeper_call_fails<R: Abort + Threads + Wait + Sync>(
     case: &Case,
 ) -> Result<(), Fail> {
     for (number, rows) in case.kept.iter().enumerate() {
-        keeper_fails(rt, alloc, case, number as u64, *rows)?;
+        keeper_fails(rt, alloc, case.words, number as u64, *rows)?;
     }
     Ok(())
 }
@@ -186,19 +133,16 @@ fn nothing_of_the_keeper_fails(rt: HostRuntime) -> Result<(), Fail> {
     let alloc = rt.alloc();
     for case in &CASES {
         let words = case.words;
-        let keeper = [case.kept.len() as u64];
+        let number = [case.kept.len() as u64];
         let fails = Fails {
-            keeper: &keeper,
+            keeper: &number,
             ..NONE
         };
-        let mut answer = call(&rt, alloc, words, fails)?;
-        assert_eq!(rt; answer.status.code(), case.status, "{words}");
-        assert_eq!(rt; answer.out.bytes(), case.out.as_bytes(), "{words}");
-        assert_eq!(rt; answer.err.bytes(), "".as_bytes(), "{words}");
-        let next = answer.keeper.begin("z", [0; 32]);
+        let (answer, mut keeper) = call_over(&rt, alloc, words, fails)?;
+        came_to(&rt, words, &answer, case.comes);
+        let next = keeper.begin("z", [0; 32]);
         assert!(rt; matches!(next, Err(BeginRefused::Failed)), "{words}");
-        let held = kept(alloc, &mut answer.keeper, "k")?;
-        assert_eq!(rt; held.as_slice(), case.rows.as_bytes(), "{words}");
+        are_kept(&rt, alloc, words, &mut keeper, case.rows)?;
     }
     Ok(())
 }
@@ -211,7 +155,7 @@ fn the_folder_of_a_campaign_fails(rt: HostRuntime) -> Result<(), Fail> {
         ..NONE
     };
     for case in &CASES {
-        refused(&rt, alloc, case, fails, 5, "read fault: s\n", "none")?;
+        refused(&rt, alloc, case.words, fails, 5, "read fault: s\n", "none")?;
     }
     Ok(())
 }
@@ -229,21 +173,9 @@ fn out_fails<R: Abort + Threads + Wait + Sync>(
         out: &[number],
         ..NONE
     };
-    let mut answer = call(rt, alloc, words, fails)?;
-    let held = kept(alloc, &mut answer.keeper, "k")?;
-    assert_eq!(rt; held.as_slice(), case.rows.as_bytes(), "{words}: {number}");
-    let said = answer.out.bytes();
-    assert!(rt; case.out.as_bytes().starts_with(said), "{words}: {number}");
-    let is_whole = said == case.out.as_bytes();
-    if answer.out.write(b"").is_err() {
-        assert!(rt; is_whole, "{words}: {number}");
-        assert_eq!(rt; answer.status.code(), case.status, "{words}: {number}");
-        return Ok(false);
-    }
-    assert_eq!(rt; answer.status.code(), 6, "{words}: {number}");
-    let line = b"write fault: standard output\n";
-    assert_eq!(rt; answer.err.bytes(), line.as_slice(), "{words}: {number}");
-    Ok(true)
+    let (mut answer, mut keeper) = call_over(rt, alloc, words, fails)?;
+    are_kept(rt, alloc, words, &mut keeper, case.rows)?;
+    Ok(output_failed(rt, words, &mut answer, case.comes))
 }
 
 // How many calls of the standard output there are, each of which fails in turn; at most 8.
@@ -264,8 +196,8 @@ fn count_of_out<R: Abort + Threads + Wait + Sync>(
 fn each_output_of_a_campaign_fails(rt: HostRuntime) -> Result<(), Fail> {
     let alloc = rt.alloc();
     for case in &CASES {
-        let words = case.words;
         let count = count_of_out(&rt, alloc, case)?;
+        let words = case.words;
         assert!(rt; 0 < count && count < 8, "{words}");
     }
     Ok(())

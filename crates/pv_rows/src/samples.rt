@@ -1,6 +1,6 @@
-// Samples. What is expected was worked out by the slow paver of tests/reference.
-use crate::files::{Step, follow, shelf};
-use crate::pictures::USAGE;
+//! Samples. What is expected was worked out by the slow paver of tests/reference.
+use crate::steps::Comes::{Prints, Tells};
+use crate::steps::{USAGE, follow};
 use std::test::Fail;
 
 pub(crate) const TWO: &str =
@@ -12,60 +12,34 @@ const ONE: &str =
 const SIXTEEN: &str =
     "sample seed 7 count 16\nsettled 3121 cut 1560 removed 1 inner 753 small 807 open 0\nfile ce2a74aae6048d12f01b3e860caf4b1142ea67b673a4992c384e761ac163b562\n";
 
-fn made(words: &'static str, out: &'static str) -> Step {
-    Step {
-        words,
-        status: 0,
-        out,
-        err: "",
-        file: "",
-        holds: "",
-    }
-}
-
-fn refused(words: &'static str) -> Step {
-    Step {
-        words,
-        status: 2,
-        out: "",
-        err: USAGE,
-        file: "",
-        holds: "",
-    }
-}
-
 #[test]
 fn samples(rt: HostRuntime) -> Result<(), Fail> {
-    let alloc = rt.alloc();
-    let mut folder = shelf(alloc, &[], &[])?;
     let steps = [
-        made("sample --seed 1 --count 2", TWO),
-        made("sample --count=2 --seed=1", TWO),
-        made("sample --seed 7 --count 1", ONE),
-        made("sample --seed 007 --count 1", ONE),
-        made("sample --seed 7 --count 16", SIXTEEN),
-        made("sample --seed 7 --count 16", SIXTEEN),
+        ("sample --seed 1 --count 2", Prints(0, TWO)),
+        ("sample --count=2 --seed=1", Prints(0, TWO)),
+        ("sample --seed 7 --count 1", Prints(0, ONE)),
+        ("sample --seed 007 --count 1", Prints(0, ONE)),
+        ("sample --seed 7 --count 16", Prints(0, SIXTEEN)),
+        ("sample --seed 7 --count 16", Prints(0, SIXTEEN)),
     ];
-    follow(&rt, alloc, &mut folder, &steps)
+    follow(&rt, rt.alloc(), &[], &[], &steps)
 }
 
 #[test]
 fn samples_that_are_refused(rt: HostRuntime) -> Result<(), Fail> {
-    let alloc = rt.alloc();
-    let mut folder = shelf(alloc, &[], &[])?;
     let steps = [
-        refused("sample"),
-        refused("sample --seed 1"),
-        refused("sample --count 1"),
-        refused("sample --seed 1 --count 0"),
-        refused("sample --seed 1 --count 17"),
-        refused("sample --seed 2147483648 --count 1"),
-        refused("sample --seed -1 --count 1"),
-        refused("sample --seed x --count 1"),
-        refused("sample --seed 00000000001 --count 1"),
-        refused("sample --seed 1 --count 1 s"),
-        refused("sample --seed 1 --count 1 --eps 8"),
-        refused("sample --seed 1 --seed 1 --count 1"),
+        ("sample", Tells(2, USAGE)),
+        ("sample --seed 1", Tells(2, USAGE)),
+        ("sample --count 1", Tells(2, USAGE)),
+        ("sample --seed 1 --count 0", Tells(2, USAGE)),
+        ("sample --seed 1 --count 17", Tells(2, USAGE)),
+        ("sample --seed 2147483648 --count 1", Tells(2, USAGE)),
+        ("sample --seed -1 --count 1", Tells(2, USAGE)),
+        ("sample --seed x --count 1", Tells(2, USAGE)),
+        ("sample --seed 00000000001 --count 1", Tells(2, USAGE)),
+        ("sample --seed 1 --count 1 s", Tells(2, USAGE)),
+        ("sample --seed 1 --count 1 --eps 8", Tells(2, USAGE)),
+        ("sample --seed 1 --seed 1 --count 1", Tells(2, USAGE)),
     ];
-    follow(&rt, alloc, &mut folder, &steps)
+    follow(&rt, rt.alloc(), &[], &[], &steps)
 }

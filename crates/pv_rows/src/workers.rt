@@ -4,18 +4,20 @@ ghost use Rattle.pv_settle.specs.Rules.{dims_of};
 ghost use Rattle.pv_settle.specs.Settlers.{rule_of};
 ghost use Rattle.pv_board.specs.Rules.{settled_in};
 
-use crate::calling::{paver, paver_at};
+use crate::calling::{Answer, NONE, call, call_at, holds, shelf};
 use crate::files::{PART, SUMMARY, SYSTEM, WHOLE};
 use crate::settings::settler_of;
-use crate::tests::{TWO_DISCS, words_of};
+use crate::steps::Comes::{Prints, Stores};
+use crate::steps::{Comes, Step};
+use crate::tests::TWO_DISCS;
 use pv_box::IBox;
-use pv_cli::{Gate, NoGate, Status, pave};
-use pv_io::{Folder, MemFolder, MemSink};
+use pv_cli::{Gate, NoGate, pave};
+use pv_io::{Folder, MemFolder};
+use pv_keep::MemKeeper;
 use pv_num::{Memory, Num};
 use pv_settle::SystemSettler;
 use pv_tree::{Outcome, Path, Paving, Settler};
 use std::alloc::Global;
-use std::collections::BTreeMap;
 use std::process::Abort;
 use std::sync::Wait;
 use std::sync::atomic::{AtomicBool, Ordering};
@@ -24,37 +26,18 @@ use std::thread;
 use std::thread::Threads;
 use std::time::{Clock, Duration};
 
-// A folder with one file, the system.
-fn folder_of(alloc: Global, system: &str) -> Result<MemFolder, Fail> {
-    let mut files = BTreeMap::new(alloc);
-    files.insert(
-        String::from_str(alloc, "s")?,
-        system.as_bytes().to_vec(alloc)?,
-    )?;
-    Ok(MemFolder::new(alloc, files, Vec::new(alloc)))
-}
-
-// What a command printed, and its status.
-#[derive(Drop)]
-struct Answer {
-    status: Status,
-    out: MemSink,
-}
-
 // The command with `workers` workers. It tells nothing on the standard error.
-fn call<R: Abort + Threads + Wait + Sync>(
+fn call_by<R: Abort + Threads + Wait + Sync>(
     rt: &R,
     alloc: Global,
     folder: &mut MemFolder,
     words: &str,
     workers: u32,
 ) -> Result<Answer, Fail> {
-    let list = words_of(alloc, &format!(in alloc; "{words} --workers {workers}")?)?;
-    let mut out = MemSink::new(alloc, Vec::new(alloc));
-    let mut err = MemSink::new(alloc, Vec::new(alloc));
-    let status = paver(rt, alloc, &list, folder, &mut out, &mut err);
-    assert_eq!(rt; err.bytes(), "".as_bytes(), "{words}");
-    Ok(Answer { status, out })
+    let words = format!(in alloc; "{words} --workers {workers}")?;
+    let answer = call(rt, alloc, &words, folder, NONE)?;
+    assert_eq!(rt; answer.err.bytes(), "".as_bytes(), "{words}");
+    Ok(answer)
 }
 
 // The bytes of a file.
@@ -64,91 +47,43 @@ fn held(alloc: Global, folder: &mut MemFolder, name: &str) -> Result<Vec<u8>, Fa
     Ok(bytes)
 }
 
-// A command, its status, what it prints at first, and what a file holds then.
-struct Turn {
-    words: &'static str,
-    status: u8,
-    begins: &'static str,
-    file: &'static str,
-    holds: &'static str,
-}
-
-// A budget of one and the whole, stored, and gone on with.
-const TURNS: [Turn; 6] = [
-    Turn {
-        words: "run s --eps 0.25",
-        status: 0,
-        begins: SUMMARY,
-        file: "",
-        holds: "",
-    },
-    Turn {
-        words: "run s --eps 0.25 --boxes 1 --out a",
-        status: 1,
-        begins: "settled 1 ",
-        file: "a",
-        holds: PART,
-    },
-    Turn {
-        words: "run s --eps 0.25 --boxes 5 --out b",
-        status: 0,
-        begins: SUMMARY,
-        file: "b",
-        holds: WHOLE,
-    },
-    Turn {
-        words: "run s --eps 0.25 --boxes 4",
-        status: 1,
-        begins: "settled 4 ",
-        file: "",
-        holds: "",
-    },
-    Turn {
-        words: "resume s a --eps 0.25 --boxes 4 --out c",
-        status: 0,
-        begins: SUMMARY,
-        file: "c",
-        holds: WHOLE,
-    },
-    Turn {
-        words: "resume s a --eps 0.25 --boxes 3",
-        status: 1,
-        begins: "settled 4 ",
-        file: "",
-        holds: "",
-    },
+// A budget of one and the whole, stored, and gone on with. What is printed begins like this.
+const TURNS: [Step; 6] = [
+    ("run s --eps 0.25", Prints(0, SUMMARY)),
+    (
+        "run s --eps 0.25 --boxes 1 --out a",
+        Stores(1, "settled 1 ", "a", PART),
+    ),
+    (
+        "run s --eps 0.25 --boxes 5 --out b",
+        Stores(0, SUMMARY, "b", WHOLE),
+    ),
+    ("run s --eps 0.25 --boxes 4", Prints(1, "settled 4 ")),
+    (
+        "resume s a --eps 0.25 --boxes 4 --out c",
+        Stores(0, SUMMARY, "c", WHOLE),
+    ),
+    ("resume s a --eps 0.25 --boxes 3", Prints(1, "settled 4 ")),
 ];
-
-fn is_held(
-    rt: &impl Abort,
-    alloc: Global,
-    folder: &mut MemFolder,
-    turn: &Turn,
-) -> Result<(), Fail> {
-    if turn.file.is_empty() {
-        return Ok(());
-    }
-    let bytes = held(alloc, folder, turn.file)?;
-    let words = turn.words;
-    assert_eq!(rt; bytes.as_slice(), turn.holds.as_bytes(), "{words}");
-    Ok(())
-}
 
 fn take_turn<R: Abort + Threads + Wait + Sync>(
     rt: &R,
     alloc: Global,
     folder: &mut MemFolder,
-    turn: &Turn,
+    turn: &Step,
     workers: u32,
 ) -> Result<(), Fail> {
-    let words = turn.words;
-    let answer = call(rt, alloc, folder, words, workers)?;
-    assert_eq!(rt; answer.status.code(), turn.status, "{words}");
+    let (words, comes) = *turn;
+    let answer = call_by(rt, alloc, folder, words, workers)?;
+    assert_eq!(rt; answer.status, comes.status(), "{words}");
     assert!(rt;
-        answer.out.bytes().starts_with(turn.begins.as_bytes()),
+        answer.out.bytes().starts_with(comes.out().as_bytes()),
         "{words}"
     );
-    is_held(rt, alloc, folder, turn)
+    if let Comes::Stores(_, _, file, text) = comes {
+        holds(rt, alloc, words, folder, file, text);
+    }
+    Ok(())
 }
 
 fn take_turns<R: Abort + Threads + Wait + Sync>(
@@ -156,7 +91,7 @@ fn take_turns<R: Abort + Threads + Wait + Sync>(
     alloc: Global,
     workers: u32,
 ) -> Result<(), Fail> {
-    let mut folder = folder_of(alloc, SYSTEM)?;
+    let mut folder = shelf(alloc, &[("s", SYSTEM)], &[])?;
     for turn in &TURNS {
         take_turn(rt, alloc, &mut folder, turn, workers)?;
     }
@@ -179,8 +114,8 @@ fn paves_as_one<R: Abort + Threads + Wait + Sync>(
     folder: &mut MemFolder,
     workers: u32,
 ) -> Result<(), Fail> {
-    let more = call(rt, alloc, folder, "run s --out q", workers)?;
-    assert_eq!(rt; more.status.code(), 0);
+    let more = call_by(rt, alloc, folder, "run s --out q", workers)?;
+    assert_eq!(rt; more.status, 0);
     let one = held(alloc, folder, "p")?;
     let other = held(alloc, folder, "q")?;
     assert_eq!(rt; other.as_slice(), one.as_slice());
@@ -190,9 +125,9 @@ fn paves_as_one<R: Abort + Threads + Wait + Sync>(
 #[test]
 fn two_discs_by_one_two_and_eight(rt: HostRuntime) -> Result<(), Fail> {
     let alloc = rt.alloc();
-    let mut folder = folder_of(alloc, TWO_DISCS)?;
-    let one = call(&rt, alloc, &mut folder, "run s --out p", 1)?;
-    assert_eq!(rt; one.status.code(), 0);
+    let mut folder = shelf(alloc, &[("s", TWO_DISCS)], &[])?;
+    let one = call_by(&rt, alloc, &mut folder, "run s --out p", 1)?;
+    assert_eq!(rt; one.status, 0);
     for workers in [2u32, 8] {
         paves_as_one(&rt, alloc, &mut folder, workers)?;
     }
@@ -202,11 +137,44 @@ fn two_discs_by_one_two_and_eight(rt: HostRuntime) -> Result<(), Fail> {
 #[test]
 fn a_budget_ends_eight_workers(rt: HostRuntime) -> Result<(), Fail> {
     let alloc = rt.alloc();
-    let mut folder = folder_of(alloc, TWO_DISCS)?;
-    let answer = call(&rt, alloc, &mut folder, "run s --boxes 100", 8)?;
-    assert_eq!(rt; answer.status.code(), 1);
+    let mut folder = shelf(alloc, &[("s", TWO_DISCS)], &[])?;
+    let answer = call_by(&rt, alloc, &mut folder, "run s --boxes 100", 8)?;
+    assert_eq!(rt; answer.status, 1);
     assert!(rt; answer.out.bytes().starts_with(b"settled 100 "));
     Ok(())
+}
+
+// The open search box of a settler.
+fn opened(alloc: Global, settler: &SystemSettler) -> Result<Paving, Memory>
+    ensures dims { IfOk result (λ p. length p.root ≡ dims_of (rule_of settler.now)) }
+    ensures none { IfOk result (λ p. settled_in p.tree ≡ 0) }
+{
+    let root = settler.search_box(alloc)?;
+    Paving::open(alloc, root)
+}
+
+// Whether a paving has so many cuts, inner and small boxes, and nothing else.
+fn has(paving: &Paving, cut: u64, inner: u64, small: u64) -> bool {
+    let counts = paving.counts();
+    counts.cut == cut
+        && counts.removed == 0
+        && counts.inner == inner
+        && counts.small == small
+        && counts.open_leaves == 0
+}
+
+// Whether one worker hands in fewer tickets than there are nodes, and makes the paving of 323
+// settled nodes.
+fn hands_stages_in<R: Threads + Wait + Sync>(rt: &R, alloc: Global) -> Option<bool> {
+    let settler = settler_of(alloc, TWO_DISCS, -3)?;
+    let opening = opened(alloc, &settler).ok()?;
+    let paved = pave(rt, alloc, &settler, opening, 20000, 1, &NoGate).ok()?;
+    Some(paved.spent < 323 && has(&paved.paving, 161, 74, 88))
+}
+
+#[test]
+fn one_worker_hands_stages_in(rt: HostRuntime) {
+    assert_eq!(rt; hands_stages_in(&rt, rt.alloc()), Some(true));
 }
 
 // Two marks, each of which is set by one that then waits for the other, for a bounded time. As a
@@ -254,50 +222,28 @@ impl<'a, C: Clock> Gate for Meeting<'a, C> {
     }
 }
 
+// Whether two workers meet at a gate, and the paving has five settled nodes.
+fn meets_at_a_gate<R: Threads + Wait + Clock + Sync>(rt: &R, alloc: Global) -> Option<bool> {
+    let gate = Meeting::of(rt);
+    let settler = settler_of(alloc, SYSTEM, -2)?;
+    let opening = opened(alloc, &settler).ok()?;
+    let paved = pave(rt, alloc, &settler, opening, 20, 2, &gate).ok()?;
+    Some(!gate.missed.load(Ordering::SeqCst) && has(&paved.paving, 2, 2, 1))
+}
+
 #[test]
 fn two_workers_meet_at_a_gate(rt: HostRuntime) -> Result<(), Fail> {
     let alloc = rt.alloc();
-    let mut folder = folder_of(alloc, SYSTEM)?;
-    let list = words_of(alloc, "run s --eps 0.25 --workers 2 --out b")?;
-    let mut out = MemSink::new(alloc, Vec::new(alloc));
-    let mut err = MemSink::new(alloc, Vec::new(alloc));
+    assert_eq!(rt; meets_at_a_gate(&rt, alloc), Some(true));
+    let mut folder = shelf(alloc, &[("s", SYSTEM)], &[])?;
+    let mut keeper = MemKeeper::new(alloc, Vec::new(alloc));
     let gate = Meeting::of(&rt);
-    let status = paver_at(&rt, alloc, &list, &mut folder, &mut out, &mut err, &gate);
-    assert_eq!(rt; status.code(), 0);
+    let words = "run s --eps 0.25 --workers 2 --out b";
+    let answer = call_at(&rt, alloc, words, &mut folder, NONE, &gate, &mut keeper)?;
+    answer.is(&rt, words, 0, SUMMARY, "");
     assert!(rt; !gate.missed.load(Ordering::SeqCst));
-    assert_eq!(rt; held(alloc, &mut folder, "b")?.as_slice(), WHOLE.as_bytes());
+    holds(&rt, alloc, words, &mut folder, "b", WHOLE);
     Ok(())
-}
-
-// The open search box of a settler.
-fn opened(alloc: Global, settler: &SystemSettler) -> Result<Paving, Memory>
-    ensures dims { IfOk result (λ p. length p.root ≡ dims_of (rule_of settler.now)) }
-    ensures none { IfOk result (λ p. settled_in p.tree ≡ 0) }
-{
-    let root = settler.search_box(alloc)?;
-    Paving::open(alloc, root)
-}
-
-// Whether one worker hands in fewer tickets than there are nodes, and makes the paving of 323
-// settled nodes.
-fn hands_stages_in<R: Threads + Wait + Sync>(rt: &R, alloc: Global) -> Option<bool> {
-    let settler = settler_of(alloc, TWO_DISCS, -3)?;
-    let opening = opened(alloc, &settler).ok()?;
-    let paved = pave(rt, alloc, &settler, opening, 20000, 1, &NoGate).ok()?;
-    let counts = paved.paving.counts();
-    Some(
-        paved.spent < 323
-            && counts.cut == 161
-            && counts.removed == 0
-            && counts.inner == 74
-            && counts.small == 88
-            && counts.open_leaves == 0,
-    )
-}
-
-#[test]
-fn one_worker_hands_stages_in(rt: HostRuntime) {
-    assert_eq!(rt; hands_stages_in(&rt, rt.alloc()), Some(true));
 }
 
 // A settler that hands on another one. Its boxes in the two halves of [0,1] wait for each other.
@@ -361,15 +307,7 @@ fn meets_in_a_settler<R: Threads + Wait + Clock + Sync>(rt: &R, alloc: Global) -
     };
     let opening = opened(alloc, &settler.settler).ok()?;
     let paved = pave(rt, alloc, &settler, opening, 20000, 2, &NoGate).ok()?;
-    let counts = paved.paving.counts();
-    Some(
-        !settler.meeting.missed.load(Ordering::SeqCst)
-            && counts.cut == 2
-            && counts.removed == 0
-            && counts.inner == 2
-            && counts.small == 1
-            && counts.open_leaves == 0,
-    )
+    Some(!settler.meeting.missed.load(Ordering::SeqCst) && has(&paved.paving, 2, 2, 1))
 }
 
 #[test]
