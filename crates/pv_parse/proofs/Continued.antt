@@ -229,9 +229,16 @@ spells_tail (x ∷ xs) (s ∷ ss) w at n c h (d, is, stands, one, rest) =
     let blank_there : IsBlank (get_or w at 0) = inl (grind (arith, h.each 0)) in
     let bytes = bytes_there w at x blank_there there in
     let (m, more) = spells_tail xs ss w (at + 1 + length x.bytes) (learnt (standing_of c) s x.bytes n) d behind rest in
-    let more' = subst (λ (z : List ℕ). SpellsTo w (learnt (standing_of c) s z n) (standing_of d) (at + 1 + length x.bytes) ss (length w) m) bytes more in
-    (m, (token_at at x, next_piece w at x blank_there there is (gap_at w (at + 1 + length x.bytes) xs behind), is.inner, rw bytes at stands,
-    subst (λ (z : Standing). SpellsTo w (learnt (standing_of c) s (bytes_of w (token_at at x)) n) z (at + 1 + length x.bytes) ss (length w) m) (stands_behind c d s one) more'))
+    let more' = subst (λ (z : List ℕ). SpellsTo w (learnt (standing_of c) s z n) (standing_of d) (at + 1 + length x.bytes) ss (length w) m) bytes more in (
+      m,
+      (
+        token_at at x,
+        next_piece w at x blank_there there is (gap_at w (at + 1 + length x.bytes) xs behind),
+        is.inner,
+        rw bytes at stands,
+        subst (λ (z : Standing). SpellsTo w (learnt (standing_of c) s (bytes_of w (token_at at x)) n) z (at + 1 + length x.bytes) ss (length w) m) (stands_behind c d s one) more',
+      ),
+    )
 
 -- a text up to a place, and other bytes behind
 shares : (t v : List ℕ) (f : ℕ) → f ≤ length t → Shares t (take f t ++ v) f
