@@ -107,19 +107,20 @@ fn each_call_of_the_folder_fails(rt: HostRuntime) -> Result<(), Fail> {
 #[test]
 fn nothing_fails(rt: HostRuntime) -> Result<(), Fail> {
     let alloc = rt.alloc();
-    for (words, comes, lines) in &CASES {
+    for case in &CASES {
+        let (words, comes, lines) = *case;
         let number = [lines.len() as u64];
         let fails = Fails {
             folder: &number,
             ..NONE
         };
         let (answer, mut folder) = call_over(&rt, alloc, words, fails)?;
-        came_to(&rt, words, &answer, *comes);
+        came_to(&rt, words, &answer, comes);
         let mut none = Vec::new(alloc);
         let found = folder.fetch("s", 100_000, &mut none);
         assert!(rt; matches!(found, Err(FetchRefused::Failed)), "{words}");
         are_kept(&rt, alloc, words, &mut folder);
-        is_written(&rt, alloc, words, *comes, &mut folder, comes.status() < 2);
+        is_written(&rt, alloc, words, comes, &mut folder, comes.status() < 2);
     }
     Ok(())
 }
@@ -224,7 +225,8 @@ fn each_fails<R: Abort + Threads + Wait + Sync>(
 #[test]
 fn each_call_of_the_error_stream_fails(rt: HostRuntime) -> Result<(), Fail> {
     let alloc = rt.alloc();
-    for (words, comes, _) in &CASES {
+    for case in &CASES {
+        let (words, comes, _) = *case;
         let told = Told {
             fails: NONE,
             status: comes.status(),
@@ -275,7 +277,8 @@ fn both_streams_fail(rt: HostRuntime) -> Result<(), Fail> {
         status: 6,
         line: "write fault: standard output\n",
     };
-    for (words, comes, _) in &CASES {
+    for case in &CASES {
+        let (words, comes, _) = *case;
         if !comes.out().is_empty() {
             each_fails(&rt, alloc, words, told)?;
         }
