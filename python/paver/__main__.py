@@ -166,11 +166,12 @@ def plot_command(arguments):
 
 def draw_by_matplotlib(paving, names, at, title, arguments):
     pyplot = drawing()[0]
+    how = {"title": title, "equal": not arguments.stretch, "near": arguments.near}
     if arguments.project:
-        plot_projection(paving, *names, title=title, equal=not arguments.stretch)
+        plot_projection(paving, *names, **how)
     else:
-        plot(paving, *names, at, title=title, equal=not arguments.stretch)
-    pyplot.savefig(arguments.picture)
+        plot(paving, *names, at, **how)
+    pyplot.savefig(arguments.picture, dpi=200, bbox_inches="tight")
 
 
 def split_command(arguments):
@@ -209,7 +210,7 @@ def parser():
     drawn.add_argument("--x", default="0", help="a variable's name or number")
     drawn.add_argument("--y", default="1")
     drawn.add_argument("--at", action="append", metavar="NAME=VALUE", help="the value of another variable")
-    drawn.add_argument("--near", action="store_true", help="axes around what is kept (SVG)")
+    drawn.add_argument("--near", action="store_true", help="axes around what is kept")
     drawn.add_argument("--stretch", action="store_true", help="scales that are not equal")
     drawn.add_argument("--project", action="store_true", help="the projection in place of a slice")
     more_commands(commands)

@@ -78,7 +78,7 @@ def legend(frame):
 
 def svg(cover, x=0, y=1, at=None, project=False, title=None, equal=True, near=False):
     """The text of a picture: a slice with the values of the dict `at` for the other variables, or the projection on two.
-    In a slice what no kept box covers is removed; a projection paints the shadows of the kept boxes alone.
+    What no kept box covers, or in a projection the shadow of none, is removed.
     With near the axes end where what is kept ends."""
     frame = Frame(finite_axes(axes_of(cover, x, y, near)), equal)
     kept = ("inner", "small", "open")
@@ -90,7 +90,7 @@ def svg(cover, x=0, y=1, at=None, project=False, title=None, equal=True, near=Fa
         lines.append(f"<title>{escape(title)}</title>")
     lines.append('<rect width="100%" height="100%" fill="#fff"/>')
     outline = path_of([frame.axes], frame)
-    lines.append(f'<path d="{outline}" fill="{"#fff" if project else FILL["removed"]}" stroke="none"/>')
+    lines.append(f'<path d="{outline}" fill="{FILL["removed"]}" stroke="none"/>')
     for kind, *pairs in grouped(shown):
         drawn = path_of([finite(pair, frame.axes) for pair in pairs], frame)
         lines.append(f'<path d="{drawn}" fill="{FILL[kind]}" stroke="{EDGE}" stroke-width="0.4"/>')

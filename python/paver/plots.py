@@ -27,7 +27,8 @@ def rectangles(cover, x, y, at=None, kinds=()):
 
 def projection(cover, x, y, kinds=KEPT):
     """What the projection on two variables shows: the same of each kept box, inner ones last, so that they lie on top.
-    A point is in the shadow of an inner box where some values of the other variables are in the set with it."""
+    A point is in the shadow of an inner box where some values of the other variables are in the set with it, and in no
+    shadow where none are."""
     x, y = cover.variable(x), cover.variable(y)
     order = {"open": 0, "small": 1, "inner": 2}
     seen = {(box.kind, box.words[2 * x:2 * x + 2], box.words[2 * y:2 * y + 2]): box for box in cover.boxes(*kinds)}
@@ -62,13 +63,14 @@ def drawing():
     return pyplot, PolyCollection, Patch
 
 
-def draw(cover, x, y, shown, ax, title, equal):
+def draw(cover, x, y, shown, ax, title, equal, near):
     pyplot, collection, patch = drawing()
     ax = ax or pyplot.gca()
-    axes = finite_axes(axes_of(cover, x, y))
+    axes = finite_axes(axes_of(cover, x, y, near))
     for kind, *pairs in grouped(shown):
         polygons = [[(a, c), (b, c), (b, d), (a, d)] for (a, b), (c, d) in (finite(pair, axes) for pair in pairs)]
         ax.add_collection(collection(polygons, facecolors=FILL[kind], edgecolors="#90a4ae", linewidths=0.3))
+    ax.set_facecolor(FILL["removed"])
     ax.set_xlim(*axes[0])
     ax.set_ylim(*axes[1])
     ax.set_xlabel(cover.name_of(cover.variable(x)))
@@ -77,7 +79,8 @@ def draw(cover, x, y, shown, ax, title, equal):
         ax.set_aspect("equal")
     if title:
         ax.set_title(title)
-    ax.legend(handles=[patch(facecolor=color, edgecolor="#90a4ae", label=kind) for kind, color in FILL.items()])
+    classes = [patch(facecolor=color, edgecolor="#90a4ae", label=kind) for kind, color in FILL.items()]
+    ax.legend(handles=classes, loc="upper left", bbox_to_anchor=(1.02, 1), borderaxespad=0)  # beside the picture
     return ax
 
 
@@ -104,13 +107,15 @@ def grouped(shown):
         yield tuple(run)
 
 
-def plot(cover, x=0, y=1, at=None, ax=None, title=None, equal=True):
+def plot(cover, x=0, y=1, at=None, ax=None, title=None, equal=True, near=False):
     """Draws a slice into matplotlib axes (the current ones where none are given) and gives them. Inner boxes are
-    green, small ones yellow, open leaves white, removed parts grey. Scales are equal unless equal is False.
+    green, small ones yellow, open leaves white, removed parts grey. Scales are equal unless equal is False; with near
+    the axes end where what is kept ends. The legend lies beside the axes: savefig takes it with bbox_inches="tight".
     PlotsMissing without matplotlib."""
-    return draw(cover, x, y, rectangles(cover, x, y, at), ax, title, equal)
+    return draw(cover, x, y, rectangles(cover, x, y, at), ax, title, equal, near)
 
 
-def plot_projection(cover, x=0, y=1, ax=None, title=None, equal=True):
-    """Draws the projection of what is kept on two variables."""
-    return draw(cover, x, y, projection(cover, x, y), ax, title, equal)
+def plot_projection(cover, x=0, y=1, ax=None, title=None, equal=True, near=False):
+    """Draws the projection of what is kept on two variables: green where some values of the other variables are in the
+    set, grey where none are."""
+    return draw(cover, x, y, projection(cover, x, y), ax, title, equal, near)

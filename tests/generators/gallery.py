@@ -7,6 +7,8 @@ The summaries are those of tests/data/summaries.txt, which the plain paver worke
 examples/pictures.sh, and bench/centered.py measured the times of tests/data/centered_times.txt.
 """
 import math
+import re
+import shlex
 import sys
 from fractions import Fraction
 from itertools import groupby, takewhile
@@ -14,11 +16,11 @@ from pathlib import Path
 
 TOP = Path(__file__).resolve().parents[2]
 sys.path.insert(0, str(TOP / "tests"))
-from data.examples import EXAMPLES, LEAST, least_answers  # noqa: E402
+from data.examples import EXAMPLES, LEAST, least_answers, pairs  # noqa: E402
 
 HEAD = """# Gallery
 
-Each example of `examples/`, with its question, the command that answers it and the first line of the answer. Green boxes are inner: every rational point of them is in the set. Grey parts are removed: no rational point of them is. Yellow boxes are undecided. Of three variables and more a picture is a slice, or the projection on two variables; some are drawn with a smaller eps than that of the command. `examples/pictures.sh` draws them, `tests/generators/gallery.py` writes this page.
+Each example of `examples/`, with its question, the command that answers it and the first line of the answer. Green boxes are inner: every rational point of them is in the set. Grey parts are removed: no rational point of them is. Yellow boxes are undecided. Of three variables and more a picture is a slice, or the projection on two variables, where green says that some values of the other variables are in the set, and grey that none are; some are drawn with another eps or depth than that of the first command. `examples/pictures.sh` draws them all, `tests/generators/gallery.py` writes this page.
 """
 
 
@@ -56,19 +58,33 @@ def summaries():
     return {name: summary for name, _, summary in rows}
 
 
-def entry(name, words, summary):
-    command = " ".join(f"'{word}'" if "(" in word else word for word in ["paver", "run", f"examples/{name}.mbx", *words])
+def drawings():
+    """The words that draw each picture, from the script that draws them all."""
+    script = (TOP / "examples" / "pictures.sh").read_text()
+    script = re.sub(r"\$\(pairs (\d+) (\d+)\)", lambda found: f"qinter({found[1]},{pairs(int(found[2]))})", script)
+    lines = (shlex.split(line) for line in script.splitlines() if line.startswith("draw "))
+    return {name: words for _, name, *words in lines}
+
+
+def command_of(*words):
+    return " ".join(f"'{word}'" if "(" in word else word for word in words)
+
+
+def entry(name, words, summary, drawn):
+    system = f"examples/{name}.mbx"
     return f"""
 ## {title_of(name)}
 
 {question_of(name)}
 
 ```
-$ {command}
+$ {command_of("paver", "run", system, *words)}
 {summary}
 ```
 
 ![{title_of(name)}](pictures/{name}.svg)
+
+Drawn by `{command_of("python3", "-m", "paver", "plot", system, *drawn, "--picture", f"{name}.svg")}`.
 """
 
 
@@ -121,8 +137,9 @@ $ paver least examples/{name}.mbx {" ".join(words)}
 
 
 def main():
-    found, answers = summaries(), least_answers()
-    text = HEAD + "".join(entry(name, words, found[name]) for name, words in EXAMPLES) + side_by_side() + LEAST_HEAD
+    found, drawn, answers = summaries(), drawings(), least_answers()
+    text = HEAD + "".join(entry(name, words, found[name], drawn[name]) for name, words in EXAMPLES)
+    text += side_by_side() + LEAST_HEAD
     for name, searches in groupby(LEAST, key=lambda search: search[0]):
         text += least_entry(name, [words for _, words in searches], answers)
     (TOP / "docs" / "GALLERY.md").write_text(text)

@@ -214,6 +214,8 @@ def check_svg(name, words):
         paths = [path.getAttribute("d") for path in document.getElementsByTagName("path")
                  if path.getAttribute("stroke-width")]
         assert sum(path.count("z") for path in paths) == count
+        base = next(iter(document.getElementsByTagName("path")))
+        assert base.getAttribute("fill") == plots.FILL["removed"], "what is not kept is removed"
         texts = [text.firstChild.data for text in document.getElementsByTagName("text")]
         assert names[0] in texts and names[1] in texts and "removed" in texts
 
@@ -352,7 +354,12 @@ def check_plots():
     matplotlib.use("Agg")
     axes = paver.plot(paving, "x", "y", title="ring")
     assert (axes.get_xlabel(), axes.get_ylabel(), axes.get_aspect()) == ("x", "y", 1.0)
-    assert paver.plot_projection(paving).get_xlabel() == "x"
+    assert axes.get_xlim() == axes.get_ylim() == (-3, 3)
+    near = paver.plot_projection(paving, near=True)
+    assert (near.get_xlabel(), near.get_xlim(), near.get_ylim()) == ("x", (-2, 2), (-2, 2))
+    near.figure.canvas.draw()
+    shown, beside = near.get_window_extent(), near.get_legend().get_window_extent()
+    assert beside.x0 >= shown.x1, "the legend hides nothing of the picture"
 
 
 TRUTHS = {
