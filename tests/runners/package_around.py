@@ -108,6 +108,8 @@ def check_fish():
     assert sorted(fish_offers("paver svg s --")) == sorted(f"--{name}" for name in SVG_OPTIONS)
     assert sorted(fish_offers("paver least s --")) == sorted(f"--{name}" for name in LEAST_OPTIONS)
     assert sorted(fish_offers("paver audit s --")) == ["--bisect", "--contract", "--depth", "--eps"]
+    assert sorted(fish_offers("paver sample --")) == sorted(f"--{name}" for name in SAMPLE_OPTIONS)
+    assert sorted(fish_offers("paver campaign s --")) == sorted(f"--{name}" for name in CAMPAIGN_OPTIONS)
     assert fish_offers("paver run s --bisect r") == ["round"]
 
 
@@ -142,6 +144,8 @@ def check_zsh():
     assert zsh_makes_of("paver re") == "paver resume "
     assert zsh_makes_of("paver run s --bisect l") == "paver run s --bisect largest "
     assert zsh_makes_of("paver audit s --d") == "paver audit s --depth="
+    assert zsh_makes_of("paver sample --s") == "paver sample --seed="
+    assert zsh_makes_of("paver campaign s --r") == "paver campaign s --rounds="
 
 
 def check_octave():
