@@ -7,29 +7,15 @@ use pv_box::IBox;
 use pv_interval::Interval;
 use pv_join::join;
 use pv_num::{Memory, Num};
-use pv_pool::{Gate, NoGate};
+use pv_pool::NoGate;
 use pv_sample::Above;
-use pv_tree::{Outcome, Path, Paving, Settler};
+use pv_tree::{Outcome, Paving, Settler};
 use std::alloc::Global;
-use std::sync::Wait;
-use std::sync::atomic::{AtomicBool, Ordering};
 use std::test::Fail;
-use std::thread;
-use std::thread::Threads;
-use std::time::{Clock, Duration};
 
 // The interval [0,1].
 fn unit() -> Interval {
     Interval::new(Num::ZERO, Num::ONE).unwrap_or(Interval::ALL)
-}
-
-// The paving of [0,1] that is one open leaf.
-fn line(alloc: Global) -> Result<Paving, Memory>
-    ensures { IfOk result (λ p. (length p.root ≡ 1) × (settled_in p.tree ≡ 0)) }
-{
-    let mut parts = Vec::new(alloc);
-    parts.push(unit())?;
-    Paving::open(alloc, IBox::new(parts))
 }
 
 // The paving of [0,1]x[0,1] that is one open leaf.
@@ -40,13 +26,6 @@ fn square(alloc: Global) -> Result<Paving, Memory>
     parts.push(unit())?;
     parts.push(unit())?;
     Paving::open(alloc, IBox::new(parts))
-}
-
-// The points of a line from 1/4 on, for at most two cuts.
-fn quarter() -> Above
-    ensures { result.dims ≡ 1 }
-{
-    Above::new(1, Num::fin(1, -2).unwrap_or(Num::ZERO), 0, 2)
 }
 
 // The points of a square from about 1/3 on. Four cuts make 16 strips, and 16 further ones come
@@ -65,50 +44,6 @@ fn has(paving: &Paving, cut: u64, removed: u64, inner: u64, small: u64, open_lea
         && counts.inner == inner
         && counts.small == small
         && counts.open_leaves == open_leaves
-}
-
-// Two marks, each of which is set by one that then waits for the other, for a bounded time.
-#[derive(Drop)]
-struct Meeting<'a, C> {
-    clock: &'a C,
-    low: AtomicBool,
-    high: AtomicBool,
-    missed: AtomicBool,
-}
-
-impl<'a, C: Clock> Meeting<'a, C> {
-    fn new(clock: &'a C) -> Meeting<'a, C> {
-        Meeting {
-            clock,
-            low: AtomicBool::new(false),
-            high: AtomicBool::new(false),
-            missed: AtomicBool::new(false),
-        }
-    }
-
-    fn meet(&self, mine: &AtomicBool, other: &AtomicBool) {
-        mine.store(true, Ordering::SeqCst);
-        for _ in 0..100_000u32 {
-            if other.load(Ordering::SeqCst) {
-                return;
-            }
-            thread::sleep(self.clock, Duration::from_micros(100));
-        }
-        self.missed.store(true, Ordering::SeqCst);
-    }
-}
-
-impl<'a, C: Clock> Gate for Meeting<'a, C> {
-    fn enter(&self, _worker: u64, path: Path) {
-        if path.len() == 0 {
-            return;
-        }
-        if path.step(0) {
-            self.meet(&self.high, &self.low);
-        } else {
-            self.meet(&self.low, &self.high);
-        }
-    }
 }
 
 // A settler that finds no memory for a box in the lower half of place 0.
@@ -235,16 +170,5 @@ fn want_of_memory_ends_all(rt: HostRuntime) -> Result<(), Fail> {
         let paved = pave(&rt, alloc, &settler, square(alloc)?, 543, workers, &NoGate);
         assert!(rt; paved.is_err());
     }
-    Ok(())
-}
-
-#[test]
-fn two_workers_meet_at_a_gate(rt: HostRuntime) -> Result<(), Fail> {
-    let alloc = rt.alloc();
-    let settler = quarter();
-    let gate = Meeting::new(&rt);
-    let paved = pave(&rt, alloc, &settler, line(alloc)?, 20, 2, &gate)?;
-    assert!(rt; !gate.missed.load(Ordering::SeqCst));
-    assert!(rt; has(&paved.paving, 2, 0, 2, 1, 0));
     Ok(())
 }
