@@ -9,7 +9,7 @@
     python3 bench/run.py growth             how the time grows as --eps is halved
     python3 bench/run.py files              a large paving file: stored, joined with itself and in eight parts, audited
     python3 bench/run.py campaigns          what a campaign costs beside the plain run: its rounds, its opening and its file
-    python3 bench/run.py workers            how much faster 2, 3, 4 and 16 workers are than one, on six systems
+    python3 bench/run.py workers            how much faster 2, 3, 4 and 16 workers are than one, on fifteen runs
     python3 bench/run.py tickets            what the pool's jobs and the board's tickets cost
     python3 bench/run.py trees              milliseconds for settling, counting, copying, joining and auditing a large tree
 
@@ -46,6 +46,11 @@ PAVINGS = [
     ("planar arm", EXAMPLES / "planar_arm.mbx", ["--eps", "0.125"]),
     ("strict order, a deep tree", None, []),
 ]
+# Examples whose nodes cost more, for several workers: the name, the command and eps.
+COSTLY = [("ring", "run-centered", "0.00390625"), ("robust_pid", "run", "0.125"), ("lyapunov_fall", "run-centered", "0.0009765625"),
+          ("torus", "run-centered", "0.125"), ("three_rpr", "run", "0.0625"), ("robust_pid", "run-centered", "0.25"),
+          ("three_rpr", "run-centered", "0.0625"), ("damped_gains", "run-centered", "0.001953125"),
+          ("platform_determinant", "run-centered", "0.001953125")]
 ORDER = "Variables x in [0,9999999], y in [0,9999999]; Constraints x < y; end\n"
 
 
@@ -141,23 +146,30 @@ def side_by_side(words, count):
     return best
 
 
-def workers(folder):
+def grown(title, words):
     """Milliseconds from start to end by so many workers, those of processors in brackets, and how many times as fast as one
-    they are; and how much four runs of one worker get done side by side, which is all that the machine can do. Nothing is printed."""
+    they are; and how much four runs of one worker get done side by side, which is all that the machine can do."""
+    alone, parts = None, []
+    for count in (1, 2, 3, 4, 16):
+        spent, printed = seconds([*words, "--workers", count])
+        used = min(processor_seconds([*words, "--workers", count])[0] for _ in range(TURNS))
+        alone = alone or spent
+        parts.append(f"{count}: {spent * 1000:.0f} ({used * 1000:.0f}) x{alone / spent:.2f}")
+    limit = 4 * alone / side_by_side(words, 4)
+    print(f"{title:34} {int(printed.split()[1]):7} nodes, {', '.join(parts)}, four runs at once x{limit:.2f}", flush=True)
+
+
+def workers(folder):
+    """Several workers on six systems and on those whose nodes cost more. Nothing is printed but the summary."""
     chosen = ("ring", "Gough slice, 12 constraints", "rate law, 8 measurements", "torus", "planar arm",
               "strict order, a deep tree")
+    stored = ["--out", Path(folder) / "paving"]
     for title, file, words in PAVINGS:
-        if title not in chosen:
-            continue
-        words = [TOP / "paver", "run", *paving_of(folder, file, words), "--out", Path(folder) / "paving"]
-        alone, parts = None, []
-        for count in (1, 2, 3, 4, 16):
-            spent, printed = seconds([*words, "--workers", count])
-            used = min(processor_seconds([*words, "--workers", count])[0] for _ in range(TURNS))
-            alone = alone or spent
-            parts.append(f"{count}: {spent * 1000:.0f} ({used * 1000:.0f}) x{alone / spent:.2f}")
-        limit = 4 * alone / side_by_side(words, 4)
-        print(f"{title:28} {int(printed.split()[1]):7} nodes, {', '.join(parts)}, four runs at once x{limit:.2f}", flush=True)
+        if title in chosen:
+            grown(title, [TOP / "paver", "run", *paving_of(folder, file, words), *stored])
+    for name, command, eps in COSTLY:
+        system = EXAMPLES / f"{name}.mbx"
+        grown(f"{name}, {command}", [TOP / "paver", command, system, "--eps", eps, "--boxes", "100000", *stored])
 
 
 def printing(folder):

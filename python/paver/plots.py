@@ -27,8 +27,8 @@ def rectangles(cover, x, y, at=None, kinds=()):
 
 def projection(cover, x, y, kinds=KEPT):
     """What the projection on two variables shows: the same of each kept box, inner ones last, so that they lie on top.
-    A point is in the shadow of an inner box where some values of the other variables are in the set with it, and in no
-    shadow where none are."""
+    With a point in the shadow of an inner box some values of the other variables are in the set, with one in no shadow
+    none are."""
     x, y = cover.variable(x), cover.variable(y)
     order = {"open": 0, "small": 1, "inner": 2}
     seen = {(box.kind, box.words[2 * x:2 * x + 2], box.words[2 * y:2 * y + 2]): box for box in cover.boxes(*kinds)}
@@ -116,6 +116,6 @@ def plot(cover, x=0, y=1, at=None, ax=None, title=None, equal=True, near=False):
 
 
 def plot_projection(cover, x=0, y=1, ax=None, title=None, equal=True, near=False):
-    """Draws the projection of what is kept on two variables: green where some values of the other variables are in the
-    set, grey where none are."""
+    """Draws the projection of what is kept on two variables: green says that some values of the other variables are in
+    the set, grey that none are."""
     return draw(cover, x, y, projection(cover, x, y), ax, title, equal, near)
