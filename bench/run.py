@@ -47,10 +47,10 @@ PAVINGS = [
     ("strict order, a deep tree", None, []),
 ]
 # Examples whose nodes cost more, for several workers: the name, the command and eps.
-COSTLY = [("ring", "run-centered", "0.00390625"), ("robust_pid", "run", "0.125"), ("lyapunov_fall", "run-centered", "0.0009765625"),
-          ("torus", "run-centered", "0.125"), ("three_rpr", "run", "0.0625"), ("robust_pid", "run-centered", "0.25"),
-          ("three_rpr", "run-centered", "0.0625"), ("damped_gains", "run-centered", "0.001953125"),
-          ("platform_determinant", "run-centered", "0.001953125")]
+COSTLY = [("ring", "run-centered", "0.00390625"), ("robust_pid", "run", "0.125"),
+          ("lyapunov_fall", "run-centered", "0.0009765625"), ("torus", "run-centered", "0.125"),
+          ("three_rpr", "run", "0.0625"), ("robust_pid", "run-centered", "0.25"), ("three_rpr", "run-centered", "0.0625"),
+          ("damped_gains", "run-centered", "0.001953125"), ("platform_determinant", "run-centered", "0.001953125")]
 ORDER = "Variables x in [0,9999999], y in [0,9999999]; Constraints x < y; end\n"
 
 
