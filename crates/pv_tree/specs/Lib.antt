@@ -13,3 +13,4 @@ pub mod Stages
 pub mod Laws
 pub mod KnownHalves
 pub mod KnownLeaves
+pub mod Limits

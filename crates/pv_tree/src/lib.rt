@@ -9,6 +9,7 @@ mod growth;
 mod intake;
 mod knowing;
 mod known_leaves;
+mod limit;
 mod outcome;
 mod path;
 mod paving;
@@ -22,6 +23,7 @@ mod walk;
 
 pub use batch::Batch;
 pub use growth::Growth;
+pub use limit::NodeLimit;
 pub use knowing::{Forgetful, KnowingSettler, Settled};
 pub use outcome::{Counts, Outcome, Shape};
 pub use path::{MOST_STEPS, Path};
