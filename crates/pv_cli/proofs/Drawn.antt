@@ -1,5 +1,5 @@
 -- Why there is no picture, by the step that refuses.
-use Rattle.std.proofs.Common.{inl, inr}
+use Rattle.std.proofs.Common.{ℕ, inl, inr}
 use Rattle.clap.specs.Words.{Text}
 use Rattle.pv_cli.specs.Systems.{Files}
 use Rattle.pv_cli.specs.Products.{HasNoPicture, RefusesSvg}
@@ -9,8 +9,8 @@ use Rattle.pv_cli.specs.declared.request.View.{View}
 use Rattle.pv_cli.specs.declared.refusal.Refusal.{Refusal}
 use Rattle.pv_cli.specs.declared.refusal.Refusal.TheVariants.{Usage, System, Contract, Objective, NoFile, ReadFault, Paving, NotStored, KeeperFault, NotPrinted, Memory, TreeLimit, Disagree, Differs}
 
-module _ (before after : Files) (system : Text) (s : Settings) (v : View) where
-  pub scene_refused : (name : Text) (r : Refusal) → RefusesScene before after system s v r → RefusesSvg before after system name s v r
+module _ (before after : Files) (system : Text) (s : Settings) (v : View) (limit : ℕ) where
+  pub scene_refused : (name : Text) (r : Refusal) → RefusesScene before after system s v r → RefusesSvg before after system name s limit v r
   scene_refused name Usage h = h
   scene_refused name (System line column byte cause) h = inl h
   scene_refused name (Contract byte) h = inl h
@@ -26,7 +26,7 @@ module _ (before after : Files) (system : Text) (s : Settings) (v : View) where
   scene_refused name (Disagree p a b) h = inl h
   scene_refused name (Differs p a b) h = inl h
 
-  pub picture_refused : (name : Text) (r : Refusal) → HasNoPicture before after system name s v r → RefusesSvg before after system name s v r
+  pub picture_refused : (name : Text) (r : Refusal) → HasNoPicture before after system name s limit v r → RefusesSvg before after system name s limit v r
   picture_refused name Usage h = absurd h.refused
   picture_refused name (System line column byte cause) h = inr h
   picture_refused name (Contract byte) h = inr h

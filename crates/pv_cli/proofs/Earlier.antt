@@ -1,6 +1,6 @@
 -- What was read of a folder that was only read before.
 use Rattle.std.proofs.Common.{◌≡◌, inl, inr, ℕ, ◌≤◌, List, [], ◌∷◌, refl, sym, ◌∙◌, subst, arith}
-use Rattle.pv_settle.specs.Rules.{SettlerParts}
+use Rattle.pv_slope.specs.Methods.{Method}
 use Rattle.pv_interval.specs.Bounds.{Bounds}
 use Rattle.pv_tree.specs.Trees.{Tree, Seen}
 use Rattle.pv_io.specs.Outside.{Content, Rose, IsWhole, IsTooLong, MayBeAbsent}
@@ -8,8 +8,9 @@ use Rattle.pv_cli.specs.Requests.{names_in}
 use Rattle.pv_cli.specs.Systems.{Files, AreOnlyRead, RefusesFetch, search_box}
 use Rattle.pv_cli.specs.Files.{HoldsPaving, HasPaving, HoldsOther, HoldsLong, HasFileFault, RefusesFile, HavePavings, RefusesPavings}
 use Rattle.std.specs.Borrow.{Bor}
-use Rattle.pv_settle.specs.Spelling.{identity_of}
+use Rattle.pv_slope.specs.Methods.{identity_of}
 use Rattle.pv_file.specs.Readings.{IsFirstBadLine, IsOneTooMany}
+use Rattle.pv_file.specs.Lengths.{length_limit}
 use Rattle.pv_cli.specs.Reads.{AreRead, AreOver, IsKeyOf, trees_of}
 use Rattle.pv_cli.specs.declared.pavings.Key.{Key}
 use Rattle.pv_cli.specs.declared.refusal.FileFault.{FileFault}
@@ -28,14 +29,14 @@ pub rose_from : (a b c : ℕ) → a ≤ b → Rose b c → Rose a c
 rose_from a b c h (inl more) = inl (omega arith)
 rose_from a b c h (inr end) = inr end
 
-module _ (a b : Files) (read : AreOnlyRead a b) where
-  other_before : (name : List ℕ) (says : List ℕ → Type 0) → HoldsOther b name says → HoldsOther a name says
-  other_before name says h = record { bytes = h.bytes; fetched = subst (λ (x : Content). IsWhole x 70000000 h.bytes) (read.content name) h.fetched; other = h.other }
+module _ (a b : Files) (read : AreOnlyRead a b) (limit : ℕ) where
+  other_before : (name : List ℕ) (says : List ℕ → Type 0) → HoldsOther b limit name says → HoldsOther a limit name says
+  other_before name says h = record { bytes = h.bytes; fetched = subst (λ (x : Content). IsWhole x (length_limit limit) h.bytes) (read.content name) h.fetched; other = h.other }
 
-  long_before : (name : List ℕ) → HoldsLong b name → HoldsLong a name
-  long_before name h = record { bytes = h.bytes; long = subst (λ (x : Content). IsTooLong x 70000000 h.bytes) (read.content name) h.long }
+  long_before : (name : List ℕ) → HoldsLong b limit name → HoldsLong a limit name
+  long_before name h = record { bytes = h.bytes; long = subst (λ (x : Content). IsTooLong x (length_limit limit) h.bytes) (read.content name) h.long }
 
-  fault_before : (identity : List ℕ) (root : List Bounds) (name : List ℕ) (f : FileFault) → HasFileFault b identity root name f → HasFileFault a identity root name f
+  fault_before : (identity : List ℕ) (root : List Bounds) (name : List ℕ) (f : FileFault) → HasFileFault b limit identity root name f → HasFileFault a limit identity root name f
   fault_before identity root name TooLong h = long_before name h
   fault_before identity root name WrongIdentity h = other_before name _ h
   fault_before identity root name (BadLine n) h = other_before name _ h
@@ -59,16 +60,16 @@ module _ (a b : Files) (read : AreOnlyRead a b) where
   fetch_before c name (Disagree p x y) h = h
   fetch_before c name (Differs p x y) h = h
 
-  pub paving_before : (identity : List ℕ) (root : List Bounds) (name : List ℕ) (t : Tree) → HoldsPaving b identity root name t → HoldsPaving a identity root name t
+  pub paving_before : (identity : List ℕ) (root : List Bounds) (name : List ℕ) (t : Tree) → HoldsPaving b limit identity root name t → HoldsPaving a limit identity root name t
   paving_before identity root name t h = record {
     bytes = h.bytes;
-    fetched = subst (λ (x : Content). IsWhole x 70000000 h.bytes) (read.content name) h.fetched;
+    fetched = subst (λ (x : Content). IsWhole x (length_limit limit) h.bytes) (read.content name) h.fetched;
     text = h.text;
     paving = h.paving;
     few = h.few;
   }
 
-  pub refused_before : (c : Files) (identity : List ℕ) (root : List Bounds) (name : List ℕ) (r : Refusal) → RefusesFile b c identity root name r → RefusesFile a c identity root name r
+  pub refused_before : (c : Files) (identity : List ℕ) (root : List Bounds) (name : List ℕ) (r : Refusal) → RefusesFile b c limit identity root name r → RefusesFile a c limit identity root name r
   refused_before c identity root name (Paving n f) h = (h.0, fault_before identity root name f h.1)
   refused_before c identity root name (NoFile n) h = fetch_before c name (NoFile n) h
   refused_before c identity root name (ReadFault n) h = fetch_before c name (ReadFault n) h
@@ -84,64 +85,66 @@ module _ (a b : Files) (read : AreOnlyRead a b) where
   refused_before c identity root name (Disagree p x y) h = h
   refused_before c identity root name (Differs p x y) h = h
 
-  pub read_before : (rule : SettlerParts) (ns : List (List ℕ)) (ps : List Seen) → AreRead b rule ns ps → AreRead a rule ns ps
+  pub read_before : (rule : Method) (ns : List (List ℕ)) (ps : List Seen) → AreRead b limit rule ns ps → AreRead a limit rule ns ps
   read_before rule [] [] h = tt
   read_before rule [] (p ∷ ps) h = absurd h
   read_before rule (n ∷ ns) [] h = absurd h
   read_before rule (n ∷ ns) (p ∷ ps) h = (h.0, paving_before (identity_of rule) (search_box rule) n p.tree h.1, read_before rule ns ps h.2)
 
-  pub all_refused_before : (c : Files) (rule : SettlerParts) (ns : List (List ℕ)) (r : Refusal) → RefusesPavings b c rule ns r → RefusesPavings a c rule ns r
+  pub all_refused_before : (c : Files) (rule : Method) (ns : List (List ℕ)) (r : Refusal) → RefusesPavings b c limit rule ns r → RefusesPavings a c limit rule ns r
   all_refused_before c rule [] r h = h
   all_refused_before c rule (n ∷ ns) r (inl h) = inl (refused_before c (identity_of rule) (search_box rule) n r h)
   all_refused_before c rule (n ∷ ns) r (inr h) = inr (h.0, paving_before (identity_of rule) (search_box rule) n h.0 h.1, all_refused_before c rule ns r h.2)
 
 -- what was read are pavings of the files, and over the search box
-pub held_of : (a : Files) (rule : SettlerParts) (ns : List (List ℕ)) (ps : List Seen) → AreRead a rule ns ps → HavePavings a rule ns (trees_of ps)
-held_of a rule [] [] h = tt
-held_of a rule [] (p ∷ ps) h = absurd h
-held_of a rule (n ∷ ns) [] h = absurd h
-held_of a rule (n ∷ ns) (p ∷ ps) h = (h.1, held_of a rule ns ps h.2)
+pub held_of : (a : Files) (limit : ℕ) (rule : Method) (ns : List (List ℕ)) (ps : List Seen) → AreRead a limit rule ns ps → HavePavings a limit rule ns (trees_of ps)
+held_of a limit rule [] [] h = tt
+held_of a limit rule [] (p ∷ ps) h = absurd h
+held_of a limit rule (n ∷ ns) [] h = absurd h
+held_of a limit rule (n ∷ ns) (p ∷ ps) h = (h.1, held_of a limit rule ns ps h.2)
 
-pub over_of : (a : Files) (rule : SettlerParts) (b : List Bounds) (ns : List (List ℕ)) (ps : List Seen) → b ≡ search_box rule → AreRead a rule ns ps → AreOver b ps
-over_of a rule b [] [] e h = tt
-over_of a rule b [] (p ∷ ps) e h = absurd h
-over_of a rule b (n ∷ ns) [] e h = absurd h
-over_of a rule b (n ∷ ns) (p ∷ ps) e h = (h.0 ∙ sym e, over_of a rule b ns ps e h.2)
+pub over_of : (a : Files) (limit : ℕ) (rule : Method) (b : List Bounds) (ns : List (List ℕ)) (ps : List Seen) → b ≡ search_box rule → AreRead a limit rule ns ps → AreOver b ps
+over_of a limit rule b [] [] e h = tt
+over_of a limit rule b [] (p ∷ ps) e h = absurd h
+over_of a limit rule b (n ∷ ns) [] e h = absurd h
+over_of a limit rule b (n ∷ ns) (p ∷ ps) e h = (h.0 ∙ sym e, over_of a limit rule b ns ps e h.2)
 
 -- ---- A file that was read for a key
 
 -- what is said of a key's identity and box is said of what they are
-pub by_key : (P : List ℕ → List Bounds → Type 0) (identity : List ℕ) (root : List Bounds) (key : Key) → key.identity ≡ identity → key.root ≡ root → P key.identity key.root → P identity root
-by_key P identity root key same box h = subst (P identity) box (subst (λ (x : List ℕ). P x key.root) same h)
+pub by_key : (P : ℕ → List ℕ → List Bounds → Type 0) (limit : ℕ) (rule : Method) (key : Key) → IsKeyOf rule limit key → P key.limit key.identity key.root → P limit (identity_of rule) (search_box rule)
+by_key P limit rule key is h =
+    subst (P limit (identity_of rule)) is.root
+    (subst (λ (x : List ℕ). P limit x key.root) is.identity (subst (λ (n : ℕ). P n key.identity key.root) is.limit_is h))
 
-pub bad_line : (a b : Files) (identity : List ℕ) (root : List Bounds) (name : Bor (List ℕ)) (n : ℕ) (bytes read : List ℕ) (r : Refusal) → read ≡ bytes
-    → IsWhole (a.content name.now) 70000000 bytes → IsFirstBadLine n read identity root → r ≡ Paving name (BadLine n) → RefusesFile a b identity root name.now r
-bad_line a b identity root name n bytes read r same whole h e =
-    subst (RefusesFile a b identity root name.now) (sym e)
-    (refl, record { bytes = bytes; fetched = whole; other = subst (λ (x : List ℕ). IsFirstBadLine n x identity root) same h })
+pub bad_line : (a b : Files) (limit : ℕ) (identity : List ℕ) (root : List Bounds) (name : Bor (List ℕ)) (n : ℕ) (bytes read : List ℕ) (r : Refusal) → read ≡ bytes
+    → IsWhole (a.content name.now) (length_limit limit) bytes → IsFirstBadLine limit n read identity root → r ≡ Paving name (BadLine n) → RefusesFile a b limit identity root name.now r
+bad_line a b limit identity root name n bytes read r same whole h e =
+    subst (RefusesFile a b limit identity root name.now) (sym e)
+    (refl, record { bytes = bytes; fetched = whole; other = subst (λ (x : List ℕ). IsFirstBadLine limit n x identity root) same h })
 
-pub one_too_many : (a b : Files) (identity : List ℕ) (root : List Bounds) (name : Bor (List ℕ)) (n : ℕ) (bytes read : List ℕ) (r : Refusal) → read ≡ bytes
-    → IsWhole (a.content name.now) 70000000 bytes → IsOneTooMany n read identity root → r ≡ Paving name (TooManyNodes n) → RefusesFile a b identity root name.now r
-one_too_many a b identity root name n bytes read r same whole h e =
-    subst (RefusesFile a b identity root name.now) (sym e)
-    (refl, record { bytes = bytes; fetched = whole; other = subst (λ (x : List ℕ). IsOneTooMany n x identity root) same h })
+pub one_too_many : (a b : Files) (limit : ℕ) (identity : List ℕ) (root : List Bounds) (name : Bor (List ℕ)) (n : ℕ) (bytes read : List ℕ) (r : Refusal) → read ≡ bytes
+    → IsWhole (a.content name.now) (length_limit limit) bytes → IsOneTooMany limit n read identity root → r ≡ Paving name (TooManyNodes n) → RefusesFile a b limit identity root name.now r
+one_too_many a b limit identity root name n bytes read r same whole h e =
+    subst (RefusesFile a b limit identity root name.now) (sym e)
+    (refl, record { bytes = bytes; fetched = whole; other = subst (λ (x : List ℕ). IsOneTooMany limit n x identity root) same h })
 
 -- ---- Several files, the first of which was read
 
-pub first_read : (a b : Files) → AreOnlyRead a b → (rule : SettlerParts) (key : Key) (names rest : List (Bor (List ℕ))) (name : Bor (List ℕ)) (ps qs : List Seen) (p : Seen) → IsKeyOf rule key
-    → names ≡ name ∷ rest → ps ≡ p ∷ qs → p.root ≡ key.root → HoldsPaving a key.identity key.root name.now p.tree → AreRead b rule (names_in rest) qs → AreRead a rule (names_in names) ps
-first_read a b read rule key names rest name ps qs p is e f root held h =
-    subst (λ (ns : List (Bor (List ℕ))). AreRead a rule (names_in ns) ps) (sym e)
-    (subst (λ (xs : List Seen). AreRead a rule (name.now ∷ names_in rest) xs) (sym f) (root ∙ is.root, by_key (λ i x. HoldsPaving a i x name.now p.tree) (identity_of rule) (search_box rule) key is.identity is.root held, read_before a b read rule (names_in rest) qs h))
+pub first_read : (a b : Files) → AreOnlyRead a b → (limit : ℕ) (rule : Method) (key : Key) (names rest : List (Bor (List ℕ))) (name : Bor (List ℕ)) (ps qs : List Seen) (p : Seen) → IsKeyOf rule limit key
+    → names ≡ name ∷ rest → ps ≡ p ∷ qs → p.root ≡ key.root → HoldsPaving a key.limit key.identity key.root name.now p.tree → AreRead b limit rule (names_in rest) qs → AreRead a limit rule (names_in names) ps
+first_read a b read limit rule key names rest name ps qs p is e f root held h =
+    subst (λ (ns : List (Bor (List ℕ))). AreRead a limit rule (names_in ns) ps) (sym e)
+    (subst (λ (xs : List Seen). AreRead a limit rule (name.now ∷ names_in rest) xs) (sym f) (root ∙ is.root, by_key (λ n i x. HoldsPaving a n i x name.now p.tree) limit rule key is held, read_before a b read limit rule (names_in rest) qs h))
 
-pub first_held : (a b : Files) → AreOnlyRead a b → (c : Files) (rule : SettlerParts) (key : Key) (names rest : List (Bor (List ℕ))) (name : Bor (List ℕ)) (t : Tree) (r : Refusal) → IsKeyOf rule key
-    → names ≡ name ∷ rest → HoldsPaving a key.identity key.root name.now t → RefusesPavings b c rule (names_in rest) r → RefusesPavings a c rule (names_in names) r
-first_held a b read c rule key names rest name t r is e held h =
-    let here : HasPaving a rule name.now t = by_key (λ i x. HoldsPaving a i x name.now t) (identity_of rule) (search_box rule) key is.identity is.root held in
-    subst (λ (ns : List (Bor (List ℕ))). RefusesPavings a c rule (names_in ns) r) (sym e) (inr (t, here, all_refused_before a b read c rule (names_in rest) r h))
+pub first_held : (a b : Files) → AreOnlyRead a b → (c : Files) (limit : ℕ) (rule : Method) (key : Key) (names rest : List (Bor (List ℕ))) (name : Bor (List ℕ)) (t : Tree) (r : Refusal) → IsKeyOf rule limit key
+    → names ≡ name ∷ rest → HoldsPaving a key.limit key.identity key.root name.now t → RefusesPavings b c limit rule (names_in rest) r → RefusesPavings a c limit rule (names_in names) r
+first_held a b read c limit rule key names rest name t r is e held h =
+    let here : HasPaving a limit rule name.now t = by_key (λ n i x. HoldsPaving a n i x name.now t) limit rule key is held in
+    subst (λ (ns : List (Bor (List ℕ))). RefusesPavings a c limit rule (names_in ns) r) (sym e) (inr (t, here, all_refused_before a b read limit c rule (names_in rest) r h))
 
-pub first_refused : (a b : Files) (rule : SettlerParts) (key : Key) (names rest : List (Bor (List ℕ))) (name : Bor (List ℕ)) (r : Refusal) → IsKeyOf rule key
-    → names ≡ name ∷ rest → RefusesFile a b key.identity key.root name.now r → RefusesPavings a b rule (names_in names) r
-first_refused a b rule key names rest name r is e h =
-    subst (λ (ns : List (Bor (List ℕ))). RefusesPavings a b rule (names_in ns) r) (sym e)
-    (inl (by_key (λ i x. RefusesFile a b i x name.now r) (identity_of rule) (search_box rule) key is.identity is.root h))
+pub first_refused : (a b : Files) (limit : ℕ) (rule : Method) (key : Key) (names rest : List (Bor (List ℕ))) (name : Bor (List ℕ)) (r : Refusal) → IsKeyOf rule limit key
+    → names ≡ name ∷ rest → RefusesFile a b key.limit key.identity key.root name.now r → RefusesPavings a b limit rule (names_in names) r
+first_refused a b limit rule key names rest name r is e h =
+    subst (λ (ns : List (Bor (List ℕ))). RefusesPavings a b limit rule (names_in ns) r) (sym e)
+    (inl (by_key (λ n i x. RefusesFile a b n i x name.now r) limit rule key is h))

@@ -11,7 +11,7 @@ use Rattle.clap.specs.Facts.{explicit_source}
 use Rattle.clap.specs.Takes.{is_given}
 use Rattle.std.specs.List.{list_any}
 use Rattle.pv_cli.specs.Commands.{paver_app}
-use Rattle.pv_cli.specs.declared.request.Form.TheVariants.{Natural, Centered}
+use Rattle.pv_slope.specs.declared.form.Form.TheVariants.{Plain, Centered}
 use Rattle.pv_cli.specs.Requests.{Command, checks, runs, resumes, merges, audits, draws, samples, seeks, keeps, name_of}
 
 pub record IsACommand (name : Text) : Type 0 where
@@ -62,7 +62,7 @@ entered_among a (Some p) = found_among (λ s. answers_to p.0 (label_of s)) a.sub
 
 -- each command
 abbrev commands : List Command
-commands = checks ∷ runs Natural ∷ resumes ∷ merges ∷ audits Natural ∷ draws ∷ samples ∷ runs Centered ∷ audits Centered ∷ seeks ∷ keeps ∷ []
+commands = checks ∷ runs Plain ∷ resumes ∷ merges ∷ audits Plain ∷ draws ∷ samples ∷ runs Centered ∷ audits Centered ∷ seeks ∷ keeps ∷ []
 
 abbrev all_names : List Text
 all_names = map name_of commands

@@ -16,8 +16,12 @@ use Rattle.pv_parse.specs.Declarations.{AreAlike, IsMeaning}
 use Rattle.pv_parse.proofs.Outcomes.{one_system_meant}
 use Rattle.pv_ctc.specs.Plans.{plan_of}
 use Rattle.pv_ctc.specs.Texts.{program_text}
+use Rattle.pv_slope.specs.Methods.{Method}
 use Rattle.pv_settle.specs.Rules.{SettlerParts}
-use Rattle.pv_settle.specs.Spelling.{bisector_text, settings_text, identity_of}
+use Rattle.pv_settle.specs.Spelling.{bisector_text, settings_text}
+use Rattle.pv_slope.specs.Methods.{identity_as, identity_of}
+use Rattle.pv_slope.specs.declared.form.Form.{Form}
+use Rattle.pv_slope.specs.declared.form.Form.TheVariants.{Plain, Centered}
 use Rattle.pv_tree.specs.Trees.{Tree, outcome_at}
 use Rattle.pv_tree.specs.Stages.{Grows}
 use Rattle.pv_tree.specs.declared.outcome.Outcome.{Outcome}
@@ -25,6 +29,7 @@ use Rattle.pv_join.proofs.JoinFacts.{same_tree}
 use Rattle.pv_io.specs.Outside.{Content, untold, absent, holds, IsWhole}
 use Rattle.pv_file.specs.Readings.{IsPavingInFormat}
 use Rattle.pv_file.specs.Texts.{file_text}
+use Rattle.pv_file.specs.Lengths.{length_limit}
 use Rattle.pv_file.specs.declared.version.Version.{Version}
 use Rattle.pv_file.specs.declared.version.Version.TheVariants.{One, Two}
 use Rattle.pv_file.proofs.Different.{texts-differ}
@@ -132,22 +137,27 @@ same_settings : (r q : SettlerParts) → r.eps ≡ q.eps → r.depth ≡ q.depth
     → settings_text r ≡ settings_text q
 same_settings r q e d b p = λ i. settings_by (e i) (d i) (b i) (p i)
 
-same_identity : (r q : SettlerParts) → canonical_text r.system ≡ canonical_text q.system → settings_text r ≡ settings_text q → identity_of r ≡ identity_of q
-same_identity r q canonical settings = cc
+-- by either form
+same_by_form : (f : Form) (r q : SettlerParts) → canonical_text r.system ≡ canonical_text q.system → settings_text r ≡ settings_text q → identity_as f r ≡ identity_as f q
+same_by_form Plain r q canonical settings = cc
+same_by_form Centered r q canonical settings = cc
+
+same_identity : (r q : Method) → r.form ≡ q.form → canonical_text r.parts.system ≡ canonical_text q.parts.system → settings_text r.parts ≡ settings_text q.parts → identity_of r ≡ identity_of q
+same_identity r q form canonical settings = ap (λ (f : Form). identity_as f r.parts) form ∙ same_by_form q.form r.parts q.parts canonical settings
 
 -- the rules of two systems that are alike, by the same settings, have one identity and one box
-pub record AreSameRules (r q : SettlerParts) : Type 0 where
+pub record AreSameRules (r q : Method) : Type 0 where
   pub identity : identity_of r ≡ identity_of q
   pub box : search_box r ≡ search_box q
 
-same_rules : (s other : Parts) (x y : Settings) (r q : SettlerParts) → AreAlike s other → AreSameSettings x y → IsRuleFor s x r → IsRuleFor other y q → AreSameRules r q
+same_rules : (s other : Parts) (x y : Settings) (r q : Method) → AreAlike s other → AreSameSettings x y → IsRuleFor s x r → IsRuleFor other y q → AreSameRules r q
 same_rules s other x y r q alike same h k =
-    let canonical : canonical_text r.system ≡ canonical_text q.system = ap canonical_text h.system_is ∙ same_canonical s other alike ∙ sym (ap canonical_text k.system_is) in
-    let text : settings_text r ≡ settings_text q =
-    same_settings r q (h.eps ∙ same.eps ∙ sym k.eps) (h.depth ∙ same.depth ∙ sym k.depth) (h.bisector ∙ same.bisector ∙ sym k.bisector)
+    let canonical : canonical_text r.parts.system ≡ canonical_text q.parts.system = ap canonical_text h.system_is ∙ same_canonical s other alike ∙ sym (ap canonical_text k.system_is) in
+    let text : settings_text r.parts ≡ settings_text q.parts =
+    same_settings r.parts q.parts (h.eps ∙ same.eps ∙ sym k.eps) (h.depth ∙ same.depth ∙ sym k.depth) (h.bisector ∙ same.bisector ∙ sym k.bisector)
     (sym h.program.spelled ∙ same.contract ∙ k.program.spelled) in
     record {
-      identity = same_identity r q canonical text;
+      identity = same_identity r q (h.form ∙ same.form ∙ sym k.form) canonical text;
       box = ap (λ (p : Parts). map search_bounds p.domains) h.system_is ∙ ap (map search_bounds) alike.domains ∙ sym (ap (λ (p : Parts). map search_bounds p.domains) k.system_is);
     }
 
@@ -156,7 +166,7 @@ same_fetched untold x y told h k = absurd (told refl)
 same_fetched absent x y told h k = absurd h
 same_fetched (holds whole) x y told h k = h ∙ sym k
 
-read_rules : (before : Files) (system : Text) (x y : Settings) (r q : SettlerParts) → AreTold before → AreSameSettings x y → HasRule before system x r → HasRule before system y q
+read_rules : (before : Files) (system : Text) (x y : Settings) (r q : Method) → AreTold before → AreSameSettings x y → HasRule before system x r → HasRule before system y q
     → AreSameRules r q
 read_rules before system x y r q told same h k =
     let text : k.read.text ≡ h.read.text = same_fetched (before.content system) k.read.text h.read.text (told system) k.read.fetched h.read.fetched in
@@ -183,51 +193,51 @@ same_text Two Two identity b s t h k e = texts-differ Two identity b s t h k e
 same_text One Two identity b s t h k e = absurd (other_version identity b s t e)
 same_text Two One identity b s t h k e = absurd (other_version identity b t s (sym e))
 
-same_held : (before : Files) (r q : SettlerParts) (name : Text) (s t : Tree) → AreTold before → AreSameRules r q → HasPaving before r name s → HasPaving before q name t → s ≡ t
-same_held before r q name s t told same h k =
-    let bytes : h.bytes ≡ k.bytes = same_whole (before.content name) 70000000 h.bytes k.bytes (told name) h.fetched k.fetched in
+same_held : (before : Files) (limit : ℕ) (r q : Method) (name : Text) (s t : Tree) → AreTold before → AreSameRules r q → HasPaving before limit r name s → HasPaving before limit q name t → s ≡ t
+same_held before limit r q name s t told same h k =
+    let bytes : h.bytes ≡ k.bytes = same_whole (before.content name) (length_limit limit) h.bytes k.bytes (told name) h.fetched k.fetched in
     let other : IsPavingInFormat (search_box r) t = subst (λ (b : List Bounds). IsPavingInFormat b t) (sym same.box) k.paving in
     same_text h.text.0 k.text.0 (identity_of r) (search_box r) s t h.paving other
     (sym h.text.1 ∙ bytes ∙ k.text.1 ∙ (λ i. file_text k.text.0 (sym same.identity i) (sym same.box i) t))
 
 -- ---- Several files
 
-held_of : (before : Files) (r : SettlerParts) (names : List Text) (ts : List Tree) (name : Text) → HavePavings before r names ts → IsNamed name names
-    → (t : Tree) × (HasPaving before r name t × IsTree t ts)
-held_of before r [] ts name h n = absurd n
-held_of before r (m ∷ names) [] name h n = absurd h
-held_of before r (m ∷ names) (t ∷ ts) name h (inl e) = (t, (subst (λ (x : Text). HasPaving before r x t) (sym e) h.0, inl refl))
-held_of before r (m ∷ names) (t ∷ ts) name h (inr n) = let more = held_of before r names ts name h.1 n in (more.0, (more.1.0, inr more.1.1))
+held_of : (before : Files) (limit : ℕ) (r : Method) (names : List Text) (ts : List Tree) (name : Text) → HavePavings before limit r names ts → IsNamed name names
+    → (t : Tree) × (HasPaving before limit r name t × IsTree t ts)
+held_of before limit r [] ts name h n = absurd n
+held_of before limit r (m ∷ names) [] name h n = absurd h
+held_of before limit r (m ∷ names) (t ∷ ts) name h (inl e) = (t, (subst (λ (x : Text). HasPaving before limit r x t) (sym e) h.0, inl refl))
+held_of before limit r (m ∷ names) (t ∷ ts) name h (inr n) = let more = held_of before limit r names ts name h.1 n in (more.0, (more.1.0, inr more.1.1))
 
-name_of : (before : Files) (r : SettlerParts) (names : List Text) (ts : List Tree) (t : Tree) → HavePavings before r names ts → IsTree t ts
-    → (name : Text) × (HasPaving before r name t × IsNamed name names)
-name_of before r names [] t h e = absurd e
-name_of before r [] (s ∷ ts) t h e = absurd h
-name_of before r (n ∷ names) (s ∷ ts) t h (inl e) = (n, (subst (HasPaving before r n) e h.0, inl refl))
-name_of before r (n ∷ names) (s ∷ ts) t h (inr e) = let more = name_of before r names ts t h.1 e in (more.0, (more.1.0, inr more.1.1))
+name_of : (before : Files) (limit : ℕ) (r : Method) (names : List Text) (ts : List Tree) (t : Tree) → HavePavings before limit r names ts → IsTree t ts
+    → (name : Text) × (HasPaving before limit r name t × IsNamed name names)
+name_of before limit r names [] t h e = absurd e
+name_of before limit r [] (s ∷ ts) t h e = absurd h
+name_of before limit r (n ∷ names) (s ∷ ts) t h (inl e) = (n, (subst (HasPaving before limit r n) e h.0, inl refl))
+name_of before limit r (n ∷ names) (s ∷ ts) t h (inr e) = let more = name_of before limit r names ts t h.1 e in (more.0, (more.1.0, inr more.1.1))
 
-trees_move : (before : Files) (r q : SettlerParts) (names others : List Text) (ts us : List Tree) → AreTold before → AreSameRules r q
-    → ((name : Text) → IsNamed name names → IsNamed name others) → HavePavings before r names ts → HavePavings before q others us → (t : Tree) → IsTree t ts → IsTree t us
-trees_move before r q names others ts us told same forth h k t e =
-    let here = name_of before r names ts t h e in
-    let there = held_of before q others us here.0 k (forth here.0 here.1.1) in
-    subst (λ (x : Tree). IsTree x us) (sym (same_held before r q here.0 t there.0 told same here.1.0 there.1.0)) there.1.1
+trees_move : (before : Files) (limit : ℕ) (r q : Method) (names others : List Text) (ts us : List Tree) → AreTold before → AreSameRules r q
+    → ((name : Text) → IsNamed name names → IsNamed name others) → HavePavings before limit r names ts → HavePavings before limit q others us → (t : Tree) → IsTree t ts → IsTree t us
+trees_move before limit r q names others ts us told same forth h k t e =
+    let here = name_of before limit r names ts t h e in
+    let there = held_of before limit q others us here.0 k (forth here.0 here.1.1) in
+    subst (λ (x : Tree). IsTree x us) (sym (same_held before limit r q here.0 t there.0 told same here.1.0 there.1.0)) there.1.1
 
-swapped : (r q : SettlerParts) → AreSameRules r q → AreSameRules q r
+swapped : (r q : Method) → AreSameRules r q → AreSameRules q r
 swapped r q h = record { identity = sym h.identity; box = sym h.box }
 
-same_trees : (before : Files) (r q : SettlerParts) (names others : List Text) (ts us : List Tree) → AreTold before → AreSameRules r q → AreSameNames names others
-    → HavePavings before r names ts → HavePavings before q others us → AreSameTrees ts us
-same_trees before r q names others ts us told same names_are h k = record {
-  forth = trees_move before r q names others ts us told same names_are.forth h k;
-  back = trees_move before q r others names us ts told (swapped r q same) names_are.back k h;
+same_trees : (before : Files) (limit : ℕ) (r q : Method) (names others : List Text) (ts us : List Tree) → AreTold before → AreSameRules r q → AreSameNames names others
+    → HavePavings before limit r names ts → HavePavings before limit q others us → AreSameTrees ts us
+same_trees before limit r q names others ts us told same names_are h k = record {
+  forth = trees_move before limit r q names others ts us told same names_are.forth h k;
+  back = trees_move before limit q r others names us ts told (swapped r q same) names_are.back k h;
 }
 
-pub same_merge : (before : Files) (system : Text) (names others : List Text) (x y : Settings) (p q : Product) → AreTold before → AreSameNames names others → AreSameSettings x y
-    → ComesOfMerge before system names x p → ComesOfMerge before system others y q → p ≡ q
-same_merge before system names others x y p q told names_are same h k =
+pub same_merge : (before : Files) (system : Text) (names others : List Text) (x y : Settings) (limit : ℕ) (p q : Product) → AreTold before → AreSameNames names others → AreSameSettings x y
+    → ComesOfMerge before system names x limit p → ComesOfMerge before system others y limit q → p ≡ q
+same_merge before system names others x y limit p q told names_are same h k =
     let rules = read_rules before system x y h.rule k.rule told same h.opened.read k.opened.read in
-    let trees = same_trees before h.rule k.rule names others h.trees k.trees told rules names_are h.opened.held k.opened.held in
+    let trees = same_trees before limit h.rule k.rule names others h.trees k.trees told rules names_are h.opened.held k.opened.held in
     let tree : k.tree ≡ h.tree = one_join k.trees h.tree k.tree (join_moves h.trees k.trees h.tree trees h.opened.join) k.opened.join in
     h.is ∙ (λ i. paved (rules.identity i) (rules.box i) (sym tree i)) ∙ sym k.is
 
@@ -235,10 +245,11 @@ same_merge before system names others x y p q told names_are same h k =
 
 product_alike : (before : Files) (u v w : Stock) (q r : Request) (p other : Product) → AreTold before → AreSameMerge q r → ComesOf before u v q p → ComesOf before u w r other
     → (p ≡ other) × (out_of q ≡ out_of r)
-product_alike before u v w (Merge system pavings s out) (Merge system' pavings' s' out') p other told h c d = (
-  same_merge before system.now (names_in pavings.items) (names_in pavings'.items) s s' p other told h.1 h.2 c
-      (subst (λ (n : Text). ComesOfMerge before n (names_in pavings'.items) s' other) (sym h.0) d),
-  h.3,
+product_alike before u v w (Merge system pavings s limit out) (Merge system' pavings' s' limit' out') p other told h c d = (
+  same_merge before system.now (names_in pavings.items) (names_in pavings'.items) s s' limit p other told h.1 h.2 c
+      (subst (λ (n : Text). ComesOfMerge before n (names_in pavings'.items) s' limit other) (sym h.0)
+      (subst (λ (l : ℕ). ComesOfMerge before system'.now (names_in pavings'.items) s' l other) (sym h.3) d)),
+  h.4,
 )
 product_alike before u v w q r p other told h c d = absurd h
 
@@ -311,14 +322,14 @@ IsOver status.Disagree = Unit {0}
 IsOver status.KeeperFault = ⊥
 IsOver status.NoFile = ⊥
 
-module _ (before after : Files) (system : Text) (names others : List Text) (x y : Settings) (p : Product) (told : AreTold before) (names_are : AreSameNames names others)
-    (same : AreSameSettings x y) (h : ComesOfMerge before system names x p) where
-  joined_too : (q : SettlerParts) (us : List Tree) → HasRule before system y q → HavePavings before q others us → IsJoinOf us h.tree
+module _ (before after : Files) (system : Text) (names others : List Text) (x y : Settings) (limit : ℕ) (p : Product) (told : AreTold before) (names_are : AreSameNames names others)
+    (same : AreSameSettings x y) (h : ComesOfMerge before system names x limit p) where
+  joined_too : (q : Method) (us : List Tree) → HasRule before system y q → HavePavings before limit q others us → IsJoinOf us h.tree
   joined_too q us read held =
       join_moves h.trees us h.tree
-      (same_trees before h.rule q names others h.trees us told (read_rules before system x y h.rule q told same h.opened.read read) names_are h.opened.held held) h.opened.join
+      (same_trees before limit h.rule q names others h.trees us told (read_rules before system x y h.rule q told same h.opened.read read) names_are h.opened.held held) h.opened.join
 
-  not_over : (n : ℕ) → IsOverLimit before system others y 0 n → ⊥
+  not_over : (n : ℕ) → IsOverLimit before system others y limit 0 n → ⊥
   not_over n k =
       let tree : k.opening ≡ h.tree = one_join k.trees h.tree k.opening (joined_too k.rule k.trees k.opened.read k.opened.held) k.opened.join in
       let size : settled_in k.opening ≡ settled_in h.tree = ap settled_in tree in
@@ -331,14 +342,14 @@ module _ (before after : Files) (system : Text) (names others : List Text) (x y 
   differs_or_memory : (path : _) (a b : _) → Differs path a b ≡ Memory → ⊥
   differs_or_memory path a b e = cc
 
-  not_refused : (r : Refusal) → IsOver (status_of r) → RefusesJoined before after system others y 0 r → ⊥
+  not_refused : (r : Refusal) → IsOver (status_of r) → RefusesJoined before after system others y limit 0 r → ⊥
   not_refused (TreeLimit n) over k = not_over n k
   not_refused (Disagree path a b) over (inl k) = k
-  not_refused (Disagree path a b) over (inr (inl k)) = no_files before after k.rule (Disagree path a b) (disagree_or_memory path a b) (λ n w. w) others k.refused
+  not_refused (Disagree path a b) over (inr (inl k)) = no_files before after limit k.rule (Disagree path a b) (disagree_or_memory path a b) (λ n w. w) others k.refused
   not_refused (Disagree path a b) over (inr (inr k)) =
       no_disagreement k.trees h.tree path a.items b.items (joined_too k.rule k.trees k.read k.held) k.refused
   not_refused (Differs path a b) over (inl k) = k
-  not_refused (Differs path a b) over (inr (inl k)) = no_files before after k.rule (Differs path a b) (differs_or_memory path a b) (λ n w. w) others k.refused
+  not_refused (Differs path a b) over (inr (inl k)) = no_files before after limit k.rule (Differs path a b) (differs_or_memory path a b) (λ n w. w) others k.refused
   not_refused (Differs path a b) over (inr (inr k)) = k.refused
   not_refused Usage over k = over
   not_refused (System line column byte cause) over k = over
@@ -354,9 +365,10 @@ module _ (before after : Files) (system : Text) (names others : List Text) (x y 
 
 work_taken : (before after : Files) (u v w : Stock) (q r : Request) (p : Product) (e : Refusal) → AreTold before → AreSameMerge q r → ComesOf before u v q p → IsOver (status_of e)
     → RefusesWork before after u w r e → ⊥
-work_taken before after u v w (Merge system pavings s out) (Merge system' pavings' s' out') p e told h c over k =
-    not_refused before after system.now (names_in pavings.items) (names_in pavings'.items) s s' p told h.1 h.2 c e over
-    (subst (λ (n : Text). RefusesJoined before after n (names_in pavings'.items) s' 0 e) (sym h.0) k)
+work_taken before after u v w (Merge system pavings s limit out) (Merge system' pavings' s' limit' out') p e told h c over k =
+    not_refused before after system.now (names_in pavings.items) (names_in pavings'.items) s s' limit p told h.1 h.2 c e over
+    (subst (λ (n : Text). RefusesJoined before after n (names_in pavings'.items) s' limit 0 e) (sym h.0)
+    (subst (λ (l : ℕ). RefusesJoined before after system'.now (names_in pavings'.items) s' l 0 e) (sym h.3) k))
 work_taken before after u v w q r p e told h c over k = absurd h
 
 words_over : (words : List Text) (r : Refusal) → IsOver (status_of r) → RefusesWords words r → ⊥

@@ -9,9 +9,9 @@ use Rattle.pv_interval.specs.Bounds.{Bounds, everything}
 use Rattle.pv_expr.specs.Searches.{search_bounds}
 use Rattle.pv_expr.specs.Systems.{Parts}
 use Rattle.pv_parse.proofs.Outcomes.{domains_named}
-use Rattle.pv_settle.specs.Rules.{SettlerParts, dims_of}
-use Rattle.pv_settle.specs.Settlers.{rule_of}
-use Rattle.pv_settle.specs.Settling.{settle_by, is_member}
+use Rattle.pv_slope.specs.Methods.{Method, dims_of}
+use Rattle.pv_slope.specs.Methods.{method_of}
+use Rattle.pv_slope.specs.Methods.{settle_by, is_member}
 use Rattle.pv_tree.specs.Trees.{Tree, leaf}
 use Rattle.pv_tree.specs.Stages.{IsStage}
 use Rattle.pv_svg.specs.Planes.{Plane, IsPlane, place}
@@ -39,7 +39,7 @@ no_axis system name i part named there infinite = unbounded i named (λ finite. 
 
 -- ---- Planes
 
-pub no_plane_in : (before : Files) (system : Text) (s : Settings) (v : View) (parts : Parts) (rule : SettlerParts) → HasSystem before system parts → IsRuleFor parts s rule
+pub no_plane_in : (before : Files) (system : Text) (s : Settings) (v : View) (parts : Parts) (rule : Method) → HasSystem before system parts → IsRuleFor parts s rule
     → HasNoPlane parts v.x.now v.y.now v.at.items → HasNoPlaneIn before system s v
 no_plane_in before system s v parts rule read is none = record {
   rule = rule;
@@ -50,22 +50,22 @@ no_plane_in before system s v parts rule read is none = record {
 -- ---- Pictures
 
 -- a system that was read has a domain for each name
-pub dims_from : (before : Files) (system : Text) (s : Settings) (rule : SettlerParts) → HasRule before system s rule → length (search_box rule) ≡ dims_of rule
+pub dims_from : (before : Files) (system : Text) (s : Settings) (rule : Method) → HasRule before system s rule → length (search_box rule) ≡ dims_of rule
 dims_from before system s rule h =
     let same : length h.system.domains ≡ length h.system.names = domains_named h.read.text h.system h.read.means in
-    length-map rule.system.domains search_bounds ∙ subst (λ (p : Parts). length p.domains ≡ length p.names) (sym h.is.system_is) same
+    length-map rule.parts.system.domains search_bounds ∙ subst (λ (p : Parts). length p.domains ≡ length p.names) (sym h.is.system_is) same
 
-pub fits_root : (rule : SettlerParts) (x y : Text) (at : List Extended) (plane : Plane) (root : List Bounds) → length root ≡ dims_of rule
-    → IsPlaneOf rule.system x y at plane → IsPlane plane (length root)
+pub fits_root : (rule : Method) (x y : Text) (at : List Extended) (plane : Plane) (root : List Bounds) → length root ≡ dims_of rule
+    → IsPlaneOf rule.parts.system x y at plane → IsPlane plane (length root)
 fits_root rule x y at plane root count h = subst (IsPlane plane) (sym count) h.fits
 
-pub svg_comes : (before : Files) (system name : Text) (s : Settings) (v : View) (scene : Scene) (root : List Bounds) (t : Tree) (p : Product) → IsScene before system s v scene
-    → HasPaving before (rule_of scene.settler) name t → root ≡ search_box (rule_of scene.settler) → length root ≡ dims_of (rule_of scene.settler)
-    → (IsStage (settle_by (rule_of scene.settler)) (rule_of scene.settler).depth (search_box (rule_of scene.settler)) leaf t → IsHonest s (rule_of scene.settler) t)
-    → PicturesAreSound (is_member (rule_of scene.settler)) → p ≡ text (picture_text (picture_of (plane_of scene.axes v.at.items) root t))
-    → ComesOfSvg before system name s v p
-svg_comes before system name s v scene root t p seen held at count honest pictures is =
-    let rule = rule_of scene.settler in
+pub svg_comes : (before : Files) (system name : Text) (s : Settings) (limit : ℕ) (v : View) (scene : Scene) (root : List Bounds) (t : Tree) (p : Product) → IsScene before system s v scene
+    → HasPaving before limit (method_of scene.settler) name t → root ≡ search_box (method_of scene.settler) → length root ≡ dims_of (method_of scene.settler)
+    → (IsStage (settle_by (method_of scene.settler)) (method_of scene.settler).parts.depth (search_box (method_of scene.settler)) leaf t → IsHonest s (method_of scene.settler) t)
+    → PicturesAreSound (is_member (method_of scene.settler)) → p ≡ text (picture_text (picture_of (plane_of scene.axes v.at.items) root t))
+    → ComesOfSvg before system name s limit v p
+svg_comes before system name s limit v scene root t p seen held at count honest pictures is =
+    let rule = method_of scene.settler in
     let plane = plane_of scene.axes v.at.items in
     let fits : IsPlane plane (length (search_box rule)) = subst (λ (b : List Bounds). IsPlane plane (length b)) at (fits_root rule v.x.now v.y.now v.at.items plane root count seen.plane) in
     record {

@@ -14,7 +14,9 @@ use Rattle.pv_cli.specs.declared.refusal.Refusal.{Refusal}
 use Rattle.pv_cli.specs.declared.refusal.Refusal.TheVariants.{Usage, NotStored, NotPrinted, Memory}
 use Rattle.pv_cli.specs.declared.status.Status.{Status}
 use Rattle.pv_cli.specs.declared.status.Status.TheVariants as status
-use Rattle.pv_cli.proofs.StatusLaws.{ask_alike, asking_is_not_refused, command_of}
+use Rattle.pv_slope.specs.declared.form.Form.{Form}
+use Rattle.pv_slope.specs.declared.form.Form.TheVariants.{Plain}
+use Rattle.pv_cli.proofs.StatusLaws.{AreOneCommand, ask_alike, asking_is_not_refused, command_of}
 
 abbrev IsOfSample : Status → Type 0
 IsOfSample s = (s ≡ status.Done) ⊎ ((s ≡ status.WriteFault) ⊎ (s ≡ status.WantOfMemory))
@@ -24,11 +26,19 @@ abbrev IsSample : Command → Type 0
 IsSample samples = Unit {0}
 IsSample c = ⊥
 
-reported : (before : Files) (u v : Stock) (q : Request) (p : Product) (s : Status) → IsSample (command_of q) → ComesOf before u v q p → HasStatus p s → IsOfSample s
+-- whatever form its command has by itself
+sample_by : (f g : Form) (q : Request) → IsSample (command_of f q) → IsSample (command_of g q)
+sample_by f g (Sample circles) h = tt
+sample_by f g q h = absurd h
+
+one_sample : (q r : Request) → AreOneCommand q r → IsSample (command_of Plain q) → IsSample (command_of Plain r)
+one_sample q r h sample = sample_by h.other Plain r (subst IsSample h.same (sample_by Plain h.one q sample))
+
+reported : (before : Files) (u v : Stock) (q : Request) (p : Product) (s : Status) → IsSample (command_of Plain q) → ComesOf before u v q p → HasStatus p s → IsOfSample s
 reported before u v (Sample circles) p s h comes is = inl (subst (λ (x : Product). HasStatus x s) comes.is is)
 reported before u v q p s h comes is = absurd h
 
-not_worked : (before after : Files) (u v : Stock) (q : Request) (r : Refusal) → IsSample (command_of q) → RefusesWork before after u v q r → RefusesSample r
+not_worked : (before after : Files) (u v : Stock) (q : Request) (r : Refusal) → IsSample (command_of Plain q) → RefusesWork before after u v q r → RefusesSample r
 not_worked before after u v (Sample circles) r h work = work
 not_worked before after u v q r h work = absurd h
 
@@ -42,9 +52,9 @@ not_delivered file p before after x y NotPrinted h = inr (inl refl)
 not_delivered file p before after x y Memory h = inr (inr refl)
 not_delivered file p before after x y r h = absurd h
 
-module _ (words : List Text) (before after : Outside) (asked : Request) (asks : Asks words asked) (sample : IsSample (command_of asked)) where
-  sample_of : (q : Request) → Asks words q → IsSample (command_of q)
-  sample_of q h = subst IsSample (ask_alike words asked q asks h) sample
+module _ (words : List Text) (before after : Outside) (asked : Request) (asks : Asks words asked) (sample : IsSample (command_of Plain asked)) where
+  sample_of : (q : Request) → Asks words q → IsSample (command_of Plain q)
+  sample_of q h = one_sample asked q (ask_alike words asked q asks h) sample
 
   words_are_taken : (r : Refusal) → RefusesWords words r → IsOfSample (status_of r)
   words_are_taken Usage h = absurd (asking_is_not_refused words asked asks h)

@@ -15,10 +15,10 @@ use Rattle.pv_ctc.specs.Refusals.{refused_at}
 use Rattle.pv_ctc.specs.Symbols.{digits_token, further, token_of, tokens_at}
 use Rattle.pv_tree.specs.Trees.{Tree, leaf}
 use Rattle.pv_tree.specs.Stages.{full_of}
-use Rattle.pv_settle.specs.Rules.{SettlerParts}
-use Rattle.pv_settle.specs.Settling.{settle_by}
-use Rattle.pv_settle.specs.Settlers.{rule_of}
-use Rattle.pv_settle.specs.declared.settler.SystemSettler.{SystemSettler}
+use Rattle.pv_slope.specs.Methods.{Method}
+use Rattle.pv_slope.specs.Methods.{settle_by}
+use Rattle.pv_slope.specs.Methods.{method_of}
+use Rattle.pv_slope.specs.declared.form.FormSettler.{FormSettler}
 use Rattle.pv_cli.specs.Systems.{IsFaultOf, IsRuleFor, RefusesSettings, refusal_of, search_box}
 use Rattle.pv_cli.specs.Pavings.{IsPaved, settled_in}
 use Rattle.pv_cli.specs.Products.{AreForSamples, RefusesSample, text_of, full_by}
@@ -47,8 +47,8 @@ not_read c text (parse.Fault byte line column cause) r same fault is =
     let sentence : IsSystemSentence (text_of c) = sample_sentence c.seed c.count c.count_fits.0 c.count_fits.1 in
     absurd (system_apart text byte cause (subst IsSystemSentence (sym same) sentence) fault.because)
 
-pub made_rule : (c : Circles) (s : Settings) (text : List ℕ) (system : Parts) (r : Result SystemSettler Refusal) → text ≡ text_of c → IsMeaning text system
-    → IfOk r (λ x. IsRuleFor system s (rule_of x)) → IfOk r (λ x. IsMadeRule c s (rule_of x))
+pub made_rule : (c : Circles) (s : Settings) (text : List ℕ) (system : Parts) (r : Result FormSettler Refusal) → text ≡ text_of c → IsMeaning text system
+    → IfOk r (λ x. IsRuleFor system s (method_of x)) → IfOk r (λ x. IsMadeRule c s (method_of x))
 made_rule c s text system (Ok x) same means h = record { system = system; means = subst (λ (t : List ℕ). IsMeaning t system) same means; is = h }
 made_rule c s text system (Err r) same means h = tt
 
@@ -76,16 +76,16 @@ no_rule s system (TreeLimit n) for h = h
 no_rule s system (Disagree p a b) for h = h
 no_rule s system (Differs p a b) for h = h
 
-pub not_made : (s : Settings) (system : Parts) (r : Result SystemSettler Refusal) → AreForSamples s → IfErr r (RefusesSettings system s) → IfErr r RefusesSample
+pub not_made : (s : Settings) (system : Parts) (r : Result FormSettler Refusal) → AreForSamples s → IfErr r (RefusesSettings system s) → IfErr r RefusesSample
 not_made s system (Ok x) for h = tt
 not_made s system (Err r) for h = no_rule s system r for h
 
 -- ---- The paving
 
 -- so large a budget is enough for a tree of at most 14 cuts on a path
-pub is_full : (rule : SettlerParts) (t : Tree) → rule.depth ≡ 14 → IsPaved (settle_by rule) rule.depth (search_box rule) leaf 100000 t → t ≡ full_by rule leaf
+pub is_full : (rule : Method) (t : Tree) → rule.parts.depth ≡ 14 → IsPaved (settle_by rule) rule.parts.depth (search_box rule) leaf 100000 t → t ≡ full_by rule leaf
 is_full rule t deep paved =
-    let few : settled_in (full_of (settle_by rule) rule.depth (search_box rule) leaf 0) ≤ 32767 =
+    let few : settled_in (full_of (settle_by rule) rule.parts.depth (search_box rule) leaf 0) ≤ 32767 =
     subst (λ (d : ℕ). settled_in (full_of (settle_by rule) d (search_box rule) leaf 0) ≤ 32767) (sym deep) (few_of_sample (settle_by rule) (search_box rule)) in
     paved.full (paved.fits.1 (omega arith))
 

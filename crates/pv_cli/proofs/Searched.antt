@@ -8,8 +8,8 @@ use Rattle.pv_interval.specs.Points.{Point}
 use Rattle.pv_expr.specs.Terms.{Term}
 use Rattle.pv_expr.specs.Systems.{Parts}
 use Rattle.pv_tree.specs.Trees.{counts_of, settled_of}
-use Rattle.pv_settle.specs.Rules.{SettlerParts}
-use Rattle.pv_settle.specs.Settling.{is_member}
+use Rattle.pv_slope.specs.Methods.{Method}
+use Rattle.pv_slope.specs.Methods.{is_member}
 use Rattle.pv_parse.specs.Declarations.{IsExpressionMeaning}
 use Rattle.pv_least.specs.Searches.{lower_of, best_of}
 use Rattle.pv_least.specs.Promises.{NoneIsBelow, IsWitness}
@@ -44,7 +44,7 @@ bounds_alike inside other t b l same h = record {
 }
 
 -- what a search says of a box, clause by clause
-least_at : (rule : SettlerParts) (b : List Bounds) (t : Term) (budget : ℕ) (r : Result Least Memory)
+least_at : (rule : Method) (b : List Bounds) (t : Term) (budget : ℕ) (r : Result Least Memory)
     → IfOk r (λ l. l.lower ≡ lower_of t b (searched_by rule b t budget)) → IfOk r (λ l. l.best ≡ best_of t b (searched_by rule b t budget))
     → IfOk r (λ l. l.settled ≡ settled_of (counts_of (searched_by rule b t budget))) → IfOk r (λ l. IsTrue l.done ↔ (next_in rule b t budget ≡ None))
     → IfOk r (λ l. NoneIsBelow (is_member rule) t b l.lower) → IfOk r (λ l. IfSome l.best (IsWitness (is_member rule) t b))
@@ -58,7 +58,7 @@ least_at rule b t budget (Ok l) lower best settled done none_below witness = rec
 }
 least_at rule b t budget (Err e) lower best settled done none_below witness = tt
 
-pub least_by : (rule : SettlerParts) (b : List Bounds) (t : Term) (budget : ℕ) (r : Result Least Memory) → b ≡ search_box rule
+pub least_by : (rule : Method) (b : List Bounds) (t : Term) (budget : ℕ) (r : Result Least Memory) → b ≡ search_box rule
     → IfOk r (λ l. l.lower ≡ lower_of t b (searched_by rule b t budget)) → IfOk r (λ l. l.best ≡ best_of t b (searched_by rule b t budget))
     → IfOk r (λ l. l.settled ≡ settled_of (counts_of (searched_by rule b t budget))) → IfOk r (λ l. IsTrue l.done ↔ (next_in rule b t budget ≡ None))
     → IfOk r (λ l. NoneIsBelow (is_member rule) t b l.lower) → IfOk r (λ l. IfSome l.best (IsWitness (is_member rule) t b))
@@ -68,8 +68,8 @@ least_by rule b t budget r same lower best settled done none_below witness =
 
 -- ---- What comes of it
 
-pub least_comes : (before : Files) (system : Text) (s : Settings) (search : Search) (rule : SettlerParts) (t : Term) (l : Least) (p : Product) → HasRule before system s rule
-    → IsExpressionMeaning rule.system.names search.of.now t → IsLeastBy rule (search_box rule) t search.boxes l → p ≡ report_as (least_text l) l.done
+pub least_comes : (before : Files) (system : Text) (s : Settings) (search : Search) (rule : Method) (t : Term) (l : Least) (p : Product) → HasRule before system s rule
+    → IsExpressionMeaning rule.parts.system.names search.of.now t → IsLeastBy rule (search_box rule) t search.boxes l → p ≡ report_as (least_text l) l.done
     → ComesOfLeast before system s search p
 least_comes before system s search rule t l p read means is told = record {
   least = l;
@@ -79,7 +79,7 @@ least_comes before system s search rule t l p read means is told = record {
     term = t;
     means = means;
     is = is;
-    by_default = λ default. bounds_alike (is_member rule) (EachHolds rule.system.constraints) t (search_box rule) l
+    by_default = λ default. bounds_alike (is_member rule) (EachHolds rule.parts.system.constraints) t (search_box rule) l
         (λ x. subst (λ (y : Parts). is_member rule x ↔ EachHolds y.constraints x) (sym read.is.system_is) (read.is.by_default default x)) is.bounds;
   };
   is = told;
@@ -104,7 +104,7 @@ module _ (before after : Files) (system : Text) (s : Settings) (of : Text) where
   rule_refused (Disagree p a b) h = h
   rule_refused (Differs p a b) h = h
 
-  pub objective_refused : (rule : SettlerParts) (r : Refusal) → HasRule before system s rule → RefusesObjective rule.system.names of r
+  pub objective_refused : (rule : Method) (r : Refusal) → HasRule before system s rule → RefusesObjective rule.parts.system.names of r
       → RefusesLeast before after system s of r
   objective_refused rule (Objective byte cause) read h = record { rule = rule; read = read; fault = h }
   objective_refused rule WantOfMemory read h = tt

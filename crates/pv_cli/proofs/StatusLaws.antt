@@ -7,13 +7,12 @@ use Rattle.std.proofs.lemmas.List.{length-map}
 use Rattle.std.proofs.lemmas.Bool.{false≢true}
 use Rattle.clap.specs.Words.{Row, Text, subcommand_of}
 use Rattle.pv_tree.specs.Trees.{Tree, leaf, opens, first, counts_of}
-use Rattle.pv_settle.specs.Rules.{SettlerParts}
-use Rattle.pv_settle.specs.Spelling.{identity_of}
+use Rattle.pv_slope.specs.Methods.{Method}
+use Rattle.pv_slope.specs.Methods.{identity_of}
 use Rattle.pv_cli.specs.Commands.{paver_app}
-use Rattle.pv_cli.specs.Requests.{names_in, out_of, paving_names, AreSettings, IsEffort, ArePavings, HasBadSetting, bad_eps, bad_depth, bad_bisector, HasBadEffort, bad_workers, bad_boxes, HasManyPavings, AreCircles, HasBadCircles, bad_seed, bad_count, Command, checks, runs, resumes, merges, audits, draws, samples, seeks, keeps, name_of, HasBadValueFor, HasBadValue, IsAskedBy, IsAsked, Asks, HasBadValueIn, AreRefused}
+use Rattle.pv_cli.specs.Requests.{names_in, out_of, paving_names, AreSettings, IsEffort, ArePavings, HasBadSetting, bad_eps, bad_depth, bad_bisector, HasBadEffort, bad_form, bad_limit, bad_workers, bad_boxes, HasBadLimit, HasBadBoxes, HasBadBudget, IsCount, IsNodeLimit, IsSearch, limit_value, boxes_text, HasManyPavings, AreCircles, HasBadCircles, bad_seed, bad_count, Command, checks, runs, resumes, merges, audits, draws, samples, seeks, keeps, name_of, HasBadValueFor, HasBadValue, IsAskedBy, IsAsked, Asks, HasBadValueIn, AreRefused}
 use Rattle.pv_cli.specs.Refusals.{status_of}
-use Rattle.pv_settle.specs.Settling.{settle_by}
-use Rattle.pv_cli.specs.Forms.{settle_as, identity_as}
+use Rattle.pv_slope.specs.Methods.{settle_by}
 use Rattle.pv_cli.specs.Systems.{Files, search_box}
 use Rattle.pv_cli.specs.Files.{RefusesPaving, RefusesPavings}
 use Rattle.pv_cli.specs.Leasts.{least_text}
@@ -22,11 +21,11 @@ use Rattle.pv_rounds.specs.declared.campaign.HoldRefused.{HoldRefused}
 use Rattle.pv_rounds.specs.declared.campaign.HoldRefused.TheVariants as hold
 use Rattle.pv_cli.proofs.Stocks.{same_rows, early_rows}
 use Rattle.pv_keep.specs.Campaigns.{IsSaved}
-use Rattle.pv_cli.specs.Products.{Product, text, unfinished, paved, HasStatus, IsHonest, IsHonestBy, full_as, full_by, report_as, ComesOf, ComesOfRun, ComesOfResume, ComesOfMerge, ComesOfLeast, ComesOfCampaign, summary_of, RefusesWork}
+use Rattle.pv_cli.specs.Products.{Product, text, unfinished, paved, HasStatus, IsHonest, full_by, report_as, ComesOf, ComesOfRun, ComesOfResume, ComesOfMerge, ComesOfLeast, ComesOfCampaign, summary_of, RefusesWork}
 use Rattle.pv_cli.specs.Ends.{Stream, Outside, AreUntouched, IsKept, RefusesDelivery, RefusesWords, IsRefusedSo, in_words, in_request, Tells}
 use Rattle.pv_cli.specs.StatusLaws.{IsFullRun, IsFullResume, IsClosedJoin, IsFinalLeast, IsFullCampaign, IsWhole, DoneIsWhole, IsPartRun, IsPartResume, IsOpenJoin, IsPartLeast, IsPartCampaign, IsPart, OpenLeftIsPart, IsEarly, IsCause, IsRefusedEarly, EarlyIsUntouched, IsUnstored, IsUnprinted, IsUnwritten, WriteFaultIsUnwritten, IsCutOffText, MemoryLeaves, OthersStay, AskingIsNotRefused, IsWordsRefused, RefusedWordsEnd, HaveBadText, UsageIsOfWords}
-use Rattle.pv_cli.specs.declared.request.Form.{Form}
-use Rattle.pv_cli.specs.declared.request.Form.TheVariants.{Natural, Centered}
+use Rattle.pv_slope.specs.declared.form.Form.{Form}
+use Rattle.pv_slope.specs.declared.form.Form.TheVariants.{Plain, Centered}
 use Rattle.pv_cli.specs.declared.request.Settings.{Settings}
 use Rattle.pv_cli.specs.declared.request.Effort.{Effort}
 use Rattle.pv_cli.specs.declared.request.Circles.{Circles}
@@ -91,20 +90,20 @@ closed_at : (t : Tree) → ((status.Done ≡ status.Done) × (opens t ≡ [])) �
 closed_at t (inl h) = h.1
 closed_at t (inr h) = absurd (not_open h.0)
 
-full_run : (form : Form) (before : Files) (system : Text) (s : Settings) (budget : ℕ) (p : Product) → ComesOfRun form before system s budget p → HasStatus p status.Done → IsFullRun form before system s p
-full_run form before system s budget p h done =
+full_run : (before : Files) (system : Text) (s : Settings) (budget : ℕ) (p : Product) → ComesOfRun before system s budget p → HasStatus p status.Done → IsFullRun before system s p
+full_run before system s budget p h done =
     let closed : opens h.tree ≡ [] = closed_at h.tree (subst (λ (x : Product). HasStatus x status.Done) h.is done) in
-    let full : h.tree ≡ full_as form h.rule leaf = h.run.full closed in
+    let full : h.tree ≡ full_by h.rule leaf = h.run.full closed in
     record {
       rule = h.rule;
       read = h.read;
-      honest = subst (IsHonestBy (settle_as form h.rule) s h.rule) full h.honest;
-      is = h.is ∙ ap (paved (identity_as form h.rule) (search_box h.rule)) full;
+      honest = subst (IsHonest s h.rule) full h.honest;
+      is = h.is ∙ ap (paved (identity_of h.rule) (search_box h.rule)) full;
     }
 
-full_resume : (before : Files) (system : Text) (names : List Text) (s : Settings) (budget : ℕ) (p : Product) → ComesOfResume before system names s budget p → HasStatus p status.Done
-    → IsFullResume before system names s p
-full_resume before system names s budget p h done =
+full_resume : (before : Files) (system : Text) (names : List Text) (s : Settings) (limit budget : ℕ) (p : Product) → ComesOfResume before system names s limit budget p → HasStatus p status.Done
+    → IsFullResume before system names s limit p
+full_resume before system names s limit budget p h done =
     let closed : opens h.tree ≡ [] = closed_at h.tree (subst (λ (x : Product). HasStatus x status.Done) h.is done) in
     let full : h.tree ≡ full_by h.rule h.opening = h.run.full closed in
     record {
@@ -112,13 +111,13 @@ full_resume before system names s budget p h done =
       trees = h.trees;
       opening = h.opening;
       opened = h.opened;
-      honest = λ stages. subst (IsHonestBy (settle_by h.rule) s h.rule) full (h.honest stages);
+      honest = λ stages. subst (IsHonest s h.rule) full (h.honest stages);
       is = h.is ∙ ap (paved (identity_of h.rule) (search_box h.rule)) full;
     }
 
-closed_join : (before : Files) (system : Text) (names : List Text) (s : Settings) (p : Product) → ComesOfMerge before system names s p → HasStatus p status.Done
-    → IsClosedJoin before system names s p
-closed_join before system names s p h done = record {
+closed_join : (before : Files) (system : Text) (names : List Text) (s : Settings) (limit : ℕ) (p : Product) → ComesOfMerge before system names s limit p → HasStatus p status.Done
+    → IsClosedJoin before system names s limit p
+closed_join before system names s limit p h done = record {
   rule = h.rule;
   trees = h.trees;
   tree = h.tree;
@@ -147,9 +146,9 @@ none_open : (ps : List (List Bool)) → is_none (first ps) ≡ true → ps ≡ [
 none_open [] e = refl
 none_open (p ∷ ps) e = absurd (false≢true e)
 
-full_campaign : (before : Files) (u v : Stock) (system : Text) (s : Settings) (boxes : ℕ) (rounds : Rounds) (p : Product) → ComesOfCampaign before u v system s boxes rounds p
-    → HasStatus p status.Done → IsFullCampaign before u v system s rounds p
-full_campaign before u v system s boxes rounds p h done =
+full_campaign : (before : Files) (u v : Stock) (system : Text) (s : Settings) (limit boxes : ℕ) (rounds : Rounds) (p : Product) → ComesOfCampaign before u v system s limit boxes rounds p
+    → HasStatus p status.Done → IsFullCampaign before u v system s limit rounds p
+full_campaign before u v system s limit boxes rounds p h done =
     let report = summary_of (counts_of h.tree) in
     let flag : is_done h.tree ≡ true = is_final report (is_done h.tree) (subst (λ (x : Product). HasStatus x status.Done) h.is done) in
     let full : h.tree ≡ full_by h.rule h.held.opening = h.held.gone.run.full (none_open (opens h.tree) flag) in
@@ -166,14 +165,14 @@ full_campaign before u v system s boxes rounds p h done =
 
 whole_of : (before : Files) (u v : Stock) (q : Request) (p : Product) → ComesOf before u v q p → HasStatus p status.Done → IsWhole before u v q p
 whole_of before u v (Check system) p h done = h
-whole_of before u v (Run form system settings effort out) p h done = full_run form before _ settings _ p h done
-whole_of before u v (Resume system pavings settings effort out) p h done = full_resume before _ _ settings _ p h done
-whole_of before u v (Merge system pavings settings out) p h done = closed_join before _ _ settings p h done
-whole_of before u v (Audit form system paving settings) p h done = h
-whole_of before u v (Svg system paving settings view) p h done = h
+whole_of before u v (Run system settings effort out) p h done = full_run before _ settings _ p h done
+whole_of before u v (Resume system pavings settings effort out) p h done = full_resume before _ _ settings _ _ p h done
+whole_of before u v (Merge system pavings settings limit out) p h done = closed_join before _ _ settings limit p h done
+whole_of before u v (Audit system paving settings limit) p h done = h
+whole_of before u v (Svg system paving settings limit view) p h done = h
 whole_of before u v (Sample circles) p h done = h
 whole_of before u v (Least system settings search) p h done = final_least before _ settings search p h done
-whole_of before u v (Campaign system settings effort rounds) p h done = full_campaign before u v _ settings _ rounds p h done
+whole_of before u v (Campaign system settings effort rounds) p h done = full_campaign before u v _ settings _ _ rounds p h done
 
 pub done_is_whole : DoneIsWhole
 done_is_whole words before after (inl d) = record {
@@ -198,9 +197,9 @@ open_at t (inr h) = h.1
 no_text : (p : Product) (t : List ℕ) → p ≡ text t → HasStatus p status.OpenLeft → ⊥
 no_text p t e h = not_done (subst (λ (x : Product). HasStatus x status.OpenLeft) e h)
 
-part_run : (form : Form) (before : Files) (system : Text) (s : Settings) (budget : ℕ) (p : Product) → ComesOfRun form before system s budget p → HasStatus p status.OpenLeft
-    → IsPartRun form before system s budget p
-part_run form before system s budget p h left =
+part_run : (before : Files) (system : Text) (s : Settings) (budget : ℕ) (p : Product) → ComesOfRun before system s budget p → HasStatus p status.OpenLeft
+    → IsPartRun before system s budget p
+part_run before system s budget p h left =
     let open_left : opens h.tree ≢ [] = open_at h.tree (subst (λ (x : Product). HasStatus x status.OpenLeft) h.is left) in
     record {
       rule = h.rule;
@@ -211,9 +210,9 @@ part_run form before system s budget p h left =
       is = h.is;
     }
 
-part_resume : (before : Files) (system : Text) (names : List Text) (s : Settings) (budget : ℕ) (p : Product) → ComesOfResume before system names s budget p
-    → HasStatus p status.OpenLeft → IsPartResume before system names s budget p
-part_resume before system names s budget p h left =
+part_resume : (before : Files) (system : Text) (names : List Text) (s : Settings) (limit budget : ℕ) (p : Product) → ComesOfResume before system names s limit budget p
+    → HasStatus p status.OpenLeft → IsPartResume before system names s limit budget p
+part_resume before system names s limit budget p h left =
     let open_left : opens h.tree ≢ [] = open_at h.tree (subst (λ (x : Product). HasStatus x status.OpenLeft) h.is left) in
     record {
       rule = h.rule;
@@ -226,9 +225,9 @@ part_resume before system names s budget p h left =
       is = h.is;
     }
 
-open_join : (before : Files) (system : Text) (names : List Text) (s : Settings) (p : Product) → ComesOfMerge before system names s p → HasStatus p status.OpenLeft
-    → IsOpenJoin before system names s p
-open_join before system names s p h left = record {
+open_join : (before : Files) (system : Text) (names : List Text) (s : Settings) (limit : ℕ) (p : Product) → ComesOfMerge before system names s limit p → HasStatus p status.OpenLeft
+    → IsOpenJoin before system names s limit p
+open_join before system names s limit p h left = record {
   rule = h.rule;
   trees = h.trees;
   tree = h.tree;
@@ -260,9 +259,9 @@ not_closed : (ps : List (List Bool)) → is_none (first ps) ≡ false → ps ≢
 not_closed [] e = absurd (false≢true (sym e))
 not_closed (p ∷ ps) e = λ none. cc
 
-part_campaign : (before : Files) (u v : Stock) (system : Text) (s : Settings) (boxes : ℕ) (rounds : Rounds) (p : Product) → ComesOfCampaign before u v system s boxes rounds p
-    → HasStatus p status.OpenLeft → IsPartCampaign before u v system s boxes rounds p
-part_campaign before u v system s boxes rounds p h left =
+part_campaign : (before : Files) (u v : Stock) (system : Text) (s : Settings) (limit boxes : ℕ) (rounds : Rounds) (p : Product) → ComesOfCampaign before u v system s limit boxes rounds p
+    → HasStatus p status.OpenLeft → IsPartCampaign before u v system s limit boxes rounds p
+part_campaign before u v system s limit boxes rounds p h left =
     let report = summary_of (counts_of h.tree) in
     let flag : is_done h.tree ≡ false = is_cut_short report (is_done h.tree) (subst (λ (x : Product). HasStatus x status.OpenLeft) h.is left) in
     let open_left : opens h.tree ≢ [] = not_closed (opens h.tree) flag in
@@ -282,14 +281,14 @@ part_campaign before u v system s boxes rounds p h left =
 
 part_of : (before : Files) (u v : Stock) (q : Request) (p : Product) → ComesOf before u v q p → HasStatus p status.OpenLeft → IsPart before u v q p
 part_of before u v (Check system) p h left = no_text p _ h.is left
-part_of before u v (Run form system settings effort out) p h left = part_run form before _ settings _ p h left
-part_of before u v (Resume system pavings settings effort out) p h left = part_resume before _ _ settings _ p h left
-part_of before u v (Merge system pavings settings out) p h left = open_join before _ _ settings p h left
-part_of before u v (Audit form system paving settings) p h left = no_text p _ h.is left
-part_of before u v (Svg system paving settings view) p h left = no_text p _ h.is left
+part_of before u v (Run system settings effort out) p h left = part_run before _ settings _ p h left
+part_of before u v (Resume system pavings settings effort out) p h left = part_resume before _ _ settings _ _ p h left
+part_of before u v (Merge system pavings settings limit out) p h left = open_join before _ _ settings limit p h left
+part_of before u v (Audit system paving settings limit) p h left = no_text p _ h.is left
+part_of before u v (Svg system paving settings limit view) p h left = no_text p _ h.is left
 part_of before u v (Sample circles) p h left = no_text p _ h.is left
 part_of before u v (Least system settings search) p h left = part_least before _ settings search p h left
-part_of before u v (Campaign system settings effort rounds) p h left = part_campaign before u v _ settings _ rounds p h left
+part_of before u v (Campaign system settings effort rounds) p h left = part_campaign before u v _ settings _ _ rounds p h left
 
 pub open_left_is_part : OpenLeftIsPart
 open_left_is_part words before after (inl d) = record {
@@ -322,10 +321,10 @@ not_written : (refused : HoldRefused) (name : Bor Text) (r : Refusal) → r ≡ 
 not_written refused name r e = subst IsWritable (sym e) (is_written refused name)
 
 module _ (before after : Files) where
-  pub no_files : (rule : SettlerParts) (r : Refusal) → (r ≡ Memory → ⊥) → ((n : Text) → RefusesPaving before after rule n r → ⊥) → (names : List Text) → RefusesPavings before after rule names r → ⊥
-  no_files rule r memory one [] h = memory h
-  no_files rule r memory one (n ∷ names) (inl h) = one n h
-  no_files rule r memory one (n ∷ names) (inr h) = no_files rule r memory one names h.2
+  pub no_files : (limit : ℕ) (rule : Method) (r : Refusal) → (r ≡ Memory → ⊥) → ((n : Text) → RefusesPaving before after limit rule n r → ⊥) → (names : List Text) → RefusesPavings before after limit rule names r → ⊥
+  no_files limit rule r memory one [] h = memory h
+  no_files limit rule r memory one (n ∷ names) (inl h) = one n h
+  no_files limit rule r memory one (n ∷ names) (inr h) = no_files limit rule r memory one names h.2
 
 module _ (before after : Files) (u v : Stock) where
   stored_or_memory : (n : Bor Text) → NotStored n ≡ Memory → ⊥
@@ -333,17 +332,17 @@ module _ (before after : Files) (u v : Stock) where
 
   no_work_stored : (q : Request) (m : Bor Text) → RefusesWork before after u v q (NotStored m) → ⊥
   no_work_stored (Check system) m h = h
-  no_work_stored (Run form system settings effort out) m h = h
+  no_work_stored (Run system settings effort out) m h = h
   no_work_stored (Resume system pavings settings effort out) m (inl h) = h
-  no_work_stored (Resume system pavings settings effort out) m (inr (inl h)) = no_files before after h.rule (NotStored m) (stored_or_memory m) (λ n k. k) (names_in pavings.items) h.refused
+  no_work_stored (Resume system pavings settings effort out) m (inr (inl h)) = no_files before after effort.limit h.rule (NotStored m) (stored_or_memory m) (λ n k. k) (names_in pavings.items) h.refused
   no_work_stored (Resume system pavings settings effort out) m (inr (inr h)) = h.refused
-  no_work_stored (Merge system pavings settings out) m (inl h) = h
-  no_work_stored (Merge system pavings settings out) m (inr (inl h)) = no_files before after h.rule (NotStored m) (stored_or_memory m) (λ n k. k) (names_in pavings.items) h.refused
-  no_work_stored (Merge system pavings settings out) m (inr (inr h)) = h.refused
-  no_work_stored (Audit form system paving settings) m (inl h) = h
-  no_work_stored (Audit form system paving settings) m (inr h) = h.refused
-  no_work_stored (Svg system paving settings view) m (inl h) = h
-  no_work_stored (Svg system paving settings view) m (inr h) = h.refused
+  no_work_stored (Merge system pavings settings limit out) m (inl h) = h
+  no_work_stored (Merge system pavings settings limit out) m (inr (inl h)) = no_files before after limit h.rule (NotStored m) (stored_or_memory m) (λ n k. k) (names_in pavings.items) h.refused
+  no_work_stored (Merge system pavings settings limit out) m (inr (inr h)) = h.refused
+  no_work_stored (Audit system paving settings limit) m (inl h) = h
+  no_work_stored (Audit system paving settings limit) m (inr h) = h.refused
+  no_work_stored (Svg system paving settings limit view) m (inl h) = h
+  no_work_stored (Svg system paving settings limit view) m (inr h) = h.refused
   no_work_stored (Sample circles) m h = h
   no_work_stored (Least system settings search) m h = h
   no_work_stored (Campaign system settings effort rounds) m (inl h) = h.0
@@ -354,17 +353,17 @@ module _ (before after : Files) (u v : Stock) where
 
   no_work_printed : (q : Request) → RefusesWork before after u v q NotPrinted → ⊥
   no_work_printed (Check system) h = h
-  no_work_printed (Run form system settings effort out) h = h
+  no_work_printed (Run system settings effort out) h = h
   no_work_printed (Resume system pavings settings effort out) (inl h) = h
-  no_work_printed (Resume system pavings settings effort out) (inr (inl h)) = no_files before after h.rule NotPrinted printed_or_memory (λ n k. k) (names_in pavings.items) h.refused
+  no_work_printed (Resume system pavings settings effort out) (inr (inl h)) = no_files before after effort.limit h.rule NotPrinted printed_or_memory (λ n k. k) (names_in pavings.items) h.refused
   no_work_printed (Resume system pavings settings effort out) (inr (inr h)) = h.refused
-  no_work_printed (Merge system pavings settings out) (inl h) = h
-  no_work_printed (Merge system pavings settings out) (inr (inl h)) = no_files before after h.rule NotPrinted printed_or_memory (λ n k. k) (names_in pavings.items) h.refused
-  no_work_printed (Merge system pavings settings out) (inr (inr h)) = h.refused
-  no_work_printed (Audit form system paving settings) (inl h) = h
-  no_work_printed (Audit form system paving settings) (inr h) = h.refused
-  no_work_printed (Svg system paving settings view) (inl h) = h
-  no_work_printed (Svg system paving settings view) (inr h) = h.refused
+  no_work_printed (Merge system pavings settings limit out) (inl h) = h
+  no_work_printed (Merge system pavings settings limit out) (inr (inl h)) = no_files before after limit h.rule NotPrinted printed_or_memory (λ n k. k) (names_in pavings.items) h.refused
+  no_work_printed (Merge system pavings settings limit out) (inr (inr h)) = h.refused
+  no_work_printed (Audit system paving settings limit) (inl h) = h
+  no_work_printed (Audit system paving settings limit) (inr h) = h.refused
+  no_work_printed (Svg system paving settings limit view) (inl h) = h
+  no_work_printed (Svg system paving settings limit view) (inr h) = h.refused
   no_work_printed (Sample circles) h = h
   no_work_printed (Least system settings search) h = h
   no_work_printed (Campaign system settings effort rounds) (inl h) = h.0
@@ -552,18 +551,32 @@ others_stay words before after s (inr r) name other = left_others words before a
 
 -- ---- The words
 
-settings_are_good : (rows : List Row) (s : Settings) → AreSettings rows s → HasBadSetting rows → ⊥
-settings_are_good rows s h (bad_eps none) = none s.eps h.eps
-settings_are_good rows s h (bad_depth none) = none s.depth h.depth
-settings_are_good rows s h (bad_bisector none) = none s.bisector h.bisector
+settings_are_good : (usual : Form) (rows : List Row) (s : Settings) → AreSettings usual rows s → HasBadSetting usual rows → ⊥
+settings_are_good usual rows s h (bad_eps none) = none s.eps h.eps
+settings_are_good usual rows s h (bad_depth none) = none s.depth h.depth
+settings_are_good usual rows s h (bad_bisector none) = none s.bisector h.bisector
+settings_are_good usual rows s h (bad_form none) = none s.form h.form
+
+-- the budget is within the limit that the options give
+boxes_are_good : (rows : List Row) (limit boxes : ℕ) → IsNodeLimit rows limit → IsCount 1 limit (boxes_text rows) boxes → HasBadBoxes rows → ⊥
+boxes_are_good rows limit boxes h k none = none boxes (subst (λ (n : ℕ). IsCount 1 n (boxes_text rows) boxes) h.number.value k)
 
 effort_is_good : (rows : List Row) (e : Effort) → IsEffort rows e → HasBadEffort rows → ⊥
+effort_is_good rows e h (bad_limit none) = none e.limit h.limit
 effort_is_good rows e h (bad_workers none) = none e.workers h.workers
-effort_is_good rows e h (bad_boxes none) = none e.boxes h.boxes
+effort_is_good rows e h (bad_boxes none) = boxes_are_good rows e.limit e.boxes h.limit h.boxes none
 
-work_is_good : (rows : List Row) (s : Settings) (e : Effort) → AreSettings rows s → IsEffort rows e → HasBadSetting rows ⊎ HasBadEffort rows → ⊥
-work_is_good rows s e h k (inl b) = settings_are_good rows s h b
-work_is_good rows s e h k (inr b) = effort_is_good rows e k b
+search_is_good : (rows : List Row) (search : Search) → IsSearch rows search → HasBadBudget rows → ⊥
+search_is_good rows search h (inl none) = none search.limit h.limit
+search_is_good rows search h (inr none) = boxes_are_good rows search.limit search.boxes h.limit h.boxes none
+
+work_is_good : (usual : Form) (rows : List Row) (s : Settings) (e : Effort) → AreSettings usual rows s → IsEffort rows e → HasBadSetting usual rows ⊎ HasBadEffort rows → ⊥
+work_is_good usual rows s e h k (inl b) = settings_are_good usual rows s h b
+work_is_good usual rows s e h k (inr b) = effort_is_good rows e k b
+
+join_is_good : (usual : Form) (rows : List Row) (s : Settings) (limit : ℕ) → AreSettings usual rows s → IsNodeLimit rows limit → HasBadSetting usual rows ⊎ HasBadLimit rows → ⊥
+join_is_good usual rows s limit h k (inl b) = settings_are_good usual rows s h b
+join_is_good usual rows s limit h k (inr none) = none limit k
 
 pavings_are_few : (rows : List Row) (names : List (Bor Text)) → ArePavings rows names → HasManyPavings rows → ⊥
 pavings_are_few rows names h many =
@@ -580,10 +593,10 @@ circles_are_good rows c h (bad_count none) = none c.count h.count
 command_in : Text → Option Command
 command_in t =
     if bytes_eq t (codes "check") then Some checks
-    else if bytes_eq t (codes "run") then Some (runs Natural)
+    else if bytes_eq t (codes "run") then Some (runs Plain)
     else if bytes_eq t (codes "resume") then Some resumes
     else if bytes_eq t (codes "merge") then Some merges
-    else if bytes_eq t (codes "audit") then Some (audits Natural)
+    else if bytes_eq t (codes "audit") then Some (audits Plain)
     else if bytes_eq t (codes "svg") then Some draws
     else if bytes_eq t (codes "sample") then Some samples
     else if bytes_eq t (codes "run-centered") then Some (runs Centered)
@@ -595,11 +608,11 @@ command_in t =
 named : (c : Command) → command_in (name_of c) ≡ Some c
 unfolding command_in
 named checks = refl
-named (runs Natural) = refl
+named (runs Plain) = refl
 named (runs Centered) = refl
 named resumes = refl
 named merges = refl
-named (audits Natural) = refl
+named (audits Plain) = refl
 named (audits Centered) = refl
 named draws = refl
 named samples = refl
@@ -609,57 +622,72 @@ named keeps = refl
 one_command : (name : Text) (c d : Command) → name ≡ name_of c → name ≡ name_of d → c ≡ d
 one_command name c d e f = ap (λ (o : Option Command). unwrap_or o c) (sym (named c) ∙ ap command_in (sym e ∙ f) ∙ named d)
 
-abbrev pub command_of : Request → Command
-command_of (Check system) = checks
-command_of (Run form system settings effort out) = runs form
-command_of (Resume system pavings settings effort out) = resumes
-command_of (Merge system pavings settings out) = merges
-command_of (Audit form system paving settings) = audits form
-command_of (Svg system paving settings view) = draws
-command_of (Sample circles) = samples
-command_of (Least system settings search) = seeks
-command_of (Campaign system settings effort rounds) = keeps
+-- the command of a request, whose form by itself is this where it has one
+abbrev pub command_of : Form → Request → Command
+command_of usual (Check system) = checks
+command_of usual (Run system settings effort out) = runs usual
+command_of usual (Resume system pavings settings effort out) = resumes
+command_of usual (Merge system pavings settings limit out) = merges
+command_of usual (Audit system paving settings limit) = audits usual
+command_of usual (Svg system paving settings limit view) = draws
+command_of usual (Sample circles) = samples
+command_of usual (Least system settings search) = seeks
+command_of usual (Campaign system settings effort rounds) = keeps
 
-named_so : (name : Text) (rows : List Row) (q : Request) → IsAskedBy name rows q → name ≡ name_of (command_of q)
+usual_of : (name : Text) (rows : List Row) (q : Request) → IsAskedBy name rows q → Form
+usual_of name rows (Run system settings effort out) h = h.0.0
+usual_of name rows (Audit system paving settings limit) h = h.0.0
+usual_of name rows q h = Plain
+
+named_so : (name : Text) (rows : List Row) (q : Request) → (h : IsAskedBy name rows q) → name ≡ name_of (command_of (usual_of name rows q h) q)
 named_so name rows (Check system) h = h.0
-named_so name rows (Run form system settings effort out) h = h.0
+named_so name rows (Run system settings effort out) h = h.0.1
 named_so name rows (Resume system pavings settings effort out) h = h.0
-named_so name rows (Merge system pavings settings out) h = h.0
-named_so name rows (Audit form system paving settings) h = h.0
-named_so name rows (Svg system paving settings view) h = h.0
+named_so name rows (Merge system pavings settings limit out) h = h.0
+named_so name rows (Audit system paving settings limit) h = h.0.1
+named_so name rows (Svg system paving settings limit view) h = h.0
 named_so name rows (Sample circles) h = h.0
 named_so name rows (Least system settings search) h = h.0
 named_so name rows (Campaign system settings effort rounds) h = h.0
 
 -- words ask for one command
-asked_alike : (found : Option (Text × List Row)) (q r : Request) → IsAsked found q → IsAsked found r → command_of q ≡ command_of r
-asked_alike None q r h k = absurd h
-asked_alike (Some p) q r h k = one_command p.0 (command_of q) (command_of r) (named_so p.0 p.1 q h) (named_so p.0 p.1 r k)
+pub record AreOneCommand (q r : Request) : Type 0 where
+  pub one : Form
+  pub other : Form
+  pub same : command_of one q ≡ command_of other r
 
-pub ask_alike : (words : List Text) (q r : Request) → Asks words q → Asks words r → command_of q ≡ command_of r
+asked_alike : (found : Option (Text × List Row)) (q r : Request) → IsAsked found q → IsAsked found r → AreOneCommand q r
+asked_alike None q r h k = absurd h
+asked_alike (Some p) q r h k = record {
+  one = usual_of p.0 p.1 q h;
+  other = usual_of p.0 p.1 r k;
+  same = one_command p.0 (command_of (usual_of p.0 p.1 q h) q) (command_of (usual_of p.0 p.1 r k) r) (named_so p.0 p.1 q h) (named_so p.0 p.1 r k);
+}
+
+pub ask_alike : (words : List Text) (q r : Request) → Asks words q → Asks words r → AreOneCommand q r
 ask_alike words q r h k = asked_alike (subcommand_of paver_app words) q r h.1 k.1
 
-values_are_good : (name : Text) (rows : List Row) (q : Request) → IsAskedBy name rows q → HasBadValueFor (command_of q) rows → ⊥
+values_are_good : (name : Text) (rows : List Row) (q : Request) → (h : IsAskedBy name rows q) → HasBadValueFor (command_of (usual_of name rows q h) q) rows → ⊥
 values_are_good name rows (Check system) h b = b
-values_are_good name rows (Run form system settings effort out) h b = work_is_good rows settings effort h.2 h.3 b
+values_are_good name rows (Run system settings effort out) h b = work_is_good h.0.0 rows settings effort h.0.2 h.2 b
 values_are_good name rows (Resume system pavings settings effort out) h (inl b) = pavings_are_few rows pavings.items h.2 b
-values_are_good name rows (Resume system pavings settings effort out) h (inr b) = work_is_good rows settings effort h.3 h.4 b
-values_are_good name rows (Merge system pavings settings out) h (inl b) = pavings_are_few rows pavings.items h.2 b
-values_are_good name rows (Merge system pavings settings out) h (inr b) = settings_are_good rows settings h.3 b
-values_are_good name rows (Audit form system paving settings) h b = settings_are_good rows settings h.3 b
-values_are_good name rows (Svg system paving settings view) h (inl b) = b view.at.items h.4.at
-values_are_good name rows (Svg system paving settings view) h (inr b) = settings_are_good rows settings h.3 b
+values_are_good name rows (Resume system pavings settings effort out) h (inr b) = work_is_good Plain rows settings effort h.3 h.4 b
+values_are_good name rows (Merge system pavings settings limit out) h (inl b) = pavings_are_few rows pavings.items h.2 b
+values_are_good name rows (Merge system pavings settings limit out) h (inr b) = join_is_good Plain rows settings limit h.3 h.4 b
+values_are_good name rows (Audit system paving settings limit) h b = join_is_good h.0.0 rows settings limit h.0.2 h.3 b
+values_are_good name rows (Svg system paving settings limit view) h (inl b) = b view.at.items h.5.at
+values_are_good name rows (Svg system paving settings limit view) h (inr b) = join_is_good Plain rows settings limit h.3 h.4 b
 values_are_good name rows (Sample circles) h b = circles_are_good rows circles h.1 b
-values_are_good name rows (Least system settings search) h (inl b) = settings_are_good rows settings h.2 b
-values_are_good name rows (Least system settings search) h (inr b) = b search.boxes h.3.boxes
-values_are_good name rows (Campaign system settings effort rounds) h (inl b) = settings_are_good rows settings h.2 b
+values_are_good name rows (Least system settings search) h (inl b) = settings_are_good Plain rows settings h.2 b
+values_are_good name rows (Least system settings search) h (inr b) = search_is_good rows search h.3 b
+values_are_good name rows (Campaign system settings effort rounds) h (inl b) = settings_are_good Plain rows settings h.2 b
 values_are_good name rows (Campaign system settings effort rounds) h (inr (inl b)) = effort_is_good rows effort h.3 b
 values_are_good name rows (Campaign system settings effort rounds) h (inr (inr b)) = b rounds.count h.4.count
 
 asked_is_good : (name : Text) (rows : List Row) (q : Request) → IsAskedBy name rows q → HasBadValue name rows → ⊥
 asked_is_good name rows q h bad =
     values_are_good name rows q h
-    (subst (λ (c : Command). HasBadValueFor c rows) (one_command name bad.command (command_of q) bad.named (named_so name rows q h)) bad.bad)
+    (subst (λ (c : Command). HasBadValueFor c rows) (one_command name bad.command (command_of (usual_of name rows q h) q) bad.named (named_so name rows q h)) bad.bad)
 
 found_is_good : (found : Option (Text × List Row)) (q : Request) → IsAsked found q → HasBadValueIn found → ⊥
 found_is_good None q h b = h

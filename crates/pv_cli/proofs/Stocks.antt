@@ -3,9 +3,9 @@ use Rattle.std.proofs.Common.{◌≡◌, ◌⊎◌, inl, inr, ℕ, List, sym, su
 use Rattle.std.specs.Borrow.{Bor}
 use Rattle.pv_interval.specs.Bounds.{Bounds}
 use Rattle.pv_tree.specs.Trees.{Tree}
-use Rattle.pv_settle.specs.Rules.{SettlerParts}
-use Rattle.pv_settle.specs.Settling.{settle_by}
-use Rattle.pv_settle.specs.Spelling.{identity_of}
+use Rattle.pv_slope.specs.Methods.{Method}
+use Rattle.pv_slope.specs.Methods.{settle_by}
+use Rattle.pv_slope.specs.Methods.{identity_of}
 use Rattle.pv_keep.specs.Keeping.{Kept, untold, absent, holds}
 use Rattle.pv_keep.specs.Campaigns.{IsOpened, IsLeft}
 use Rattle.pv_rounds.specs.Holding.{RefusesHold}
@@ -36,10 +36,10 @@ left_stays absent k1 identity (inl e) = inl e
 left_stays absent k1 identity (inr e) = inr (identity, e)
 left_stays (holds kept rows) k1 identity e = e
 
-pub opened_stays : (k0 k1 : Kept) (identity : List ℕ) (b : List Bounds) (t : Tree) → IsOpened k0 k1 identity b t → RowsStay k0 k1
-opened_stays untold k1 identity b t h = h
-opened_stays absent k1 identity b t h = inr (identity, h.0)
-opened_stays (holds kept rows) k1 identity b t h = h.1.0
+pub opened_stays : (limit : ℕ) (k0 k1 : Kept) (identity : List ℕ) (b : List Bounds) (t : Tree) → IsOpened limit k0 k1 identity b t → RowsStay k0 k1
+opened_stays limit untold k1 identity b t h = h
+opened_stays limit absent k1 identity b t h = inr (identity, h.0)
+opened_stays limit (holds kept rows) k1 identity b t h = h.1.0
 
 -- ---- Under all names
 
@@ -55,24 +55,24 @@ all_rows name u v here others other = by (same_or_other other name)
 
 -- ---- Where a command is refused before its work begins
 
-refused_rows : (rule : SettlerParts) (boxes count : ℕ) (name : Bor (List ℕ)) (k0 k1 : Kept) (refused : HoldRefused)
-    → RefusesHold (settle_by rule) rule.depth (search_box rule) (identity_of rule) boxes count k0 k1 refused → IsEarly (status_of (campaign_refusal name refused)) → RowsStay k0 k1
-refused_rows rule boxes count name k0 k1 Memory h early = absurd early
-refused_rows rule boxes count name k0 k1 Failed h early = absurd early
-refused_rows rule boxes count name k0 k1 (OtherIdentity found) h early = left_stays k0 k1 (identity_of rule) h.1
-refused_rows rule boxes count name k0 k1 TooMany h early = left_stays k0 k1 (identity_of rule) h.1
-refused_rows rule boxes count name k0 k1 (BadRow n) h early = left_stays k0 k1 (identity_of rule) h.1
-refused_rows rule boxes count name k0 k1 (TreeLimit n) h early = opened_stays k0 k1 (identity_of rule) (search_box rule) h.opening h.opened
+refused_rows : (rule : Method) (limit boxes count : ℕ) (name : Bor (List ℕ)) (k0 k1 : Kept) (refused : HoldRefused)
+    → RefusesHold limit (settle_by rule) rule.parts.depth (search_box rule) (identity_of rule) boxes count k0 k1 refused → IsEarly (status_of (campaign_refusal name refused)) → RowsStay k0 k1
+refused_rows rule limit boxes count name k0 k1 Memory h early = absurd early
+refused_rows rule limit boxes count name k0 k1 Failed h early = absurd early
+refused_rows rule limit boxes count name k0 k1 (OtherIdentity found) h early = left_stays k0 k1 (identity_of rule) h.1
+refused_rows rule limit boxes count name k0 k1 TooMany h early = left_stays k0 k1 (identity_of rule) h.1
+refused_rows rule limit boxes count name k0 k1 (BadRow n) h early = left_stays k0 k1 (identity_of rule) h.1
+refused_rows rule limit boxes count name k0 k1 (TreeLimit n) h early = opened_stays limit k0 k1 (identity_of rule) (search_box rule) h.opening h.opened
 
-rounds_rows : (rule : SettlerParts) (u v : Stock) (boxes : ℕ) (rounds : Rounds) (r : Refusal) → IsEarly (status_of r) → RefusesRounds rule u v boxes rounds r
+rounds_rows : (rule : Method) (u v : Stock) (limit boxes : ℕ) (rounds : Rounds) (r : Refusal) → IsEarly (status_of r) → RefusesRounds rule u v limit boxes rounds r
     → RowsStay (u.kept rounds.name.now) (v.kept rounds.name.now)
-rounds_rows rule u v boxes rounds r early h =
-    refused_rows rule boxes rounds.count rounds.name (u.kept rounds.name.now) (v.kept rounds.name.now) h.refused h.because
+rounds_rows rule u v limit boxes rounds r early h =
+    refused_rows rule limit boxes rounds.count rounds.name (u.kept rounds.name.now) (v.kept rounds.name.now) h.refused h.because
     (subst (λ (x : Refusal). IsEarly (status_of x)) h.is early)
 
 pub early_rows : (before after : Files) (u v : Stock) (q : Request) (r : Refusal) → IsEarly (status_of r) → RefusesWork before after u v q r → LeavesStock (campaign_of q) u v
     → AllRowsStay u v
 early_rows before after u v (Campaign system settings effort rounds) r early (inl h) kept = same_rows u v h.1
 early_rows before after u v (Campaign system settings effort rounds) r early (inr h) kept =
-    all_rows rounds.name.now u v (rounds_rows h.rule u v effort.boxes rounds r early h.refused) kept
+    all_rows rounds.name.now u v (rounds_rows h.rule u v effort.limit effort.boxes rounds r early h.refused) kept
 early_rows before after u v q r early h kept = same_rows u v kept

@@ -3,9 +3,9 @@ use Rattle.std.specs.Prelude.{◌≡◌, ◌≢◌, ◌⊎◌, ◌≤◌, ℕ, B
 use Rattle.std.specs.Borrow.{Bor}
 use Rattle.clap.specs.Words.{Text}
 use Rattle.pv_tree.specs.Trees.{Tree, opens, first}
-use Rattle.pv_settle.specs.Rules.{SettlerParts}
-use Rattle.pv_settle.specs.Settling.{settle_by}
-use Rattle.pv_settle.specs.Spelling.{identity_of}
+use Rattle.pv_slope.specs.Methods.{Method}
+use Rattle.pv_slope.specs.Methods.{settle_by}
+use Rattle.pv_slope.specs.Methods.{identity_of}
 use Rattle.pv_io.specs.Outside.{Rose}
 use Rattle.pv_keep.specs.Keeping.{Kept, untold, absent, holds}
 use Rattle.pv_rounds.specs.Holding.{RefusesHold}
@@ -69,19 +69,19 @@ campaign_refusal name (hold.BadRow n) = Paving name (BadRow n)
 campaign_refusal name (hold.TreeLimit n) = TreeLimit n
 
 -- why some rounds by a rule are refused, and what that leaves of what is kept
-pub record RefusesRounds (rule : SettlerParts) (u v : Stock) (boxes : ℕ) (rounds : Rounds) (r : Refusal) : Type 0 where
+pub record RefusesRounds (rule : Method) (u v : Stock) (limit boxes : ℕ) (rounds : Rounds) (r : Refusal) : Type 0 where
   pub refused : HoldRefused
-  pub because : RefusesHold (settle_by rule) rule.depth (search_box rule) (identity_of rule) boxes rounds.count (u.kept rounds.name.now) (v.kept rounds.name.now) refused
+  pub because : RefusesHold limit (settle_by rule) rule.parts.depth (search_box rule) (identity_of rule) boxes rounds.count (u.kept rounds.name.now) (v.kept rounds.name.now) refused
   pub rose : refused ≡ hold.Failed → Rose u.faults v.faults
   pub is : r ≡ campaign_refusal rounds.name refused
 
 -- the system is there, and the rounds are refused
-pub record HasNoCampaign (before : Files) (u v : Stock) (system : Text) (s : Settings) (boxes : ℕ) (rounds : Rounds) (r : Refusal) : Type 0 where
-  pub rule : SettlerParts
+pub record HasNoCampaign (before : Files) (u v : Stock) (system : Text) (s : Settings) (limit boxes : ℕ) (rounds : Rounds) (r : Refusal) : Type 0 where
+  pub rule : Method
   pub read : HasRule before system s rule
-  pub refused : RefusesRounds rule u v boxes rounds r
+  pub refused : RefusesRounds rule u v limit boxes rounds r
 
 -- the first refusal of the system, of its settings and of the rounds
-abbrev pub RefusesCampaign : Files → Files → Stock → Stock → Text → Settings → ℕ → Rounds → Refusal → Type 0
-RefusesCampaign before after u v system s boxes rounds r =
-    (RefusesRule before after system s r × IsSameStock u v) ⊎ HasNoCampaign before u v system s boxes rounds r
+abbrev pub RefusesCampaign : Files → Files → Stock → Stock → Text → Settings → ℕ → ℕ → Rounds → Refusal → Type 0
+RefusesCampaign before after u v system s limit boxes rounds r =
+    (RefusesRule before after system s r × IsSameStock u v) ⊎ HasNoCampaign before u v system s limit boxes rounds r

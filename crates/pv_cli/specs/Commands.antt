@@ -56,32 +56,40 @@ with_effort a = with_option (codes "boxes") (with_option (codes "workers") a)
 abbrev pub with_out : App → App
 with_out a = with_option (codes "out") a
 
+abbrev pub with_limit : App → App
+with_limit a = with_option (codes "limit") a
+
+abbrev pub with_form : App → App
+with_form a = with_option (codes "form") a
+
 abbrev pub check_app : App
 check_app = system_app (codes "check")
 
 abbrev pub run_app : Text → App
-run_app name = with_out (with_effort (with_settings (system_app name)))
+run_app name = with_limit (with_out (with_effort (with_settings (system_app name))))
 
 abbrev pub resume_app : App
-resume_app = with_out (with_effort (with_settings (pavings_app (codes "resume"))))
+resume_app = with_form (with_limit (with_out (with_effort (with_settings (pavings_app (codes "resume"))))))
 
 abbrev pub merge_app : App
-merge_app = with_out (with_settings (pavings_app (codes "merge")))
+merge_app = with_form (with_limit (with_out (with_settings (pavings_app (codes "merge")))))
 
 abbrev pub audit_app : Text → App
-audit_app name = with_settings (paving_app name)
+audit_app name = with_limit (with_settings (paving_app name))
 
 abbrev pub svg_app : App
-svg_app = with_option (codes "at") (with_needed (codes "y") (with_needed (codes "x") (with_settings (paving_app (codes "svg")))))
+svg_app =
+    with_form (with_limit (with_option (codes "at") (with_needed (codes "y") (with_needed (codes "x") (with_settings (paving_app (codes "svg")))))))
 
 abbrev pub sample_app : App
 sample_app = with_needed (codes "count") (with_needed (codes "seed") (bare_app (codes "sample")))
 
 abbrev pub least_app : App
-least_app = with_needed (codes "of") (with_option (codes "boxes") (with_settings (system_app (codes "least"))))
+least_app = with_limit (with_needed (codes "of") (with_option (codes "boxes") (with_settings (system_app (codes "least")))))
 
 abbrev pub campaign_app : App
-campaign_app = with_option (codes "rounds") (with_needed (codes "keep") (with_effort (with_settings (system_app (codes "campaign")))))
+campaign_app =
+    with_form (with_limit (with_option (codes "rounds") (with_needed (codes "keep") (with_effort (with_settings (system_app (codes "campaign")))))))
 
 -- the command with one more subcommand
 abbrev pub with_command : App → App → App
@@ -89,8 +97,8 @@ with_command app sub = with_subcommand app sub.top
 
 abbrev pub paving_commands : App → App
 paving_commands a =
-    with_command (with_command (with_command (with_command (with_command (with_command (with_command a check_app) (run_app (codes "run")))
-    resume_app) merge_app) (audit_app (codes "audit"))) svg_app) sample_app
+    with_command (with_command (with_command (with_command (with_command (with_command (with_command a check_app) (with_form (run_app (codes "run"))))
+    resume_app) merge_app) (with_form (audit_app (codes "audit")))) svg_app) sample_app
 
 abbrev pub further_commands : App → App
 further_commands a =

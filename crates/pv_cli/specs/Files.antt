@@ -1,14 +1,15 @@
 -- What a command reads of paving files, and their join.
 use Rattle.std.specs.Prelude.{◌≡◌, ◌⊎◌, ◌≤◌, ◌++◌, ℕ, Bool, Some, List, [], ◌∷◌}
 use Rattle.pv_interval.specs.Bounds.{Bounds}
-use Rattle.pv_settle.specs.Rules.{SettlerParts}
-use Rattle.pv_settle.specs.Spelling.{identity_of}
+use Rattle.pv_slope.specs.Methods.{Method}
+use Rattle.pv_slope.specs.Methods.{identity_of}
 use Rattle.pv_tree.specs.Trees.{Tree, outcome_at}
 use Rattle.pv_tree.specs.Stages.{Grows}
 use Rattle.pv_tree.specs.declared.outcome.Outcome.{Outcome}
 use Rattle.pv_join.specs.Joins.{IsFirstDisagreement}
 use Rattle.pv_file.specs.Lines.{outcome_line}
 use Rattle.pv_file.specs.Readings.{IsTextOf, IsPavingInFormat, HasOtherIdentity, IsFirstBadLine, IsOneTooMany}
+use Rattle.pv_file.specs.Lengths.{length_limit}
 use Rattle.pv_io.specs.Outside.{IsWhole, IsTooLong}
 use Rattle.pv_cli.specs.Systems.{Files, RefusesFetch, HasRule, RefusesRule, search_box}
 use Rattle.pv_cli.specs.Pavings.{settled_in}
@@ -20,62 +21,62 @@ use Rattle.pv_cli.specs.declared.refusal.Refusal.TheVariants.{Paving, Memory, Di
 
 -- ---- One file
 
--- the file of this name holds at most 70,000,000 bytes: the text, in one of the versions, of this paving of the box,
--- for the identity, with at most 100,000 settled nodes
-pub record HoldsPaving (before : Files) (identity : List ℕ) (b : List Bounds) (name : List ℕ) (t : Tree) : Type 0 where
+-- the file of this name is no longer than a limit on settled nodes allows: the text, in one of the versions, of this
+-- paving of the box, for the identity, with at most so many of them
+pub record HoldsPaving (before : Files) (limit : ℕ) (identity : List ℕ) (b : List Bounds) (name : List ℕ) (t : Tree) : Type 0 where
   pub bytes : List ℕ
-  pub fetched : IsWhole (before.content name) 70000000 bytes
+  pub fetched : IsWhole (before.content name) (length_limit limit) bytes
   pub text : IsTextOf bytes identity b t
   pub paving : IsPavingInFormat b t
-  pub few : settled_in t ≤ 100000
+  pub few : settled_in t ≤ limit
 
 -- the same of the search box, for the system and its settings
-abbrev pub HasPaving : Files → SettlerParts → List ℕ → Tree → Type 0
-HasPaving before rule name t = HoldsPaving before (identity_of rule) (search_box rule) name t
+abbrev pub HasPaving : Files → ℕ → Method → List ℕ → Tree → Type 0
+HasPaving before limit rule name t = HoldsPaving before limit (identity_of rule) (search_box rule) name t
 
 -- the file holds other bytes, of which this is said
-pub record HoldsOther (before : Files) (name : List ℕ) (says : List ℕ → Type 0) : Type 0 where
+pub record HoldsOther (before : Files) (limit : ℕ) (name : List ℕ) (says : List ℕ → Type 0) : Type 0 where
   pub bytes : List ℕ
-  pub fetched : IsWhole (before.content name) 70000000 bytes
+  pub fetched : IsWhole (before.content name) (length_limit limit) bytes
   pub other : says bytes
 
-pub record HoldsLong (before : Files) (name : List ℕ) : Type 0 where
+pub record HoldsLong (before : Files) (limit : ℕ) (name : List ℕ) : Type 0 where
   pub bytes : List ℕ
-  pub long : IsTooLong (before.content name) 70000000 bytes
+  pub long : IsTooLong (before.content name) (length_limit limit) bytes
 
 -- what is wrong with the file of this name
-abbrev pub HasFileFault : Files → List ℕ → List Bounds → List ℕ → FileFault → Type 0
-HasFileFault before identity b name TooLong = HoldsLong before name
-HasFileFault before identity b name WrongIdentity = HoldsOther before name (λ bytes. HasOtherIdentity bytes identity b)
-HasFileFault before identity b name (BadLine n) = HoldsOther before name (λ bytes. IsFirstBadLine n bytes identity b)
-HasFileFault before identity b name (TooManyNodes n) = HoldsOther before name (λ bytes. IsOneTooMany n bytes identity b)
-HasFileFault before identity b name (BadRow n) = ⊥
-HasFileFault before identity b name TooManyRows = ⊥
+abbrev pub HasFileFault : Files → ℕ → List ℕ → List Bounds → List ℕ → FileFault → Type 0
+HasFileFault before limit identity b name TooLong = HoldsLong before limit name
+HasFileFault before limit identity b name WrongIdentity = HoldsOther before limit name (λ bytes. HasOtherIdentity bytes identity b)
+HasFileFault before limit identity b name (BadLine n) = HoldsOther before limit name (λ bytes. IsFirstBadLine limit n bytes identity b)
+HasFileFault before limit identity b name (TooManyNodes n) = HoldsOther before limit name (λ bytes. IsOneTooMany limit n bytes identity b)
+HasFileFault before limit identity b name (BadRow n) = ⊥
+HasFileFault before limit identity b name TooManyRows = ⊥
 
 -- why the file of this name gives no paving of the box
-abbrev pub RefusesFile : Files → Files → List ℕ → List Bounds → List ℕ → Refusal → Type 0
-RefusesFile before after identity b name (Paving n fault) = (n.now ≡ name) × HasFileFault before identity b name fault
-RefusesFile before after identity b name r = RefusesFetch before after name r
+abbrev pub RefusesFile : Files → Files → ℕ → List ℕ → List Bounds → List ℕ → Refusal → Type 0
+RefusesFile before after limit identity b name (Paving n fault) = (n.now ≡ name) × HasFileFault before limit identity b name fault
+RefusesFile before after limit identity b name r = RefusesFetch before after name r
 
 -- why it gives none of the search box
-abbrev pub RefusesPaving : Files → Files → SettlerParts → List ℕ → Refusal → Type 0
-RefusesPaving before after rule name r = RefusesFile before after (identity_of rule) (search_box rule) name r
+abbrev pub RefusesPaving : Files → Files → ℕ → Method → List ℕ → Refusal → Type 0
+RefusesPaving before after limit rule name r = RefusesFile before after limit (identity_of rule) (search_box rule) name r
 
 -- ---- Several files
 
 -- the files of these names hold these pavings
-abbrev pub HavePavings : Files → SettlerParts → List (List ℕ) → List Tree → Type 0
-HavePavings before rule [] [] = Unit {0}
-HavePavings before rule [] (t ∷ ts) = ⊥
-HavePavings before rule (n ∷ ns) [] = ⊥
-HavePavings before rule (n ∷ ns) (t ∷ ts) = HasPaving before rule n t × HavePavings before rule ns ts
+abbrev pub HavePavings : Files → ℕ → Method → List (List ℕ) → List Tree → Type 0
+HavePavings before limit rule [] [] = Unit {0}
+HavePavings before limit rule [] (t ∷ ts) = ⊥
+HavePavings before limit rule (n ∷ ns) [] = ⊥
+HavePavings before limit rule (n ∷ ns) (t ∷ ts) = HasPaving before limit rule n t × HavePavings before limit rule ns ts
 
 -- the files of these names are read in order, and one is refused
-abbrev pub RefusesPavings : Files → Files → SettlerParts → List (List ℕ) → Refusal → Type 0
-RefusesPavings before after rule [] r = r ≡ Memory
-RefusesPavings before after rule (n ∷ ns) r =
-    RefusesPaving before after rule n r
-    ⊎ ((t : Tree) × HasPaving before rule n t × RefusesPavings before after rule ns r)
+abbrev pub RefusesPavings : Files → Files → ℕ → Method → List (List ℕ) → Refusal → Type 0
+RefusesPavings before after limit rule [] r = r ≡ Memory
+RefusesPavings before after limit rule (n ∷ ns) r =
+    RefusesPaving before after limit rule n r
+    ⊎ ((t : Tree) × HasPaving before limit rule n t × RefusesPavings before after limit rule ns r)
 
 -- each of the trees
 abbrev pub AllTrees : (Tree → Type 0) → List Tree → Type 0
@@ -114,27 +115,27 @@ RefusesJoin ts _ = ⊥
 -- ---- A system and files of its pavings
 
 -- the files of these names hold pavings of the system, and this is their join
-pub record HasOpening (before : Files) (system : List ℕ) (names : List (List ℕ)) (s : Settings) (rule : SettlerParts) (ts : List Tree) (opening : Tree) : Type 0 where
+pub record HasOpening (before : Files) (system : List ℕ) (names : List (List ℕ)) (s : Settings) (limit : ℕ) (rule : Method) (ts : List Tree) (opening : Tree) : Type 0 where
   pub read : HasRule before system s rule
-  pub held : HavePavings before rule names ts
+  pub held : HavePavings before limit rule names ts
   pub join : IsJoinOf ts opening
 
 -- they hold pavings of the system that have no join
-pub record HasNoJoin (before : Files) (system : List ℕ) (names : List (List ℕ)) (s : Settings) (r : Refusal) : Type 0 where
-  pub rule : SettlerParts
+pub record HasNoJoin (before : Files) (system : List ℕ) (names : List (List ℕ)) (s : Settings) (limit : ℕ) (r : Refusal) : Type 0 where
+  pub rule : Method
   pub read : HasRule before system s rule
   pub trees : List Tree
-  pub held : HavePavings before rule names trees
+  pub held : HavePavings before limit rule names trees
   pub refused : RefusesJoin trees r
 
 -- the system is there, and one of the files is refused
-pub record HasBadFile (before after : Files) (system : List ℕ) (names : List (List ℕ)) (s : Settings) (r : Refusal) : Type 0 where
-  pub rule : SettlerParts
+pub record HasBadFile (before after : Files) (system : List ℕ) (names : List (List ℕ)) (s : Settings) (limit : ℕ) (r : Refusal) : Type 0 where
+  pub rule : Method
   pub read : HasRule before system s rule
-  pub refused : RefusesPavings before after rule names r
+  pub refused : RefusesPavings before after limit rule names r
 
 -- why there is no such join: the first refusal of the system, of the files in order, and of their joins
-abbrev pub RefusesOpening : Files → Files → List ℕ → List (List ℕ) → Settings → Refusal → Type 0
-RefusesOpening before after system names s r =
+abbrev pub RefusesOpening : Files → Files → List ℕ → List (List ℕ) → Settings → ℕ → Refusal → Type 0
+RefusesOpening before after system names s limit r =
     RefusesRule before after system s r
-    ⊎ (HasBadFile before after system names s r ⊎ HasNoJoin before system names s r)
+    ⊎ (HasBadFile before after system names s limit r ⊎ HasNoJoin before system names s limit r)

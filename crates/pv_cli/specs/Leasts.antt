@@ -7,8 +7,8 @@ use Rattle.pv_interval.specs.Bounds.{Bounds}
 use Rattle.pv_interval.specs.Points.{Point}
 use Rattle.pv_expr.specs.Terms.{Term}
 use Rattle.pv_tree.specs.Trees.{Tree, counts_of, settled_of}
-use Rattle.pv_settle.specs.Rules.{SettlerParts}
-use Rattle.pv_settle.specs.Settling.{settle_by, is_member}
+use Rattle.pv_slope.specs.Methods.{Method}
+use Rattle.pv_slope.specs.Methods.{settle_by, is_member}
 use Rattle.pv_grammar.specs.declared.cause.Cause.{Cause}
 use Rattle.pv_parse.specs.Declarations.{IsExpressionMeaning}
 use Rattle.pv_parse.specs.Faults.{IsExpressionFaultOf}
@@ -49,15 +49,15 @@ pub record AreBounds (inside : Point → Type 0) (t : Term) (b : List Bounds) (l
   pub witness : IfSome l.best (IsWitness inside t b)
 
 -- the paving of a box after a budget of settlings, each of the leaf that comes next
-abbrev pub searched_by : SettlerParts → List Bounds → Term → ℕ → Tree
-searched_by rule b t budget = searched (settle_by rule) rule.depth t b budget
+abbrev pub searched_by : Method → List Bounds → Term → ℕ → Tree
+searched_by rule b t budget = searched (settle_by rule) rule.parts.depth t b budget
 
 -- the leaf that would be settled next behind the budget
-abbrev pub next_in : SettlerParts → List Bounds → Term → ℕ → Option (List Bool)
+abbrev pub next_in : Method → List Bounds → Term → ℕ → Option (List Bool)
 next_in rule b t budget = next_of t b (searched_by rule b t budget)
 
 -- what that paving tells of the least value of a term
-pub record IsLeastBy (rule : SettlerParts) (b : List Bounds) (t : Term) (budget : ℕ) (l : Least) : Type 0 where
+pub record IsLeastBy (rule : Method) (b : List Bounds) (t : Term) (budget : ℕ) (l : Least) : Type 0 where
   pub lower : l.lower ≡ lower_of t b (searched_by rule b t budget)
   pub best : l.best ≡ best_of t b (searched_by rule b t budget)
   pub settled : l.settled ≡ settled_of (counts_of (searched_by rule b t budget))
@@ -67,12 +67,12 @@ pub record IsLeastBy (rule : SettlerParts) (b : List Bounds) (t : Term) (budget 
 -- The file of this name holds a system, the text is an expression over its variables, and this is found of its least
 -- value. By the default program the bounds are those over the points at which every constraint holds.
 pub record HasLeast (before : Files) (system : Text) (s : Settings) (search : Search) (l : Least) : Type 0 where
-  pub rule : SettlerParts
+  pub rule : Method
   pub read : HasRule before system s rule
   pub term : Term
-  pub means : IsExpressionMeaning rule.system.names search.of.now term
+  pub means : IsExpressionMeaning rule.parts.system.names search.of.now term
   pub is : IsLeastBy rule (search_box rule) term search.boxes l
-  pub by_default : s.contract.now ≡ codes "prop(8)" → AreBounds (EachHolds rule.system.constraints) term (search_box rule) l
+  pub by_default : s.contract.now ≡ codes "prop(8)" → AreBounds (EachHolds rule.parts.system.constraints) term (search_box rule) l
 
 -- ---- Why nothing is found
 
@@ -84,9 +84,9 @@ RefusesObjective variables text _ = ⊥
 
 -- the system is there, and the text has this fault at this byte
 pub record HasBadObjective (before : Files) (system : Text) (s : Settings) (of : Text) (byte : ℕ) (cause : Cause) : Type 0 where
-  pub rule : SettlerParts
+  pub rule : Method
   pub read : HasRule before system s rule
-  pub fault : IsExpressionFaultOf rule.system.names of byte cause
+  pub fault : IsExpressionFaultOf rule.parts.system.names of byte cause
 
 -- the first refusal of the system, of its settings and of the text
 abbrev pub RefusesLeast : Files → Files → Text → Settings → Text → Refusal → Type 0

@@ -7,8 +7,6 @@ pub mod Systems
 pub mod Files
 pub mod Pavings
 pub mod Views
-pub mod Forms
-pub mod FormSettlers
 pub mod Leasts
 pub mod Campaigns
 pub mod Products

@@ -45,15 +45,16 @@ pub record AreSameSettings (s other : Settings) : Type 0 where
   pub depth : s.depth ≡ other.depth
   pub bisector : s.bisector ≡ other.bisector
   pub contract : s.contract.now ≡ other.contract.now
+  pub form : s.form ≡ other.form
 
 abbrev pub out_name : Option (Bor Text) → Option Text
 out_name out = option_map (λ name. name.now) out
 
--- both ask for the join of the same files, by the same settings, under the same name
+-- both ask for the join of the same files, by the same settings, within the same limit, under the same name
 abbrev pub AreSameMerge : Request → Request → Type 0
-AreSameMerge (Merge system pavings settings out) (Merge system' pavings' settings' out') =
+AreSameMerge (Merge system pavings settings limit out) (Merge system' pavings' settings' limit' out') =
     (system.now ≡ system'.now) × AreSameNames (names_in pavings.items) (names_in pavings'.items)
-    × AreSameSettings settings settings' × (out_name out ≡ out_name out')
+    × AreSameSettings settings settings' × (limit ≡ limit') × (out_name out ≡ out_name out')
 AreSameMerge q r = ⊥
 
 abbrev pub AskForSameMerge : List Text → List Text → Type 0

@@ -11,9 +11,9 @@ use Rattle.pv_made.specs.Circles.{sample_text}
 use Rattle.pv_parse.specs.Declarations.{IsMeaning}
 use Rattle.pv_expr.specs.Systems.{Parts}
 use Rattle.pv_expr.specs.Canonical.{canonical_text}
-use Rattle.pv_settle.specs.Rules.{SettlerParts}
-use Rattle.pv_settle.specs.Settling.{settle_by, is_member}
-use Rattle.pv_settle.specs.Spelling.{identity_of}
+use Rattle.pv_slope.specs.Methods.{Method}
+use Rattle.pv_slope.specs.Methods.{settle_by, is_member}
+use Rattle.pv_slope.specs.Methods.{identity_of}
 use Rattle.pv_tree.specs.Trees.{Tree, leaf, opens, counts_of, settled_of, IsPaving}
 use Rattle.pv_tree.specs.Stages.{Rule, IsStage, full_of}
 use Rattle.pv_tree.specs.Sets.{IsSound, Covers}
@@ -32,9 +32,8 @@ use Rattle.pv_cli.specs.Views.{IsPlaneOf, HasNoPlane, IsSoundFor}
 use Rattle.pv_rounds.specs.Holding.{IsHeld}
 use Rattle.pv_cli.specs.Leasts.{HasLeast, RefusesLeast, least_text}
 use Rattle.pv_cli.specs.Campaigns.{Stock, RefusesCampaign, is_done}
-use Rattle.pv_cli.specs.Forms.{settle_as, identity_as}
 use Rattle.pv_cli.specs.Files.{HoldsPaving, HasPaving, RefusesFile, RefusesPaving, AllTrees, HasOpening, RefusesOpening}
-use Rattle.pv_cli.specs.declared.request.Form.{Form}
+use Rattle.pv_slope.specs.declared.form.Form.TheVariants.{Plain}
 use Rattle.pv_cli.specs.declared.request.Settings.{Settings}
 use Rattle.pv_cli.specs.declared.request.View.{View}
 use Rattle.pv_cli.specs.declared.request.Circles.{Circles}
@@ -78,21 +77,17 @@ HasStatus (paved identity b t) s = ((s ≡ Done) × (opens t ≡ [])) ⊎ ((s �
 -- The paving is a stage of the open search box: so it covers the box, it is sound for the set that the program
 -- speaks of, and without an open leaf it is the full tree. By the default program every constraint holds at each
 -- rational point of each inner box.
-pub record IsHonestBy (settle : Rule) (s : Settings) (rule : SettlerParts) (t : Tree) : Type 0 where
-  pub stage : IsStage settle rule.depth (search_box rule) leaf t
+pub record IsHonest (s : Settings) (rule : Method) (t : Tree) : Type 0 where
+  pub stage : IsStage (settle_by rule) rule.parts.depth (search_box rule) leaf t
   pub covers : Covers (search_box rule) t
   pub sound : IsSound (is_member rule) (search_box rule) t
-  pub whole : opens t ≡ [] → t ≡ full_of settle rule.depth (search_box rule) leaf 0
-  pub by_default : s.contract.now ≡ codes "prop(8)" → HoldInside rule.system.constraints t
-
--- the same where boxes are settled by the intervals of the sides
-abbrev pub IsHonest : Settings → SettlerParts → Tree → Type 0
-IsHonest s rule t = IsHonestBy (settle_by rule) s rule t
+  pub whole : opens t ≡ [] → t ≡ full_of (settle_by rule) rule.parts.depth (search_box rule) leaf 0
+  pub by_default : s.contract.now ≡ codes "prop(8)" → HoldInside rule.parts.system.constraints t
 
 -- the premise on files: each is a stage of the open search box, as all are that this program wrote for the system
 -- and its settings; `audit` decides it
-abbrev pub AreStages : SettlerParts → List Tree → Type 0
-AreStages rule ts = AllTrees (IsStage (settle_by rule) rule.depth (search_box rule) leaf) ts
+abbrev pub AreStages : Method → List Tree → Type 0
+AreStages rule ts = AllTrees (IsStage (settle_by rule) rule.parts.depth (search_box rule) leaf) ts
 
 -- ---- What comes of the commands
 
@@ -103,64 +98,61 @@ pub record ComesOfCheck (before : Files) (system : Text) (p : Product) : Type 0 
   pub is : p ≡ text (canonical_text parts)
 
 -- `run` and `run-centered` give what the budget settles of the open search box
-pub record ComesOfRun (form : Form) (before : Files) (system : Text) (s : Settings) (budget : ℕ) (p : Product) : Type 0 where
-  pub rule : SettlerParts
+pub record ComesOfRun (before : Files) (system : Text) (s : Settings) (budget : ℕ) (p : Product) : Type 0 where
+  pub rule : Method
   pub read : HasRule before system s rule
   pub tree : Tree
-  pub run : IsPaved (settle_as form rule) rule.depth (search_box rule) leaf budget tree
-  pub honest : IsHonestBy (settle_as form rule) s rule tree
-  pub is : p ≡ paved (identity_as form rule) (search_box rule) tree
+  pub run : IsPaved (settle_by rule) rule.parts.depth (search_box rule) leaf budget tree
+  pub honest : IsHonest s rule tree
+  pub is : p ≡ paved (identity_of rule) (search_box rule) tree
 
 -- `resume` gives what the budget settles of the join of the files
-pub record ComesOfResume (before : Files) (system : Text) (names : List Text) (s : Settings) (budget : ℕ) (p : Product) : Type 0 where
-  pub rule : SettlerParts
+pub record ComesOfResume (before : Files) (system : Text) (names : List Text) (s : Settings) (limit budget : ℕ) (p : Product) : Type 0 where
+  pub rule : Method
   pub trees : List Tree
   pub opening : Tree
-  pub opened : HasOpening before system names s rule trees opening
-  pub few : settled_in opening + budget ≤ 100000
+  pub opened : HasOpening before system names s limit rule trees opening
+  pub few : settled_in opening + budget ≤ limit
   pub tree : Tree
-  pub run : IsPaved (settle_by rule) rule.depth (search_box rule) opening budget tree
+  pub run : IsPaved (settle_by rule) rule.parts.depth (search_box rule) opening budget tree
   pub honest : AreStages rule trees → IsHonest s rule tree
   pub is : p ≡ paved (identity_of rule) (search_box rule) tree
 
 -- `merge` gives the join of the files
-pub record ComesOfMerge (before : Files) (system : Text) (names : List Text) (s : Settings) (p : Product) : Type 0 where
-  pub rule : SettlerParts
+pub record ComesOfMerge (before : Files) (system : Text) (names : List Text) (s : Settings) (limit : ℕ) (p : Product) : Type 0 where
+  pub rule : Method
   pub trees : List Tree
   pub tree : Tree
-  pub opened : HasOpening before system names s rule trees tree
-  pub few : settled_in tree ≤ 100000
+  pub opened : HasOpening before system names s limit rule trees tree
+  pub few : settled_in tree ≤ limit
   pub paving : IsPaving (search_box rule) tree
   pub honest : AreStages rule trees → IsHonest s rule tree
   pub is : p ≡ paved (identity_of rule) (search_box rule) tree
 
 -- `audit` and `audit-centered` say that the file's paving is a stage of the open search box
-pub record ComesOfAudit (form : Form) (before : Files) (system name : Text) (s : Settings) (p : Product) : Type 0 where
-  pub rule : SettlerParts
+pub record ComesOfAudit (before : Files) (system name : Text) (s : Settings) (limit : ℕ) (p : Product) : Type 0 where
+  pub rule : Method
   pub read : HasRule before system s rule
   pub tree : Tree
-  pub held : HoldsPaving before (identity_as form rule) (search_box rule) name tree
-  pub honest : IsHonestBy (settle_as form rule) s rule tree
+  pub held : HoldsPaving before limit (identity_of rule) (search_box rule) name tree
+  pub honest : IsHonest s rule tree
   pub is : p ≡ text (codes "honest" ++ 10 ∷ [])
 
 -- `svg` gives the picture of the file's paving on a plane. Where the paving is a stage of the open search box, the
 -- picture is sound for the set that the program speaks of.
-pub record ComesOfSvg (before : Files) (system name : Text) (s : Settings) (v : View) (p : Product) : Type 0 where
-  pub rule : SettlerParts
+pub record ComesOfSvg (before : Files) (system name : Text) (s : Settings) (limit : ℕ) (v : View) (p : Product) : Type 0 where
+  pub rule : Method
   pub read : HasRule before system s rule
   pub plane : Plane
-  pub shown : IsPlaneOf rule.system v.x.now v.y.now v.at.items plane
+  pub shown : IsPlaneOf rule.parts.system v.x.now v.y.now v.at.items plane
   pub tree : Tree
-  pub held : HasPaving before rule name tree
-  pub sound : IsStage (settle_by rule) rule.depth (search_box rule) leaf tree → IsSoundFor (is_member rule) plane (search_box rule) tree
+  pub held : HasPaving before limit rule name tree
+  pub sound : IsStage (settle_by rule) rule.parts.depth (search_box rule) leaf tree → IsSoundFor (is_member rule) plane (search_box rule) tree
   pub is : p ≡ text (picture_text (picture_of plane (search_box rule) tree))
 
 -- the full tree of what a rule begins with
-abbrev pub full_as : Form → SettlerParts → Tree → Tree
-full_as form rule opening = full_of (settle_as form rule) rule.depth (search_box rule) opening 0
-
-abbrev pub full_by : SettlerParts → Tree → Tree
-full_by rule opening = full_of (settle_by rule) rule.depth (search_box rule) opening 0
+abbrev pub full_by : Method → Tree → Tree
+full_by rule opening = full_of (settle_by rule) rule.parts.depth (search_box rule) opening 0
 
 -- the Minibex text of circles
 abbrev pub text_of : Circles → List ℕ
@@ -172,6 +164,7 @@ pub record AreForSamples (s : Settings) : Type 0 where
   pub depth : s.depth ≡ 14
   pub bisector : s.bisector ≡ Largest
   pub contract : s.contract.now ≡ codes "prop(8)"
+  pub form : s.form ≡ Plain
 
 -- which circles, a paving's summary, and the SHA-256 digest of its file
 unfoldable pub report_of : Circles → List ℕ → List Bounds → Tree → List ℕ
@@ -185,7 +178,7 @@ pub record ComesOfSample (c : Circles) (p : Product) : Type 0 where
   pub settings_are : AreForSamples settings
   pub system : Parts
   pub means : IsMeaning (text_of c) system
-  pub rule : SettlerParts
+  pub rule : Method
   pub rule_is : IsRuleFor system settings rule
   pub honest : IsHonest settings rule (full_by rule leaf)
   pub is : p ≡ text (report_of c (identity_of rule) (search_box rule) (full_by rule leaf))
@@ -201,100 +194,100 @@ pub record ComesOfLeast (before : Files) (system : Text) (s : Settings) (search 
   pub is : p ≡ report_as (least_text least) least.done
 
 -- a paving that grew from a stage of the open search box is honest
-abbrev pub LearnsHeld : SettlerParts → Tree → Type 0
+abbrev pub LearnsHeld : Method → Tree → Type 0
 LearnsHeld rule t =
-    (system : Parts) (s : Settings) (opening : Tree) → IsRuleFor system s rule → IsStage (settle_by rule) rule.depth (search_box rule) leaf opening
-    → IsStage (settle_by rule) rule.depth (search_box rule) opening t → IsHonest s rule t
+    (system : Parts) (s : Settings) (opening : Tree) → IsRuleFor system s rule → IsStage (settle_by rule) rule.parts.depth (search_box rule) leaf opening
+    → IsStage (settle_by rule) rule.parts.depth (search_box rule) opening t → IsHonest s rule t
 
 -- The rounds settle their budgets of what is kept under the name, and the rows of what came of it are kept.
-abbrev pub HoldsRounds : SettlerParts → Stock → Stock → ℕ → Rounds → Tree → Type 0
-HoldsRounds rule u v boxes rounds t =
-    IsHeld (settle_by rule) rule.depth (search_box rule) (identity_of rule) (rounds.count * boxes) (u.kept rounds.name.now) (v.kept rounds.name.now) t
+abbrev pub HoldsRounds : Method → Stock → Stock → ℕ → ℕ → Rounds → Tree → Type 0
+HoldsRounds rule u v limit boxes rounds t =
+    IsHeld limit (settle_by rule) rule.parts.depth (search_box rule) (identity_of rule) (rounds.count * boxes) (u.kept rounds.name.now) (v.kept rounds.name.now) t
 
 -- what rounds by a rule give
-pub record ComesOfRounds (rule : SettlerParts) (u v : Stock) (boxes : ℕ) (rounds : Rounds) (p : Product) : Type 0 where
+pub record ComesOfRounds (rule : Method) (u v : Stock) (limit boxes : ℕ) (rounds : Rounds) (p : Product) : Type 0 where
   pub tree : Tree
-  pub held : HoldsRounds rule u v boxes rounds tree
+  pub held : HoldsRounds rule u v limit boxes rounds tree
   pub learns : LearnsHeld rule tree
   pub is : p ≡ report_as (summary_of (counts_of tree)) (is_done tree)
 
 -- `campaign` reports on what its rounds settle of what is kept
-pub record ComesOfCampaign (before : Files) (u v : Stock) (system : Text) (s : Settings) (boxes : ℕ) (rounds : Rounds) (p : Product) : Type 0 where
-  pub rule : SettlerParts
+pub record ComesOfCampaign (before : Files) (u v : Stock) (system : Text) (s : Settings) (limit boxes : ℕ) (rounds : Rounds) (p : Product) : Type 0 where
+  pub rule : Method
   pub read : HasRule before system s rule
   pub tree : Tree
-  pub held : HoldsRounds rule u v boxes rounds tree
-  pub honest : IsStage (settle_by rule) rule.depth (search_box rule) leaf held.opening → IsHonest s rule tree
+  pub held : HoldsRounds rule u v limit boxes rounds tree
+  pub honest : IsStage (settle_by rule) rule.parts.depth (search_box rule) leaf held.opening → IsHonest s rule tree
   pub is : p ≡ report_as (summary_of (counts_of tree)) (is_done tree)
 
 -- what comes of a request, over these files and of what was kept before and is kept then
 abbrev pub ComesOf : Files → Stock → Stock → Request → Product → Type 0
 ComesOf before u v (Check system) p = ComesOfCheck before system.now p
-ComesOf before u v (Run form system settings effort out) p = ComesOfRun form before system.now settings effort.boxes p
+ComesOf before u v (Run system settings effort out) p = ComesOfRun before system.now settings effort.boxes p
 ComesOf before u v (Resume system pavings settings effort out) p =
-    ComesOfResume before system.now (names_in pavings.items) settings effort.boxes p
-ComesOf before u v (Merge system pavings settings out) p = ComesOfMerge before system.now (names_in pavings.items) settings p
-ComesOf before u v (Audit form system paving settings) p = ComesOfAudit form before system.now paving.now settings p
-ComesOf before u v (Svg system paving settings view) p = ComesOfSvg before system.now paving.now settings view p
+    ComesOfResume before system.now (names_in pavings.items) settings effort.limit effort.boxes p
+ComesOf before u v (Merge system pavings settings limit out) p = ComesOfMerge before system.now (names_in pavings.items) settings limit p
+ComesOf before u v (Audit system paving settings limit) p = ComesOfAudit before system.now paving.now settings limit p
+ComesOf before u v (Svg system paving settings limit view) p = ComesOfSvg before system.now paving.now settings limit view p
 ComesOf before u v (Sample circles) p = ComesOfSample circles p
 ComesOf before u v (Least system settings search) p = ComesOfLeast before system.now settings search p
-ComesOf before u v (Campaign system settings effort rounds) p = ComesOfCampaign before u v system.now settings effort.boxes rounds p
+ComesOf before u v (Campaign system settings effort rounds) p = ComesOfCampaign before u v system.now settings effort.limit effort.boxes rounds p
 
 -- ---- Why nothing comes of them
 
 -- the join of the files has so many settled nodes, and with the budget too many
-pub record IsOverLimit (before : Files) (system : Text) (names : List Text) (s : Settings) (budget n : ℕ) : Type 0 where
-  pub rule : SettlerParts
+pub record IsOverLimit (before : Files) (system : Text) (names : List Text) (s : Settings) (limit budget n : ℕ) : Type 0 where
+  pub rule : Method
   pub trees : List Tree
   pub opening : Tree
-  pub opened : HasOpening before system names s rule trees opening
+  pub opened : HasOpening before system names s limit rule trees opening
   pub settled : n ≡ settled_in opening
-  pub many : 100000 < n + budget
+  pub many : limit < n + budget
 
-abbrev pub RefusesJoined : Files → Files → Text → List Text → Settings → ℕ → Refusal → Type 0
-RefusesJoined before after system names s budget (TreeLimit n) = IsOverLimit before system names s budget n
-RefusesJoined before after system names s budget r = RefusesOpening before after system names s r
+abbrev pub RefusesJoined : Files → Files → Text → List Text → Settings → ℕ → ℕ → Refusal → Type 0
+RefusesJoined before after system names s limit budget (TreeLimit n) = IsOverLimit before system names s limit budget n
+RefusesJoined before after system names s limit budget r = RefusesOpening before after system names s limit r
 
 -- The file's paving is no stage of the open search box: at this path, the first such one in preorder, its outcome
 -- is not the one that is due there. Both are given by their lines.
-pub record HasDifference (form : Form) (before : Files) (system name : Text) (s : Settings) (path : List Bool) (file due : List ℕ) : Type 0 where
-  pub rule : SettlerParts
+pub record HasDifference (before : Files) (system name : Text) (s : Settings) (limit : ℕ) (path : List Bool) (file due : List ℕ) : Type 0 where
+  pub rule : Method
   pub read : HasRule before system s rule
   pub tree : Tree
-  pub held : HoldsPaving before (identity_as form rule) (search_box rule) name tree
-  pub first : IsFirstDifference (settle_as form rule) rule.depth (search_box rule) tree path
+  pub held : HoldsPaving before limit (identity_of rule) (search_box rule) name tree
+  pub first : IsFirstDifference (settle_by rule) rule.parts.depth (search_box rule) tree path
   pub file_is : file ≡ outcome_line first.found
-  pub due_is : due ≡ outcome_line (due_at (settle_as form rule) rule.depth (search_box rule) tree path)
-  pub no_stage : IsStage (settle_as form rule) rule.depth (search_box rule) leaf tree → ⊥
+  pub due_is : due ≡ outcome_line (due_at (settle_by rule) rule.parts.depth (search_box rule) tree path)
+  pub no_stage : IsStage (settle_by rule) rule.parts.depth (search_box rule) leaf tree → ⊥
 
 -- the system is there, and the file is refused
-pub record HasBadPaving (form : Form) (before after : Files) (system name : Text) (s : Settings) (r : Refusal) : Type 0 where
-  pub rule : SettlerParts
+pub record HasBadPaving (before after : Files) (system name : Text) (s : Settings) (limit : ℕ) (r : Refusal) : Type 0 where
+  pub rule : Method
   pub read : HasRule before system s rule
-  pub refused : RefusesFile before after (identity_as form rule) (search_box rule) name r
+  pub refused : RefusesFile before after limit (identity_of rule) (search_box rule) name r
 
-abbrev pub RefusesAudit : Form → Files → Files → Text → Text → Settings → Refusal → Type 0
-RefusesAudit form before after system name s (Differs path file due) = HasDifference form before system name s path file.items due.items
-RefusesAudit form before after system name s r = RefusesRule before after system s r ⊎ HasBadPaving form before after system name s r
+abbrev pub RefusesAudit : Files → Files → Text → Text → Settings → ℕ → Refusal → Type 0
+RefusesAudit before after system name s limit (Differs path file due) = HasDifference before system name s limit path file.items due.items
+RefusesAudit before after system name s limit r = RefusesRule before after system s r ⊎ HasBadPaving before after system name s limit r
 
 -- the system has no such plane
 pub record HasNoPlaneIn (before : Files) (system : Text) (s : Settings) (v : View) : Type 0 where
-  pub rule : SettlerParts
+  pub rule : Method
   pub read : HasRule before system s rule
-  pub none : HasNoPlane rule.system v.x.now v.y.now v.at.items
+  pub none : HasNoPlane rule.parts.system v.x.now v.y.now v.at.items
 
 -- it has the plane, and the file is refused
-pub record HasNoPicture (before after : Files) (system name : Text) (s : Settings) (v : View) (r : Refusal) : Type 0 where
-  pub rule : SettlerParts
+pub record HasNoPicture (before after : Files) (system name : Text) (s : Settings) (limit : ℕ) (v : View) (r : Refusal) : Type 0 where
+  pub rule : Method
   pub read : HasRule before system s rule
   pub plane : Plane
-  pub shown : IsPlaneOf rule.system v.x.now v.y.now v.at.items plane
-  pub refused : RefusesPaving before after rule name r
+  pub shown : IsPlaneOf rule.parts.system v.x.now v.y.now v.at.items plane
+  pub refused : RefusesPaving before after limit rule name r
 
 -- why there is no picture: the first refusal of the system, of its settings, of the plane and of the file
-abbrev pub RefusesSvg : Files → Files → Text → Text → Settings → View → Refusal → Type 0
-RefusesSvg before after system name s v Usage = HasNoPlaneIn before system s v
-RefusesSvg before after system name s v r = RefusesRule before after system s r ⊎ HasNoPicture before after system name s v r
+abbrev pub RefusesSvg : Files → Files → Text → Text → Settings → ℕ → View → Refusal → Type 0
+RefusesSvg before after system name s limit v Usage = HasNoPlaneIn before system s v
+RefusesSvg before after system name s limit v r = RefusesRule before after system s r ⊎ HasNoPicture before after system name s limit v r
 
 -- why there is no sample: for want of memory alone, since the reader takes each text of circles
 abbrev pub RefusesSample : Refusal → Type 0
@@ -303,13 +296,13 @@ RefusesSample _ = ⊥
 
 abbrev pub RefusesWork : Files → Files → Stock → Stock → Request → Refusal → Type 0
 RefusesWork before after u v (Check system) r = RefusesSystem before after system.now r
-RefusesWork before after u v (Run form system settings effort out) r = RefusesRule before after system.now settings r
+RefusesWork before after u v (Run system settings effort out) r = RefusesRule before after system.now settings r
 RefusesWork before after u v (Resume system pavings settings effort out) r =
-    RefusesJoined before after system.now (names_in pavings.items) settings effort.boxes r
-RefusesWork before after u v (Merge system pavings settings out) r =
-    RefusesJoined before after system.now (names_in pavings.items) settings 0 r
-RefusesWork before after u v (Audit form system paving settings) r = RefusesAudit form before after system.now paving.now settings r
-RefusesWork before after u v (Svg system paving settings view) r = RefusesSvg before after system.now paving.now settings view r
+    RefusesJoined before after system.now (names_in pavings.items) settings effort.limit effort.boxes r
+RefusesWork before after u v (Merge system pavings settings limit out) r =
+    RefusesJoined before after system.now (names_in pavings.items) settings limit 0 r
+RefusesWork before after u v (Audit system paving settings limit) r = RefusesAudit before after system.now paving.now settings limit r
+RefusesWork before after u v (Svg system paving settings limit view) r = RefusesSvg before after system.now paving.now settings limit view r
 RefusesWork before after u v (Sample circles) r = RefusesSample r
 RefusesWork before after u v (Least system settings search) r = RefusesLeast before after system.now settings search.of.now r
-RefusesWork before after u v (Campaign system settings effort rounds) r = RefusesCampaign before after u v system.now settings effort.boxes rounds r
+RefusesWork before after u v (Campaign system settings effort rounds) r = RefusesCampaign before after u v system.now settings effort.limit effort.boxes rounds r

@@ -1,12 +1,12 @@
 -- Pavings that were read, as the code holds them.
 use Rattle.std.specs.Prelude.{◌≡◌, ℕ, Bool, Some, List, [], ◌∷◌, map, length}
-use Rattle.pv_settle.specs.Rules.{SettlerParts, dims_of}
-use Rattle.pv_settle.specs.Spelling.{identity_of}
+use Rattle.pv_slope.specs.Methods.{Method, dims_of}
+use Rattle.pv_slope.specs.Methods.{identity_of}
 use Rattle.pv_interval.specs.Bounds.{Bounds}
 use Rattle.pv_tree.specs.Trees.{Tree, Seen, outcome_at}
 use Rattle.pv_tree.specs.declared.outcome.Outcome.{Outcome}
 use Rattle.pv_file.specs.Lines.{outcome_line}
-use Rattle.pv_settle.specs.Settlers.{rule_of}
+use Rattle.pv_slope.specs.Methods.{method_of}
 use Rattle.pv_cli.specs.Systems.{Files, search_box}
 use Rattle.pv_cli.specs.Files.{HasPaving, HasOpening}
 use Rattle.pv_cli.specs.declared.request.Settings.{Settings}
@@ -15,24 +15,25 @@ use Rattle.pv_cli.specs.declared.refusal.Refusal.{Refusal}
 use Rattle.pv_cli.specs.declared.refusal.Refusal.TheVariants.{Disagree, Differs, Memory}
 use Rattle.pv_cli.specs.declared.pavings.Key.{Key}
 
--- the key of the paving files of a box, for an identity
-pub record IsKey (hash : List ℕ) (b : List Bounds) (key : Key) : Type 0 where
+-- the key of the paving files of a box, for an identity and within a limit
+pub record IsKey (limit : ℕ) (hash : List ℕ) (b : List Bounds) (key : Key) : Type 0 where
   pub identity : key.identity ≡ hash
   pub root : key.root ≡ b
+  pub limit_is : key.limit ≡ limit
 
 -- the key of a rule's paving files
-abbrev pub IsKeyOf : SettlerParts → Key → Type 0
-IsKeyOf rule key = IsKey (identity_of rule) (search_box rule) key
+abbrev pub IsKeyOf : Method → ℕ → Key → Type 0
+IsKeyOf rule limit key = IsKey limit (identity_of rule) (search_box rule) key
 
 abbrev pub trees_of : List Seen → List Tree
 trees_of = map (λ p. p.tree)
 
 -- the files of these names hold these pavings of the search box
-abbrev pub AreRead : Files → SettlerParts → List (List ℕ) → List Seen → Type 0
-AreRead before rule [] [] = Unit {0}
-AreRead before rule [] (p ∷ ps) = ⊥
-AreRead before rule (n ∷ ns) [] = ⊥
-AreRead before rule (n ∷ ns) (p ∷ ps) = (p.root ≡ search_box rule) × HasPaving before rule n p.tree × AreRead before rule ns ps
+abbrev pub AreRead : Files → ℕ → Method → List (List ℕ) → List Seen → Type 0
+AreRead before limit rule [] [] = Unit {0}
+AreRead before limit rule [] (p ∷ ps) = ⊥
+AreRead before limit rule (n ∷ ns) [] = ⊥
+AreRead before limit rule (n ∷ ns) (p ∷ ps) = (p.root ≡ search_box rule) × HasPaving before limit rule n p.tree × AreRead before limit rule ns ps
 
 -- pavings over a box
 abbrev pub AreOver : List Bounds → List Seen → Type 0
@@ -56,8 +57,8 @@ IsDiffers file path due Memory = Unit {0}
 IsDiffers file path due _ = ⊥
 
 -- a settler and the join of its paving files
-pub record IsOpened (before : Files) (system : List ℕ) (names : List (List ℕ)) (s : Settings) (o : Opening) : Type 0 where
+pub record IsOpened (before : Files) (system : List ℕ) (names : List (List ℕ)) (s : Settings) (limit : ℕ) (o : Opening) : Type 0 where
   pub trees : List Tree
-  pub opening : HasOpening before system names s (rule_of o.settler) trees o.paving.tree
-  pub root : o.paving.root ≡ search_box (rule_of o.settler)
-  pub dims : length o.paving.root ≡ dims_of (rule_of o.settler)
+  pub opening : HasOpening before system names s limit (method_of o.settler) trees o.paving.tree
+  pub root : o.paving.root ≡ search_box (method_of o.settler)
+  pub dims : length o.paving.root ≡ dims_of (method_of o.settler)

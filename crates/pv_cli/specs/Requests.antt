@@ -11,8 +11,8 @@ use Rattle.pv_box.specs.declared.choice.Bisector.{Bisector}
 use Rattle.pv_box.specs.declared.choice.Bisector.TheVariants.{Largest, Round}
 use Rattle.pv_tokens.specs.Numbers.{IsRead}
 use Rattle.pv_cli.specs.Commands.{paver_app}
-use Rattle.pv_cli.specs.declared.request.Form.{Form}
-use Rattle.pv_cli.specs.declared.request.Form.TheVariants.{Natural, Centered}
+use Rattle.pv_slope.specs.declared.form.Form.{Form}
+use Rattle.pv_slope.specs.declared.form.Form.TheVariants.{Plain, Centered}
 use Rattle.pv_cli.specs.declared.request.Settings.{Settings}
 use Rattle.pv_cli.specs.declared.request.Effort.{Effort}
 use Rattle.pv_cli.specs.declared.request.View.{View}
@@ -68,6 +68,10 @@ AreLevels [] (n ∷ ns) = ⊥
 AreLevels (t ∷ ts) [] = ⊥
 AreLevels (t ∷ ts) (n ∷ ns) = IsLevel t n × AreLevels ts ns
 
+abbrev pub form_name : Form → Text
+form_name Plain = codes "plain"
+form_name Centered = codes "centered"
+
 abbrev pub bisector_name : Bisector → Text
 bisector_name Largest = codes "largest"
 bisector_name Round = codes "round"
@@ -88,23 +92,40 @@ bisect_text = value_of (codes "bisect") (codes "largest")
 abbrev pub contract_text : List Row → Text
 contract_text = value_of (codes "contract") (codes "prop(8)")
 
+-- the form's name, or that of the form which a command has by itself
+abbrev pub form_text : Form → List Row → Text
+form_text usual = value_of (codes "form") (form_name usual)
+
+abbrev pub limit_text : List Row → Text
+limit_text = value_of (codes "limit") (codes "100000")
+
+-- the number that it writes
+abbrev pub limit_value : List Row → ℕ
+limit_value rows = digits_value 10 (limit_text rows)
+
 abbrev pub workers_text : List Row → Text
 workers_text = value_of (codes "workers") (codes "4")
 
 abbrev pub boxes_text : List Row → Text
 boxes_text = value_of (codes "boxes") (codes "20000")
 
--- the settings that the options give
-pub record AreSettings (rows : List Row) (s : Settings) : Type 0 where
+-- the settings that the options give of a command which has a form by itself
+pub record AreSettings (usual : Form) (rows : List Row) (s : Settings) : Type 0 where
   pub eps : IsWidth (eps_text rows) s.eps
   pub depth : IsCount 1 200 (depth_text rows) s.depth
   pub bisector : bisect_text rows ≡ bisector_name s.bisector
   pub contract : s.contract.now ≡ contract_text rows
+  pub form : form_text usual rows ≡ form_name s.form
 
--- the threads and the budget that the options give
+-- the most settled nodes that a tree may have
+abbrev pub IsNodeLimit : List Row → ℕ → Type 0
+IsNodeLimit rows n = IsCount 100000 100000000 (limit_text rows) n
+
+-- the threads, the budget and the limit that the options give
 pub record IsEffort (rows : List Row) (e : Effort) : Type 0 where
+  pub limit : IsNodeLimit rows e.limit
   pub workers : IsCount 1 16 (workers_text rows) e.workers
-  pub boxes : IsCount 1 100000 (boxes_text rows) e.boxes
+  pub boxes : IsCount 1 e.limit (boxes_text rows) e.boxes
 
 -- the name of the system
 abbrev pub system_name : List Row → Text
@@ -150,10 +171,11 @@ pub record AreCircles (rows : List Row) (c : Circles) : Type 0 where
   pub seed : IsCount 0 2147483647 (seed_text rows) c.seed
   pub count : IsCount 1 16 (count_text rows) c.count
 
--- the expression and the budget that the options give
+-- the expression, the budget and the limit that the options give
 pub record IsSearch (rows : List Row) (s : Search) : Type 0 where
   pub of : s.of.now ≡ value_of (codes "of") [] rows
-  pub boxes : IsCount 1 100000 (boxes_text rows) s.boxes
+  pub limit : IsNodeLimit rows s.limit
+  pub boxes : IsCount 1 s.limit (boxes_text rows) s.boxes
 
 abbrev pub rounds_text : List Row → Text
 rounds_text = value_of (codes "rounds") (codes "1")
@@ -168,19 +190,29 @@ abbrev pub HasBadLevels : List Row → Type 0
 HasBadLevels rows = (ns : List Extended) → AreGiven rows ns → ⊥
 
 -- a setting has another spelling, or is outside its range
-pub data HasBadSetting (rows : List Row) : Type 0 where
-  bad_eps : ((n : Extended) → IsWidth (eps_text rows) n → ⊥) → HasBadSetting rows
-  bad_depth : ((n : ℕ) → IsCount 1 200 (depth_text rows) n → ⊥) → HasBadSetting rows
-  bad_bisector : ((b : Bisector) → bisect_text rows ≡ bisector_name b → ⊥) → HasBadSetting rows
+pub data HasBadSetting (usual : Form) (rows : List Row) : Type 0 where
+  bad_eps : ((n : Extended) → IsWidth (eps_text rows) n → ⊥) → HasBadSetting usual rows
+  bad_depth : ((n : ℕ) → IsCount 1 200 (depth_text rows) n → ⊥) → HasBadSetting usual rows
+  bad_bisector : ((b : Bisector) → bisect_text rows ≡ bisector_name b → ⊥) → HasBadSetting usual rows
+  bad_form : ((f : Form) → form_text usual rows ≡ form_name f → ⊥) → HasBadSetting usual rows
 
--- so is the number of threads, or the budget
+-- so is the limit
+abbrev pub HasBadLimit : List Row → Type 0
+HasBadLimit rows = (n : ℕ) → IsNodeLimit rows n → ⊥
+
+-- so is the budget, which the limit bounds
+abbrev pub HasBadBoxes : List Row → Type 0
+HasBadBoxes rows = (n : ℕ) → IsCount 1 (limit_value rows) (boxes_text rows) n → ⊥
+
+-- so is the limit, the number of threads, or the budget
 pub data HasBadEffort (rows : List Row) : Type 0 where
+  bad_limit : HasBadLimit rows → HasBadEffort rows
   bad_workers : ((n : ℕ) → IsCount 1 16 (workers_text rows) n → ⊥) → HasBadEffort rows
-  bad_boxes : ((n : ℕ) → IsCount 1 100000 (boxes_text rows) n → ⊥) → HasBadEffort rows
+  bad_boxes : HasBadBoxes rows → HasBadEffort rows
 
--- so is the budget of a search
+-- so is the limit or the budget of a search
 abbrev pub HasBadBudget : List Row → Type 0
-HasBadBudget rows = (n : ℕ) → IsCount 1 100000 (boxes_text rows) n → ⊥
+HasBadBudget rows = HasBadLimit rows ⊎ HasBadBoxes rows
 
 -- so is the number of rounds
 abbrev pub HasBadRounds : List Row → Type 0
@@ -198,11 +230,11 @@ HasManyPavings rows = 8 < length (paving_names rows)
 -- ---- The commands
 
 abbrev pub run_name : Form → Text
-run_name Natural = codes "run"
+run_name Plain = codes "run"
 run_name Centered = codes "run-centered"
 
 abbrev pub audit_name : Form → Text
-audit_name Natural = codes "audit"
+audit_name Plain = codes "audit"
 audit_name Centered = codes "audit-centered"
 
 pub data Command : Type 0 where
@@ -230,14 +262,14 @@ name_of keeps = codes "campaign"
 -- a value is refused that the command takes
 abbrev pub HasBadValueFor : Command → List Row → Type 0
 HasBadValueFor checks rows = ⊥
-HasBadValueFor (runs form) rows = HasBadSetting rows ⊎ HasBadEffort rows
-HasBadValueFor resumes rows = HasManyPavings rows ⊎ (HasBadSetting rows ⊎ HasBadEffort rows)
-HasBadValueFor merges rows = HasManyPavings rows ⊎ HasBadSetting rows
-HasBadValueFor (audits form) rows = HasBadSetting rows
-HasBadValueFor draws rows = HasBadLevels rows ⊎ HasBadSetting rows
+HasBadValueFor (runs usual) rows = HasBadSetting usual rows ⊎ HasBadEffort rows
+HasBadValueFor resumes rows = HasManyPavings rows ⊎ (HasBadSetting Plain rows ⊎ HasBadEffort rows)
+HasBadValueFor merges rows = HasManyPavings rows ⊎ (HasBadSetting Plain rows ⊎ HasBadLimit rows)
+HasBadValueFor (audits usual) rows = HasBadSetting usual rows ⊎ HasBadLimit rows
+HasBadValueFor draws rows = HasBadLevels rows ⊎ (HasBadSetting Plain rows ⊎ HasBadLimit rows)
 HasBadValueFor samples rows = HasBadCircles rows
-HasBadValueFor seeks rows = HasBadSetting rows ⊎ HasBadBudget rows
-HasBadValueFor keeps rows = HasBadSetting rows ⊎ (HasBadEffort rows ⊎ HasBadRounds rows)
+HasBadValueFor seeks rows = HasBadSetting Plain rows ⊎ HasBadBudget rows
+HasBadValueFor keeps rows = HasBadSetting Plain rows ⊎ (HasBadEffort rows ⊎ HasBadRounds rows)
 
 -- so it is for the command of this name
 pub record HasBadValue (name : Text) (rows : List Row) : Type 0 where
@@ -245,28 +277,32 @@ pub record HasBadValue (name : Text) (rows : List Row) : Type 0 where
   pub named : name ≡ name_of command
   pub bad : HasBadValueFor command rows
 
+-- the command has this name for one of the forms, which is then its own where the options give none
+abbrev pub IsByForm : (Form → Text) → Text → List Row → Settings → Type 0
+IsByForm names command rows s = (usual : Form) × ((command ≡ names usual) × AreSettings usual rows s)
+
 -- the command of this name, with what was found for its words and options, asks for this
 abbrev pub IsAskedBy : Text → List Row → Request → Type 0
 IsAskedBy command rows (Check system) = (command ≡ codes "check") × (system.now ≡ system_name rows)
-IsAskedBy command rows (Run form system settings effort out) =
-    (command ≡ run_name form) × (system.now ≡ system_name rows) × AreSettings rows settings × IsEffort rows effort × IsOut rows out
+IsAskedBy command rows (Run system settings effort out) =
+    IsByForm run_name command rows settings × (system.now ≡ system_name rows) × IsEffort rows effort × IsOut rows out
 IsAskedBy command rows (Resume system pavings settings effort out) =
-    (command ≡ codes "resume") × (system.now ≡ system_name rows) × ArePavings rows pavings.items × AreSettings rows settings
+    (command ≡ codes "resume") × (system.now ≡ system_name rows) × ArePavings rows pavings.items × AreSettings Plain rows settings
     × IsEffort rows effort × IsOut rows out
-IsAskedBy command rows (Merge system pavings settings out) =
-    (command ≡ codes "merge") × (system.now ≡ system_name rows) × ArePavings rows pavings.items × AreSettings rows settings
-    × IsOut rows out
-IsAskedBy command rows (Audit form system paving settings) =
-    (command ≡ audit_name form) × (system.now ≡ system_name rows) × (paving.now ≡ value_of (codes "PAVING") [] rows)
-    × AreSettings rows settings
-IsAskedBy command rows (Svg system paving settings view) =
+IsAskedBy command rows (Merge system pavings settings limit out) =
+    (command ≡ codes "merge") × (system.now ≡ system_name rows) × ArePavings rows pavings.items × AreSettings Plain rows settings
+    × IsNodeLimit rows limit × IsOut rows out
+IsAskedBy command rows (Audit system paving settings limit) =
+    IsByForm audit_name command rows settings × (system.now ≡ system_name rows) × (paving.now ≡ value_of (codes "PAVING") [] rows)
+    × IsNodeLimit rows limit
+IsAskedBy command rows (Svg system paving settings limit view) =
     (command ≡ codes "svg") × (system.now ≡ system_name rows) × (paving.now ≡ value_of (codes "PAVING") [] rows)
-    × AreSettings rows settings × IsView rows view
+    × AreSettings Plain rows settings × IsNodeLimit rows limit × IsView rows view
 IsAskedBy command rows (Sample circles) = (command ≡ codes "sample") × AreCircles rows circles
 IsAskedBy command rows (Least system settings search) =
-    (command ≡ codes "least") × (system.now ≡ system_name rows) × AreSettings rows settings × IsSearch rows search
+    (command ≡ codes "least") × (system.now ≡ system_name rows) × AreSettings Plain rows settings × IsSearch rows search
 IsAskedBy command rows (Campaign system settings effort rounds) =
-    (command ≡ codes "campaign") × (system.now ≡ system_name rows) × AreSettings rows settings × IsEffort rows effort × IsRounds rows rounds
+    (command ≡ codes "campaign") × (system.now ≡ system_name rows) × AreSettings Plain rows settings × IsEffort rows effort × IsRounds rows rounds
 
 abbrev pub IsAsked : Option (Text × List Row) → Request → Type 0
 IsAsked None q = ⊥
@@ -287,11 +323,11 @@ AreRefused words = (fault_of paver_app words ≢ []) ⊎ HasBadValueIn (subcomma
 -- the file that is asked for
 abbrev pub out_of : Request → Option Text
 out_of (Check system) = None
-out_of (Run form system settings effort out) = option_map (λ name. name.now) out
+out_of (Run system settings effort out) = option_map (λ name. name.now) out
 out_of (Resume system pavings settings effort out) = option_map (λ name. name.now) out
-out_of (Merge system pavings settings out) = option_map (λ name. name.now) out
-out_of (Audit form system paving settings) = None
-out_of (Svg system paving settings view) = None
+out_of (Merge system pavings settings limit out) = option_map (λ name. name.now) out
+out_of (Audit system paving settings limit) = None
+out_of (Svg system paving settings limit view) = None
 out_of (Sample circles) = None
 out_of (Least system settings search) = None
 out_of (Campaign system settings effort rounds) = None
@@ -299,11 +335,11 @@ out_of (Campaign system settings effort rounds) = None
 -- the name of the campaign that is asked for
 abbrev pub campaign_of : Request → Option Text
 campaign_of (Check system) = None
-campaign_of (Run form system settings effort out) = None
+campaign_of (Run system settings effort out) = None
 campaign_of (Resume system pavings settings effort out) = None
-campaign_of (Merge system pavings settings out) = None
-campaign_of (Audit form system paving settings) = None
-campaign_of (Svg system paving settings view) = None
+campaign_of (Merge system pavings settings limit out) = None
+campaign_of (Audit system paving settings limit) = None
+campaign_of (Svg system paving settings limit view) = None
 campaign_of (Sample circles) = None
 campaign_of (Least system settings search) = None
 campaign_of (Campaign system settings effort rounds) = Some rounds.name.now

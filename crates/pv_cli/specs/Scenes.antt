@@ -3,7 +3,7 @@ use Rattle.std.specs.Prelude.{List}
 use Rattle.clap.specs.Words.{Text}
 use Rattle.pv_num.specs.Extended.{Extended}
 use Rattle.pv_svg.specs.Planes.{Plane}
-use Rattle.pv_settle.specs.Settlers.{rule_of}
+use Rattle.pv_slope.specs.Methods.{method_of}
 use Rattle.pv_cli.specs.Systems.{Files, HasRule, RefusesRule}
 use Rattle.pv_cli.specs.Views.{IsPlaneOf}
 use Rattle.pv_cli.specs.Products.{HasNoPlaneIn}
@@ -19,8 +19,8 @@ plane_of axes at = record { x = axes.x; y = axes.y; at = at }
 
 -- a settler of the system in a file, and the axes of a view of its pavings
 pub record IsScene (before : Files) (system : Text) (s : Settings) (v : View) (scene : Scene) : Type 0 where
-  pub read : HasRule before system s (rule_of scene.settler)
-  pub plane : IsPlaneOf (rule_of scene.settler).system v.x.now v.y.now v.at.items (plane_of scene.axes v.at.items)
+  pub read : HasRule before system s (method_of scene.settler)
+  pub plane : IsPlaneOf (method_of scene.settler).parts.system v.x.now v.y.now v.at.items (plane_of scene.axes v.at.items)
 
 -- why there are none
 abbrev pub RefusesScene : Files → Files → Text → Settings → View → Refusal → Type 0

@@ -3,13 +3,12 @@ use Rattle.std.specs.Prelude.{◌≡◌, ◌≢◌, ◌⊎◌, ◌+◌, ◌*◌,
 use Rattle.clap.specs.Words.{Text}
 use Rattle.pv_tree.specs.Trees.{Tree, leaf, opens, counts_of}
 use Rattle.pv_tree.specs.Stages.{IsStage}
-use Rattle.pv_settle.specs.Rules.{SettlerParts}
-use Rattle.pv_settle.specs.Settling.{settle_by}
-use Rattle.pv_settle.specs.Spelling.{identity_of}
+use Rattle.pv_slope.specs.Methods.{Method}
+use Rattle.pv_slope.specs.Methods.{settle_by}
+use Rattle.pv_slope.specs.Methods.{identity_of}
 use Rattle.pv_io.specs.Outside.{Rose}
 use Rattle.pv_cli.specs.Requests.{names_in, out_of, Asks, AreRefused}
 use Rattle.pv_cli.specs.Refusals.{status_of, line_of}
-use Rattle.pv_cli.specs.Forms.{settle_as, identity_as}
 use Rattle.pv_cli.specs.Systems.{Files, HasRule, search_box}
 use Rattle.pv_cli.specs.Pavings.{FullFits, settled_in}
 use Rattle.pv_cli.specs.Files.{HasOpening}
@@ -17,10 +16,8 @@ use Rattle.pv_cli.specs.Leasts.{HasLeast, next_in, least_text}
 use Rattle.pv_keep.specs.Keeping.{Kept}
 use Rattle.pv_keep.specs.Campaigns.{IsOpened, IsSaved}
 use Rattle.pv_cli.specs.Campaigns.{Stock, IsSameStock, AllRowsStay}
-use Rattle.pv_cli.specs.Products.{Product, text, unfinished, paved, summary_of, IsHonestBy, IsHonest, AreStages, full_as, full_by, ComesOf, ComesOfCheck, ComesOfAudit, ComesOfSvg, ComesOfSample, RefusesWork}
+use Rattle.pv_cli.specs.Products.{Product, text, unfinished, paved, summary_of, IsHonest, AreStages, full_by, ComesOf, ComesOfCheck, ComesOfAudit, ComesOfSvg, ComesOfSample, RefusesWork}
 use Rattle.pv_cli.specs.Ends.{Outside, AreUntouched, IsDelivered, IsCutOff, IsLost, IsTold, IsEnd}
-use Rattle.pv_cli.specs.declared.request.Form.{Form}
-use Rattle.pv_cli.specs.declared.request.Form.TheVariants.{Natural}
 use Rattle.pv_cli.specs.declared.request.Settings.{Settings}
 use Rattle.pv_cli.specs.declared.request.Circles.{Circles}
 use Rattle.pv_cli.specs.declared.request.Search.{Search}
@@ -37,27 +34,27 @@ use Rattle.pv_cli.specs.declared.status.Status.TheVariants.{Done, OpenLeft, Usag
 -- ---- Status 0: no leaf is open
 
 -- the full tree of the open search box
-pub record IsFullRun (form : Form) (before : Files) (system : Text) (s : Settings) (p : Product) : Type 0 where
-  pub rule : SettlerParts
+pub record IsFullRun (before : Files) (system : Text) (s : Settings) (p : Product) : Type 0 where
+  pub rule : Method
   pub read : HasRule before system s rule
-  pub honest : IsHonestBy (settle_as form rule) s rule (full_as form rule leaf)
-  pub is : p ≡ paved (identity_as form rule) (search_box rule) (full_as form rule leaf)
+  pub honest : IsHonest s rule (full_by rule leaf)
+  pub is : p ≡ paved (identity_of rule) (search_box rule) (full_by rule leaf)
 
 -- the full tree of the join of the files
-pub record IsFullResume (before : Files) (system : Text) (names : List Text) (s : Settings) (p : Product) : Type 0 where
-  pub rule : SettlerParts
+pub record IsFullResume (before : Files) (system : Text) (names : List Text) (s : Settings) (limit : ℕ) (p : Product) : Type 0 where
+  pub rule : Method
   pub trees : List Tree
   pub opening : Tree
-  pub opened : HasOpening before system names s rule trees opening
+  pub opened : HasOpening before system names s limit rule trees opening
   pub honest : AreStages rule trees → IsHonest s rule (full_by rule opening)
   pub is : p ≡ paved (identity_of rule) (search_box rule) (full_by rule opening)
 
 -- the join of the files, without an open leaf
-pub record IsClosedJoin (before : Files) (system : Text) (names : List Text) (s : Settings) (p : Product) : Type 0 where
-  pub rule : SettlerParts
+pub record IsClosedJoin (before : Files) (system : Text) (names : List Text) (s : Settings) (limit : ℕ) (p : Product) : Type 0 where
+  pub rule : Method
   pub trees : List Tree
   pub tree : Tree
-  pub opened : HasOpening before system names s rule trees tree
+  pub opened : HasOpening before system names s limit rule trees tree
   pub closed : opens tree ≡ []
   pub honest : AreStages rule trees → IsHonest s rule tree
   pub is : p ≡ paved (identity_of rule) (search_box rule) tree
@@ -70,26 +67,26 @@ pub record IsFinalLeast (before : Files) (system : Text) (s : Settings) (search 
   pub is : p ≡ text (least_text least)
 
 -- The full tree of what was kept when the campaign was opened; its rows are kept now.
-pub record IsFullCampaign (before : Files) (u v : Stock) (system : Text) (s : Settings) (rounds : Rounds) (p : Product) : Type 0 where
-  pub rule : SettlerParts
+pub record IsFullCampaign (before : Files) (u v : Stock) (system : Text) (s : Settings) (limit : ℕ) (rounds : Rounds) (p : Product) : Type 0 where
+  pub rule : Method
   pub read : HasRule before system s rule
   pub opening : Tree
   pub middle : Kept
-  pub opened : IsOpened (u.kept rounds.name.now) middle (identity_of rule) (search_box rule) opening
+  pub opened : IsOpened limit (u.kept rounds.name.now) middle (identity_of rule) (search_box rule) opening
   pub kept : IsSaved middle (v.kept rounds.name.now) (full_by rule opening)
-  pub honest : IsStage (settle_by rule) rule.depth (search_box rule) leaf opening → IsHonest s rule (full_by rule opening)
+  pub honest : IsStage (settle_by rule) rule.parts.depth (search_box rule) leaf opening → IsHonest s rule (full_by rule opening)
   pub is : p ≡ text (summary_of (counts_of (full_by rule opening)))
 
 abbrev pub IsWhole : Files → Stock → Stock → Request → Product → Type 0
 IsWhole before u v (Check system) p = ComesOfCheck before system.now p
-IsWhole before u v (Run form system settings effort out) p = IsFullRun form before system.now settings p
-IsWhole before u v (Resume system pavings settings effort out) p = IsFullResume before system.now (names_in pavings.items) settings p
-IsWhole before u v (Merge system pavings settings out) p = IsClosedJoin before system.now (names_in pavings.items) settings p
-IsWhole before u v (Audit form system paving settings) p = ComesOfAudit form before system.now paving.now settings p
-IsWhole before u v (Svg system paving settings view) p = ComesOfSvg before system.now paving.now settings view p
+IsWhole before u v (Run system settings effort out) p = IsFullRun before system.now settings p
+IsWhole before u v (Resume system pavings settings effort out) p = IsFullResume before system.now (names_in pavings.items) settings effort.limit p
+IsWhole before u v (Merge system pavings settings limit out) p = IsClosedJoin before system.now (names_in pavings.items) settings limit p
+IsWhole before u v (Audit system paving settings limit) p = ComesOfAudit before system.now paving.now settings limit p
+IsWhole before u v (Svg system paving settings limit view) p = ComesOfSvg before system.now paving.now settings limit view p
 IsWhole before u v (Sample circles) p = ComesOfSample circles p
 IsWhole before u v (Least system settings search) p = IsFinalLeast before system.now settings search p
-IsWhole before u v (Campaign system settings effort rounds) p = IsFullCampaign before u v system.now settings rounds p
+IsWhole before u v (Campaign system settings effort rounds) p = IsFullCampaign before u v system.now settings effort.limit rounds p
 
 -- what was asked for came to this, was stored and printed, and nothing was told
 pub record IsDelivery (says : Files → Stock → Stock → Request → Product → Type 0) (words : List Text) (before after : Outside) : Type 0 where
@@ -106,35 +103,35 @@ DoneIsWhole = (words : List Text) (before after : Outside) → IsEnd words befor
 -- ---- Status 1: a leaf is open
 
 -- exactly the budget was settled of what the work began with, and that is not enough
-pub record IsCutShort (form : Form) (rule : SettlerParts) (opening : Tree) (budget : ℕ) (t : Tree) : Type 0 where
+pub record IsCutShort (rule : Method) (opening : Tree) (budget : ℕ) (t : Tree) : Type 0 where
   pub open_left : opens t ≢ []
   pub spent : settled_in t ≡ settled_in opening + budget
-  pub short : FullFits (settle_as form rule) rule.depth (search_box rule) opening budget → ⊥
+  pub short : FullFits (settle_by rule) rule.parts.depth (search_box rule) opening budget → ⊥
 
-pub record IsPartRun (form : Form) (before : Files) (system : Text) (s : Settings) (budget : ℕ) (p : Product) : Type 0 where
-  pub rule : SettlerParts
+pub record IsPartRun (before : Files) (system : Text) (s : Settings) (budget : ℕ) (p : Product) : Type 0 where
+  pub rule : Method
   pub read : HasRule before system s rule
   pub tree : Tree
-  pub part : IsCutShort form rule leaf budget tree
-  pub honest : IsHonestBy (settle_as form rule) s rule tree
-  pub is : p ≡ paved (identity_as form rule) (search_box rule) tree
+  pub part : IsCutShort rule leaf budget tree
+  pub honest : IsHonest s rule tree
+  pub is : p ≡ paved (identity_of rule) (search_box rule) tree
 
-pub record IsPartResume (before : Files) (system : Text) (names : List Text) (s : Settings) (budget : ℕ) (p : Product) : Type 0 where
-  pub rule : SettlerParts
+pub record IsPartResume (before : Files) (system : Text) (names : List Text) (s : Settings) (limit budget : ℕ) (p : Product) : Type 0 where
+  pub rule : Method
   pub trees : List Tree
   pub opening : Tree
-  pub opened : HasOpening before system names s rule trees opening
+  pub opened : HasOpening before system names s limit rule trees opening
   pub tree : Tree
-  pub part : IsCutShort Natural rule opening budget tree
+  pub part : IsCutShort rule opening budget tree
   pub honest : AreStages rule trees → IsHonest s rule tree
   pub is : p ≡ paved (identity_of rule) (search_box rule) tree
 
 -- the join of the files, with an open leaf
-pub record IsOpenJoin (before : Files) (system : Text) (names : List Text) (s : Settings) (p : Product) : Type 0 where
-  pub rule : SettlerParts
+pub record IsOpenJoin (before : Files) (system : Text) (names : List Text) (s : Settings) (limit : ℕ) (p : Product) : Type 0 where
+  pub rule : Method
   pub trees : List Tree
   pub tree : Tree
-  pub opened : HasOpening before system names s rule trees tree
+  pub opened : HasOpening before system names s limit rule trees tree
   pub open_left : opens tree ≢ []
   pub honest : AreStages rule trees → IsHonest s rule tree
   pub is : p ≡ paved (identity_of rule) (search_box rule) tree
@@ -147,29 +144,29 @@ pub record IsPartLeast (before : Files) (system : Text) (s : Settings) (search :
   pub is : p ≡ unfinished (least_text least)
 
 -- Exactly the budgets of all rounds were settled of it, and that is not enough; the rows of what came of it are kept now.
-pub record IsPartCampaign (before : Files) (u v : Stock) (system : Text) (s : Settings) (boxes : ℕ) (rounds : Rounds) (p : Product) : Type 0 where
-  pub rule : SettlerParts
+pub record IsPartCampaign (before : Files) (u v : Stock) (system : Text) (s : Settings) (limit boxes : ℕ) (rounds : Rounds) (p : Product) : Type 0 where
+  pub rule : Method
   pub read : HasRule before system s rule
   pub opening : Tree
   pub middle : Kept
-  pub opened : IsOpened (u.kept rounds.name.now) middle (identity_of rule) (search_box rule) opening
+  pub opened : IsOpened limit (u.kept rounds.name.now) middle (identity_of rule) (search_box rule) opening
   pub tree : Tree
-  pub part : IsCutShort Natural rule opening (rounds.count * boxes) tree
+  pub part : IsCutShort rule opening (rounds.count * boxes) tree
   pub kept : IsSaved middle (v.kept rounds.name.now) tree
-  pub honest : IsStage (settle_by rule) rule.depth (search_box rule) leaf opening → IsHonest s rule tree
+  pub honest : IsStage (settle_by rule) rule.parts.depth (search_box rule) leaf opening → IsHonest s rule tree
   pub is : p ≡ unfinished (summary_of (counts_of tree))
 
 abbrev pub IsPart : Files → Stock → Stock → Request → Product → Type 0
 IsPart before u v (Check system) p = ⊥
-IsPart before u v (Run form system settings effort out) p = IsPartRun form before system.now settings effort.boxes p
+IsPart before u v (Run system settings effort out) p = IsPartRun before system.now settings effort.boxes p
 IsPart before u v (Resume system pavings settings effort out) p =
-    IsPartResume before system.now (names_in pavings.items) settings effort.boxes p
-IsPart before u v (Merge system pavings settings out) p = IsOpenJoin before system.now (names_in pavings.items) settings p
-IsPart before u v (Audit form system paving settings) p = ⊥
-IsPart before u v (Svg system paving settings view) p = ⊥
+    IsPartResume before system.now (names_in pavings.items) settings effort.limit effort.boxes p
+IsPart before u v (Merge system pavings settings limit out) p = IsOpenJoin before system.now (names_in pavings.items) settings limit p
+IsPart before u v (Audit system paving settings limit) p = ⊥
+IsPart before u v (Svg system paving settings limit view) p = ⊥
 IsPart before u v (Sample circles) p = ⊥
 IsPart before u v (Least system settings search) p = IsPartLeast before system.now settings search p
-IsPart before u v (Campaign system settings effort rounds) p = IsPartCampaign before u v system.now settings effort.boxes rounds p
+IsPart before u v (Campaign system settings effort rounds) p = IsPartCampaign before u v system.now settings effort.limit effort.boxes rounds p
 
 abbrev pub OpenLeftIsPart : Type 0
 OpenLeftIsPart = (words : List Text) (before after : Outside) → IsEnd words before after OpenLeft → IsDelivery IsPart words before after

@@ -9,8 +9,8 @@ use Rattle.pv_hc4.specs.Graphs.{sides_named}
 use Rattle.pv_ctc.specs.Contracting.{sides_in}
 use Rattle.pv_ctc.specs.Plans.{plan_of}
 use Rattle.pv_ctc.specs.Refusals.{refused_at, IsSpelling}
-use Rattle.pv_settle.specs.Rules.{SettlerParts}
-use Rattle.pv_settle.specs.Settling.{is_member}
+use Rattle.pv_slope.specs.Methods.{Method}
+use Rattle.pv_slope.specs.Methods.{is_member}
 use Rattle.pv_interval.specs.Points.{Point}
 use Rattle.pv_parse.specs.Declarations.{IsMeaning}
 use Rattle.pv_parse.specs.Faults.{IsPlaced, IsRefusal, SaysTooLong}
@@ -77,8 +77,8 @@ RefusesSystem before after name (System line column byte cause) = HasFault befor
 RefusesSystem before after name r = RefusesFetch before after name r
 
 -- the box that is paved: each variable's domain, rounded outward
-abbrev pub search_box : SettlerParts → List Bounds
-search_box rule = map search_bounds rule.system.domains
+abbrev pub search_box : Method → List Bounds
+search_box rule = map search_bounds rule.parts.system.domains
 
 -- every constraint holds at the point
 abbrev pub EachHolds : List Constraint → Point → Type 0
@@ -87,17 +87,18 @@ EachHolds (c ∷ cs) x = Holds c x.places x.under × EachHolds cs x
 
 -- the rule by which the settings have the boxes of a system settled: its program is the one that their text spells.
 -- By the default program its set is that of the points at which every constraint holds.
-pub record IsRuleFor (system : Parts) (s : Settings) (rule : SettlerParts) : Type 0 where
-  pub system_is : rule.system ≡ system
-  pub sides : sides_in rule.graphs ≡ map sides_named system.constraints
-  pub program : IsSpelling (length system.constraints) s.contract.now (plan_of rule.program)
-  pub eps : rule.eps ≡ s.eps
-  pub depth : rule.depth ≡ s.depth
-  pub bisector : rule.bisector ≡ s.bisector
+pub record IsRuleFor (system : Parts) (s : Settings) (rule : Method) : Type 0 where
+  pub form : rule.form ≡ s.form
+  pub system_is : rule.parts.system ≡ system
+  pub sides : sides_in rule.parts.graphs ≡ map sides_named system.constraints
+  pub program : IsSpelling (length system.constraints) s.contract.now (plan_of rule.parts.program)
+  pub eps : rule.parts.eps ≡ s.eps
+  pub depth : rule.parts.depth ≡ s.depth
+  pub bisector : rule.parts.bisector ≡ s.bisector
   pub by_default : s.contract.now ≡ codes "prop(8)" → (x : Point) → is_member rule x ↔ EachHolds system.constraints x
 
 -- the file of this name holds a system, and this is its rule
-pub record HasRule (before : Files) (name : List ℕ) (s : Settings) (rule : SettlerParts) : Type 0 where
+pub record HasRule (before : Files) (name : List ℕ) (s : Settings) (rule : Method) : Type 0 where
   pub system : Parts
   pub read : HasSystem before name system
   pub is : IsRuleFor system s rule

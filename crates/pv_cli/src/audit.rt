@@ -2,57 +2,56 @@
 ghost use Rattle.std.specs.Prelude.{◌≡◌, IfOk, IfErr, IsSome, length};
 ghost use Rattle.pv_tree.specs.Trees.{outcome_at};
 ghost use Rattle.pv_file.specs.Lines.{outcome_line};
-ghost use Rattle.pv_settle.specs.Rules.{dims_of};
+ghost use Rattle.pv_slope.specs.Methods.{dims_of};
 ghost use Rattle.pv_cli.specs.Systems.{files, AreOnlyRead, search_box};
-ghost use Rattle.pv_cli.specs.FormSettlers.{form_of, parts_of};
+ghost use Rattle.pv_slope.specs.Methods.{method_of};
 ghost use Rattle.pv_cli.specs.Audited.{IsFoundHonest, IsFoundOther};
 ghost use Rattle.pv_cli.specs.Products.{ComesOfAudit, RefusesAudit};
 ghost use Rattle.pv_cli.specs.Reads.{IsDiffers};
 ghost use Rattle.pv_cli.specs.Made.{made};
 
 use crate::Refusal;
-use crate::form_settler::{FormSettler, form_settler_in};
+use crate::honest::learn_honest;
 use crate::opening::line_at;
 use crate::pavings::{Key, paving_in};
 use crate::product::Product;
-use crate::request::{Form, Settings};
+use crate::request::Settings;
+use crate::system::settler_in;
 use pv_file::write_outcome;
 use pv_io::Folder;
 use pv_join::Audit;
 use pv_num::Memory;
-use pv_tree::{Outcome, Path, Paving};
+use pv_slope::FormSettler;
+use pv_tree::{NodeLimit, Outcome, Path, Paving};
 use std::alloc::Global;
 
-/// Says that the paving in a file is a stage of the open search box of the system in another, where
-/// boxes are settled by a form of intervals.
+/// Says that the paving in a file is a stage of the open search box of the system in another,.
 pub(crate) fn audit<'a, F: Folder>(
     alloc: Global,
     folder: &mut F,
-    form: Form,
     system: &'a str,
     name: &'a str,
     settings: &Settings<'a>,
+    limit: NodeLimit,
 ) -> Result<Product, Refusal<'a>>
     ensures read { AreOnlyRead
         (files (F.content folder.old) (F.fetch_faults folder.old) (F.store_faults folder.old))
         (files (F.content folder.new) (F.fetch_faults folder.new) (F.store_faults folder.new)) }
     ensures comes { IfOk result
-        (λ p. ComesOfAudit form
+        (λ p. ComesOfAudit
         (files (F.content folder.old) (F.fetch_faults folder.old) (F.store_faults folder.old))
-        system.now name.now settings.now (made p)) }
+        system.now name.now settings.now limit (made p)) }
     ensures refused { IfErr result
-        (RefusesAudit form (files (F.content folder.old) (F.fetch_faults folder.old)
+        (RefusesAudit (files (F.content folder.old) (F.fetch_faults folder.old)
         (F.store_faults folder.old))
         (files (F.content folder.new) (F.fetch_faults folder.new) (F.store_faults folder.new))
-        system.now name.now settings.now) }
+        system.now name.now settings.now limit) }
 {
-    let settler = match form_settler_in(alloc, folder, form, system, settings) {
+    let settler = match settler_in(alloc, folder, system, settings) {
         Ok(settler) => settler,
         Err(refusal) => return Err(refusal),
     };
-    let identity = settler.identity(alloc)?;
-    let root = settler.search_box(alloc)?;
-    let key = Key { identity, root };
+    let key = Key::of(alloc, &settler, limit)?;
     let paving = match paving_in(alloc, folder, &key, name) {
         Ok(paving) => paving,
         Err(refusal) => return Err(refusal),
@@ -66,16 +65,16 @@ fn audited<'a>(
     settler: &FormSettler,
     paving: &Paving,
 ) -> Result<Product, Refusal<'a>>
-    requires root { paving.now.root ≡ search_box (parts_of settler.now) }
-    requires dims { length paving.now.root ≡ dims_of (parts_of settler.now) }
+    requires root { paving.now.root ≡ search_box (method_of settler.now) }
+    requires dims { length paving.now.root ≡ dims_of (method_of settler.now) }
     ensures honest { IfOk result
-        (λ p. IsFoundHonest (form_of settler.now) (parts_of settler.now) paving.now.tree (made p)) }
+        (λ p. IsFoundHonest (method_of settler.now) paving.now.tree (made p)) }
     ensures other { IfErr result
-        (IsFoundOther (form_of settler.now) (parts_of settler.now) paving.now.tree) }
+        (IsFoundOther (method_of settler.now) paving.now.tree) }
 {
-    match settler.audit(alloc, paving)? {
+    match pv_join::audit(alloc, settler, paving)? {
         Audit::Honest => {
-            settler.learn_honest(paving);
+            learn_honest(paving, settler);
             Ok(Product::Text(Vec::from_slice(alloc, b"honest\n")?))
         }
         Audit::DiffersAt { path, outcome } => Err(differs(alloc, paving, path, &outcome)),

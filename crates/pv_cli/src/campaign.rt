@@ -1,7 +1,7 @@
 //! `campaign`: a paving that is kept between rounds under a name.
 ghost use Rattle.std.specs.Prelude.{◌≡◌, ◌*◌, IfOk, IfErr, length};
-ghost use Rattle.pv_settle.specs.Rules.{dims_of};
-ghost use Rattle.pv_settle.specs.Settlers.{rule_of};
+ghost use Rattle.pv_slope.specs.Methods.{dims_of};
+ghost use Rattle.pv_slope.specs.Methods.{method_of};
 ghost use Rattle.pv_cli.specs.Systems.{files, AreOnlyRead, search_box};
 ghost use Rattle.pv_cli.specs.Campaigns.{stock, AreOthersStocked, RefusesRounds, RefusesCampaign, campaign_refusal, is_done};
 ghost use Rattle.pv_cli.specs.Products.{ComesOfCampaign, ComesOfRounds, LearnsHeld, report_as, summary_of};
@@ -18,8 +18,8 @@ use pv_io::Folder;
 use pv_keep::{Campaign, Keeper};
 use pv_num::Memory;
 use pv_pool::Gate;
-use pv_rounds::{HoldRefused, hold, learn_rounds};
-use pv_settle::SystemSettler;
+use pv_rounds::{HoldRefused, Plan, hold, learn_rounds};
+use pv_slope::FormSettler;
 use pv_tree::Paving;
 use std::alloc::Global;
 use std::sync::Wait;
@@ -49,14 +49,14 @@ pub(crate) fn campaign<'a, F: Folder, P: Keeper, G: Gate + Sync, R: Threads + Wa
         (files (F.content folder.old) (F.fetch_faults folder.old) (F.store_faults folder.old))
         (stock (P.kept keeper.old) (P.faults keeper.old))
         (stock (P.kept keeper.new) (P.faults keeper.new))
-        system.now settings.now effort.now.boxes rounds.now (made p)) }
+        system.now settings.now effort.now.limit effort.now.boxes rounds.now (made p)) }
     ensures refused { IfErr result
         (RefusesCampaign
         (files (F.content folder.old) (F.fetch_faults folder.old) (F.store_faults folder.old))
         (files (F.content folder.new) (F.fetch_faults folder.new) (F.store_faults folder.new))
         (stock (P.kept keeper.old) (P.faults keeper.old))
         (stock (P.kept keeper.new) (P.faults keeper.new))
-        system.now settings.now effort.now.boxes rounds.now) }
+        system.now settings.now effort.now.limit effort.now.boxes rounds.now) }
 {
     let settler = match settler_in(alloc, folder, system, settings) {
         Ok(settler) => settler,
@@ -69,7 +69,7 @@ pub(crate) fn campaign<'a, F: Folder, P: Keeper, G: Gate + Sync, R: Threads + Wa
 fn gone_on<'a, P: Keeper, G: Gate + Sync, R: Threads + Wait + Sync>(
     rt: &R,
     alloc: Global,
-    settler: &SystemSettler,
+    settler: &FormSettler,
     keeper: &mut P,
     effort: &Effort,
     rounds: &Rounds<'a>,
@@ -79,16 +79,24 @@ fn gone_on<'a, P: Keeper, G: Gate + Sync, R: Threads + Wait + Sync>(
         (stock (P.kept keeper.old) (P.faults keeper.old))
         (stock (P.kept keeper.new) (P.faults keeper.new)) }
     ensures comes { IfOk result
-        (λ p. ComesOfRounds (rule_of settler.now)
+        (λ p. ComesOfRounds (method_of settler.now)
         (stock (P.kept keeper.old) (P.faults keeper.old))
-        (stock (P.kept keeper.new) (P.faults keeper.new)) effort.now.boxes rounds.now (made p)) }
+        (stock (P.kept keeper.new) (P.faults keeper.new)) effort.now.limit effort.now.boxes
+        rounds.now (made p)) }
     ensures refused { IfErr result
-        (RefusesRounds (rule_of settler.now)
+        (RefusesRounds (method_of settler.now)
         (stock (P.kept keeper.old) (P.faults keeper.old))
-        (stock (P.kept keeper.new) (P.faults keeper.new)) effort.now.boxes rounds.now) }
+        (stock (P.kept keeper.new) (P.faults keeper.new)) effort.now.limit effort.now.boxes
+        rounds.now) }
 {
     let identity = settler.identity(alloc)?;
     let root = settler.search_box(alloc)?;
+    let plan = Plan {
+        count: rounds.count,
+        boxes: effort.boxes,
+        workers: effort.workers,
+        limit: effort.limit,
+    };
     let held = hold(
         rt,
         alloc,
@@ -97,9 +105,7 @@ fn gone_on<'a, P: Keeper, G: Gate + Sync, R: Threads + Wait + Sync>(
         rounds.name,
         identity,
         root,
-        rounds.count,
-        effort.boxes,
-        effort.workers,
+        plan,
         gate,
     );
     match held {
@@ -109,13 +115,13 @@ fn gone_on<'a, P: Keeper, G: Gate + Sync, R: Threads + Wait + Sync>(
 }
 
 // The summary of a campaign, which was cut short unless no leaf is open.
-fn reported(alloc: Global, settler: &SystemSettler, campaign: &Campaign) -> Result<Product, Memory>
-    requires root { campaign.now.root ≡ search_box (rule_of settler.now) }
-    requires dims { length campaign.now.root ≡ dims_of (rule_of settler.now) }
+fn reported(alloc: Global, settler: &FormSettler, campaign: &Campaign) -> Result<Product, Memory>
+    requires root { campaign.now.root ≡ search_box (method_of settler.now) }
+    requires dims { length campaign.now.root ≡ dims_of (method_of settler.now) }
     ensures report { IfOk result
         (λ p. made p ≡ report_as (summary_of (counts_of campaign.now.tree))
         (is_done campaign.now.tree)) }
-    ensures learns { LearnsHeld (rule_of settler.now) campaign.now.tree }
+    ensures learns { LearnsHeld (method_of settler.now) campaign.now.tree }
 {
     let paving = campaign.paving();
     learn_held(paving, settler);
@@ -124,10 +130,10 @@ fn reported(alloc: Global, settler: &SystemSettler, campaign: &Campaign) -> Resu
 }
 
 // Does nothing. A paving of the search box that grew from a stage of the open one is honest.
-fn learn_held(paving: &Paving, settler: &SystemSettler)
-    requires root { paving.now.root ≡ search_box (rule_of settler.now) }
-    requires dims { length paving.now.root ≡ dims_of (rule_of settler.now) }
-    ensures { LearnsHeld (rule_of settler.now) paving.now.tree }
+fn learn_held(paving: &Paving, settler: &FormSettler)
+    requires root { paving.now.root ≡ search_box (method_of settler.now) }
+    requires dims { length paving.now.root ≡ dims_of (method_of settler.now) }
+    ensures { LearnsHeld (method_of settler.now) paving.now.tree }
 {
     learn_rounds(paving, settler);
     learn_honest(paving, settler);

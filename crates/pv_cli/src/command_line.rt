@@ -15,6 +15,8 @@ ghost use Rattle.pv_cli.specs.Commands.{
   with_settings,
   with_effort,
   with_out,
+  with_limit,
+  with_form,
   with_command,
   paving_commands,
   further_commands,
@@ -45,10 +47,10 @@ fn with_paving_commands<'a>(command: Command<'a>, alloc: Global) -> Result<Comma
     ensures { IfOk result (λ c. app_of c ≡ paving_commands (app_of command.entry)) }
 {
     let command = with_command(command, system(alloc, "check")?)?;
-    let command = with_command(command, run(alloc, "run")?)?;
+    let command = with_command(command, with_option(run(alloc, "run")?, alloc, "form")?)?;
     let command = with_command(command, resume(alloc)?)?;
     let command = with_command(command, merge(alloc)?)?;
-    let command = with_command(command, audit(alloc, "audit")?)?;
+    let command = with_command(command, with_option(audit(alloc, "audit")?, alloc, "form")?)?;
     let command = with_command(command, svg(alloc)?)?;
     with_command(command, sample(alloc)?)
 }
@@ -87,7 +89,8 @@ fn run<'a>(alloc: Global, name: &'a str) -> Result<Command<'a>, AllocError>
     ensures local { IfOk result (λ c. (out-Command c).has_globals ≡ false) }
 {
     let command = with_settings(system(alloc, name)?, alloc)?;
-    with_option(with_effort(command, alloc)?, alloc, "out")
+    let command = with_option(with_effort(command, alloc)?, alloc, "out")?;
+    with_option(command, alloc, "limit")
 }
 
 fn resume<'a>(alloc: Global) -> Result<Command<'a>, AllocError>
@@ -95,7 +98,8 @@ fn resume<'a>(alloc: Global) -> Result<Command<'a>, AllocError>
     ensures local { IfOk result (λ c. (out-Command c).has_globals ≡ false) }
 {
     let command = with_settings(pavings(alloc, "resume")?, alloc)?;
-    with_option(with_effort(command, alloc)?, alloc, "out")
+    let command = with_option(with_effort(command, alloc)?, alloc, "out")?;
+    with_limit_and_form(command, alloc)
 }
 
 fn merge<'a>(alloc: Global) -> Result<Command<'a>, AllocError>
@@ -103,14 +107,14 @@ fn merge<'a>(alloc: Global) -> Result<Command<'a>, AllocError>
     ensures local { IfOk result (λ c. (out-Command c).has_globals ≡ false) }
 {
     let command = with_settings(pavings(alloc, "merge")?, alloc)?;
-    with_option(command, alloc, "out")
+    with_limit_and_form(with_option(command, alloc, "out")?, alloc)
 }
 
 fn audit<'a>(alloc: Global, name: &'a str) -> Result<Command<'a>, AllocError>
     ensures app { IfOk result (λ c. app_of c ≡ audit_app name.entry.now) }
     ensures local { IfOk result (λ c. (out-Command c).has_globals ≡ false) }
 {
-    with_settings(paving(alloc, name)?, alloc)
+    with_option(with_settings(paving(alloc, name)?, alloc)?, alloc, "limit")
 }
 
 fn svg<'a>(alloc: Global) -> Result<Command<'a>, AllocError>
@@ -119,7 +123,7 @@ fn svg<'a>(alloc: Global) -> Result<Command<'a>, AllocError>
 {
     let command = with_settings(paving(alloc, "svg")?, alloc)?;
     let command = with_needed(with_needed(command, alloc, "x")?, alloc, "y")?;
-    with_option(command, alloc, "at")
+    with_limit_and_form(with_option(command, alloc, "at")?, alloc)
 }
 
 fn sample<'a>(alloc: Global) -> Result<Command<'a>, AllocError>
@@ -135,7 +139,8 @@ fn least<'a>(alloc: Global) -> Result<Command<'a>, AllocError>
     ensures local { IfOk result (λ c. (out-Command c).has_globals ≡ false) }
 {
     let command = with_settings(system(alloc, "least")?, alloc)?;
-    with_needed(with_option(command, alloc, "boxes")?, alloc, "of")
+    let command = with_needed(with_option(command, alloc, "boxes")?, alloc, "of")?;
+    with_option(command, alloc, "limit")
 }
 
 fn campaign<'a>(alloc: Global) -> Result<Command<'a>, AllocError>
@@ -144,7 +149,7 @@ fn campaign<'a>(alloc: Global) -> Result<Command<'a>, AllocError>
 {
     let command = with_settings(system(alloc, "campaign")?, alloc)?;
     let command = with_needed(with_effort(command, alloc)?, alloc, "keep")?;
-    with_option(command, alloc, "rounds")
+    with_limit_and_form(with_option(command, alloc, "rounds")?, alloc)
 }
 
 // A command that has nothing.
@@ -199,6 +204,14 @@ fn with_effort<'a>(command: Command<'a>, alloc: Global) -> Result<Command<'a>, A
 {
     let command = with_option(command, alloc, "workers")?;
     with_option(command, alloc, "boxes")
+}
+
+fn with_limit_and_form<'a>(command: Command<'a>, alloc: Global) -> Result<Command<'a>, AllocError>
+    requires { (out-Command command).has_globals ≡ false }
+    ensures app { IfOk result (λ c. app_of c ≡ with_form (with_limit (app_of command.entry))) }
+    ensures local { IfOk result (λ c. (out-Command c).has_globals ≡ false) }
+{
+    with_option(with_option(command, alloc, "limit")?, alloc, "form")
 }
 
 // The command with a word that has to be there.

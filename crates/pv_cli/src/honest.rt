@@ -3,26 +3,26 @@ ghost use Rattle.std.specs.Prelude.{◌≡◌, length};
 ghost use Rattle.pv_expr.specs.Systems.{Parts};
 ghost use Rattle.pv_tree.specs.Trees.{leaf, IsPaving};
 ghost use Rattle.pv_tree.specs.Stages.{IsStage};
-ghost use Rattle.pv_settle.specs.Rules.{dims_of};
-ghost use Rattle.pv_settle.specs.Settlers.{rule_of};
-ghost use Rattle.pv_settle.specs.Settling.{settle_by};
+ghost use Rattle.pv_slope.specs.Methods.{dims_of};
+ghost use Rattle.pv_slope.specs.Methods.{method_of};
+ghost use Rattle.pv_slope.specs.Methods.{settle_by};
 ghost use Rattle.pv_cli.specs.Systems.{IsRuleFor, search_box};
 ghost use Rattle.pv_cli.specs.Products.{IsHonest};
 ghost use Rattle.pv_cli.specs.declared.request.Settings.{Settings};
 
-use pv_settle::SystemSettler;
+use pv_slope::FormSettler;
 use pv_tree::Paving;
 
 /// Does nothing. Where a paving of the search box is a stage of the open one, it covers the box, it
 /// is sound, and without an open leaf it is the full tree.
-pub(crate) fn learn_honest(paving: &Paving, settler: &SystemSettler)
-    requires root { paving.now.root ≡ search_box (rule_of settler.now) }
-    requires dims { length paving.now.root ≡ dims_of (rule_of settler.now) }
+pub(crate) fn learn_honest(paving: &Paving, settler: &FormSettler)
+    requires root { paving.now.root ≡ search_box (method_of settler.now) }
+    requires dims { length paving.now.root ≡ dims_of (method_of settler.now) }
     ensures paving { IsPaving paving.now.root paving.now.tree }
-    ensures honest { (system : Parts) (s : Settings) → IsRuleFor system s (rule_of settler.now)
-        → IsStage (settle_by (rule_of settler.now)) (rule_of settler.now).depth
-        (search_box (rule_of settler.now)) leaf paving.now.tree
-        → IsHonest s (rule_of settler.now) paving.now.tree }
+    ensures honest { (system : Parts) (s : Settings) → IsRuleFor system s (method_of settler.now)
+        → IsStage (settle_by (method_of settler.now)) (method_of settler.now).parts.depth
+        (search_box (method_of settler.now)) leaf paving.now.tree
+        → IsHonest s (method_of settler.now) paving.now.tree }
 {
     let _places = paving.dims();
     paving.learn_stages(settler);

@@ -2,8 +2,8 @@
 ghost use Rattle.std.specs.Prelude.{◌≡◌, ◌≤◌, ◌++◌, ◌∷◌, IfOk, IfErr, OnOk};
 ghost use Rattle.pv_num.specs.Parts.{number_text};
 ghost use Rattle.pv_parse.specs.Declarations.{IsExpressionMeaning};
-ghost use Rattle.pv_settle.specs.Settlers.{rule_of};
-ghost use Rattle.pv_settle.specs.Rules.{dims_of};
+ghost use Rattle.pv_slope.specs.Methods.{method_of};
+ghost use Rattle.pv_slope.specs.Methods.{dims_of};
 ghost use Rattle.pv_least.specs.Objectives.{aim_of};
 ghost use Rattle.pv_cli.specs.Systems.{files, AreOnlyRead, search_box};
 ghost use Rattle.pv_cli.specs.Leasts.{IsLeastBy, RefusesObjective, RefusesLeast, least_text, best_text, numbers_text};
@@ -18,7 +18,7 @@ use pv_io::Folder;
 use pv_least::{BestPoint, Least, Objective, Point};
 use pv_num::{Memory, Num};
 use pv_parse::{ParseRefused, parse_expr};
-use pv_settle::SystemSettler;
+use pv_slope::FormSettler;
 use std::alloc::Global;
 
 /// A bound below the least value of an expression over the set of the system in a file, and a point
@@ -58,14 +58,14 @@ pub(crate) fn least<'a, F: Folder>(
 // The expression of a text over the variables of a settler's system.
 fn objective_of<'a>(
     alloc: Global,
-    settler: &SystemSettler,
+    settler: &FormSettler,
     text: &str,
 ) -> Result<Objective, Refusal<'a>>
     ensures means { IfOk result
-        (λ o. IsExpressionMeaning (rule_of settler.now).system.names text.now (aim_of o)) }
-    ensures dims { IfOk result (λ o. o.dims ≡ dims_of (rule_of settler.now)) }
+        (λ o. IsExpressionMeaning (method_of settler.now).parts.system.names text.now (aim_of o)) }
+    ensures dims { IfOk result (λ o. o.dims ≡ dims_of (method_of settler.now)) }
     ensures refused { IfErr result
-        (RefusesObjective (rule_of settler.now).system.names text.now) }
+        (RefusesObjective (method_of settler.now).parts.system.names text.now) }
 {
     let expr = match parse_expr(alloc, settler.system(), text.as_bytes()) {
         Ok(expr) => expr,
@@ -80,14 +80,14 @@ fn objective_of<'a>(
 // What a number of settled boxes of a settler's search box tell of the least value of an objective.
 fn found_by(
     alloc: Global,
-    settler: &SystemSettler,
+    settler: &FormSettler,
     objective: &Objective,
     boxes: u64,
 ) -> Result<Least, Memory>
-    requires dims { objective.now.dims ≡ dims_of (rule_of settler.now) }
+    requires dims { objective.now.dims ≡ dims_of (method_of settler.now) }
     requires some { 1 ≤ boxes }
     requires few { boxes ≤ 100000 }
-    ensures { IfOk result (IsLeastBy (rule_of settler.now) (search_box (rule_of settler.now))
+    ensures { IfOk result (IsLeastBy (method_of settler.now) (search_box (method_of settler.now))
         (aim_of objective.now) boxes) }
 {
     let root = settler.search_box(alloc)?;

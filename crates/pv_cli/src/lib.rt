@@ -7,7 +7,6 @@ mod check;
 mod command_line;
 mod decimal;
 mod deliver;
-mod form_settler;
 mod honest;
 pub mod laws;
 mod least;

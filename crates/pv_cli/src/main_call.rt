@@ -177,12 +177,11 @@ fn work<'a, F: Folder, P: Keeper, G: Gate + Sync, R: Threads + Wait + Sync>(
     match request {
         Request::Check { system } => check(alloc, folder, *system),
         Request::Run {
-            form,
             system,
             settings,
             effort,
             out: _,
-        } => run(rt, alloc, folder, *form, *system, settings, effort, gate),
+        } => run(rt, alloc, folder, *system, settings, effort, gate),
         Request::Resume {
             system,
             pavings,
@@ -194,20 +193,22 @@ fn work<'a, F: Folder, P: Keeper, G: Gate + Sync, R: Threads + Wait + Sync>(
             system,
             pavings,
             settings,
+            limit,
             out: _,
-        } => merge(alloc, folder, *system, pavings, settings),
+        } => merge(alloc, folder, *system, pavings, settings, *limit),
         Request::Audit {
-            form,
             system,
             paving,
             settings,
-        } => audit(alloc, folder, *form, *system, *paving, settings),
+            limit,
+        } => audit(alloc, folder, *system, *paving, settings, *limit),
         Request::Svg {
             system,
             paving,
             settings,
+            limit,
             view,
-        } => svg(alloc, folder, *system, *paving, settings, view),
+        } => svg(alloc, folder, *system, *paving, settings, *limit, view),
         Request::Sample { circles } => sample(rt, alloc, circles, gate),
         Request::Least {
             system,

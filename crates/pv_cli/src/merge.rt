@@ -7,10 +7,11 @@ ghost use Rattle.pv_cli.specs.Made.{made};
 
 use crate::Refusal;
 use crate::honest::learn_honest;
-use crate::opening::{MOST_SETTLED, Opening, opening_in};
+use crate::opening::{Opening, opening_in};
 use crate::product::Product;
 use crate::request::Settings;
 use pv_io::Folder;
+use pv_tree::NodeLimit;
 use std::alloc::Global;
 
 /// The join of the files of these names.
@@ -20,6 +21,7 @@ pub(crate) fn merge<'a, F: Folder>(
     system: &'a str,
     names: &[&'a str],
     settings: &Settings<'a>,
+    limit: NodeLimit,
 ) -> Result<Product, Refusal<'a>>
     ensures read { AreOnlyRead
         (files (F.content folder.old) (F.fetch_faults folder.old) (F.store_faults folder.old))
@@ -27,19 +29,19 @@ pub(crate) fn merge<'a, F: Folder>(
     ensures comes { IfOk result
         (λ p. ComesOfMerge
         (files (F.content folder.old) (F.fetch_faults folder.old) (F.store_faults folder.old))
-        system.now (names_in names.now) settings.now (made p)) }
+        system.now (names_in names.now) settings.now limit (made p)) }
     ensures refused { IfErr result
         (RefusesJoined
         (files (F.content folder.old) (F.fetch_faults folder.old) (F.store_faults folder.old))
         (files (F.content folder.new) (F.fetch_faults folder.new) (F.store_faults folder.new))
-        system.now (names_in names.now) settings.now 0) }
+        system.now (names_in names.now) settings.now limit 0) }
 {
-    let opening = match opening_in(alloc, folder, system, names, settings) {
+    let opening = match opening_in(alloc, folder, system, names, settings, limit) {
         Ok(opening) => opening,
         Err(refusal) => return Err(refusal),
     };
     let settled = opening.paving.counts().settled();
-    if settled > MOST_SETTLED {
+    if settled > limit.nodes() {
         return Err(Refusal::TreeLimit { settled });
     }
     let Opening { settler, paving } = opening;

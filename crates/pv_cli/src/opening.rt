@@ -5,7 +5,7 @@ ghost use Rattle.pv_tree.specs.Trees.{Tree, subtree, outcome_at};
 ghost use Rattle.pv_join.specs.Joins.{IsJoin, IsJoinRefusal};
 ghost use Rattle.pv_file.specs.Lines.{outcome_line};
 ghost use Rattle.pv_tree.specs.declared.outcome.Outcome.{Outcome};
-ghost use Rattle.pv_settle.specs.Settlers.{rule_of};
+ghost use Rattle.pv_slope.specs.Methods.{method_of};
 ghost use Rattle.pv_cli.specs.Requests.{names_in};
 ghost use Rattle.pv_cli.specs.Systems.{files, AreOnlyRead, search_box};
 ghost use Rattle.pv_cli.specs.Files.{IsJoinOf, RefusesJoin, RefusesOpening};
@@ -20,17 +20,14 @@ use pv_file::write_node;
 use pv_io::Folder;
 use pv_join::{JoinRefused, join};
 use pv_num::Memory;
-use pv_settle::SystemSettler;
-use pv_tree::{Path, Paving};
+use pv_slope::FormSettler;
+use pv_tree::{NodeLimit, Path, Paving};
 use std::alloc::Global;
-
-/// The most settled nodes that a tree may have.
-pub(crate) const MOST_SETTLED: u64 = 100_000;
 
 /// A system's settler, and the join of its paving files.
 #[derive(Drop)]
 pub(crate) struct Opening {
-    pub settler: SystemSettler,
+    pub settler: FormSettler,
     pub paving: Paving,
 }
 
@@ -42,24 +39,25 @@ pub(crate) fn opening_in<'a, F: Folder>(
     system: &'a str,
     names: &[&'a str],
     settings: &Settings<'a>,
+    limit: NodeLimit,
 ) -> Result<Opening, Refusal<'a>>
     ensures read { AreOnlyRead
         (files (F.content folder.old) (F.fetch_faults folder.old) (F.store_faults folder.old))
         (files (F.content folder.new) (F.fetch_faults folder.new) (F.store_faults folder.new)) }
     ensures opened { IfOk result
         (IsOpened (files (F.content folder.old) (F.fetch_faults folder.old)
-        (F.store_faults folder.old)) system.now (names_in names.now) settings.now) }
+        (F.store_faults folder.old)) system.now (names_in names.now) settings.now limit) }
     ensures refused { IfErr result
         (RefusesOpening
         (files (F.content folder.old) (F.fetch_faults folder.old) (F.store_faults folder.old))
         (files (F.content folder.new) (F.fetch_faults folder.new) (F.store_faults folder.new))
-        system.now (names_in names.now) settings.now) }
+        system.now (names_in names.now) settings.now limit) }
 {
     let settler = match settler_in(alloc, folder, system, settings) {
         Ok(settler) => settler,
         Err(refusal) => return Err(refusal),
     };
-    let key = Key::of(alloc, &settler)?;
+    let key = Key::of(alloc, &settler, limit)?;
     let pavings = match pavings_in(alloc, folder, &key, names) {
         Ok(pavings) => pavings,
         Err(refusal) => return Err(refusal),

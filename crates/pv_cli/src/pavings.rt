@@ -1,8 +1,8 @@
 //! Paving files of a system, read.
-ghost use Rattle.std.specs.Prelude.{◌≡◌, ◌≤◌, ◌∷◌, List, map, length, IfOk, IfErr, OnOk};
-ghost use Rattle.pv_settle.specs.Spelling.{identity_of};
-ghost use Rattle.pv_settle.specs.Settlers.{rule_of};
-ghost use Rattle.pv_settle.specs.Rules.{SettlerParts};
+ghost use Rattle.std.specs.Prelude.{◌≡◌, ◌≤◌, ◌∷◌, ℕ, List, map, length, IfOk, IfErr, OnOk};
+ghost use Rattle.pv_slope.specs.Methods.{identity_of};
+ghost use Rattle.pv_slope.specs.Methods.{method_of};
+ghost use Rattle.pv_slope.specs.Methods.{Method};
 ghost use Rattle.pv_cli.specs.Requests.{names_in};
 ghost use Rattle.pv_cli.specs.Systems.{files, AreOnlyRead, search_box};
 ghost use Rattle.pv_cli.specs.Files.{HoldsPaving, RefusesFile, RefusesPavings};
@@ -10,31 +10,30 @@ ghost use Rattle.pv_cli.specs.Reads.{trees_of, AreRead, IsKeyOf};
 
 use crate::{FileFault, Refusal};
 use pv_box::IBox;
-use pv_file::{FileRefused, read};
+use pv_file::{FileRefused, most_bytes, read_within};
 use pv_io::{FetchRefused, Folder};
 use pv_num::Memory;
-use pv_settle::SystemSettler;
-use pv_tree::Paving;
+use pv_slope::FormSettler;
+use pv_tree::{NodeLimit, Paving};
 use std::alloc::Global;
-
-/// The longest paving file, in bytes.
-const PAVING_LIMIT: u64 = 70_000_000;
 
 /// What the paving files of a system and its settings have in common.
 #[derive(Drop)]
 pub(crate) struct Key {
     pub identity: [u8; 32],
     pub root: IBox,
+    pub limit: NodeLimit,
 }
 
 impl Key {
-    /// The key of the paving files of a settler.
-    pub fn of(alloc: Global, settler: &SystemSettler) -> Result<Key, Memory>
-        ensures { IfOk result (IsKeyOf (rule_of settler.now)) }
+    /// The key of the paving files of a settler within a limit.
+    pub fn of(alloc: Global, settler: &FormSettler, limit: NodeLimit) -> Result<Key, Memory>
+        ensures { IfOk result (IsKeyOf (method_of settler.now) limit) }
     {
         Ok(Key {
             identity: settler.identity(alloc)?,
             root: settler.search_box(alloc)?,
+            limit,
         })
     }
 }
@@ -50,14 +49,15 @@ pub(crate) fn pavings_in<'a, F: Folder>(
         (files (F.content folder.old) (F.fetch_faults folder.old) (F.store_faults folder.old))
         (files (F.content folder.new) (F.fetch_faults folder.new) (F.store_faults folder.new)) }
     ensures pavings { IfOk result
-        (λ ps. (rule : SettlerParts) → IsKeyOf rule key.now
+        (λ ps. (rule : Method) (limit : ℕ) → IsKeyOf rule limit key.now
         → AreRead (files (F.content folder.old) (F.fetch_faults folder.old)
-        (F.store_faults folder.old)) rule (names_in names.now) ps.items) }
+        (F.store_faults folder.old)) limit rule (names_in names.now) ps.items) }
     ensures refused { IfErr result
-        (λ r. (rule : SettlerParts) → IsKeyOf rule key.now
+        (λ r. (rule : Method) (limit : ℕ) → IsKeyOf rule limit key.now
         → RefusesPavings
         (files (F.content folder.old) (F.fetch_faults folder.old) (F.store_faults folder.old))
-        (files (F.content folder.new) (F.fetch_faults folder.new) (F.store_faults folder.new)) rule
+        (files (F.content folder.new) (F.fetch_faults folder.new) (F.store_faults folder.new))
+        limit rule
         (names_in names.now) r) }
 {
     let Some((name, rest)) = names.split_first() else {
@@ -94,22 +94,22 @@ pub(crate) fn paving_in<'a, F: Folder>(
     ensures root { IfOk result (λ p. p.root ≡ key.now.root) }
     ensures paving { IfOk result
         (λ p. HoldsPaving (files (F.content folder.old) (F.fetch_faults folder.old)
-        (F.store_faults folder.old)) key.now.identity key.now.root name.now p.tree) }
+        (F.store_faults folder.old)) key.now.limit key.now.identity key.now.root name.now p.tree) }
     ensures refused { IfErr result
         (RefusesFile (files (F.content folder.old) (F.fetch_faults folder.old)
         (F.store_faults folder.old))
         (files (F.content folder.new) (F.fetch_faults folder.new) (F.store_faults folder.new))
-        key.now.identity key.now.root name.now) }
+        key.now.limit key.now.identity key.now.root name.now) }
 {
     let mut bytes = Vec::new(alloc);
-    match folder.fetch(name, PAVING_LIMIT, &mut bytes) {
+    match folder.fetch(name, most_bytes(key.limit), &mut bytes) {
         Ok(()) => {}
         Err(FetchRefused::TooLong) => return Err(bad(name, FileFault::TooLong)),
         Err(FetchRefused::Absent) => return Err(Refusal::NoFile { name }),
         Err(FetchRefused::Failed) => return Err(Refusal::ReadFault { name }),
         Err(FetchRefused::Memory) => return Err(Refusal::Memory),
     }
-    match read(alloc, &bytes, key.identity, &key.root) {
+    match read_within(alloc, &bytes, key.identity, &key.root, key.limit) {
         Ok(paving) => Ok(paving),
         Err(FileRefused::WrongIdentity) => Err(bad(name, FileFault::WrongIdentity)),
         Err(FileRefused::BadLine { line }) => Err(bad(name, FileFault::BadLine { line })),

@@ -1,17 +1,19 @@
 //! From the words of a command to what they ask for.
 ghost use Rattle.std.specs.Prelude.{◌≡◌, ◌≢◌, ◌⊎◌, List, codes, map, option_map, MatchOption, MatchResult, string_bytes, IfOk, IfErr, unwrap_or};
 ghost use Rattle.clap.specs.Words.{all_of, subcommand_rows_of};
-ghost use Rattle.pv_cli.specs.Requests.{value_of, system_name, paving_names, names_in, AreSettings, IsEffort, ArePavings, IsOut, HasBadSetting, HasBadEffort, IsView, AreGiven, AreCircles, HasManyPavings, HasBadLevels, HasBadCircles, IsSearch, HasBadBudget, IsRounds, HasBadRounds, HasBadValueFor, run_name, audit_name, runs, resumes, merges, audits, draws, samples, seeks, keeps, IsAskedBy, IsAsked, Asks};
+ghost use Rattle.pv_cli.specs.Requests.{value_of, system_name, paving_names, names_in, AreSettings, IsEffort, ArePavings, IsOut, HasBadSetting, HasBadLimit, HasBadEffort, IsNodeLimit, IsView, AreGiven, AreCircles, HasManyPavings, HasBadLevels, HasBadCircles, IsSearch, HasBadBudget, IsRounds, HasBadRounds, HasBadValueFor, run_name, audit_name, runs, resumes, merges, audits, draws, samples, seeks, keeps, IsAskedBy, IsAsked, Asks};
 ghost use Rattle.pv_cli.specs.Found.{rows_in, RefusesValues, RefusesCommand, RefusesFound};
 ghost use Rattle.pv_cli.specs.Ends.{RefusesWords};
 
 use crate::Refusal;
 use crate::command_line::paver;
-use crate::request::{Circles, Effort, Form, Request, Rounds, Search, Settings, View};
-use crate::values::{bisector_of, count_of, levels_of, width_of};
+use crate::request::{Circles, Effort, Request, Rounds, Search, Settings, View};
+use crate::values::{bisector_of, count_of, form_of, levels_of, name_of_form, width_of};
 use clap::ArgMatches;
 use clap::error::ErrorKind;
 use pv_num::Num;
+use pv_slope::Form;
+use pv_tree::NodeLimit;
 use std::alloc::Global;
 
 /// Reads the words of a command, of which the first is the program's name.
@@ -56,10 +58,10 @@ fn command_in<'a>(
 {
     match command {
         "check" => Ok(check_in(found)),
-        "run" => run_in(Form::Natural, found),
+        "run" => run_in(Form::Plain, found),
         "resume" => resume_in(alloc, found),
         "merge" => merge_in(alloc, found),
-        "audit" => audit_in(Form::Natural, found),
+        "audit" => audit_in(Form::Plain, found),
         "svg" => svg_in(alloc, found),
         "sample" => sample_in(found),
         "run-centered" => run_in(Form::Centered, found),
@@ -78,17 +80,16 @@ fn check_in<'a>(found: &ArgMatches<'a>) -> Request<'a>
     }
 }
 
-fn run_in<'a>(form: Form, found: &ArgMatches<'a>) -> Result<Request<'a>, Refusal<'a>>
-    ensures { MatchResult result (IsAskedBy (run_name form) (rows_in found.now))
-        (RefusesValues (HasBadValueFor (runs form) (rows_in found.now))) }
+fn run_in<'a>(usual: Form, found: &ArgMatches<'a>) -> Result<Request<'a>, Refusal<'a>>
+    ensures { MatchResult result (IsAskedBy (run_name usual) (rows_in found.now))
+        (RefusesValues (HasBadValueFor (runs usual) (rows_in found.now))) }
 {
-    let settings = match settings_in(found) {
+    let settings = match settings_in(usual, found) {
         Some(settings) => settings,
         None => return Err(Refusal::Usage),
     };
     match effort_in(found) {
         Some(effort) => Ok(Request::Run {
-            form,
             system: text_in(found, "SYSTEM", ""),
             settings,
             effort,
@@ -106,7 +107,7 @@ fn resume_in<'a>(alloc: Global, found: &ArgMatches<'a>) -> Result<Request<'a>, R
         Ok(pavings) => pavings,
         Err(refusal) => return Err(refusal),
     };
-    let settings = match settings_in(found) {
+    let settings = match settings_in(Form::Plain, found) {
         Some(settings) => settings,
         None => return Err(Refusal::Usage),
     };
@@ -130,27 +131,36 @@ fn merge_in<'a>(alloc: Global, found: &ArgMatches<'a>) -> Result<Request<'a>, Re
         Ok(pavings) => pavings,
         Err(refusal) => return Err(refusal),
     };
-    match settings_in(found) {
-        Some(settings) => Ok(Request::Merge {
+    let settings = match settings_in(Form::Plain, found) {
+        Some(settings) => settings,
+        None => return Err(Refusal::Usage),
+    };
+    match limit_in(found) {
+        Some(limit) => Ok(Request::Merge {
             system: text_in(found, "SYSTEM", ""),
             pavings,
             settings,
+            limit,
             out: out_in(found),
         }),
         None => Err(Refusal::Usage),
     }
 }
 
-fn audit_in<'a>(form: Form, found: &ArgMatches<'a>) -> Result<Request<'a>, Refusal<'a>>
-    ensures { MatchResult result (IsAskedBy (audit_name form) (rows_in found.now))
-        (RefusesValues (HasBadValueFor (audits form) (rows_in found.now))) }
+fn audit_in<'a>(usual: Form, found: &ArgMatches<'a>) -> Result<Request<'a>, Refusal<'a>>
+    ensures { MatchResult result (IsAskedBy (audit_name usual) (rows_in found.now))
+        (RefusesValues (HasBadValueFor (audits usual) (rows_in found.now))) }
 {
-    match settings_in(found) {
-        Some(settings) => Ok(Request::Audit {
-            form,
+    let settings = match settings_in(usual, found) {
+        Some(settings) => settings,
+        None => return Err(Refusal::Usage),
+    };
+    match limit_in(found) {
+        Some(limit) => Ok(Request::Audit {
             system: text_in(found, "SYSTEM", ""),
             paving: text_in(found, "PAVING", ""),
             settings,
+            limit,
         }),
         None => Err(Refusal::Usage),
     }
@@ -164,11 +174,16 @@ fn svg_in<'a>(alloc: Global, found: &ArgMatches<'a>) -> Result<Request<'a>, Refu
         Ok(view) => view,
         Err(refusal) => return Err(refusal),
     };
-    match settings_in(found) {
-        Some(settings) => Ok(Request::Svg {
+    let settings = match settings_in(Form::Plain, found) {
+        Some(settings) => settings,
+        None => return Err(Refusal::Usage),
+    };
+    match limit_in(found) {
+        Some(limit) => Ok(Request::Svg {
             system: text_in(found, "SYSTEM", ""),
             paving: text_in(found, "PAVING", ""),
             settings,
+            limit,
             view,
         }),
         None => Err(Refusal::Usage),
@@ -223,7 +238,7 @@ fn least_in<'a>(found: &ArgMatches<'a>) -> Result<Request<'a>, Refusal<'a>>
     ensures { MatchResult result (IsAskedBy (codes "least") (rows_in found.now))
         (RefusesValues (HasBadValueFor seeks (rows_in found.now))) }
 {
-    let settings = match settings_in(found) {
+    let settings = match settings_in(Form::Plain, found) {
         Some(settings) => settings,
         None => return Err(Refusal::Usage),
     };
@@ -240,9 +255,11 @@ fn least_in<'a>(found: &ArgMatches<'a>) -> Result<Request<'a>, Refusal<'a>>
 fn search_in<'a>(found: &ArgMatches<'a>) -> Option<Search<'a>>
     ensures { MatchOption result (HasBadBudget (rows_in found.now)) (IsSearch (rows_in found.now)) }
 {
-    let boxes = count_of(text_in(found, "boxes", "20000"), 1, 100_000)?;
+    let limit = limit_in(found)?;
+    let boxes = count_of(text_in(found, "boxes", "20000"), 1, limit.nodes())?;
     Some(Search {
         of: text_in(found, "of", ""),
+        limit,
         boxes,
     })
 }
@@ -251,7 +268,7 @@ fn campaign_in<'a>(found: &ArgMatches<'a>) -> Result<Request<'a>, Refusal<'a>>
     ensures { MatchResult result (IsAskedBy (codes "campaign") (rows_in found.now))
         (RefusesValues (HasBadValueFor keeps (rows_in found.now))) }
 {
-    let settings = match settings_in(found) {
+    let settings = match settings_in(Form::Plain, found) {
         Some(settings) => settings,
         None => return Err(Refusal::Usage),
     };
@@ -280,28 +297,43 @@ fn rounds_in<'a>(found: &ArgMatches<'a>) -> Option<Rounds<'a>>
     })
 }
 
-fn settings_in<'a>(found: &ArgMatches<'a>) -> Option<Settings<'a>>
-    ensures { MatchOption result (HasBadSetting (rows_in found.now))
-        (AreSettings (rows_in found.now)) }
+// The settings for a command that has a form by itself.
+fn settings_in<'a>(usual: Form, found: &ArgMatches<'a>) -> Option<Settings<'a>>
+    ensures { MatchOption result (HasBadSetting usual (rows_in found.now))
+        (AreSettings usual (rows_in found.now)) }
 {
     let eps = width_of(text_in(found, "eps", "0.125"))?;
     let depth = count_of(text_in(found, "depth", "60"), 1, 200)? as u32;
     let bisector = bisector_of(text_in(found, "bisect", "largest"))?;
     let contract = text_in(found, "contract", "prop(8)");
+    let form = form_of(text_in(found, "form", name_of_form(usual)))?;
     Some(Settings {
         eps,
         depth,
         bisector,
         contract,
+        form,
     })
 }
 
 fn effort_in(found: &ArgMatches<'_>) -> Option<Effort>
     ensures { MatchOption result (HasBadEffort (rows_in found.now)) (IsEffort (rows_in found.now)) }
 {
+    let limit = limit_in(found)?;
     let workers = count_of(text_in(found, "workers", "4"), 1, 16)? as u32;
-    let boxes = count_of(text_in(found, "boxes", "20000"), 1, 100_000)?;
-    Some(Effort { workers, boxes })
+    let boxes = count_of(text_in(found, "boxes", "20000"), 1, limit.nodes())?;
+    Some(Effort {
+        limit,
+        workers,
+        boxes,
+    })
+}
+
+fn limit_in(found: &ArgMatches<'_>) -> Option<NodeLimit>
+    ensures { MatchOption result (HasBadLimit (rows_in found.now))
+        (IsNodeLimit (rows_in found.now)) }
+{
+    NodeLimit::new(count_of(text_in(found, "limit", "100000"), 100_000, 100_000_000)?)
 }
 
 fn pavings_in<'a>(alloc: Global, found: &ArgMatches<'a>) -> Result<Vec<&'a str>, Refusal<'a>>

@@ -5,15 +5,8 @@ ghost use Rattle.pv_num.specs.Order.{le};
 
 use pv_box::Bisector;
 use pv_num::Num;
-
-/// By which intervals boxes are settled.
-#[derive(Clone, Copy, Debug, PartialEq, Eq)]
-pub enum Form {
-    /// By those of the constraints' sides.
-    Natural,
-    /// By centered forms, too.
-    Centered,
-}
+use pv_slope::Form;
+use pv_tree::NodeLimit;
 
 /// How boxes are settled.
 #[derive(Clone, Copy)]
@@ -23,18 +16,20 @@ pub struct Settings<'a> {
     pub bisector: Bisector,
     /// The text of the contractor program.
     pub contract: &'a str,
+    pub form: Form,
     ghost eps_from: { IsTrue (le (Fin (pos 0)) eps) },
     ghost eps_finite: { eps ≢ PosInf },
     ghost depth_fits: { (1 ≤ depth) × (depth ≤ 200) },
 }
 
-/// How much is settled at most, and by how many threads.
+/// How much is settled at most, within a limit on the whole tree, and by how many threads.
 #[derive(Clone, Copy)]
 pub struct Effort {
+    pub limit: NodeLimit,
     pub workers: u32,
     pub boxes: u64,
     ghost workers_fit: { (1 ≤ workers) × (workers ≤ 16) },
-    ghost boxes_fit: { (1 ≤ boxes) × (boxes ≤ 100000) },
+    ghost boxes_fit: { (1 ≤ boxes) × (boxes ≤ limit) },
 }
 
 /// Which plane of a paving a picture shows.
@@ -63,8 +58,9 @@ pub struct Circles {
 pub struct Search<'a> {
     /// The text of the expression.
     pub of: &'a str,
+    pub limit: NodeLimit,
     pub boxes: u64,
-    ghost boxes_fit: { (1 ≤ boxes) × (boxes ≤ 100000) },
+    ghost boxes_fit: { (1 ≤ boxes) × (boxes ≤ limit) },
 }
 
 /// Under which name a campaign is kept, and how many rounds it is gone on with.
@@ -85,7 +81,6 @@ pub enum Request<'a> {
     },
     /// Pave the search box of a system.
     Run {
-        form: Form,
         system: &'a str,
         settings: Settings<'a>,
         effort: Effort,
@@ -104,20 +99,22 @@ pub enum Request<'a> {
         system: &'a str,
         pavings: Vec<&'a str>,
         settings: Settings<'a>,
+        limit: NodeLimit,
         out: Option<&'a str>,
     },
     /// Settle again what a paving file says is settled.
     Audit {
-        form: Form,
         system: &'a str,
         paving: &'a str,
         settings: Settings<'a>,
+        limit: NodeLimit,
     },
     /// Draw a plane of a paving file.
     Svg {
         system: &'a str,
         paving: &'a str,
         settings: Settings<'a>,
+        limit: NodeLimit,
         view: View<'a>,
     },
     /// Pave a system that a number makes.

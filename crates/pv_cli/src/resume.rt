@@ -1,7 +1,7 @@
 //! `resume`: what a budget settles of the join of paving files.
 ghost use Rattle.std.specs.Prelude.{◌≡◌, ◌+◌, ◌<◌, ◌≤◌, IfOk, IfErr, length};
-ghost use Rattle.pv_settle.specs.Rules.{dims_of};
-ghost use Rattle.pv_settle.specs.Settlers.{rule_of};
+ghost use Rattle.pv_slope.specs.Methods.{dims_of};
+ghost use Rattle.pv_slope.specs.Methods.{method_of};
 ghost use Rattle.pv_cli.specs.Requests.{names_in};
 ghost use Rattle.pv_cli.specs.Systems.{files, AreOnlyRead, search_box};
 ghost use Rattle.pv_cli.specs.Pavings.{settled_in};
@@ -11,15 +11,15 @@ ghost use Rattle.pv_cli.specs.Resumed.{IsResumed, GivesResumed};
 
 use crate::Refusal;
 use crate::honest::learn_honest;
-use crate::opening::{MOST_SETTLED, Opening, opening_in};
+use crate::opening::{Opening, opening_in};
 use crate::product::Product;
 use crate::request::{Effort, Settings};
 use pv_io::Folder;
 use pv_num::Memory;
 use pv_pool::Gate;
-use pv_settle::SystemSettler;
+use pv_slope::FormSettler;
 use pv_tree::Paving;
-use pv_workers::pave_knowing;
+use pv_workers::pave_within;
 use std::alloc::Global;
 use std::sync::Wait;
 use std::thread::Threads;
@@ -41,19 +41,19 @@ pub(crate) fn resume<'a, F: Folder, G: Gate + Sync, R: Threads + Wait + Sync>(
     ensures comes { IfOk result
         (λ p. ComesOfResume
         (files (F.content folder.old) (F.fetch_faults folder.old) (F.store_faults folder.old))
-        system.now (names_in names.now) settings.now effort.now.boxes (made p)) }
+        system.now (names_in names.now) settings.now effort.now.limit effort.now.boxes (made p)) }
     ensures refused { IfErr result
         (RefusesJoined
         (files (F.content folder.old) (F.fetch_faults folder.old) (F.store_faults folder.old))
         (files (F.content folder.new) (F.fetch_faults folder.new) (F.store_faults folder.new))
-        system.now (names_in names.now) settings.now effort.now.boxes) }
+        system.now (names_in names.now) settings.now effort.now.limit effort.now.boxes) }
 {
-    let opening = match opening_in(alloc, folder, system, names, settings) {
+    let opening = match opening_in(alloc, folder, system, names, settings, effort.limit) {
         Ok(opening) => opening,
         Err(refusal) => return Err(refusal),
     };
     let settled = opening.paving.counts().settled();
-    if settled + effort.boxes > MOST_SETTLED {
+    if settled + effort.boxes > effort.limit.nodes() {
         return Err(Refusal::TreeLimit { settled });
     }
     Ok(resumed(rt, alloc, opening, effort, gate)?)
@@ -66,11 +66,11 @@ fn resumed<G: Gate + Sync, R: Threads + Wait + Sync>(
     effort: &Effort,
     gate: &G,
 ) -> Result<Product, Memory>
-    requires root { opening.paving.root ≡ search_box (rule_of opening.settler) }
-    requires dims { length opening.paving.root ≡ dims_of (rule_of opening.settler) }
-    requires limit { settled_in opening.paving.tree + effort.now.boxes ≤ 100000 }
+    requires root { opening.paving.root ≡ search_box (method_of opening.settler) }
+    requires dims { length opening.paving.root ≡ dims_of (method_of opening.settler) }
+    requires limit { settled_in opening.paving.tree + effort.now.boxes ≤ effort.now.limit }
     ensures { IfOk result
-        (λ p. GivesResumed (rule_of opening.settler) opening.paving.tree effort.now.boxes
+        (λ p. GivesResumed (method_of opening.settler) opening.paving.tree effort.now.boxes
         (made p)) }
 {
     let Opening { settler, paving } = opening;
@@ -82,24 +82,25 @@ fn resumed<G: Gate + Sync, R: Threads + Wait + Sync>(
 fn go_on<G: Gate + Sync, R: Threads + Wait + Sync>(
     rt: &R,
     alloc: Global,
-    settler: &SystemSettler,
+    settler: &FormSettler,
     opening: Paving,
     effort: &Effort,
     gate: &G,
 ) -> Result<Paving, Memory>
-    requires root { opening.root ≡ search_box (rule_of settler.now) }
-    requires dims { length opening.root ≡ dims_of (rule_of settler.now) }
-    requires limit { settled_in opening.tree + effort.now.boxes ≤ 100000 }
-    ensures root { IfOk result (λ p. p.root ≡ search_box (rule_of settler.now)) }
+    requires root { opening.root ≡ search_box (method_of settler.now) }
+    requires dims { length opening.root ≡ dims_of (method_of settler.now) }
+    requires limit { settled_in opening.tree + effort.now.boxes ≤ effort.now.limit }
+    ensures root { IfOk result (λ p. p.root ≡ search_box (method_of settler.now)) }
     ensures resumed { IfOk result
-        (λ p. IsResumed (rule_of settler.now) opening.tree effort.now.boxes p.tree) }
+        (λ p. IsResumed (method_of settler.now) opening.tree effort.now.boxes p.tree) }
 {
-    let paved = pave_knowing(
+    let paved = pave_within(
         rt,
         alloc,
         settler,
         opening,
         effort.boxes,
+        effort.limit,
         effort.workers,
         gate,
     )?;

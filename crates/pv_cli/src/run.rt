@@ -7,26 +7,25 @@ ghost use Rattle.pv_cli.specs.Products.{ComesOfRun};
 ghost use Rattle.pv_cli.specs.Made.{made};
 
 use crate::Refusal;
-use crate::form_settler::form_settler_in;
+use crate::honest::learn_honest;
 use crate::product::Product;
-use crate::request::{Effort, Form, Settings};
+use crate::request::{Effort, Settings};
+use crate::system::settler_in;
 use pv_box::IBox;
 use pv_io::Folder;
 use pv_num::Memory;
 use pv_pool::Gate;
 use pv_tree::{KnowingSettler, Paving};
-use pv_workers::pave_knowing;
+use pv_workers::pave_within;
 use std::alloc::Global;
 use std::sync::Wait;
 use std::thread::Threads;
 
-/// The paving of the search box of the system in a file by a form of intervals, as far as the
-/// budget goes.
+/// The paving of the search box of the system in a file, as far as the budget goes.
 pub(crate) fn run<'a, F: Folder, G: Gate + Sync, R: Threads + Wait + Sync>(
     rt: &R,
     alloc: Global,
     folder: &mut F,
-    form: Form,
     system: &'a str,
     settings: &Settings<'a>,
     effort: &Effort,
@@ -36,7 +35,7 @@ pub(crate) fn run<'a, F: Folder, G: Gate + Sync, R: Threads + Wait + Sync>(
         (files (F.content folder.old) (F.fetch_faults folder.old) (F.store_faults folder.old))
         (files (F.content folder.new) (F.fetch_faults folder.new) (F.store_faults folder.new)) }
     ensures comes { IfOk result
-        (λ p. ComesOfRun form
+        (λ p. ComesOfRun
         (files (F.content folder.old) (F.fetch_faults folder.old) (F.store_faults folder.old))
         system.now settings.now effort.now.boxes (made p)) }
     ensures refused { IfErr result
@@ -45,14 +44,14 @@ pub(crate) fn run<'a, F: Folder, G: Gate + Sync, R: Threads + Wait + Sync>(
         (files (F.content folder.new) (F.fetch_faults folder.new) (F.store_faults folder.new))
         system.now settings.now) }
 {
-    let settler = match form_settler_in(alloc, folder, form, system, settings) {
+    let settler = match settler_in(alloc, folder, system, settings) {
         Ok(settler) => settler,
         Err(refusal) => return Err(refusal),
     };
     let identity = settler.identity(alloc)?;
     let root = settler.search_box(alloc)?;
-    let paving = settler.paved(rt, alloc, root, effort, gate)?;
-    settler.learn_honest(&paving);
+    let paving = paved(rt, alloc, &settler, root, effort, gate)?;
+    learn_honest(&paving, &settler);
     Ok(Product::Paved { identity, paving })
 }
 
@@ -75,12 +74,13 @@ where
         p.tree) }
 {
     let opening = Paving::open(alloc, root)?;
-    let paved = pave_knowing(
+    let paved = pave_within(
         rt,
         alloc,
         settler,
         opening,
         effort.boxes,
+        effort.limit,
         effort.workers,
         gate,
     )?;

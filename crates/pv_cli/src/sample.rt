@@ -6,8 +6,8 @@ ghost use Rattle.pv_file.specs.Texts.{file_text};
 ghost use Rattle.pv_file.specs.declared.version.Version.TheVariants as version;
 ghost use Rattle.pv_expr.specs.Systems.{Parts};
 ghost use Rattle.pv_tree.specs.Trees.{leaf};
-ghost use Rattle.pv_settle.specs.Settlers.{rule_of};
-ghost use Rattle.pv_settle.specs.Spelling.{identity_of};
+ghost use Rattle.pv_slope.specs.Methods.{method_of};
+ghost use Rattle.pv_slope.specs.Methods.{identity_of};
 ghost use Rattle.pv_cli.specs.Products.{AreForSamples, ComesOfSample, RefusesSample, IsHonest, full_by, report_of};
 ghost use Rattle.pv_cli.specs.Samples.{IsMadeRule};
 ghost use Rattle.pv_cli.specs.Systems.{IsRuleFor, search_box};
@@ -29,8 +29,8 @@ use pv_made::sample_system;
 use pv_num::{End, Memory, Num};
 use pv_parse::parse;
 use pv_pool::Gate;
-use pv_settle::SystemSettler;
-use pv_tree::Paving;
+use pv_slope::{Form, FormSettler};
+use pv_tree::{NodeLimit, Paving};
 use sha2::{Digest, Sha256};
 use std::alloc::Global;
 use std::sync::Wait;
@@ -60,20 +60,21 @@ fn reported<G: Gate + Sync, R: Threads + Wait + Sync>(
     rt: &R,
     alloc: Global,
     circles: &Circles,
-    settler: &SystemSettler,
+    settler: &FormSettler,
     gate: &G,
 ) -> Result<Vec<u8>, Memory>
-    requires { (rule_of settler.now).depth ≡ 14 }
+    requires { (method_of settler.now).parts.depth ≡ 14 }
     ensures report { IfOk result
-        (λ text. text.items ≡ report_of circles.now (identity_of (rule_of settler.now))
-        (search_box (rule_of settler.now)) (full_by (rule_of settler.now) leaf)) }
+        (λ text. text.items ≡ report_of circles.now (identity_of (method_of settler.now))
+        (search_box (method_of settler.now)) (full_by (method_of settler.now) leaf)) }
     ensures honest { OnOk result ((system : Parts) (s : declared.Settings)
-        → IsRuleFor system s (rule_of settler.now)
-        → IsHonest s (rule_of settler.now) (full_by (rule_of settler.now) leaf)) }
+        → IsRuleFor system s (method_of settler.now)
+        → IsHonest s (method_of settler.now) (full_by (method_of settler.now) leaf)) }
 {
     let identity = settler.identity(alloc)?;
     // A tree of at most 14 cuts on a path has fewer nodes.
     let effort = Effort {
+        limit: NodeLimit::DEFAULT,
         workers: 4,
         boxes: 100_000,
     };
@@ -92,6 +93,7 @@ fn settings<'a>() -> Settings<'a>
         depth: 14,
         bisector: Bisector::Largest,
         contract: "prop(8)",
+        form: Form::Plain,
     }
 }
 
@@ -100,9 +102,9 @@ fn settler_of<'a>(
     alloc: Global,
     circles: &Circles,
     settings: &Settings<'a>,
-) -> Result<SystemSettler, Refusal<'a>>
+) -> Result<FormSettler, Refusal<'a>>
     requires { AreForSamples settings.now }
-    ensures rule { IfOk result (λ s. IsMadeRule circles.now settings.now (rule_of s)) }
+    ensures rule { IfOk result (λ s. IsMadeRule circles.now settings.now (method_of s)) }
     ensures refused { IfErr result RefusesSample }
 {
     let text = sample_system(alloc, circles.seed, circles.count)?;

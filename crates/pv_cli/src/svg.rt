@@ -1,7 +1,7 @@
 //! `svg`: the picture of a plane of a paving file.
 ghost use Rattle.std.specs.Prelude.{◌≡◌, ◌≢◌, IfOk, IfErr, IsTrue, MatchOption, false, length};
-ghost use Rattle.pv_settle.specs.Settlers.{rule_of};
-ghost use Rattle.pv_settle.specs.Rules.{dims_of};
+ghost use Rattle.pv_slope.specs.Methods.{method_of};
+ghost use Rattle.pv_slope.specs.Methods.{dims_of};
 ghost use Rattle.pv_svg.specs.Pixels.{IsFinite};
 ghost use Rattle.pv_cli.specs.Systems.{files, AreOnlyRead, search_box};
 ghost use Rattle.pv_cli.specs.Views.{IsAxis, HasNoAxis, IsPlaneOf, HasNoPlane, IsSoundFor};
@@ -19,10 +19,10 @@ use pv_expr::System;
 use pv_interval::Interval;
 use pv_io::Folder;
 use pv_num::Num;
-use pv_settle::SystemSettler;
+use pv_slope::FormSettler;
 use pv_svg::laws::pictures_are_sound;
 use pv_svg::slice;
-use pv_tree::Paving;
+use pv_tree::NodeLimit;
 use std::alloc::Global;
 
 /// The numbers of the variables that are a picture's axes.
@@ -35,7 +35,7 @@ pub(crate) struct Axes {
 /// A system's settler, and the axes of a picture of its pavings.
 #[derive(Drop)]
 pub(crate) struct Scene {
-    pub settler: SystemSettler,
+    pub settler: FormSettler,
     pub axes: Axes,
 }
 
@@ -46,6 +46,7 @@ pub(crate) fn svg<'a, F: Folder>(
     system: &'a str,
     name: &'a str,
     settings: &Settings<'a>,
+    limit: NodeLimit,
     view: &View<'a>,
 ) -> Result<Product, Refusal<'a>>
     ensures read { AreOnlyRead
@@ -54,19 +55,19 @@ pub(crate) fn svg<'a, F: Folder>(
     ensures comes { IfOk result
         (λ p. ComesOfSvg
         (files (F.content folder.old) (F.fetch_faults folder.old) (F.store_faults folder.old))
-        system.now name.now settings.now view.now (made p)) }
+        system.now name.now settings.now limit view.now (made p)) }
     ensures refused { IfErr result
         (RefusesSvg (files (F.content folder.old) (F.fetch_faults folder.old)
         (F.store_faults folder.old))
         (files (F.content folder.new) (F.fetch_faults folder.new) (F.store_faults folder.new))
-        system.now name.now settings.now view.now) }
+        system.now name.now settings.now limit view.now) }
 {
     let scene = match scene_in(alloc, folder, system, settings, view) {
         Ok(scene) => scene,
         Err(refusal) => return Err(refusal),
     };
     let Scene { settler, axes } = scene;
-    let key = Key::of(alloc, &settler)?;
+    let key = Key::of(alloc, &settler, limit)?;
     let paving = match paving_in(alloc, folder, &key, name) {
         Ok(paving) => paving,
         Err(refusal) => return Err(refusal),

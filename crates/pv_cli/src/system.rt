@@ -2,8 +2,7 @@
 ghost use Rattle.std.specs.Prelude.{◌≡◌, ◌≤◌, ◌<◌, ◌^◌, ℕ, List, length, IfOk, IfErr, OnOk};
 ghost use Rattle.pv_ctc.specs.Plans.{plan_of};
 ghost use Rattle.pv_ctc.specs.Refusals.{IsSpelling};
-ghost use Rattle.pv_settle.specs.Settlers.{rule_of};
-ghost use Rattle.pv_slope.specs.Settlers as centered;
+ghost use Rattle.pv_slope.specs.Methods.{method_of};
 ghost use Rattle.pv_cli.specs.Systems.{files, AreOnlyRead, IsFetched, HasSystem, RefusesSystem, RefusesFetch, IsRuleFor, HasRule, RefusesSettings, RefusesRule};
 
 use crate::Refusal;
@@ -12,8 +11,7 @@ use pv_ctc::{Program, ProgramRefused};
 use pv_expr::System;
 use pv_io::{FetchRefused, Folder};
 use pv_parse::{ParseRefused, parse};
-use pv_settle::SystemSettler;
-use pv_slope::CenteredSettler;
+use pv_slope::FormSettler;
 use std::alloc::Global;
 
 /// The longest text of a system, in bytes.
@@ -61,13 +59,13 @@ pub(crate) fn settler_in<'a, F: Folder>(
     folder: &mut F,
     name: &'a str,
     settings: &Settings<'a>,
-) -> Result<SystemSettler, Refusal<'a>>
+) -> Result<FormSettler, Refusal<'a>>
     ensures read { AreOnlyRead
         (files (F.content folder.old) (F.fetch_faults folder.old) (F.store_faults folder.old))
         (files (F.content folder.new) (F.fetch_faults folder.new) (F.store_faults folder.new)) }
     ensures rule { IfOk result
         (λ s. HasRule (files (F.content folder.old) (F.fetch_faults folder.old)
-        (F.store_faults folder.old)) name.now settings.now (rule_of s)) }
+        (F.store_faults folder.old)) name.now settings.now (method_of s)) }
     ensures refused { IfErr result
         (RefusesRule (files (F.content folder.old) (F.fetch_faults folder.old)
         (F.store_faults folder.old))
@@ -85,8 +83,8 @@ pub(crate) fn settler_for<'a>(
     alloc: Global,
     system: System,
     settings: &Settings<'a>,
-) -> Result<SystemSettler, Refusal<'a>>
-    ensures rule { IfOk result (λ s. IsRuleFor system settings.now (rule_of s)) }
+) -> Result<FormSettler, Refusal<'a>>
+    ensures rule { IfOk result (λ s. IsRuleFor system settings.now (method_of s)) }
     ensures refused { IfErr result (RefusesSettings system settings.now) }
 {
     let program = match program_for(alloc, &system, settings) {
@@ -98,30 +96,7 @@ pub(crate) fn settler_for<'a>(
         depth: settings.depth,
         bisector: settings.bisector,
     };
-    Ok(SystemSettler::new(alloc, system, program, by)?)
-}
-
-/// The settler of a system with centered forms, by the settings.
-pub(crate) fn centered_for<'a>(
-    alloc: Global,
-    system: System,
-    settings: &Settings<'a>,
-) -> Result<CenteredSettler, Refusal<'a>>
-    ensures rule { IfOk result (λ s. IsRuleFor system settings.now (centered.rule_of s)) }
-    ensures refused { IfErr result (RefusesSettings system settings.now) }
-{
-    let program = match program_for(alloc, &system, settings) {
-        Ok(program) => program,
-        Err(refusal) => return Err(refusal),
-    };
-    Ok(CenteredSettler::new(
-        alloc,
-        system,
-        program,
-        settings.eps,
-        settings.depth,
-        settings.bisector,
-    )?)
+    Ok(FormSettler::new(alloc, settings.form, system, program, by)?)
 }
 
 // The contractor program that the settings spell.

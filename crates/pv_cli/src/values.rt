@@ -2,13 +2,15 @@
 ghost use Rattle.std.specs.Prelude.{◌≡◌, ◌≢◌, ◌<◌, ◌==◌, ℕ, List, pos, true, IsTrue, MatchOption, MatchResult, IfSome, IfErr, IfOk, OnOk, length, slice_index, ◌∷◌, []};
 ghost use Rattle.pv_num.specs.Extended.{Extended, Fin, PosInf};
 ghost use Rattle.pv_num.specs.Order.{le};
-ghost use Rattle.pv_cli.specs.Requests.{IsDigits, IsCount, IsWidth, IsLevel, AreLevels, words_between, bisector_name};
+ghost use Rattle.pv_cli.specs.Requests.{IsDigits, IsCount, IsWidth, IsLevel, AreLevels, words_between, bisector_name, form_name};
+ghost use Rattle.pv_slope.specs.declared.form.Form as declared;
 ghost use Rattle.pv_cli.specs.Found.{RefusesValues, EndsWithLevel};
 
 use crate::Refusal;
 use pv_box::Bisector;
 use pv_num::{End, Num};
 use pv_parse::read_number;
+use pv_slope::Form;
 use std::alloc::Global;
 
 /// The number of one to ten digits, where it is from `low` to `high`.
@@ -130,5 +132,27 @@ pub(crate) fn bisector_of(text: &str) -> Option<Bisector>
         "largest" => Some(Bisector::Largest),
         "round" => Some(Bisector::Round),
         _ => None,
+    }
+}
+
+/// The form of a name.
+pub(crate) fn form_of(text: &str) -> Option<Form>
+    ensures { MatchOption result ((f : declared.Form) → text.now ≡ form_name f → ⊥)
+        (λ f. text.now ≡ form_name f) }
+{
+    match text {
+        "plain" => Some(Form::Plain),
+        "centered" => Some(Form::Centered),
+        _ => None,
+    }
+}
+
+/// The name of a form.
+pub(crate) fn name_of_form(form: Form) -> &'static str
+    ensures { result.now ≡ form_name form }
+{
+    match form {
+        Form::Plain => "plain",
+        Form::Centered => "centered",
     }
 }

@@ -118,7 +118,7 @@ fn check<R: Abort + Threads + Wait + Sync>(
     Ok(())
 }
 
-const ROUNDS: [Turn; 6] = [
+const ROUNDS: [Turn; 8] = [
     (
         "campaign s --eps 0.25 --keep k --boxes 1 --rounds 1",
         Prints(1, ONE_SETTLED),
@@ -149,6 +149,17 @@ const ROUNDS: [Turn; 6] = [
     (
         "run s --eps 0.25 --boxes 1 --out m",
         Prints(1, ONE_SETTLED),
+        ALL,
+    ),
+    // One form's campaign is not gone on with by the other.
+    (
+        "campaign s --eps 0.25 --keep c --boxes 1 --form centered",
+        Prints(1, ONE_SETTLED),
+        ALL,
+    ),
+    (
+        "campaign s --eps 0.25 --keep c --boxes 1",
+        Tells(4, "paving c: wrong identity\n"),
         ALL,
     ),
 ];

@@ -83,6 +83,43 @@ fn centered_forms(rt: HostRuntime) -> Result<(), Fail> {
     follow(&rt, rt.alloc(), &FILES, &[], &STEPS)
 }
 
+const HALVES: &str =
+    "settled 3 cut 1 removed 0 inner 2 small 0 open 0\nC 0 1:-1 0:0 1:0\nI 0:0 1:-1\nI 1:-1 1:0\n";
+
+// Each command that reads a paving takes one of its own form alone.
+const FORMS: [Step; 13] = [
+    (
+        "run less --form centered --out p",
+        Stores(0, INNER, "p", WHOLE),
+    ),
+    ("run less --form=centered", Prints(0, INNER_NODE)),
+    ("resume less open --form centered", Prints(0, HALVES)),
+    ("resume less p --form centered", Prints(0, INNER_NODE)),
+    ("merge less p p --form centered", Prints(0, INNER_NODE)),
+    ("audit less p --form centered", Prints(0, "honest\n")),
+    ("resume less p", Tells(4, "paving p: wrong identity\n")),
+    (
+        "merge less p --form plain",
+        Tells(4, "paving p: wrong identity\n"),
+    ),
+    (
+        "resume less natural --form centered",
+        Tells(4, "paving natural: wrong identity\n"),
+    ),
+    (
+        "merge less natural --form centered",
+        Tells(4, "paving natural: wrong identity\n"),
+    ),
+    ("run less --form slopes", Tells(2, USAGE)),
+    ("run-centered less --form centered", Tells(2, USAGE)),
+    ("least less --of x --form centered", Tells(2, USAGE)),
+];
+
+#[test]
+fn forms_of_commands(rt: HostRuntime) -> Result<(), Fail> {
+    follow(&rt, rt.alloc(), &FILES, &[], &FORMS)
+}
+
 const REFUSED: [Step; 4] = [
     ("run-centered less --workers 17", Tells(2, USAGE)),
     (

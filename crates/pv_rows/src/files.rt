@@ -77,7 +77,7 @@ pub(crate) const FILES: [(&str, &str); 17] = [
     ("open", SPLIT),
 ];
 
-const RUNS: [Step; 7] = [
+const RUNS: [Step; 10] = [
     (
         "run s --eps 0.25 --boxes 1 --out a",
         Stores(1, ONE_SETTLED, "a", PART),
@@ -100,6 +100,18 @@ const RUNS: [Step; 7] = [
     (
         "resume s a --eps 0.25 --boxes 100000",
         Tells(8, "tree limit: 1 settled\n"),
+    ),
+    (
+        "resume s a --eps 0.25 --boxes 100001 --limit 100001",
+        Tells(8, "tree limit: 1 settled\n"),
+    ),
+    (
+        "resume s a --eps 0.25 --boxes 100000 --limit 100001 --out d",
+        Stores(0, SUMMARY, "d", WHOLE),
+    ),
+    (
+        "merge s b d --eps 0.25 --limit 100000000 --out d",
+        Stores(0, SUMMARY, "d", WHOLE),
     ),
     ("audit s b --eps 0.25", Prints(0, "honest\n")),
     (

@@ -64,7 +64,7 @@ fn least_values(rt: HostRuntime) -> Result<(), Fail> {
 }
 
 // Words, and the line for them. The contractor program is read before the objective.
-const REFUSED: [(&str, &str); 12] = [
+const REFUSED: [(&str, &str); 13] = [
     ("least s --of 2*", "objective: byte 2: EndOfText\n"),
     ("least s --of=", "objective: byte 0: EndOfText\n"),
     ("least s --of x+y", "objective: byte 2: UnknownName\n"),
@@ -77,6 +77,7 @@ const REFUSED: [(&str, &str); 12] = [
     ("least s --of x --of x", USAGE),
     ("least s --of x --boxes 0", USAGE),
     ("least s --of x --boxes 100001", USAGE),
+    ("least s --of x --boxes 100001 --limit 100000", USAGE),
     ("least s --of x --eps x", USAGE),
     ("least s --of x --workers 2", USAGE),
     ("least s --of x --out m", USAGE),

@@ -29,7 +29,7 @@ const FILES: [(&str, &str); 8] = [
     ("plus", "Variables x in [0,4]; Constraints x + <= 1; end\n"),
 ];
 
-const DRAWN: [Step; 10] = [
+const DRAWN: [Step; 13] = [
     ("run square --out p", Prints(0, INNER)),
     ("svg square p --x x --y y", Prints(0, HALF)),
     (
@@ -66,6 +66,15 @@ const DRAWN: [Step; 10] = [
             0,
             "<svg xmlns=\"http://www.w3.org/2000/svg\" width=\"1000\" height=\"1000\" viewBox=\"0 0 1000 1000\">\n</svg>\n",
         ),
+    ),
+    ("run cube --form centered --out d", Prints(0, INNER)),
+    (
+        "svg cube d --x x --y z --at 1.5 --form centered",
+        Prints(0, HALF),
+    ),
+    (
+        "svg cube d --x x --y z --at 1.5",
+        Tells(4, "paving d: wrong identity\n"),
     ),
 ];
 

@@ -168,7 +168,7 @@ pub(crate) const WORK: [Row; 21] = [
     ),
 ];
 
-pub(crate) const REFUSED: [Row; 25] = [
+pub(crate) const REFUSED: [Row; 29] = [
     ("run", HALF_LINE, Tells(2, USAGE)),
     ("", HALF_LINE, Tells(2, USAGE)),
     ("check", HALF_LINE, Tells(2, USAGE)),
@@ -186,6 +186,14 @@ pub(crate) const REFUSED: [Row; 25] = [
     ("run s --depth 201", HALF_LINE, Tells(2, USAGE)),
     ("run s --depth 0", HALF_LINE, Tells(2, USAGE)),
     ("run s --boxes 100001", HALF_LINE, Tells(2, USAGE)),
+    (
+        "run s --boxes 100002 --limit 100001",
+        HALF_LINE,
+        Tells(2, USAGE),
+    ),
+    ("run s --limit 99999", HALF_LINE, Tells(2, USAGE)),
+    ("run s --limit 100000001", HALF_LINE, Tells(2, USAGE)),
+    ("check s --limit 100000", HALF_LINE, Tells(2, USAGE)),
     ("run s --boxes +1", HALF_LINE, Tells(2, USAGE)),
     ("run s --boxes 00000000001", HALF_LINE, Tells(2, USAGE)),
     ("run s --bisect wide", HALF_LINE, Tells(2, USAGE)),

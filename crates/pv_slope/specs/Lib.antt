@@ -12,3 +12,5 @@ pub mod Settling
 pub mod SlopeTable
 pub mod Spelling
 pub mod Tests
+pub mod Methods
+pub mod FormLaws

@@ -12,6 +12,7 @@
 
 mod centre;
 mod columns;
+mod form;
 mod judging;
 mod knowing;
 pub mod laws;
@@ -24,6 +25,7 @@ mod step;
 mod texts;
 mod verdicts;
 
+pub use form::{Form, FormSettler};
 pub use room::Room;
 pub use settler::CenteredSettler;
 pub use slopes::Slopes;

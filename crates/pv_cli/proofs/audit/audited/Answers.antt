@@ -4,7 +4,7 @@ use Rattle.pv_tree.specs.Trees.{leaf}
 use Rattle.pv_tree.specs.Stages.{IsStage}
 use Rattle.pv_join.specs.Audits.{IsVerdict}
 use Rattle.pv_join.specs.declared.verdict.Audit.TheVariants.{DiffersAt}
-use Rattle.pv_cli.specs.FormSettlers.{parts_of, settles}
+use Rattle.pv_slope.specs.Methods.{method_of, settle_by}
 use Rattle.pv_cli.specs.Products.{text}
 use Rattle.pv_cli.proofs.audit.audited.Goals as goal
 
@@ -12,10 +12,10 @@ pub returns-in_ok-from_slice-in-Honest-clause-honest : goal.returns-in_ok-from_s
 returns-in_ok-from_slice-in-Honest-clause-honest c =
     let s = c.args.settler.now in
     let t = c.args.paving.now.tree in
-    let verdict = subst (IsVerdict (settles s) (parts_of s).depth c.args.paving.now.root t) c.in-Honest.is c.in_ok-audit.ensures in
+    let verdict = subst (IsVerdict (settle_by (method_of s)) (method_of s).parts.depth c.args.paving.now.root t) c.in-Honest.is c.in_ok-audit.ensures in
     record {
-      honest = λ system settings is. c.learn_honest.ensures system settings is
-          (subst (λ (b : List Bounds). IsStage (settles s) (parts_of s).depth b leaf t) c.requires.root verdict);
+      honest = λ system settings is. c.learn_honest.ensures.honest system settings is
+          (subst (λ (b : List Bounds). IsStage (settle_by (method_of s)) (method_of s).parts.depth b leaf t) c.requires.root verdict);
       is = ap text c.in_ok-from_slice-in-Honest.ensures.items;
     }
 
@@ -28,7 +28,7 @@ returns-in-DiffersAt-clause-other c =
     inl (record {
       path = path;
       due = due;
-      verdict = subst (λ (b : List Bounds). IsVerdict (settles s) (parts_of s).depth b t (DiffersAt path due)) c.requires.root
-          (subst (IsVerdict (settles s) (parts_of s).depth c.args.paving.now.root t) c.in-DiffersAt.is c.in_ok-audit.ensures);
+      verdict = subst (λ (b : List Bounds). IsVerdict (settle_by (method_of s)) (method_of s).parts.depth b t (DiffersAt path due)) c.requires.root
+          (subst (IsVerdict (settle_by (method_of s)) (method_of s).parts.depth c.args.paving.now.root t) c.in-DiffersAt.is c.in_ok-audit.ensures);
       told = c.differs.ensures;
     })

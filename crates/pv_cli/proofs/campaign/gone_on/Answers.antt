@@ -1,4 +1,4 @@
-use Rattle.pv_settle.specs.Settlers.{rule_of}
+use Rattle.pv_slope.specs.Methods.{method_of}
 use Rattle.pv_cli.specs.Campaigns.{stock}
 use Rattle.pv_cli.specs.declared.refusal.Refusal.TheVariants.{Memory}
 use Rattle.pv_cli.proofs.Ends.{passed}
@@ -8,6 +8,6 @@ use Rattle.pv_cli.proofs.campaign.gone_on.Goals as goal
 pub returns-in_err-reported-in-Ok-clause-refused : goal.returns-in_err-reported-in-Ok-clause-refused
 returns-in_err-reported-in-Ok-clause-refused g c =
     passed c.from_residual-in_err-reported-in-Ok.result Memory _ c.from_residual-in_err-reported-in-Ok.ensures.1
-    (memory_behind (rule_of c.args.settler.now) (stock (g.P.Keeper.kept c.args.keeper.now) (g.P.Keeper.faults c.args.keeper.now))
-    (stock (g.P.Keeper.kept c.hold-held.new.keeper) (g.P.Keeper.faults c.hold-held.new.keeper)) c.args.effort.now.boxes c.args.rounds.now c.in_ok-root.root
+    (memory_behind (method_of c.args.settler.now) (stock (g.P.Keeper.kept c.args.keeper.now) (g.P.Keeper.faults c.args.keeper.now))
+    (stock (g.P.Keeper.kept c.hold-held.new.keeper) (g.P.Keeper.faults c.hold-held.new.keeper)) c.args.effort.now.limit c.args.effort.now.boxes c.args.rounds.now c.in_ok-root.root
     c.in_ok-identity.identity c.in-Ok.campaign.tree c.in_ok-root.ensures.intervals c.in_ok-identity.ensures c.in-Ok.ensures.held)

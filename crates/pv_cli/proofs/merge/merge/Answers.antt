@@ -1,7 +1,7 @@
 use Rattle.std.proofs.Common.{◌≤◌, List, ℕ, rules, ap₂, subst}
 use Rattle.pv_interval.specs.Bounds.{Bounds}
 use Rattle.pv_tree.specs.Trees.{IsPaving}
-use Rattle.pv_settle.specs.Settlers.{rule_of}
+use Rattle.pv_slope.specs.Methods.{method_of}
 use Rattle.pv_cli.specs.Requests.{names_in}
 use Rattle.pv_cli.specs.Pavings.{settled_in}
 use Rattle.pv_cli.specs.Products.{paved}
@@ -11,13 +11,13 @@ use Rattle.pv_cli.proofs.merge.merge.Goals as goal
 
 pub returns-in-Err-clause-refused : goal.returns-in-Err-clause-refused
 returns-in-Err-clause-refused g c =
-    opening_refused _ _ c.args.system.now (names_in c.args.names.now) c.args.settings.now 0 c.in-Err.refusal c.in-Err.ensures.refused
+    opening_refused _ _ c.args.system.now (names_in c.args.names.now) c.args.settings.now c.args.limit 0 c.in-Err.refusal c.in-Err.ensures.refused
 
-pub returns-then-settled-gt-MOST_SETTLED-clause-refused : goal.returns-then-settled-gt-MOST_SETTLED-clause-refused
-returns-then-settled-gt-MOST_SETTLED-clause-refused g c =
+pub returns-then-settled-gt-nodes-clause-refused : goal.returns-then-settled-gt-nodes-clause-refused
+returns-then-settled-gt-nodes-clause-refused g c =
     let o = c.in-Ok.ensures.opened in
     record {
-      rule = rule_of c.in-Ok.opening.settler;
+      rule = method_of c.in-Ok.opening.settler;
       trees = o.trees;
       opening = c.in-Ok.opening.paving.tree;
       opened = o.opening;
@@ -29,9 +29,9 @@ pub returns-clause-comes : goal.returns-clause-comes
 returns-clause-comes g c =
     let o = c.in-Ok.ensures.opened in
     let t = c.in-Ok.opening.paving.tree in
-    let few : settled_in t ≤ 100000 = search rules in
+    let few : settled_in t ≤ c.args.limit = search rules in
     record {
-      rule = rule_of c.in-Ok.opening.settler;
+      rule = method_of c.in-Ok.opening.settler;
       trees = o.trees;
       tree = t;
       opened = o.opening;

@@ -1,11 +1,11 @@
 use Rattle.pv_cli.specs.Found.{rows_in}
-use Rattle.pv_cli.specs.declared.request.Form.TheVariants.{Natural, Centered}
+use Rattle.pv_slope.specs.declared.form.Form.TheVariants.{Plain, Centered}
 use Rattle.pv_cli.specs.Requests.{runs, resumes, merges, audits, draws, samples, seeks, keeps}
 use Rattle.pv_cli.proofs.Asked.{read_as}
 use Rattle.pv_cli.proofs.reading.command_in.Goals as goal
 
 pub returns-in-run : goal.returns-in-run
-returns-in-run c = read_as c.args.command.now (rows_in c.args.found.now) (runs Natural) c.run_in.result c.in-run.is c.run_in.ensures
+returns-in-run c = read_as c.args.command.now (rows_in c.args.found.now) (runs Plain) c.run_in.result c.in-run.is c.run_in.ensures
 
 pub returns-in-resume : goal.returns-in-resume
 returns-in-resume c = read_as c.args.command.now (rows_in c.args.found.now) resumes c.resume_in.result c.in-resume.is c.resume_in.ensures
@@ -14,7 +14,7 @@ pub returns-in-merge : goal.returns-in-merge
 returns-in-merge c = read_as c.args.command.now (rows_in c.args.found.now) merges c.merge_in.result c.in-merge.is c.merge_in.ensures
 
 pub returns-in-audit : goal.returns-in-audit
-returns-in-audit c = read_as c.args.command.now (rows_in c.args.found.now) (audits Natural) c.audit_in.result c.in-audit.is c.audit_in.ensures
+returns-in-audit c = read_as c.args.command.now (rows_in c.args.found.now) (audits Plain) c.audit_in.result c.in-audit.is c.audit_in.ensures
 
 pub returns-in-svg : goal.returns-in-svg
 returns-in-svg c = read_as c.args.command.now (rows_in c.args.found.now) draws c.svg_in.result c.in-svg.is c.svg_in.ensures

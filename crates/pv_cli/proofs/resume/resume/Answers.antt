@@ -1,5 +1,5 @@
 use Rattle.std.proofs.Common.{◌≤◌, ◌+◌, rules}
-use Rattle.pv_settle.specs.Settlers.{rule_of}
+use Rattle.pv_slope.specs.Methods.{method_of}
 use Rattle.pv_cli.specs.Requests.{names_in}
 use Rattle.pv_cli.specs.Pavings.{settled_in}
 use Rattle.pv_cli.proofs.Refused.{opening_refused}
@@ -8,13 +8,13 @@ use Rattle.pv_cli.proofs.resume.resume.Goals as goal
 
 pub returns-in-Err-clause-refused : goal.returns-in-Err-clause-refused
 returns-in-Err-clause-refused g c =
-    opening_refused _ _ c.args.system.now (names_in c.args.names.now) c.args.settings.now c.args.effort.now.boxes c.in-Err.refusal c.in-Err.ensures.refused
+    opening_refused _ _ c.args.system.now (names_in c.args.names.now) c.args.settings.now c.args.effort.now.limit c.args.effort.now.boxes c.in-Err.refusal c.in-Err.ensures.refused
 
-pub returns-then-settled-effort-gt-MOST_SETTLED-clause-refused : goal.returns-then-settled-effort-gt-MOST_SETTLED-clause-refused
-returns-then-settled-effort-gt-MOST_SETTLED-clause-refused g c =
+pub returns-then-settled-effort-gt-nodes-clause-refused : goal.returns-then-settled-effort-gt-nodes-clause-refused
+returns-then-settled-effort-gt-nodes-clause-refused g c =
     let o = c.in-Ok.ensures.opened in
     record {
-      rule = rule_of c.in-Ok.opening.settler;
+      rule = method_of c.in-Ok.opening.settler;
       trees = o.trees;
       opening = c.in-Ok.opening.paving.tree;
       opened = o.opening;
@@ -25,10 +25,10 @@ returns-then-settled-effort-gt-MOST_SETTLED-clause-refused g c =
 pub returns-clause-comes : goal.returns-clause-comes
 returns-clause-comes g c =
     let o = c.in-Ok.ensures.opened in
-    let rule = rule_of c.in-Ok.opening.settler in
+    let rule = method_of c.in-Ok.opening.settler in
     let first = c.in-Ok.opening.paving.tree in
     let done = c.in_ok-resumed.ensures in
-    let few : settled_in first + c.args.effort.now.boxes ≤ 100000 = search rules in
+    let few : settled_in first + c.args.effort.now.boxes ≤ c.args.effort.now.limit = search rules in
     record {
       rule = rule;
       trees = o.trees;

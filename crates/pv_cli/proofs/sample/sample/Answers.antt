@@ -1,5 +1,5 @@
 use Rattle.std.proofs.Common.{ap}
-use Rattle.pv_settle.specs.Settlers.{rule_of}
+use Rattle.pv_slope.specs.Methods.{method_of}
 use Rattle.pv_cli.specs.Products.{text}
 use Rattle.pv_cli.proofs.sample.sample.Goals as goal
 
@@ -11,7 +11,7 @@ returns-clause-comes g c =
       settings_are = c.settings-settings.ensures;
       system = by.system;
       means = by.means;
-      rule = rule_of c.in-Ok.settler;
+      rule = method_of c.in-Ok.settler;
       rule_is = by.is;
       honest = c.in_ok-reported.ensures.honest by.system c.settings-settings.result by.is;
       is = ap text c.in_ok-reported.ensures.report;

@@ -1,8 +1,8 @@
 use Rattle.std.proofs.Common.{◌≡◌, rules, length, ◌∙◌, ap}
 use Rattle.pv_svg.specs.Rectangles.{picture_of}
 use Rattle.pv_svg.specs.Texts.{picture_text}
-use Rattle.pv_settle.specs.Settlers.{rule_of}
-use Rattle.pv_settle.specs.Spelling.{identity_of}
+use Rattle.pv_slope.specs.Methods.{method_of}
+use Rattle.pv_slope.specs.Methods.{identity_of}
 use Rattle.pv_cli.specs.Systems.{files, search_box}
 use Rattle.pv_cli.specs.Files.{HoldsPaving, RefusesFile}
 use Rattle.pv_cli.specs.Products.{text}
@@ -16,24 +16,24 @@ pub returns-in-Err-clause-refused : goal.returns-in-Err-clause-refused
 returns-in-Err-clause-refused g c =
     let before = (files (g.F.Folder.content c.args.folder.now) (g.F.Folder.fetch_faults c.args.folder.now) (g.F.Folder.store_faults c.args.folder.now)) in
     let after = (files (g.F.Folder.content c.scene_in.new.folder) (g.F.Folder.fetch_faults c.scene_in.new.folder) (g.F.Folder.store_faults c.scene_in.new.folder)) in
-    scene_refused before after c.args.system.now c.args.settings.now c.args.view.now c.args.name.now c.in-Err.refusal c.in-Err.ensures.refused
+    scene_refused before after c.args.system.now c.args.settings.now c.args.view.now c.args.limit c.args.name.now c.in-Err.refusal c.in-Err.ensures.refused
 
 pub returns-in-Err-paving_in-clause-refused : goal.returns-in-Err-paving_in-clause-refused
 returns-in-Err-paving_in-clause-refused g c =
     let before = (files (g.F.Folder.content c.args.folder.now) (g.F.Folder.fetch_faults c.args.folder.now) (g.F.Folder.store_faults c.args.folder.now)) in
     let mid = (files (g.F.Folder.content c.scene_in.new.folder) (g.F.Folder.fetch_faults c.scene_in.new.folder) (g.F.Folder.store_faults c.scene_in.new.folder)) in
     let after = (files (g.F.Folder.content c.paving_in.new.folder) (g.F.Folder.fetch_faults c.paving_in.new.folder) (g.F.Folder.store_faults c.paving_in.new.folder)) in
-    let rule = rule_of c.in-Ok.scene.settler in
+    let rule = method_of c.in-Ok.scene.settler in
     let seen = c.in-Ok.ensures.scene in
     let key = c.in_ok-key.ensures in
-    picture_refused before after c.args.system.now c.args.settings.now c.args.view.now c.args.name.now c.in-Err-paving_in.refusal
+    picture_refused before after c.args.system.now c.args.settings.now c.args.view.now c.args.limit c.args.name.now c.in-Err-paving_in.refusal
     (record {
       rule = rule;
       read = seen.read;
       plane = plane_of c.in-Ok.scene.axes c.args.view.now.at.items;
       shown = seen.plane;
-      refused = refused_before before mid c.in-Ok.ensures.read after (identity_of rule) (search_box rule) c.args.name.now c.in-Err-paving_in.refusal
-          (by_key (λ i x. RefusesFile mid after i x c.args.name.now c.in-Err-paving_in.refusal) (identity_of rule) (search_box rule) c.in_ok-key.key key.identity key.root c.in-Err-paving_in.ensures.refused);
+      refused = refused_before before mid c.in-Ok.ensures.read c.args.limit after (identity_of rule) (search_box rule) c.args.name.now c.in-Err-paving_in.refusal
+          (by_key (λ n i x. RefusesFile mid after n i x c.args.name.now c.in-Err-paving_in.refusal) c.args.limit rule c.in_ok-key.key key c.in-Err-paving_in.ensures.refused);
     })
 
 pub returns-clause-read : goal.returns-clause-read
@@ -43,41 +43,15 @@ pub returns-clause-comes : goal.returns-clause-comes
 returns-clause-comes g c =
     let before = (files (g.F.Folder.content c.args.folder.now) (g.F.Folder.fetch_faults c.args.folder.now) (g.F.Folder.store_faults c.args.folder.now)) in
     let mid = (files (g.F.Folder.content c.scene_in.new.folder) (g.F.Folder.fetch_faults c.scene_in.new.folder) (g.F.Folder.store_faults c.scene_in.new.folder)) in
-    let rule = rule_of c.in-Ok.scene.settler in
+    let rule = method_of c.in-Ok.scene.settler in
     let seen = c.in-Ok.ensures.scene in
     let t = c.in-Ok-paving_in.paving.tree in
     let root = c.in-Ok-paving_in.ensures.root ∙ c.in_ok-key.ensures.root in
     let same : c.deref.result.now ≡ c.args.view.now.at.items = search rules in
-    svg_comes before c.args.system.now c.args.name.now c.args.settings.now c.args.view.now c.in-Ok.scene c.in-Ok-paving_in.paving.root t _ seen
-    (paving_before before mid c.in-Ok.ensures.read (identity_of rule) (search_box rule) c.args.name.now t
-    (by_key (λ i x. HoldsPaving mid i x c.args.name.now t) (identity_of rule) (search_box rule) c.in_ok-key.key c.in_ok-key.ensures.identity c.in_ok-key.ensures.root c.in-Ok-paving_in.ensures.paving))
+    svg_comes before c.args.system.now c.args.name.now c.args.settings.now c.args.limit c.args.view.now c.in-Ok.scene c.in-Ok-paving_in.paving.root t _ seen
+    (paving_before before mid c.in-Ok.ensures.read c.args.limit (identity_of rule) (search_box rule) c.args.name.now t
+    (by_key (λ n i x. HoldsPaving mid n i x c.args.name.now t) c.args.limit rule c.in_ok-key.key c.in_ok-key.ensures c.in-Ok-paving_in.ensures.paving))
     root (ap length root ∙ dims_from before c.args.system.now c.args.settings.now rule seen.read)
     (c.learn_honest.ensures.honest seen.read.system c.args.settings.now seen.read.is)
     c.pictures_are_sound.ensures
     (ap (λ d. text (picture_text d)) (c.in_ok-picture.ensures ∙ ap (λ at. picture_of (plane_of c.in-Ok.scene.axes at) c.in-Ok-paving_in.paving.root t) same))
-
-pub invariant_of-settler-in_err-picture : goal.invariant_of-settler-in_err-picture
-invariant_of-settler-in_err-picture g c =
-    let s = c.in-Ok.scene.settler in
-    record {
-      names_some = s.names_some;
-      names_few = s.names_few;
-      depth_some = s.depth_some;
-      depth_few = s.depth_few;
-      dims = s.dims;
-      over = s.over;
-      program_fits = s.program_fits;
-    }
-
-pub invariant_of-settler-2 : goal.invariant_of-settler-2
-invariant_of-settler-2 g c =
-    let s = c.in-Ok.scene.settler in
-    record {
-      names_some = s.names_some;
-      names_few = s.names_few;
-      depth_some = s.depth_some;
-      depth_few = s.depth_few;
-      dims = s.dims;
-      over = s.over;
-      program_fits = s.program_fits;
-    }
