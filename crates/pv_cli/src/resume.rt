@@ -19,7 +19,7 @@ use pv_num::Memory;
 use pv_pool::Gate;
 use pv_slope::FormSettler;
 use pv_tree::Paving;
-use pv_workers::pave_within;
+use pv_workers::pave_knowing;
 use std::alloc::Global;
 use std::sync::Wait;
 use std::thread::Threads;
@@ -94,7 +94,7 @@ fn go_on<G: Gate + Sync, R: Threads + Wait + Sync>(
     ensures resumed { IfOk result
         (λ p. IsResumed (method_of settler.now) opening.tree effort.now.boxes p.tree) }
 {
-    let paved = pave_within(
+    let paved = pave_knowing(
         rt,
         alloc,
         settler,

@@ -16,7 +16,7 @@ use pv_io::Folder;
 use pv_num::Memory;
 use pv_pool::Gate;
 use pv_tree::{KnowingSettler, Paving};
-use pv_workers::pave_within;
+use pv_workers::pave_knowing;
 use std::alloc::Global;
 use std::sync::Wait;
 use std::thread::Threads;
@@ -74,7 +74,7 @@ where
         p.tree) }
 {
     let opening = Paving::open(alloc, root)?;
-    let paved = pave_within(
+    let paved = pave_knowing(
         rt,
         alloc,
         settler,
