@@ -29,7 +29,7 @@ use Rattle.pv_file.specs.Lines.{pair_text, ends_text, change_text, changes_text,
 use Rattle.pv_file.specs.Texts.{IsDigest, version_text, identity_text, header_text}
 use Rattle.pv_file.specs.Readings.{HaveNumberEnds, IsRightFor, settled_count}
 use Rattle.pv_file.specs.Reading.{IsRightNode}
-use Rattle.pv_file.specs.Lengths.{open_count, LinesAreShort, OpenLeavesAreFew, FilesAreShort, FilesHaveLimit}
+use Rattle.pv_file.specs.Lengths.{open_count, LinesAreShort, OpenLeavesAreFew, FilesAreShort, FilesHaveLimit, FilesAreRead}
 use Rattle.pv_file.proofs.Rights.{few_places}
 use Rattle.pv_file.proofs.Fits.{FitsHole, at_root, fit_down, right_top}
 
@@ -213,4 +213,7 @@ files-short v d b t h paving =
     omega (arith, length-append (header_text v d) (lines_of v b t), header_length v d h, tree_short v (record { path = []; box = b }) t (at_root b t paving))
 
 pub files-limit : FilesHaveLimit
-files-limit v d b t h paving few = omega (arith, files-short v d b t h paving, leaves-few t, few)
+files-limit n v d b t h paving few = omega (arith, files-short v d b t h paving, leaves-few t, few)
+
+pub files-read : FilesAreRead
+files-read n v d b t h paving few = omega (arith, files-limit n v d b t h paving few)

@@ -206,22 +206,22 @@ stepped v b body rest more old new read count total r s =
 -- ---- Where a reading ends
 
 -- The leaves to come are left open.
-pub record OpenEnd (v : Version) (b : List Bounds) (body : List ℕ) (read : ℕ) : Type 0 where
+pub record OpenEnd (limit : ℕ) (v : Version) (b : List Bounds) (body : List ℕ) (read : ℕ) : Type 0 where
   pub tree : Tree
   pub paving : IsPavingInFormat b tree
-  pub few : settled_count tree ≤ 100000
+  pub few : settled_count tree ≤ limit
   pub alike : BeginAlike read body (lines_of v b tree)
 
-few_open : (whole count none : ℕ) → whole ≡ count + none → none ≡ 0 → count ≤ 100000 → whole ≤ 100000
-few_open whole count none e z f = omega (arith, e, z, f)
+few_open : (limit whole count none : ℕ) → whole ≡ count + none → none ≡ 0 → count ≤ limit → whole ≤ limit
+few_open limit whole count none e z f = omega (arith, e, z, f)
 
-pub open_end : (v : Version) (b : List Bounds) (body rest : List ℕ) (tree : Tree) (holes : List Hole) (read count : ℕ) → IsReached v b body rest tree holes read count → count ≤ 100000
-    → OpenEnd v b body read
-open_end v b body rest tree holes read count r few =
+pub open_end : (limit : ℕ) (v : Version) (b : List Bounds) (body rest : List ℕ) (tree : Tree) (holes : List Hole) (read count : ℕ) → IsReached v b body rest tree holes read count → count ≤ limit
+    → OpenEnd limit v b body read
+open_end limit v b body rest tree holes read count r few =
     let known : Fills v b r.front tree holes count (leaves holes) = r.forth (leaves holes) (fit_leaves holes r.shorts) in record {
       tree = fill tree holes (leaves holes);
       paving = known.paving;
-      few = few_open _ count (settled_in (leaves holes)) known.settled (count_leaves holes) few;
+      few = few_open limit _ count (settled_in (leaves holes)) known.settled (count_leaves holes) few;
       alike = record { lines = r.front; bytes_rest = rest; text_rest = holes_text v holes (leaves holes); are_lines = r.lines; bytes_are = r.text; text_is = known.text };
     }
 
@@ -249,11 +249,11 @@ goes_on v b body rest tree holes read count t r a =
 
 -- ---- A line that is no node's
 
-pub stuck_bad : (v : Version) (b : List Bounds) (body rest : List ℕ) (g : Growing) (read count n : ℕ) → IsReached v b body rest g.tree g.holes read count → count ≤ 100000
-    → IsStuck v g rest → n ≡ read + 3 → IsBadBody v b body n
-stuck_bad v b body rest g read count n r few stuck e =
+pub stuck_bad : (limit : ℕ) (v : Version) (b : List Bounds) (body rest : List ℕ) (g : Growing) (read count n : ℕ) → IsReached v b body rest g.tree g.holes read count → count ≤ limit
+    → IsStuck v g rest → n ≡ read + 3 → IsBadBody limit v b body n
+stuck_bad limit v b body rest g read count n r few stuck e =
     let here : IsReached v b body rest g.tree (stuck.hole ∷ stuck.others) read count = subst (λ (hs : List Hole). IsReached v b body rest g.tree hs read count) stuck.was r in
-    let end : OpenEnd v b body read = open_end v b body rest g.tree g.holes read count r few in record {
+    let end : OpenEnd limit v b body read = open_end limit v b body rest g.tree g.holes read count r few in record {
       before = read;
       next = e;
       tree = end.tree;
@@ -309,29 +309,29 @@ stuck_none v b body rest g read count t r stuck paving e =
 
 -- ---- One settled node too many
 
-too_many : (whole count one below kinds : ℕ) → whole ≡ count + kinds → kinds ≡ one + below → one ≡ 1 → count ≡ 100000 → 100000 < whole
-too_many whole count one below kinds e f g h = omega (arith, e, f, g, h)
+too_many : (limit whole count one below kinds : ℕ) → whole ≡ count + kinds → kinds ≡ one + below → one ≡ 1 → count ≡ limit → limit < whole
+too_many limit whole count one below kinds e f g h = omega (arith, e, f, g, h)
 
 count_some : (q : Option Outcome) (o : Outcome) → q ≡ Some o → count_of q ≡ 1
 count_some q o e = ap count_of e
 
-many_at : (v : Version) (b : List Bounds) (body rest : List ℕ) (tree : Tree) (hole : Hole) (holes : List Hole) (read count : ℕ) (line more : List ℕ) (o : Outcome) (t : Tree)
-    → IsReached v b body rest tree (hole ∷ holes) read count → IsLineOf v hole line (Some o) → AtLine v tree hole holes line more t → count ≡ 100000 → 100000 < settled_count t
-many_at v b body rest tree hole holes read count line more o t r is at full =
+many_at : (limit : ℕ) (v : Version) (b : List Bounds) (body rest : List ℕ) (tree : Tree) (hole : Hole) (holes : List Hole) (read count : ℕ) (line more : List ℕ) (o : Outcome) (t : Tree)
+    → IsReached v b body rest tree (hole ∷ holes) read count → IsLineOf v hole line (Some o) → AtLine v tree hole holes line more t → count ≡ limit → limit < settled_count t
+many_at limit v b body rest tree hole holes read count line more o t r is at full =
     let known = r.forth (at.node ∷ at.others) (at.fits, at.fit) in
     let same : top at.node ≡ Some o = is.only (top at.node) (right_top hole at.node at.fits) at.says in
-    too_many (settled_count t) count (count_of (top at.node)) (settled_in (kids at.node ++ at.others)) (settled_in (at.node ∷ at.others))
+    too_many limit (settled_count t) count (count_of (top at.node)) (settled_in (kids at.node ++ at.others)) (settled_in (at.node ∷ at.others))
     (ap settled_count at.is ∙ known.settled) (count_step at.node at.others) (count_some (top at.node) o same) full
 
-pub full_none : (v : Version) (b : List Bounds) (body rest : List ℕ) (g : Growing) (read count : ℕ) (t : Tree) → IsReached v b body rest g.tree g.holes read count
-    → IsFull v g rest count → IsPavingInFormat b t → settled_count t ≤ 100000 → body ≡ lines_of v b t → ⊥
-full_none v b body rest g read count t r full paving few e =
+pub full_none : (limit : ℕ) (v : Version) (b : List Bounds) (body rest : List ℕ) (g : Growing) (read count : ℕ) (t : Tree) → IsReached v b body rest g.tree g.holes read count
+    → IsFull limit v g rest count → IsPavingInFormat b t → settled_count t ≤ limit → body ≡ lines_of v b t → ⊥
+full_none limit v b body rest g read count t r full paving few e =
     let here : IsReached v b body rest g.tree (full.hole ∷ full.others) read count = subst (λ (hs : List Hole). IsReached v b body rest g.tree hs read count) full.was r in
     let known = at_bytes v b body rest g.tree full.hole full.others read count t here paving e in
     let same = same_line rest full.line known.line full.more known.more full.free known.free full.text known.bytes in
     let at : AtLine v g.tree full.hole full.others full.line known.more t =
     subst (λ (l : List ℕ). AtLine v g.tree full.hole full.others l known.more t) (sym same.0) known.at in
-    let many : 100000 < settled_count t = many_at v b body rest g.tree full.hole full.others read count full.line known.more full.outcome t here full.is_line at full.full in
+    let many : limit < settled_count t = many_at limit v b body rest g.tree full.hole full.others read count full.line known.more full.outcome t here full.is_line at full.full in
     omega (arith, many, few)
 
 -- A larger tree, in which the next leaf is settled as the line says.
@@ -348,11 +348,11 @@ larger_of v b body rest tree holes read count r =
       alike = record { lines = r.front; bytes_rest = rest; text_rest = holes_text v holes (leaves holes); are_lines = r.lines; bytes_are = r.text; text_is = known.text };
     }
 
-pub full_many : (v : Version) (b : List Bounds) (body rest : List ℕ) (g : Growing) (read count n : ℕ) → IsReached v b body rest g.tree g.holes read count → count ≤ 100000
-    → IsFull v g rest count → n ≡ read + 3 → IsManyBody v b body n
-full_many v b body rest g read count n r few full e =
+pub full_many : (limit : ℕ) (v : Version) (b : List Bounds) (body rest : List ℕ) (g : Growing) (read count n : ℕ) → IsReached v b body rest g.tree g.holes read count → count ≤ limit
+    → IsFull limit v g rest count → n ≡ read + 3 → IsManyBody limit v b body n
+full_many limit v b body rest g read count n r few full e =
     let here : IsReached v b body rest g.tree (full.hole ∷ full.others) read count = subst (λ (hs : List Hole). IsReached v b body rest g.tree hs read count) full.was r in
-    let end : OpenEnd v b body read = open_end v b body rest g.tree g.holes read count r few in
+    let end : OpenEnd limit v b body read = open_end limit v b body rest g.tree g.holes read count r few in
     let large = larger_of v b body full.more _ _ read _ (further v b body rest g.tree full.hole full.others read count (Some full.outcome) full.line full.more here full.is_leaf full.free full.is_line full.text) in record {
       before = read;
       next = e;
@@ -368,7 +368,7 @@ full_many v b body rest g read count n r few full e =
           let same = same_line rest full.line on.line full.more on.more full.free on.free full.text on.bytes in
           let text : lines_of v b t ≡ here.front ++ (full.line ++ 10 ∷ on.other) = on.text ∙ ap (λ (x : List ℕ). here.front ++ (x ++ 10 ∷ on.other)) (sym same.0) in
           let at = at_line v b body rest g.tree full.hole full.others read count full.line on.other t here full.free paving text in
-          many_at v b body rest g.tree full.hole full.others read count full.line on.other full.outcome t here full.is_line at full.full;
+          many_at limit v b body rest g.tree full.hole full.others read count full.line on.other full.outcome t here full.is_line at full.full;
     }
 
 -- ---- No leaf is to come
@@ -389,10 +389,10 @@ no_more : (line other : List ℕ) → line ++ 10 ∷ other ≡ [] → ⊥
 no_more [] other e = no_cons 10 other (sym e)
 no_more (c ∷ cs) other e = no_cons c (cs ++ 10 ∷ other) (sym e)
 
-pub trailing_bad : (v : Version) (b : List Bounds) (body rest : List ℕ) (tree : Tree) (read count n : ℕ) → IsReached v b body rest tree [] read count → count ≤ 100000 → n ≡ read + 3
-    → IsBadBody v b body n
-trailing_bad v b body rest tree read count n r few e =
-    let end : OpenEnd v b body read = open_end v b body rest tree [] read count r few in record {
+pub trailing_bad : (limit : ℕ) (v : Version) (b : List Bounds) (body rest : List ℕ) (tree : Tree) (read count n : ℕ) → IsReached v b body rest tree [] read count → count ≤ limit → n ≡ read + 3
+    → IsBadBody limit v b body n
+trailing_bad limit v b body rest tree read count n r few e =
+    let end : OpenEnd limit v b body read = open_end limit v b body rest tree [] read count r few in record {
       before = read;
       next = e;
       tree = end.tree;
@@ -420,8 +420,8 @@ done_text v b body rest tree read count r e = r.text ∙ ap (λ (x : List ℕ). 
 pub done_paving : (v : Version) (b : List Bounds) (body rest : List ℕ) (tree : Tree) (read count : ℕ) → IsReached v b body rest tree [] read count → IsPavingInFormat b tree
 done_paving v b body rest tree read count r = (r.forth [] tt).paving
 
-pub done_few : (v : Version) (b : List Bounds) (body rest : List ℕ) (tree : Tree) (read count : ℕ) → IsReached v b body rest tree [] read count → count ≤ 100000 → settled_count tree ≤ 100000
-done_few v b body rest tree read count r few = few_open (settled_count tree) count 0 (r.forth [] tt).settled refl few
+pub done_few : (limit : ℕ) (v : Version) (b : List Bounds) (body rest : List ℕ) (tree : Tree) (read count : ℕ) → IsReached v b body rest tree [] read count → count ≤ limit → settled_count tree ≤ limit
+done_few limit v b body rest tree read count r few = few_open limit (settled_count tree) count 0 (r.forth [] tt).settled refl few
 
 pub no_holes : (v : Version) (b : List Bounds) (body rest : List ℕ) (tree : Tree) (holes : List Hole) (read count : ℕ) → holes ≡ [] → IsReached v b body rest tree holes read count
     → IsReached v b body rest tree [] read count

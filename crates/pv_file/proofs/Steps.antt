@@ -140,11 +140,11 @@ stuck_at_line v g p bx rest line more n next first free text says only bad =
           bad_none q (sym bad ∙ here.1 q r (sym same ∙ t));
     }
 
-pub full_at : (v : Version) (g : Growing) (p : List Bool) (bx : List Bounds) (rest line more : List ℕ) (n : NodeLine) (at here count : ℕ) → IsNext g p
-    → IsFirstBox g.holes bx → IsFree 10 line → rest ≡ line ++ 10 ∷ more → SaysNode v p bx line n → Only v p bx line n → IsMany n at here count
-    → (at ≡ here) × IsFull v g rest count
-full_at v g p bx rest line more node.Open at here' count next first free text says only many = absurd many
-full_at v g p bx rest line more (node.Settled o) at here' count next first free text says only many =
+pub full_at : (limit : ℕ) (v : Version) (g : Growing) (p : List Bool) (bx : List Bounds) (rest line more : List ℕ) (n : NodeLine) (at here count : ℕ) → IsNext g p
+    → IsFirstBox g.holes bx → IsFree 10 line → rest ≡ line ++ 10 ∷ more → SaysNode v p bx line n → Only v p bx line n → IsMany limit n at here count
+    → (at ≡ here) × IsFull limit v g rest count
+full_at limit v g p bx rest line more node.Open at here' count next first free text says only many = absurd many
+full_at limit v g p bx rest line more (node.Settled o) at here' count next first free text says only many =
     let box : bx ≡ next.hole.box = first_box g.holes next.hole next.rest bx next.is first in
     let here = at_hole v p bx next.hole line (node.Settled o) next.path box says only in (
       many.0,
@@ -162,4 +162,4 @@ full_at v g p bx rest line more (node.Settled o) at here' count next first free 
         full = many.1;
       },
     )
-full_at v g p bx rest line more node.Bad at here' count next first free text says only many = absurd many
+full_at limit v g p bx rest line more node.Bad at here' count next first free text says only many = absurd many

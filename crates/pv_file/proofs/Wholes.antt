@@ -77,8 +77,8 @@ same_version bytes v w r s e f =
 trivial_paving : (b : List Bounds) → IsBox b → IsPavingInFormat b leaf
 trivial_paving b box = record { paving = record { box = box; paves = tt; depth = omega arith }; numbers = tt }
 
-first_bad : (bytes identity : List ℕ) (b : List Bounds) → IsBox b → ((v : Version) (rest : List ℕ) → bytes ≡ version_text v ++ 10 ∷ rest → ⊥) → IsFirstBadLine 1 bytes identity b
-first_bad bytes identity b box none = record {
+first_bad : (limit : ℕ) (bytes identity : List ℕ) (b : List Bounds) → IsBox b → ((v : Version) (rest : List ℕ) → bytes ≡ version_text v ++ 10 ∷ rest → ⊥) → IsFirstBadLine limit 1 bytes identity b
+first_bad limit bytes identity b box none = record {
   before = 0;
   next = refl;
   good = record {
@@ -91,8 +91,8 @@ first_bad bytes identity b box none = record {
       none begins.version p.rest p.text;
 }
 
-second_bad : (bytes identity : List ℕ) (b : List Bounds) (v : Version) (rest : List ℕ) → IsBox b → bytes ≡ version_text v ++ 10 ∷ rest → HasNoIdentity rest → IsFirstBadLine 2 bytes identity b
-second_bad bytes identity b v rest box e none = record {
+second_bad : (limit : ℕ) (bytes identity : List ℕ) (b : List Bounds) (v : Version) (rest : List ℕ) → IsBox b → bytes ≡ version_text v ++ 10 ∷ rest → HasNoIdentity rest → IsFirstBadLine limit 2 bytes identity b
+second_bad limit bytes identity b v rest box e none = record {
   before = 1;
   next = refl;
   good = record {
@@ -111,9 +111,9 @@ second_bad bytes identity b v rest box e none = record {
       none other q.rest digest (same.1 ∙ q.text);
 }
 
-pub bad_header : (n : ℕ) (bytes identity : List ℕ) (b : List Bounds) → IsBox b → IsBadHeader n bytes → IsFirstBadLine n bytes identity b
-bad_header n bytes identity b box (inl h) = subst (λ (k : ℕ). IsFirstBadLine k bytes identity b) (sym h.0) (first_bad bytes identity b box h.1)
-bad_header n bytes identity b box (inr h) = subst (λ (k : ℕ). IsFirstBadLine k bytes identity b) (sym h.0) (second_bad bytes identity b h.1 h.2 box h.3 h.4)
+pub bad_header : (limit n : ℕ) (bytes identity : List ℕ) (b : List Bounds) → IsBox b → IsBadHeader n bytes → IsFirstBadLine limit n bytes identity b
+bad_header limit n bytes identity b box (inl h) = subst (λ (k : ℕ). IsFirstBadLine limit k bytes identity b) (sym h.0) (first_bad limit bytes identity b box h.1)
+bad_header limit n bytes identity b box (inr h) = subst (λ (k : ℕ). IsFirstBadLine limit k bytes identity b) (sym h.0) (second_bad limit bytes identity b h.1 h.2 box h.3 h.4)
 
 pub other_header : (bytes identity : List ℕ) (b : List Bounds) → IsBox b → HasOtherHeader bytes identity → HasOtherIdentity bytes identity b
 other_header bytes identity b box h = record {
@@ -159,9 +159,9 @@ ahead n bytes identity body v b t digest e a =
 third : (n before : ℕ) → n ≡ before + 3 → n ≡ suc (suc (suc before))
 third n before e = omega (arith, e)
 
-pub bad_body : (n : ℕ) (bytes identity body : List ℕ) (v : Version) (b : List Bounds) → IsDigest identity → bytes ≡ header_text v identity ++ body → IsBadBody v b body n
-    → IsFirstBadLine n bytes identity b
-bad_body n bytes identity body v b digest e h =
+pub bad_body : (limit n : ℕ) (bytes identity body : List ℕ) (v : Version) (b : List Bounds) → IsDigest identity → bytes ≡ header_text v identity ++ body → IsBadBody limit v b body n
+    → IsFirstBadLine limit n bytes identity b
+bad_body limit n bytes identity body v b digest e h =
     let three : n ≡ suc (suc (suc h.before)) = third n h.before h.next in record {
       before = suc (suc h.before);
       next = three;
@@ -175,9 +175,9 @@ bad_body n bytes identity body v b digest e h =
           h.bad t begins.paving (behind (suc h.before) bytes identity other body v begins.version b t digest others e a).alike;
     }
 
-pub many_body : (n : ℕ) (bytes identity body : List ℕ) (v : Version) (b : List Bounds) → IsDigest identity → bytes ≡ header_text v identity ++ body → IsManyBody v b body n
-    → IsOneTooMany n bytes identity b
-many_body n bytes identity body v b digest e h =
+pub many_body : (limit n : ℕ) (bytes identity body : List ℕ) (v : Version) (b : List Bounds) → IsDigest identity → bytes ≡ header_text v identity ++ body → IsManyBody limit v b body n
+    → IsOneTooMany limit n bytes identity b
+many_body limit n bytes identity body v b digest e h =
     let three : n ≡ suc (suc (suc h.before)) = third n h.before h.next in record {
       before = suc (suc h.before);
       next = three;

@@ -26,7 +26,16 @@ abbrev pub FilesAreShort : Type 0
 FilesAreShort = (v : Version) (identity : List ℕ) (b : List Bounds) (t : Tree) → IsDigest identity → IsPavingInFormat b t
     → length (file_text v identity b t) ≤ 83 + (660 * settled_count t + 2 * open_count t)
 
--- The file of a paving with at most 100,000 settled nodes has fewer than 67,000,000 bytes.
+-- The file of a paving with at most n settled nodes has at most so many bytes: for 100,000 fewer than 67,000,000.
 abbrev pub FilesHaveLimit : Type 0
-FilesHaveLimit = (v : Version) (identity : List ℕ) (b : List Bounds) (t : Tree) → IsDigest identity → IsPavingInFormat b t
-    → settled_count t ≤ 100000 → length (file_text v identity b t) < 67000000
+FilesHaveLimit = (n : ℕ) (v : Version) (identity : List ℕ) (b : List Bounds) (t : Tree) → IsDigest identity → IsPavingInFormat b t
+    → settled_count t ≤ n → length (file_text v identity b t) ≤ 83 + (660 * n + 2 * (n + 1))
+
+-- The greatest length of a file that is read where a tree may have at most n settled nodes: for 100,000 it is 70,000,000 bytes.
+abbrev pub length_limit : ℕ → ℕ
+length_limit n = 662 * n + 3800000
+
+-- The file of a paving with at most n settled nodes is never too long for them.
+abbrev pub FilesAreRead : Type 0
+FilesAreRead = (n : ℕ) (v : Version) (identity : List ℕ) (b : List Bounds) (t : Tree) → IsDigest identity → IsPavingInFormat b t
+    → settled_count t ≤ n → length (file_text v identity b t) < length_limit n

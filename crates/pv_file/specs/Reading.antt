@@ -87,11 +87,11 @@ IsPut old new count total node.Open = (new ≡ pass_next old) × (total ≡ coun
 IsPut old new count total (node.Settled o) = (new ≡ settle_next old o) × (total ≡ count + 1)
 IsPut old new count total node.Bad = ⊥
 
--- a settled node too many
-abbrev pub IsMany : NodeLine → ℕ → ℕ → ℕ → Type 0
-IsMany node.Open n line count = ⊥
-IsMany (node.Settled o) n line count = (n ≡ line) × (count ≡ 100000)
-IsMany node.Bad n line count = ⊥
+-- a settled node more than the limit
+abbrev pub IsMany : ℕ → NodeLine → ℕ → ℕ → ℕ → Type 0
+IsMany limit node.Open n line count = ⊥
+IsMany limit (node.Settled o) n line count = (n ≡ line) × (count ≡ limit)
+IsMany limit node.Bad n line count = ⊥
 
 -- A line is one node's at a hole, and no other's.
 pub record IsLineOf (v : Version) (hole : Hole) (line : List ℕ) (q : Option Outcome) : Type 0 where
@@ -123,8 +123,8 @@ pub record IsStuck (v : Version) (g : Growing) (rest : List ℕ) : Type 0 where
   pub none : (line more : List ℕ) (q : Option Outcome) → IsFree 10 line → rest ≡ line ++ 10 ∷ more → IsRightNode hole.path hole.box q
       → line ≡ node_line_with (kept_text v hole.box) q → ⊥
 
--- The line is right, and one settled node too many.
-pub record IsFull (v : Version) (g : Growing) (rest : List ℕ) (count : ℕ) : Type 0 where
+-- The line is right, and one settled node more than the limit.
+pub record IsFull (limit : ℕ) (v : Version) (g : Growing) (rest : List ℕ) (count : ℕ) : Type 0 where
   pub hole : Hole
   pub others : List Hole
   pub was : g.holes ≡ hole ∷ others
@@ -135,29 +135,29 @@ pub record IsFull (v : Version) (g : Growing) (rest : List ℕ) (count : ℕ) : 
   pub free : IsFree 10 line
   pub is_line : IsLineOf v hole line (Some outcome)
   pub text : rest ≡ line ++ 10 ∷ more
-  pub full : count ≡ 100000
+  pub full : count ≡ limit
 
 -- ---- All lines
 
--- The first bad line of the nodes, where the first line of the file is 1.
-pub record IsBadBody (v : Version) (b : List Bounds) (body : List ℕ) (n : ℕ) : Type 0 where
+-- The first bad line of the nodes, where the first line of the file is 1. Before it there are at most so many settled nodes as the limit.
+pub record IsBadBody (limit : ℕ) (v : Version) (b : List Bounds) (body : List ℕ) (n : ℕ) : Type 0 where
   pub before : ℕ
   pub next : n ≡ before + 3
   pub tree : Tree
   pub paving : IsPavingInFormat b tree
-  pub few : settled_count tree ≤ 100000
+  pub few : settled_count tree ≤ limit
   pub alike : BeginAlike before body (lines_of v b tree)
   pub bad : (t : Tree) → IsPavingInFormat b t → BeginAlike (suc before) body (lines_of v b t) → ⊥
 
--- The line of the 100,001st settled node.
-pub record IsManyBody (v : Version) (b : List Bounds) (body : List ℕ) (n : ℕ) : Type 0 where
+-- The line of the first settled node more than the limit.
+pub record IsManyBody (limit : ℕ) (v : Version) (b : List Bounds) (body : List ℕ) (n : ℕ) : Type 0 where
   pub before : ℕ
   pub next : n ≡ before + 3
   pub tree : Tree
   pub paving : IsPavingInFormat b tree
-  pub few : settled_count tree ≤ 100000
+  pub few : settled_count tree ≤ limit
   pub alike : BeginAlike before body (lines_of v b tree)
   pub large : Tree
   pub large_paving : IsPavingInFormat b large
   pub large_alike : BeginAlike (suc before) body (lines_of v b large)
-  pub many : (t : Tree) → IsPavingInFormat b t → BeginAlike (suc before) body (lines_of v b t) → 100000 < settled_count t
+  pub many : (t : Tree) → IsPavingInFormat b t → BeginAlike (suc before) body (lines_of v b t) → limit < settled_count t

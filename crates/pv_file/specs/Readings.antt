@@ -63,11 +63,11 @@ pub record BeginsAs (n : ℕ) (bytes identity : List ℕ) (b : List Bounds) (t :
   pub paving : IsPavingInFormat b t
   pub alike : BeginAlike n bytes (file_text version identity b t)
 
--- some paving with at most 100,000 settled nodes has a file that begins so
-pub record BeginsWell (n : ℕ) (bytes identity : List ℕ) (b : List Bounds) : Type 0 where
+-- some paving with at most so many settled nodes as the limit has a file that begins so
+pub record BeginsWell (limit n : ℕ) (bytes identity : List ℕ) (b : List Bounds) : Type 0 where
   pub tree : Tree
   pub begins : BeginsAs n bytes identity b tree
-  pub few : settled_count tree ≤ 100000
+  pub few : settled_count tree ≤ limit
 
 -- The first two lines are those of a file with another identity.
 pub record HasOtherIdentity (bytes identity : List ℕ) (b : List Bounds) : Type 0 where
@@ -78,20 +78,20 @@ pub record HasOtherIdentity (bytes identity : List ℕ) (b : List Bounds) : Type
   pub begins : BeginsAs 2 bytes other b tree
 
 -- Line n is the first with which the bytes don't begin as a file, whatever its identity.
-pub record IsFirstBadLine (n : ℕ) (bytes identity : List ℕ) (b : List Bounds) : Type 0 where
+pub record IsFirstBadLine (limit n : ℕ) (bytes identity : List ℕ) (b : List Bounds) : Type 0 where
   pub before : ℕ
   pub next : n ≡ suc before
-  pub good : BeginsWell before bytes identity b
+  pub good : BeginsWell limit before bytes identity b
   pub bad : (other : List ℕ) (t : Tree) → IsDigest other → BeginsAs n bytes other b t → ⊥
 
--- With line n there are more than 100,000 settled nodes, and not before.
-pub record IsOneTooMany (n : ℕ) (bytes identity : List ℕ) (b : List Bounds) : Type 0 where
+-- With line n there are more settled nodes than the limit, and not before.
+pub record IsOneTooMany (limit n : ℕ) (bytes identity : List ℕ) (b : List Bounds) : Type 0 where
   pub before : ℕ
   pub next : n ≡ suc before
-  pub good : BeginsWell before bytes identity b
+  pub good : BeginsWell limit before bytes identity b
   pub tree : Tree
   pub begins : BeginsAs n bytes identity b tree
-  pub many : (t : Tree) → BeginsAs n bytes identity b t → 100000 < settled_count t
+  pub many : (t : Tree) → BeginsAs n bytes identity b t → limit < settled_count t
 
 -- the numbers of an outcome are numbers of the format
 abbrev pub OutcomeHasNumbers : Outcome → Type 0

@@ -5,6 +5,7 @@ ghost use Rattle.pv_file.specs.Lengths.{
   OpenLeavesAreFew,
   FilesAreShort,
   FilesHaveLimit,
+  FilesAreRead,
 };
 ghost use Rattle.pv_file.specs.Readings.{TextsDiffer, OneIdentity};
 
@@ -16,12 +17,13 @@ pub fn different_texts()
 {}
 
 /// In numbers of the format, the line of a settled node has at most 660 bytes with its line feed,
-/// that of an open leaf 2, and the two lines before the nodes have 83. With at most 100,000 settled
-/// nodes, and so at most 100,001 open leaves, a paving's file of either version has fewer than
-/// 67,000,000 bytes: it is never longer than the 70,000,000 bytes that are read of a file.
+/// that of an open leaf 2, and the two lines before the nodes have 83. With at most n settled
+/// nodes, and so at most n + 1 open leaves, a paving's file of either version is never too long to
+/// be read where a tree may have n settled nodes.
 pub fn text_lengths()
     ensures lines { LinesAreShort }
     ensures leaves { OpenLeavesAreFew }
     ensures files { FilesAreShort }
     ensures limit { FilesHaveLimit }
+    ensures read { FilesAreRead }
 {}

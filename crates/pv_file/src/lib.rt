@@ -20,7 +20,7 @@ mod writer;
 pub use header::hex_digits;
 pub use lines::{write_node, write_outcome};
 pub use outcome_line::read_outcome;
-pub use reader::read;
+pub use reader::{most_bytes, read, read_within};
 pub use refusal::{FileRefused, FileWriteRefused};
 pub use scribe::Scribe;
 pub use version::Version;

@@ -6,6 +6,7 @@ ghost use Rattle.pv_tree.specs.declared.outcome.Outcome.{Outcome};
 ghost use Rattle.pv_file.specs.Lines.{kept_text, node_line_with, lines_of};
 ghost use Rattle.pv_file.specs.Texts.{header_text, version_text, identity_text};
 ghost use Rattle.pv_file.specs.Readings.{IsFree, IsTextOf, IsPavingInFormat, settled_count, HasOtherIdentity, IsFirstBadLine, IsOneTooMany};
+ghost use Rattle.pv_file.specs.Lengths.{length_limit};
 ghost use Rattle.pv_file.specs.Reading.{IsBadHeader, HasOtherHeader, HasOtherSecond, HasNoIdentity, IsRightNode, node_of, SaysNode, StandsAt, TakesNode, IsPut, IsMany, IsStep, IsStuck, IsFull, IsBadBody, IsManyBody};
 
 use crate::cut::line_end;
@@ -15,18 +16,21 @@ use crate::refusal::FileRefused;
 use crate::version::Version;
 use pv_box::IBox;
 use pv_num::Memory;
-use pv_tree::{Growth, MOST_STEPS, Outcome, Path, Paving};
+use pv_tree::{Growth, MOST_STEPS, NodeLimit, Outcome, Path, Paving};
 use std::alloc::Global;
-
-/// The most settled nodes that a file may have.
-const MOST_SETTLED: u64 = 100_000;
 
 // The number of the first node's line.
 const FIRST_NODE: u64 = 3;
 
-/// The paving of a file, of either version, over a root box. A refusal but want of memory is the
-/// first fault of the bytes, which are then no file of a paving over that box for that identity
-/// with at most 100,000 settled nodes.
+/// The greatest length of a file that is read where a tree has at most so many settled nodes as the
+/// limit. No file of such a paving is longer, as `laws::text_lengths` says.
+pub fn most_bytes(limit: NodeLimit) -> u64
+    ensures { result ≡ length_limit limit }
+{
+    662 * limit.nodes() + 3_800_000
+}
+
+/// The paving of a file with at most 100,000 settled nodes, as `read_within` gives it.
 pub fn read(
     alloc: Global,
     bytes: &[u8],
@@ -43,14 +47,41 @@ pub fn read(
     ensures wrong_identity { result ≡ Err FileRefused.WrongIdentity
         → HasOtherIdentity bytes.now identity root.now }
     ensures bad_line { (n : ℕ) → result ≡ Err (FileRefused.BadLine n)
-        → IsFirstBadLine n bytes.now identity root.now }
+        → IsFirstBadLine 100000 n bytes.now identity root.now }
     ensures too_many { (n : ℕ) → result ≡ Err (FileRefused.TooManyNodes n)
-        → IsOneTooMany n bytes.now identity root.now }
+        → IsOneTooMany 100000 n bytes.now identity root.now }
+{
+    read_within(alloc, bytes, identity, root, NodeLimit::by_default())
+}
+
+/// The paving of a file, of either version, over a root box. A refusal but want of memory is the
+/// first fault of the bytes, which are then no file of a paving over that box for that identity
+/// with at most so many settled nodes as the limit.
+pub fn read_within(
+    alloc: Global,
+    bytes: &[u8],
+    identity: [u8; 32],
+    root: &IBox,
+    limit: NodeLimit,
+) -> Result<Paving, FileRefused>
+    ensures root { IfOk result (λ p. p.root ≡ root.now) }
+    ensures text { IfOk result (λ p. IsTextOf bytes.now identity root.now p.tree) }
+    ensures numbers { IfOk result (λ p. IsPavingInFormat root.now p.tree) }
+    ensures few { IfOk result (λ p. settled_count p.tree ≤ limit) }
+    ensures complete { (t : Tree) → IsPavingInFormat root.now t → settled_count t ≤ limit
+        → IsTextOf bytes.now identity root.now t
+        → MatchResult result (λ p. p.tree ≡ t) (λ e. e ≡ FileRefused.Memory) }
+    ensures wrong_identity { result ≡ Err FileRefused.WrongIdentity
+        → HasOtherIdentity bytes.now identity root.now }
+    ensures bad_line { (n : ℕ) → result ≡ Err (FileRefused.BadLine n)
+        → IsFirstBadLine limit n bytes.now identity root.now }
+    ensures too_many { (n : ℕ) → result ≡ Err (FileRefused.TooManyNodes n)
+        → IsOneTooMany limit n bytes.now identity root.now }
 {
     let _places = root.dims();
     learn_digest(&identity);
     match read_header(bytes, &identity) {
-        Ok(header) => read_nodes(alloc, header.version, header.rest, root),
+        Ok(header) => read_nodes(alloc, header.version, header.rest, root, limit),
         Err(refusal) => Err(refusal),
     }
 }
@@ -209,14 +240,14 @@ fn take_node<'a>(
 ) -> Result<Taken<'a>, FileRefused>
     requires next { IsNext growth.old at.path }
     requires bx { IsFirstBox growth.old.holes bx.now }
-    requires settled { at.settled ≤ 100000 }
+    requires settled { at.settled ≤ at.limit }
     ensures step { IfOk result
         (λ t. IsStep version growth.old growth.new rest.now t.rest.now at.settled t.settled) }
-    ensures few { IfOk result (λ t. t.settled ≤ 100000) }
+    ensures few { IfOk result (λ t. t.settled ≤ at.limit) }
     ensures bad { (n : ℕ) → result ≡ Err (FileRefused.BadLine n)
         → (n ≡ at.line) × IsStuck version growth.old rest.now }
     ensures full { (n : ℕ) → result ≡ Err (FileRefused.TooManyNodes n)
-        → (n ≡ at.line) × IsFull version growth.old rest.now at.settled }
+        → (n ≡ at.line) × IsFull at.limit version growth.old rest.now at.settled }
     ensures not_other { result ≢ Err FileRefused.WrongIdentity }
 {
     match cut_line(rest) {
@@ -234,24 +265,26 @@ fn take_node<'a>(
     }
 }
 
-// Where a reading stands: at the line of a node, with the number of settled ones before it.
+// Where a reading stands: at the line of a node, with the number of settled ones before it, of
+// which there may be so many as the limit.
 #[derive(Clone, Copy)]
 struct Place {
     path: Path,
     line: u64,
     settled: u64,
+    limit: NodeLimit,
 }
 
 // Puts a node at the leaf that comes next, and counts the settled nodes.
 fn put_node(growth: &mut Growth, node: NodeLine, at: Place) -> Result<u64, FileRefused>
     requires takes { TakesNode growth.old.holes node }
-    requires few { at.settled ≤ 100000 }
+    requires few { at.settled ≤ at.limit }
     ensures put { IfOk result (λ total. IsPut growth.old growth.new at.settled total node) }
-    ensures few { IfOk result (λ total. total ≤ 100000) }
+    ensures few { IfOk result (λ total. total ≤ at.limit) }
     ensures bad { (n : ℕ) → result ≡ Err (FileRefused.BadLine n)
         → (n ≡ at.line) × (node ≡ NodeLine.Bad) }
     ensures many { (n : ℕ) → result ≡ Err (FileRefused.TooManyNodes n)
-        → IsMany node n at.line at.settled }
+        → IsMany at.limit node n at.line at.settled }
     ensures not_other { result ≢ Err FileRefused.WrongIdentity }
 {
     match node {
@@ -260,7 +293,7 @@ fn put_node(growth: &mut Growth, node: NodeLine, at: Place) -> Result<u64, FileR
             Ok(at.settled)
         }
         NodeLine::Settled { outcome } => {
-            if at.settled == MOST_SETTLED {
+            if at.settled == at.limit.nodes() {
                 return Err(FileRefused::TooManyNodes { line: at.line });
             }
             growth.settle(outcome)?;
@@ -276,19 +309,20 @@ fn read_nodes(
     version: Version,
     body: &[u8],
     root: &IBox,
+    limit: NodeLimit,
 ) -> Result<Paving, FileRefused>
     ensures root { IfOk result (λ p. p.root ≡ root.now) }
     ensures text { IfOk result (λ p. body.now ≡ lines_of version root.now p.tree) }
     ensures numbers { IfOk result (λ p. IsPavingInFormat root.now p.tree) }
-    ensures few { IfOk result (λ p. settled_count p.tree ≤ 100000) }
-    ensures complete { (t : Tree) → IsPavingInFormat root.now t → settled_count t ≤ 100000
+    ensures few { IfOk result (λ p. settled_count p.tree ≤ limit) }
+    ensures complete { (t : Tree) → IsPavingInFormat root.now t → settled_count t ≤ limit
         → body.now ≡ lines_of version root.now t
         → MatchResult result (λ p. p.tree ≡ t) (λ e. e ≡ FileRefused.Memory) }
     ensures not_other { result ≢ Err FileRefused.WrongIdentity }
     ensures bad { (n : ℕ) → result ≡ Err (FileRefused.BadLine n)
-        → IsBadBody version root.now body.now n }
+        → IsBadBody limit version root.now body.now n }
     ensures many { (n : ℕ) → result ≡ Err (FileRefused.TooManyNodes n)
-        → IsManyBody version root.now body.now n }
+        → IsManyBody limit version root.now body.now n }
 {
     let _places = root.dims();
     let mut growth = Growth::open(alloc, root.clone_of(alloc)?)?;
@@ -300,6 +334,7 @@ fn read_nodes(
             path,
             line,
             settled,
+            limit,
         };
         match take_node(alloc, version, &bx, rest, at, &mut growth) {
             Ok(taken) => {

@@ -21,7 +21,7 @@ pub enum FileRefused {
     WrongIdentity,
     /// The line with this number, counted from 1, is the first that no such file has there.
     BadLine { line: u64 },
-    /// The line with this number, counted from 1, is the 100,001st of a settled node.
+    /// The line with this number, counted from 1, is that of the first settled node more than may be.
     TooManyNodes { line: u64 },
     /// There was no memory.
     Memory,

@@ -7,7 +7,7 @@ use pv_box::IBox;
 use pv_interval::Interval;
 use pv_io::{MemSink, PlainSink, Sink};
 use pv_num::{Memory, Num};
-use pv_tree::{Path, Paving};
+use pv_tree::{NodeLimit, Path, Paving};
 use std::alloc::Global;
 use std::process::Abort;
 use std::test::Fail;
@@ -223,15 +223,46 @@ fn push_leaf(leaf: u32, out: &mut Vec<u8>) -> Result<(), Memory> {
     Ok(())
 }
 
-#[test]
-fn a_large_tree_is_too_large(rt: HostRuntime) -> Result<(), Fail> {
-    let alloc = rt.alloc();
-    let root = box_to(alloc, Num::ONE)?;
+// The text of the tree that is cut in halves on 16 levels: 65,535 cuts and 65,536 leaves.
+fn large_text(alloc: Global) -> Result<Vec<u8>, Memory> {
     let mut text = text_of(alloc, HEADER_TWO, "")?;
     for leaf in 0..65_536 {
         push_leaf(leaf, &mut text)?;
     }
+    Ok(text)
+}
+
+// How many nodes are settled in a file that is read within a limit, or why it is refused.
+fn read_to(
+    alloc: Global,
+    text: &[u8],
+    root: &IBox,
+    nodes: u64,
+) -> Result<Result<u64, FileRefused>, Fail> {
+    let limit = NodeLimit::new(nodes).ok_or("no limit")?;
+    match read_within(alloc, text, IDENTITY, root, limit) {
+        Ok(paving) => Ok(Ok(paving.counts().settled())),
+        Err(refused) => Ok(Err(refused)),
+    }
+}
+
+#[test]
+fn a_large_tree_is_read_within_a_large_limit(rt: HostRuntime) -> Result<(), Fail> {
+    let alloc = rt.alloc();
+    let root = box_to(alloc, Num::ONE)?;
+    let text = large_text(alloc)?;
     let many = FileRefused::TooManyNodes { line: 100_003 };
     assert_eq!(rt; refusal_of(alloc, &text, &root), Some(many));
+    let last = FileRefused::TooManyNodes { line: 131_073 };
+    assert_eq!(rt; read_to(alloc, &text, &root, 131_070)?, Err(last));
+    assert_eq!(rt; read_to(alloc, &text, &root, 131_071)?, Ok(131_071));
+    Ok(())
+}
+
+#[test]
+fn the_greatest_length_follows_the_limit(rt: HostRuntime) -> Result<(), Fail> {
+    assert_eq!(rt; most_bytes(NodeLimit::DEFAULT), 70_000_000);
+    let greatest = NodeLimit::new(100_000_000).ok_or("no limit")?;
+    assert_eq!(rt; most_bytes(greatest), 66_203_800_000);
     Ok(())
 }

@@ -23,17 +23,17 @@ returns-in-Err-clause-complete c = λ t paving few e.
     refused_memory c.in-Err.refusal
     (λ w. c.take_node.ensures.not_other (c.in-Err.is ∙ ap Err w))
     (λ n w. stuck_none _ _ _ _ c.loop-path.growth _ _ t r (c.take_node.ensures.bad n (c.in-Err.is ∙ ap Err w)).1 paving e)
-    (λ n w. full_none _ _ _ _ c.loop-path.growth _ _ t r (c.take_node.ensures.full n (c.in-Err.is ∙ ap Err w)).1 paving few e)
+    (λ n w. full_none _ _ _ _ _ c.loop-path.growth _ _ t r (c.take_node.ensures.full n (c.in-Err.is ∙ ap Err w)).1 paving few e)
 
 pub returns-in-Err-clause-bad : goal.returns-in-Err-clause-bad
 returns-in-Err-clause-bad c = λ n e.
     let bad = c.take_node.ensures.bad n (c.in-Err.is ∙ ap Err (same_error _ _ e)) in
-    stuck_bad _ _ _ _ c.loop-path.growth c.loop-path.invariant.read _ n c.loop-path.invariant.reached c.loop-path.invariant.few bad.1 (bad.0 ∙ c.loop-path.invariant.line)
+    stuck_bad _ _ _ _ _ c.loop-path.growth c.loop-path.invariant.read _ n c.loop-path.invariant.reached c.loop-path.invariant.few bad.1 (bad.0 ∙ c.loop-path.invariant.line)
 
 pub returns-in-Err-clause-many : goal.returns-in-Err-clause-many
 returns-in-Err-clause-many c = λ n e.
     let many = c.take_node.ensures.full n (c.in-Err.is ∙ ap Err (same_error _ _ e)) in
-    full_many _ _ _ _ c.loop-path.growth c.loop-path.invariant.read _ n c.loop-path.invariant.reached c.loop-path.invariant.few many.1 (many.0 ∙ c.loop-path.invariant.line)
+    full_many _ _ _ _ _ c.loop-path.growth c.loop-path.invariant.read _ n c.loop-path.invariant.reached c.loop-path.invariant.few many.1 (many.0 ∙ c.loop-path.invariant.line)
 
 pub overflow_add-line : goal.overflow_add-line
 overflow_add-line c =
@@ -66,7 +66,7 @@ returns-then-is_empty-clause-numbers c =
 pub returns-then-is_empty-clause-few : goal.returns-then-is_empty-clause-few
 returns-then-is_empty-clause-few c =
     let r = no_holes _ _ _ _ _ _ _ _ (c.next_leaf.ensures.none c.in_default.is) c.loop-path.invariant.reached in
-    subst (λ (t : Tree). settled_count t ≤ 100000) (sym c.finish.ensures.tree) (done_few _ _ _ _ c.loop-path.growth.tree _ _ r c.loop-path.invariant.few)
+    subst (λ (t : Tree). settled_count t ≤ c.args.limit) (sym c.finish.ensures.tree) (done_few _ _ _ _ _ c.loop-path.growth.tree _ _ r c.loop-path.invariant.few)
 
 pub returns-then-is_empty-clause-complete : goal.returns-then-is_empty-clause-complete
 returns-then-is_empty-clause-complete c = λ t paving few e.
@@ -81,4 +81,4 @@ returns-else-is_empty-clause-complete c = λ t paving few e.
 pub returns-else-is_empty-clause-bad : goal.returns-else-is_empty-clause-bad
 returns-else-is_empty-clause-bad c = λ n e.
     let r = no_holes _ _ _ _ _ _ _ _ (c.next_leaf.ensures.none c.in_default.is) c.loop-path.invariant.reached in
-    trailing_bad _ _ _ _ c.loop-path.growth.tree c.loop-path.invariant.read _ n r c.loop-path.invariant.few (same_bad c.loop-path.line n e ∙ c.loop-path.invariant.line)
+    trailing_bad _ _ _ _ _ c.loop-path.growth.tree c.loop-path.invariant.read _ n r c.loop-path.invariant.few (same_bad c.loop-path.line n e ∙ c.loop-path.invariant.line)

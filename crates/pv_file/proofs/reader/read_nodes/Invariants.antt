@@ -8,7 +8,7 @@ invariant-loop-path l = record {
   bx : length l.bx ≡ length l.root;
   read : ℕ;
   line : l.line ≡ read + 3;
-  few : l.settled ≤ 100000;
+  few : l.settled ≤ l.limit;
   reached : IsReached l.version l.root l.body l.rest l.growth.tree l.growth.holes read l.settled;
 }
 

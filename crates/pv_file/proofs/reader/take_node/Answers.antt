@@ -19,7 +19,7 @@ returns-in-Err-clause-bad c = λ n e.
 
 pub returns-in-Err-clause-full : goal.returns-in-Err-clause-full
 returns-in-Err-clause-full c = λ n e.
-    full_at c.args.version c.args.growth.now c.args.at.path c.args.bx.now c.args.rest.now c.in-Some.cut.line.now c.in-Some.cut.rest.now c.in_ok-node-in-Some.node n c.args.at.line
+    full_at c.args.at.limit c.args.version c.args.growth.now c.args.at.path c.args.bx.now c.args.rest.now c.in-Some.cut.line.now c.in-Some.cut.rest.now c.in_ok-node-in-Some.node n c.args.at.line
     c.args.at.settled c.requires.next c.requires.bx c.in-Some.ensures.free c.in-Some.ensures.sound c.in_ok-node-in-Some.ensures.sound c.in_ok-node-in-Some.ensures.complete
     (c.put_node.ensures.many n (c.in-Err.is ∙ ap Err (same_error _ _ e)))
 

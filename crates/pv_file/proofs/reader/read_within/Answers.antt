@@ -2,7 +2,7 @@ use Rattle.std.proofs.Common.{◌∙◌, ap}
 use Rattle.std.specs.Prelude.{Err}
 use Rattle.pv_file.proofs.Refusals.{same_error, refused_memory}
 use Rattle.pv_file.proofs.Wholes.{bad_header, other_header, bad_body, many_body, body_of, no_bad_header, no_other_header}
-use Rattle.pv_file.proofs.reader.read.Goals as goal
+use Rattle.pv_file.proofs.reader.read_within.Goals as goal
 
 pub returns-in-Ok-clause-complete : goal.returns-in-Ok-clause-complete
 returns-in-Ok-clause-complete c = λ t paving few text.
@@ -11,11 +11,11 @@ returns-in-Ok-clause-complete c = λ t paving few text.
 
 pub returns-in-Ok-clause-bad_line : goal.returns-in-Ok-clause-bad_line
 returns-in-Ok-clause-bad_line c = λ n e.
-    bad_body n c.args.bytes.now c.args.identity c.in-Ok.header.rest.now c.in-Ok.header.version c.args.root.now c.learn_digest.ensures c.in-Ok.ensures.text (c.read_nodes.ensures.bad n e)
+    bad_body c.args.limit n c.args.bytes.now c.args.identity c.in-Ok.header.rest.now c.in-Ok.header.version c.args.root.now c.learn_digest.ensures c.in-Ok.ensures.text (c.read_nodes.ensures.bad n e)
 
 pub returns-in-Ok-clause-too_many : goal.returns-in-Ok-clause-too_many
 returns-in-Ok-clause-too_many c = λ n e.
-    many_body n c.args.bytes.now c.args.identity c.in-Ok.header.rest.now c.in-Ok.header.version c.args.root.now c.learn_digest.ensures c.in-Ok.ensures.text (c.read_nodes.ensures.many n e)
+    many_body c.args.limit n c.args.bytes.now c.args.identity c.in-Ok.header.rest.now c.in-Ok.header.version c.args.root.now c.learn_digest.ensures c.in-Ok.ensures.text (c.read_nodes.ensures.many n e)
 
 pub returns-in-Err-clause-complete : goal.returns-in-Err-clause-complete
 returns-in-Err-clause-complete c = λ t paving few text.
@@ -30,4 +30,4 @@ returns-in-Err-clause-wrong_identity c = λ e.
 
 pub returns-in-Err-clause-bad_line : goal.returns-in-Err-clause-bad_line
 returns-in-Err-clause-bad_line c = λ n e.
-    bad_header n c.args.bytes.now c.args.identity c.args.root.now c.dims-places.ensures.is_box (c.read_header.ensures.bad n (c.in-Err.is ∙ ap Err (same_error _ _ e)))
+    bad_header c.args.limit n c.args.bytes.now c.args.identity c.args.root.now c.dims-places.ensures.is_box (c.read_header.ensures.bad n (c.in-Err.is ∙ ap Err (same_error _ _ e)))
