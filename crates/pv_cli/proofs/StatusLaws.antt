@@ -634,17 +634,17 @@ command_of usual (Sample circles) = samples
 command_of usual (Least system settings search) = seeks
 command_of usual (Campaign system settings effort rounds) = keeps
 
-usual_of : (name : Text) (rows : List Row) (q : Request) → IsAskedBy name rows q → Form
+abbrev usual_of : (name : Text) (rows : List Row) (q : Request) → IsAskedBy name rows q → Form
 usual_of name rows (Run system settings effort out) h = h.0.0
 usual_of name rows (Audit system paving settings limit) h = h.0.0
 usual_of name rows q h = Plain
 
 named_so : (name : Text) (rows : List Row) (q : Request) → (h : IsAskedBy name rows q) → name ≡ name_of (command_of (usual_of name rows q h) q)
 named_so name rows (Check system) h = h.0
-named_so name rows (Run system settings effort out) h = h.0.1
+named_so name rows (Run system settings effort out) h = h.0.1.0
 named_so name rows (Resume system pavings settings effort out) h = h.0
 named_so name rows (Merge system pavings settings limit out) h = h.0
-named_so name rows (Audit system paving settings limit) h = h.0.1
+named_so name rows (Audit system paving settings limit) h = h.0.1.0
 named_so name rows (Svg system paving settings limit view) h = h.0
 named_so name rows (Sample circles) h = h.0
 named_so name rows (Least system settings search) h = h.0
@@ -669,12 +669,12 @@ ask_alike words q r h k = asked_alike (subcommand_of paver_app words) q r h.1 k.
 
 values_are_good : (name : Text) (rows : List Row) (q : Request) → (h : IsAskedBy name rows q) → HasBadValueFor (command_of (usual_of name rows q h) q) rows → ⊥
 values_are_good name rows (Check system) h b = b
-values_are_good name rows (Run system settings effort out) h b = work_is_good h.0.0 rows settings effort h.0.2 h.2 b
+values_are_good name rows (Run system settings effort out) h b = work_is_good h.0.0 rows settings effort h.0.1.1 h.2 b
 values_are_good name rows (Resume system pavings settings effort out) h (inl b) = pavings_are_few rows pavings.items h.2 b
 values_are_good name rows (Resume system pavings settings effort out) h (inr b) = work_is_good Plain rows settings effort h.3 h.4 b
 values_are_good name rows (Merge system pavings settings limit out) h (inl b) = pavings_are_few rows pavings.items h.2 b
 values_are_good name rows (Merge system pavings settings limit out) h (inr b) = join_is_good Plain rows settings limit h.3 h.4 b
-values_are_good name rows (Audit system paving settings limit) h b = join_is_good h.0.0 rows settings limit h.0.2 h.3 b
+values_are_good name rows (Audit system paving settings limit) h b = join_is_good h.0.0 rows settings limit h.0.1.1 h.3 b
 values_are_good name rows (Svg system paving settings limit view) h (inl b) = b view.at.items h.5.at
 values_are_good name rows (Svg system paving settings limit view) h (inr b) = join_is_good Plain rows settings limit h.3 h.4 b
 values_are_good name rows (Sample circles) h b = circles_are_good rows circles h.1 b
