@@ -22,29 +22,29 @@ there_now untold k1 identity b = subst MayBeThere (sym b) tt
 there_now absent k1 identity b = subst MayBeThere (sym b) tt
 there_now (holds kept rows) k1 identity b = subst MayBeThere (sym b.1) tt
 
-pub opened_now : (k0 k1 k2 : Kept) (identity : List ℕ) (b : List Bounds) (rows : List Row) (t : Tree) → IsBegun k0 k1 identity → k2 ≡ k1 → AreAll k1 100000 rows → IsOrdered k1
-    → Make b leaf rows t → (InPreorder rows → rows ≡ rows_of t) → IsOpened k0 k2 identity b t
-opened_now untold k1 k2 identity b rows t begun same all ordered made are = same ∙ begun
-opened_now absent k1 k2 identity b rows t begun same all ordered made are =
-    let none : AreAll (holds identity []) 100000 rows = subst (λ (k : Kept). AreAll k 100000 rows) begun all in
+pub opened_now : (limit : ℕ) (k0 k1 k2 : Kept) (identity : List ℕ) (b : List Bounds) (rows : List Row) (t : Tree) → IsBegun k0 k1 identity → k2 ≡ k1 → AreAll k1 limit rows → IsOrdered k1
+    → Make b leaf rows t → (InPreorder rows → rows ≡ rows_of t) → IsOpened limit k0 k2 identity b t
+opened_now limit untold k1 k2 identity b rows t begun same all ordered made are = same ∙ begun
+opened_now limit absent k1 k2 identity b rows t begun same all ordered made are =
+    let none : AreAll (holds identity []) limit rows = subst (λ (k : Kept). AreAll k limit rows) begun all in
     (same ∙ begun, subst (λ (xs : List Row). Make b leaf xs t) none.0 made)
-opened_now (holds kept kept_rows) k1 k2 identity b rows t begun same all ordered made are =
-    let known : AreAll (holds kept kept_rows) 100000 rows = subst (λ (k : Kept). AreAll k 100000 rows) begun.1 all in
+opened_now limit (holds kept kept_rows) k1 k2 identity b rows t begun same all ordered made are =
+    let known : AreAll (holds kept kept_rows) limit rows = subst (λ (k : Kept). AreAll k limit rows) begun.1 all in
     let in_order : InPreorder kept_rows = subst IsOrdered begun.1 ordered in
     let list : rows ≡ rows_of t = are (subst InPreorder (sym known.0) in_order) in
     (begun.0, (same ∙ begun.1, (sym known.0 ∙ list, (subst (λ (xs : List Row). Make b leaf xs t) known.0 made, known.1))))
 
-pub few_rows : (k : Kept) (rows : List Row) → AreAll k 100000 rows → length rows ≤ 100000
-few_rows untold rows a = a
-few_rows absent rows a = absurd a
-few_rows (holds kept kept_rows) rows a = let e : length rows ≡ length kept_rows = ap length a.0 in omega (arith, a.1, e)
+pub few_rows : (limit : ℕ) (k : Kept) (rows : List Row) → AreAll k limit rows → length rows ≤ limit
+few_rows limit untold rows a = a
+few_rows limit absent rows a = absurd a
+few_rows limit (holds kept kept_rows) rows a = let e : length rows ≡ length kept_rows = ap length a.0 in omega (arith, a.1, e)
 
-pub too_many_now : (k0 k1 : Kept) (identity : List ℕ) (rows : List Row) → IsBegun k0 k1 identity → AreTooMany k1 100000 rows → HasTooMany k0 identity
-too_many_now untold k1 identity rows begun many = tt
-too_many_now absent k1 identity rows begun many =
-    let none : AreTooMany (holds identity []) 100000 rows = subst (λ (k : Kept). AreTooMany k 100000 rows) begun many in absurd (omega (arith, none.1))
-too_many_now (holds kept kept_rows) k1 identity rows begun many =
-    let known : AreTooMany (holds kept kept_rows) 100000 rows = subst (λ (k : Kept). AreTooMany k 100000 rows) begun.1 many in (begun.0, known.1)
+pub too_many_now : (limit : ℕ) (k0 k1 : Kept) (identity : List ℕ) (rows : List Row) → IsBegun k0 k1 identity → AreTooMany k1 limit rows → HasTooMany limit k0 identity
+too_many_now limit untold k1 identity rows begun many = tt
+too_many_now limit absent k1 identity rows begun many =
+    let none : AreTooMany (holds identity []) limit rows = subst (λ (k : Kept). AreTooMany k limit rows) begun many in absurd (omega (arith, none.1))
+too_many_now limit (holds kept kept_rows) k1 identity rows begun many =
+    let known : AreTooMany (holds kept kept_rows) limit rows = subst (λ (k : Kept). AreTooMany k limit rows) begun.1 many in (begun.0, known.1)
 
 none_bad : (b : List Bounds) (n : ℕ) → IsFirstBad b [] n → ⊥
 none_bad b n f = no_middle f.front f.row f.rest f.are
@@ -53,15 +53,15 @@ none_bad b n f = no_middle f.front f.row f.rest f.are
     no_middle [] row rest e = cc
     no_middle (x ∷ front) row rest e = cc
 
-pub bad_row_now : (k0 k1 : Kept) (identity : List ℕ) (b : List Bounds) (rows : List Row) (n : ℕ) → IsBegun k0 k1 identity → AreAll k1 100000 rows → IsOrdered k1
-    → (InPreorder rows → IsFirstBad b rows n) → HasBadRow k0 identity b n
-bad_row_now untold k1 identity b rows n begun all ordered bad = tt
-bad_row_now absent k1 identity b rows n begun all ordered bad =
-    let none : AreAll (holds identity []) 100000 rows = subst (λ (k : Kept). AreAll k 100000 rows) begun all in
+pub bad_row_now : (limit : ℕ) (k0 k1 : Kept) (identity : List ℕ) (b : List Bounds) (rows : List Row) (n : ℕ) → IsBegun k0 k1 identity → AreAll k1 limit rows → IsOrdered k1
+    → (InPreorder rows → IsFirstBad b rows n) → HasBadRow limit k0 identity b n
+bad_row_now limit untold k1 identity b rows n begun all ordered bad = tt
+bad_row_now limit absent k1 identity b rows n begun all ordered bad =
+    let none : AreAll (holds identity []) limit rows = subst (λ (k : Kept). AreAll k limit rows) begun all in
     let f : IsFirstBad b rows n = bad (subst InPreorder (sym none.0) tt) in
     none_bad b n (subst (λ (xs : List Row). IsFirstBad b xs n) none.0 f)
-bad_row_now (holds kept kept_rows) k1 identity b rows n begun all ordered bad =
-    let known : AreAll (holds kept kept_rows) 100000 rows = subst (λ (k : Kept). AreAll k 100000 rows) begun.1 all in
+bad_row_now limit (holds kept kept_rows) k1 identity b rows n begun all ordered bad =
+    let known : AreAll (holds kept kept_rows) limit rows = subst (λ (k : Kept). AreAll k limit rows) begun.1 all in
     let in_order : InPreorder kept_rows = subst IsOrdered begun.1 ordered in
     let f : IsFirstBad b rows n = bad (subst InPreorder (sym known.0) in_order) in
     (begun.0, (known.1, subst (λ (xs : List Row). IsFirstBad b xs n) known.0 f))
@@ -128,7 +128,7 @@ pub new_count : (s u : Tree) (rows : List Row) → IsShuffle (rows_of s) rows (r
 new_count s u rows h = omega (arith, shuffle_count (rows_of s) rows (rows_of u) h, row_count [] s, row_count [] u)
 
 -- what is told once a campaign is opened is its tree's
-pub opened_keeps : (before after : Kept) (identity : List ℕ) (b : List Bounds) (t : Tree) → IsOpened before after identity b t → KeepsTree after t
-opened_keeps untold after identity b t h = subst (λ (k : Kept). KeepsTree k t) (sym h) tt
-opened_keeps absent after identity b t h = subst (λ (k : Kept). KeepsTree k t) (sym h.0) (sym (ap rows_of h.1))
-opened_keeps (holds kept rows) after identity b t h = subst (λ (k : Kept). KeepsTree k t) (sym h.1.0) h.1.1.0
+pub opened_keeps : (limit : ℕ) (before after : Kept) (identity : List ℕ) (b : List Bounds) (t : Tree) → IsOpened limit before after identity b t → KeepsTree after t
+opened_keeps limit untold after identity b t h = subst (λ (k : Kept). KeepsTree k t) (sym h) tt
+opened_keeps limit absent after identity b t h = subst (λ (k : Kept). KeepsTree k t) (sym h.0) (sym (ap rows_of h.1))
+opened_keeps limit (holds kept rows) after identity b t h = subst (λ (k : Kept). KeepsTree k t) (sym h.1.0) h.1.1.0

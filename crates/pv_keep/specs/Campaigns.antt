@@ -7,12 +7,13 @@ use Rattle.pv_keep.specs.Rows.{rows_of}
 use Rattle.pv_keep.specs.Keeping.{Kept, untold, absent, holds}
 use Rattle.pv_keep.specs.Rebuilding.{Make, IsFirstBad}
 
--- A campaign was opened: an absent name is there with no rows and its tree is an open leaf, or the tree is that of the rows.
-abbrev pub IsOpened : Kept → Kept → List ℕ → List Bounds → Tree → Type 0
-IsOpened untold after identity b t = after ≡ untold
-IsOpened absent after identity b t = (after ≡ holds identity []) × (t ≡ leaf)
-IsOpened (holds kept rows) after identity b t =
-    (kept ≡ identity) × ((after ≡ holds kept rows) × ((rows ≡ rows_of t) × (Make b leaf rows t × (length rows ≤ 100000))))
+-- A campaign was opened: an absent name is there with no rows and its tree is an open leaf, or the tree is that of the rows,
+-- which are no more than the limit.
+abbrev pub IsOpened : ℕ → Kept → Kept → List ℕ → List Bounds → Tree → Type 0
+IsOpened limit untold after identity b t = after ≡ untold
+IsOpened limit absent after identity b t = (after ≡ holds identity []) × (t ≡ leaf)
+IsOpened limit (holds kept rows) after identity b t =
+    (kept ≡ identity) × ((after ≡ holds kept rows) × ((rows ≡ rows_of t) × (Make b leaf rows t × (length rows ≤ limit))))
 
 -- What a refused opening leaves: all as before, or an absent name that is there now with no rows.
 abbrev pub IsLeft : Kept → Kept → List ℕ → Type 0
@@ -20,17 +21,17 @@ IsLeft untold after identity = after ≡ untold
 IsLeft absent after identity = (after ≡ absent) ⊎ (after ≡ holds identity [])
 IsLeft (holds kept rows) after identity = after ≡ holds kept rows
 
--- a name has this identity and more than 100,000 rows
-abbrev pub HasTooMany : Kept → List ℕ → Type 0
-HasTooMany untold identity = Unit {0}
-HasTooMany absent identity = ⊥
-HasTooMany (holds kept rows) identity = (kept ≡ identity) × (100000 < length rows)
+-- a name has this identity and more rows than the limit
+abbrev pub HasTooMany : ℕ → Kept → List ℕ → Type 0
+HasTooMany limit untold identity = Unit {0}
+HasTooMany limit absent identity = ⊥
+HasTooMany limit (holds kept rows) identity = (kept ≡ identity) × (limit < length rows)
 
--- a name has this identity and at most 100,000 rows, of which row n is the first bad one
-abbrev pub HasBadRow : Kept → List ℕ → List Bounds → ℕ → Type 0
-HasBadRow untold identity b n = Unit {0}
-HasBadRow absent identity b n = ⊥
-HasBadRow (holds kept rows) identity b n = (kept ≡ identity) × ((length rows ≤ 100000) × IsFirstBad b rows n)
+-- a name has this identity and no more rows than the limit, of which row n is the first bad one
+abbrev pub HasBadRow : ℕ → Kept → List ℕ → List Bounds → ℕ → Type 0
+HasBadRow limit untold identity b n = Unit {0}
+HasBadRow limit absent identity b n = ⊥
+HasBadRow limit (holds kept rows) identity b n = (kept ≡ identity) × ((length rows ≤ limit) × IsFirstBad b rows n)
 
 -- the rows that are told are those of a tree
 abbrev pub KeepsTree : Kept → Tree → Type 0

@@ -7,3 +7,4 @@ pub mod Campaigns
 pub mod Beside
 pub mod Rounds
 pub mod Reopening
+pub mod Holdings

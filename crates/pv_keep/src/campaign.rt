@@ -5,6 +5,7 @@ ghost use Rattle.pv_tree.specs.Trees.{Tree};
 ghost use Rattle.pv_tree.specs.Stages.{Grows, Rule, IsStage};
 ghost use Rattle.pv_file.specs.Readings.{settled_count};
 ghost use Rattle.pv_join.specs.Joins.{IsJoin};
+ghost use Rattle.pv_keep.specs.Holdings.{seen_of};
 ghost use Rattle.pv_keep.specs.Keeping.{HasOther};
 ghost use Rattle.pv_keep.specs.Campaigns.{IsOpened, IsLeft, HasTooMany, HasBadRow, KeepsTree, IsSaved, AreStages};
 
@@ -15,38 +16,33 @@ use crate::refusal::{CampaignRefused, SaveRefused};
 use crate::row::Rows;
 use pv_box::IBox;
 use pv_join::{JoinRefused, join};
-use pv_tree::Paving;
+use pv_tree::{NodeLimit, Paving};
 use std::alloc::Global;
 use std::marker::Model;
 
-/// The most rows that a campaign has.
-const MOST_ROWS: u64 = 100_000;
-
-/// A paving that is kept between rounds under a name. It has at most 100,000 settled nodes.
+/// A paving that is kept between rounds under a name, and how many settled nodes it may have.
 #[derive(Drop)]
 pub struct Campaign {
     paving: Paving,
+    limit: NodeLimit,
 }
 
 impl Model for Campaign {
     ghost use Rattle.std.specs.Prelude.{◌≤◌};
-    ghost use Rattle.pv_tree.specs.Trees.{Seen};
-    ghost use Rattle.pv_tree.specs.Codes.{coded_seen};
     ghost use Rattle.pv_file.specs.Readings.{settled_count};
+    ghost use Rattle.pv_keep.specs.Holdings.{Holding, holding_of, coded_holding};
 
-    ghost Value = { Seen };
+    ghost Value = { Holding };
 
-    ghost coded = { coded_seen };
+    ghost coded = { coded_holding };
 
-    ghost view = { λ c. c.paving };
+    ghost view = { λ c. holding_of c.paving c.limit };
 
-    ghost invariant = { λ c. settled_count c.paving.tree ≤ 100000 };
+    ghost invariant = { λ c. settled_count c.paving.tree ≤ c.limit };
 }
 
 impl Campaign {
-    /// Begins a name and opens what is kept of it: the paving over a root box whose settled nodes
-    /// the rows are. An absent name is there from then on, with this identity and no rows, also
-    /// after some refusals; all else that is kept stays.
+    /// Opens what is kept of a name with at most 100,000 settled nodes, as `open_within` does.
     pub fn open<P: Keeper>(
         alloc: Global,
         keeper: &mut P,
@@ -55,17 +51,54 @@ impl Campaign {
         root: IBox,
     ) -> Result<Campaign, CampaignRefused>
         ensures root { IfOk result (λ c. c.root ≡ root) }
+        ensures limit { IfOk result (λ c. c.limit ≡ 100000) }
         ensures few { IfOk result (λ c. settled_count c.tree ≤ 100000) }
         ensures opened { IfOk result (λ c.
-            IsOpened (P.kept keeper.old name.now) (P.kept keeper.new name.now) identity root c.tree) }
+            IsOpened 100000 (P.kept keeper.old name.now) (P.kept keeper.new name.now) identity root c.tree) }
         ensures begun { OnOk result (P.begun keeper.new ≡ Some name.now) }
         ensures keeps { IfOk result (λ c. KeepsTree (P.kept keeper.new name.now) c.tree) }
         ensures other_identity { (found : List ℕ) → result ≡ Err (CampaignRefused.OtherIdentity found)
             → HasOther (P.kept keeper.old name.now) identity found }
         ensures too_many { IsErrOf result CampaignRefused.TooMany
-            → HasTooMany (P.kept keeper.old name.now) identity }
+            → HasTooMany 100000 (P.kept keeper.old name.now) identity }
         ensures bad_row { (n : ℕ) → result ≡ Err (CampaignRefused.BadRow n)
-            → HasBadRow (P.kept keeper.old name.now) identity root n }
+            → HasBadRow 100000 (P.kept keeper.old name.now) identity root n }
+        ensures left { OnErr result
+            (IsLeft (P.kept keeper.old name.now) (P.kept keeper.new name.now) identity) }
+        ensures others { (other : List ℕ)
+            → other ≢ name.now → P.kept keeper.new other ≡ P.kept keeper.old other }
+        ensures cause { IsErrOf result CampaignRefused.Failed
+            → Rose (P.faults keeper.old) (P.faults keeper.new) }
+        ensures counts_on { P.faults keeper.old ≤ P.faults keeper.new }
+    {
+        let limit = NodeLimit::by_default();
+        Campaign::open_within(alloc, keeper, name, identity, root, limit)
+    }
+
+    /// Begins a name and opens what is kept of it: the paving over a root box whose settled nodes
+    /// the rows are, no more than the limit. An absent name is there from then on, with this
+    /// identity and no rows, also after some refusals; all else that is kept stays.
+    pub fn open_within<P: Keeper>(
+        alloc: Global,
+        keeper: &mut P,
+        name: &str,
+        identity: [u8; 32],
+        root: IBox,
+        limit: NodeLimit,
+    ) -> Result<Campaign, CampaignRefused>
+        ensures root { IfOk result (λ c. c.root ≡ root) }
+        ensures limit { IfOk result (λ c. c.limit ≡ limit) }
+        ensures few { IfOk result (λ c. settled_count c.tree ≤ limit) }
+        ensures opened { IfOk result (λ c.
+            IsOpened limit (P.kept keeper.old name.now) (P.kept keeper.new name.now) identity root c.tree) }
+        ensures begun { OnOk result (P.begun keeper.new ≡ Some name.now) }
+        ensures keeps { IfOk result (λ c. KeepsTree (P.kept keeper.new name.now) c.tree) }
+        ensures other_identity { (found : List ℕ) → result ≡ Err (CampaignRefused.OtherIdentity found)
+            → HasOther (P.kept keeper.old name.now) identity found }
+        ensures too_many { IsErrOf result CampaignRefused.TooMany
+            → HasTooMany limit (P.kept keeper.old name.now) identity }
+        ensures bad_row { (n : ℕ) → result ≡ Err (CampaignRefused.BadRow n)
+            → HasBadRow limit (P.kept keeper.old name.now) identity root n }
         ensures left { OnErr result
             (IsLeft (P.kept keeper.old name.now) (P.kept keeper.new name.now) identity) }
         ensures others { (other : List ℕ)
@@ -76,18 +109,18 @@ impl Campaign {
     {
         keeper.begin(name, identity)?;
         let mut rows = Rows::new(alloc);
-        keeper.load(MOST_ROWS, &mut rows)?;
+        keeper.load(limit.nodes(), &mut rows)?;
         let paving = match rebuild(alloc, &rows, root) {
             Ok(paving) => paving,
             Err(refused) => return Err(refused),
         };
-        Ok(Campaign { paving })
+        Ok(Campaign { paving, limit })
     }
 
     /// The paving.
     pub fn paving(&self) -> &Paving
-        ensures is { result.now ≡ self.now }
-        ensures few { settled_count result.now.tree ≤ 100000 }
+        ensures is { result.now ≡ seen_of self.now }
+        ensures few { settled_count result.now.tree ≤ self.now.limit }
     {
         &self.paving
     }
@@ -104,11 +137,12 @@ impl Campaign {
         requires root { stage.now.root ≡ self.old.root }
         requires stages { AreStages self.old.root self.old.tree stage.now.tree }
         requires few { (t : Tree) → IsJoin self.old.tree stage.now.tree t →
-            settled_count t ≤ 100000 }
+            settled_count t ≤ self.old.limit }
         requires begun { IsSome (P.begun keeper.old) }
         requires kept { (name : List ℕ) → P.begun keeper.old ≡ Some name
             → KeepsTree (P.kept keeper.old name) self.old.tree }
         ensures root { self.new.root ≡ self.old.root }
+        ensures limit { self.new.limit ≡ self.old.limit }
         ensures joined { OnOk result (IsJoin self.old.tree stage.now.tree self.new.tree) }
         ensures count { IfOk result (λ n. settled_count self.new.tree ≡
             settled_count self.old.tree + n) }

@@ -16,7 +16,7 @@ pub enum CampaignRefused {
     Failed,
     /// The name has another identity, which is `kept`.
     OtherIdentity { kept: [u8; 32] },
-    /// More than 100,000 rows are kept.
+    /// More rows are kept than the limit.
     TooMany,
     /// The row with this number, counted from 0, is the first that is bad.
     BadRow { row: u64 },

@@ -24,7 +24,7 @@ struct Search {
 }
 
 /// The least value of an objective over the members of a box, as far as `budget` settled boxes
-/// tell. The budget is from 1 to 100,000.
+/// tell. The budget is from 1 to 100,000,000.
 pub fn least<S: Settler>(
     alloc: Global,
     settler: &S,
@@ -35,7 +35,7 @@ pub fn least<S: Settler>(
     requires settler_dims { length root.now ≡ S.dims settler.now }
     requires objective_dims { length root.now ≡ objective.now.dims }
     requires budget_some { 1 ≤ budget }
-    requires budget_few { budget ≤ 100000 }
+    requires budget_few { budget ≤ 100000000 }
     ensures lower { IfOk result (λ l. l.lower ≡ lower_of (aim_of objective.now) root.now
         (searched (S.settle_of settler.now) (S.depth_of settler.now)
         (aim_of objective.now) root.now budget)) }
@@ -85,7 +85,7 @@ impl Search {
         requires objective_dims { length self.old.growth.root ≡ objective.now.dims }
         requires leaf { length self.old.room.leaf ≡ objective.now.dims }
         requires probe { length self.old.room.probe ≡ objective.now.dims }
-        requires budget { budget ≤ 100000 }
+        requires budget { budget ≤ 100000000 }
         requires search { IsSearch (S.settle_of settler.now) (S.depth_of settler.now)
             (aim_of objective.now) self.old.growth.root budget self.old.growth self.old.found }
         ensures search { OnOk result (IsSearch (S.settle_of settler.now) (S.depth_of settler.now)
