@@ -1,6 +1,6 @@
 # make try      a first look in two minutes: paves an example by a program that is not proved, and says so
-# make          proves and builds the program and leaves it as ./paver
-# make demo     the same on JOBS processors; paves an example and leaves its picture as demo/ring.svg
+# make          proves and builds the program on JOBS processors, all that there are, and leaves it as ./paver
+# make demo     the same; paves an example and leaves its picture as demo/ring.svg
 # make test     the whole test command: the gate and the end-to-end tests
 # make fuzz     COUNT made texts, words and files each, a tenth as many systems and databases, and each allocation of each command refused in turn
 # make pictures draws each example into docs/pictures, and writes docs/GALLERY.md
@@ -8,15 +8,16 @@
 # make install PREFIX=/usr/local      the program, its man page and completions; make uninstall takes them away
 PREFIX ?= /usr/local
 SHARE := $(DESTDIR)$(PREFIX)/share
-JOBS ?= 4
+JOBS ?= $(shell nproc)
 COUNT ?= 100000
 SOURCES := $(shell find crates -name out -prune -o -type f \( -name '*.rt' -o -name '*.antt' \) -print) crates.txt
 
 all: paver
 
-# `rt run` proves, compiles and links, and then runs the program; with no words it answers its usage line.
+# The libraries are proved side by side, by the kit's own `rt` where its parts have other names than build/prove.py knows.
+# `rt run` then proves the program's own crate, compiles and links, and runs it; with no words it answers its usage line.
 paver: $(SOURCES)
-	$(PROVE_FIRST)
+	python3 build/prove.py --jobs $(JOBS) paver || { [ $$? -eq 3 ] && rt all check --jobs $(JOBS); }
 	rm -f crates/paver/out/paver
 	cd crates/paver && rt run >../../paver.log 2>&1; test -x out/paver || { tail -n 20 ../../paver.log; exit 1; }
 	rm -f paver.log
@@ -45,8 +46,6 @@ try:
 	@echo "NOT PROVED: this run took the program as it is written, with no proof. make demo proves it first."
 	@echo "the picture is in demo/try.svg"
 
-# The crates are proved side by side before the program is linked: the link alone would prove them one by one.
-demo: PROVE_FIRST = rt all check --jobs $(JOBS)
 demo: paver
 	mkdir -p demo
 	./paver run examples/ring.mbx --out demo/ring.paving

@@ -1,0 +1,149 @@
+#!/usr/bin/env python3
+"""Proves the libraries that a crate stands on, as many side by side as processors and memory allow.
+
+    python3 build/prove.py [--jobs N] [--dry-run] CRATE
+
+at the top of the repository. It works by the kit's own rtlib, so what it leaves in each out/ is what `rt check` and `rt run`
+take up. Unlike `rt all check` it proves no crate of tests or measurements, and makes no quick pass over all crates first.
+What a check says stands in its crate's out/prove.log. Status 0: all are proved. 1: one is not, and the end of its log is
+shown. 3: this kit has no rtlib that is known here, and nothing was done.
+"""
+import argparse
+import importlib.util
+import inspect
+import os
+import shutil
+import signal
+import sys
+import time
+from concurrent.futures import FIRST_COMPLETED, ThreadPoolExecutor, wait
+from typing import Any
+
+MOST_JOBS = 4  # of one check, which gains little from more
+GIGABYTE = 10 ** 9
+CALLS = ["crates_below", "files_of", "text_of", "lock", "guarded", "number_in", "GROUPS"]
+
+
+def kit() -> Any:
+    """The kit's rtlib as a module, or None where there is none or one with other calls."""
+    file = os.path.join(os.path.dirname(os.path.realpath(shutil.which("rt") or "")), "rtlib.py")
+    if not os.path.isfile(file):
+        return None
+    sys.dont_write_bytecode = True
+    spec = importlib.util.spec_from_file_location("rtlib", file)
+    module = sys.modules["rtlib"] = importlib.util.module_from_spec(spec)
+    spec.loader.exec_module(module)
+    known = all(hasattr(module, name) for name in CALLS) and hasattr(module.Crate, "is_built")
+    return module if known and [*inspect.signature(module.Crate.build_rlib).parameters] == ["self", "flags", "anew"] else None
+
+
+def lines_of(rtlib: Any, crate: Any) -> int:
+    """The lines of a crate's code, definitions and proofs."""
+    return sum(rtlib.text_of(file).count("\n") for file in rtlib.files_of(crate.folder))
+
+
+def chains(crates: list[Any], lines: dict[Any, int]) -> dict[Any, int]:
+    """Of each crate the lines of the longest chain of crates that begins with it and goes up. Lower crates come first."""
+    found = dict(lines)
+    for crate in reversed(crates):
+        for low in crate.below():
+            found[low] = max(found[low], found[crate] + lines[low])
+    return found
+
+
+def memory_of(crate: Any, lines: dict[Any, int]) -> int:
+    """What a check by one job is likely to take, in bytes, by the greatest that were measured. A further job takes half."""
+    return GIGABYTE + 60_000 * lines[crate] + 15_000 * sum(lines[low] for low in crate.below())
+
+
+def free_memory(rtlib: Any) -> int:
+    """The memory that is free, in bytes, under the limit of a control group too."""
+    groups = [(rtlib.number_in(limit, r"(\d+)"), rtlib.number_in(*held)) for limit, held in rtlib.GROUPS]
+    left = [limit - held for limit, held in groups if limit and held is not None]
+    return min([1024 * rtlib.number_in("/proc/meminfo", r"MemAvailable:\s+(\d+)"), *left])
+
+
+class Build:
+    """Crates that are to be proved, those that are being proved with their jobs and memory, and those that failed."""
+
+    def __init__(self, rtlib: Any, crates: list[Any], jobs: int) -> None:
+        self.jobs, self.memory, self.since = jobs, int(0.85 * free_memory(rtlib)), time.monotonic()
+        lines = {crate: lines_of(rtlib, crate) for crate in crates}
+        self.chain, self.needs = chains(crates, lines), {crate: memory_of(crate, lines) for crate in crates}
+        self.left = sorted((crate for crate in crates if not crate.is_built()), key=lambda crate: -self.chain[crate])
+        self.running: dict[Any, tuple[Any, int, int]] = {}
+        self.failed: list[Any] = []
+
+    def ready(self) -> list[Any]:
+        """Those that stand on nothing that is still to be proved, the longest chain first."""
+        waiting = {*self.left, *(crate for crate, _, _ in self.running.values())}
+        return [crate for crate in self.left if not waiting & {*crate.below()}]
+
+    def start(self, pool: ThreadPoolExecutor) -> None:
+        """Starts what processors and memory allow, and one check in any case. Idle processors become jobs of a check."""
+        ready = self.ready()
+        for at, crate in enumerate(ready):
+            idle = self.jobs - sum(jobs for _, jobs, _ in self.running.values())
+            room = self.memory - sum(taken for _, _, taken in self.running.values())
+            need = self.needs[crate]
+            if idle > 0 and (need <= room or not self.running):
+                jobs = max(1, min(MOST_JOBS, idle // (len(ready) - at), 1 + (room - need) // (need // 2)))
+                self.left.remove(crate)
+                self.running[pool.submit(prove, crate, jobs)] = crate, jobs, need + (jobs - 1) * (need // 2)
+
+    def take(self) -> None:
+        """Waits until a check ends, and says how."""
+        for done in wait(self.running, return_when=FIRST_COMPLETED).done:
+            crate, jobs, _ = self.running.pop(done)
+            status, seconds = done.result()
+            self.failed += [crate] * bool(status)
+            what = f"{crate.name} {'NOT PROVED' if status else 'proved'} in {seconds:.0f} s by {jobs} job{'s' * (jobs > 1)}"
+            print(f"{time.monotonic() - self.since:6.0f} s  {what}", flush=True)
+
+    def run(self) -> int:
+        with ThreadPoolExecutor(self.jobs) as pool:
+            while self.running or self.left and not self.failed:
+                if not self.failed:
+                    self.start(pool)
+                self.take()
+        for crate in self.failed:
+            with open(f"{crate.folder}/out/prove.log", encoding="utf-8", errors="replace") as log:
+                print(f"== {crate.name}", *log.read().splitlines()[-30:], sep="\n")
+        return 1 if self.failed else 0
+
+
+def prove(crate: Any, jobs: int) -> tuple[int, float]:
+    """Proves and builds a library over what earlier checks kept. Gives rattle's status and the seconds that it took."""
+    since = time.monotonic()
+    os.makedirs(f"{crate.folder}/out", exist_ok=True)
+    with open(f"{crate.folder}/out/prove.log", "w", encoding="utf-8") as crate.out:
+        return crate.build_rlib(["--jobs", str(jobs)], anew=False), time.monotonic() - since
+
+
+def main() -> int:
+    words = argparse.ArgumentParser()
+    words.add_argument("--jobs", type=int, default=len(os.sched_getaffinity(0)), help="processors to use")
+    words.add_argument("--dry-run", action="store_true", help="says what is to be proved, and proves nothing")
+    words.add_argument("crate")
+    given = words.parse_args()
+    rtlib = kit()
+    if rtlib is None:
+        print("beside rt stands no rtlib that is known here", file=sys.stderr)
+        return 3
+    signal.signal(signal.SIGINT, signal.SIG_DFL)
+    rtlib.guarded()  # what is started ends with this process
+    crates = {crate.name: crate for crate in rtlib.crates_below(os.getcwd())}
+    if given.crate not in crates:
+        words.error(f"crates.txt lists no crate {given.crate}")
+    crates = crates[given.crate].below()
+    build = Build(rtlib, crates, max(1, given.jobs))
+    if given.dry_run:
+        for crate in build.left:
+            print(f"{crate.name}: {build.chain[crate]} lines from here up, {build.needs[crate] / GIGABYTE:.1f} GB a job")
+        return 0
+    rtlib.lock(crates)  # until this process ends
+    return build.run()
+
+
+if __name__ == "__main__":
+    sys.exit(main())
