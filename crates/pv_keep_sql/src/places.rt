@@ -9,6 +9,9 @@ use std::{fs, io};
 /// The first bytes of a log.
 const MARK: [u8; 4] = [0x37, 0x7f, 0x06, 0x82];
 
+/// The length of a log that holds no rows, as it stays beside a file that was closed.
+const EMPTY: u64 = 41;
+
 /// A name, and the file to which it led.
 #[derive(Drop)]
 pub(crate) struct Place {
@@ -46,7 +49,7 @@ pub(crate) struct Log {
 
 impl Log {
     /// The log of the database that a name leads to. What has the log's name and is none is refused,
-    /// and so is a log without its database.
+    /// and so is a log with rows and without its database.
     pub(crate) fn beside(rt: &HostRuntime, name: &str) -> Result<Log, Refused> {
         let (database, held) = match fs::canonicalize(rt, name) {
             Ok(path) => {
@@ -68,7 +71,8 @@ impl Log {
                 path,
                 is_new: false,
             }),
-            Some(_) if held.is_none() || !begins_as_log(rt, path.as_str())? => Err(Refused::Failed),
+            Some(length) if held.is_none() && length > EMPTY => Err(Refused::Failed),
+            Some(_) if !begins_as_log(rt, path.as_str())? => Err(Refused::Failed),
             Some(_) => Ok(Log {
                 path,
                 is_new: false,
