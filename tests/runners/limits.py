@@ -17,14 +17,17 @@ import time
 from running import SECONDS, judged_in_folders
 from data.cases import system
 from outside import PRINTING, RING, Kept, prepared
+from stores import BESIDE
 
 # Without a bound on the budget this runs for long: every node is a sliver of the plane.
 LONG = system("x in [0,9999999], y in [0,9999999]", "x < y")
 
 
 def file_size_limit(f):
-    """A store beyond the limit: a fault where the signal is ignored, else the machine ends the program. Other files stay."""
+    """A store beyond the limit: a fault where the signal is ignored, else the machine ends the program. All files stay, but
+    that the signal leaves a file beside the target."""
     f.put("s", RING)
+    f.put("p", b"as it was\n")
     before = f.files()
     for handler, status, line in ((signal.SIG_IGN, 6, b"write fault: p\n"), (signal.SIG_DFL, -signal.SIGXFSZ, b"")):
         def limited(handler=handler):
@@ -32,7 +35,11 @@ def file_size_limit(f):
             signal.signal(signal.SIGXFSZ, handler)
         done = f.call("run", "s", "--out", "p", preexec_fn=limited)
         assert (done.returncode, done.stdout, done.stderr) == (status, b"", line), done
-        assert {name: text for name, text in f.files().items() if name != "p"} == before
+        beside = [name for name in f.files() if BESIDE.fullmatch(name)]
+        assert {name: text for name, text in f.files().items() if name not in beside} == before
+        assert len(beside) == (status < 0), beside
+        for name in beside:
+            (f.path / name).unlink()
 
 
 def killed_in_the_middle(f):
@@ -50,8 +57,8 @@ def killed_in_the_middle(f):
 
 
 def killed_in_a_store(f):
-    """The name of a run that is killed while it stores may hold a front of its text; all other files stay. Such a front is
-    refused when it is read. A pipe that is read slowly holds the store up until the signal has come."""
+    """A pipe to which a killed run stores may have taken a front of its text; all files stay. Such a front is refused when it
+    is read. A pipe that is read slowly holds the store up until the signal has come."""
     f.put("s", RING)
     words = ["run", "s", "--eps", "0.00390625", "--boxes", "100000"]
     summary = f.call(*words, "--out", "whole").stdout
@@ -76,7 +83,8 @@ def killed_in_a_store(f):
 
 
 def killed_at_any_time(f):
-    """A run that is killed at any moment leaves what the name held, or a front of the new text; other files stay."""
+    """A run that is killed at any moment leaves what the name held, or the new text, whole; other files stay, but for one that
+    it may leave beside its target."""
     f.put("s", RING)
     words = ["run", "s", "--eps", "0.00390625", "--boxes", "100000", "--out", "p"]
     start = time.perf_counter()
@@ -89,9 +97,12 @@ def killed_at_any_time(f):
             time.sleep(spent * turn / 30)
             child.send_signal((signal.SIGTERM, signal.SIGKILL)[turn % 2])
             child.wait(SECONDS)
+        for name in f.files():
+            if BESIDE.fullmatch(name):
+                (f.path / name).unlink()
         now = f.files()
         held = now.pop("p")
-        assert now == before and (held == b"as it was\n" or whole.startswith(held)), (turn, len(held))
+        assert now == before and held in (b"as it was\n", whole), (turn, len(held))
 
 
 def stopped_and_continued(f):

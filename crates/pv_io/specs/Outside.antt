@@ -47,3 +47,7 @@ abbrev pub stored : Content → List ℕ → Content
 stored untold bytes = untold
 stored absent bytes = holds bytes
 stored (holds whole) bytes = holds bytes
+
+-- what is told of a name is what it was, or these bytes are stored there, whole
+abbrev pub IsOldOrNew : Content → Content → List ℕ → Type 0
+IsOldOrNew before after bytes = (after ≡ before) ⊎ (after ≡ stored before bytes)

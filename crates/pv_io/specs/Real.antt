@@ -20,8 +20,8 @@ abbrev pub writer_of : {W : Type 0} → RealSink W → W
 writer_of s = s.inner
 
 -- how often a fetch and a store have failed
-abbrev pub real_fetch_faults : {R : Type 0} → RealFolder R → ℕ
+abbrev pub real_fetch_faults : RealFolder → ℕ
 real_fetch_faults f = f.fetch_faults
 
-abbrev pub real_store_faults : {R : Type 0} → RealFolder R → ℕ
+abbrev pub real_store_faults : RealFolder → ℕ
 real_store_faults f = f.store_faults

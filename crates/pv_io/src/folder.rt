@@ -1,6 +1,6 @@
 //! Named files, and why one can't be read or kept.
-ghost use Rattle.std.specs.Prelude.{◌≡◌, ◌≢◌, ℕ, ◌≤◌, List, [], OnOk, IsErrOf};
-ghost use Rattle.pv_io.specs.Outside.{Rose, Content, IsWhole, IsTooLong, MayBeAbsent, stored};
+ghost use Rattle.std.specs.Prelude.{◌≡◌, ◌≢◌, ℕ, ◌≤◌, List, [], OnOk, IsErrOf, IsTrue};
+ghost use Rattle.pv_io.specs.Outside.{Rose, Content, IsWhole, IsTooLong, MayBeAbsent, IsOldOrNew, untold, stored};
 
 use std::alloc::{AllocError, AllocFailed};
 
@@ -30,7 +30,8 @@ impl From<AllocError> for FetchRefused {
 /// Why a folder didn't keep bytes under a name.
 #[derive(Clone, Copy, Debug, PartialEq, Eq)]
 pub enum StoreRefused {
-    /// The outside failed. Nothing is known of the name's content then.
+    /// The outside failed. The name has its old content or the new one then, whole, where the folder
+    /// tells it.
     Failed,
     /// There was no memory, and nothing was changed.
     Memory,
@@ -84,6 +85,8 @@ pub trait Folder {
             stored (content self.old name.now) bytes.now) }
         ensures cause { IsErrOf result StoreRefused.Failed
             → Rose (store_faults self.old) (store_faults self.new) }
+        ensures old_or_new { IsErrOf result StoreRefused.Failed
+            → IsOldOrNew (content self.old name.now) (content self.new name.now) bytes.now }
         ensures unchanged { IsErrOf result StoreRefused.Memory
             → content self.new name.now ≡ content self.old name.now }
         ensures no_fault { IsErrOf result StoreRefused.Memory
@@ -92,4 +95,20 @@ pub trait Folder {
             → other ≢ name.now → content self.new other ≡ content self.old other }
         ensures counts_on { store_faults self.old ≤ store_faults self.new }
         ensures no_fetch_fault { fetch_faults self.new ≡ fetch_faults self.old };
+
+    /// Whether two names lead to one file, as far as the folder can tell. Equal names do.
+    fn are_one(&self, one: &str, other: &str) -> bool
+        ensures equal { one.now ≡ other.now → IsTrue result }
+        ensures alike { IsTrue result → content self.now one.now ≡ content self.now other.now }
+    {
+        one == other
+    }
+
+    /// Whether a name leads to a stream to which this program prints. Nothing is told of such a
+    /// name.
+    fn is_stream(&self, name: &str) -> bool
+        ensures { IsTrue result → content self.now name.now ≡ untold }
+    {
+        false
+    }
 }

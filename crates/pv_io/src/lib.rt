@@ -12,6 +12,7 @@ mod plain_folder;
 mod plain_sink;
 mod real_folder;
 mod real_sink;
+mod replaced;
 mod script;
 mod sink;
 #[cfg(test)]
@@ -22,7 +23,7 @@ pub use mem_folder::MemFolder;
 pub use mem_sink::MemSink;
 pub use plain_folder::PlainFolder;
 pub use plain_sink::PlainSink;
-pub use real_folder::RealFolder;
-pub use real_sink::RealSink;
+pub use real_folder::{RealFolder, read_up_to};
+pub use real_sink::{RealSink, takes_all};
 pub use script::Script;
 pub use sink::{Sink, WriteRefused};

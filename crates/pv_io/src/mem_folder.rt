@@ -1,6 +1,6 @@
 //! A folder in memory whose calls fail by a list.
 ghost use Rattle.std.specs.Prelude.{◌≡◌, ◌≢◌, ◌↔◌, ℕ, ◌≤◌, List, [], OnOk, IsErrOf, Contains};
-ghost use Rattle.pv_io.specs.Outside.{Rose, IsWhole, IsTooLong, MayBeAbsent, stored};
+ghost use Rattle.pv_io.specs.Outside.{Rose, IsWhole, IsTooLong, MayBeAbsent, IsOldOrNew, stored};
 ghost use Rattle.pv_io.specs.Answers.{turns_after_fetch, faults_after_fetch, turns_after_store, faults_after_store};
 ghost use Rattle.pv_io.specs.Scripted.{content_of};
 ghost use Rattle.pv_io.specs.Shelf.{kept_in, turns_of, fetch_faults_of, store_faults_of};
@@ -85,6 +85,8 @@ impl Folder for MemFolder {
             stored (kept_in self.old name.now) bytes.now) }
         ensures cause { IsErrOf result StoreRefused.Failed
             → Rose (store_faults_of self.old) (store_faults_of self.new) }
+        ensures old_or_new { IsErrOf result StoreRefused.Failed
+            → IsOldOrNew (kept_in self.old name.now) (kept_in self.new name.now) bytes.now }
         ensures unchanged { IsErrOf result StoreRefused.Memory
             → kept_in self.new name.now ≡ kept_in self.old name.now }
         ensures no_fault { IsErrOf result StoreRefused.Memory

@@ -4,25 +4,31 @@ ghost use Rattle.std.specs.Io.KnownBytes.{Consumes, IsAtEnd};
 ghost use Rattle.pv_io.specs.Outside.{untold};
 ghost use Rattle.pv_io.specs.Real.{TakesIn, real_fetch_faults, real_store_faults};
 
-use crate::real_sink::takes_all;
+use crate::replaced::{is_one_file, store_whole};
 use crate::{FetchRefused, Folder, StoreRefused};
+use std::fs;
 use std::fs::File;
 use std::io::{ErrorKind, Read};
-use std::rt::Files;
 
 const CHUNK: usize = 16384;
 
+/// What leads to the streams to which a program prints.
+const STREAMS: [&str; 2] = ["/dev/stdout", "/dev/stderr"];
+
+/// What takes all bytes and keeps none.
+const NOWHERE: &str = "/dev/null";
+
 /// The folder in which the program runs. It tells nothing of what its files hold.
 #[derive(Drop)]
-pub struct RealFolder<'a, R> {
-    rt: &'a R,
+pub struct RealFolder<'a> {
+    rt: &'a HostRuntime,
     fetch_faults: u64,
     store_faults: u64,
 }
 
-impl<'a, R: Files> RealFolder<'a, R> {
+impl<'a> RealFolder<'a> {
     /// A folder that has met no fault, over the machine's files.
-    pub fn new(rt: &'a R) -> Self
+    pub fn new(rt: &'a HostRuntime) -> Self
         ensures no_fetch_fault { real_fetch_faults result ≡ 0 }
         ensures no_store_fault { real_store_faults result ≡ 0 }
     {
@@ -42,7 +48,7 @@ enum Turn {
     Memory,
 }
 
-impl<'a, R: Files> Folder for RealFolder<'a, R> {
+impl Folder for RealFolder<'_> {
     ghost content = { λ _ _. untold };
 
     ghost fetch_faults = { real_fetch_faults };
@@ -63,24 +69,35 @@ impl<'a, R: Files> Folder for RealFolder<'a, R> {
     }
 
     fn store(&mut self, name: &str, bytes: &[u8]) -> Result<(), StoreRefused> {
-        if replaces(self.rt, name, bytes) {
-            return Ok(());
+        let answer = store_whole(self.rt, name, bytes);
+        if answer == Err(StoreRefused::Failed) {
+            self.store_faults = self.store_faults.saturating_add(1);
         }
-        self.store_faults = self.store_faults.saturating_add(1);
-        Err(StoreRefused::Failed)
+        answer
+    }
+
+    fn are_one(&self, one: &str, other: &str) -> bool {
+        one == other || lead_to_one(self.rt, one, other)
+    }
+
+    fn is_stream(&self, name: &str) -> bool {
+        STREAMS
+            .iter()
+            .any(|stream| lead_to_one(self.rt, name, stream))
+            && !lead_to_one(self.rt, name, NOWHERE)
     }
 }
 
-// Makes the bytes the content of a file, and says whether that was done.
-fn replaces<R: Files>(rt: &R, name: &str, bytes: &[u8]) -> bool {
-    match File::create(rt, name) {
-        Ok(mut file) => takes_all(&mut file, bytes),
-        Err(_) => false,
+// Whether two names lead to one file, as far as the machine tells.
+fn lead_to_one(rt: &HostRuntime, one: &str, other: &str) -> bool {
+    match (fs::metadata(rt, one), fs::metadata(rt, other)) {
+        (Ok(one), Ok(other)) => is_one_file(&one, &other),
+        _ => false,
     }
 }
 
-fn read_file<R: Files>(
-    rt: &R,
+fn read_file(
+    rt: &HostRuntime,
     name: &str,
     limit: u64,
     into: &mut Vec<u8>,
@@ -96,8 +113,9 @@ fn read_file<R: Files>(
     }
 }
 
-// Reads to the end, and no more than one byte past the limit.
-fn read_up_to<F: Read>(file: &mut F, limit: u64, into: &mut Vec<u8>) -> Result<(), FetchRefused>
+/// Reads to the end, and no more than one byte past the limit. A read that a signal cut short is
+/// tried again.
+pub fn read_up_to<F: Read>(file: &mut F, limit: u64, into: &mut Vec<u8>) -> Result<(), FetchRefused>
     requires { into.old.items ≡ [] }
     ensures whole { OnOk result (length into.new.items ≤ limit) }
     ensures too_long { IsErrOf result FetchRefused.TooLong → length into.new.items ≡ limit + 1 }

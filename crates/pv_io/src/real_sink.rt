@@ -53,7 +53,7 @@ impl<W: Write> Sink for RealSink<W> {
 
 /// Hands the whole piece to a writer, and says whether it was taken. A writer that takes nothing of
 /// what is left has failed. A write that a signal cut short is tried again.
-pub(crate) fn takes_all<W: Write>(inner: &mut W, bytes: &[u8]) -> bool
+pub fn takes_all<W: Write>(inner: &mut W, bytes: &[u8]) -> bool
     ensures all { IsTrue result → Appends (W.contents inner.old) (W.contents inner.new) bytes.now }
     ensures front { AppendsSome (W.contents inner.old) (W.contents inner.new) bytes.now }
 {

@@ -3,6 +3,7 @@ use super::*;
 use std::alloc::{AllocError, Global};
 use std::collections::BTreeMap;
 use std::io::{Error, ErrorKind, Write};
+use std::os::unix::fs::{MetadataExt, PermissionsExt, symlink};
 use std::test::Fail;
 use std::{fs, io};
 
@@ -157,5 +158,76 @@ fn a_real_folder_reads_in_pieces(rt: HostRuntime) -> Result<(), Fail> {
     text.truncate(40_001);
     assert!(rt; into.as_slice() == text.as_slice());
     fs::remove_file(&rt, name)?;
+    Ok(())
+}
+
+fn held(rt: &HostRuntime, name: &str) -> io::Result<String> {
+    fs::read_to_string(rt, name)
+}
+
+// How many names a folder has.
+fn names_in(rt: &HostRuntime, folder: &str) -> io::Result<usize> {
+    let mut count = 0usize;
+    for entry in fs::read_dir(rt, folder)? {
+        entry?;
+        count = count.saturating_add(1);
+    }
+    Ok(count)
+}
+
+#[test]
+fn a_store_replaces_the_file_at_the_end_of_links(rt: HostRuntime) -> Result<(), Fail> {
+    let _ = fs::remove_dir_all(&rt, "pv_io_test_links");
+    fs::create_dir(&rt, "pv_io_test_links")?;
+    fs::create_dir(&rt, "pv_io_test_links/far")?;
+    fs::write(&rt, "pv_io_test_links/far/old", "old")?;
+    fs::set_permissions(
+        &rt,
+        "pv_io_test_links/far/old",
+        fs::Permissions::from_mode(0o640),
+    )?;
+    symlink(&rt, "far/old", "pv_io_test_links/link")?;
+    symlink(&rt, "link", "pv_io_test_links/second")?;
+    symlink(&rt, "far/none", "pv_io_test_links/loose")?;
+    symlink(&rt, "round", "pv_io_test_links/round")?;
+    let before = fs::metadata(&rt, "pv_io_test_links/far/old")?.ino();
+    let mut folder = RealFolder::new(&rt);
+    assert_eq!(rt; folder.store("pv_io_test_links/second", b"new"), Ok(()));
+    assert_eq!(rt; held(&rt, "pv_io_test_links/far/old")?.as_str(), "new");
+    let after = fs::metadata(&rt, "pv_io_test_links/far/old")?;
+    assert!(rt; after.ino() != before);
+    assert_eq!(rt; after.mode() & 0o777, 0o640);
+    assert_eq!(rt; folder.store("pv_io_test_links/loose", b"made"), Ok(()));
+    assert_eq!(rt; held(&rt, "pv_io_test_links/far/none")?.as_str(), "made");
+    assert_eq!(rt;
+        folder.store("pv_io_test_links/round", b"lost"),
+        Err(StoreRefused::Failed)
+    );
+    assert_eq!(rt; names_in(&rt, "pv_io_test_links")?, 5);
+    assert_eq!(rt; names_in(&rt, "pv_io_test_links/far")?, 2);
+    fs::remove_dir_all(&rt, "pv_io_test_links")?;
+    Ok(())
+}
+
+#[test]
+fn a_folder_tells_which_names_are_one(rt: HostRuntime) -> Result<(), Fail> {
+    let _ = fs::remove_dir_all(&rt, "pv_io_test_one");
+    fs::create_dir(&rt, "pv_io_test_one")?;
+    fs::write(&rt, "pv_io_test_one/a", "a")?;
+    fs::write(&rt, "pv_io_test_one/b", "a")?;
+    fs::hard_link(&rt, "pv_io_test_one/a", "pv_io_test_one/hard")?;
+    symlink(&rt, "a", "pv_io_test_one/soft")?;
+    let folder = RealFolder::new(&rt);
+    assert!(rt; folder.are_one("pv_io_test_one/a", "pv_io_test_one/a"));
+    assert!(rt; folder.are_one("pv_io_test_one/a", "pv_io_test_one/./hard"));
+    assert!(rt; folder.are_one("pv_io_test_one/soft", "pv_io_test_one/a"));
+    assert!(rt; !folder.are_one("pv_io_test_one/a", "pv_io_test_one/b"));
+    assert!(rt; !folder.are_one("pv_io_test_one/a", "pv_io_test_one/none"));
+    assert!(rt; folder.is_stream("/dev/stdout") || folder.are_one("/dev/stdout", "/dev/null"));
+    assert!(rt; !folder.is_stream("pv_io_test_one/a"));
+    assert!(rt; !folder.is_stream("/dev/null"));
+    let plain = PlainFolder::new(rt.alloc(), one_file(rt.alloc(), "a", b"a")?);
+    assert!(rt; plain.are_one("a", "a") && !plain.are_one("a", "b") && !plain.is_stream("a"));
+    fs::remove_dir_all(&rt, "pv_io_test_one")?;
     Ok(())
 }
