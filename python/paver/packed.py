@@ -9,12 +9,14 @@ end k differs), exponents (2 bytes a number), codes (1 byte a node: 0 removed, 1
 variable v). The first numbers are the ends of the search box; then a cut has its place, and each node its changed ends.
 """
 import base64
+import math
 import sys
 import zlib
 from array import array
+from fractions import Fraction
 
 from .errors import PavingError
-from .numbers import INFINITE, NumberError, grid
+from .numbers import INFINITE, SCALE, NumberError, grid, width
 
 INFINITE_EXPONENT = 32767
 CODES = {"X": 0, "I": 1, "S": 2, "O": 3}
@@ -27,6 +29,7 @@ class Columns:
     def __init__(self):
         self.mantissas, self.exponents = array("q"), array("h")
         self.changed, self.codes = array("I"), array("B")
+        self.sizes = dict.fromkeys("ISO", 0)
 
     def number(self, word):
         """Adds a number and gives its grid form."""
@@ -75,6 +78,17 @@ class Columns:
         high[0][place], high[1][place] = words[2], value
         return high, low
 
+    def leaf(self, words, box, same):
+        """Adds a leaf, and its size where it is kept."""
+        kind = words[0]
+        self.codes.append(CODES[kind])
+        if len(words) == 1:
+            self.changed.append(0)
+        else:
+            box = self.ends(words[1:], box, same)
+        if kind != "X":
+            self.sizes[kind] += math.prod(map(width, box[1][::2], box[1][1::2]))
+
     def bytes(self):
         """All columns in one string of bytes."""
         parts = []
@@ -97,18 +111,24 @@ def columns_of(paving):
             if words[0] == "C":
                 waiting += columns.cut(words, box, same)
                 continue
-            columns.codes.append(CODES[words[0]])
-            if len(words) == 1:
-                columns.changed.append(0)
-            else:
-                columns.ends(words[1:], box, same)
+            columns.leaf(words, box, same)
         except ValueError as fault:
             raise PavingError(row, str(fault)) from fault
     return columns
 
 
+def volumes_of(paving, columns):
+    """The exact volume of each kind, as Cover.volumes has them: what is not kept of a finite search box is removed."""
+    ends = [grid(word) for word in paving.root]
+    if INFINITE in map(abs, ends):
+        return paving.volumes()
+    sizes = {"inner": columns.sizes["I"], "small": columns.sizes["S"], "open": columns.sizes["O"]}
+    sizes["removed"] = math.prod(map(width, ends[::2], ends[1::2])) - sum(sizes.values())
+    return {kind: Fraction(size, 1 << SCALE * paving.dims) for kind, size in sizes.items()}
+
+
 def packed(paving):
-    """The text of a paving's columns, deflated and in base64, with the counts of nodes and of numbers."""
+    """The text of a paving's columns, deflated and in base64; the counts of its nodes and of its numbers; its volumes."""
     columns = columns_of(paving)
     text = base64.b64encode(zlib.compress(columns.bytes(), 6)).decode("ascii")
-    return text, len(columns.codes), len(columns.mantissas)
+    return text, len(columns.codes), len(columns.mantissas), volumes_of(paving, columns)

@@ -63,8 +63,7 @@ def shown_number(value):
 
 def entry(paving, settings, command, name):
     """What the page tells of a paving, and its packed nodes."""
-    text, nodes, numbers = packed(paving)
-    volumes = paving.volumes()
+    text, nodes, numbers, volumes = packed(paving)
     whole = sum(volumes.values())
     finite = whole not in (0, float("inf"))
     about = {"name": name, "command": command, "identity": paving.identity, "settings": settings, "nodes": nodes,

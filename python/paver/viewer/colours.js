@@ -6,8 +6,8 @@ const [CLASS_OUTSIDE, CLASS_REMOVED, CLASS_INNER, CLASS_UNDECIDED, CLASS_OPEN, C
   CLASS_REMOVED_BY_SOME] = CLASSES.keys();
 const PALETTES = {
   light: {
-    outside: "#f6f7f9", removed: "#d5dbe1", inner: "#1d7a5f", undecided: "#f5b915", open: "#ffffff", hatch: "#8b98a5",
-    contradiction: "#c2185b", innerBySome: "#62b297", removedBySome: "#e6eaee", page: "#ffffff", ink: "#1c232b",
+    outside: "#f8f9fb", removed: "#dfe4e9", inner: "#1d7a5f", undecided: "#f2ae0d", open: "#ffffff", hatch: "#8b98a5",
+    contradiction: "#c2185b", innerBySome: "#62b297", removedBySome: "#edf0f3", page: "#ffffff", ink: "#1c232b",
     faint: "#66717d", line: "#0b2a20", pin: "#0b57d0",
   },
   dark: {

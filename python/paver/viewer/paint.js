@@ -70,15 +70,25 @@ class Painter {
     this.depth = 0;
   }
 
+  // Works out the bits of a sheet anew.
   paint(sheet) {
-    const { tree, x, y } = this;
-    const ends = [0, 1].map((side) => [x, y].map((axis) => this.end(axis, tree.root[2 * axis.variable + side])));
-    const [[x0, y1], [x1, y0]] = ends;
+    const { x0, x1, y0, y1 } = this.ends();
     sheet.fill(OUTSIDE);
     const left = Math.max(sheet.left, Math.ceil(x0 + SLACK)), right = Math.min(sheet.right, Math.floor(x1 - SLACK));
     const top = Math.max(sheet.top, Math.ceil(y0 + SLACK)), bottom = Math.min(sheet.bottom, Math.floor(y1 - SLACK));
     if (left < right && top < bottom) sheet.part(left, top, right, bottom).fill(0);
+    this.begin(sheet);
+  }
+
+  begin(sheet) {
+    const { x0, x1, y0, y1 } = this.ends();
     if (!this.levels || this.isInRoot()) this.walk(0, x0, x1, y0, y1, sheet);
+  }
+
+  // The ends of the search box in pixels.
+  ends() {
+    const { tree: { root }, x, y } = this, at = (axis, side) => this.end(axis, root[2 * axis.variable + side]);
+    return { x0: at(x, 0), x1: at(x, 1), y0: at(y, 1), y1: at(y, 0) };
   }
 
   end(axis, number) {
@@ -221,6 +231,10 @@ class Outliner extends Painter {
   constructor(tree, x, y, levels, least, most) {
     super(tree, x, y, levels);
     Object.assign(this, { least, most, found: [] });
+  }
+
+  walk(node, x0, x1, y0, y1, sheet) {
+    if (x1 - x0 >= this.least && y1 - y0 >= this.least) super.walk(node, x0, x1, y0, y1, sheet);
   }
 
   mark(bit, x0, x1, y0, y1, sheet, node) {

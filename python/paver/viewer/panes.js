@@ -113,7 +113,7 @@ class Pane {
 
 function outlinesOf(tree, axes, levels, width, height, least) {
   const outliner = new Outliner(tree, axes.x, axes.y, levels, least, MOST_OUTLINES);
-  outliner.paint(new Sheet(new Uint8Array(width * height), width, 0, 0, width, height));
+  outliner.begin(new Sheet(null, width, 0, 0, width, height));
   return outliner.found;
 }
 
