@@ -340,7 +340,7 @@ def check_png(bench):
     rows = pixels_of(browser.downloaded("ring.png"))
     window, chance = Window(browser), random.Random(7)
     places = [(chance.randrange(window.width), chance.randrange(window.height)) for _ in range(300)]
-    given = [window.names.get(rows[row + 14][column + 76]) for column, row in places]
+    given = [window.names.get(rows[row + 14][column + 84]) for column, row in places]
     assert given == window.classes(places)
 
 
@@ -520,6 +520,16 @@ def check_size():
     return faults
 
 
+def check_committed_page():
+    """The page that the gallery links to is small, and has the parts of the page as they stand."""
+    html = (TOP / "docs" / "view" / "pi_gains.html").read_text(encoding="utf-8")
+    parts = TOP / "python" / "paver" / "viewer"
+    assert len(html) < 300_000
+    old = [path.name for path in parts.iterdir() if path.suffix in (".js", ".css") and path.read_text(encoding="utf-8") not in html]
+    assert not old, f"{old} changed: make pictures writes the page again"
+    assert not [word for word in ("http:", "https:", "//cdn", "import(") if word in html.replace("http://www.w3.org/2000/svg", "")]
+
+
 # ---- what is refused
 
 def check_refused():
@@ -541,7 +551,7 @@ def check_refused():
                 (done.stdout == "" and done.stderr.count("\n") == 1), (words, done.stdout[:200], done.stderr)
 
 
-WITHOUT_BROWSER = [check_size, check_refused]
+WITHOUT_BROWSER = [check_size, check_committed_page, check_refused]
 WITH_BROWSER = [check_opens, check_open_leaves, check_variants, check_moves, check_last_place, check_numbers, check_boxes,
                 check_verdicts, check_neighbours, check_search, check_svg, check_png, check_several, check_stages, check_texts,
                 check_colours, check_pixels]

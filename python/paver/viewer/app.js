@@ -185,7 +185,7 @@ class App {
 
   how() {
     const { names } = this.about, legend = LEGENDS[this.shownLevels() ? "slice" : "projection"];
-    return { palette: this.palette, names: { x: names[this.x], y: names[this.y] }, edges: element("edges").checked,
+    return { palette: this.palette, names: { x: names[this.x], y: names.length > 1 ? names[this.y] : "" }, edges: element("edges").checked,
       pinned: this.pinned, legend: this.layout === "over" ? [...legend, ...LEGENDS.over] : legend };
   }
 
@@ -223,7 +223,8 @@ class App {
 
   showBox(tree, { found, seen }, isPinned) {
     const host = element("box");
-    element("which").textContent = isPinned ? "— kept; Escape lets it go" : "— under the pointer";
+    const own = this.trees.length > 1 ? `, in ${tree.about.name}` : "";
+    element("which").textContent = (isPinned ? "— kept; Escape lets it go" : "— under the pointer") + own;
     if (!found) {
       const words = seen && !seen.top ? "removed: no box lies over this place" : "outside the search box";
       host.replaceChildren(made("p", words, "faint"));
@@ -321,6 +322,7 @@ function showControls(app) {
   element("x").replaceChildren(...options());
   element("y").replaceChildren(...options());
   element("modes").hidden = names.length < 3;
+  element("y").parentElement.hidden = names.length < 2;
   element("point").placeholder = names.join(", ");
   element("pavings").hidden = app.trees.length < 2;
   element("frame").max = app.trees.length - 1;
@@ -336,7 +338,7 @@ function showChoices(app) {
   element("equal").checked = app.isEqual;
   for (const radio of document.getElementsByName("mode")) radio.checked = radio.value === app.mode;
   element("order").textContent = app.about.names.length < 3 ? "" : PAINT_ORDER[app.mode];
-  element("film").hidden = app.layout !== "one";
+  element("film").hidden = element("shown").hidden = app.layout !== "one";
   element("theme").textContent = app.isDark ? "☀" : "☾";
   document.documentElement.classList.toggle("dark", app.isDark);
   showLegend(element("legend"), app.how().legend, app.palette);

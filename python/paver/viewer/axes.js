@@ -22,8 +22,16 @@ function ticksOf(low, high, most) {
   const isShort = texts.every((label) => label.length <= LONG_LABEL);
   const middle = wholes[wholes.length >> 1];
   const labels = isShort ? texts : wholes.map((whole) => (whole > middle ? "+" : "") + text(whole - middle));
-  const ticks = wholes.map((whole, k) => ({ value: times(rational(whole), step), label: labels[k].replace("-", "−") }));
-  return { ticks, base: isShort || !wholes.length ? null : text(middle).replace("-", "−") };
+  const ticks = wholes.map((whole, k) => ({ value: times(rational(whole), step), label: labels[k].replaceAll("-", "−") }));
+  return { ticks, base: isShort || !wholes.length ? null : text(middle).replaceAll("-", "−") };
+}
+
+const LEAST_ACROSS = 85, LEAST_UP = 55; // pixels of the page between two ticks
+
+// The ticks of both axes of a pane; with one variable there is nothing to tell upward.
+function marksOfPane(axes, { width, height, ratio }) {
+  const across = marksOf(axes.x, width, width / ratio / LEAST_ACROSS), isOne = axes.x.variable === axes.y.variable;
+  return { across, up: isOne ? { ticks: [], base: null } : marksOf(axes.y, height, height / ratio / LEAST_UP) };
 }
 
 // The ticks of an axis over so many pixels, each with its pixel.

@@ -17,12 +17,13 @@ const PALETTES = {
   },
 };
 
-// A pixel's class by its bits: one kind alone, or undecided. What lies outside the search box is no part of the set.
+// A pixel's class by its bits: one kind alone, or undecided. What lies outside the search box is no part of the set, and a
+// pixel that an open leaf shares with removed parts alone counts as open.
 const CLASS_OF_BITS = Uint8Array.from({ length: 32 }, (_, bits) => {
   if (bits === OUTSIDE || bits === 0) return CLASS_OUTSIDE;
   if (bits === REMOVED || bits === (REMOVED | OUTSIDE)) return CLASS_REMOVED;
   if (bits === INNER) return CLASS_INNER;
-  if (bits === OPEN || bits === (OPEN | OUTSIDE)) return CLASS_OPEN;
+  if (bits & OPEN && !(bits & (INNER | SMALL))) return CLASS_OPEN;
   return CLASS_UNDECIDED;
 });
 
@@ -66,8 +67,8 @@ function paintClasses(classes, words, stride, palette, period) {
 
 const LEGENDS = {
   slice: [
-    ["inner", "inner", "every point is in the set"],
-    ["removed", "removed", "no point is in the set"],
+    ["inner", "inner", "every rational point is in the set"],
+    ["removed", "removed", "no rational point is in the set"],
     ["undecided", "undecided", "small boxes, and what a pixel can't tell apart"],
     ["open", "open", "not settled yet: nothing is said"],
   ],

@@ -138,12 +138,13 @@ function showFacts(host, about) {
     digestLine);
 }
 
-// The comment at the head of a system's text, without the commands that it shows.
+// The question at the head of a system's text: its comment up to the first line that ends a sentence.
 function questionOf(source) {
   const lines = [];
   for (const line of source.split(/\r?\n/)) {
     if (!line.startsWith("//")) break;
-    if (!line.includes("  paver ")) lines.push(line.slice(2).trim());
+    lines.push(line.slice(2).trim());
+    if (/[.?!:]$/.test(line)) break;
   }
-  return lines.join("\n");
+  return lines.join(" ");
 }

@@ -105,16 +105,14 @@ class Painter {
     if (x1 < sheet.left - SLACK || x0 > sheet.right + SLACK || y1 < sheet.top - SLACK || y0 > sheet.bottom + SLACK) return;
     const tree = this.tree, kinds = tree.below[node];
     const isOnePixel = Math.ceil(x1 + SLACK) - Math.floor(x0 - SLACK) <= 1 && Math.ceil(y1 + SLACK) - Math.floor(y0 - SLACK) <= 1;
-    if ((kinds & (kinds - 1)) === 0 || isOnePixel) {
-      this.mark(kinds, x0, x1, y0, y1, sheet, node);
-      return;
-    }
-    const changed = tree.changed[node];
-    if (changed === 0) {
-      this.settled(node, x0, x1, y0, y1, sheet);
-      return;
-    }
-    this.contracted(node, changed, x0, x1, y0, y1, sheet);
+    if ((kinds & (kinds - 1)) === 0 || isOnePixel) this.mark(kinds, x0, x1, y0, y1, sheet, node);
+    else this.enter(node, x0, x1, y0, y1, sheet);
+  }
+
+  enter(node, x0, x1, y0, y1, sheet) {
+    const changed = this.tree.changed[node];
+    if (changed === 0) this.settled(node, x0, x1, y0, y1, sheet);
+    else this.contracted(node, changed, x0, x1, y0, y1, sheet);
   }
 
   // A node that was contracted: what was cut off is removed. A level that was cut off leaves nothing.
@@ -234,7 +232,8 @@ class Outliner extends Painter {
   }
 
   walk(node, x0, x1, y0, y1, sheet) {
-    if (x1 - x0 >= this.least && y1 - y0 >= this.least) super.walk(node, x0, x1, y0, y1, sheet);
+    const isSeen = x1 > sheet.left && x0 < sheet.right && y1 > sheet.top && y0 < sheet.bottom;
+    if (isSeen && x1 - x0 >= this.least && y1 - y0 >= this.least) this.enter(node, x0, x1, y0, y1, sheet);
   }
 
   mark(bit, x0, x1, y0, y1, sheet, node) {

@@ -1,7 +1,7 @@
 // A pane: the pixels of one paving, or of several over each other, with axes around them.
 
-const MARGINS = { left: 76, right: 18, top: 14, bottom: 52 };
-const LEAST_OUTLINE = 5, MOST_OUTLINES = 40000;
+const MARGINS = { left: 84, right: 18, top: 14, bottom: 52 };
+const LEAST_OUTLINE = 5, MOST_OUTLINES = 40000, MOST_SPECKS = 300, CIRCLE = 9;
 
 class Pane {
   constructor(host, caption) {
@@ -78,9 +78,10 @@ class Pane {
     context.rect(0, 0, width, height);
     context.clip();
     if (how.edges) this.drawOutlines(context, axes, levels, how.palette);
+    this.drawCircles(context, how.palette);
     if (how.pinned) this.drawPinned(context, axes, how);
     context.restore();
-    drawAxes(context, axes, width, height, ratio, how);
+    drawAxes(context, marksOfPane(axes, this), width, height, ratio, how);
   }
 
   drawOutlines(context, axes, levels, palette) {
@@ -95,6 +96,26 @@ class Pane {
     }
     context.stroke();
     context.globalAlpha = 1;
+  }
+
+  // Circles around what is kept where that is a few pixels alone, which eyes would miss.
+  drawCircles(context, palette) {
+    const kept = [], { classes, width, ratio } = this;
+    for (let at = 0; at < classes.length && kept.length <= MOST_SPECKS; at += 1) {
+      if (classes[at] > CLASS_REMOVED && classes[at] < CLASS_REMOVED_BY_SOME) kept.push([at % width + 0.5, Math.floor(at / width) + 0.5]);
+    }
+    if (kept.length > MOST_SPECKS) return;
+    const around = [];
+    for (const speck of kept) {
+      if (around.every(([x, y]) => Math.hypot(x - speck[0], y - speck[1]) > CIRCLE * ratio)) around.push(speck);
+    }
+    context.strokeStyle = palette.ink;
+    context.lineWidth = ratio;
+    for (const [x, y] of around) {
+      context.beginPath();
+      context.arc(x, y, CIRCLE * ratio, 0, 2 * Math.PI);
+      context.stroke();
+    }
   }
 
   drawPinned(context, axes, { pinned, palette }) {
@@ -132,13 +153,12 @@ function exposed(sheet, { x, y }) {
 }
 
 // The frame, ticks, numbers and names.
-function drawAxes(context, axes, width, height, ratio, { palette, names }) {
+function drawAxes(context, { across, up }, width, height, ratio, { palette, names }) {
   const size = 12.5 * ratio, long = 5 * ratio;
   context.strokeStyle = context.fillStyle = palette.ink;
   context.lineWidth = Math.max(1, Math.round(ratio));
   context.strokeRect(-0.5, -0.5, width + 1, height + 1);
   context.font = `${size}px system-ui, sans-serif`;
-  const across = marksOf(axes.x, width, width / ratio / 85), up = marksOf(axes.y, height, height / ratio / 55);
   context.textAlign = "center";
   context.textBaseline = "top";
   for (const { label, pixel } of across.ticks) {
@@ -155,7 +175,7 @@ function drawAxes(context, axes, width, height, ratio, { palette, names }) {
   context.textAlign = "center";
   context.fillText(axisName(names.x, across.base), width / 2, height + 38 * ratio);
   context.save();
-  context.translate(-64 * ratio, height / 2);
+  context.translate(-72 * ratio, height / 2);
   context.rotate(-Math.PI / 2);
   context.fillText(axisName(names.y, up.base), 0, 0);
   context.restore();

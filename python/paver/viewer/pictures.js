@@ -98,7 +98,7 @@ function svgOfPane(pane, axes, levels, how, left) {
   const lines = [`<g transform="translate(${left + MARGINS.left} ${MARGINS.top})">`,
     `<g transform="scale(${scale / FINE})" shape-rendering="crispEdges">`];
   paths.forEach((path, one) => {
-    const fill = one === CLASS_OPEN ? "url(#open)" : how.palette[CLASSES[one]];
+    const fill = one === CLASS_OPEN ? "url(#open-cells)" : how.palette[CLASSES[one]];
     if (path) lines.push(`<path class="${CLASSES[one]}" d="${path}" fill="${fill}"/>`);
   });
   lines.push("</g>");
@@ -121,7 +121,7 @@ function svgOutlines(pane, axes, levels, palette) {
 
 function svgTicks(axes, pane, { palette, names }) {
   const width = pane.width / pane.ratio, height = pane.height / pane.ratio;
-  const across = marksOf(axes.x, pane.width, width / 85), up = marksOf(axes.y, pane.height, height / 55);
+  const { across, up } = marksOfPane(axes, pane);
   const text = (x, y, anchor, words, more = "") =>
     `<text x="${x}" y="${y}" text-anchor="${anchor}" fill="${palette.ink}"${more}>${escaped(words)}</text>`;
   const lines = across.ticks.map(({ label, pixel }) => {
@@ -133,9 +133,15 @@ function svgTicks(axes, pane, { palette, names }) {
     return `<path d="M0 ${y}h-5" stroke="${palette.ink}"/>${text(-8, y + 4, "end", label)}`;
   }));
   lines.push(text(width / 2, height + 42, "middle", axisName(names.x, across.base), ' font-weight="600"'));
-  const turned = ` font-weight="600" transform="rotate(-90 -60 ${height / 2})"`;
-  lines.push(text(-60, height / 2, "middle", axisName(names.y, up.base), turned));
+  const turned = ` font-weight="600" transform="rotate(-90 -68 ${height / 2})"`;
+  lines.push(text(-68, height / 2, "middle", axisName(names.y, up.base), turned));
   return lines;
+}
+
+// Slanted lines as a pattern, in units that are so many times smaller.
+function svgHatch(id, times, palette) {
+  return `<pattern id="${id}" width="6" height="6" patternUnits="userSpaceOnUse" patternTransform="scale(${times}) rotate(45)">` +
+    `<rect width="6" height="6" fill="${palette.open}"/><rect width="1" height="6" fill="${palette.hatch}"/></pattern>`;
 }
 
 function svgLegend(legend, palette, top) {
@@ -161,8 +167,7 @@ function svgOf(panes, axes, levels, how, title) {
   });
   return [`<svg xmlns="http://www.w3.org/2000/svg" width="${width}" height="${whole}" viewBox="0 0 ${width} ${whole}" ` +
     'font-family="sans-serif" font-size="12.5">', `<title>${escaped(title)}</title>`,
-  '<defs><pattern id="open" width="6" height="6" patternUnits="userSpaceOnUse" patternTransform="rotate(45)">' +
-    `<rect width="6" height="6" fill="${how.palette.open}"/><rect width="1" height="6" fill="${how.palette.hatch}"/></pattern></defs>`,
+  `<defs>${svgHatch("open", 1, how.palette)}${svgHatch("open-cells", FINE * panes[0].ratio, how.palette)}</defs>`,
   `<rect width="100%" height="100%" fill="${how.palette.page}"/>`, ...parts,
   ...svgLegend(how.legend, how.palette, height + 8), "</svg>", ""].join("\n");
 }

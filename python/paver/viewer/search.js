@@ -59,7 +59,7 @@ function touches(tree, box, other) {
 const partOf = (found) => (found.kind === "inner" || found.kind === "small" ? found.to : found.box);
 
 // The leaves that touch one, itself left out, in preorder.
-function neighbours(tree, found, most = 48) {
+function neighbours(tree, found, most = 24) {
   const own = partOf(found), near = [], waiting = [{ node: 0, box: tree.root, path: "" }];
   while (waiting.length && near.length <= most) {
     const { node, box, path } = waiting.pop();
