@@ -157,6 +157,7 @@ def check_last_place(bench):
     (low, _), (bottom, top) = box.exact
     places = low, (bottom + top) / 2
     last = Fraction(1, 2 ** -int(box.words[0].partition(":")[2]))
+    places = [place + last * aside for place, aside in zip(places, (Fraction(50, 7), Fraction(-9)))]
     text = ", ".join(f"rational({place.numerator}n, {place.denominator}n)" for place in places)
     browser.value(f"paverView.goTo([{text}], [rational(64n, {last.denominator}n), rational(64n, {last.denominator}n)])")
     browser.drawn()

@@ -129,10 +129,11 @@ class Made:
 
 
 def place_to_look(chance, paving):
-    """A corner of a box, and a width around it."""
+    """A point near the corner of a box, and a width around it in which the corner is seen off the middle."""
     boxes = list(paving.boxes())
-    box = chance.choice(boxes).exact
-    return [chance.choice(box[0]), chance.choice(box[1])], Fraction(1, 1 << chance.choice((0, 1, 3, 6, 12, 25, 45, 58)))
+    box, width = chance.choice(boxes).exact, Fraction(1, 1 << chance.choice((0, 1, 3, 6, 12, 25, 45, 52, 58)))
+    aside = [width * Fraction(chance.randrange(-100, 100), 256) for _ in range(2)]
+    return [chance.choice(side) + far for side, far in zip(box, aside)], width
 
 
 def compared(browser, chance, made, zooms, pixels, level=None, projection=False):

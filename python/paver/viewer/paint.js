@@ -2,8 +2,8 @@
 // parts alone lies in inner boxes, one with that of removed parts alone in removed ones, and nothing gets lost: what is
 // smaller than a pixel leaves its bits there. The walk ends at nodes that touch one pixel, and takes all their kinds.
 //
-// A position is the difference of two sums of two floats, which is right to far less than SLACK of a pixel for all that is
-// near the picture (scales end where a number's last place is many pixels wide); parts are widened by SLACK.
+// Numbers and the anchors of axes are sums of two floats, so a position is right to 2^-28 of a pixel for all that is near the
+// picture, also where a number's last place is many pixels wide; parts are widened by SLACK, which is far more.
 
 const SLACK = 2 ** -20;
 
@@ -18,14 +18,11 @@ class Axis {
     this.sign = sign;
   }
 
-  // Where a number lies, in pixels: the rests of both differences are kept, so that near values keep their digits.
+  // Where a number lies, in pixels. The difference of two near floats is exact, and the small parts make up for what the
+  // large ones leave out; far from the anchor the error is 2^-52 of the difference.
   pixel(high, low) {
     if (high === Infinity || high === -Infinity) return this.sign * high;
-    const first = high - this.high, back = first - high;
-    const rest = (high - (first - back)) - (this.high + back);
-    const second = low - this.low, again = second - low;
-    const crumb = (low - (second - again)) - (this.low + again);
-    return this.sign * ((first + ((second + rest) + crumb)) / this.scale) - this.offset;
+    return this.sign * (((high - this.high) + (low - this.low)) / this.scale) - this.offset;
   }
 
   // The exact value at a pixel's first edge.
