@@ -58,6 +58,7 @@ test:
 pictures: paver
 	examples/pictures.sh ./paver
 	python3 tests/generators/gallery.py
+	python3 tests/generators/view_picture.py ./paver
 
 fuzz: paver
 	python3 tests/runners/fuzz_reader.py ./paver $(COUNT)

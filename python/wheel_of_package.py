@@ -22,7 +22,8 @@ SCRIPTS = "[console_scripts]\npaver-tools = paver.__main__:main\n"
 
 
 def modules():
-    return sorted(path for path in (HERE / NAME).rglob("*.py"))
+    """The modules, and the parts of the page that the viewer is."""
+    return sorted(path for path in (HERE / NAME).rglob("*") if path.suffix in (".py", ".js", ".css", ".html"))
 
 
 def build_wheel(wheel_directory, config_settings=None, metadata_directory=None):

@@ -22,11 +22,12 @@ from .program import (
 from .roots import find_roots
 from .split import gather, split
 from .values import Bounds, least
+from .view import View, view
 
 __all__ = [
     "Answer", "Bounds", "Box", "Cluster", "ContractRefused", "Disagree", "KeeperFault", "NoFile", "NotInProgram",
     "ObjectiveRefused", "Parts", "Paving", "PaverError", "PavingError", "PavingRefused", "ProgramFault", "ProgramMissing",
-    "ReadFault", "System", "SystemRefused", "TreeLimit", "UsageError", "WantOfMemory", "WriteFault", "audit",
+    "ReadFault", "System", "SystemRefused", "TreeLimit", "UsageError", "View", "WantOfMemory", "WriteFault", "audit",
     "audit_centered", "campaign", "check", "check_text", "depth_that_suffices", "draw", "find", "find_roots", "gather",
-    "least", "merge", "plot", "plot_projection", "resume", "run", "run_centered", "sample", "split", "svg", "warnings_of",
+    "least", "merge", "plot", "plot_projection", "resume", "run", "run_centered", "sample", "split", "svg", "view", "warnings_of",
 ]

@@ -16,6 +16,7 @@ from .plots import drawing, plot, plot_projection
 from .roots import ONE, TESTED, NotSquare, find_roots
 from .split import gather, split
 from .values import least
+from .view import add_words, view_command
 
 
 def run_options(parser, names=program.OPTIONS):
@@ -174,6 +175,12 @@ def draw_by_matplotlib(paving, names, at, title, arguments):
     pyplot.savefig(arguments.picture, dpi=200, bbox_inches="tight")
 
 
+def page_command(arguments):
+    """Prints one page of HTML that shows pavings of the system in a browser; with no paving the system is run."""
+    sys.stdout.write(view_command(arguments))
+    return 0
+
+
 def split_command(arguments):
     """Writes the sub-systems of the parts of a search box, and prints their names."""
     variables = arguments.variables.split(",") if arguments.variables else None
@@ -236,6 +243,7 @@ def more_commands(commands):
     explained.add_argument("--groups", type=int, help="constraints in each group of a qinter text")
     explained.add_argument("--agree", type=int, help="how many groups have to agree; else all but one")
     explained.set_defaults(options=[])
+    add_words(add("view", page_command))
     parted = add("split", split_command)
     parted.add_argument("system")
     parted.add_argument("--parts", type=int, required=True)

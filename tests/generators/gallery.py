@@ -20,7 +20,7 @@ from data.examples import EXAMPLES, LEAST, least_answers, pairs  # noqa: E402
 
 HEAD = """# Gallery
 
-Each example of `examples/`, with its question, the command that answers it and the first line of the answer. Green boxes are inner: every rational point of them is in the set. Grey parts are removed: no rational point of them is. Yellow boxes are undecided. Of three variables and more a picture is a slice, or the projection on two variables, where green says that some values of the other variables are in the set, and grey that none are; some are drawn with another eps or depth than that of the first command. `examples/pictures.sh` draws them all, `tests/generators/gallery.py` writes this page.
+Each example of `examples/`, with its question, the command that answers it and the first line of the answer. Green boxes are inner: every rational point of them is in the set. Grey parts are removed: no rational point of them is. Yellow boxes are undecided. Of three variables and more a picture is a slice, or the projection on two variables, where green says that some values of the other variables are in the set, and grey that none are; some are drawn with another eps or depth than that of the first command. `examples/pictures.sh` draws them all, `tests/generators/gallery.py` writes this page. Each can be looked at in a browser, too: `python3 -m paver view` writes a page with the boxes, their exact ends and a slider for each other variable, as [that of the PI gains](view/pi_gains.html).
 """
 
 
@@ -39,6 +39,7 @@ LEAST_HEAD = """
 The next two ask for the least value of an expression. No value on the set is below the lower bound; the point is in the set, and its value is at most the upper bound. The numbers are rounded outward to six digits here. Leaves are settled in their order, so the lower bound moves once the search comes to its end, and then it is as good as the width of the small boxes lets it be. The answers are those that the plain paver worked out.
 """
 
+VIEWED = "pi_gains"  # whose page is kept, see view_picture.py
 TITLES = {"pi_gains": "PI gains", "robust_pid": "Robust PID", "three_rpr": "3-RPR platform"}
 
 
@@ -85,7 +86,15 @@ $ {command_of("paver", "run", system, *words)}
 ![{title_of(name)}](pictures/{name}.svg)
 
 Drawn by `{command_of("python3", "-m", "paver", "plot", system, *drawn, "--picture", f"{name}.svg")}`.
-"""
+{viewed(name, words)}"""
+
+
+def viewed(name, words):
+    """A line on the page of an example, where that is kept."""
+    if name != VIEWED:
+        return ""
+    command = command_of("python3", "-m", "paver", "view", f"examples/{name}.mbx", *words)
+    return f"\nTo move in, box by box: [a page for any browser](view/{name}.html), written by `{command} > {name}.html`.\n"
 
 
 def side_by_side():

@@ -1,0 +1,191 @@
+"""One page of HTML that shows pavings of a system in any browser, with no network: see viewer/ for its parts."""
+import base64
+import hashlib
+import json
+from html import escape
+from pathlib import Path
+
+from . import program as calls
+from .canonical import System
+from .errors import PavingError
+from .numbers import as_float
+from .packed import packed
+from .paving import Paving
+
+PARTS = Path(__file__).parent / "viewer"
+SCRIPTS = ("numbers.js", "tree.js", "paint.js", "search.js", "constraints.js", "axes.js", "colours.js", "panes.js",
+           "pictures.js", "facts.js", "app.js")
+UNKNOWN = "not compared"
+DEFAULTS = {"eps": "0.125", "depth": "60", "bisect": "largest", "contract": "prop(8)"}
+
+
+class View:
+    """A page: `html` is its text, `save` writes it; in a notebook it shows itself in a frame."""
+
+    def __init__(self, html):
+        self.html = html
+
+    def save(self, path):
+        """Writes the page into a file."""
+        Path(path).write_text(self.html, encoding="utf-8")
+
+    def _repr_html_(self):
+        return f'<iframe srcdoc="{escape(self.html)}" style="width:100%;height:640px;border:0"></iframe>'
+
+    def __repr__(self):
+        return f"<view of {len(self.html)} bytes: save it as an .html file>"
+
+
+def named_settings(settings):
+    """The settings that make an identity, as texts, with the program's defaults."""
+    given = {name: calls.spelled(name, value) for name, value in settings.items() if value is not None}
+    return {name: given.get(name, default) for name, default in DEFAULTS.items()}
+
+
+def command_of(paving, system, settings, unchecked, name):
+    """Which command's paving this is, by its identity. PavingError where it is not this system's under these settings."""
+    for command, centered in (("run", False), ("run-centered", True)):
+        if paving.identity == system.identity(**settings, centered=centered):
+            return command
+    if unchecked:
+        return UNKNOWN
+    if paving.identity is None:
+        raise PavingError(1, f"{name} is printed text, which has no identity: store the paving by --out, or say that it is "
+                             "this system's by --unchecked (unchecked=True)")
+    shown = " ".join(f"--{option} {value}" for option, value in settings.items())
+    raise PavingError(2, f"{name} has another identity than this system under {shown}: give the settings of its run, or "
+                         "the system that it is of")
+
+
+def shown_number(value):
+    return "infinite" if value == float("inf") else f"{as_float(value, False):.12g}"
+
+
+def entry(paving, settings, command, name):
+    """What the page tells of a paving, and its packed nodes."""
+    text, nodes, numbers, volumes = packed(paving)
+    whole = sum(volumes.values())
+    finite = whole not in (0, float("inf"))
+    about = {"name": name, "command": command, "identity": paving.identity, "settings": settings, "nodes": nodes,
+             "numbers": numbers, "counts": paving.counts(),
+             "volumes": {kind: shown_number(value) for kind, value in volumes.items()},
+             "shares": {kind: float(value / whole) for kind, value in volumes.items()} if finite else None}
+    return about, text
+
+
+def for_script(value):
+    """JSON that can stand within a script element: nothing in it can end the element."""
+    text = json.dumps(value, ensure_ascii=True, separators=(",", ":"))
+    return text.replace("<", "\\u003c").replace(">", "\\u003e").replace("&", "\\u0026")
+
+
+def digest(text):
+    """A part's digest, as a content security policy names it."""
+    return "sha256-" + base64.b64encode(hashlib.sha256(text.encode()).digest()).decode()
+
+
+def page(system, source, entries, title):
+    """The text of the page: its parts, what is known of the system and the pavings, and the packed nodes."""
+    script = "\n" + "".join((PARTS / name).read_text(encoding="utf-8") for name in SCRIPTS)
+    style = "\n" + (PARTS / "style.css").read_text(encoding="utf-8")
+    about = {"title": title, "names": list(system.names), "root": list(system.root), "source": source,
+             "canonical": system.text, "constraints": [one.infix(system.names) for one in system.constraints],
+             "digest": hashlib.sha256(system.text.encode()).hexdigest(), "pavings": [one for one, _ in entries]}
+    data = "\n".join(f'<script type="application/octet-stream" id="data-{k}">{text}</script>'
+                     for k, (_, text) in enumerate(entries))
+    filled = {"TITLE": escape(title), "SCRIPT_DIGEST": digest(script), "STYLE_DIGEST": digest(style), "STYLE": style,
+              "ABOUT": for_script(about), "DATA": data, "SCRIPT": script}
+    parts = (PARTS / "page.html").read_text(encoding="utf-8").split("@@")  # text, a word, text, a word, .., text
+    return "".join(filled[part] if k % 2 else part for k, part in enumerate(parts))
+
+
+def page_of_text(canonical, pavings, title="paving", source=""):
+    """The page of pavings whose system is given by its canonical text, with no call of the program: their identities are
+    not compared."""
+    system = System.from_text(canonical)
+    return View(page(system, source, [entry(paving, {}, UNKNOWN, f"paving {k}") for k, paving in enumerate(pavings)], title))
+
+
+def read_one(given, system, program):
+    """A paving, its name and the settings that are known of it: of a file, a Paving, or an Answer."""
+    if isinstance(given, Paving):
+        return given, "paving", {}
+    if isinstance(given, calls.Answer):
+        return given.paving(), given.command, given.settings
+    return Paving.read(given, system=system, program=program), Path(given).name, {}
+
+
+def run_one(path, system, settings, centered, options, program):
+    """An entry of the system's own run."""
+    work = calls.run_centered if centered else calls.run
+    answer = work(path, program=program, **settings, **options)
+    paving, command = Paving.from_text(answer.text, system=system), "run-centered" if centered else "run"
+    named = named_settings(settings)
+    paving.identity = system.identity(**named, centered=centered)
+    return entry(paving, named, command, command)
+
+
+def view(system, pavings=None, *, settings=None, title=None, unchecked=False, centered=False, program=None, **options):
+    """A page that shows pavings of a system: stored files, databases of campaigns, Pavings or Answers, one or several; with
+    none the system is run (or run by centered forms).
+
+    The options are eps, depth, bisect and contract, for all pavings; `settings` is a list of such dicts, one a paving. A
+    paving with another identity is refused by PavingError, unless `unchecked` says that it is this system's. boxes and
+    workers are for the run."""
+    path, known = Path(system), calls.check(system, program=program)
+    common = {name: options.pop(name) for name in calls.SETTINGS if name in options}
+    title = path.stem if title is None else title
+    source = path.read_bytes().decode("utf-8", "replace")
+    if pavings is None:
+        entries = [run_one(path, known, common, centered, options, program)]
+        return View(page(known, source, entries, title))
+    if options:
+        raise TypeError(f"unknown option {sorted(options)[0]}")
+    given = calls.listed(pavings) if not isinstance(pavings, (Paving, calls.Answer)) else [pavings]
+    if not given or (settings is not None and len(settings) != len(given)):
+        raise ValueError("a paving at least, and as many settings as pavings")
+    entries = []
+    for one, own in zip(given, settings or [{}] * len(given)):
+        paving, name, of_answer = read_one(one, known, program)
+        named = named_settings({**common, **of_answer, **own})
+        if isinstance(one, calls.Answer) and one.out is None:
+            paving.identity = known.identity(**named, centered=one.command == "run-centered")
+        entries.append(entry(paving, named, command_of(paving, known, named, unchecked, name), name))
+    return View(page(known, source, entries, title))
+
+
+def settings_of_words(arguments, count):
+    """The settings of each paving of a command line: an option that is given once holds for all."""
+    found = [{} for _ in range(count)]
+    for name in calls.SETTINGS:
+        values = getattr(arguments, name) or []
+        if len(values) not in (0, 1, count):
+            raise ValueError(f"--{name} is given {len(values)} times for {count} pavings: give it once, or once for each")
+        for k in range(count if values else 0):
+            found[k][name] = values[k if len(values) > 1 else 0]
+    return found
+
+
+def view_command(arguments):
+    """Prints one page of HTML that shows pavings of the system in a browser; with no paving the system is run."""
+    settings = settings_of_words(arguments, max(1, len(arguments.paving)))
+    how = {"title": arguments.title, "program": arguments.program}
+    if arguments.paving:
+        made = view(arguments.system, arguments.paving, settings=settings, unchecked=arguments.unchecked, **how)
+    else:
+        run = {name: getattr(arguments, name) for name in ("boxes", "workers") if getattr(arguments, name) is not None}
+        made = view(arguments.system, centered=arguments.centered, **settings[0], **run, **how)
+    return made.html
+
+
+def add_words(parser):
+    """The words of the command `view`."""
+    parser.add_argument("system")
+    parser.add_argument("paving", nargs="*", help="stored pavings or databases of campaigns, as one film or side by side")
+    for name in calls.SETTINGS:
+        parser.add_argument(f"--{name}", action="append", help=f"as the program's --{name}; once, or once for each paving")
+    for name in ("boxes", "workers"):
+        parser.add_argument(f"--{name}", help=f"as the program's --{name}, where the system is run")
+    parser.add_argument("--centered", action="store_true", help="run by centered forms")
+    parser.add_argument("--title", help="the page's title; else the system's name")
+    parser.add_argument("--unchecked", action="store_true", help="take pavings whose identity is not this system's")

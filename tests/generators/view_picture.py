@@ -1,0 +1,39 @@
+#!/usr/bin/env python3
+"""Writes docs/view/pi_gains.html, the page of an example, and docs/pictures/view.png, what a browser shows of it.
+
+    python3 tests/generators/view_picture.py ./paver
+
+The picture needs a Chromium; without one the page alone is written.
+"""
+import sys
+from pathlib import Path
+
+TOP = Path(__file__).resolve().parents[2]
+sys.path[:0] = [str(TOP / "python"), str(TOP / "tests" / "runners")]
+import paver  # noqa: E402
+from browser import Browser, find_browser  # noqa: E402
+
+PAGE, PICTURE = TOP / "docs" / "view" / "pi_gains.html", TOP / "docs" / "pictures" / "view.png"
+STEPS = ["document.getElementById('equal').click()", "paverView.showKept()", "paverView.search('4.6, 1.82')",
+         "document.activeElement.blur()"]
+
+
+def main():
+    PAGE.parent.mkdir(exist_ok=True)
+    paver.view(TOP / "examples" / "pi_gains.mbx", eps="0.0625", workers=1, program=sys.argv[1]).save(PAGE)
+    if find_browser() is None:
+        print("there is no chromium: the picture stays as it is")
+        return
+    browser = Browser(1100, 660)
+    try:
+        browser.open(PAGE)
+        for step in STEPS:
+            browser.value(step)
+            browser.drawn()
+        PICTURE.write_bytes(browser.screenshot())
+    finally:
+        browser.close()
+
+
+if __name__ == "__main__":
+    main()
