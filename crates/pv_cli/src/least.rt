@@ -51,6 +51,7 @@ pub(crate) fn least<'a, F: Folder>(
         Ok(objective) => objective,
         Err(refusal) => return Err(refusal),
     };
+    let _most = search.limit.nodes();
     let found = found_by(alloc, &settler, &objective, search.boxes)?;
     Ok(told(report(alloc, &found)?, found.done))
 }
@@ -86,7 +87,7 @@ fn found_by(
 ) -> Result<Least, Memory>
     requires dims { objective.now.dims ≡ dims_of (method_of settler.now) }
     requires some { 1 ≤ boxes }
-    requires few { boxes ≤ 100000 }
+    requires few { boxes ≤ 100000000 }
     ensures { IfOk result (IsLeastBy (method_of settler.now) (search_box (method_of settler.now))
         (aim_of objective.now) boxes) }
 {
