@@ -59,12 +59,11 @@ def faults_of_form(name, words):
 
 
 def axes_of(name):
-    """The first two variables as axes, and the middle of the domains of the others."""
+    """The first two variables as axes, and 0 for each of the others."""
     import paver
 
-    system = paver.check(TOP / "examples" / f"{name}.mbx", program=program())
-    middles = [str(float(sum(domain) / 2)) for domain in system.domains[2:]]
-    return ["--x", system.names[0], "--y", system.names[1], *(["--at=" + ",".join(middles)] if middles else [])]
+    names = paver.check(TOP / "examples" / f"{name}.mbx", program=program()).names
+    return ["--x", names[0], "--y", names[1], *(["--at=" + ",".join("0" for _ in names[2:])] if names[2:] else [])]
 
 
 def main():
