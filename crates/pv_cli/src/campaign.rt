@@ -105,7 +105,7 @@ fn gone_on<'a, P: Keeper, G: Gate + Sync, R: Threads + Wait + Sync>(
         rounds.name,
         identity,
         root,
-        plan,
+        &plan,
         gate,
     );
     match held {
