@@ -21,7 +21,7 @@ pub enum FileRefused {
     WrongIdentity,
     /// The line with this number, counted from 1, is the first that no such file has there.
     BadLine { line: u64 },
-    /// The line with this number, counted from 1, is that of the first settled node more than may be.
+    /// The line with this number, counted from 1, is the first of a settled node too many.
     TooManyNodes { line: u64 },
     /// There was no memory.
     Memory,

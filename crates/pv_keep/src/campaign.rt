@@ -54,7 +54,8 @@ impl Campaign {
         ensures limit { IfOk result (λ c. c.limit ≡ 100000) }
         ensures few { IfOk result (λ c. settled_count c.tree ≤ 100000) }
         ensures opened { IfOk result (λ c.
-            IsOpened 100000 (P.kept keeper.old name.now) (P.kept keeper.new name.now) identity root c.tree) }
+            IsOpened 100000 (P.kept keeper.old name.now) (P.kept keeper.new name.now)
+            identity root c.tree) }
         ensures begun { OnOk result (P.begun keeper.new ≡ Some name.now) }
         ensures keeps { IfOk result (λ c. KeepsTree (P.kept keeper.new name.now) c.tree) }
         ensures other_identity { (found : List ℕ) → result ≡ Err (CampaignRefused.OtherIdentity found)
@@ -90,7 +91,8 @@ impl Campaign {
         ensures limit { IfOk result (λ c. c.limit ≡ limit) }
         ensures few { IfOk result (λ c. settled_count c.tree ≤ limit) }
         ensures opened { IfOk result (λ c.
-            IsOpened limit (P.kept keeper.old name.now) (P.kept keeper.new name.now) identity root c.tree) }
+            IsOpened limit (P.kept keeper.old name.now) (P.kept keeper.new name.now)
+            identity root c.tree) }
         ensures begun { OnOk result (P.begun keeper.new ≡ Some name.now) }
         ensures keeps { IfOk result (λ c. KeepsTree (P.kept keeper.new name.now) c.tree) }
         ensures other_identity { (found : List ℕ) → result ≡ Err (CampaignRefused.OtherIdentity found)

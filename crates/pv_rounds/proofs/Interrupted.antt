@@ -12,16 +12,16 @@ use Rattle.pv_rounds.specs.declared.campaign.HoldRefused.{HoldRefused}
 use Rattle.pv_rounds.specs.Going.{HasStopped}
 use Rattle.pv_rounds.specs.Holding.{IsBroken, RefusesHold, after_round}
 
-broken_refuses : (rule : Rule) (depth : ℕ) (b : List Bounds) (identity : List ℕ) (boxes count : ℕ) (k0 k1 : Kept) (r : SaveRefused)
-    → IsBroken rule depth b identity boxes count k0 k1 → RefusesHold rule depth b identity boxes count k0 k1 (after_round r)
-broken_refuses rule depth b identity boxes count k0 k1 Memory h = inr h
-broken_refuses rule depth b identity boxes count k0 k1 Failed h = inr h
+broken_refuses : (limit : ℕ) (rule : Rule) (depth : ℕ) (b : List Bounds) (identity : List ℕ) (boxes count : ℕ) (k0 k1 : Kept) (r : SaveRefused)
+    → IsBroken limit rule depth b identity boxes count k0 k1 → RefusesHold limit rule depth b identity boxes count k0 k1 (after_round r)
+broken_refuses limit rule depth b identity boxes count k0 k1 Memory h = inr h
+broken_refuses limit rule depth b identity boxes count k0 k1 Failed h = inr h
 
 -- a round behind the opening of a box's campaign was refused
-pub stopped_refuses : (rule : Rule) (depth : ℕ) (b root : List Bounds) (identity : List ℕ) (boxes count : ℕ) (k0 k1 k2 : Kept) (t : Tree) (s : SaveRefused) (r : HoldRefused)
-    → root ≡ b → IsOpened k0 k1 identity b t → settled_in t + count * boxes ≤ 100000
-    → HasStopped rule depth root t boxes count k1 k2 → r ≡ after_round s → RefusesHold rule depth b identity boxes count k0 k2 r
-stopped_refuses rule depth b root identity boxes count k0 k1 k2 t s r same opened few stopped is =
-    subst (RefusesHold rule depth b identity boxes count k0 k2) (sym is)
-    (broken_refuses rule depth b identity boxes count k0 k2 s
+pub stopped_refuses : (limit : ℕ) (rule : Rule) (depth : ℕ) (b root : List Bounds) (identity : List ℕ) (boxes count : ℕ) (k0 k1 k2 : Kept) (t : Tree) (s : SaveRefused) (r : HoldRefused)
+    → root ≡ b → IsOpened limit k0 k1 identity b t → settled_in t + count * boxes ≤ limit
+    → HasStopped rule depth root t boxes count k1 k2 → r ≡ after_round s → RefusesHold limit rule depth b identity boxes count k0 k2 r
+stopped_refuses limit rule depth b root identity boxes count k0 k1 k2 t s r same opened few stopped is =
+    subst (RefusesHold limit rule depth b identity boxes count k0 k2) (sym is)
+    (broken_refuses limit rule depth b identity boxes count k0 k2 s
     (record { opening = t; middle = k1; opened = opened; few = few; stopped = subst (λ (c : List Bounds). HasStopped rule depth c t boxes count k1 k2) same stopped }))

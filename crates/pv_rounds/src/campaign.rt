@@ -5,17 +5,15 @@ ghost use Rattle.pv_board.specs.Rules.{settled_in};
 ghost use Rattle.pv_keep.specs.Campaigns.{KeepsTree, IsOpened};
 ghost use Rattle.pv_rounds.specs.Holding.{IsHeld, RefusesOpening, RefusesHold};
 
+use crate::plan::Plan;
 use crate::rounds::go_on;
 use pv_box::IBox;
 use pv_keep::{Campaign, CampaignRefused, Keeper, SaveRefused};
 use pv_pool::Gate;
-use pv_tree::KnowingSettler;
+use pv_tree::{KnowingSettler, NodeLimit};
 use std::alloc::Global;
 use std::sync::Wait;
 use std::thread::Threads;
-
-/// The most settled nodes that a tree may have.
-const MOST_SETTLED: u64 = 100_000;
 
 /// Why a campaign doesn't come to the end of its rounds.
 #[derive(Clone, Copy, Debug, PartialEq, Eq)]
@@ -26,7 +24,7 @@ pub enum HoldRefused {
     Failed,
     /// The name has another identity, which is `kept`.
     OtherIdentity { kept: [u8; 32] },
-    /// More than 100,000 rows are kept.
+    /// More rows are kept than the limit.
     TooMany,
     /// The row with this number, counted from 0, is the first that is bad.
     BadRow { row: u64 },
@@ -63,9 +61,9 @@ impl From<SaveRefused> for HoldRefused {
     }
 }
 
-/// Opens what is kept under a name, and goes on with it for `count` rounds, each of which settles
-/// at most `boxes` nodes by `workers` workers and is saved before the next begins. Where all rounds
-/// could bring the tree above 100,000 settled nodes, none is begun.
+/// Opens what is kept under a name, and goes on with it by a plan's rounds, each of which is saved
+/// before the next begins. Where all rounds could bring the tree above the plan's limit, none is
+/// begun.
 ///
 /// # Errors
 ///
@@ -79,25 +77,21 @@ pub fn hold<P: Keeper, S: KnowingSettler + Sync, G: Gate + Sync, R: Threads + Wa
     name: &str,
     identity: [u8; 32],
     root: IBox,
-    count: u32,
-    boxes: u64,
-    workers: u32,
+    plan: &Plan,
     gate: &G,
 ) -> Result<Campaign, HoldRefused>
 where
     S::Room: Send,
     S::Known: Send,
     requires dims { length root ≡ S.dims settler.now }
-    requires some { 1 ≤ boxes }
-    requires few { boxes ≤ 100000 }
-    requires one { 1 ≤ workers }
-    requires sixteen { workers ≤ 16 }
     ensures root { IfOk result (λ c. c.root ≡ root) }
     ensures held { IfOk result (λ c.
-        IsHeld (S.settle_of settler.now) (S.depth_of settler.now) root identity (count * boxes)
+        IsHeld plan.now.limit (S.settle_of settler.now) (S.depth_of settler.now) root identity
+        (plan.now.count * plan.now.boxes)
         (P.kept keeper.old name.now) (P.kept keeper.new name.now) c.tree) }
     ensures refused { IfErr result
-        (RefusesHold (S.settle_of settler.now) (S.depth_of settler.now) root identity boxes count
+        (RefusesHold plan.now.limit (S.settle_of settler.now) (S.depth_of settler.now) root identity
+        plan.now.boxes plan.now.count
         (P.kept keeper.old name.now) (P.kept keeper.new name.now)) }
     ensures others { (other : List ℕ)
         → other ≢ name.now → P.kept keeper.new other ≡ P.kept keeper.old other }
@@ -105,22 +99,12 @@ where
         → Rose (P.faults keeper.old) (P.faults keeper.new) }
     ensures counts_on { P.faults keeper.old ≤ P.faults keeper.new }
 {
-    let budget = u64::from(count) * boxes;
-    let mut campaign = match opened(alloc, keeper, name, identity, root, budget) {
+    let budget = plan.budget();
+    let mut campaign = match opened(alloc, keeper, name, identity, root, budget, plan.limit) {
         Ok(campaign) => campaign,
         Err(refused) => return Err(refused),
     };
-    match go_on(
-        rt,
-        alloc,
-        settler,
-        &mut campaign,
-        keeper,
-        count,
-        boxes,
-        workers,
-        gate,
-    ) {
+    match go_on(rt, alloc, settler, &mut campaign, keeper, plan, gate) {
         Ok(()) => Ok(campaign),
         Err(refused) => Err(refused.into()),
     }
@@ -134,16 +118,19 @@ fn opened<P: Keeper>(
     identity: [u8; 32],
     root: IBox,
     budget: u64,
+    limit: NodeLimit,
 ) -> Result<Campaign, HoldRefused>
     requires budget { budget ≤ 2 ^ 62 }
     ensures root { IfOk result (λ c. c.root ≡ root) }
+    ensures limit { IfOk result (λ c. c.limit ≡ limit) }
     ensures opened { IfOk result (λ c.
-        IsOpened (P.kept keeper.old name.now) (P.kept keeper.new name.now) identity root c.tree) }
-    ensures few { IfOk result (λ c. settled_in c.tree + budget ≤ 100000) }
+        IsOpened limit (P.kept keeper.old name.now) (P.kept keeper.new name.now)
+        identity root c.tree) }
+    ensures few { IfOk result (λ c. settled_in c.tree + budget ≤ limit) }
     ensures begun { OnOk result (P.begun keeper.new ≡ Some name.now) }
     ensures keeps { IfOk result (λ c. KeepsTree (P.kept keeper.new name.now) c.tree) }
     ensures refused { IfErr result
-        (RefusesOpening root identity budget (P.kept keeper.old name.now)
+        (RefusesOpening limit root identity budget (P.kept keeper.old name.now)
         (P.kept keeper.new name.now)) }
     ensures others { (other : List ℕ)
         → other ≢ name.now → P.kept keeper.new other ≡ P.kept keeper.old other }
@@ -151,12 +138,12 @@ fn opened<P: Keeper>(
         → Rose (P.faults keeper.old) (P.faults keeper.new) }
     ensures counts_on { P.faults keeper.old ≤ P.faults keeper.new }
 {
-    let campaign = match Campaign::open(alloc, keeper, name, identity, root) {
+    let campaign = match Campaign::open_within(alloc, keeper, name, identity, root, limit) {
         Ok(campaign) => campaign,
         Err(refused) => return Err(refused.into()),
     };
     let settled = campaign.paving().counts().settled();
-    if settled + budget > MOST_SETTLED {
+    if settled + budget > limit.nodes() {
         return Err(HoldRefused::TreeLimit { settled });
     }
     Ok(campaign)

@@ -3,7 +3,9 @@
 #![tactic(auto)]
 
 mod campaign;
+mod plan;
 mod rounds;
 
 pub use campaign::{HoldRefused, hold};
+pub use plan::Plan;
 pub use rounds::{go_on, learn_rounds};

@@ -6,6 +6,7 @@ ghost use Rattle.pv_workers.specs.Pavings.{IsPaved};
 ghost use Rattle.pv_keep.specs.Campaigns.{KeepsTree, IsSaved};
 ghost use Rattle.pv_rounds.specs.Going.{AddUp, HasGoneOn, HasStopped};
 
+use crate::plan::Plan;
 use pv_keep::{Campaign, Keeper, SaveRefused};
 use pv_num::Memory;
 use pv_pool::Gate;
@@ -27,9 +28,9 @@ pub fn learn_rounds<S: Settler>(paving: &Paving, settler: &S)
     let _depth = settler.depth();
 }
 
-/// Goes on with a campaign, round by round, until `count` rounds are over or no leaf is open. Each
-/// round settles at most `boxes` nodes by `workers` workers, and is saved before the next one
-/// begins, so what is kept after a refusal is what the rounds before it left.
+/// Goes on with a campaign, round by round, until the plan's rounds are over or no leaf is open.
+/// Each round is saved before the next one begins, so what is kept after a refusal is what the
+/// rounds before it left.
 ///
 /// # Errors
 ///
@@ -40,31 +41,28 @@ pub fn go_on<P: Keeper, S: KnowingSettler + Sync, G: Gate + Sync, R: Threads + W
     settler: &S,
     campaign: &mut Campaign,
     keeper: &mut P,
-    count: u32,
-    boxes: u64,
-    workers: u32,
+    plan: &Plan,
     gate: &G,
 ) -> Result<(), SaveRefused>
 where
     S::Room: Send,
     S::Known: Send,
     requires dims { length campaign.old.root ≡ S.dims settler.now }
-    requires some { 1 ≤ boxes }
-    requires few { boxes ≤ 100000 }
-    requires limit { settled_in campaign.old.tree + count * boxes ≤ 100000 }
-    requires one { 1 ≤ workers }
-    requires sixteen { workers ≤ 16 }
+    requires limit { campaign.old.limit ≡ plan.now.limit }
+    requires few { settled_in campaign.old.tree + plan.now.count * plan.now.boxes ≤ plan.now.limit }
     requires begun { IsSome (P.begun keeper.old) }
     requires kept { (name : List ℕ) → P.begun keeper.old ≡ Some name
         → KeepsTree (P.kept keeper.old name) campaign.old.tree }
     ensures root { campaign.new.root ≡ campaign.old.root }
+    ensures limit { campaign.new.limit ≡ campaign.old.limit }
     ensures gone { (name : List ℕ) → P.begun keeper.old ≡ Some name → OnOk result
         (HasGoneOn (S.settle_of settler.now) (S.depth_of settler.now) campaign.old.root
-        campaign.old.tree (count * boxes) (P.kept keeper.old name) (P.kept keeper.new name)
-        campaign.new.tree) }
+        campaign.old.tree (plan.now.count * plan.now.boxes) (P.kept keeper.old name)
+        (P.kept keeper.new name) campaign.new.tree) }
     ensures stopped { (name : List ℕ) → P.begun keeper.old ≡ Some name → OnErr result
         (HasStopped (S.settle_of settler.now) (S.depth_of settler.now) campaign.old.root
-        campaign.old.tree boxes count (P.kept keeper.old name) (P.kept keeper.new name)) }
+        campaign.old.tree plan.now.boxes plan.now.count (P.kept keeper.old name)
+        (P.kept keeper.new name)) }
     ensures cause { IsErrOf result SaveRefused.Failed
         → Rose (P.faults keeper.old) (P.faults keeper.new) }
     ensures others { (name other : List ℕ) → P.begun keeper.old ≡ Some name
@@ -72,11 +70,11 @@ where
     ensures counts_on { P.faults keeper.old ≤ P.faults keeper.new }
 {
     learn_rounds(campaign.paving(), settler);
-    for _ in 0..count {
+    for _ in 0..plan.count {
         if campaign.paving().first_open().is_none() {
             return Ok(());
         }
-        match round(rt, alloc, settler, campaign, keeper, boxes, workers, gate) {
+        match round(rt, alloc, settler, campaign, keeper, plan, gate) {
             Ok(()) => {}
             Err(refused) => return Err(refused),
         }
@@ -91,26 +89,23 @@ fn round<P: Keeper, S: KnowingSettler + Sync, G: Gate + Sync, R: Threads + Wait 
     settler: &S,
     campaign: &mut Campaign,
     keeper: &mut P,
-    boxes: u64,
-    workers: u32,
+    plan: &Plan,
     gate: &G,
 ) -> Result<(), SaveRefused>
 where
     S::Room: Send,
     S::Known: Send,
     requires dims { length campaign.old.root ≡ S.dims settler.now }
-    requires some { 1 ≤ boxes }
-    requires few { boxes ≤ 100000 }
-    requires limit { settled_in campaign.old.tree + boxes ≤ 100000 }
-    requires one { 1 ≤ workers }
-    requires sixteen { workers ≤ 16 }
+    requires limit { campaign.old.limit ≡ plan.now.limit }
+    requires few { settled_in campaign.old.tree + plan.now.boxes ≤ plan.now.limit }
     requires begun { IsSome (P.begun keeper.old) }
     requires kept { (name : List ℕ) → P.begun keeper.old ≡ Some name
         → KeepsTree (P.kept keeper.old name) campaign.old.tree }
     ensures root { campaign.new.root ≡ campaign.old.root }
+    ensures limit { campaign.new.limit ≡ campaign.old.limit }
     ensures paved { OnOk result
         (IsPaved (S.settle_of settler.now) (S.depth_of settler.now)
-        campaign.old.root campaign.old.tree boxes campaign.new.tree) }
+        campaign.old.root campaign.old.tree plan.now.boxes campaign.new.tree) }
     ensures saved { (name : List ℕ) → P.begun keeper.old ≡ Some name
         → OnOk result
         (IsSaved (P.kept keeper.old name) (P.kept keeper.new name) campaign.new.tree) }
@@ -126,7 +121,7 @@ where
         → Rose (P.faults keeper.old) (P.faults keeper.new) }
     ensures counts_on { P.faults keeper.old ≤ P.faults keeper.new }
 {
-    let stage = stage_of(rt, alloc, settler, campaign.paving(), boxes, workers, gate)?;
+    let stage = stage_of(rt, alloc, settler, campaign.paving(), plan, gate)?;
     match campaign.save_round(alloc, keeper, &stage) {
         Ok(_) => Ok(()),
         Err(refused) => Err(refused),
@@ -139,25 +134,30 @@ fn stage_of<S: KnowingSettler + Sync, G: Gate + Sync, R: Threads + Wait + Sync>(
     alloc: Global,
     settler: &S,
     opening: &Paving,
-    boxes: u64,
-    workers: u32,
+    plan: &Plan,
     gate: &G,
 ) -> Result<Paving, Memory>
 where
     S::Room: Send,
     S::Known: Send,
     requires dims { length opening.now.root ≡ S.dims settler.now }
-    requires some { 1 ≤ boxes }
-    requires few { boxes ≤ 100000 }
-    requires limit { settled_in opening.now.tree + boxes ≤ 100000 }
-    requires one { 1 ≤ workers }
-    requires sixteen { workers ≤ 16 }
+    requires few { settled_in opening.now.tree + plan.now.boxes ≤ plan.now.limit }
     ensures root { IfOk result (λ p. p.root ≡ opening.now.root) }
     ensures paved { IfOk result
         (λ p. IsPaved (S.settle_of settler.now) (S.depth_of settler.now)
-        opening.now.root opening.now.tree boxes p.tree) }
+        opening.now.root opening.now.tree plan.now.boxes p.tree) }
 {
     let opening = opening.clone_of(alloc)?;
-    let paved = pave_knowing(rt, alloc, settler, opening, boxes, workers, gate)?;
+    let (budget, limit) = (plan.boxes, plan.limit);
+    let paved = pave_knowing(
+        rt,
+        alloc,
+        settler,
+        opening,
+        budget,
+        limit,
+        plan.workers,
+        gate,
+    )?;
     Ok(paved.paving)
 }

@@ -7,7 +7,8 @@ use Rattle.pv_rounds.proofs.rounds.go_on.Given as goal
 abbrev pub invariant-loop : goal.invariant-loop
 invariant-loop g l = record {
   root : l.campaign.root ≡ l.fn.campaign.root;
-  run : IsPaved (g.S.Settler.settle_of l.settler) (g.S.Settler.depth_of l.settler) l.fn.campaign.root l.fn.campaign.tree (l.counter * l.boxes) l.campaign.tree;
+  limit : l.campaign.limit ≡ l.fn.campaign.limit;
+  run : IsPaved (g.S.Settler.settle_of l.settler) (g.S.Settler.depth_of l.settler) l.fn.campaign.root l.fn.campaign.tree (l.counter * l.plan.boxes) l.campaign.tree;
   begun : g.P.Keeper.begun l.keeper ≡ g.P.Keeper.begun l.fn.keeper;
   kept : (name : List ℕ) → g.P.Keeper.begun l.fn.keeper ≡ Some name → KeepsTree (g.P.Keeper.kept l.keeper name) l.campaign.tree;
   saved : (name : List ℕ) → g.P.Keeper.begun l.fn.keeper ≡ Some name → IsSaved (g.P.Keeper.kept l.fn.keeper name) (g.P.Keeper.kept l.keeper name) l.campaign.tree;

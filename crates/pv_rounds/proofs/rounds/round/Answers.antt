@@ -10,8 +10,8 @@ save_round-requires-clause-stages g c =
     let settle = g.S.Settler.settle_of c.args.settler.now in
     let depth = g.S.Settler.depth_of c.args.settler.now in
     let stage = c.in_ok-stage.stage.tree in
-    let paved : IsPaved settle depth c.args.campaign.now.root c.args.campaign.now.tree c.args.boxes stage =
-    subst (λ (p : Seen). IsPaved settle depth p.root p.tree c.args.boxes stage) c.paving.ensures.is c.in_ok-stage.ensures.paved in
+    let paved : IsPaved settle depth c.args.campaign.now.root c.args.campaign.now.tree c.args.plan.now.boxes stage =
+    subst (λ (p : Seen). IsPaved settle depth p.root p.tree c.args.plan.now.boxes stage) c.paving.ensures.is c.in_ok-stage.ensures.paved in
     record {
       rule = settle;
       depth = depth;
@@ -27,12 +27,13 @@ save_round-requires-clause-few g c = λ t j.
     let b = c.args.campaign.now.root in
     let old = c.args.campaign.now.tree in
     let stage = c.in_ok-stage.stage.tree in
-    let paved : IsPaved settle depth b old c.args.boxes stage =
-    subst (λ (p : Seen). IsPaved settle depth p.root p.tree c.args.boxes stage) c.paving.ensures.is c.in_ok-stage.ensures.paved in
+    let paved : IsPaved settle depth b old c.args.plan.now.boxes stage =
+    subst (λ (p : Seen). IsPaved settle depth p.root p.tree c.args.plan.now.boxes stage) c.paving.ensures.is c.in_ok-stage.ensures.paved in
     let same : settled_in t ≡ settled_in stage = ap settled_in (join_is old stage t paved.stage.grown j) in
-    let few : settled_in stage ≤ settled_in old + c.args.boxes = few_settled settle depth b old stage c.args.boxes paved in
-    let limit : settled_in old + c.args.boxes ≤ 100000 = c.requires.limit in
-    let all : settled_in t ≤ 100000 = omega arith in
+    let few : settled_in stage ≤ settled_in old + c.args.plan.now.boxes = few_settled settle depth b old stage c.args.plan.now.boxes paved in
+    let room : settled_in old + c.args.plan.now.boxes ≤ c.args.plan.now.limit = c.requires.few in
+    let own : c.args.campaign.now.limit ≡ c.args.plan.now.limit = c.requires.limit in
+    let all : settled_in t ≤ c.args.campaign.now.limit = omega arith in
     all
 
 pub returns-in-Ok-clause-paved : goal.returns-in-Ok-clause-paved
@@ -42,6 +43,6 @@ returns-in-Ok-clause-paved g c =
     let b = c.args.campaign.now.root in
     let old = c.args.campaign.now.tree in
     let stage = c.in_ok-stage.stage.tree in
-    let paved : IsPaved settle depth b old c.args.boxes stage =
-    subst (λ (p : Seen). IsPaved settle depth p.root p.tree c.args.boxes stage) c.paving.ensures.is c.in_ok-stage.ensures.paved in
-    subst (λ (t : Tree). IsPaved settle depth b old c.args.boxes t) (sym (join_is old stage c.save_round.new.self.tree paved.stage.grown c.in-Ok.ensures.joined)) paved
+    let paved : IsPaved settle depth b old c.args.plan.now.boxes stage =
+    subst (λ (p : Seen). IsPaved settle depth p.root p.tree c.args.plan.now.boxes stage) c.paving.ensures.is c.in_ok-stage.ensures.paved in
+    subst (λ (t : Tree). IsPaved settle depth b old c.args.plan.now.boxes t) (sym (join_is old stage c.save_round.new.self.tree paved.stage.grown c.in-Ok.ensures.joined)) paved
