@@ -1,4 +1,4 @@
-# make try      a first look in two minutes: paves an example by a program that is not proved, and says so
+# make try      a first look in a minute: paves an example by the program's libraries with no proof, and says so
 # make          proves and builds the program on JOBS processors, all that there are, and leaves it as ./paver
 # make demo     the same; paves an example and leaves its picture as demo/ring.svg
 # make test     the whole test command: the gate and the end-to-end tests
@@ -28,23 +28,9 @@ bench: paver
 	cd crates/pv_tree_bench && rt run -- none 0 >/dev/null 2>&1
 	python3 bench/run.py
 
-define DRAW_TRY
-import sys, paver
-text = open(sys.argv[1]).read()
-root = [(-3, 3), (-3, 3)]
-print(paver.svg(paver.Paving.from_text(text, root=root, names=["x", "y"])))
-endef
-export DRAW_TRY
-
 # Nothing is proved here, and not every slip would stop the run.
 try:
-	mkdir -p demo
-	cd crates/paver && rt try --data ring.mbx=../../examples/ring.mbx -- run ring.mbx --eps 0.5 >../../demo/try.log
-	sed -n '/^settled /,$$p' demo/try.log > demo/try.txt
-	PYTHONPATH=python python3 -c "$$DRAW_TRY" demo/try.txt > demo/try.svg
-	head -n 1 demo/try.txt
-	@echo "NOT PROVED: this run took the program as it is written, with no proof. make demo proves it first."
-	@echo "the picture is in demo/try.svg"
+	python3 build/first_look.py demo
 
 demo: paver
 	mkdir -p demo
