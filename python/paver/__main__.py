@@ -5,7 +5,7 @@ import sys
 from fractions import Fraction
 from pathlib import Path
 
-from . import errors, explain, program
+from . import errors, explain, levels_command, program
 from .advice import limits_of, stored_sentences, warnings_of
 from .cover import KEPT
 from .ibex import translate
@@ -16,6 +16,7 @@ from .plots import drawing, plot, plot_projection
 from .roots import ONE, TESTED, NotSquare, find_roots
 from .split import gather, split
 from .values import least
+from .widen import widened_file
 
 
 def run_options(parser, names=program.OPTIONS):
@@ -89,8 +90,12 @@ def explain_command(arguments):
 def least_command(arguments):
     """Prints the bounds of an expression's least value as floats that are rounded outward, and the point as exact fractions.
     Status 1 where the budget ended the search."""
+    levels_command.refuse_words(arguments)
+    if arguments.levels:
+        return levels_command.work(arguments, arguments.boxes, arguments.contract)
     names = program.check(arguments.system, program=arguments.program).names
-    found = least(arguments.system, arguments.of, program=arguments.program, **options_of(arguments))
+    with widened_file(arguments.system, arguments.widen, options_of(arguments), arguments.program) as (system, options):
+        found = least(system, arguments.of, program=arguments.program, **options)
     print(f"lower {as_float(found.lower, False)!r}")
     print("upper none" if found.point is None else f"upper {as_float(found.upper, True)!r}")
     for name, value in zip(names, found.point or ()):
@@ -229,6 +234,7 @@ def more_commands(commands):
     bounded.add_argument("system")
     bounded.add_argument("--of", required=True, help="the expression, over the variables")
     run_options(bounded, (*program.SETTINGS, "boxes"))
+    levels_command.add_options(bounded)
     explained = add("explain", explain_command)
     explained.usage = "%(prog)s SYSTEM [--groups N [--agree N]] [OPTIONS]"
     explained.epilog = "OPTIONS, behind SYSTEM, are those of the program's run: what is refused of them is told too."
