@@ -5,7 +5,7 @@ import sys
 from fractions import Fraction
 from pathlib import Path
 
-from . import errors, explain, levels_command, program
+from . import errors, explain, levels_command, program, robust_command
 from .advice import limits_of, stored_sentences, warnings_of
 from .cover import KEPT
 from .ibex import translate
@@ -131,6 +131,11 @@ def export(arguments):
     return 0
 
 
+def robust_of(arguments):
+    """Says for which values of a system's other variables all constraints hold for all values of some."""
+    return robust_command.work(arguments, values_of)
+
+
 def csv_command(arguments):
     """Prints the kept boxes of a paving as CSV."""
     paving, warnings = paving_of(arguments)
@@ -235,6 +240,7 @@ def more_commands(commands):
     bounded.add_argument("--of", required=True, help="the expression, over the variables")
     run_options(bounded, (*program.SETTINGS, "boxes"))
     levels_command.add_options(bounded)
+    robust_command.add_options(add("robust", robust_of))
     explained = add("explain", explain_command)
     explained.usage = "%(prog)s SYSTEM [--groups N [--agree N]] [OPTIONS]"
     explained.epilog = "OPTIONS, behind SYSTEM, are those of the program's run: what is refused of them is told too."
