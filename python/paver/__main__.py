@@ -16,7 +16,7 @@ from .plots import drawing, plot, plot_projection
 from .roots import ONE, TESTED, NotSquare, find_roots
 from .split import gather, split
 from .values import least
-from .widen import widened_file
+from .widen import claim_of_roots, roots_width, widened, widened_file
 
 
 def run_options(parser, names=program.OPTIONS):
@@ -43,7 +43,9 @@ def roots(arguments):
     """Prints each cluster of undecided boxes of a square system with its verdict. Status 1 where one is undecided or a leaf is
     open."""
     system = program.check(arguments.system, program=arguments.program)
-    paving, warnings = paving_of(arguments, limits_of)
+    by = roots_width(system, arguments.paving, arguments.widen)
+    with widened_file(arguments.system, by, options_of(arguments), arguments.program) as (path, options):
+        paving, warnings = paving_of(argparse.Namespace(**{**vars(arguments), "system": path, **options}), limits_of)
     found = find_roots(system, paving)
     for root in found:
         count = "1 box" if root.boxes == 1 else f"{root.boxes} boxes"
@@ -52,6 +54,7 @@ def roots(arguments):
             print(f"  {name} in [{as_float(low, False)!r}, {as_float(high, True)!r}]")
     counts = {verdict: sum(root.verdict == verdict for root in found) for verdict in (ONE, "none", "undecided")}
     print(f"{counts[ONE]} roots, {counts['none']} clusters without one, {counts['undecided']} undecided; {TESTED}.")
+    print(claim_of_roots(by))
     report(warnings)
     return 1 if counts["undecided"] or paving.counts()["open"] else 0
 
@@ -70,7 +73,7 @@ def from_ibex(arguments):
         return 3
     for note in found.notes:
         print(f"note: {note}", file=sys.stderr)
-    sys.stdout.write(found.text)
+    sys.stdout.write(found.text if arguments.widen is None else widened(found.text, arguments.widen))
     return 0
 
 
@@ -214,6 +217,7 @@ def parser():
         command.add_argument("paving", nargs="?",
                              help="a stored paving, printed text or a campaign's database; else the system is run")
         run_options(command)
+    commands.choices["roots"].add_argument("--widen", metavar="D", help="f = 0 is paved as f >= -D; f <= D (1e-9; 0: as it is)")
     commands.choices["csv"].add_argument("--exactly", action="store_true", help="fractions in place of floats")
     drawn = commands.choices["plot"]
     drawn.add_argument("--picture", required=True, help="the file to write, as ring.png")
@@ -233,7 +237,9 @@ def more_commands(commands):
         command.set_defaults(work=work)
         return command
 
-    add("from-ibex", from_ibex).add_argument("file")
+    written = add("from-ibex", from_ibex)
+    written.add_argument("file")
+    written.add_argument("--widen", metavar="D", help="equations f = 0 become f >= -D; f <= D")
     add("export", export).add_argument("paving", help="the database of a campaign, or a stored paving")
     bounded = add("least", least_command)
     bounded.add_argument("system")

@@ -14,7 +14,8 @@ from fractions import Fraction
 from pathlib import Path
 
 from . import numbers
-from .program import check
+from .canonical import System
+from .program import check, run
 from .texts import ENCODING, SystemText
 
 Width = str | int | float | Fraction
@@ -71,8 +72,27 @@ def widened_file(system: str | Path, by: Width | None, options: dict | None = No
         return
     known = check(system, program=program)  # a refused system is refused in its own words
     if options.get("contract"):
+        run(system, boxes=1, contract=options["contract"], program=program)  # so is a contractor text
         options["contract"] = widened_contract(options["contract"], [c.relation for c in known.constraints])
     with tempfile.TemporaryDirectory() as folder:
         path = Path(folder) / "widened.mbx"
         path.write_bytes(widened(Path(system).read_bytes().decode(ENCODING), by).encode(ENCODING))
         yield path, options
+
+
+def roots_width(system: System, paving: str | None, by: Width | None) -> Width | None:
+    """By how much `roots` widens the equations that it has paved: by USUAL, where nothing is said and a run of its own is
+    paved; None for not at all, as with 0."""
+    if by is None:
+        equations = sum(c.relation == "=" for c in system.constraints)
+        return USUAL if paving is None and len(system.constraints) + equations <= MOST_CONSTRAINTS else None
+    return None if by in ("0", 0) else by
+
+
+def claim_of_roots(by: Width | None) -> str:
+    """What the paving says of roots that are in no cluster."""
+    if by is None:
+        return ("The paving is of the equations as they stand: outside the clusters there is no rational root, and of irrational "
+                "ones nothing is said (--widen 1e-9).")
+    return (f"The paving is of the equations widened by {float(Fraction(by)):g}: each real root in the search box at which the other "
+            "constraints hold strictly lies in a cluster.")
