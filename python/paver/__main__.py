@@ -5,7 +5,7 @@ import sys
 from fractions import Fraction
 from pathlib import Path
 
-from . import errors, explain, levels_command, program, robust_command
+from . import errors, explain, levels_command, program, robust_command, scale, undecided
 from .advice import limits_of, stored_sentences, warnings_of
 from .cover import KEPT
 from .ibex import translate
@@ -87,6 +87,8 @@ def explain_command(arguments):
         agree = max(1, len(groups) - 1) if arguments.agree is None else arguments.agree
         print(f"at least {agree} of {len(groups)} groups of constraints:")
         print(f"  --contract '{explain.qinter_text(groups, agree)}'")
+    if good and arguments.scale is not None:
+        scale.report(arguments.system, arguments.scale, arguments.program)
     return 0 if good else 2
 
 
@@ -112,6 +114,7 @@ def summary(arguments):
     """Prints counts, volumes, hull, clusters and the widest small box of a paving."""
     paving, warnings = paving_of(arguments)
     print_summary(paving)
+    undecided.report(paving, program.check(arguments.system, program=arguments.program))
     report(warnings)
     return 0
 
@@ -248,11 +251,12 @@ def more_commands(commands):
     levels_command.add_options(bounded)
     robust_command.add_options(add("robust", robust_of))
     explained = add("explain", explain_command)
-    explained.usage = "%(prog)s SYSTEM [--groups N [--agree N]] [OPTIONS]"
+    explained.usage = "%(prog)s SYSTEM [--groups N [--agree N]] [--scale [FILE]] [OPTIONS]"
     explained.epilog = "OPTIONS, behind SYSTEM, are those of the program's run: what is refused of them is told too."
     explained.add_argument("system")
     explained.add_argument("--groups", type=int, help="constraints in each group of a qinter text")
     explained.add_argument("--agree", type=int, help="how many groups have to agree; else all but one")
+    explained.add_argument("--scale", nargs="?", const="", metavar="FILE", help="scales for variables; FILE takes the text")
     explained.set_defaults(options=[])
     parted = add("split", split_command)
     parted.add_argument("system")
