@@ -5,7 +5,7 @@ import sys
 from fractions import Fraction
 from pathlib import Path
 
-from . import errors, explain, levels_command, program, robust_command, scale, undecided
+from . import errors, explain, levels_command, program, robust_command, scale
 from .advice import limits_of, stored_sentences, warnings_of
 from .cover import KEPT
 from .ibex import translate
@@ -15,6 +15,7 @@ from .picture import svg
 from .plots import drawing, plot, plot_projection
 from .roots import ONE, TESTED, NotSquare, find_roots
 from .split import gather, split
+from .undecided import report as report_undecided
 from .values import least
 from .widen import claim_of_roots, roots_width, widened, widened_file
 
@@ -114,7 +115,7 @@ def summary(arguments):
     """Prints counts, volumes, hull, clusters and the widest small box of a paving."""
     paving, warnings = paving_of(arguments)
     print_summary(paving)
-    undecided.report(paving, program.check(arguments.system, program=arguments.program))
+    report_undecided(paving, program.check(arguments.system, program=arguments.program))
     report(warnings)
     return 0
 

@@ -9,7 +9,7 @@ from pathlib import Path
 
 from .numbers import as_float
 from .picture import svg
-from .robust import Robust, robust, vertices_text
+from .robust import SHOWN, Robust, robust, vertices_text
 from .widen import widened_file
 
 OPTIONS = ("eps", "depth", "bisect", "boxes", "workers")
@@ -49,11 +49,19 @@ def work(arguments: argparse.Namespace, values_of: Callable[[list[str]], dict[st
             found.write_regions(file, arguments.exactly)
     if arguments.picture:
         x, y = (int(word) if word.isdigit() else word for word in (arguments.x, arguments.y))
-        Path(arguments.picture).write_text(svg(found, x, y, at, title=Path(arguments.system).stem, equal=False))
+        Path(arguments.picture).write_text(picture_of(found, x, y, at, Path(arguments.system).stem))
     if found.status:
         print(f"note: the budget ended the run, and {found.paving.counts()['open']} leaves are open: they are in the rest. "
               "More --boxes or a larger eps goes on", file=sys.stderr)
     return found.status
+
+
+def picture_of(found: Robust, x: str | int, y: str | int, at: dict[str, Fraction], title: str) -> str:
+    """The picture of a slice, with the words for regions in its legend."""
+    text = svg(found, x, y, at, title=title, equal=False)
+    for kind, shown in SHOWN.items():
+        text = text.replace(f">{shown}</text>", f">{kind}</text>")
+    return text
 
 
 def lines_of(found: Robust, names: list[str]) -> list[str]:

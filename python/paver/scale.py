@@ -12,7 +12,7 @@ from .cover import Box
 from .numbers import minibex, wide
 from .texts import ENCODING, SystemText
 
-ORDERS = 2  # powers of ten between the widest and the narrowest domain from which on scales are proposed
+ORDERS = 2  # powers of ten from the middle one of the widths, from which on a scale is proposed
 
 
 def order_of(number: Fraction) -> int:
@@ -26,15 +26,13 @@ def order_of(number: Fraction) -> int:
 
 
 def scales_of(system: System) -> dict[str, int]:
-    """For each variable the power of ten that would be its unit; empty where the domains are within some orders. Units are
-    told from the middle one of all orders; an unbounded domain, or one of a single point, has none."""
+    """For each variable whose domain is orders wider or narrower than the middle one the power of ten that would be its unit.
+    An unbounded domain, or one of a single point, has none."""
     widths = {name: high - low for name, (low, high) in zip(system.names, Box("open", system.root).exact)
               if not isinstance(low, float) and not isinstance(high, float) and high > low}
     orders = {name: order_of(width) for name, width in widths.items()}
-    if not orders or max(orders.values()) - min(orders.values()) < ORDERS:
-        return {}
-    usual = sorted(orders.values())[len(orders) // 2]
-    return {name: order - usual for name, order in orders.items() if order != usual}
+    usual = sorted(orders.values())[len(orders) // 2] if orders else 0
+    return {name: order - usual for name, order in orders.items() if abs(order - usual) >= ORDERS}
 
 
 def proposals(system: System) -> Iterator[str]:
@@ -50,7 +48,7 @@ def proposals(system: System) -> Iterator[str]:
         if isinstance(low, float) or isinstance(high, float):
             yield f"{name} has no bounded domain, and so no scale: give it one"
     if not found:
-        yield f"the domains' widths are less than {ORDERS} orders apart: scales would change little"
+        yield f"the domains' widths are less than {ORDERS} orders from the middle one: scales would change little"
 
 
 def unit(power: int) -> str:

@@ -59,3 +59,16 @@ def settings_of(words):
     if "--contract" in options:
         settings["contract"] = options["--contract"]
     return settings, int(options.get("--boxes", "20000"))
+
+
+# What holds for all values of some variables, with growing budgets.
+ROBUST = [
+    ("uncertain_pid", ["--for-all", "a,g", "--eps", "0.25"]),
+    ("joint_tolerances", ["--for-all", "u,v", "--eps", "0.125"]),
+]
+
+
+def robust_answers():
+    """The printed lines that each command of ROBUST has to come to, by its name."""
+    blocks = (Path(__file__).parent / "robust.txt").read_text().split("\n\n")
+    return {lines[0]: lines[1:] for lines in (block.strip().splitlines() for block in blocks)}
