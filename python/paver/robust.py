@@ -2,8 +2,9 @@
 
 The constraints are negated, and the points (k, p) at which some negated one holds are paved. At a rational k that lies in no
 kept box's shadow, and any rational p of its box, no negated constraint holds; divisors are asked not to be 0, too. So all
-constraints hold there. An inner box holds a p that refutes each k of its shadow. A parameter in which a constraint is convex,
-affine at best, needs the two ends of its interval alone.
+constraints hold there. (Shadows are closed, and of a sure box nothing is said of its faces, where one may lie.) An inner box
+holds a p that refutes each k of its shadow. A parameter in which a constraint is convex, affine at best, needs the two ends of
+its interval alone.
 """
 from __future__ import annotations
 
@@ -173,8 +174,9 @@ def vertices_text(system: str | Path, for_all: Iterable[str], *, program_path: s
 
 @dataclass
 class Region:
-    """A box of values of the variables that are asked for: kind is sure, refuted or rest. Each rational point of a sure box
-    meets all constraints for all values of the parameters; each rational point of a refuted one fails with the witness."""
+    """A box of values of the variables that are asked for: kind is sure, refuted or rest. Each rational point inside a sure
+    box, off its faces, meets all constraints for all values of the parameters; each rational point of a refuted one, faces
+    and all, fails with the witness."""
     kind: str
     words: tuple[str, ...]
     witness: Witness | None = None

@@ -71,4 +71,4 @@ ROBUST = [
 def robust_answers():
     """The printed lines that each command of ROBUST has to come to, by its name."""
     blocks = (Path(__file__).parent / "robust.txt").read_text().split("\n\n")
-    return {lines[0]: lines[1:] for lines in (block.strip().splitlines() for block in blocks)}
+    return {lines[0]: lines[1:] for lines in (block.strip().splitlines() for block in blocks) if lines}
