@@ -1,17 +1,19 @@
 #!/usr/bin/env python3
-"""Works out what `python3 -m paver robust` has to print for each example of it: the slow reference paves the negated system.
+"""Works out by the slow reference what `python3 -m paver robust` has to print for each example of it, and what
+`run-centered` has to for each level of the gallery.
 
-    python3 tests/generators/expected_robust.py ./paver [NAME..]
+    python3 tests/generators/expected_robust.py ./paver
 
-prints for each its name and the lines. tests/data/robust.txt holds what it printed. The program serves to read systems alone.
+writes tests/data/levels.txt and robust.txt. The program serves to read systems alone.
 """
 import os
 import sys
+from fractions import Fraction
 from pathlib import Path
 
 TOP = Path(__file__).resolve().parents[2]
 sys.path[:0] = [str(TOP / "tests"), str(TOP / "python")]
-from data.examples import ROBUST, settings_of  # noqa: E402
+from data.examples import LEVELS, ROBUST, at_level, settings_of  # noqa: E402
 from reference import minibex, paver as plain  # noqa: E402
 from reference.slopes import CenteredSettler  # noqa: E402
 import paver  # noqa: E402
@@ -32,11 +34,18 @@ def answer_of(name, words):
     return lines_of(classified(negation, system, paving, names, SystemText(text), int(paving.counts()["open"] > 0)), names)
 
 
+def summary_of(name, of, level, eps):
+    """The summary of the reference's run by centered forms of a system with a level."""
+    text = at_level((TOP / "examples" / f"{name}.mbx").read_text(), of, level)
+    return plain.pave(CenteredSettler(minibex.read(text), eps=Fraction(eps)), 20000)[0]
+
+
 def main():
-    os.environ["PAVER"] = os.path.abspath(sys.argv[1])
-    for name, words in ROBUST:
-        if name in (sys.argv[2:] or name):
-            print("\n".join([name, *answer_of(name, words)]), end="\n\n", flush=True)
+    os.environ["PAVER"], data = os.path.abspath(sys.argv[1]), TOP / "tests" / "data"
+    levels = [f"{name} {summary_of(name, of, level, eps)}\n" for name, of, level, eps, _ in LEVELS]
+    (data / "levels.txt").write_text("".join(levels))
+    blocks = ["\n".join([name, *answer_of(name, words)]) for name, words in ROBUST]
+    (data / "robust.txt").write_text("\n\n".join(blocks) + "\n")
 
 
 if __name__ == "__main__":

@@ -17,7 +17,7 @@ from fractions import Fraction
 from pathlib import Path
 
 import paver
-from data.examples import ROBUST, robust_answers
+from data.examples import LEVELS, ROBUST, at_level, level_answers, robust_answers
 from data.ibex_cases import TAKEN
 from data.reader_cases import GOOD
 from least_vectors import GROUPS, NONE, UNBOUNDED
@@ -131,6 +131,17 @@ def check_near(system, of, known):
             assert counts == proof_by_reference(proof), (name, counts)
         kept = counts["inner"] + counts["small"] + counts["open"]
         assert kept == 0 if name == "lower" else counts["inner"] > 0, (name, counts)
+
+
+def check_levels_of_gallery(name, of, level, eps, point):
+    """What the gallery shows: the program's run is the reference's, with nothing kept; the point is in the set."""
+    text = example(name).read_text()
+    with Written(at_level(text, of, level)) as path:
+        printed = paver.run_centered(path, eps=eps).text.splitlines()[0]
+    assert printed == level_answers()[name] and printed.endswith(" inner 0 small 0 open 0"), printed
+    system = minibex.read(text)
+    there = [Fraction(point[variable]) for variable in system.names]
+    assert is_member(system, there) and Fraction(level) < there[system.names.index(of)] < Fraction(level) + Fraction(1, 1000)
 
 
 def check_known_least_values():
@@ -619,6 +630,7 @@ def checks():
              check_vertices, check_bends, check_refused_robust, check_decided, check_undecided_command, check_scales]
     found = [(check.__name__[6:].replace("_", " "), check, ()) for check in named]
     found += [(f"levels: {name}", check_near, rest) for name, *rest in NEAR]
+    found += [(f"levels of the gallery: {case[0]}", check_levels_of_gallery, case) for case in LEVELS]
     found += [(f"robust: {name}", check_robust, rest) for name, *rest in ROBUSTS]
     found += [(f"robust command: {name}", check_robust_command, (name, words)) for name, words in ROBUST]
     return found + [(f"undecided: {name}", check_undecided, (name, options)) for name, options in (
