@@ -623,11 +623,22 @@ def check_scales():
     assert status == 0 and "scales would change little" in out
 
 
+def check_answers_page():
+    """What ANSWERS.md shows of commands is what they print; of a search only what holds of any."""
+    text = (example("ring").parents[1] / "docs" / "ANSWERS.md").read_text()
+    shown = re.findall(r"^```\n\$ python3 -m paver (\w+) examples/(\w+)\.mbx (.*)\n([^`]*)^```", text, re.M)
+    assert [name for name, *_ in shown] == ["least", "robust"], shown
+    for name, system, words, lines in shown:
+        status, out, _ = command(name, example(system), *words.split())
+        assert status == 0 and (out == lines or name == "least" and out.splitlines()[-1].startswith("gap 0.001 after ")), out
+
+
 def checks():
     named = [check_known_least_values, check_objective_of_names, check_tries, check_widened_least, check_refused_levels,
              check_levels_command, check_interrupted, check_texts, check_widened_texts, check_widened_contracts,
              check_widened_refusals, check_widened_ibex, check_roots_widened, check_robust_known, check_negated_by_reference,
-             check_vertices, check_bends, check_refused_robust, check_decided, check_undecided_command, check_scales]
+             check_vertices, check_bends, check_refused_robust, check_decided, check_undecided_command, check_scales,
+             check_answers_page]
     found = [(check.__name__[6:].replace("_", " "), check, ()) for check in named]
     found += [(f"levels: {name}", check_near, rest) for name, *rest in NEAR]
     found += [(f"levels of the gallery: {case[0]}", check_levels_of_gallery, case) for case in LEVELS]
