@@ -9,6 +9,11 @@ draw() {
     shift
     python3 -m paver plot "examples/$name.mbx" --picture "docs/pictures/$name.svg" "$@" 2>/dev/null
 }
+robust() { # what holds for all values of some variables
+    name=$1
+    shift
+    python3 -m paver robust "examples/$name.mbx" --picture "docs/pictures/$name.svg" "$@" >/dev/null
+}
 pairs() { # qinter over pairs of constraints: how many agree, and of how many pairs
     text="qinter($1"
     for k in $(seq 0 $(($2 - 1))); do text="$text,compose(hc4($((2 * k))),hc4($((2 * k + 1))))"; done
@@ -32,3 +37,5 @@ draw damped_gains --eps 0.03125
 draw platform_determinant --eps 0.03125
 draw lyapunov_fall --eps 0.03125
 draw puma_poses --eps 0.0625 --x c1 --y s1 --project
+robust uncertain_pid --for-all a,g --eps 0.0625 --boxes 100000
+robust joint_tolerances --for-all u,v --eps 0.03125 --boxes 100000

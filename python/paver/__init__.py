@@ -14,20 +14,27 @@ from .cover import Box, Cluster
 from .errors import (
     ContractRefused, Disagree, KeeperFault, NoFile, NotInProgram, ObjectiveRefused, PaverError, PavingError, PavingRefused,
     ProgramFault, ProgramMissing, ReadFault, SystemRefused, TreeLimit, UsageError, WantOfMemory, WriteFault)
+from .levels import Levels, least_by_levels
 from .paving import Parts, Paving
 from .picture import svg
 from .plots import plot, plot_projection
 from .program import (
     Answer, audit, audit_centered, campaign, check, check_text, draw, find, merge, resume, run, run_centered, sample)
+from .robust import NotRobust, Robust, robust, vertices_text
 from .roots import find_roots
+from .scale import scaled_text
 from .split import gather, split
+from .undecided import undecided
 from .values import Bounds, least
 from .view import View, view
+from .widen import widened, widened_contract, widened_file
 
 __all__ = [
-    "Answer", "Bounds", "Box", "Cluster", "ContractRefused", "Disagree", "KeeperFault", "NoFile", "NotInProgram",
-    "ObjectiveRefused", "Parts", "Paving", "PaverError", "PavingError", "PavingRefused", "ProgramFault", "ProgramMissing",
-    "ReadFault", "System", "SystemRefused", "TreeLimit", "UsageError", "View", "WantOfMemory", "WriteFault", "audit",
-    "audit_centered", "campaign", "check", "check_text", "depth_that_suffices", "draw", "find", "find_roots", "gather",
-    "least", "merge", "plot", "plot_projection", "resume", "run", "run_centered", "sample", "split", "svg", "view", "warnings_of",
+    "Answer", "Bounds", "Box", "Cluster", "ContractRefused", "Disagree", "KeeperFault", "Levels", "NoFile", "NotInProgram",
+    "NotRobust", "ObjectiveRefused", "Parts", "PaverError", "Paving", "PavingError", "PavingRefused", "ProgramFault",
+    "ProgramMissing", "ReadFault", "Robust", "System", "SystemRefused", "TreeLimit", "UsageError", "View", "WantOfMemory",
+    "WriteFault", "audit", "audit_centered", "campaign", "check", "check_text", "depth_that_suffices", "draw", "find",
+    "find_roots", "gather", "least", "least_by_levels", "merge", "plot", "plot_projection", "resume", "robust", "run",
+    "run_centered", "sample", "scaled_text", "split", "svg", "undecided", "vertices_text", "view", "warnings_of", "widened",
+    "widened_contract", "widened_file",
 ]

@@ -5,7 +5,7 @@ import sys
 from fractions import Fraction
 from pathlib import Path
 
-from . import errors, explain, program
+from . import errors, explain, levels_command, program, robust_command, scale
 from .advice import limits_of, stored_sentences, warnings_of
 from .cover import KEPT
 from .ibex import translate
@@ -15,8 +15,10 @@ from .picture import svg
 from .plots import drawing, plot, plot_projection
 from .roots import ONE, TESTED, NotSquare, find_roots
 from .split import gather, split
+from .undecided import report as report_undecided
 from .values import least
 from .view import add_words, view_command
+from .widen import claim_of_roots, roots_width, widened, widened_file
 
 
 def run_options(parser, names=program.OPTIONS):
@@ -43,7 +45,9 @@ def roots(arguments):
     """Prints each cluster of undecided boxes of a square system with its verdict. Status 1 where one is undecided or a leaf is
     open."""
     system = program.check(arguments.system, program=arguments.program)
-    paving, warnings = paving_of(arguments, limits_of)
+    by = roots_width(system, arguments.paving, arguments.widen)
+    with widened_file(arguments.system, by, options_of(arguments), arguments.program) as (path, options):
+        paving, warnings = paving_of(argparse.Namespace(**{**vars(arguments), "system": path, **options}), limits_of)
     found = find_roots(system, paving)
     for root in found:
         count = "1 box" if root.boxes == 1 else f"{root.boxes} boxes"
@@ -52,6 +56,7 @@ def roots(arguments):
             print(f"  {name} in [{as_float(low, False)!r}, {as_float(high, True)!r}]")
     counts = {verdict: sum(root.verdict == verdict for root in found) for verdict in (ONE, "none", "undecided")}
     print(f"{counts[ONE]} roots, {counts['none']} clusters without one, {counts['undecided']} undecided; {TESTED}.")
+    print(claim_of_roots(by))
     report(warnings)
     return 1 if counts["undecided"] or paving.counts()["open"] else 0
 
@@ -70,7 +75,7 @@ def from_ibex(arguments):
         return 3
     for note in found.notes:
         print(f"note: {note}", file=sys.stderr)
-    sys.stdout.write(found.text)
+    sys.stdout.write(found.text if arguments.widen is None else widened(found.text, arguments.widen))
     return 0
 
 
@@ -84,14 +89,20 @@ def explain_command(arguments):
         agree = max(1, len(groups) - 1) if arguments.agree is None else arguments.agree
         print(f"at least {agree} of {len(groups)} groups of constraints:")
         print(f"  --contract '{explain.qinter_text(groups, agree)}'")
+    if good and arguments.scale is not None:
+        scale.report(arguments.system, arguments.scale, arguments.program)
     return 0 if good else 2
 
 
 def least_command(arguments):
     """Prints the bounds of an expression's least value as floats that are rounded outward, and the point as exact fractions.
     Status 1 where the budget ended the search."""
+    levels_command.refuse_words(arguments)
+    if arguments.levels:
+        return levels_command.work(arguments, arguments.boxes, arguments.contract)
     names = program.check(arguments.system, program=arguments.program).names
-    found = least(arguments.system, arguments.of, program=arguments.program, **options_of(arguments))
+    with widened_file(arguments.system, arguments.widen, options_of(arguments), arguments.program) as (system, options):
+        found = least(system, arguments.of, program=arguments.program, **options)
     print(f"lower {as_float(found.lower, False)!r}")
     print("upper none" if found.point is None else f"upper {as_float(found.upper, True)!r}")
     for name, value in zip(names, found.point or ()):
@@ -105,6 +116,7 @@ def summary(arguments):
     """Prints counts, volumes, hull, clusters and the widest small box of a paving."""
     paving, warnings = paving_of(arguments)
     print_summary(paving)
+    report_undecided(paving, program.check(arguments.system, program=arguments.program))
     report(warnings)
     return 0
 
@@ -125,6 +137,11 @@ def export(arguments):
     """Prints the paving of a campaign's database as a stored file, which the program's audit, merge, resume and svg take."""
     sys.stdout.write(Paving.read(arguments.paving).file_text())
     return 0
+
+
+def robust_of(arguments):
+    """Says for which values of a system's other variables all constraints hold for all values of some."""
+    return robust_command.work(arguments, values_of)
 
 
 def csv_command(arguments):
@@ -211,6 +228,7 @@ def parser():
         command.add_argument("paving", nargs="?",
                              help="a stored paving, printed text or a campaign's database; else the system is run")
         run_options(command)
+    commands.choices["roots"].add_argument("--widen", metavar="D", help="f = 0 is paved as f >= -D; f <= D (1e-9; 0: as it is)")
     commands.choices["csv"].add_argument("--exactly", action="store_true", help="fractions in place of floats")
     drawn = commands.choices["plot"]
     drawn.add_argument("--picture", required=True, help="the file to write, as ring.png")
@@ -230,18 +248,23 @@ def more_commands(commands):
         command.set_defaults(work=work)
         return command
 
-    add("from-ibex", from_ibex).add_argument("file")
+    written = add("from-ibex", from_ibex)
+    written.add_argument("file")
+    written.add_argument("--widen", metavar="D", help="equations f = 0 become f >= -D; f <= D")
     add("export", export).add_argument("paving", help="the database of a campaign, or a stored paving")
     bounded = add("least", least_command)
     bounded.add_argument("system")
     bounded.add_argument("--of", required=True, help="the expression, over the variables")
     run_options(bounded, (*program.SETTINGS, "boxes"))
+    levels_command.add_options(bounded)
+    robust_command.add_options(add("robust", robust_of))
     explained = add("explain", explain_command)
-    explained.usage = "%(prog)s SYSTEM [--groups N [--agree N]] [OPTIONS]"
+    explained.usage = "%(prog)s SYSTEM [--groups N [--agree N]] [--scale [FILE]] [OPTIONS]"
     explained.epilog = "OPTIONS, behind SYSTEM, are those of the program's run: what is refused of them is told too."
     explained.add_argument("system")
     explained.add_argument("--groups", type=int, help="constraints in each group of a qinter text")
     explained.add_argument("--agree", type=int, help="how many groups have to agree; else all but one")
+    explained.add_argument("--scale", nargs="?", const="", metavar="FILE", help="scales for variables; FILE takes the text")
     explained.set_defaults(options=[])
     add_words(add("view", page_command))
     parted = add("split", split_command)

@@ -59,3 +59,34 @@ def settings_of(words):
     if "--contract" in options:
         settings["contract"] = options["--contract"]
     return settings, int(options.get("--boxes", "20000"))
+
+
+# What holds for all values of some variables, with growing budgets.
+ROBUST = [
+    ("uncertain_pid", ["--for-all", "a,g", "--eps", "0.25"]),
+    ("joint_tolerances", ["--for-all", "u,v", "--eps", "0.125"]),
+]
+
+
+def robust_answers():
+    """The printed lines that each command of ROBUST has to come to, by its name."""
+    blocks = (Path(__file__).parent / "robust.txt").read_text().split("\n\n")
+    return {lines[0]: lines[1:] for lines in (block.strip().splitlines() for block in blocks) if lines}
+
+
+# Levels of least values: an expression, a level below which nothing is, its eps, and a point of a value near.
+LEVELS = [
+    ("least_derivative_gain", "kd", "1.9995", "0.01", {"kp": "1", "ki": "1", "kd": "2.0001"}),
+    ("best_fit", "error", "0.0085", "0.01", {"vmax": "2.0216", "km": "1.0196", "error": "0.0091"}),
+]
+
+
+def level_answers():
+    """The summary of `run-centered` of each system of LEVELS with its level, by its name."""
+    rows = (line.split(" ", 1) for line in (Path(__file__).parent / "levels.txt").read_text().splitlines())
+    return dict(rows)
+
+
+def at_level(text, of, level):
+    """A system's text with the level's constraint."""
+    return f"{text.rstrip().removesuffix('end')}  {of} <= {level};\nend\n"

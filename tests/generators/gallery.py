@@ -16,11 +16,12 @@ from pathlib import Path
 
 TOP = Path(__file__).resolve().parents[2]
 sys.path.insert(0, str(TOP / "tests"))
-from data.examples import EXAMPLES, LEAST, least_answers, pairs  # noqa: E402
+from data.examples import (  # noqa: E402
+    EXAMPLES, LEAST, LEVELS, ROBUST, least_answers, level_answers, pairs, robust_answers)
 
 HEAD = """# Gallery
 
-Each example of `examples/`, with its question, the command that answers it and the first line of the answer. Green boxes are inner: every rational point of them is in the set. Grey parts are removed: no rational point of them is. Yellow boxes are undecided. Of three variables and more a picture is a slice, or the projection on two variables, where green says that some values of the other variables are in the set, and grey that none are; some are drawn with another eps or depth than that of the first command. `examples/pictures.sh` draws them all, `tests/generators/gallery.py` writes this page. Each can be looked at in a browser, too: `python3 -m paver view` writes a page with the boxes, their exact ends and a slider for each other variable, as [that of the PI gains](view/pi_gains.html).
+Each example of `examples/`, with its question, the command that answers it and the first line of the answer. Green boxes are inner: every rational point of them is in the set. Grey parts are removed: no rational point of them is. (Of irrational points, as most poses that equations ask for are, that says nothing: [ANSWERS.md](ANSWERS.md#equations) says what does.) Yellow boxes are undecided. Of three variables and more a picture is a slice, or the projection on two variables, where green says that some values of the other variables are in the set, and grey that none are; some are drawn with another eps or depth than that of the first command. `examples/pictures.sh` draws them all, `tests/generators/gallery.py` writes this page. Each can be looked at in a browser, too: `python3 -m paver view` writes a page with the boxes, their exact ends and a slider for each other variable, as [that of the PI gains](view/pi_gains.html).
 """
 
 
@@ -40,7 +41,22 @@ The next two ask for the least value of an expression. No value on the set is be
 """
 
 VIEWED = "pi_gains"  # whose page is kept, see view_picture.py
-TITLES = {"pi_gains": "PI gains", "robust_pid": "Robust PID", "three_rpr": "3-RPR platform"}
+LEVELS_HEAD = """
+### By levels
+
+`python3 -m paver least SYSTEM --of TEXT --levels` asks a level c by `run-centered` of the system with the constraint `TEXT <= c`: where nothing is kept, no rational point of the set has a value at or below c ([ANSWERS.md](ANSWERS.md#least-values-by-levels)). It finds where to ask by itself, and brings the bounds of these two within 0.001 by two or three calls. What two levels show, as the plain paver worked it out:
+
+| example | level | run with the level | so | a point of the set |
+|---|---|---|---|---|
+"""
+
+ROBUST_HEAD = """
+## For all values
+
+`python3 -m paver robust SYSTEM --for-all p,q` asks for which values of the other variables all constraints hold, whatever p and q are in their domains ([ANSWERS.md](ANSWERS.md#for-all-values-of-some-variables)). Green is sure; grey is refuted, each box by one choice of p and q; yellow is neither. The answers are those that the plain paver's pavings come to.
+"""
+
+TITLES = {"pi_gains": "PI gains", "robust_pid": "Robust PID", "three_rpr": "3-RPR platform", "uncertain_pid": "Uncertain PID"}
 
 
 def title_of(name):
@@ -51,7 +67,7 @@ def question_of(name):
     """The comment at the head of the file without its command, quoted line by line."""
     text = (TOP / "examples" / f"{name}.mbx").read_text()
     lines = [line[2:] for line in takewhile(lambda line: line.startswith("//"), text.splitlines())]
-    return "\n".join(f"> {line.strip()}  " for line in lines if "  paver " not in line)
+    return "\n".join(f"> {line.strip()}  " for line in lines if "  paver " not in line and "  python3 -m " not in line)
 
 
 def summaries():
@@ -145,12 +161,41 @@ $ paver least examples/{name}.mbx {" ".join(words)}
 {rows}"""
 
 
+def levels_part():
+    """What the levels of two examples show."""
+    text, answers = LEVELS_HEAD, level_answers()
+    for name, of, level, eps, point in LEVELS:
+        shown = ", ".join(f"{variable} = {value}" for variable, value in point.items())
+        text += f"| {title_of(name)} | `{of} <= {level}`, `--eps {eps}` | {answers[name]} | {of} > {level} | {shown} |\n"
+    return text
+
+
+def robust_entry(name, words, lines):
+    script, words, shown = (TOP / "examples" / "pictures.sh").read_text(), " ".join(words), "\n".join(lines)
+    drawn = re.search(rf"^robust {name} (.*)$", script, re.M)[1]
+    return f"""
+### {title_of(name)}
+
+{question_of(name)}
+
+```
+$ python3 -m paver robust examples/{name}.mbx {words}
+{shown}
+```
+
+![{title_of(name)}](pictures/{name}.svg)
+
+Drawn by `python3 -m paver robust examples/{name}.mbx {drawn} --picture {name}.svg`.
+"""
+
+
 def main():
     found, drawn, answers = summaries(), drawings(), least_answers()
     text = HEAD + "".join(entry(name, words, found[name], drawn[name]) for name, words in EXAMPLES)
     text += side_by_side() + LEAST_HEAD
     for name, searches in groupby(LEAST, key=lambda search: search[0]):
         text += least_entry(name, [words for _, words in searches], answers)
+    text += levels_part() + ROBUST_HEAD + "".join(robust_entry(name, words, robust_answers()[name]) for name, words in ROBUST)
     (TOP / "docs" / "GALLERY.md").write_text(text)
 
 
