@@ -44,7 +44,7 @@ returns-clause-comes g c =
       read = c.in-Ok.ensures.rule;
       tree = t;
       held = held;
-      honest = e.honest c.in-Ok.ensures.rule.parts.system c.args.settings.now c.in-Ok.ensures.rule.is;
+      honest = e.honest c.in-Ok.ensures.rule.system c.args.settings.now c.in-Ok.ensures.rule.is;
       is = e.is;
     }) c.audited.ensures.honest
 

@@ -13,8 +13,8 @@ pub returns-in-Err-clause-refused : goal.returns-in-Err-clause-refused
 returns-in-Err-clause-refused g c =
     opening_refused _ _ c.args.system.now (names_in c.args.names.now) c.args.settings.now c.args.limit 0 c.in-Err.refusal c.in-Err.ensures.refused
 
-pub returns-then-settled-gt-nodes-clause-refused : goal.returns-then-settled-gt-nodes-clause-refused
-returns-then-settled-gt-nodes-clause-refused g c =
+pub returns-then-settled-nodes-clause-refused : goal.returns-then-settled-nodes-clause-refused
+returns-then-settled-nodes-clause-refused g c =
     let o = c.in-Ok.ensures.opened in
     record {
       rule = method_of c.in-Ok.opening.settler;
