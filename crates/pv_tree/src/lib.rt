@@ -23,8 +23,8 @@ mod walk;
 
 pub use batch::Batch;
 pub use growth::Growth;
-pub use limit::NodeLimit;
 pub use knowing::{Forgetful, KnowingSettler, Settled};
+pub use limit::NodeLimit;
 pub use outcome::{Counts, Outcome, Shape};
 pub use path::{MOST_STEPS, Path};
 pub use paving::{Paving, PutRefused};
