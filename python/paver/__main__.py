@@ -16,7 +16,7 @@ from .numbers import as_float, printable
 from .options import COMMANDS, KEPT_SETTINGS, Words
 from .paving import Paving
 from .picture import svg
-from .plots import drawing, plot, plot_projection
+from .plots import drawing, plot, plot_projection, rectangles
 from .roots import ONE, TESTED, NotSquare, find_roots
 from .split import gather, split
 from .values import least
@@ -180,6 +180,8 @@ def plot_command(arguments):
     at = values_of(arguments.at or [])
     names = [int(word) if word.isdigit() else word for word in (arguments.x, arguments.y)]
     title = Path(arguments.system).stem
+    if not arguments.project:
+        rectangles(paving, *names, at)  # which refuses what can't be drawn
     if arguments.picture.endswith(".svg"):
         Path(arguments.picture).write_text(svg(paving, *names, at, arguments.project, title, not arguments.stretch,
                                                arguments.near), encoding="utf-8")

@@ -5,10 +5,12 @@ import math
 from collections import namedtuple
 from fractions import Fraction
 from itertools import islice
+from operator import itemgetter
 from typing import (
     TYPE_CHECKING, Any, Dict, Iterable, Iterator, List, Mapping, Optional, Protocol, Sequence, Set, TextIO, Tuple, Union)
 
 from .box import Box, Cluster, Exact, Number, exact_number, hull_of
+from .numbers import INFINITE, as_float, wide
 from .tree import Ends, Tree
 
 if TYPE_CHECKING:
@@ -146,7 +148,6 @@ class Cover:
 
     def floats_of_hull(self, *kinds: str) -> Optional[Tuple[Tuple[float, float], ...]]:
         """The hull as pairs of floats, rounded outward; None where nothing is kept."""
-        from .numbers import as_float
         found = self.hull(*kinds)
         return None if found is None else tuple((as_float(low, False), as_float(high, True)) for low, high in found)
 
@@ -303,7 +304,6 @@ def shown(value: Exact) -> str:
     """An exact value in few characters for people."""
     if isinstance(value, float) or value.denominator == 1 and abs(value) < 10 ** 12:
         return str(value)
-    from .numbers import wide
     return wide(value)
 
 
@@ -316,7 +316,6 @@ def kept_ends(paving: Paving, wanted: Sequence[str]) -> List[Tuple[str, Ends]]:
 
 def width_in(values: Sequence[int], ends: Ends) -> int:
     """The width of the widest place of ends, as a whole number; infinite ones are wider than every other."""
-    from .numbers import INFINITE
     widest = max([values[ends[k + 1]] - values[ends[k]] for k in range(0, len(ends), 2)])
     return min(widest, INFINITE >> 1)
 
@@ -357,8 +356,8 @@ def hull_in(paving: Paving, wanted: Sequence[str]) -> Optional[Pairs]:
     if not boxes:
         return None
     exact = paving.tree.table.exact
-    columns = list(zip(*boxes))
-    return tuple((exact(min(low)), exact(max(high))) for low, high in zip(columns[::2], columns[1::2]))
+    return tuple((exact(min(map(itemgetter(k), boxes))), exact(max(map(itemgetter(k + 1), boxes))))
+                 for k in range(0, len(boxes[0]), 2))
 
 
 def joined(hulls: Sequence[Pairs]) -> Optional[Pairs]:

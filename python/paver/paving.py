@@ -4,7 +4,7 @@ from __future__ import annotations
 import re
 from itertools import accumulate, repeat
 from pathlib import Path
-from typing import Any, Dict, List, Mapping, Optional, Sequence, Tuple, Union
+from typing import Any, BinaryIO, Dict, List, Mapping, Optional, Sequence, Tuple, Union
 
 from . import kept
 from .box import Box
@@ -18,6 +18,7 @@ from .tree import Tree
 SUMMARY = re.compile(r"settled (\d+) cut (\d+) removed (\d+) inner (\d+) small (\d+) open (\d+)\Z", re.A)
 FIELDS = ("settled", "cut", "removed", "inner", "small", "open")
 STEPS = {"C ": 1, "X": -1, "I ": -1, "S ": -1, "O": -1}  # how a line changes the number of nodes that are to come
+CHUNK = 1 << 20  # bytes that are read at a time; a line has some hundreds at most
 PathName = Union[str, "Path"]
 Root = Union[Sequence[str], Sequence[Tuple[Any, Any]]]
 
@@ -88,12 +89,12 @@ class Paving(Cover):
             from .program import check
             system = check(system, program=program)
         with open(path, "rb") as file:
-            data = file.read(len(kept.HEADER))
-            if data == kept.HEADER:
+            head = file.read(len(kept.HEADER))
+            if head == kept.HEADER:
                 lines, stored = kept.lines_of(path)
                 text = "\n".join(["paving 1", f"identity {stored}", *lines, ""])
             else:
-                text = (data + file.read()).decode("latin-1")
+                text = whole_text(head, file)
         given = {"eps": eps, "depth": depth, "bisect": bisect, "contract": contract, "form": form}
         settings = {**beside.settings_of(path), **{key: value for key, value in given.items() if value is not None}}
         return cls.from_text(text, root=root, names=names, system=system, identity=identity, name=str(path), settings=settings)
@@ -184,6 +185,21 @@ class Paving(Cover):
 
     def __repr__(self) -> str:
         return f"<paving{in_words(self)}>"
+
+
+def whole_text(head: bytes, file: BinaryIO) -> str:
+    """The text of a file from its first bytes on. PavingError where it can be no paving's: a file as /dev/zero has no end."""
+    if not head.startswith((b"paving ", b"settled ")):
+        raise PavingError(1, "neither a summary line nor `paving 1` or `paving 2`")
+    chunks, rows = [head], 1
+    while True:
+        chunk = file.read(CHUNK)
+        if len(chunk) == CHUNK and b"\n" not in chunk:
+            raise PavingError(rows, f"a line of more than {CHUNK} bytes")
+        if not chunk:
+            return b"".join(chunks).decode("latin-1")
+        chunks.append(chunk)
+        rows += chunk.count(b"\n")
 
 
 def parsed(kind: type[Paving], text: str, root: Optional[Tuple[str, ...]], names: Optional[List[str]]) -> Paving:

@@ -14,6 +14,7 @@ import traceback
 from running import Count, is_chosen, program, word
 import package_around
 import package_checks
+import package_misuse
 import package_pavings
 import package_tools
 from package_checks import Skipped
@@ -36,7 +37,7 @@ def main():
     os.environ["PAVER"] = program()
     count = Count()
     for name, check, arguments in [*package_checks.checks(), *package_pavings.checks(), *package_tools.checks(),
-                                   *package_around.checks()]:
+                                   *package_misuse.checks(), *package_around.checks()]:
         if is_chosen(name, word()):
             begun = time.monotonic()
             judge(count, name, check, arguments)
