@@ -313,8 +313,18 @@ def on_refused_contract(arguments, fault):
     return explain.of_refused_contract(arguments.contract, fault.byte, len(system.constraints))
 
 
+def parsed(words):
+    """The arguments of words. Those after `explain` are the program's, and are left as they are."""
+    before = words[:words.index("explain")] if "explain" in words else None
+    if before is None or len(before) > 2 or words[-1] in ("-h", "--help"):
+        return parser().parse_args(words)
+    arguments = parser().parse_args([*before, "explain"])
+    arguments.words = words[len(before) + 1:]
+    return arguments
+
+
 def main(words=None):
-    arguments = parser().parse_args(words)
+    arguments = parsed(sys.argv[1:] if words is None else list(words))
     if sys.stdout is None:
         sys.stdout = open(os.devnull, "w", encoding="utf-8")  # so that nothing else fails
         print("paver: standard output is closed", file=sys.stderr)

@@ -29,7 +29,7 @@ def depth_that_suffices(root: Sequence[Tuple[Any, Any]], eps: Any, bisect: str =
     """A depth that lets every box become as narrow as eps. For `largest` it is the sum over the variables of
     log2(width / eps), each rounded up; for `round`, which cuts narrow places too, the greatest of these times the
     number of variables. root has pairs of exact values. None where a variable has no bounded domain, or eps is 0."""
-    halvings = []
+    halvings: List[int] = []
     if not eps:
         return None
     for low, high in root:

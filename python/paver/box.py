@@ -162,5 +162,6 @@ def hull_of(boxes: Iterable[Box]) -> Optional[Tuple[Pair, ...]]:
         if lows is None:
             lows, highs = ends[::2], ends[1::2]
         else:
-            lows, highs = list(map(min, lows, ends[::2])), list(map(max, highs, ends[1::2]))
+            lows = [min(pair) for pair in zip(lows, ends[::2])]
+            highs = [max(pair) for pair in zip(highs, ends[1::2])]
     return None if lows is None else tuple((exact_of_grid(a), exact_of_grid(b)) for a, b in zip(lows, highs))

@@ -79,7 +79,8 @@ def read_constraint(line: str) -> Constraint:
 
 def read_expression(words: Sequence[str], at: int) -> Tuple[Steps, int]:
     """The expression that begins at a word, and where the next one begins; without recursion, as trees can be deep."""
-    steps, waiting = [], []
+    steps: Steps = []
+    waiting: List[str] = []
     while True:
         word = words[at]
         at += 1
@@ -142,7 +143,7 @@ def constant_text(value: Fraction) -> Tuple[str, int]:
 
 def value(steps: Steps, point: Sequence[Fraction]) -> Optional[Fraction]:
     """The exact value at a point of rational numbers; None where it is undefined."""
-    stack = []
+    stack: List[Any] = []
     for step in steps:
         kind = step[0]
         if kind == "const":
@@ -158,4 +159,5 @@ def value(steps: Steps, point: Sequence[Fraction]) -> Optional[Fraction]:
                 return None
             stack.append(x + y if kind == "+" else x - y if kind == "-" else x * y if kind == "*" else
                          x / y if kind == "/" else min(x, y) if kind == "min" else max(x, y))
-    return stack[0]
+    found: Fraction = stack[0]
+    return found

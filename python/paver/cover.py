@@ -156,7 +156,8 @@ class Cover:
         kinds_of([kind])
         key = ("widest", kind)
         if key not in self._kept:
-            best, most = None, Fraction(-1)
+            best: Optional[Box] = None
+            most: Exact = Fraction(-1)
             for box in self.greatest(1, kind):
                 if box.width > most:
                     best, most = box, box.width

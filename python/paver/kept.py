@@ -61,7 +61,7 @@ def identity_in(connection: Any) -> Optional[str]:
     found = connection.execute("SELECT identity FROM head WHERE id = 1").fetchone()
     if found is not None and not (isinstance(found[0], bytes) and len(found[0]) == 32):
         raise PavingError(1, "the identity in `head` is no 32 bytes")
-    return found and found[0].hex()
+    return None if found is None else str(found[0].hex())
 
 
 def identity_of(path: PathName) -> Optional[str]:
@@ -72,7 +72,7 @@ def identity_of(path: PathName) -> Optional[str]:
 
 def rows_of(path: PathName) -> Tuple[Optional[str], List[Tuple[str, str]]]:
     """The identity in hexadecimal digits, and the paths and lines of the settled nodes in preorder."""
-    rows = []
+    rows: List[Tuple[str, str]] = []
     with opened(path) as connection:
         identity = identity_in(connection)
         for row in connection.execute("SELECT path, line FROM node ORDER BY path"):

@@ -46,9 +46,10 @@ def spelled(name: str, value: Any) -> str:
     if name == "eps":
         return number_text(value, "eps")
     if name in RANGES:
-        if value != value or value in (math.inf, -math.inf) or int(value) != value:  # type: ignore[call-overload]
+        number: Any = value
+        if number != number or number in (math.inf, -math.inf) or int(number) != number:
             raise ValueError(f"{name} {value}: a whole number is expected")
-        return str(int(value))  # type: ignore[call-overload]
+        return str(int(number))
     return str(value)
 
 

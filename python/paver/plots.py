@@ -40,7 +40,7 @@ def rectangles(cover: Cover, x: Name, y: Name, at: Optional[Mapping[Name, Number
         missing = ", ".join(cover.name_of(k) for k in sorted(others ^ set(values)))
         raise ValueError(f"a slice takes two variables and a value (at) for each other one, and no more: look at {missing}; "
                          "a projection takes two variables alone")
-    return ((box.kind, floats[first], floats[second]) for box in cover.slice(dict(values), kinds) for floats in [box.floats])
+    return ((box.kind, floats[first], floats[second]) for box in cover.slice({k: value for k, value in values.items()}, kinds) for floats in [box.floats])
 
 
 def projection(cover: Cover, x: Name, y: Name, kinds: Sequence[str] = KEPT) -> Iterator[Shown]:
@@ -84,9 +84,9 @@ def finite(rectangle: Sequence[Pair], axes: Sequence[Pair]) -> List[Pair]:
 def drawing() -> Tuple[Any, Any, Any]:
     """What is used of matplotlib."""
     try:
-        import matplotlib.pyplot as pyplot
-        from matplotlib.collections import PolyCollection
-        from matplotlib.patches import Patch
+        import matplotlib.pyplot as pyplot  # type: ignore[import]
+        from matplotlib.collections import PolyCollection  # type: ignore[import]
+        from matplotlib.patches import Patch  # type: ignore[import]
     except ImportError as fault:
         raise PlotsMissing("plots need matplotlib: python3 -m pip install matplotlib") from fault
     return pyplot, PolyCollection, Patch

@@ -55,7 +55,7 @@ def floats_of(paving: Any, kinds: Sequence[str], dims: int) -> Any:
 
 def frame_of(cover: Cover, kinds: Sequence[str], exactly: bool) -> Any:
     """A pandas DataFrame with a row a box and the columns of the CSV."""
-    import pandas
+    import pandas  # type: ignore[import]
     array = numpy_of(cover, kinds, exactly)
     classes = [kind for paving in cover.roots() for kind in classes_of(paving, kinds)]
     frame = pandas.DataFrame(array.reshape(len(classes), -1), columns=columns_of(cover)[1:])

@@ -32,12 +32,13 @@ def bounds_of(status: int, text: str) -> Bounds:
     """The bounds that the printed lines tell; ProgramFault where they are no such lines."""
     try:
         lines = [line.split(" ") for line in text.rstrip("\n").split("\n")]
-        words: Any = {line[0]: [numbers.exact(word) for word in line[1:] if word != "none"] for line in lines}
-        (lower,), upper = words.pop("lower"), words.pop("upper")
-        if not upper and not words:
+        words = {line[0]: [numbers.exact(word) for word in line[1:] if word != "none"] for line in lines}
+        (lower,), uppers = words.pop("lower"), words.pop("upper")
+        if not uppers and not words:
             return Bounds(status, text, lower)
-        return Bounds(status, text, lower, *upper, tuple(words["point"]))
-    except (KeyError, TypeError, ValueError) as fault:
+        (upper,), point = uppers, words["point"]
+        return Bounds(status, text, lower, upper, tuple(map(Fraction, point)))
+    except (KeyError, TypeError, ValueError, OverflowError) as fault:
         raise errors.ProgramFault(status, f"least answered {text!r}") from fault
 
 
