@@ -16,6 +16,7 @@ import package_around
 import package_checks
 import package_misuse
 import package_pavings
+import package_refusals
 import package_tools
 from package_checks import Skipped
 
@@ -37,7 +38,8 @@ def main():
     os.environ["PAVER"] = program()
     count = Count()
     for name, check, arguments in [*package_checks.checks(), *package_pavings.checks(), *package_tools.checks(),
-                                   *package_misuse.checks(), *package_around.checks()]:
+                                   *package_misuse.checks(), *package_refusals.checks(),
+                                   *package_around.checks()]:
         if is_chosen(name, word()):
             begun = time.monotonic()
             judge(count, name, check, arguments)
