@@ -18,6 +18,7 @@ import package_misuse
 import package_pavings
 import package_refusals
 import package_tools
+import package_users
 from package_checks import Skipped
 
 
@@ -39,7 +40,7 @@ def main():
     count = Count()
     for name, check, arguments in [*package_checks.checks(), *package_pavings.checks(), *package_tools.checks(),
                                    *package_misuse.checks(), *package_refusals.checks(),
-                                   *package_around.checks()]:
+                                   *package_users.checks(), *package_around.checks()]:
         if is_chosen(name, word()):
             begun = time.monotonic()
             judge(count, name, check, arguments)
