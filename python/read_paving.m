@@ -14,77 +14,121 @@ function p = read_paving(file, root)
 %   b = p.inner; hold on
 %   for k = 1:size(b,1), rectangle('Position', [b(k,1) b(k,3) b(k,2)-b(k,1) b(k,4)-b(k,3)]); end, axis equal
   if nargin < 2, root = []; end
-  lines = strsplit(fileread(file), sprintf('\n'));
-  lines = lines(1:end-1);                              % a last line has its end
-  [p, first] = head_of(lines);
+  text = fileread(file);
+  if isempty(text) || text(end) ~= sprintf('\n'), error('the last line has no end: was the text cut short?'); end
+  [p, skipped, rows] = head_of(text);
+  body = text(skipped+1:end);
   if ~isempty(root), root = reshape(root', 1, []); end
-  waiting = {root};                                    % the boxes of the nodes to come, the next one last
-  boxes = struct('I', {cell(numel(lines), 1)}, 'S', {cell(numel(lines), 1)}, 'O', {cell(numel(lines), 1)});
-  counts = struct('I', 0, 'S', 0, 'O', 0, 'X', 0, 'C', 0);
-  for k = first:numel(lines)
-    words = strsplit(lines{k}, ' ');
-    if isempty(waiting), error('line %d follows the whole tree', k); end
-    box = waiting{end};
-    waiting(end) = [];
-    kind = words{1};
-    if ~isfield(counts, kind), error('line %d is no node', k); end
-    counts.(kind) = counts.(kind) + 1;
-    if kind == 'X', continue, end
-    if kind == 'C', skip = 3; else, skip = 1; end
-    if kind == 'O', to = box; else, to = ends_of(words(skip+1:end), box, k); end
-    if kind ~= 'C'
-      boxes.(kind){counts.(kind)} = to;
-      continue
-    end
-    variable = str2double(words{2});
-    at = number_of(words{3}, k);
-    low = to;
-    high = to;
-    low(2*variable + 2) = at;
-    high(2*variable + 1) = at;
-    waiting{end+1} = high;
-    waiting{end+1} = low;
-  end
-  if ~isempty(waiting), error('the tree is not whole: was the text cut short?'); end
-  p.inner = vertcat(boxes.I{1:counts.I});
-  p.small = vertcat(boxes.S{1:counts.S});
-  p.open = vertcat(boxes.O{1:counts.O});
-  p.removed = counts.X;
-  p.cut = counts.C;
+  ends = find(body == sprintf('\n'));
+  kinds = body([1, ends(1:end-1) + 1])';
+  [before, high] = tree_of(kinds);
+  width = width_of(body, ends, kinds, rows, root);
+  [to, variable, at] = numbers_of(body, kinds, width);
+  if any(isnan(to(:))) && isempty(root), error('a file of version 2 needs the search box: give root'); end
+  if isempty(root), root = NaN(1, width); end
+  [box, to] = boxes_of(to, variable, at, kinds, high, root);
+  p.inner = to(kinds == 'I', :);
+  p.small = to(kinds == 'S', :);
+  p.open = box(kinds == 'O', :);
+  p.removed = sum(kinds == 'X');
+  p.cut = sum(kinds == 'C');
 end
 
-function [p, first] = head_of(lines)
-% The version, and where the nodes begin.
+function [p, skipped, rows] = head_of(text)
+% The version, how many bytes stand before the nodes, and in how many lines.
   p = struct('version', 0, 'identity', '');
-  if isempty(lines), error('the file is empty'); end
-  if strncmp(lines{1}, 'settled ', 8)
-    first = 2;
-    return
+  ends = find(text(1:min(end, 1000)) == sprintf('\n'));
+  first = text(1:ends(1)-1);
+  if strncmp(first, 'settled ', 8)
+    skipped = ends(1);
+    rows = 1;
+  elseif any(strcmp(first, {'paving 1', 'paving 2'})) && numel(ends) > 1
+    p.version = str2double(first(8:end));
+    p.identity = strrep(text(ends(1)+1:ends(2)-1), 'identity ', '');
+    skipped = ends(2);
+    rows = 2;
+  else
+    error('line 1 begins no paving');
   end
-  if ~any(strcmp(lines{1}, {'paving 1', 'paving 2'})), error('line 1 begins no paving'); end
-  p.version = str2double(lines{1}(8:end));
-  p.identity = strrep(lines{2}, 'identity ', '');
-  first = 3;
+  if numel(text) == skipped, error('the tree is not whole: was the text cut short?'); end
 end
 
-function to = ends_of(words, box, k)
-% The ends of a line; `=` stands for that of the node's box.
-  to = zeros(1, numel(words));
-  for i = 1:numel(words)
-    if strcmp(words{i}, '=')
-      if isempty(box), error('a file of version 2 needs the search box: give root'); end
-      to(i) = box(i);
-    else
-      to(i) = number_of(words{i}, k);
-    end
+function [before, high] = tree_of(kinds)
+% How many nodes were to come before each one, and of each cut node its high half: the next node with as many to come.
+  steps = -ones(size(kinds));
+  steps(kinds == 'C') = 1;
+  after = 1 + cumsum(steps);
+  before = [1; after(1:end-1)];
+  if any(before < 1), error('lines follow the whole tree'); end
+  if after(end) ~= 0, error('the tree is not whole: was the text cut short?'); end
+  [sorted, order] = sort(before);
+  high = zeros(size(kinds));
+  same = find(sorted(1:end-1) == sorted(2:end));
+  high(order(same)) = order(same + 1);
+end
+
+function width = width_of(body, ends, kinds, rows, root)
+% How many ends a box has; each line has to have as many words as its node.
+  blanks = cumsum(body == ' ');
+  words = diff([0, blanks(ends)])';
+  cuts = kinds == 'C';
+  settled = cuts | kinds == 'I' | kinds == 'S';
+  width = numel(root);
+  if isempty(root) && any(settled)
+    k = find(settled, 1);
+    width = words(k) - 2 * cuts(k);
+  end
+  wanted = settled * width + 2 * cuts;
+  leaf = kinds == 'X' | kinds == 'O';
+  bad = find(words ~= wanted | ~(settled | leaf), 1);
+  if ~isempty(bad), error('line %d is no node of %d variables', bad + rows, width / 2); end
+end
+
+function [to, variable, at] = numbers_of(body, kinds, width)
+% The ends of each node, NaN where `=` stands, and of each cut node its variable and where it is cut. m:e is m times 2^e: the
+% mantissa is rounded to the nearest double, and the power is exact.
+  body = strrep(body, '=', 'NaN NaN');
+  body = strrep(strrep(body, '+oo', 'Inf 0'), '-oo', '-Inf 0');
+  body(body == ':') = ' ';
+  letters = body == 'C' | body == 'S' | body == 'X' | body == 'O';
+  letters(1) = true;
+  letters(find(body(1:end-1) == sprintf('\n')) + 1) = true;   % not those of Inf and NaN
+  body(letters) = '1';
+  found = sscanf(body, '%f');
+  cuts = kinds == 'C';
+  settled = cuts | kinds == 'I' | kinds == 'S';
+  counts = 1 + 2 * width * settled + 3 * cuts;
+  if numel(found) ~= sum(counts), error('a word is no number of a paving'); end
+  first = cumsum([1; counts(1:end-1)]);
+  variable = zeros(size(kinds));
+  at = zeros(size(kinds));
+  variable(cuts) = found(first(cuts) + 1);
+  at(cuts) = found(first(cuts) + 2) .* 2 .^ found(first(cuts) + 3);
+  to = zeros(numel(kinds), width);
+  rows = find(settled);
+  begin = first(rows) + 1 + 3 * cuts(rows);
+  for k = 1:width
+    to(rows, k) = found(begin + 2 * k - 2) .* 2 .^ found(begin + 2 * k - 1);
   end
 end
 
-function x = number_of(word, k)
-% m:e is m times 2^e; str2double rounds the mantissa to the nearest double, and the power is exact.
-  if strcmp(word, '-oo'), x = -Inf; return, end
-  if strcmp(word, '+oo'), x = Inf; return, end
-  parts = strsplit(word, ':');
-  if numel(parts) ~= 2, error('line %d has no number at %s', k, word); end
-  x = str2double(parts{1}) * 2 ^ str2double(parts{2});
+function [box, to] = boxes_of(to, variable, at, kinds, high, root)
+% The boxes of all nodes, and their ends in full: one level of the tree after the other.
+  box = zeros(size(to));
+  box(1, :) = root;
+  level = 1;
+  while ~isempty(level)
+    part = to(level, :);
+    around = box(level, :);
+    same = isnan(part);
+    part(same) = around(same);
+    to(level, :) = part;
+    cut = level(kinds(level) == 'C');
+    low = cut + 1;
+    box(low, :) = to(cut, :);
+    box(high(cut), :) = to(cut, :);
+    box(sub2ind(size(box), low, 2 * variable(cut) + 2)) = at(cut);
+    box(sub2ind(size(box), high(cut), 2 * variable(cut) + 1)) = at(cut);
+    level = [low; high(cut)];
+  end
 end

@@ -2,12 +2,14 @@
 of the modules with three files that describe it."""
 import base64
 import hashlib
+import re
 import tarfile
 import zipfile
 from pathlib import Path
 
 HERE = Path(__file__).parent
-NAME, VERSION = "paver", "1.0.0"
+NAME = "paver"
+VERSION = re.search(r'VERSION = "([^"]+)"', (HERE / NAME / "version.py").read_text()).group(1)
 ABOUT = f"{NAME}-{VERSION}.dist-info"
 METADATA = f"""Metadata-Version: 2.1
 Name: {NAME}
@@ -22,8 +24,9 @@ SCRIPTS = "[console_scripts]\npaver-tools = paver.__main__:main\n"
 
 
 def modules():
-    """The modules, and the parts of the page that the viewer is."""
-    return sorted(path for path in (HERE / NAME).rglob("*") if path.suffix in (".py", ".js", ".css", ".html"))
+    """The modules, the sign that they are typed, and the parts of the page that the viewer is."""
+    endings = (".py", ".typed", ".js", ".css", ".html")
+    return sorted(path for path in (HERE / NAME).rglob("*") if path.suffix in endings)
 
 
 def build_wheel(wheel_directory, config_settings=None, metadata_directory=None):

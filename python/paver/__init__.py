@@ -1,7 +1,7 @@
 """Runs the interval paver, reads its pavings exactly, and helps to write its systems.
 
     import paver
-    answer = paver.run("examples/ring.mbx", eps="0.25")
+    answer = paver.run("examples/ring.mbx", eps=0.25)
     paving = answer.paving()
     print(paving.counts(), paving.volumes(), paving.hull())
     for box in paving.inner(): print(box.exact)
@@ -9,32 +9,33 @@
 Numbers are exact Fractions; floats are rounded outward and come only where they are asked for.
 """
 from .advice import depth_that_suffices, warnings_of
+from .box import Box, Cluster
 from .canonical import System
-from .cover import Box, Cluster
 from .errors import (
     ContractRefused, Disagree, KeeperFault, NoFile, NotInProgram, ObjectiveRefused, PaverError, PavingError, PavingRefused,
-    ProgramFault, ProgramMissing, ReadFault, SystemRefused, TreeLimit, UsageError, WantOfMemory, WriteFault)
+    ProgramFault, ProgramMissing, ReadFault, SystemEdited, SystemRefused, TreeLimit, UsageError, WantOfMemory, WriteFault)
 from .levels import Levels, least_by_levels
 from .paving import Parts, Paving
 from .picture import svg
 from .plots import plot, plot_projection
 from .program import (
-    Answer, audit, audit_centered, campaign, check, check_text, draw, find, merge, resume, run, run_centered, sample)
+    Answer, audit, audit_centered, campaign, check, check_text, draw, find, merge, resume, run, run_centered, run_text, sample)
 from .robust import NotRobust, Robust, robust, vertices_text
-from .roots import find_roots
+from .roots import Root, find_roots
 from .scale import scaled_text
-from .split import gather, split
+from .split import Gathered, gather, split
 from .undecided import undecided
 from .values import Bounds, least
+from .version import VERSION as __version__
 from .view import View, view
 from .widen import widened, widened_contract, widened_file
 
 __all__ = [
-    "Answer", "Bounds", "Box", "Cluster", "ContractRefused", "Disagree", "KeeperFault", "Levels", "NoFile", "NotInProgram",
-    "NotRobust", "ObjectiveRefused", "Parts", "PaverError", "Paving", "PavingError", "PavingRefused", "ProgramFault",
-    "ProgramMissing", "ReadFault", "Robust", "System", "SystemRefused", "TreeLimit", "UsageError", "View", "WantOfMemory",
-    "WriteFault", "audit", "audit_centered", "campaign", "check", "check_text", "depth_that_suffices", "draw", "find",
-    "find_roots", "gather", "least", "least_by_levels", "merge", "plot", "plot_projection", "resume", "robust", "run",
-    "run_centered", "sample", "scaled_text", "split", "svg", "undecided", "vertices_text", "view", "warnings_of", "widened",
-    "widened_contract", "widened_file",
+    "Answer", "Bounds", "Box", "Cluster", "ContractRefused", "Disagree", "Gathered", "KeeperFault", "Levels", "NoFile",
+    "NotInProgram", "NotRobust", "ObjectiveRefused", "Parts", "Paving", "PaverError", "PavingError", "PavingRefused",
+    "ProgramFault", "ProgramMissing", "ReadFault", "Robust", "Root", "System", "SystemEdited", "SystemRefused", "TreeLimit",
+    "UsageError", "View", "WantOfMemory", "WriteFault", "__version__", "audit", "audit_centered", "campaign", "check",
+    "check_text", "depth_that_suffices", "draw", "find", "find_roots", "gather", "least", "least_by_levels", "merge", "plot",
+    "plot_projection", "resume", "robust", "run", "run_centered", "run_text", "sample", "scaled_text", "split", "svg",
+    "undecided", "vertices_text", "view", "warnings_of", "widened", "widened_contract", "widened_file",
 ]

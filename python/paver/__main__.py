@@ -2,17 +2,21 @@
 import argparse
 import os
 import sys
+from contextlib import contextmanager
 from fractions import Fraction
 from pathlib import Path
 
-from . import errors, explain, levels_command, program, robust_command, scale
+from . import beside, errors, explain, levels_command, program, robust_command, scale
 from .advice import limits_of, stored_sentences, warnings_of
 from .cover import KEPT
 from .ibex import translate
-from .numbers import as_float
+from .identity import UNSAID
+from .kept import is_database
+from .numbers import as_float, printable
+from .options import COMMANDS, KEPT_SETTINGS
 from .paving import Paving
 from .picture import svg
-from .plots import drawing, plot, plot_projection
+from .plots import drawing, plot, plot_projection, rectangles
 from .roots import ONE, TESTED, NotSquare, find_roots
 from .split import gather, split
 from .undecided import report as report_undecided
@@ -21,24 +25,34 @@ from .view import add_words, view_command
 from .widen import claim_of_roots, roots_width, widened, widened_file
 
 
+UNCOMPARED = "the paving has no identity, as printed text has none: that it is this system's is not compared."
+MOST_BYTES = 1 << 22  # of a file for IBEX
+
+
 def run_options(parser, names=program.OPTIONS):
     for name in names:
         parser.add_argument(f"--{name}", help=f"as the program's --{name}")
 
 
-def options_of(arguments):
-    return {name: getattr(arguments, name) for name in program.OPTIONS if getattr(arguments, name, None) is not None}
+def options_of(arguments, known=program.OPTIONS):
+    return {name: getattr(arguments, name) for name in known if getattr(arguments, name, None) is not None}
 
 
 def paving_of(arguments, sentences=warnings_of):
-    """The paving of a command, a file's or that of a run, and the sentences on it."""
-    if arguments.paving:
-        system = program.check(arguments.system, program=arguments.program)
-        paving = Paving.read(arguments.paving, system=system)
-        return paving, stored_sentences(paving, system, options_of(arguments))
-    answer = program.run(arguments.system, program=arguments.program, **options_of(arguments))
-    paving = answer.paving()
-    return paving, sentences(answer, paving)
+    """The paving of a command, a file's or that of a run, and the sentences on it. A file is compared with the system under the
+    given settings, or those kept beside it; all its numbers are read."""
+    if not arguments.paving:
+        answer = program.run(arguments.system, program=arguments.program, **options_of(arguments))
+        paving = answer.paving()
+        return paving, sentences(answer, paving)
+    system = program.check(arguments.system, program=arguments.program)
+    given, stored = options_of(arguments, KEPT_SETTINGS), beside.identity_of(arguments.paving)
+    identity = None if stored is None or getattr(arguments, "any_identity", False) else UNSAID
+    paving = Paving.read(arguments.paving, system=system, identity=identity, **given)
+    paving.check_numbers()
+    settings = {**options_of(arguments), **beside.with_kept([arguments.paving], given)}
+    found = stored_sentences(paving, settings, is_database(arguments.paving))
+    return paving, [UNCOMPARED, *found] if paving.identity is None else found
 
 
 def roots(arguments):
@@ -63,34 +77,43 @@ def roots(arguments):
 
 def report(warnings):
     for sentence in warnings:
-        print(f"note: {sentence}", file=sys.stderr)
+        print(f"note: {printable(sentence)}", file=sys.stderr)
 
 
 def from_ibex(arguments):
     """Prints the profile's text of an IBEX file; status 3, and each form by its line, where something is refused."""
-    found = translate(Path(arguments.file).read_text(encoding="latin-1"))
+    with open(arguments.file, "rb") as file:
+        text = file.read(MOST_BYTES + 1)
+    if len(text) > MOST_BYTES:
+        raise ValueError(f"{arguments.file}: more than {MOST_BYTES} bytes")
+    found = translate(text.decode("latin-1"))
     for refusal in found.refusals:
-        print(f"{arguments.file}: {refusal}", file=sys.stderr)
+        print(printable(f"{arguments.file}: {refusal}"), file=sys.stderr)
     if found.text is None:
         return 3
-    for note in found.notes:
-        print(f"note: {note}", file=sys.stderr)
+    report(found.notes)
     sys.stdout.write(found.text if arguments.widen is None else widened(found.text, arguments.widen))
     return 0
 
 
 def explain_command(arguments):
-    """Says in sentences what is refused, or lists the constraints by number. Status 2 where something is refused."""
-    lines, good = explain.explained(arguments.system, arguments.options, arguments.program)
+    """Says in sentences what is refused of a call of the program, or lists the constraints by number. Status 2 where something
+    is refused."""
+    own = explain.own_options(arguments.words)
+    if own.line:
+        line = explain.in_one_line(own.words[0], arguments.program) if own.words else None
+        print(line or "", end="\n" if line else "")
+        return 2 if line else 0
+    lines, good = explain.explained(own.words, arguments.program)
     print("\n".join(lines))
-    if good and arguments.groups is not None:
-        system = program.check(arguments.system, program=arguments.program)
-        groups = explain.groups_of(len(system.constraints), arguments.groups)
-        agree = max(1, len(groups) - 1) if arguments.agree is None else arguments.agree
+    if good and own.groups is not None:
+        system = program.check(explain.system_of(own.words), program=arguments.program)
+        groups = explain.groups_of(len(system.constraints), own.groups)
+        agree = max(1, len(groups) - 1) if own.agree is None else own.agree
         print(f"at least {agree} of {len(groups)} groups of constraints:")
         print(f"  --contract '{explain.qinter_text(groups, agree)}'")
-    if good and arguments.scale is not None:
-        scale.report(arguments.system, arguments.scale, arguments.program)
+    if good and own.scale is not None:
+        scale.report(explain.system_of(own.words), own.scale, arguments.program)
     return 0 if good else 2
 
 
@@ -99,7 +122,7 @@ def least_command(arguments):
     Status 1 where the budget ended the search."""
     levels_command.refuse_words(arguments)
     if arguments.levels:
-        return levels_command.work(arguments, arguments.boxes, arguments.contract)
+        return levels_command.work(arguments)
     names = program.check(arguments.system, program=arguments.program).names
     with widened_file(arguments.system, arguments.widen, options_of(arguments), arguments.program) as (system, options):
         found = least(system, arguments.of, program=arguments.program, **options)
@@ -113,24 +136,25 @@ def least_command(arguments):
 
 
 def summary(arguments):
-    """Prints counts, volumes, hull, clusters and the widest small box of a paving."""
+    """Prints counts, volumes, hull and the widest small box of a paving, and on demand its clusters."""
     paving, warnings = paving_of(arguments)
-    print_summary(paving)
+    print_summary(paving, arguments.clusters)
     report_undecided(paving, program.check(arguments.system, program=arguments.program))
     report(warnings)
     return 0
 
 
-def print_summary(paving):
-    print(" ".join(f"{name} {count}" for name, count in paving.counts().items()))
+def print_summary(paving, clusters=False, file=None):
+    print(" ".join(f"{name} {count}" for name, count in paving.counts().items()), file=file)
     for kind, volume in paving.volumes().items():
-        print(f"volume {kind} {as_float(volume, False):.9g}")
+        print(f"volume {kind} {as_float(volume, False):.9g}", file=file)
     for k, (low, high) in enumerate(paving.floats_of_hull() or ()):
-        print(f"hull {paving.name_of(k)} [{low:.17g}, {high:.17g}]")
-    print(f"clusters {len(paving.clusters())}")
+        print(f"hull {paving.name_of(k)} [{low:.17g}, {high:.17g}]", file=file)
+    if clusters:
+        print(f"clusters {len(paving.clusters())}", file=file)
     widest = paving.widest()
     if widest is not None:
-        print(f"widest small box {as_float(widest.width, True):.9g}: {widest!r}")
+        print(f"widest small box {as_float(widest.width, True):.9g}: {widest!r}", file=file)
 
 
 def export(arguments):
@@ -173,9 +197,11 @@ def plot_command(arguments):
     at = values_of(arguments.at or [])
     names = [int(word) if word.isdigit() else word for word in (arguments.x, arguments.y)]
     title = Path(arguments.system).stem
+    if not arguments.project:
+        rectangles(paving, *names, at)  # which refuses what can't be drawn
     if arguments.picture.endswith(".svg"):
         Path(arguments.picture).write_text(svg(paving, *names, at, arguments.project, title, not arguments.stretch,
-                                               arguments.near))
+                                               arguments.near), encoding="utf-8")
     else:
         draw_by_matplotlib(paving, names, at, title, arguments)
     report(warnings)
@@ -202,19 +228,41 @@ def split_command(arguments):
     """Writes the sub-systems of the parts of a search box, and prints their names."""
     variables = arguments.variables.split(",") if arguments.variables else None
     for path in split(arguments.system, arguments.parts, arguments.folder, variables=variables,
-                      program=arguments.program):
+                      program=arguments.program, **options_of(arguments, KEPT_SETTINGS)):
         print(path)
     return 0
 
 
 def gather_command(arguments):
-    """Puts the answers to a folder's parts together: a summary, or CSV."""
-    parts = gather(arguments.folder, program=arguments.program)
-    if arguments.csv:
-        parts.write_csv(sys.stdout, KEPT, False)
-    else:
-        print_summary(parts)
+    """Puts the answers to a folder's parts together: a summary, or CSV. The answers have to be those of the parts that split
+    wrote, under one group of settings."""
+    identity = None if arguments.any_identity else UNSAID
+    parts = gather(arguments.folder, program=arguments.program, identity=identity, progress=sys.stderr.isatty(),
+                   **options_of(arguments, KEPT_SETTINGS))
+    with whole(arguments.out) as file:
+        if arguments.csv:
+            parts.write_csv(file, KEPT, False)
+        else:
+            print_summary(parts, arguments.clusters, file)
+    if parts.counts()["open"]:
+        report([f"{parts.counts()['open']} leaves are open in the parts: an open leaf says nothing"])
     return 0
+
+
+@contextmanager
+def whole(name):
+    """Standard output, or a file that is there whole or not at all."""
+    if name is None:
+        yield sys.stdout
+        return
+    made = f"{name}.{os.getpid()}.part"
+    try:
+        with open(made, "w", encoding="utf-8") as file:
+            yield file
+        os.replace(made, name)
+    finally:
+        if os.path.exists(made):
+            os.unlink(made)
 
 
 def parser():
@@ -228,7 +276,9 @@ def parser():
         command.add_argument("paving", nargs="?",
                              help="a stored paving, printed text or a campaign's database; else the system is run")
         run_options(command)
+        compared(command)
     commands.choices["roots"].add_argument("--widen", metavar="D", help="f = 0 is paved as f >= -D; f <= D (1e-9; 0: as it is)")
+    commands.choices["summary"].add_argument("--clusters", action="store_true", help="count the groups of boxes that touch")
     commands.choices["csv"].add_argument("--exactly", action="store_true", help="fractions in place of floats")
     drawn = commands.choices["plot"]
     drawn.add_argument("--picture", required=True, help="the file to write, as ring.png")
@@ -240,6 +290,10 @@ def parser():
     drawn.add_argument("--project", action="store_true", help="the projection in place of a slice")
     more_commands(commands)
     return main_parser
+
+
+def compared(command):
+    command.add_argument("--any-identity", action="store_true", help="take a file without comparing its identity")
 
 
 def more_commands(commands):
@@ -255,26 +309,31 @@ def more_commands(commands):
     bounded = add("least", least_command)
     bounded.add_argument("system")
     bounded.add_argument("--of", required=True, help="the expression, over the variables")
-    run_options(bounded, (*program.SETTINGS, "boxes"))
+    run_options(bounded, (*program.SETTINGS, "boxes", "limit"))
     levels_command.add_options(bounded)
     robust_command.add_options(add("robust", robust_of))
     explained = add("explain", explain_command)
-    explained.usage = "%(prog)s SYSTEM [--groups N [--agree N]] [--scale [FILE]] [OPTIONS]"
-    explained.epilog = "OPTIONS, behind SYSTEM, are those of the program's run: what is refused of them is told too."
-    explained.add_argument("system")
-    explained.add_argument("--groups", type=int, help="constraints in each group of a qinter text")
-    explained.add_argument("--agree", type=int, help="how many groups have to agree; else all but one")
-    explained.add_argument("--scale", nargs="?", const="", metavar="FILE", help="scales for variables; FILE takes the text")
-    explained.set_defaults(options=[])
+    explained.usage = "%(prog)s [COMMAND] SYSTEM [--groups N [--agree N]] [--scale [FILE]] [--line] [OPTIONS]"
+    explained.epilog = ("Words after COMMAND are those of the program's command, else of run: what is refused of them is told. "
+                        "--groups N: constraints in each group of a qinter text; --agree N: how many groups have to agree, else "
+                        "all but one; --scale: scales for variables, --scale=FILE writes the text in them; --line: a refused "
+                        f"system in one line, for editors. COMMAND is one of {', '.join(COMMANDS)}.")
+    explained.add_argument("words", nargs=argparse.REMAINDER)
     add_words(add("view", page_command))
     parted = add("split", split_command)
     parted.add_argument("system")
     parted.add_argument("--parts", type=int, required=True)
     parted.add_argument("--folder", default="parts")
     parted.add_argument("--variables", help="names of those that may be cut, joined by commas")
+    run_options(parted, KEPT_SETTINGS)
     gathered = add("gather", gather_command)
     gathered.add_argument("folder")
     gathered.add_argument("--csv", action="store_true")
+    gathered.add_argument("--clusters", action="store_true", help="count the groups of boxes that touch: takes the boxes of all "
+                          "parts at once")
+    gathered.add_argument("--out", help="a file in place of standard output, which is there whole or not at all")
+    run_options(gathered, KEPT_SETTINGS)
+    compared(gathered)
 
 
 def on_refused_contract(arguments, fault):
@@ -283,18 +342,29 @@ def on_refused_contract(arguments, fault):
     return explain.of_refused_contract(arguments.contract, fault.byte, len(system.constraints))
 
 
+def parsed(words):
+    """The arguments of words. Those after `explain` are the program's, and are left as they are."""
+    before = words[:words.index("explain")] if "explain" in words else None
+    if before is None or len(before) > 2 or words[-1] in ("-h", "--help"):
+        return parser().parse_args(words)
+    arguments = parser().parse_args([*before, "explain"])
+    arguments.words = words[len(before) + 1:]
+    return arguments
+
+
 def main(words=None):
-    known = parser()
-    arguments, rest = known.parse_known_args(words)
-    if rest and arguments.command != "explain":
-        known.error(f"unknown words: {' '.join(rest)}")
-    if arguments.command == "explain":
-        arguments.options = rest
+    arguments = parsed(sys.argv[1:] if words is None else list(words))
+    if sys.stdout is None:
+        sys.stdout = open(os.devnull, "w", encoding="utf-8")  # so that nothing else fails
+        print("paver: standard output is closed", file=sys.stderr)
+        return 6
     try:
-        return arguments.work(arguments)
+        status = arguments.work(arguments)
+        sys.stdout.flush()
+        return status
     except errors.SystemRefused as fault:
-        text = Path(arguments.system).read_bytes().decode("latin-1")
-        print("\n".join(explain.of_refused_system(arguments.system, text, fault)), file=sys.stderr)
+        refused = refused_name(arguments)
+        print("\n".join(explain.of_refused_system(refused, explain.text_of(refused), fault)), file=sys.stderr)
         return 3
     except errors.ContractRefused as fault:
         print("\n".join(on_refused_contract(arguments, fault)), file=sys.stderr)
@@ -303,11 +373,32 @@ def main(words=None):
         print("\n".join(explain.of_refused_objective(arguments.of, fault)), file=sys.stderr)
         return 2
     except BrokenPipeError:  # a reader as head ended early: nothing more can be said on standard output
-        os.dup2(os.open(os.devnull, os.O_WRONLY), sys.stdout.fileno())
+        silent()
         return 6
-    except (errors.PaverError, errors.PavingError, NotSquare, ValueError, OSError, ImportError) as fault:
-        print(f"paver: {fault}", file=sys.stderr)
+    except (errors.PaverError, errors.PavingError, NotSquare, ValueError, OSError, ImportError, MemoryError,
+            OverflowError) as fault:
+        print(f"paver: {one_line(str(fault) or type(fault).__name__)}", file=sys.stderr)
+        if isinstance(fault, OSError):
+            silent()
         return 2
+
+
+def refused_name(arguments):
+    """The system's file of a command."""
+    return getattr(arguments, "system", None) or arguments.words[0]
+
+
+def one_line(text):
+    """A text of errors in one line that steers no terminal."""
+    return printable(text.replace("\n", " "))[:2000]
+
+
+def silent():
+    """Lets Python's own writing at its end go nowhere, so that it says nothing more."""
+    try:
+        os.dup2(os.open(os.devnull, os.O_WRONLY), sys.stdout.fileno())
+    except (OSError, ValueError, AttributeError):  # a stream that is no file
+        return
 
 
 if __name__ == "__main__":

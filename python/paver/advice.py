@@ -1,26 +1,35 @@
 """What to know where an answer may disappoint, in sentences."""
+from __future__ import annotations
+
 import math
 from fractions import Fraction
+from typing import TYPE_CHECKING, Any, Dict, List, Mapping, Optional, Sequence, Tuple
 
-from .numbers import wide
+from .numbers import Exact, wide
+from .options import DEFAULTS, MOST_BOXES, eps_of
 
-DEFAULT_EPS, DEFAULT_DEPTH, MOST_DEPTH = Fraction(1, 8), 60, 200
-MOST_BOXES = 100000
+if TYPE_CHECKING:
+    from .cover import Cover
+    from .program import Answer
 
-
-def eps_of(settings):
-    return DEFAULT_EPS if settings.get("eps") is None else Fraction(settings["eps"])
-
-
-def depth_of(settings):
-    return int(settings.get("depth") or DEFAULT_DEPTH)
+MOST_DEPTH = 200
 
 
-def depth_that_suffices(root, eps, bisect="largest"):
+def depth_of(settings: Mapping[str, Any]) -> int:
+    """The depth of settings."""
+    return int(settings.get("depth") or DEFAULTS["depth"])
+
+
+def limit_of(settings: Mapping[str, Any]) -> int:
+    """The most settled nodes under settings."""
+    return int(settings.get("limit") or MOST_BOXES)
+
+
+def depth_that_suffices(root: Sequence[Tuple[Any, Any]], eps: Any, bisect: str = "largest") -> Optional[int]:
     """A depth that lets every box become as narrow as eps. For `largest` it is the sum over the variables of
     log2(width / eps), each rounded up; for `round`, which cuts narrow places too, the greatest of these times the
     number of variables. root has pairs of exact values. None where a variable has no bounded domain, or eps is 0."""
-    halvings = []
+    halvings: List[int] = []
     if not eps:
         return None
     for low, high in root:
@@ -31,18 +40,30 @@ def depth_that_suffices(root, eps, bisect="largest"):
     return sum(halvings) if bisect == "largest" else len(halvings) * max(halvings)
 
 
-def depth_warning(paving, settings):
+def depth_warning(paving: Cover, settings: Mapping[str, Any]) -> Optional[str]:
     """The sentence on small boxes that are wider than eps; None where there are none."""
     eps, depth, bisect = eps_of(settings), depth_of(settings), settings.get("bisect") or "largest"
     box = paving.widest("small")
     if box is None or box.width <= eps:
         return None
-    count = sum(b.width > eps for b in paving.small())
+    count = wider(paving, eps)
     return (f"{count} small boxes are wider than eps = {wide(eps)}: the depth {depth} was used up. "
             f"The widest is {wide(box.width)} wide: {box!r}. {depth_rule(paving, eps, depth, bisect)}.")
 
 
-def depth_rule(paving, eps, depth, bisect):
+def wider(paving: Cover, eps: Fraction) -> int:
+    """How many small boxes are wider than eps."""
+    from .cover import width_in
+    count = 0
+    for part in paving.roots():
+        table = part.tree.table
+        scaled = eps * (1 << table.shift)
+        most = scaled.numerator // scaled.denominator
+        count += sum(width_in(table.values, ends) > most for ends in part.tree.ends_of("S"))
+    return count
+
+
+def depth_rule(paving: Cover, eps: Fraction, depth: int, bisect: str) -> str:
     """What depth would do."""
     if not eps:
         return "with eps 0 no depth suffices"
@@ -59,55 +80,59 @@ def depth_rule(paving, eps, depth, bisect):
     return "by the rule the depth suffices: these boxes can't be cut further, or the rounding of cuts took one more"
 
 
-def root_pairs(paving):
-    from .cover import Box
-    return [pair for part in paving.roots()[:1] for pair in Box("open", part.root).exact]
+def root_pairs(paving: Cover) -> List[Tuple[Exact, Exact]]:
+    """The search box of the first part as pairs of exact values."""
+    from .box import Box
+    return [pair for part in paving.roots()[:1] for pair in Box("open", part.root or ()).exact]
 
 
 STORED = "go on from a file that --out stored by `paver resume SYSTEM FILE --out FILE2`, or take a larger eps"
-MORE = f"give more by --boxes (a paving has at most {MOST_BOXES} settled nodes)"
+MORE = "give more by --boxes (a paving has at most {most} settled nodes)"
 WAYS = {
     "run": f"{MORE}, {STORED}",
     "resume": f"{MORE}, {STORED}",
     "merge": STORED,
     "run-centered": f"{MORE}, or take a larger eps",
     "campaign": "call `paver campaign` again with the same --keep and settings (the settled nodes and --rounds times --boxes "
-                f"may come to {MOST_BOXES} at most), or begin another with a larger eps",
+                "may come to {most} at most), or begin another with a larger eps",
 }
-FULL = f"a paving has at most {MOST_BOXES} settled nodes: split the box (`python3 -m paver split`), or take a larger eps"
+FULL = "a paving has at most {most} settled nodes: split the box (`python3 -m paver split`), or take a larger eps"
 
 
-def budget_warning(command, counts, boxes):
+def budget_warning(command: str, counts: Mapping[str, int], boxes: Optional[int], most: int = MOST_BOXES) -> Optional[str]:
     """The sentence on the open leaves that a command left; None where no leaf is open."""
     if not counts["open"]:
         return None
-    full = counts["settled"] >= MOST_BOXES or command != "merge" and (boxes or 0) >= MOST_BOXES
+    full = counts["settled"] >= most or command != "merge" and (boxes or 0) >= most
     ended = "the join has open leaves" if command == "merge" else "the budget ended the run"
-    return (f"{ended}: {counts['open']} leaves are open after {counts['settled']} settled nodes. What is printed or kept is "
-            f"right as far as it goes; an open leaf says nothing. To go on: {FULL if full else WAYS[command]}.")
+    return f"{ended}: {open_in_words(counts)} To go on: {(FULL if full else WAYS[command]).format(most=most)}."
 
 
-def stored_sentences(paving, system, settings):
-    """The sentences on a paving that was stored: whether its identity is the system's under these settings, and then what
-    the depth left undone. Printed text has no identity."""
-    settings = {name: value for name, value in settings.items() if name in ("eps", "depth", "bisect", "contract")}
-    known = [system.identity(**settings, centered=centered) for centered in (False, True)]
-    if paving.identity in (None, *known):
-        sentence = depth_warning(paving, settings) if paving.identity else None
-        return [sentence] if sentence else []
-    return ["the file has not the identity of this system under these settings, so it may be another system's: give --eps, "
-            "--depth, --bisect and --contract as its run had them, and this is compared."]
+def open_in_words(counts: Mapping[str, int]) -> str:
+    """What open leaves leave unsaid."""
+    return (f"{counts['open']} leaves are open after {counts['settled']} settled nodes. What is printed or kept is "
+            "right as far as it goes; an open leaf says nothing.")
 
 
-def limits_of(answer, paving):
+def stored_sentences(paving: Cover, settings: Mapping[str, Any], is_kept: bool = False) -> List[str]:
+    """The sentences on a paving that was stored, or is kept by a campaign: on open leaves, and on what the depth left."""
+    found, counts = [], paving.counts()
+    if counts["open"]:
+        way = WAYS["campaign"].format(most=limit_of(settings)) if is_kept else STORED
+        found.append(f"the paving is not whole: {open_in_words(counts)} To go on: {way}.")
+    depth = depth_warning(paving, settings)
+    return found + ([depth] if depth else [])
+
+
+def limits_of(answer: Answer, paving: Cover) -> List[str]:
     """The sentences on what the budget and the depth left undone."""
-    settings = answer.settings
+    settings: Dict[str, Any] = answer.settings
     boxes = int(settings["boxes"]) if settings.get("boxes") else None
-    found = [budget_warning(answer.command, paving.counts(), boxes), depth_warning(paving, settings)]
+    found = [budget_warning(answer.command, paving.counts(), boxes, limit_of(settings)), depth_warning(paving, settings)]
     return [sentence for sentence in found if sentence]
 
 
-def warnings_of(answer, paving):
+def warnings_of(answer: Answer, paving: Cover) -> List[str]:
     """The sentences for an answer and its paving; an empty list where nothing disappoints."""
     found, counts = limits_of(answer, paving), paving.counts()
     if counts["settled"] and not counts["inner"] and not counts["small"] and not counts["open"]:

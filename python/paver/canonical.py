@@ -3,11 +3,15 @@
 An expression is a list of steps in postfix order: ("const", Fraction), ("var", i), ("^", n), or an operation's sign
 alone, as ("+",) or ("neg",).
 """
-import hashlib
+from __future__ import annotations
+
 import re
 from fractions import Fraction
+from typing import Any, List, Optional, Sequence, Tuple
 
-from .numbers import decimal, rounded
+from .numbers import decimal
+
+Steps = List[Tuple[Any, ...]]
 
 PRECEDENCE = {"+": 1, "-": 1, "*": 2, "/": 2, "neg": 2, "^": 3}
 
@@ -15,10 +19,10 @@ PRECEDENCE = {"+": 1, "-": 1, "*": 2, "/": 2, "neg": 2, "^": 3}
 class Constraint:
     """relation is =, <=, >=, < or >; left and right are expressions."""
 
-    def __init__(self, relation, left, right):
+    def __init__(self, relation: str, left: Steps, right: Steps) -> None:
         self.relation, self.left, self.right = relation, left, right
 
-    def infix(self, names):
+    def infix(self, names: Sequence[str]) -> str:
         """The constraint as Minibex writes it, with these names for the variables."""
         return f"{infix(self.left, names)} {self.relation} {infix(self.right, names)}"
 
@@ -27,11 +31,11 @@ class System:
     """names of the variables; root, the search box as texts, low and high end of each variable in turn;
     constraints in order; text is the canonical text."""
 
-    def __init__(self, names, root, constraints, text):
+    def __init__(self, names: List[str], root: Tuple[str, ...], constraints: List[Constraint], text: str) -> None:
         self.names, self.root, self.constraints, self.text = names, root, constraints, text
 
     @classmethod
-    def from_text(cls, text):
+    def from_text(cls, text: str) -> System:
         """Reads the canonical text; ValueError where it is none."""
         lines = text.splitlines()
         try:
@@ -44,22 +48,26 @@ class System:
             raise ValueError("this is no canonical text") from fault
         return cls(names, root, constraints, text)
 
-    def variable(self, name):
+    def variable(self, name: str) -> int:
         """The number of the variable of a name; ValueError where there is none."""
         if name not in self.names:
             raise ValueError(f"there is no variable {name!r}")
         return self.names.index(name)
 
-    def identity(self, *, eps="0.125", depth=60, bisect="largest", contract="prop(8)", centered=False):
+    def identity(self, *, eps: Any = None, depth: Any = None, bisect: Optional[str] = None, contract: Optional[str] = None,
+                 form: Optional[str] = None, centered: bool = False) -> str:
         """The digits of the second line of a file that the program stores of this system under these settings; with
         centered of one that run-centered stores."""
-        settings = [f"eps {rounded(Fraction(eps), False)}", f"depth {int(depth)}", f"bisect {bisect}",
-                    f"contract {contract}", *["centered"] * centered]
-        text = self.text + "".join(f"{line}\n" for line in settings)
-        return hashlib.sha256(text.encode()).hexdigest()
+        from .identity import identity_of
+        form = "centered" if centered else form
+        return identity_of(self, {"eps": eps, "depth": depth, "bisect": bisect, "contract": contract, "form": form})
+
+    def __repr__(self) -> str:
+        constraints = "1 constraint" if len(self.constraints) == 1 else f"{len(self.constraints)} constraints"
+        return f"<system in {', '.join(self.names)}: {constraints}>"
 
 
-def read_constraint(line):
+def read_constraint(line: str) -> Constraint:
     relation, _, rest = line.partition(" ")
     words = re.findall(r"[()]|[^\s()]+", rest)
     left, at = read_expression(words, 0)
@@ -69,9 +77,10 @@ def read_constraint(line):
     return Constraint(relation, left, right)
 
 
-def read_expression(words, at):
+def read_expression(words: Sequence[str], at: int) -> Tuple[Steps, int]:
     """The expression that begins at a word, and where the next one begins; without recursion, as trees can be deep."""
-    steps, waiting = [], []
+    steps: Steps = []
+    waiting: List[str] = []
     while True:
         word = words[at]
         at += 1
@@ -92,7 +101,7 @@ def read_expression(words, at):
             return steps, at
 
 
-def infix(steps, names):
+def infix(steps: Steps, names: Sequence[str]) -> str:
     """An expression as Minibex writes it, with few parentheses."""
     stack = []
     for step in steps:
@@ -115,7 +124,7 @@ def infix(steps, names):
     return stack[0][0]
 
 
-def joined(kind, left, right):
+def joined(kind: str, left: Tuple[str, int], right: Tuple[str, int]) -> Tuple[str, int]:
     if kind in ("min", "max"):
         return f"{kind}({left[0]}, {right[0]})", 4
     rank = PRECEDENCE[kind]
@@ -125,16 +134,16 @@ def joined(kind, left, right):
     return f"{first}{blank}{kind}{blank}{second}", rank
 
 
-def constant_text(value):
+def constant_text(value: Fraction) -> Tuple[str, int]:
     text = decimal(value)
     if text is None or len(text) > 12:
         return f"{value.numerator}/{value.denominator}" if value.denominator != 1 else str(value), 2
     return text, 4 if value >= 0 else 2
 
 
-def value(steps, point):
+def value(steps: Steps, point: Sequence[Fraction]) -> Optional[Fraction]:
     """The exact value at a point of rational numbers; None where it is undefined."""
-    stack = []
+    stack: List[Any] = []
     for step in steps:
         kind = step[0]
         if kind == "const":
@@ -150,4 +159,5 @@ def value(steps, point):
                 return None
             stack.append(x + y if kind == "+" else x - y if kind == "-" else x * y if kind == "*" else
                          x / y if kind == "/" else min(x, y) if kind == "min" else max(x, y))
-    return stack[0]
+    found: Fraction = stack[0]
+    return found

@@ -1,107 +1,156 @@
-"""Groups of boxes that touch. The tree of the paving is used: parts that lie apart are passed over as a whole."""
-from .cover import Box, Cluster
-from .numbers import SCALE, grid
+"""Groups of boxes that touch. The tree of the paving is used: parts that lie apart are passed over as a whole, and so are parts
+that are in one group already."""
+from __future__ import annotations
+
+from fractions import Fraction
+from typing import TYPE_CHECKING, Dict, List, Optional, Sequence, Tuple
+
+from .box import Box, Cluster, Exact
+from .tree import Ends, Tree
+
+if TYPE_CHECKING:
+    from .cover import Cover
+
+MIXED = -1  # in place of the one leaf that stands for all of a part
 
 
-class Tree:
-    """The nodes of a paving in preorder: of each the grid ends around what it keeps, its halves, and its box."""
+class Forest:
+    """The nodes of some trees, one tree after the other: of each the ends around what it keeps, its halves, and a leaf of the
+    group in which all its leaves are, as far as that is so."""
 
-    def __init__(self):
-        self.ends, self.halves, self.boxes = [], [], []
+    def __init__(self, trees: Sequence[Tree], letters: str, gap: Exact) -> None:
+        self.ends: List[Optional[Ends]] = []
+        self.halves: List[Optional[Tuple[int, int]]] = []
+        self.one: List[int] = []
+        self.roots: List[int] = []
+        self.gap, self.parent = 0, []  # type: int, List[int]
+        scales = self.scales(trees, gap)
+        for tree, scale in zip(trees, scales):
+            self.add(tree, letters, scale)
+        self.parent = list(range(len(self.ends)))
 
-    def add(self, node, kinds):
-        kept = node.kind in kinds
-        words = (node.box if node.kind == "open" else node.to) if kept else None
-        self.boxes.append(Box(node.kind, words) if kept else None)
-        self.ends.append([grid(word) for word in words] if kept else None)
-        self.halves.append(None)
-        return len(self.ends) - 1
+    def scales(self, trees: Sequence[Tree], gap: Exact) -> List[Optional[List[int]]]:
+        """The whole numbers that are compared in place of ends: with one tree and no gap the ends themselves."""
+        if not gap and len(trees) == 1:
+            return [None]
+        shift = max(tree.table.shift for tree in trees)
+        scaled = Fraction(gap) * (1 << shift)
+        self.gap = scaled.numerator // scaled.denominator
+        return [[value << shift - tree.table.shift for value in tree.table.values] for tree in trees]
 
-    def read(self, paving, kinds):
-        """Adds a paving, and gives the number of its root."""
-        root, waiting = len(self.ends), []
-        for node in paving.nodes():
-            number = self.add(node, kinds)
-            if waiting:
-                self.halves[waiting[-1]].append(number)
-            if node.kind == "cut":
-                self.halves[number] = []
-                waiting.append(number)
-            while waiting and len(self.halves[waiting[-1]]) == 2:
-                waiting.pop()
-        for number in range(len(self.ends) - 1, root - 1, -1):
-            if self.halves[number]:
-                self.ends[number] = around([self.ends[half] for half in self.halves[number]])
-        return root
+    def add(self, tree: Tree, letters: str, scale: Optional[List[int]]) -> None:
+        """Adds the nodes of a tree."""
+        first = len(self.ends)
+        self.roots.append(first)
+        for k, kind in enumerate(tree.kinds):
+            ends = None
+            if kind in letters:
+                ends = tree.cover_of(k)
+                if scale is not None and ends is not None:
+                    ends = tuple([scale[end] for end in ends])
+            self.ends.append(ends)
+            self.halves.append((first + k + 1, first + tree.high[k]) if kind == "C" else None)
+        self.one += range(first, len(self.ends))
+
+    def around(self, low: int, high: int) -> Optional[Ends]:
+        """The ends around two halves."""
+        first, second = self.ends[low], self.ends[high]
+        if first is None or second is None:
+            return first or second
+        return tuple([(a if a < b else b) if k % 2 == 0 else (a if a > b else b) for k, (a, b) in enumerate(zip(first, second))])
+
+    def head(self, leaf: int) -> int:
+        """The leaf that stands for a leaf's group."""
+        parent = self.parent
+        while parent[leaf] != leaf:
+            parent[leaf] = parent[parent[leaf]]
+            leaf = parent[leaf]
+        return leaf
+
+    def join(self, first: int, second: int) -> None:
+        """Makes one group of two."""
+        first, second = self.head(first), self.head(second)
+        if first != second:
+            self.parent[max(first, second)] = min(first, second)
+
+    def grow(self) -> None:
+        """Joins all leaves that touch: within each part from the last node to the first, then between the trees."""
+        for k in range(len(self.ends) - 1, -1, -1):
+            halves = self.halves[k]
+            if halves is None:
+                continue
+            low, high = halves
+            self.ends[k] = self.around(low, high)
+            if self.ends[low] is not None and self.ends[high] is not None:
+                self.touch(low, high)
+            self.one[k] = self.leaf_of(low, high)
+        for i, first in enumerate(self.roots):
+            for second in self.roots[i + 1:]:
+                if self.ends[first] is not None and self.ends[second] is not None:
+                    self.touch(first, second)
+
+    def leaf_of(self, low: int, high: int) -> int:
+        """A leaf for all of two halves, or MIXED."""
+        if self.ends[low] is None or self.ends[high] is None:
+            return self.one[high if self.ends[low] is None else low]
+        first, second = self.one[low], self.one[high]
+        if first == MIXED or second == MIXED or self.head(first) != self.head(second):
+            return MIXED
+        return first
+
+    def touch(self, first: int, second: int) -> None:
+        """Joins the leaves of two parts that touch; pairs of parts are taken apart from the larger one on."""
+        ends, halves, one, gap = self.ends, self.halves, self.one, self.gap
+        pairs = [(first, second)]
+        while pairs:
+            a, b = pairs.pop()
+            left, right = ends[a], ends[b]
+            if left is None or right is None or apart(left, right, gap):
+                continue
+            if one[a] != MIXED and one[b] != MIXED and self.head(one[a]) == self.head(one[b]):
+                continue
+            in_a, in_b = halves[a], halves[b]
+            if in_a is None and in_b is None:
+                self.join(a, b)
+            elif in_b is None or in_a is not None and size(left) >= size(right):
+                assert in_a is not None
+                pairs += ((in_a[0], b), (in_a[1], b))
+            else:
+                pairs += ((a, in_b[0]), (a, in_b[1]))
 
 
-def around(found):
-    found = [ends for ends in found if ends is not None]
-    if len(found) < 2:
-        return found[0] if found else None
-    first, second = found
-    return [min(a, b) if k % 2 == 0 else max(a, b) for k, (a, b) in enumerate(zip(first, second))]
-
-
-def apart(first, second, gap):
+def apart(first: Ends, second: Ends, gap: int) -> bool:
+    """Whether two boxes are further apart than the gap in some place."""
     for k in range(0, len(first), 2):
         if first[k] - second[k + 1] > gap or second[k] - first[k + 1] > gap:
             return True
     return False
 
 
-class Groups:
-    """Disjoint groups of numbers."""
-
-    def __init__(self):
-        self.parent = {}
-
-    def head(self, number):
-        path = []
-        while number in self.parent:
-            path.append(number)
-            number = self.parent[number]
-        for passed in path:
-            self.parent[passed] = number
-        return number
-
-    def join(self, first, second):
-        first, second = self.head(first), self.head(second)
-        if first != second:
-            self.parent[max(first, second)] = min(first, second)
+def size(ends: Ends) -> int:
+    """The widest place of ends."""
+    return max([ends[k + 1] - ends[k] for k in range(0, len(ends), 2)])
 
 
-def join_touching(tree, roots, gap, groups):
-    """Joins every two leaves that touch; pairs of parts are taken apart from the larger one on."""
-    pairs = [(a, b) for k, a in enumerate(roots) for b in roots[k:]]
-    while pairs:
-        a, b = pairs.pop()
-        if tree.ends[a] is None or tree.ends[b] is None:
-            continue
-        if a == b:
-            if tree.halves[a]:
-                low, high = tree.halves[a]
-                pairs += [(low, low), (high, high), (low, high)]
-        elif not apart(tree.ends[a], tree.ends[b], gap):
-            if not tree.halves[a] and not tree.halves[b]:
-                groups.join(a, b)
-            elif not tree.halves[b] or (tree.halves[a] and size(tree.ends[a]) >= size(tree.ends[b])):
-                pairs += [(half, b) for half in tree.halves[a]]
-            else:
-                pairs += [(a, half) for half in tree.halves[b]]
-
-
-def size(ends):
-    return max(ends[k + 1] - ends[k] for k in range(0, len(ends), 2))
-
-
-def clusters_of(cover, gap, kinds):
+def clusters_of(cover: Cover, gap: Exact, kinds: Sequence[str]) -> List[Cluster]:
     """The clusters in the order of their first boxes."""
-    tree, groups, found = Tree(), Groups(), {}
-    roots = [tree.read(paving, kinds) for paving in cover.roots()]
-    scaled = gap * (1 << SCALE)
-    join_touching(tree, roots, scaled.numerator // scaled.denominator, groups)
-    for number, box in enumerate(tree.boxes):
-        if box is not None:
-            found.setdefault(groups.head(number), []).append(box)
+    if "removed" in kinds:
+        raise ValueError("clusters are of inner, small and open boxes")
+    from .cover import LETTERS, NAMED
+    if gap < 0:
+        raise ValueError("a gap below 0")
+    trees = [paving.tree for paving in cover.roots()]
+    if any(paving.root is None and "O" in paving.tree.kinds[:1] for paving in cover.roots()):
+        raise ValueError("this needs the search box: give root= or system=")
+    forest = Forest(trees, "".join(LETTERS[kind] for kind in kinds), gap)
+    forest.grow()
+    found: Dict[int, List[Box]] = {}
+    first = 0
+    for tree in trees:
+        for k, kind in enumerate(tree.kinds, first):
+            if kind != "C" and forest.ends[k] is not None:
+                ends = tree.cover_of(k - first)
+                assert ends is not None
+                found.setdefault(forest.head(k), []).append(Box.of(NAMED[kind], tree.table, ends, cover.names))
+        first += len(tree.kinds)
     return [Cluster(boxes) for boxes in found.values()]

@@ -1,65 +1,49 @@
 """What can be asked of a paving, or of several that are put together: boxes, counts, volumes, hull, clusters."""
-import csv
+from __future__ import annotations
+
 import math
 from collections import namedtuple
 from fractions import Fraction
+from itertools import islice
+from operator import itemgetter
+from typing import (
+    TYPE_CHECKING, Any, Dict, Iterable, Iterator, List, Mapping, Optional, Protocol, Sequence, Set, TextIO, Tuple, Union)
 
-from .numbers import INFINITE, SCALE, as_float, exact, exact_of_grid, float_of, grid, width
+from .box import Box, Cluster, Exact, Number, exact_number, hull_of
+from .numbers import INFINITE, as_float, wide
+from .tree import Ends, Tree
+
+if TYPE_CHECKING:
+    from .paving import Paving
 
 KEPT = ("inner", "small", "open")
+KINDS = (*KEPT, "removed")
+LETTERS = {"inner": "I", "small": "S", "open": "O", "removed": "X"}
+NAMED = {letter: kind for kind, letter in LETTERS.items()}
 Node = namedtuple("Node", "kind box to variable")
 Node.__doc__ = """A node: its class (or "cut"), its box and what it was contracted to, as texts; the variable of a cut."""
+Name = Union[str, int]
+Pairs = Tuple[Tuple[Exact, Exact], ...]
+Point = Union[Sequence[Number], Mapping[str, Number]]
 
 
-class Box:
-    """A box of a class: words are the texts of its ends, low and high in turn."""
-    __slots__ = ("kind", "words")
+class Writer(Protocol):
+    """What rows can be written to."""
 
-    def __init__(self, kind, words):
-        self.kind, self.words = kind, words
-
-    @property
-    def exact(self):
-        """Pairs of Fractions; an infinite end is ±math.inf."""
-        values = [exact(word) for word in self.words]
-        return tuple(zip(values[::2], values[1::2]))
-
-    @property
-    def floats(self):
-        """Pairs of floats, rounded outward."""
-        values = [float_of(word, k % 2 == 1) for k, word in enumerate(self.words)]
-        return tuple(zip(values[::2], values[1::2]))
-
-    @property
-    def grid(self):
-        """Pairs of grid forms: see numbers.py."""
-        values = [grid(word) for word in self.words]
-        return tuple(zip(values[::2], values[1::2]))
-
-    @property
-    def width(self):
-        """The exact width of its widest place."""
-        return exact_of_grid(max(width(*pair) for pair in self.grid))
-
-    @property
-    def volume(self):
-        """The exact volume; 0 where a place is one point, even beside an infinite one."""
-        widths = [width(*pair) for pair in self.grid]
-        if 0 in widths:
-            return Fraction(0)
-        if INFINITE in widths:
-            return math.inf
-        return Fraction(math.prod(widths), 1 << (SCALE * len(widths)))
-
-    def holds(self, point):
-        """Whether a point lies in the closed box."""
-        return all(low <= x <= high for x, (low, high) in zip(point, self.exact))
-
-    def __repr__(self):
-        return f"<{self.kind} {' x '.join(f'[{low:.6g}, {high:.6g}]' for low, high in self.floats)}>"
+    def write(self, text: str, /) -> object:
+        """Takes a text."""
 
 
-def slabs(box, to):
+def kinds_of(names: Iterable[str]) -> Tuple[str, ...]:
+    """The classes of these names; ValueError where one is none."""
+    found = tuple(names)
+    for name in found:
+        if name not in KINDS:
+            raise ValueError(f"there is no class {name!r}: {', '.join(KINDS)} are")
+    return found
+
+
+def slabs(box: Ends, to: Ends) -> Iterator[Ends]:
     """The parts of a box outside a box within it, as boxes that meet in their faces at most: two for each place."""
     rest = list(box)
     for k in range(0, len(box), 2):
@@ -70,130 +54,351 @@ def slabs(box, to):
         rest[k:k + 2] = to[k:k + 2]
 
 
-class Cluster:
-    """Boxes that touch: .boxes, and their .hull as pairs of Fractions."""
-
-    def __init__(self, boxes):
-        self.boxes, self.hull = boxes, hull_of(boxes)
-
-
-def hull_of(boxes):
-    """The least box around some, as pairs of exact values; None where there are none."""
-    lows = highs = None
-    for box in boxes:
-        ends = [grid(word) for word in box.words]
-        if lows is None:
-            lows, highs = ends[::2], ends[1::2]
-        else:
-            lows, highs = list(map(min, lows, ends[::2])), list(map(max, highs, ends[1::2]))
-    return None if lows is None else tuple((exact_of_grid(a), exact_of_grid(b)) for a, b in zip(lows, highs))
-
-
 class Cover:
-    """The questions. A subclass has nodes, counts, roots, dims, names and boxes_known."""
+    """The questions. A subclass has counts, roots, dims, names and boxes_known; its answers are kept once they are worked
+    out. A question that needs numbers reads and checks them all first: PavingError names the first line that is wrong."""
+    names: Optional[List[str]]
+    dims: Optional[int]
 
-    def boxes(self, *kinds):
-        """The boxes of some classes in preorder; with no class named, of all four. A removed node gives its whole
-        box; what was cut off on the way to a node's ends is removed too, in boxes that meet in faces at most."""
-        wanted = set(kinds or ("removed", *KEPT))
-        for node in self.nodes():
-            if "removed" in wanted:
-                yield from self._removed_of(node)
-            if node.kind in wanted and node.kind != "removed":
-                yield Box(node.kind, node.box if node.kind == "open" else node.to)
+    def __init__(self) -> None:
+        self._kept: Dict[Any, Any] = {}
 
-    def _removed_of(self, node):
-        if node.box is None:
-            raise ValueError("removed parts need the root box: give root= or system=")
-        if node.kind == "removed":
-            yield Box("removed", node.box)
-        elif node.to is not None and node.to != node.box:
-            for part in slabs(node.box, node.to):
-                yield Box("removed", part)
+    def roots(self) -> Sequence[Paving]:
+        """The pavings of which this one is made."""
+        raise NotImplementedError
 
-    def inner(self):
+    def counts(self) -> Dict[str, int]:
+        """How many nodes are settled, cut, removed, inner, small and open."""
+        raise NotImplementedError
+
+    def boxes_known(self) -> bool:
+        """Whether the search box is known."""
+        return all(paving.root is not None for paving in self.roots())
+
+    def nodes(self) -> Iterator[Node]:
+        """Each node in preorder, of one paving after the other."""
+        for paving in self.roots():
+            tree, variable = paving.tree, None
+            words = tree.table.words
+            for k, kind in enumerate(tree.kinds):
+                box, to = tree.boxes[k], tree.tos[k]
+                variable = tree.variables[k] if kind == "C" else None
+                yield Node(NAMED.get(kind, "cut"), None if box is None else tuple([words[end] for end in box]),
+                           None if to is None else tuple([words[end] for end in to]), variable)
+
+    def boxes(self, *kinds: str) -> Iterator[Box]:
+        """The boxes of some classes in preorder; with no class named, of all four. A removed node gives its whole box; what was
+        cut off on the way to a node's ends is removed too, in boxes that meet in faces at most."""
+        wanted = set(kinds_of(kinds) or KINDS)
+        return self._boxes(wanted)
+
+    def _boxes(self, wanted: Set[str]) -> Iterator[Box]:
+        letters = {LETTERS[kind] for kind in wanted}
+        for paving in self.roots():
+            tree, names = paving.tree, self.names
+            table, removed = tree.table, "removed" in wanted
+            if removed:
+                paving.need_root()
+            for kind, box, to in zip(tree.kinds, tree.boxes, tree.tos):
+                if removed and box is not None:
+                    if kind == "X":
+                        yield Box.of("removed", table, box, names)
+                    elif to is not None and to is not box:
+                        for part in slabs(box, to):
+                            yield Box.of("removed", table, part, names)
+                if kind in letters and kind != "X":
+                    ends = box if kind == "O" else to
+                    if ends is not None:
+                        yield Box.of(NAMED[kind], table, ends, names)
+                    else:
+                        paving.need_root()
+
+    def inner(self) -> Iterator[Box]:
         """The boxes in which every rational point is in the set."""
         return self.boxes("inner")
 
-    def small(self):
+    def small(self) -> Iterator[Box]:
         """The undecided boxes."""
         return self.boxes("small")
 
-    def open(self):
+    def open(self) -> Iterator[Box]:
         """The boxes of the open leaves, of which nothing is said."""
         return self.boxes("open")
 
-    def removed(self):
+    def removed(self) -> Iterator[Box]:
         """The boxes in which no rational point is in the set."""
         return self.boxes("removed")
 
-    def volumes(self):
+    def volumes(self) -> Dict[str, Exact]:
         """The exact volume of each class, and together that of the search box."""
-        found = dict.fromkeys(("inner", "small", "open", "removed"), Fraction(0))
-        scale, sums = SCALE * (self.dims or 1), dict.fromkeys(found, 0)
-        for box in self.boxes():
-            widths = [width(*pair) for pair in box.grid]
-            if 0 not in widths and INFINITE in widths:
-                found[box.kind] = math.inf
-            else:
-                sums[box.kind] += math.prod(widths)
-        return {kind: value if value == math.inf else Fraction(sums[kind], 1 << scale) for kind, value in found.items()}
+        if "volumes" not in self._kept:
+            found = [volumes_of(paving) for paving in self.roots()]
+            self._kept["volumes"] = {kind: sum((each[kind] for each in found), Fraction(0)) for kind in KINDS}
+        return dict(self._kept["volumes"])
 
-    def hull(self, *kinds):
+    def hull(self, *kinds: str) -> Optional[Pairs]:
         """The least box around what is kept (inner, small, open), or around some classes; None where nothing is."""
-        return hull_of(self.boxes(*(kinds or KEPT)))
+        wanted = kinds_of(kinds) or KEPT
+        key = ("hull", frozenset(wanted))
+        if key not in self._kept:
+            found = [hull for paving in self.roots() for hull in [hull_in(paving, wanted)] if hull is not None]
+            self._kept[key] = joined(found)
+        hull: Optional[Pairs] = self._kept[key]
+        return hull
 
-    def widest(self, kind="small"):
+    def floats_of_hull(self, *kinds: str) -> Optional[Tuple[Tuple[float, float], ...]]:
+        """The hull as pairs of floats, rounded outward; None where nothing is kept."""
+        found = self.hull(*kinds)
+        return None if found is None else tuple((as_float(low, False), as_float(high, True)) for low, high in found)
+
+    def widest(self, kind: str = "small") -> Optional[Box]:
         """The widest box of a class, the first among equals; None where there is none."""
-        best, most = None, -1
-        for box in self.boxes(kind):
-            found = max(width(*pair) for pair in box.grid)
-            if found > most:
-                best, most = box, found
-        return best
+        kinds_of([kind])
+        key = ("widest", kind)
+        if key not in self._kept:
+            best: Optional[Box] = None
+            most: Exact = Fraction(-1)
+            for box in self.greatest(1, kind):
+                if box.width > most:
+                    best, most = box, box.width
+            self._kept[key] = best
+        widest: Optional[Box] = self._kept[key]
+        return widest
 
-    def clusters(self, gap=0, kinds=KEPT):
+    def greatest(self, count: int, *kinds: str) -> List[Box]:
+        """The widest boxes of some classes (small ones, where none is named), the widest first and then in preorder."""
+        from heapq import nlargest
+        wanted, found = kinds_of(kinds) or ("small",), []
+        for paving in self.roots():
+            if "removed" in wanted:
+                found += nlargest(count, paving.boxes(*wanted), key=lambda box: box.width)
+                continue
+            table = paving.tree.table
+            best = nlargest(count, kept_ends(paving, wanted), key=lambda pair: width_in(table.values, pair[1]))
+            found += [Box.of(kind, table, ends, self.names) for kind, ends in best]
+        return sorted(found, key=lambda box: -box.width)[:count]
+
+    def clusters(self, gap: Number = 0, kinds: Sequence[str] = KEPT) -> List[Cluster]:
         """The boxes of some classes in groups that touch: two touch where they are at most gap apart in each place."""
         from .clusters import clusters_of
-        return clusters_of(self, Fraction(gap), kinds)
+        key = ("clusters", exact_number(gap), tuple(kinds_of(kinds)))
+        if key not in self._kept:
+            self._kept[key] = clusters_of(self, key[1], key[2])
+        return list(self._kept[key])
 
-    def where(self, point):
-        """The classes of all boxes that hold a point, ends included."""
-        return {box.kind for box in self.boxes() if box.holds(point)}
+    def point_of(self, point: Point) -> List[Exact]:
+        """The exact numbers of a point in the order of the variables: numbers in this order, or a dict of names. ValueError
+        where there are more or fewer than variables."""
+        if isinstance(point, Mapping):
+            numbers = {self.variable(name): exact_number(value) for name, value in point.items()}
+            missing = [self.name_of(k) for k in range(self.dims or 0) if k not in numbers]
+            if missing:
+                raise ValueError(f"the point has no value for {', '.join(missing)}")
+            return [numbers[k] for k in range(self.dims or 0)]
+        found = [exact_number(value) for value in point]
+        if len(found) != self.dims:
+            raise ValueError(f"a point of {len(found)} numbers, where the paving has {self.dims} variables")
+        return found
 
-    def variable(self, name):
-        """The number of a variable, given by its name or number."""
-        if isinstance(name, int):
-            if not 0 <= name < self.dims:
+    def where(self, point: Point) -> Set[str]:
+        """The classes of all boxes that hold a point, ends included, or `outside` where it lies outside the search box. Floats
+        are taken exactly."""
+        exact, found = self.point_of(point), set()
+        for paving in self.roots():
+            paving.need_root()
+            found |= classes_at(paving.tree, [paving.tree.table.place(x) for x in exact])
+        return found or {"outside"}
+
+    def variable(self, name: Name) -> int:
+        """The number of a variable, given by its name or number; ValueError where there is none."""
+        if isinstance(name, int) and not isinstance(name, bool):
+            if not 0 <= name < (self.dims or 0):
                 raise ValueError(f"there is no variable {name}")
             return name
         if self.names is None or name not in self.names:
-            raise ValueError(f"there is no variable {name!r}")
-        return list(self.names).index(name)
+            known = f": {', '.join(self.names)} are" if self.names else ""
+            raise ValueError(f"there is no variable {name!r}{known}")
+        return list(self.names).index(str(name))
 
-    def name_of(self, variable):
+    def name_of(self, variable: int) -> str:
         """The name of a variable, given by its number; v0, v1, .. where names are not known."""
         return self.names[variable] if self.names else f"v{variable}"
 
-    def write_csv(self, file, kinds=("inner", "small", "open"), exactly=False):
-        """Writes a box a row to an open text file: its class, then its ends as floats that are rounded outward, or
-        with exactly as fractions p/q."""
-        writer = csv.writer(file, lineterminator="\n")
-        names = [self.name_of(k) for k in range(self.dims)]
-        writer.writerow(["class", *(f"{name}_{side}" for name in names for side in ("low", "high"))])
-        for box in self.boxes(*kinds):
-            pairs = box.exact if exactly else box.floats
-            writer.writerow([box.kind, *(str(end) if exactly else repr(end) for pair in pairs for end in pair)])
+    def names_known(self) -> List[str]:
+        """The names of all variables."""
+        return [self.name_of(k) for k in range(self.dims or 0)]
 
-    def slice(self, at, kinds=()):
-        """The boxes seen where some variables have given values: at is a dict of names and exact values."""
-        fixed = {self.variable(name): Fraction(value) for name, value in at.items()}
-        for box in self.boxes(*kinds):
-            pairs = box.exact
-            if all(pairs[k][0] <= x <= pairs[k][1] for k, x in fixed.items()):
-                yield box
+    def slice(self, at: Mapping[Name, Number], kinds: Sequence[str] = ()) -> Iterator[Box]:
+        """The boxes seen where some variables have given values: at is a dict of names and exact values. ValueError where a
+        value lies outside the search box: of what is there nothing is said."""
+        wanted = set(kinds_of(kinds) or KINDS)
+        fixed = {self.variable(name): exact_number(value) for name, value in at.items()}
+        self.need_within(fixed)
+        return self._sliced(fixed, wanted)
 
-    def floats_of_hull(self, *kinds):
-        """The hull as pairs of floats, rounded outward; None where nothing is kept."""
-        found = self.hull(*kinds)
-        return found and tuple((as_float(low, False), as_float(high, True)) for low, high in found)
+    def _sliced(self, fixed: Dict[int, Exact], wanted: Set[str]) -> Iterator[Box]:
+        for paving in self.roots():
+            tree, table = paving.tree, paving.tree.table
+            places = {k: table.place(value) for k, value in fixed.items()}
+
+            def is_seen(ends: Ends, places: Dict[int, float] = places) -> bool:
+                return all(ends[2 * k] <= place <= ends[2 * k + 1] for k, place in places.items())
+
+            for k in tree.seen(places):
+                kind, box, to = tree.kinds[k], tree.boxes[k], tree.tos[k]
+                if "removed" in wanted and box is not None:
+                    parts = [box] if kind == "X" else [] if to is None or to is box else slabs(box, to)
+                    yield from (Box.of("removed", table, part, self.names) for part in parts if is_seen(part))
+                if kind in "ISO" and NAMED[kind] in wanted:
+                    ends = box if kind == "O" else to
+                    if ends is not None and is_seen(ends):
+                        yield Box.of(NAMED[kind], table, ends, self.names)
+
+    def need_within(self, fixed: Mapping[int, Exact]) -> None:
+        """ValueError where a value of a variable lies outside the search box."""
+        known = [Box("open", paving.root).exact for paving in self.roots() if paving.root is not None]
+        for k, value in fixed.items():
+            if known and not any(root[k][0] <= value <= root[k][1] for root in known):
+                low, high = min(root[k][0] for root in known), max(root[k][1] for root in known)
+                raise ValueError(f"{self.name_of(k)} = {shown(value)} lies outside the search box, whose ends are {shown(low)} "
+                                 f"and {shown(high)}: of what is there nothing is said")
+
+    # ---- rows
+
+    def write_csv(self, file: Writer, kinds: Sequence[str] = KEPT, exactly: bool = False) -> None:
+        """Writes a box a row to an open text file: its class, then its ends as floats that are rounded outward, or with exactly
+        as fractions p/q."""
+        from .rows import csv_rows
+        rows = csv_rows(self, kinds_of(kinds), exactly)
+        while True:
+            some = list(islice(rows, 10000))
+            if not some:
+                return
+            file.write("".join(some))
+
+    def numpy(self, *kinds: str, exactly: bool = False) -> Any:
+        """The boxes of some classes (of what is kept, where none is named) as a numpy array of shape (boxes, variables, 2): floats
+        rounded outward, or with exactly objects that are Fractions. ImportError without numpy."""
+        from .rows import numpy_of
+        return numpy_of(self, kinds_of(kinds) or KEPT, exactly)
+
+    def frame(self, *kinds: str, exactly: bool = False) -> Any:
+        """The same as a pandas DataFrame with the columns of write_csv. ImportError without pandas."""
+        from .rows import frame_of
+        return frame_of(self, kinds_of(kinds) or KEPT, exactly)
+
+    # ---- notebooks
+
+    def _repr_svg_(self) -> Optional[str]:
+        from .notebook import svg_of
+        return svg_of(self)
+
+    def _repr_html_(self) -> str:
+        from .notebook import html_of
+        return html_of(self, self._title())
+
+    def _title(self) -> str:
+        return repr(self)
+
+
+def shown(value: Exact) -> str:
+    """An exact value in few characters for people."""
+    if isinstance(value, float) or value.denominator == 1 and abs(value) < 10 ** 12:
+        return str(value)
+    return wide(value)
+
+
+def kept_ends(paving: Paving, wanted: Sequence[str]) -> List[Tuple[str, Ends]]:
+    """The class and ends of each kept box of one paving, in preorder. Where the root's box is not known, it is none."""
+    tree, letters = paving.tree, {LETTERS[kind] for kind in wanted}
+    return [(NAMED[kind], ends) for kind, box, to in zip(tree.kinds, tree.boxes, tree.tos) if kind in letters
+            for ends in [box if kind == "O" else to] if ends is not None]
+
+
+def width_in(values: Sequence[int], ends: Ends) -> int:
+    """The width of the widest place of ends, as a whole number; infinite ones are wider than every other."""
+    widest = max([values[ends[k + 1]] - values[ends[k]] for k in range(0, len(ends), 2)])
+    return min(widest, INFINITE >> 1)
+
+
+def volumes_of(paving: Paving) -> Dict[str, Exact]:
+    """The volumes of one paving: what is removed is what the kept boxes leave of the search box, as its parts meet in faces
+    alone; where an end is infinite each part is measured by itself."""
+    paving.need_root()
+    tree, dims = paving.tree, paving.dims or 0
+    if tree.table.has_infinite:
+        found: Dict[str, Exact] = dict.fromkeys(KINDS, Fraction(0))
+        for box in paving.boxes():
+            found[box.kind] += box.volume
+        return found
+    values, unit = tree.table.values, 1 << tree.table.shift * dims
+    sums = {kind: volume_sum(values, tree.ends_of(LETTERS[kind]), dims) for kind in KEPT}
+    root = tree.boxes[0]
+    assert root is not None
+    sums["removed"] = volume_sum(values, [root], dims) - sum(sums.values())
+    return {kind: Fraction(sums[kind], unit) for kind in KINDS}
+
+
+def volume_sum(values: Sequence[int], boxes: Sequence[Ends], dims: int) -> int:
+    """The sum of the volumes of boxes, in units."""
+    if dims == 2:
+        return sum([(values[b] - values[a]) * (values[d] - values[c]) for a, b, c, d in boxes])
+    if dims == 3:
+        return sum([(values[b] - values[a]) * (values[d] - values[c]) * (values[f] - values[e]) for a, b, c, d, e, f in boxes])
+    places = range(0, 2 * dims, 2)
+    return sum([math.prod([values[ends[k + 1]] - values[ends[k]] for k in places]) for ends in boxes])
+
+
+def hull_in(paving: Paving, wanted: Sequence[str]) -> Optional[Pairs]:
+    """The hull of some classes of one paving."""
+    if "removed" in wanted:
+        return hull_of(paving.boxes(*wanted))
+    boxes = [ends for kind in wanted for ends in paving.tree.ends_of(LETTERS[kind]) if ends is not None]
+    if not boxes:
+        return None
+    exact = paving.tree.table.exact
+    return tuple((exact(min(map(itemgetter(k), boxes))), exact(max(map(itemgetter(k + 1), boxes))))
+                 for k in range(0, len(boxes[0]), 2))
+
+
+def joined(hulls: Sequence[Pairs]) -> Optional[Pairs]:
+    """The least box around hulls."""
+    if not hulls:
+        return None
+    return tuple((min(pair[0] for pair in place), max(pair[1] for pair in place)) for place in zip(*hulls))
+
+
+def classes_at(tree: Tree, point: Sequence[float]) -> Set[str]:
+    """The classes of the boxes of a tree that hold a point, given by its places among the ends."""
+    found: Set[str] = set()
+    places, waiting = range(len(point)), [0]
+    while waiting:
+        k = waiting.pop()
+        box, kind, to = tree.boxes[k], tree.kinds[k], tree.tos[k]
+        assert box is not None
+        if any(point[i] < box[2 * i] or point[i] > box[2 * i + 1] for i in places):
+            continue
+        if to is None:
+            found.add(NAMED[kind])
+            continue
+        if to is not box and not reaches(point, box, to, found):
+            continue
+        if kind == "C":
+            waiting += (k + 1, tree.high[k])
+        else:
+            found.add(NAMED[kind])
+    return found
+
+
+def reaches(point: Sequence[float], box: Ends, to: Ends, found: Set[str]) -> bool:
+    """Whether a point of a box lies in what it was contracted to; `removed` is found where it lies in a part cut off."""
+    for k, place in enumerate(point):
+        low, high = to[2 * k], to[2 * k + 1]
+        if place <= low != box[2 * k] or place >= high != box[2 * k + 1]:
+            found.add("removed")
+        if not low <= place <= high:
+            return False
+    return True
+
+
+__all__ = ["Box", "Cluster", "Cover", "KEPT", "KINDS", "Node", "TextIO", "hull_of", "slabs"]

@@ -76,8 +76,9 @@ class Question:
     """A system, an expression and settings: what is asked of the program."""
 
     def __init__(self, system: str | Path, of: str, *, widen: Width | None, contract: str | None, centered: bool, boxes: int,
-                 path: str | None):
-        self.of, self.boxes, self.path, self.command = of, boxes, path, "run-centered" if centered else "run"
+                 limit: str | int | None, path: str | None):
+        self.of, self.boxes, self.limit, self.path = of, boxes, limit, path
+        self.command = "run-centered" if centered else "run"
         known = program.check(system, program=path)
         text = Path(system).read_bytes().decode(ENCODING)
         self.given = self.contract = self._contract(system, contract, known, widen)
@@ -131,7 +132,7 @@ class Question:
     def settings(self, level: Fraction | None, eps: Fraction, boxes: int) -> dict:
         found = {"eps": numbers.minibex(eps), "depth": DEPTH, "boxes": boxes}
         contract = self.given if level is None else self.contract
-        return found if contract is None else {**found, "contract": contract}
+        return {**found, **{name: word for name, word in (("contract", contract), ("limit", self.limit)) if word is not None}}
 
     def widths(self) -> list[Fraction]:
         """Falling values of eps: a tenth of the search box's width, and on by tens."""
@@ -335,8 +336,9 @@ def short_point(x: Iterable[float | Fraction]) -> tuple[Fraction, ...]:
 
 def least_by_levels(system: str | Path, of: str, *, within: str | int | Fraction = Fraction(1, 1000),
                     tries: Iterable[Mapping[str, Fraction]] = (), widen: Width | None = None, seconds: float = 60,
-                    boxes: int = 20000, contract: str | None = None, centered: bool = True, keep: str | Path | None = None,
-                    tell: Callable[[Levels], None] | None = None, program: str | None = None) -> Levels:
+                    boxes: int = 20000, limit: str | int | None = None, contract: str | None = None, centered: bool = True,
+                    keep: str | Path | None = None, tell: Callable[[Levels], None] | None = None,
+                    program: str | None = None) -> Levels:
     """Bounds of the least value of an expression over a system's set, at most `within` apart where the search comes to its
     end. The expression may use the system's functions and constants. `tries` has points as names and numbers; `widen` widens
     the system's equations; `keep` names a folder for what proves the bounds; `tell` is given the bounds each time that they
@@ -344,7 +346,8 @@ def least_by_levels(system: str | Path, of: str, *, within: str | int | Fraction
     within = Fraction(within)
     if within <= 0:
         raise ValueError(f"--within {within}: a number above 0 is expected")
-    question = Question(system, of, widen=widen, contract=contract, centered=centered, boxes=boxes, path=program)
+    question = Question(system, of, widen=widen, contract=contract, centered=centered, boxes=boxes, limit=limit,
+                        path=program)
     points = [tuple(named_point(question.base.names, values)) for values in tries]
     search = Search(question, within, seconds, tell)
     try:

@@ -32,7 +32,7 @@ def command_words(command: str, system: str | Path, settings: Mapping, out: str 
 def shown(proof: Proof, name: str) -> str:
     """The two commands that repeat a run and check its file."""
     run = command_words(proof.command, f"{name}.mbx", proof.settings, None)
-    settings = {key: value for key, value in proof.settings.items() if key in program.SETTINGS}
+    settings = {key: value for key, value in proof.settings.items() if key in (*program.SETTINGS, "limit")}
     audit = [proof.command.replace("run", "audit"), *program.option_words(settings), "--", f"{name}.mbx", f"{name}.paving"]
     return f"  {shlex.join(['paver', *run])}\n  {shlex.join(['paver', *audit])}\n"
 

@@ -1,5 +1,8 @@
 """The texts of the profile: tokens with their places, and domains put in the place of others."""
+from __future__ import annotations
+
 import re
+from typing import List, Mapping, Optional, Sequence, Tuple
 
 TOKEN = re.compile(
     r"(?P<blank>[ \t\r\n]+|//[^\n]*|/\*.*?(?:\*/|\Z))|(?P<name>[A-Za-z_][A-Za-z0-9_]*)"
@@ -12,20 +15,24 @@ Minimize minimize""".split())
 RESERVED = set(WORDS) | set(FUNCTIONS) | {"in", "oo"} | OUTSIDE
 
 
+Span = Optional[Tuple[int, int]]
+Domain = Tuple[str, int, Span, Span]
+
+
 class Token:
     """kind is name, number, sign, bad or end; word is the text, or the block word that it spells; at is its place."""
     __slots__ = ("kind", "text", "word", "at")
 
-    def __init__(self, kind, text, at):
+    def __init__(self, kind: str, text: str, at: int) -> None:
         self.kind, self.text, self.at = kind, text, at
         self.word = WORDS.get(text, text)
 
     @property
-    def is_free_name(self):
+    def is_free_name(self) -> bool:
         return self.kind == "name" and self.text not in RESERVED
 
 
-def tokens(text):
+def tokens(text: str) -> List[Token]:
     """The tokens of a text of single-byte characters, with one for the end."""
     found, at = [], 0
     while at < len(text):
@@ -36,10 +43,11 @@ def tokens(text):
     return found + [Token("end", "", len(text))]
 
 
-def domains_of(text):
+def domains_of(text: str) -> List[Domain]:
     """Of each variable of a good text its name, and the places of its domain's two bounds; of one without a domain
     the place behind its name, twice None."""
-    found, words = [], tokens(text)
+    found: List[Domain] = []
+    words = tokens(text)
     at = next(i for i, token in enumerate(words) if token.word == "Variables") + 1
     while words[at].is_free_name:
         name, behind = words[at].text, words[at].at + len(words[at].text)
@@ -56,17 +64,22 @@ def domains_of(text):
     return found
 
 
-def domains_replaced(text, moved):
+def domains_replaced(text: str, moved: Mapping[str, Tuple[Optional[str], ...]]) -> str:
     """The text with other bounds: moved gives for names a pair of texts, None for a bound that stays."""
+    return spliced(text, domains_of(text), moved)
+
+
+def spliced(text: str, domains: Sequence[Domain], moved: Mapping[str, Tuple[Optional[str], ...]]) -> str:
+    """The same, where the places of the domains are known."""
     edits = []
-    for name, behind, low, high in domains_of(text):
+    for name, behind, low, high in domains:
         first, second = moved.get(name, (None, None))
         if low is None and (first or second):
             edits.append((behind, behind, f" in [{first or '-oo'}, {second or 'oo'}]"))
             continue
-        if first:
+        if first and low:
             edits.append((*low, first))
-        if second:
+        if second and high:
             edits.append((high[0], high[1], f"{second}"))
     for start, end, new in sorted(edits, reverse=True):
         text = text[:start] + new + text[end:]

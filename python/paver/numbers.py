@@ -4,16 +4,22 @@ Three forms are used. The text is what files hold. The grid form is the whole nu
 for every finite number of a paving and quick to compare; an infinite end is ±INFINITE, beyond every finite one.
 Exact values are Fractions, or ±math.inf; floats are asked for by their side and rounded outward.
 """
+from __future__ import annotations
+
 import math
 import re
 import sys
 from fractions import Fraction
 from functools import lru_cache
+from typing import Any, Optional, Tuple, Union
 
+Exact = Union[Fraction, float]  # a float where it is infinite
 SCALE = 512
 INFINITE = 1 << 4096
 MANTISSA_BITS = 62
-GREATEST = ((1 << 62) - 1) << (450 + SCALE)
+MOST_MANTISSA = (1 << MANTISSA_BITS) - 1
+MOST_EXPONENT, LARGE = 511, 450  # of a number in its shortest form; up to LARGE any mantissa has its place
+GREATEST = MOST_MANTISSA << (LARGE + SCALE)
 NUMBER = re.compile(r"(-?[1-9][0-9]{0,18}):(-?[1-9][0-9]{0,2}|0)\Z")
 
 
@@ -21,43 +27,47 @@ class NumberError(ValueError):
     """A text that is no number of a paving."""
 
 
-@lru_cache(maxsize=1 << 16)
-def grid(text):
-    """The grid form of a number's text; NumberError where it is none."""
-    if text == "0:0":
-        return 0
-    if text == "+oo":
-        return INFINITE
-    if text == "-oo":
-        return -INFINITE
+def parts(text: str) -> Tuple[int, int]:
+    """The mantissa and exponent of a number's text, ±INFINITE and 0 of an infinite end; NumberError where it is none."""
     match = NUMBER.match(text)
     if match is None:
-        raise NumberError(f"{text!r} is no number of a paving")
-    mantissa, exponent = int(match.group(1)), int(match.group(2)) + SCALE
-    short = 0 <= exponent <= 2 * SCALE and mantissa % 2 == 1 and abs(mantissa) >> MANTISSA_BITS == 0
-    if not short or abs(mantissa) << exponent > GREATEST:
-        raise NumberError(f"{text!r} is no number of a paving")
-    return mantissa << exponent
+        if text == "0:0":
+            return 0, 0
+        if text in ("+oo", "-oo"):
+            return INFINITE if text == "+oo" else -INFINITE, 0
+        raise NumberError(f"{text[:40]!r} is no number of a paving")
+    mantissa, exponent = int(match.group(1)), int(match.group(2))
+    if mantissa & 1 and -MOST_MANTISSA <= mantissa <= MOST_MANTISSA and -SCALE <= exponent <= MOST_EXPONENT \
+            and (exponent <= LARGE or abs(mantissa) << exponent + SCALE <= GREATEST):
+        return mantissa, exponent
+    raise NumberError(f"{text!r} is no number of a paving")
 
 
-def width(low, high):
+@lru_cache(maxsize=1 << 16)
+def grid(text: str) -> int:
+    """The grid form of a number's text; NumberError where it is none."""
+    mantissa, exponent = parts(text)
+    return mantissa if abs(mantissa) == INFINITE else mantissa << exponent + SCALE
+
+
+def width(low: int, high: int) -> int:
     """How far apart two grid forms are; INFINITE where an end is infinite."""
     return INFINITE if low == -INFINITE or high == INFINITE else high - low
 
 
-def exact_of_grid(value):
+def exact_of_grid(value: int) -> Exact:
     """The exact value of a grid form: a Fraction, or an infinite float."""
     if abs(value) >= INFINITE:
         return math.inf if value > 0 else -math.inf
     return Fraction(value, 1 << SCALE)
 
 
-def exact(text):
+def exact(text: str) -> Exact:
     """The exact value of a number's text: a Fraction, or an infinite float."""
     return exact_of_grid(grid(text))
 
 
-def as_float(value, up):
+def as_float(value: Exact, up: bool) -> float:
     """The greatest float that is not above an exact value, or, where up is set, the least that is not below it."""
     if isinstance(value, float):
         return value
@@ -72,7 +82,7 @@ def as_float(value, up):
     return nearest
 
 
-def stepped(value, direction):
+def stepped(value: float, direction: int) -> float:
     """A float beyond value by at least one step, for Pythons before 3.9, which have no math.nextafter."""
     if math.isinf(value):
         return math.copysign(sys.float_info.max, value)
@@ -80,12 +90,12 @@ def stepped(value, direction):
 
 
 @lru_cache(maxsize=1 << 16)
-def float_of(text, up):
+def float_of(text: str, up: bool) -> float:
     """A number's text as a float that is rounded to its side."""
     return as_float(exact(text), up)
 
 
-def spelling(value):
+def spelling(value: int) -> str:
     """The text of a grid form that is a number of a paving."""
     if abs(value) >= INFINITE:
         return "+oo" if value > 0 else "-oo"
@@ -95,7 +105,7 @@ def spelling(value):
     return f"{value >> trailing}:{trailing - SCALE}"
 
 
-def rounded(value, up):
+def rounded(value: Any, up: bool) -> str:
     """The text of the number next to an exact value on its side: the greatest not above it, or the least not below."""
     if isinstance(value, float) and math.isinf(value):
         return "+oo" if value > 0 else "-oo"
@@ -113,7 +123,7 @@ def rounded(value, up):
     return spelling(below)
 
 
-def decimal(value):
+def decimal(value: Any) -> Optional[str]:
     """The Minibex spelling of an exact value, without an exponent; None where it has no finite decimal expansion."""
     value = Fraction(value)
     twos = fives = 0
@@ -130,7 +140,7 @@ def decimal(value):
     return "-" + text if value < 0 else text
 
 
-def minibex(value):
+def minibex(value: Any) -> Optional[str]:
     """The Minibex spelling of an exact value within the limits of the profile's numbers; None where it has none."""
     text = decimal(value)
     if text is None:
@@ -146,7 +156,12 @@ def minibex(value):
     return None
 
 
-def wide(value):
+def wide(value: Exact) -> str:
     """An exact value in few digits for people: it is not exact."""
     shown = as_float(value, True)
     return "over 1e308" if shown == math.inf != value else f"{shown:.6g}"
+
+
+def printable(text: str) -> str:
+    """A text without signs that steer a terminal: in their place stands the sign for what can't be shown."""
+    return "".join([c if c.isprintable() or c in "\n\t" else "\ufffd" for c in text])

@@ -1,18 +1,29 @@
 """A paving that was printed or stored, read lazily: its lines stay texts until a question needs their numbers."""
+from __future__ import annotations
+
 import re
+from itertools import accumulate, repeat
 from pathlib import Path
+from typing import Any, BinaryIO, Dict, List, Mapping, Optional, Sequence, Tuple, Union
 
 from . import kept
-from .cover import Box, Cover, Node
+from .box import Box
+from .cover import Cover
 from .errors import PavingError
-from .numbers import NumberError, grid, rounded
+from .identity import UNSAID, Identity, compared
+from .numbers import NumberError, parts, rounded
+from .canonical import System
+from .tree import Tree
 
-SUMMARY = re.compile(r"settled (\d+) cut (\d+) removed (\d+) inner (\d+) small (\d+) open (\d+)\Z")
+SUMMARY = re.compile(r"settled (\d+) cut (\d+) removed (\d+) inner (\d+) small (\d+) open (\d+)\Z", re.A)
 FIELDS = ("settled", "cut", "removed", "inner", "small", "open")
-CLASSES = {"X": "removed", "I": "inner", "S": "small", "O": "open", "C": "cut"}
+STEPS = {"C ": 1, "X": -1, "I ": -1, "S ": -1, "O": -1}  # how a line changes the number of nodes that are to come
+CHUNK = 1 << 20  # bytes that are read at a time; a line has some hundreds at most
+PathName = Union[str, "Path"]
+Root = Union[Sequence[str], Sequence[Tuple[Any, Any]]]
 
 
-def read_summary(line, row):
+def read_summary(line: str, row: int) -> Dict[str, int]:
     """The counts of a summary line, which stands in the given row."""
     match = SUMMARY.match(line)
     if match is None:
@@ -20,67 +31,82 @@ def read_summary(line, row):
     return dict(zip(FIELDS, map(int, match.groups())))
 
 
-def texts_of_root(root):
-    """A root box as texts: from pairs of exact values, which are rounded outward, or from texts."""
+def texts_of_root(root: Root) -> Tuple[str, ...]:
+    """A root box as texts: from pairs of exact values, which are rounded outward, or from texts. ValueError where it is none."""
     if root and isinstance(root[0], str):
-        return tuple(root)
-    return tuple(rounded(end, side) for pair in root for side, end in enumerate(pair))
+        found = tuple(map(str, root))
+        for word in found:
+            parts(word)
+        return found
+    return tuple(rounded(end, bool(side)) for pair in root for side, end in enumerate(pair))
 
 
 class Paving(Cover):
-    """version is 1 or 2, or None for printed text; identity is the stored one or None; summary the printed one or
-    None; root the search box as texts, or None where it is not known; names those of the variables, or None.
+    """version is 1 or 2, or None for printed text; identity is the stored one or None; summary the printed one or None; root
+    the search box as texts, or None where it is not known; names those of the variables, or None.
 
     Without the root box only version 1 and printed text can be asked for their inner and small boxes."""
 
-    def __init__(self, lines, version=None, identity=None, summary=None, root=None, names=None):
+    def __init__(self, lines: List[str], version: Optional[int] = None, identity: Optional[str] = None,
+                 summary: Optional[Dict[str, int]] = None, root: Optional[Tuple[str, ...]] = None,
+                 names: Optional[List[str]] = None) -> None:
+        super().__init__()
         self.lines, self.version, self.identity, self.summary = lines, version, identity, summary
         self.root, self.names = root, names
         self.first_row = 2 if version is None else 3
         self.dims = self._dims()
+        self._tree: Optional[Tree] = None
         self._check_shape()
 
     @classmethod
-    def from_text(cls, text, *, root=None, names=None, system=None):
-        """Reads printed text, or a file's text of version 1 or 2. The root box is given as pairs or texts, or comes
-        from the canonical system that program.check gives. PavingError where the text is no paving."""
+    def from_text(cls, text: str, *, root: Optional[Root] = None, names: Optional[List[str]] = None,
+                  system: Optional[System] = None, identity: Identity = UNSAID, name: str = "text",
+                  settings: Optional[Mapping[str, Any]] = None) -> Paving:
+        """Reads printed text, or a file's text of version 1 or 2. The root box is given as pairs or texts, or comes from the
+        canonical system that program.check gives. PavingError where the text is no paving.
+
+        With a system its identity under the settings (else the program's own) is compared: PavingRefused where it is another.
+        identity is the one wanted, or None to compare nothing, as printed text has none."""
         if system is not None:
             root, names = root or system.root, names or system.names
-        lines = text.split("\n")
-        if lines.pop() != "":
-            raise PavingError(len(lines) + 1, "the line has no end: the text was cut short")
-        root = None if root is None else texts_of_root(root)
-        if lines and lines[0].startswith("settled "):
-            return cls(lines[1:], None, None, read_summary(lines[0], 1), root, names)
-        match = re.fullmatch(r"paving ([12])", lines[0] if lines else "")
-        if match is None:
-            raise PavingError(1, "neither a summary line nor `paving 1` or `paving 2`")
-        found = re.fullmatch(r"identity ([0-9a-f]{64})", lines[1] if len(lines) > 1 else "")
-        if found is None:
-            raise PavingError(2, "no identity")
-        return cls(lines[2:], int(match.group(1)), found.group(1), None, root, names)
+        found = parsed(cls, text, None if root is None else texts_of_root(root), names)
+        compared(found.identity, system, identity, settings or {}, name)
+        return found
 
     @classmethod
-    def read(cls, path, *, root=None, names=None, system=None, program=None):
-        """Reads a file: a stored paving, printed text, or the database of a campaign. system is what program.check gave,
-        or the path of a system's file, which is then checked."""
+    def read(cls, path: PathName, *, root: Optional[Root] = None, names: Optional[List[str]] = None,
+             system: Union[System, PathName, None] = None, program: Optional[str] = None, identity: Identity = UNSAID,
+             eps: Any = None, depth: Any = None, bisect: Optional[str] = None, contract: Optional[str] = None,
+             form: Optional[str] = None) -> Paving:
+        """Reads a file: a stored paving, printed text, or the database of a campaign. system is what program.check gave, or the
+        path of a system's file, which is then checked.
+
+        With a system the file's identity is compared with the system's under these settings: PavingRefused where it is another.
+        Settings that aren't given are those that run kept beside the file, else the program's own. identity is the one that is
+        wanted; identity=None compares nothing, which printed text needs, as it has none."""
+        from . import beside
         if isinstance(system, (str, Path)):
             from .program import check
             system = check(system, program=program)
-        data = Path(path).read_bytes()
-        if data.startswith(kept.HEADER):
-            lines, identity = kept.lines_of(path)
-            data = "\n".join(["paving 1", f"identity {identity}", *lines, ""]).encode("latin-1")
-        return cls.from_text(data.decode("latin-1"), root=root, names=names, system=system)
+        with open(path, "rb") as file:
+            head = file.read(len(kept.HEADER))
+            if head == kept.HEADER:
+                lines, stored = kept.lines_of(path)
+                text = "\n".join(["paving 1", f"identity {stored}", *lines, ""])
+            else:
+                text = whole_text(head, file)
+        given = {"eps": eps, "depth": depth, "bisect": bisect, "contract": contract, "form": form}
+        settings = {**beside.settings_of(path), **{key: value for key, value in given.items() if value is not None}}
+        return cls.from_text(text, root=root, names=names, system=system, identity=identity, name=str(path), settings=settings)
 
-    def file_text(self):
-        """The text of a file of this paving, which the program's resume, merge, audit and svg take; of a campaign's database
-        it is one of version 1. ValueError for printed text, which has no identity."""
+    def file_text(self) -> str:
+        """The text of a file of this paving, which the program's resume, merge, audit and svg take; of a campaign's database it
+        is one of version 1. ValueError for printed text, which has no identity."""
         if self.identity is None:
             raise ValueError("printed text has no identity: store the paving by --out")
         return "".join(f"{line}\n" for line in (f"paving {self.version}", f"identity {self.identity}", *self.lines))
 
-    def _dims(self):
+    def _dims(self) -> Optional[int]:
         if self.root is not None:
             return len(self.root) // 2
         for line in self.lines:
@@ -88,83 +114,59 @@ class Paving(Cover):
                 return (line.count(" ") - (2 if line[0] == "C" else 0)) // 2
         return None
 
-    def _check_shape(self):
-        """Each line begins with a node's letter, and together they are one whole tree."""
-        waiting, words = 1, 2 * (self.dims or 0)
-        blanks = {"C ": words + 2, "I ": words, "S ": words, "X": 0, "O": 0}
-        for row, line in enumerate(self.lines, self.first_row):
-            if waiting == 0:
-                raise PavingError(row, "lines follow the whole tree")
-            if blanks.get(line[:2]) != line.count(" "):
-                raise PavingError(row, f"no node of {self.dims} variables")
-            waiting += 1 if line[0] == "C" else -1
-        if waiting:
+    def _check_shape(self) -> None:
+        """Each line begins with a node's letter and has its number of words, and together they are one whole tree."""
+        ends = 2 * (self.dims or 0)
+        blanks = {"C ": ends + 2, "I ": ends, "S ": ends, "X": 0, "O": 0}
+        kinds = [line[:2] for line in self.lines]
+        if list(map(blanks.get, kinds)) != list(map(str.count, self.lines, repeat(" "))):
+            row = next(k for k, line in enumerate(self.lines) if blanks.get(line[:2]) != line.count(" "))
+            raise self._end_within(kinds[:row]) or PavingError(self.first_row + row, f"no node of {self.dims} variables")
+        fault = self._end_within(kinds)
+        if fault is not None:
+            raise fault
+        missing = 1 + sum(map(STEPS.__getitem__, kinds))
+        if missing:
             raise PavingError(self.first_row + len(self.lines),
-                              f"the tree is not whole: {waiting} leaves are missing; was the text cut by `head`?")
+                              f"the tree is not whole: {missing} leaves are missing; was the text cut by `head`?")
         if self.summary is not None and self.summary != self.counts():
             raise PavingError(1, "the summary counts other lines than follow")
 
-    def counts(self):
+    def _end_within(self, kinds: Sequence[str]) -> Optional[PavingError]:
+        """The error where the whole tree ends before these lines do."""
+        left = list(accumulate(map(STEPS.__getitem__, kinds), initial=1))
+        ended = left.index(0) if 0 in left else len(kinds)
+        return PavingError(self.first_row + ended, "lines follow the whole tree") if ended < len(kinds) else None
+
+    def counts(self) -> Dict[str, int]:
         """How many nodes are settled, cut, removed, inner, small and open."""
-        found = dict.fromkeys("CXISO", 0)
-        for line in self.lines:
-            found[line[0]] += 1
-        named = {CLASSES[letter]: count for letter, count in found.items()}
-        return {"settled": len(self.lines) - found["O"], **{field: named[field] for field in FIELDS[1:]}}
+        if "counts" not in self._kept:
+            kinds = "".join([line[:1] for line in self.lines])
+            found = {field: kinds.count(letter) for field, letter in zip(FIELDS[1:], "CXISO")}
+            self._kept["counts"] = {"settled": len(kinds) - found["open"], **found}
+        return dict(self._kept["counts"])
 
-    def nodes(self):
-        """Each node in preorder. PavingError where ends are wrong."""
-        waiting, second = [self.root], self.version == 2
-        for row, line in enumerate(self.lines, self.first_row):
-            box, words = waiting.pop(), line.split(" ")
-            kind = words[0]
-            if kind in ("X", "O"):
-                yield Node(CLASSES[kind], box, None, None)
-                continue
-            ends = words[3:] if kind == "C" else words[1:]
-            if second:
-                if box is None:
-                    raise ValueError("a file of version 2 needs its root box: give root= or system=")
-                ends = [old if new == "=" else new for new, old in zip(ends, box)]
-            ends = tuple(ends)
-            if kind != "C":
-                yield Node(CLASSES[kind], box, ends, None)
-                continue
-            waiting += reversed(self._halves(ends, words, row))
-            yield Node("cut", box, ends, int(words[1]))
+    @property
+    def tree(self) -> Tree:
+        """The nodes as flat lists, worked out once. PavingError at the first line whose numbers are wrong."""
+        if self._tree is None:
+            if self.version == 2:
+                self.need_root()
+            self._tree = Tree(self.lines, self.version == 2, self.root, self.dims or 0, self.first_row)
+        return self._tree
 
-    def _halves(self, ends, words, row):
-        if not re.fullmatch("0|[1-9][0-9]?", words[1]) or int(words[1]) >= self.dims:
-            raise PavingError(row, "a cut of no variable")
-        at = 2 * int(words[1])
-        return ends[:at + 1] + (words[2],) + ends[at + 2:], ends[:at] + (words[2],) + ends[at + 1:]
+    def need_root(self) -> None:
+        """ValueError where the search box is not known."""
+        if self.root is None:
+            raise ValueError("this needs the search box: give root= or system=")
 
-    def check_numbers(self):
+    def check_numbers(self) -> None:
         """Reads every number and compares it with the node's box. PavingError at the first line that is wrong."""
-        for row, node in enumerate(self.nodes(), self.first_row):
-            if node.to is None:
-                continue
-            words = self.lines[row - self.first_row].split(" ")
-            try:
-                good = self._is_within(node, words)
-            except NumberError as fault:
-                raise PavingError(row, str(fault)) from fault
-            if not good:
-                raise PavingError(row, "ends that are not in the node's box, or not as they are written")
+        self.tree  # pylint: disable=pointless-statement
 
-    def _is_within(self, node, words):
-        if self.version == 2 and any(word == old for word, old in zip(words[-2 * self.dims:], node.box)):
-            return False
-        to = [grid(end) for end in node.to]
-        box = [grid(end) for end in node.box] if node.box else to
-        if node.variable is not None and not to[2 * node.variable] < grid(words[2]) < to[2 * node.variable + 1]:
-            return False
-        places = range(0, len(to), 2)
-        return all(box[k] <= to[k] <= to[k + 1] <= box[k + 1] for k in places)
-
-    def path_of_first_open(self):
+    def path_of_first_open(self) -> Optional[str]:
         """The way to the first open leaf, a digit a step; None where no leaf is open."""
-        path = []
+        path: List[str] = []
         for line in self.lines:
             if line == "O":
                 return "".join(path) or "."
@@ -177,43 +179,77 @@ class Paving(Cover):
                 path[-1] = "1"
         return None
 
-    def roots(self):
+    def roots(self) -> Sequence[Paving]:
         """The pavings of which this one is made: itself."""
         return [self]
 
-    def boxes_known(self):
-        """Whether the search box is known."""
-        return self.root is not None
+    def __repr__(self) -> str:
+        return f"<paving{in_words(self)}>"
+
+
+def whole_text(head: bytes, file: BinaryIO) -> str:
+    """The text of a file from its first bytes on. PavingError where it can be no paving's: a file as /dev/zero has no end."""
+    if not head.startswith((b"paving ", b"settled ")):
+        raise PavingError(1, "neither a summary line nor `paving 1` or `paving 2`")
+    chunks, rows = [head], 1
+    while True:
+        chunk = file.read(CHUNK)
+        if len(chunk) == CHUNK and b"\n" not in chunk:
+            raise PavingError(rows, f"a line of more than {CHUNK} bytes")
+        if not chunk:
+            return b"".join(chunks).decode("latin-1")
+        chunks.append(chunk)
+        rows += chunk.count(b"\n")
+
+
+def parsed(kind: type[Paving], text: str, root: Optional[Tuple[str, ...]], names: Optional[List[str]]) -> Paving:
+    """The paving of a text."""
+    lines = text.split("\n")
+    if lines.pop() != "":
+        raise PavingError(len(lines) + 1, "the line has no end: the text was cut short")
+    if lines and lines[0].startswith("settled "):
+        return kind(lines[1:], None, None, read_summary(lines[0], 1), root, names)
+    match = re.fullmatch(r"paving ([12])", lines[0] if lines else "")
+    if match is None:
+        raise PavingError(1, "neither a summary line nor `paving 1` or `paving 2`")
+    found = re.fullmatch(r"identity ([0-9a-f]{64})", lines[1] if len(lines) > 1 else "")
+    if found is None:
+        raise PavingError(2, "no identity")
+    return kind(lines[2:], int(match.group(1)), found.group(1), None, root, names)
+
+
+def in_words(cover: Cover) -> str:
+    """The variables and counts of a paving in words."""
+    counts = cover.counts()
+    kinds = ", ".join(f"{counts[field]} {field}" for field in FIELDS[1:] if counts[field])
+    return f" in {', '.join(cover.names_known())}: {counts['settled']} settled: {kinds}"
 
 
 class Parts(Cover):
     """The pavings of the parts of one search box, asked as one."""
 
-    def __init__(self, pavings):
+    def __init__(self, pavings: Sequence[Paving]) -> None:
+        super().__init__()
         self.pavings = list(pavings)
         if not self.pavings:
             raise ValueError("no paving is given")
         self.names, self.dims = self.pavings[0].names, self.pavings[0].dims
         if any(paving.dims != self.dims for paving in self.pavings):
             raise ValueError("the pavings have different numbers of variables")
+        if any(paving.names != self.names for paving in self.pavings):
+            raise ValueError("the pavings have different names of variables")
 
-    def counts(self):
+    def counts(self) -> Dict[str, int]:
         """How many nodes of all parts are settled, cut, removed, inner, small and open."""
         found = [paving.counts() for paving in self.pavings]
         return {field: sum(counts[field] for counts in found) for field in FIELDS}
 
-    def nodes(self):
-        """The nodes of the parts, one part after the other."""
-        for paving in self.pavings:
-            yield from paving.nodes()
-
-    def roots(self):
+    def roots(self) -> Sequence[Paving]:
         """The pavings of the parts."""
         return self.pavings
 
-    def boxes_known(self):
-        """Whether the search box of each part is known."""
-        return all(paving.boxes_known() for paving in self.pavings)
+    def __repr__(self) -> str:
+        return f"<{len(self.pavings)} pavings{in_words(self)}>"
 
 
-__all__ = ["Box", "Paving", "Parts", "read_summary"]
+__all__ = ["Box", "NumberError", "Paving", "Parts", "read_summary"]

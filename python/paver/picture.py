@@ -1,8 +1,17 @@
 """Pictures as SVG 1.1 with stock Python alone: axes, numbers, names, equal scales."""
+from __future__ import annotations
+
 import math
 from html import escape
+from typing import TYPE_CHECKING, Iterable, Iterator, List, Mapping, Optional, Sequence, Tuple
 
-from .plots import FILL, axes_of, finite, finite_axes, grouped, projection, rectangles
+from .box import Number
+from .cover import KEPT, Name
+from .numbers import printable
+from .plots import FILL, Pair, axes_of, finite, finite_axes, grouped, projection, rectangles
+
+if TYPE_CHECKING:
+    from .cover import Cover
 
 SIZE, MARGIN, BELOW = 600, 60, 90
 EDGE = "#90a4ae"
@@ -11,26 +20,26 @@ EDGE = "#90a4ae"
 class Frame:
     """Where values are drawn: the longer axis is SIZE long; scales are equal unless equal is False."""
 
-    def __init__(self, axes, equal):
+    def __init__(self, axes: Sequence[Pair], equal: bool) -> None:
         self.axes = axes
         widths = [high - low or 1.0 for low, high in axes]
         scales = [SIZE / width for width in widths]
         self.scales = [min(scales)] * 2 if equal else scales
         self.sizes = [width * scale for width, scale in zip(widths, self.scales)]
 
-    def x(self, value):
+    def x(self, value: float) -> float:
         return MARGIN + (value - self.axes[0][0]) * self.scales[0]
 
-    def y(self, value):
+    def y(self, value: float) -> float:
         return MARGIN / 2 + (self.axes[1][1] - value) * self.scales[1]
 
 
-def short(value):
+def short(value: float) -> str:
     """A pixel in few characters."""
     return f"{value:.1f}".rstrip("0").rstrip(".")
 
 
-def ticks(low, high):
+def ticks(low: float, high: float) -> List[float]:
     """Numbers of few digits between two ends, 3 to 8 of them."""
     step = 10.0 ** math.floor(math.log10(high - low)) if high > low else 1.0
     while (high - low) / step > 8:
@@ -41,7 +50,7 @@ def ticks(low, high):
     return [k * step for k in range(first, math.floor(high / step) + 1)]
 
 
-def path_of(pairs, frame):
+def path_of(pairs: Iterable[Sequence[Pair]], frame: Frame) -> str:
     """The outlines of rectangles as one path."""
     parts = []
     for (a, b), (c, d) in pairs:
@@ -50,7 +59,7 @@ def path_of(pairs, frame):
     return "".join(parts)
 
 
-def axis_lines(frame, names):
+def axis_lines(frame: Frame, names: Sequence[str]) -> Iterator[str]:
     """The ticks, numbers and names of both axes."""
     left, bottom = MARGIN, MARGIN / 2 + frame.sizes[1]
     for value in ticks(*frame.axes[0]):
@@ -68,7 +77,7 @@ def axis_lines(frame, names):
           f"{escape(names[1])}</text>"
 
 
-def legend(frame):
+def legend(frame: Frame) -> Iterator[str]:
     at, y = MARGIN, MARGIN / 2 + frame.sizes[1] + 50
     for kind, color in FILL.items():
         yield f'<rect x="{at}" y="{short(y)}" width="12" height="12" fill="{color}" stroke="{EDGE}"/>'
@@ -76,24 +85,31 @@ def legend(frame):
         at += 95
 
 
-def svg(cover, x=0, y=1, at=None, project=False, title=None, equal=True, near=False):
+def svg(cover: Cover, x: Name = 0, y: Name = 1, at: Optional[Mapping[Name, Number]] = None, project: bool = False,
+        title: Optional[str] = None, equal: bool = True, near: bool = False) -> str:
     """The text of a picture: a slice with the values of the dict `at` for the other variables, or the projection on two.
-    What no kept box covers, or in a projection the shadow of none, is removed.
-    With near the axes end where what is kept ends."""
-    frame = Frame(finite_axes(axes_of(cover, x, y, near)), equal)
-    kept = ("inner", "small", "open")
-    shown = projection(cover, x, y) if project else rectangles(cover, x, y, at, kept)
+    What no kept box covers, or in a projection the shadow of none, is removed. Inner boxes lie on top, then small and open ones.
+    With near the axes end where what is kept ends. ValueError where a value of `at` lies outside the search box."""
+    shown = grouped(projection(cover, x, y) if project else rectangles(cover, x, y, at, KEPT))
+    return picture_of(cover, (x, y), shown, title, equal, near)
+
+
+def picture_of(cover: Cover, variables: Tuple[Name, Name], shown: Mapping[str, Sequence[Tuple[Pair, Pair]]],
+               title: Optional[str] = None, equal: bool = True, near: bool = False) -> str:
+    """The text of a picture of rectangles, by class in the order in which they are painted."""
+    frame = Frame(finite_axes(axes_of(cover, *variables, near)), equal)
     width, height = MARGIN * 1.5 + frame.sizes[0], MARGIN / 2 + frame.sizes[1] + BELOW
     lines = [f'<svg xmlns="http://www.w3.org/2000/svg" width="{short(width)}" height="{short(height)}" '
              f'viewBox="0 0 {short(width)} {short(height)}" font-family="sans-serif" font-size="13">']
     if title:
-        lines.append(f"<title>{escape(title)}</title>")
+        lines.append(f"<title>{escape(printable(title))}</title>")
     lines.append('<rect width="100%" height="100%" fill="#fff"/>')
     outline = path_of([frame.axes], frame)
     lines.append(f'<path d="{outline}" fill="{FILL["removed"]}" stroke="none"/>')
-    for kind, *pairs in grouped(shown):
-        drawn = path_of([finite(pair, frame.axes) for pair in pairs], frame)
+    for kind, pairs in shown.items():
+        drawn = path_of((finite(pair, frame.axes) for pair in pairs), frame)
         lines.append(f'<path d="{drawn}" fill="{FILL[kind]}" stroke="{EDGE}" stroke-width="0.4"/>')
     lines.append(f'<path d="{outline}" fill="none" stroke="#000"/>')
-    lines += [*axis_lines(frame, [cover.name_of(cover.variable(k)) for k in (x, y)]), *legend(frame), "</svg>"]
+    names = [cover.name_of(cover.variable(k)) for k in variables]
+    lines += [*axis_lines(frame, names), *legend(frame), "</svg>"]
     return "\n".join(lines) + "\n"

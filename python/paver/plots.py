@@ -1,75 +1,107 @@
 """Plots of two variables, with matplotlib where it is installed. What is drawn is worked out without it."""
-from .cover import KEPT
+from __future__ import annotations
+
+from typing import TYPE_CHECKING, Any, Dict, Iterator, List, Mapping, Optional, Sequence, Tuple
+
+from .box import Box, Number, hull_of
+from .cover import KEPT, LETTERS, Name, kinds_of
 from .numbers import as_float
 
+if TYPE_CHECKING:
+    from .cover import Cover
+
 FILL = {"removed": "#cfd8dc", "inner": "#43a047", "small": "#fdd835", "open": "#ffffff"}
+PAINTED = ("removed", "open", "small", "inner")  # in this order: inner boxes lie on top
+Pair = Tuple[float, float]
+Shown = Tuple[str, Pair, Pair]
 
 
 class PlotsMissing(ImportError):
     """matplotlib is not installed."""
 
 
-def rectangles(cover, x, y, at=None, kinds=()):
+def two_variables(cover: Cover, x: Name, y: Name) -> Tuple[int, int]:
+    """The numbers of two variables; ValueError where they are one."""
+    first, second = cover.variable(x), cover.variable(y)
+    if first == second:
+        raise ValueError(f"a picture takes two variables, and both are {cover.name_of(first)}")
+    return first, second
+
+
+def rectangles(cover: Cover, x: Name, y: Name, at: Optional[Mapping[Name, Number]] = None,
+               kinds: Sequence[str] = ()) -> Iterator[Shown]:
     """What a slice shows: (class, (x low, x high), (y low, y high)) as floats that are rounded outward, of each box
-    that is seen where the other variables have the values of the dict `at`. Every other variable needs a value.
-    With kinds the boxes of these classes alone are shown."""
-    at = {cover.variable(name): value for name, value in (at or {}).items()}
-    x, y = cover.variable(x), cover.variable(y)
-    others = set(range(cover.dims)) - {x, y}
-    if x == y or set(at) != others:
-        missing = ", ".join(cover.name_of(k) for k in sorted(others ^ set(at))) or cover.name_of(x)
+    that is seen where the other variables have the values of the dict `at`. Every other variable needs a value within the
+    search box. With kinds the boxes of these classes alone are shown."""
+    values = {cover.variable(name): value for name, value in (at or {}).items()}
+    first, second = two_variables(cover, x, y)
+    others = set(range(cover.dims or 0)) - {first, second}
+    if set(values) != others:
+        missing = ", ".join(cover.name_of(k) for k in sorted(others ^ set(values)))
         raise ValueError(f"a slice takes two variables and a value (at) for each other one, and no more: look at {missing}; "
                          "a projection takes two variables alone")
-    for box in cover.slice(at, kinds):
-        floats = box.floats
-        yield box.kind, floats[x], floats[y]
+    return ((box.kind, floats[first], floats[second]) for box in cover.slice({k: value for k, value in values.items()}, kinds) for floats in [box.floats])
 
 
-def projection(cover, x, y, kinds=KEPT):
+def projection(cover: Cover, x: Name, y: Name, kinds: Sequence[str] = KEPT) -> Iterator[Shown]:
     """What the projection on two variables shows: the same of each kept box, inner ones last, so that they lie on top.
     With a point in the shadow of an inner box some values of the other variables are in the set, with one in no shadow
     none are."""
-    x, y = cover.variable(x), cover.variable(y)
-    order = {"open": 0, "small": 1, "inner": 2}
-    seen = {(box.kind, box.words[2 * x:2 * x + 2], box.words[2 * y:2 * y + 2]): box for box in cover.boxes(*kinds)}
-    for box in sorted(seen.values(), key=lambda box: order.get(box.kind, -1)):
-        floats = box.floats
-        yield box.kind, floats[x], floats[y]
+    first, second = two_variables(cover, x, y)
+    wanted = sorted(kinds_of(kinds), key=PAINTED.index)
+    return (shadow for kind in wanted for paving in cover.roots() for shadow in shadows_of(paving, kind, first, second))
 
 
-def axes_of(cover, x, y, near=False):
+def shadows_of(paving: Any, kind: str, x: int, y: int) -> Iterator[Shown]:
+    """The distinct shadows of one paving's boxes of a class."""
+    if kind == "removed":
+        yield from dict.fromkeys((kind, box.floats[x], box.floats[y]) for box in paving.boxes(kind))
+        return
+    table = paving.tree.table
+    seen = dict.fromkeys([(ends[2 * x], ends[2 * x + 1], ends[2 * y], ends[2 * y + 1])
+                          for ends in paving.tree.ends_of(LETTERS[kind]) if ends is not None])
+    lows, highs = table.floats(False), table.floats(True)
+    for a, b, c, d in seen:
+        yield kind, (lows[a], highs[b]), (lows[c], highs[d])
+
+
+def axes_of(cover: Cover, x: Name, y: Name, near: bool = False) -> Tuple[Pair, Pair]:
     """The ends of the two axes: those of the search box; of what is kept where that box is unknown, or with near."""
-    from .cover import Box, hull_of
-    x, y = cover.variable(x), cover.variable(y)
-    roots = [Box("open", paving.root) for paving in cover.roots()] if cover.boxes_known() and not near else []
-    hull = hull_of(roots or cover.boxes(*KEPT))
+    first, second = cover.variable(x), cover.variable(y)
+    known = cover.boxes_known() and not near
+    hull = hull_of(Box("open", paving.root) for paving in cover.roots() if paving.root) if known else cover.hull()
     if hull is None:
         raise ValueError("nothing is kept to draw" if near else "nothing is kept, and the search box is not known")
-    return tuple((as_float(hull[k][0], False), as_float(hull[k][1], True)) for k in (x, y))
+    return ((as_float(hull[first][0], False), as_float(hull[first][1], True)),
+            (as_float(hull[second][0], False), as_float(hull[second][1], True)))
 
 
-def finite(rectangle, axes):
+def finite(rectangle: Sequence[Pair], axes: Sequence[Pair]) -> List[Pair]:
     """A rectangle with its infinite ends moved to the edge of the picture."""
     return [(max(low, axis[0]), min(high, axis[1])) for (low, high), axis in zip(rectangle, axes)]
 
 
-def drawing():
+def drawing() -> Tuple[Any, Any, Any]:
+    """What is used of matplotlib."""
     try:
-        import matplotlib.pyplot as pyplot
-        from matplotlib.collections import PolyCollection
-        from matplotlib.patches import Patch
+        import matplotlib.pyplot as pyplot  # type: ignore[import]
+        from matplotlib.collections import PolyCollection  # type: ignore[import]
+        from matplotlib.patches import Patch  # type: ignore[import]
     except ImportError as fault:
         raise PlotsMissing("plots need matplotlib: python3 -m pip install matplotlib") from fault
     return pyplot, PolyCollection, Patch
 
 
-def draw(cover, x, y, shown, ax, title, equal, near):
+def draw(cover: Cover, x: Name, y: Name, shown: Iterator[Shown], ax: Any, title: Optional[str], equal: bool,
+         near: bool) -> Any:
+    """Draws rectangles into axes: one collection a class."""
     pyplot, collection, patch = drawing()
-    ax = ax or pyplot.gca()
     axes = finite_axes(axes_of(cover, x, y, near))
-    for kind, *pairs in grouped(shown):
-        polygons = [[(a, c), (b, c), (b, d), (a, d)] for (a, b), (c, d) in (finite(pair, axes) for pair in pairs)]
-        ax.add_collection(collection(polygons, facecolors=FILL[kind], edgecolors="#90a4ae", linewidths=0.3))
+    groups = grouped(shown)
+    ax = ax or pyplot.gca()
+    for kind, pairs in groups.items():
+        polygons = [((a, c), (b, c), (b, d), (a, d)) for (a, b), (c, d) in (finite(pair, axes) for pair in pairs)]
+        ax.add_collection(collection(polygons, facecolors=FILL[kind], edgecolors="#90a4ae", linewidths=0.3), autolim=False)
     ax.set_facecolor(FILL["removed"])
     ax.set_xlim(*axes[0])
     ax.set_ylim(*axes[1])
@@ -84,7 +116,7 @@ def draw(cover, x, y, shown, ax, title, equal, near):
     return ax
 
 
-def finite_axes(axes):
+def finite_axes(axes: Sequence[Pair]) -> List[Pair]:
     """Axes for a picture: an infinite end becomes ten beyond the other end or beyond 0."""
     low_high = []
     for low, high in axes:
@@ -94,28 +126,25 @@ def finite_axes(axes):
     return low_high
 
 
-def grouped(shown):
-    """Runs of rectangles of one class, in order: (class, rectangle, rectangle, ..)."""
-    run = []
+def grouped(shown: Iterator[Shown]) -> Dict[str, List[Tuple[Pair, Pair]]]:
+    """The rectangles of each class, in the order in which the classes are painted."""
+    found: Dict[str, List[Tuple[Pair, Pair]]] = {kind: [] for kind in PAINTED}
     for kind, *pair in shown:
-        if run and run[0] != kind:
-            yield tuple(run)
-            run = []
-        run = run or [kind]
-        run.append(pair)
-    if run:
-        yield tuple(run)
+        found[kind].append((pair[0], pair[1]))
+    return {kind: pairs for kind, pairs in found.items() if pairs}
 
 
-def plot(cover, x=0, y=1, at=None, ax=None, title=None, equal=True, near=False):
+def plot(cover: Cover, x: Name = 0, y: Name = 1, at: Optional[Mapping[Name, Number]] = None, ax: Any = None,
+         title: Optional[str] = None, equal: bool = True, near: bool = False) -> Any:
     """Draws a slice into matplotlib axes (the current ones where none are given) and gives them. Inner boxes are
     green, small ones yellow, open leaves white, removed parts grey. Scales are equal unless equal is False; with near
     the axes end where what is kept ends. The legend lies beside the axes: savefig takes it with bbox_inches="tight".
-    PlotsMissing without matplotlib."""
-    return draw(cover, x, y, rectangles(cover, x, y, at), ax, title, equal, near)
+    ValueError where a value of `at` lies outside the search box; PlotsMissing without matplotlib."""
+    return draw(cover, x, y, rectangles(cover, x, y, at, KEPT), ax, title, equal, near)
 
 
-def plot_projection(cover, x=0, y=1, ax=None, title=None, equal=True, near=False):
+def plot_projection(cover: Cover, x: Name = 0, y: Name = 1, ax: Any = None, title: Optional[str] = None, equal: bool = True,
+                    near: bool = False) -> Any:
     """Draws the projection of what is kept on two variables: green says that some values of the other variables are in
     the set, grey that none are."""
     return draw(cover, x, y, projection(cover, x, y), ax, title, equal, near)

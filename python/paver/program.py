@@ -1,25 +1,30 @@
 """The program's commands as functions. Each runs the program once, and raises an exception of errors.py for every
 status but 0 and 1."""
+from __future__ import annotations
+
 import os
 import re
 import shutil
 import subprocess
 import tempfile
+from contextlib import contextmanager
 from dataclasses import dataclass, field
-from decimal import Decimal
-from fractions import Fraction
 from itertools import takewhile
 from pathlib import Path
+from typing import Any, Dict, Iterable, Iterator, List, Mapping, NoReturn, Optional, Sequence, Tuple, Union
 
-from . import errors, numbers
+from . import beside, errors, identity
+from .box import exact_number
 from .canonical import System
-from .paving import Paving, read_summary
+from .options import COMMANDS, LATER, OPTIONS, SETTINGS, faults, number_text, spelled
+from .paving import Paving, in_words, read_summary
 
-OPTIONS = ("eps", "depth", "bisect", "contract", "boxes", "workers")
-SETTINGS = ("eps", "depth", "bisect", "contract")
+PathName = Union[str, "os.PathLike[str]"]
+Pavings = Union[PathName, Iterable[PathName]]
+MOST_BYTES = 65536  # of a system's text
 
 
-def find(program=None):
+def find(program: Optional[str] = None) -> str:
     """The program's path: the argument, else the variable PAVER, else `paver` on PATH. ProgramMissing where none is."""
     named = program or os.environ.get("PAVER")
     found = shutil.which(str(named)) if named else shutil.which("paver")
@@ -28,61 +33,96 @@ def find(program=None):
     return os.path.abspath(found)
 
 
-def spelled(name, value):
-    """An option's value in words. eps may be a number of any exact kind, or a float, which is taken exactly."""
-    if name != "eps" or isinstance(value, str):
-        return str(value)
-    text = numbers.minibex(Fraction(Decimal(value)) if isinstance(value, float) else Fraction(value))
-    if text is None or text.startswith("-"):
-        raise ValueError(f"eps {value} can't be written as a Minibex number: give a text")
-    return text
-
-
-def option_words(settings, known=OPTIONS):
+def option_words(settings: Mapping[str, Any], known: Sequence[str] = OPTIONS) -> List[str]:
     """The words of the options that are given, as `--eps=0.5`."""
-    unknown = set(settings) - set(known)
+    unknown = {name for name, value in settings.items() if value is not None} - set(known)
     if unknown:
         raise TypeError(f"unknown option {sorted(unknown)[0]}")
     return [f"--{name}={spelled(name, settings[name])}" for name in known if settings.get(name) is not None]
 
 
-@dataclass
+def source_of(system: PathName) -> Optional[bytes]:
+    """The bytes of a system's file, as many as the program reads; None where it is no regular file."""
+    try:
+        if not os.path.isfile(system):
+            return None
+        with open(system, "rb") as file:
+            return file.read(MOST_BYTES + 1)
+    except OSError:
+        return None
+
+
+@dataclass(repr=False)
 class Answer:
     """What run, run_centered, resume, merge and campaign answered: status 0, or 1 where leaves are open. `command` is the
     program's word for which of them; `out` is the file where the paving is, or a campaign's database; None where it was
-    printed."""
+    printed. `source` is the system's text as it was paved: editing its file changes nothing here."""
     command: str
     status: int
     text: str
     system: Path
     program: str
-    settings: dict = field(default_factory=dict)
-    out: str = None
+    settings: Dict[str, Any] = field(default_factory=dict)
+    out: Optional[str] = None
+    source: Optional[bytes] = None
+    _paving: Optional[Paving] = None
+    _known: Optional[System] = None
 
     @property
-    def summary(self):
+    def summary(self) -> Dict[str, int]:
         """The counts of the summary line: settled, cut, removed, inner, small, open."""
         return read_summary(self.text.split("\n", 1)[0], 1)
 
     @property
-    def complete(self):
+    def complete(self) -> bool:
         """Whether no leaf is open."""
         return self.status == 0
 
-    def paving(self):
-        """The paving, with the root box and names that the program's check gives."""
-        known = check(self.system, program=self.program)
-        if self.out is not None:
-            return Paving.read(self.out, system=known)
-        return Paving.from_text(self.text, system=known)
+    @property
+    def known(self) -> System:
+        """The system as the program understood it when it was paved."""
+        if self._known is None:
+            self._known = check(self.system, program=self.program) if self.source is None else \
+                check_text(self.source, program=self.program)
+        return self._known
 
-    def warnings(self, paving=None):
+    def paving(self) -> Paving:
+        """The paving, with the root box and names of the system as it was paved. A stored one is read from its file, whose
+        identity and counts have to be those of this answer."""
+        if self._paving is None:
+            self._paving = self._read()
+        return self._paving
+
+    def _read(self) -> Paving:
+        if self.out is None:
+            return Paving.from_text(self.text, system=self.known, identity=None)
+        settings = {name: value for name, value in self.settings.items() if name in (*SETTINGS, "form")}
+        wanted = identity.identity_of(self.known, settings)
+        paving = Paving.read(self.out, system=self.known, identity=wanted)
+        if paving.counts() != self.summary:
+            raise errors.PavingRefused(4, f"paving {self.out}: it was written anew since this answer", name=self.out,
+                                       cause="written anew", row=None)
+        return paving
+
+    def warnings(self, paving: Optional[Paving] = None) -> List[str]:
         """What a reader of the answer should know: see advice.py."""
         from .advice import warnings_of
         return warnings_of(self, paving or self.paving())
 
+    def __repr__(self) -> str:
+        counts = " ".join(f"{name} {count}" for name, count in self.summary.items() if count)
+        where = "" if self.out is None else f", in {self.out}"
+        return f"<{self.command} of {self.system.name}: {counts}{where}>"
 
-def call(words, program=None, timeout=None):
+    def _repr_svg_(self) -> Optional[str]:
+        return self.paving()._repr_svg_()
+
+    def _repr_html_(self) -> str:
+        from .notebook import html_of
+        return html_of(self.paving(), f"{self.command} of {self.system.name}{in_words(self.paving())}", self.warnings())
+
+
+def call(words: Sequence[Any], program: Optional[str] = None, timeout: Optional[float] = None) -> Tuple[int, str, str]:
     """Runs the program with the words, and gives its status, standard output and standard error as texts."""
     path = find(program)
     done = subprocess.run([path, *map(str, words)], stdin=subprocess.DEVNULL, stdout=subprocess.PIPE,
@@ -90,7 +130,7 @@ def call(words, program=None, timeout=None):
     return done.returncode, done.stdout.decode("utf-8"), done.stderr.decode("utf-8", "replace").rstrip("\n")
 
 
-PATTERNS = [
+PATTERNS: List[Tuple[int, type[errors.PaverError], str]] = [
     (2, errors.ContractRefused, r"contract: refused at byte (?P<byte>\d+)"),
     (2, errors.ObjectiveRefused, r"objective: byte (?P<byte>\d+): (?P<cause>\w+)"),
     (2, errors.UsageError, r"usage: .*"),
@@ -109,7 +149,7 @@ PATTERNS = [
 NUMERIC = {"byte", "row", "column", "settled"}
 
 
-def fault_of(status, line):
+def fault_of(status: int, line: str) -> errors.PaverError:
     """The exception of a status and its line on standard error."""
     for number, kind, pattern in PATTERNS:
         match = re.fullmatch(pattern, line, re.S)
@@ -119,131 +159,224 @@ def fault_of(status, line):
     return errors.ProgramFault(status, line)
 
 
-def asked(words, program, timeout):
+def asked(words: Sequence[Any], program: Optional[str], timeout: Optional[float]) -> Tuple[int, str]:
     """The status and standard output of a call with status 0 or 1; else its exception."""
     status, out, line = call(words, program, timeout)
     if status in (0, 1):
         return status, out
     fault = fault_of(status, line)
     if type(fault) is errors.UsageError:
-        stores = ["run --out"] if words[0] == "run" and any(str(w).startswith("--out=") for w in words) else [words[0]]
-        for command in stores:
-            if not has(command, program):
-                raise errors.NotInProgram(status, f"the program has no `{command}`: it is older than this package")
-        fault.args = (option_sentences(words) or line,)
+        refuse_usage(fault, list(map(str, words)), program)
     raise fault
 
 
-def option_sentences(words):
-    """What is wrong with the settings, the budget and the workers among the words of a call, in sentences."""
-    from .explain import option_faults  # which calls this module
-    options = takewhile(lambda word: word != "--", map(str, words[1:]))
-    return " ".join(option_faults([word for word in options if word[2:].split("=")[0] in OPTIONS]))
+def refuse_usage(fault: errors.PaverError, words: Sequence[str], program: Optional[str]) -> NoReturn:
+    """The exception of words that are refused: it says which command or option an older program lacks, or what is wrong."""
+    names = [word[2:].partition("=")[0] for word in takewhile(lambda word: word != "--", words[1:])]
+    later = [f"{words[0]} --{name}" for name in names if name in (*LATER, "out") or (words[0], name) == ("audit", "workers")]
+    for command in [words[0], *later]:
+        if not has(command, program):
+            raise errors.NotInProgram(fault.status, f"the program has no `{command}`: it is older than this package")
+    said = " ".join(sentence for sentence in faults(words[0], words[1:]))
+    fault.args = (said or fault.line,)
+    raise fault
 
 
-def has(command, program=None):
-    """Whether the program has a command, or `run --out`: with it, a system that is not there is no file. A sample needs no
-    system."""
-    if command == "sample":
+HARMLESS = {"out": "none", "limit": "100000", "form": "plain", "order": "depth", "share": "0/1", "workers": "1"}
+
+
+def has(command: str, program: Optional[str] = None) -> bool:
+    """Whether the program has a command, or a command's option, as `run --out`: with it, a system that is not there is no
+    file. A sample needs no system."""
+    name, _, option = command.partition(" --")
+    if name == "sample":
         return call(["sample", "--seed=1", "--count=1"], program)[0] == 0
-    words = {"run --out": ["run", "--out=none"]}.get(command, [command])
-    pavings = ["none"] if command in ("resume", "merge", "audit", "audit-centered", "svg") else []
-    words += {"svg": ["--x=x", "--y=y"], "least": ["--of=x"], "campaign": ["--keep=none"]}.get(command, [])
+    words = [name, *([f"--{option}={HARMLESS[option]}"] if option else [])]
+    words += {"least": ["--of=1"], "campaign": ["--keep=none"], "svg": ["--x=x", "--y=y"]}.get(name, [])
+    pavings = ["none"] if name in ("resume", "merge", "audit", "audit-centered", "svg") else []
     return call([*words, "--", "/no such folder/no such system", *pavings], program)[0] == 11
 
 
-def check(system, *, program=None, timeout=None):
+def check(system: PathName, *, program: Optional[str] = None, timeout: Optional[float] = None) -> System:
     """The system as the program understood it."""
     return System.from_text(asked(["check", "--", system], program, timeout)[1])
 
 
-def check_text(text, *, program=None, timeout=None):
+def check_text(text: Union[str, bytes], *, program: Optional[str] = None, timeout: Optional[float] = None) -> System:
     """The same for a system's text."""
-    with tempfile.TemporaryDirectory() as folder:
-        name = Path(folder) / "system.mbx"
-        name.write_text(text)
+    with as_file(text) as name:
         return check(name, program=program, timeout=timeout)
 
 
-def paved(command, system, pavings, out, settings, known, program, timeout):
-    words = [command, *option_words(settings, known)]
-    words += [f"--out={out}"] if out is not None else []
-    status, text = asked([*words, "--", system, *pavings], program, timeout)
-    kept = {name: value for name, value in settings.items() if value is not None}
-    return Answer(command, status, text, Path(system), find(program), kept, None if out is None else str(out))
+@contextmanager
+def as_file(text: Union[str, bytes]) -> Iterator[Path]:
+    """A file of a system's text, for as long as it is needed."""
+    with tempfile.TemporaryDirectory() as folder:
+        name = Path(folder) / "system.mbx"
+        name.write_bytes(text.encode() if isinstance(text, str) else text)
+        yield name
 
 
-def run(system, *, out=None, program=None, timeout=None, **options):
-    """Paves a system. Options: eps, depth, bisect, contract, boxes, workers; out stores the paving in a file."""
-    return paved("run", system, [], out, options, OPTIONS, program, timeout)
+def paved(command: str, system: PathName, pavings: Sequence[PathName], out: Optional[PathName], given: Mapping[str, Any],
+          program: Optional[str], timeout: Optional[float], more: Sequence[str] = ()) -> Answer:
+    """The answer of a command that paves. Settings that aren't given come from beside the pavings."""
+    source = source_of(system)
+    settings = {name: value for name, value in beside.with_kept(pavings, given).items() if value is not None}
+    words = [command, *option_words(settings, COMMANDS[command]), *more]
+    words += [f"--out={os.fspath(out)}"] if out is not None else []
+    status, text = named(lambda: asked([*words, "--", system, *pavings], program, timeout), system, pavings, settings, program)
+    if source is not None and source != source_of(system):
+        raise errors.SystemEdited(None, f"{os.fspath(system)} was edited while it was paved: call again")
+    if command == "run-centered":
+        settings["form"] = "centered"
+    kept_in = out if command != "campaign" else given["keep"]
+    where = None if kept_in is None else os.fspath(kept_in)
+    if where is not None:
+        beside.keep(where, command, system, source, settings)
+    settings.pop("keep", None)
+    return Answer(command, status, text, Path(system), find(program), settings, where, source)
 
 
-def run_centered(system, *, out=None, program=None, timeout=None, **options):
+def named(work: Any, system: PathName, pavings: Sequence[PathName], settings: Mapping[str, Any],
+          program: Optional[str]) -> Any:
+    """What a call gives; a wrong identity says which settings may differ."""
+    try:
+        return work()
+    except errors.PavingRefused as fault:
+        if fault.cause == "wrong identity":
+            stored = beside.identity_of(fault.name)
+            if stored is not None:
+                fault.args = (f"{fault.line}: {identity.reason(check(system, program=program), stored, settings)}.",)
+        raise
+
+
+def run(system: PathName, *, eps: Any = None, depth: Any = None, bisect: Optional[str] = None, contract: Optional[str] = None,
+        boxes: Any = None, workers: Any = None, limit: Any = None, form: Optional[str] = None, order: Optional[str] = None,
+        out: Optional[PathName] = None, program: Optional[str] = None, timeout: Optional[float] = None) -> Answer:
+    """Paves a system. eps and the whole numbers may be of any kind: a float is taken as it is written, so that eps=0.1 is
+    `--eps 0.1`. out stores the paving in a file, and the settings in another beside it, `out`.json."""
+    given = dict(eps=eps, depth=depth, bisect=bisect, contract=contract, boxes=boxes, workers=workers, limit=limit, form=form,
+                 order=order)
+    return paved("run", system, [], out, given, program, timeout)
+
+
+def run_text(text: Union[str, bytes], *, eps: Any = None, depth: Any = None, bisect: Optional[str] = None,
+             contract: Optional[str] = None, boxes: Any = None, workers: Any = None, limit: Any = None,
+             form: Optional[str] = None, order: Optional[str] = None, out: Optional[PathName] = None,
+             program: Optional[str] = None, timeout: Optional[float] = None) -> Answer:
+    """The same for a system's text."""
+    with as_file(text) as name:
+        return run(name, eps=eps, depth=depth, bisect=bisect, contract=contract, boxes=boxes, workers=workers, limit=limit,
+                   form=form, order=order, out=out, program=program, timeout=timeout)
+
+
+def run_centered(system: PathName, *, eps: Any = None, depth: Any = None, bisect: Optional[str] = None,
+                 contract: Optional[str] = None, boxes: Any = None, workers: Any = None, limit: Any = None,
+                 order: Optional[str] = None, out: Optional[PathName] = None, program: Optional[str] = None,
+                 timeout: Optional[float] = None) -> Answer:
     """As run, where boxes are tested by centered forms, too."""
-    return paved("run-centered", system, [], out, options, OPTIONS, program, timeout)
+    given = dict(eps=eps, depth=depth, bisect=bisect, contract=contract, boxes=boxes, workers=workers, limit=limit, order=order)
+    return paved("run-centered", system, [], out, given, program, timeout)
 
 
-def resume(system, pavings, *, out=None, program=None, timeout=None, **options):
-    """Joins 1 to 8 stored pavings of the system under the same settings, and goes on from there."""
-    return paved("resume", system, listed(pavings), out, options, OPTIONS, program, timeout)
+def resume(system: PathName, pavings: Pavings, *, eps: Any = None, depth: Any = None, bisect: Optional[str] = None,
+           contract: Optional[str] = None, boxes: Any = None, workers: Any = None, limit: Any = None,
+           form: Optional[str] = None, order: Optional[str] = None, share: Optional[str] = None,
+           out: Optional[PathName] = None, program: Optional[str] = None, timeout: Optional[float] = None) -> Answer:
+    """Joins 1 to 8 stored pavings of the system under the same settings, and goes on from there. Settings that aren't given
+    are those that were kept beside the first file."""
+    given = dict(eps=eps, depth=depth, bisect=bisect, contract=contract, boxes=boxes, workers=workers, limit=limit, form=form,
+                 order=order, share=share)
+    return paved("resume", system, listed(pavings), out, given, program, timeout)
 
 
-def merge(system, pavings, *, out=None, program=None, timeout=None, **settings):
-    """Joins 1 to 8 stored pavings of the system under the same settings."""
-    return paved("merge", system, listed(pavings), out, settings, SETTINGS, program, timeout)
+def merge(system: PathName, pavings: Pavings, *, eps: Any = None, depth: Any = None, bisect: Optional[str] = None,
+          contract: Optional[str] = None, limit: Any = None, form: Optional[str] = None, out: Optional[PathName] = None,
+          program: Optional[str] = None, timeout: Optional[float] = None) -> Answer:
+    """Joins 1 to 8 stored pavings of the system under the same settings: those kept beside the first file, where they aren't
+    given."""
+    given = dict(eps=eps, depth=depth, bisect=bisect, contract=contract, limit=limit, form=form)
+    return paved("merge", system, listed(pavings), out, given, program, timeout)
 
 
-def campaign(system, keep, *, rounds=None, program=None, timeout=None, **options):
+def campaign(system: PathName, keep: PathName, *, rounds: Any = None, eps: Any = None, depth: Any = None,
+             bisect: Optional[str] = None, contract: Optional[str] = None, boxes: Any = None, workers: Any = None,
+             limit: Any = None, form: Optional[str] = None, order: Optional[str] = None, program: Optional[str] = None,
+             timeout: Optional[float] = None) -> Answer:
     """Goes on with the paving that is kept in the database `keep`, or begins one there, for 1 to 100 rounds (else one).
     Each round settles at most `boxes` nodes and keeps them before the next begins, so what whole rounds settled stays
     whatever ends the call. With status 1 the same call again goes on from there."""
-    words = ["campaign", *option_words(options, OPTIONS), f"--keep={keep}"]
-    words += [] if rounds is None else [f"--rounds={rounds}"]
-    status, text = asked([*words, "--", system], program, timeout)
-    kept = {name: value for name, value in options.items() if value is not None}
-    return Answer("campaign", status, text, Path(system), find(program), kept, str(keep))
+    given = dict(eps=eps, depth=depth, bisect=bisect, contract=contract, boxes=boxes, workers=workers, limit=limit, form=form,
+                 order=order, keep=os.fspath(keep))
+    more = [] if rounds is None else [f"--rounds={spelled('rounds', rounds)}"]
+    return paved("campaign", system, [], None, given, program, timeout, more)
 
 
-def audit(system, paving, *, program=None, timeout=None, **settings):
-    """Has every settled node of a stored paving recomputed. True where it is honest; Disagree where a node differs."""
+def audit(system: PathName, paving: PathName, *, eps: Any = None, depth: Any = None, bisect: Optional[str] = None,
+          contract: Optional[str] = None, workers: Any = None, limit: Any = None, form: Optional[str] = None,
+          program: Optional[str] = None, timeout: Optional[float] = None) -> bool:
+    """Has every settled node of a stored paving recomputed. True where it is honest; Disagree where a node differs. Settings
+    that aren't given are those that were kept beside the file."""
+    given = dict(eps=eps, depth=depth, bisect=bisect, contract=contract, workers=workers, limit=limit, form=form)
+    settings = beside.with_kept([paving], given)
+    if form is None and settings.get("form") == "centered":
+        return honest("audit-centered", system, paving, {**settings, "form": None}, program, timeout)
     return honest("audit", system, paving, settings, program, timeout)
 
 
-def audit_centered(system, paving, *, program=None, timeout=None, **settings):
+def audit_centered(system: PathName, paving: PathName, *, eps: Any = None, depth: Any = None, bisect: Optional[str] = None,
+                   contract: Optional[str] = None, workers: Any = None, limit: Any = None, program: Optional[str] = None,
+                   timeout: Optional[float] = None) -> bool:
     """The same for a stored paving of run_centered."""
-    return honest("audit-centered", system, paving, settings, program, timeout)
+    given = dict(eps=eps, depth=depth, bisect=bisect, contract=contract, workers=workers, limit=limit)
+    return honest("audit-centered", system, paving, {**beside.with_kept([paving], given), "form": None}, program, timeout)
 
 
-def honest(command, system, paving, settings, program, timeout):
-    _, text = asked([command, *option_words(settings, SETTINGS), "--", system, paving], program, timeout)
+def honest(command: str, system: PathName, paving: PathName, settings: Mapping[str, Any], program: Optional[str],
+           timeout: Optional[float]) -> bool:
+    """Whether an audit said so; every other answer is an exception."""
+    words = [command, *option_words(settings, COMMANDS[command]), "--", system, paving]
+    known = {**settings, "form": "centered"} if command == "audit-centered" else settings
+    _, text = named(lambda: asked(words, program, timeout), system, [paving], known, program)
     if text != "honest\n":
         raise errors.ProgramFault(0, f"{command} answered {text!r}")
     return True
 
 
-def draw(system, paving, x, y, *, at=None, program=None, timeout=None, **settings):
+def draw(system: PathName, paving: PathName, x: Union[str, int], y: Union[str, int], *, at: Optional[Sequence[Any]] = None,
+         eps: Any = None, depth: Any = None, bisect: Optional[str] = None, contract: Optional[str] = None, limit: Any = None,
+         form: Optional[str] = None, program: Optional[str] = None, timeout: Optional[float] = None) -> str:
     """The picture of a stored paving on the plane of two variables, as the program draws it: SVG text. `at` has the
-    numbers of the other variables in their order."""
-    words = ["svg", *option_words(settings, SETTINGS), f"--x={x}", f"--y={y}"]
+    numbers of the other variables in their order: ValueError where one lies outside the search box, where the program's
+    picture is empty. Settings that aren't given are those that were kept beside the file."""
+    given = dict(eps=eps, depth=depth, bisect=bisect, contract=contract, limit=limit, form=form)
+    settings = beside.with_kept([paving], given)
+    if at:
+        need_within(check(system, program=program), x, y, at)
+    words = ["svg", *option_words(settings, COMMANDS["svg"]), f"--x={x}", f"--y={y}"]
     words += [f"--at={','.join(level(n) for n in at)}"] if at else []
-    return asked([*words, "--", system, paving], program, timeout)[1]
+    text: str = named(lambda: asked([*words, "--", system, paving], program, timeout), system, [paving], settings, program)[1]
+    return text
 
 
-def level(number):
-    """A number of `--at` in words."""
-    if isinstance(number, str):
-        return number
-    exact = Fraction(Decimal(number)) if isinstance(number, float) else Fraction(number)
-    text = numbers.minibex(abs(exact))
-    if text is None:
-        raise ValueError(f"{number} can't be written as a Minibex number: give a text")
-    return f"-{text}" if exact < 0 else text
+def need_within(system: System, x: Union[str, int], y: Union[str, int], at: Sequence[Any]) -> None:
+    """ValueError where a number of a slice lies outside the search box."""
+    frame = Paving(["O"], root=system.root, names=system.names)
+    others = [k for k, name in enumerate(system.names) if name not in (str(x), str(y))]
+    if len(others) == len(at):
+        frame.need_within({k: exact_number(level(value)) for k, value in zip(others, at)})
 
 
-def sample(seed, count, *, program=None, timeout=None):
+def level(number: Any) -> str:
+    """A number of `--at` in words, a float as it is written."""
+    return number if isinstance(number, str) else number_text(number, "at", True)
+
+
+def sample(seed: int, count: int, *, program: Optional[str] = None, timeout: Optional[float] = None) -> str:
     """The three lines that the program prints of the system that a number makes."""
     return asked(["sample", f"--seed={seed}", f"--count={count}"], program, timeout)[1]
 
 
-def listed(pavings):
+def listed(pavings: Pavings) -> List[PathName]:
+    """One file's name, or several, as a list."""
     return [pavings] if isinstance(pavings, (str, os.PathLike)) else list(pavings)

@@ -319,7 +319,7 @@ def holds(c: object, point: Sequence[Fraction]) -> bool:
 def robust(system: str | Path, for_all: Iterable[str], *, vertices: bool = True, centered: bool = True,
            widen: str | Fraction | None = None, program_path: str | None = None, **options: object) -> Robust:
     """The values of a system's other variables with which all constraints hold for all values of some, `for_all`, in their
-    domains. Options: eps, depth, bisect, boxes, workers. With vertices a parameter in which a constraint is convex, affine
+    domains. Options: eps, depth, bisect, boxes, workers, limit. With vertices a parameter in which a constraint is convex, affine
     at best, stands at its ends there. NotRobust where a constraint is an equation, a parameter has no bounded domain, or
     there are too many constraints. Where the budget ends the run, what is said is right as far as it goes."""
     known, names = program.check(system, program=program_path), list(for_all)

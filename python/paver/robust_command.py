@@ -12,7 +12,7 @@ from .picture import svg
 from .robust import SHOWN, Robust, robust, vertices_text
 from .widen import widened_file
 
-OPTIONS = ("eps", "depth", "bisect", "boxes", "workers")
+OPTIONS = ("eps", "depth", "bisect", "boxes", "workers", "limit")
 
 
 def add_options(command: argparse.ArgumentParser) -> None:

@@ -5,12 +5,16 @@ is. Let f be the differences of the sides of the equations, X a box, m its middl
 matrix near the inverse of A's middle. Every root in X lies in K = m - Y f(m) + (1 - Y A)(X - m). Where K misses X there
 is none; where K lies within X's inner part there is exactly one.
 """
+from __future__ import annotations
+
 from dataclasses import dataclass
 from fractions import Fraction
+from typing import Any, List, Optional, Tuple
 
 from . import intervals as iv
-from .canonical import value
-from .cover import Box
+from .box import Box, Number
+from .canonical import System, value
+from .cover import Cover
 
 TESTED = "this step is tested and not proved, as the paving is"
 ONE, NONE, UNDECIDED = "one root, here", "none", "undecided"
@@ -28,13 +32,13 @@ class Root:
     else it is the cluster's hull; within is the box that holds no other root; boxes is how many the cluster has;
     remark says what else is to be known, or is empty."""
     verdict: str
-    box: tuple
+    box: Tuple[Tuple[Any, Any], ...]
     boxes: int
     remark: str = ""
-    within: tuple = None
+    within: Optional[Tuple[Tuple[Any, Any], ...]] = None
 
     @property
-    def middle(self):
+    def middle(self) -> Tuple[Any, ...]:
         """The middle of the box, in Fractions."""
         return tuple((low + high) / 2 for low, high in self.box)
 
@@ -42,7 +46,7 @@ class Root:
 class Equations:
     """The equations and the other constraints of a system, and its search box as pairs of exact values."""
 
-    def __init__(self, system, root):
+    def __init__(self, system: System, root: Any) -> None:
         self.equations = [c for c in system.constraints if c.relation == "="]
         self.others = [c for c in system.constraints if c.relation != "="]
         self.root = root
@@ -218,7 +222,7 @@ def with_constraints(equations, root):
     return root
 
 
-def find_roots(system, paving, gap=0):
+def find_roots(system: System, paving: Cover, gap: Number = 0) -> List[Root]:
     """A Root for each cluster of the paving's boxes that are not removed. The system is what program.check gave.
     NotSquare where it has not as many equations as variables; ValueError where a kept box is unbounded."""
     equations = Equations(system, Box("open", system.root).exact)

@@ -1,14 +1,17 @@
 """One page of HTML that shows pavings of a system in any browser, with no network: see viewer/ for its parts."""
 import base64
+import copy
 import hashlib
 import json
 from html import escape
 from pathlib import Path
 
+from . import beside
 from . import program as calls
 from .canonical import System
 from .errors import PavingError
 from .numbers import as_float
+from .options import CHOICES, DEFAULTS, SETTINGS
 from .packed import packed
 from .paving import Paving
 
@@ -16,7 +19,8 @@ PARTS = Path(__file__).parent / "viewer"
 SCRIPTS = ("numbers.js", "tree.js", "paint.js", "search.js", "constraints.js", "axes.js", "colours.js", "panes.js",
            "pictures.js", "facts.js", "app.js")
 UNKNOWN = "not compared"
-DEFAULTS = {"eps": "0.125", "depth": "60", "bisect": "largest", "contract": "prop(8)"}
+OF_RUN = ("boxes", "workers", "limit")
+COMMANDS = {"plain": "run", "centered": "run-centered"}  # that make pavings of each form
 
 
 class View:
@@ -37,16 +41,17 @@ class View:
 
 
 def named_settings(settings):
-    """The settings that make an identity, as texts, with the program's defaults."""
+    """The settings that make an identity but for the form, as texts, with the program's defaults."""
     given = {name: calls.spelled(name, value) for name, value in settings.items() if value is not None}
-    return {name: given.get(name, default) for name, default in DEFAULTS.items()}
+    return {name: given.get(name, DEFAULTS[name]) for name in SETTINGS}
 
 
-def command_of(paving, system, settings, unchecked, name):
-    """Which command's paving this is, by its identity. PavingError where it is not this system's under these settings."""
-    for command, centered in (("run", False), ("run-centered", True)):
-        if paving.identity == system.identity(**settings, centered=centered):
-            return command
+def command_of(paving, system, settings, form, unchecked, name):
+    """Which command's paving this is, by its identity; of either form, where none is given. PavingError where it is not this
+    system's under these settings."""
+    for known in [form] if form else CHOICES["form"]:
+        if paving.identity == system.identity(**settings, form=known):
+            return COMMANDS[known]
     if unchecked:
         return UNKNOWN
     if paving.identity is None:
@@ -106,37 +111,43 @@ def page_of_text(canonical, pavings, title="paving", source=""):
     return View(page(system, source, [entry(paving, {}, UNKNOWN, f"paving {k}") for k, paving in enumerate(pavings)], title))
 
 
-def read_one(given, system, program):
-    """A paving, its name and the settings that are known of it: of a file, a Paving, or an Answer."""
+def read_one(given, system, settings):
+    """A paving, its name and the settings under which its identity is to be compared: of a file, a Paving, or an Answer.
+    Nothing is compared here."""
     if isinstance(given, Paving):
-        return given, "paving", {}
+        return given, "paving", settings
     if isinstance(given, calls.Answer):
-        return given.paving(), given.command, given.settings
-    return Paving.read(given, system=system, program=program), Path(given).name, {}
+        known = {name: value for name, value in given.settings.items() if name in beside.KEPT_SETTINGS}
+        paving = copy.copy(given.paving())
+        if paving.identity is None:  # it was printed: it is that of the answer's own system
+            paving.identity = given.known.identity(**known)
+        return paving, given.command, {**settings, **known}
+    return Paving.read(given, system=system, identity=None), Path(given).name, beside.with_kept([given], settings)
 
 
 def run_one(path, system, settings, centered, options, program):
     """An entry of the system's own run."""
     work = calls.run_centered if centered else calls.run
     answer = work(path, program=program, **settings, **options)
-    paving, command = Paving.from_text(answer.text, system=system), "run-centered" if centered else "run"
-    named = named_settings(settings)
-    paving.identity = system.identity(**named, centered=centered)
-    return entry(paving, named, command, command)
+    paving, command, known = read_one(answer, system, {})
+    named, form = named_settings(known), known.get("form", "plain")
+    return entry(paving, named, command_of(paving, system, named, form, False, command), command)
 
 
 def view(system, pavings=None, *, settings=None, title=None, unchecked=False, centered=False, program=None, **options):
     """A page that shows pavings of a system: stored files, databases of campaigns, Pavings or Answers, one or several; with
     none the system is run (or run by centered forms).
 
-    The options are eps, depth, bisect and contract, for all pavings; `settings` is a list of such dicts, one a paving. A
-    paving with another identity is refused by PavingError, unless `unchecked` says that it is this system's. boxes and
-    workers are for the run."""
+    The options are eps, depth, bisect, contract and form, for all pavings; `settings` is a list of such dicts, one a paving.
+    What isn't given is that which was kept beside a file. A paving with another identity is refused by PavingError, unless
+    `unchecked` says that it is this system's. boxes, workers and limit are for the run."""
     path, known = Path(system), calls.check(system, program=program)
-    common = {name: options.pop(name) for name in calls.SETTINGS if name in options}
+    common = {name: options.pop(name) for name in beside.KEPT_SETTINGS if name in options}
     title = path.stem if title is None else title
     source = path.read_bytes().decode("utf-8", "replace")
     if pavings is None:
+        if centered:
+            common.pop("form", None)
         entries = [run_one(path, known, common, centered, options, program)]
         return View(page(known, source, entries, title))
     if options:
@@ -146,18 +157,16 @@ def view(system, pavings=None, *, settings=None, title=None, unchecked=False, ce
         raise ValueError("a paving at least, and as many settings as pavings")
     entries = []
     for one, own in zip(given, settings or [{}] * len(given)):
-        paving, name, of_answer = read_one(one, known, program)
-        named = named_settings({**common, **of_answer, **own})
-        if isinstance(one, calls.Answer) and one.out is None:
-            paving.identity = known.identity(**named, centered=one.command == "run-centered")
-        entries.append(entry(paving, named, command_of(paving, known, named, unchecked, name), name))
+        paving, name, of_it = read_one(one, known, {**common, **own})
+        named = named_settings(of_it)
+        entries.append(entry(paving, named, command_of(paving, known, named, of_it.get("form"), unchecked, name), name))
     return View(page(known, source, entries, title))
 
 
 def settings_of_words(arguments, count):
     """The settings of each paving of a command line: an option that is given once holds for all."""
     found = [{} for _ in range(count)]
-    for name in calls.SETTINGS:
+    for name in beside.KEPT_SETTINGS:
         values = getattr(arguments, name) or []
         if len(values) not in (0, 1, count):
             raise ValueError(f"--{name} is given {len(values)} times for {count} pavings: give it once, or once for each")
@@ -173,7 +182,7 @@ def view_command(arguments):
     if arguments.paving:
         made = view(arguments.system, arguments.paving, settings=settings, unchecked=arguments.unchecked, **how)
     else:
-        run = {name: getattr(arguments, name) for name in ("boxes", "workers") if getattr(arguments, name) is not None}
+        run = {name: getattr(arguments, name) for name in OF_RUN if getattr(arguments, name) is not None}
         made = view(arguments.system, centered=arguments.centered, **settings[0], **run, **how)
     return made.html
 
@@ -182,9 +191,9 @@ def add_words(parser):
     """The words of the command `view`."""
     parser.add_argument("system")
     parser.add_argument("paving", nargs="*", help="stored pavings or databases of campaigns, as one film or side by side")
-    for name in calls.SETTINGS:
+    for name in beside.KEPT_SETTINGS:
         parser.add_argument(f"--{name}", action="append", help=f"as the program's --{name}; once, or once for each paving")
-    for name in ("boxes", "workers"):
+    for name in OF_RUN:
         parser.add_argument(f"--{name}", help=f"as the program's --{name}, where the system is run")
     parser.add_argument("--centered", action="store_true", help="run by centered forms")
     parser.add_argument("--title", help="the page's title; else the system's name")

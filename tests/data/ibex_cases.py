@@ -5,6 +5,18 @@ be written its line and a word of the form.
 """
 
 TAKEN = [
+    ("square roots, one in a local assignment", """variables
+  x in [0, 4], y in [0, 4];
+function d(a, b)
+  r = sqrt(a^2 + b^2);
+  return r - 1;
+end
+constraints
+  d(x, y) <= 0;
+  sqrt(x) + sqrt(x) >= sqrt(9/4);
+end
+""", """Variables x in [0,4], y in [0,4], sqrt_1 in [0,oo], sqrt_2 in [0,oo];
+Constraints sqrt_1 - 1 <= 0; sqrt_2 + sqrt_2 >= 1.5; sqrt_1^2 = x^2 + y^2; sqrt_2^2 = x; end"""),
     ("bounds beyond the numbers of the profile", """
 variables
   x in [-1e50, 1e40], y in [1e40, 2e40];
@@ -191,16 +203,6 @@ constraints
   p*exp(-q*2) in [1, 2];
 end
 """, [(4, "exp")]),
-    ("a square root in a local assignment", """variables
-  x in [0, 4], y in [0, 4];
-function d(a, b)
-  r = sqrt(a^2 + b^2);
-  return r - 1;
-end
-constraints
-  d(x, y) <= 0;
-end
-""", [(4, "sqrt")]),
     ("an objective", """variables
   x in [0, 4];
 minimize

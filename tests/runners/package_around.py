@@ -219,6 +219,15 @@ def check_vim():
         if not result.exists():
             raise Skipped("this vim knows no lambdas")
         assert result.read_text().strip().endswith("below/bad.mbx', 3, 7, 'Unexpected']]"), result.read_text()
+        tools = Path(folder) / "paver-tools"
+        tools.write_text(f'#!/bin/sh\nPYTHONPATH={TOP}/python exec {sys.executable} -m paver "$@"\n')
+        tools.chmod(0o755)
+        system.write_text("Variables x in [0,4];\nConstraints\n  x == 1;\nend\n")
+        subprocess.run(["vim", "-Nes", "-u", "NONE", "-c", f"edit {system}", "-c", f"source {TOP}/docs/paver.vim",
+                        "-c", "silent make!", "-c", show, "-c", "qa!"], cwd=folder, stdin=subprocess.DEVNULL, timeout=60,
+                       env={**os.environ, "PATH": f"{folder}:{os.environ['PATH']}"}, capture_output=True, check=False)
+        assert "below/bad.mbx', 3, 6, 'this can''t stand here (Unexpected). Equality is written `=`" in result.read_text(), \
+            result.read_text()
 
 
 def commands_of(text):

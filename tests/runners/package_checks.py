@@ -116,7 +116,8 @@ def check_lines():
 def check_refusals():
     ring = example("ring")
     raised(paver.UsageError, lambda: paver.run(ring, depth=0), args=("`--depth 0`: a whole number from 1 to 200 is expected.",))
-    raised(paver.UsageError, lambda: paver.resume(ring, []), args=("usage: paver COMMAND SYSTEM [OPTIONS] [PAVING..]",))
+    raised(paver.UsageError, lambda: paver.resume(ring, []),
+           args=("`resume` takes one SYSTEM and 1 to 8 PAVINGs: 1 name is given.",))
     raised(paver.ContractRefused, lambda: paver.run(ring, contract="union()"), byte=6)
     raised(paver.SystemRefused, lambda: paver.check_text("Variables x in [0,4];\nConstraints x + <= 1; end"),
            row=2, column=17, byte=38, cause="Unexpected")
@@ -256,7 +257,8 @@ def check_centered():
         answer = paver.run_centered(system, out=out)
         assert answer.complete and answer.summary["inner"] == 1 and answer.summary["settled"] == 1
         assert paver.run(system).summary["small"] > 1
-        assert paver.audit_centered(system, out)
+        assert paver.audit_centered(system, out) and paver.audit(system, out), "the form is kept beside the file"
+        Path(f"{out}.json").unlink()
         raised(paver.PavingRefused, lambda: paver.audit(system, out), cause="wrong identity")
         out.write_text(out.read_text().replace("I = =", "X"))
         raised(paver.Disagree, lambda: paver.audit_centered(system, out), kind="differs", first="X")
@@ -274,6 +276,9 @@ def check_drawn():
         assert paver.draw(example("torus"), out, "x", "y", at=[-0.5], eps=1) == \
             paver.draw(example("torus"), out, "x", "y", at=["-0.5"], eps=1)
         raised(paver.UsageError, lambda: paver.draw(example("torus"), out, "x", "y", eps=1))
+        assert paver.draw(example("torus"), out, "x", "y", at=[Fraction(3, 10)]) == flat, "eps is kept beside the file"
+        raised(ValueError, lambda: paver.draw(example("torus"), out, "x", "y", at=[50]))
+        Path(f"{out}.json").unlink()
         raised(paver.PavingRefused, lambda: paver.draw(example("torus"), out, "x", "y", at=[0]), cause="wrong identity")
 
 

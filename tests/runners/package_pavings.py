@@ -192,6 +192,11 @@ def check_slices(name, words):
         x, y = source.sample(names, 2)
         at = {name: Fraction(source.randrange(-8, 16), 8) for name in names if name not in (x, y)}
         fixed = {names.index(name): value for name, value in at.items()}
+        root = known.settler.root
+        if not all(root[k][0] <= v * UNIT <= root[k][1] for k, v in fixed.items()):
+            raised(ValueError, lambda at=at, x=x, y=y: plots.rectangles(known.paving, x, y, at))
+            at = {name: 0 for name in at}
+            fixed = dict.fromkeys(fixed, Fraction(0))
         wanted = [kind for kind, box in known.kept() if all(box[k][0] <= v <= box[k][1] for k, v in fixed.items())]
         found = [kind for kind, *_ in plots.rectangles(known.paving, x, y, at)]
         assert [kind for kind in found if kind != "removed"] == wanted

@@ -299,7 +299,7 @@ def check_split_again():
         raised(ValueError, lambda: paver.split(example("ring"), 0, folder))
         raised(FileNotFoundError, lambda: paver.gather(folder))
         raised(FileExistsError, lambda: paver.split(example("ring"), 2, Path(folder) / "a"))
-        assert len(list((Path(folder) / "a").iterdir())) == 3
+        assert len(list((Path(folder) / "a").iterdir())) == 4, "three parts and the manifest"
 
 
 def check_gathered_kinds():
@@ -330,7 +330,7 @@ def check_least_command():
 
 
 def check_summary_command():
-    status, out, err = command("summary", example("ring"), "--depth", "8")
+    status, out, err = command("summary", example("ring"), "--depth", "8", "--clusters")
     assert status == 0 and out.startswith("settled 335 ") and "clusters 1\n" in out
     assert "--depth 12 suffices" in err
     status, out, _ = command("csv", example("ring"), "--eps", "2")
@@ -344,9 +344,15 @@ def check_stored_commands():
         paver.run(example("ring"), depth=8, out=stored)
         status, out, err = command("summary", example("ring"), stored, "--depth", "8")
         assert status == 0 and out.startswith("settled 335 ") and "--depth 12 suffices" in err and "identity" not in err
-        for system, words in (("ring", []), ("two_discs", ["--depth", "8"])):
-            status, _, err = command("summary", example(system), stored, *words)
-            assert status == 0 and "has not the identity" in err, (system, err)
+        status, out, err = command("summary", example("ring"), stored)
+        assert status == 0 and "--depth 12 suffices" in err, "the settings are kept beside the file"
+        Path(f"{stored}.json").unlink()
+        for system, words, phrase in (("ring", [], "it is this system's with --depth 8"),
+                                      ("two_discs", ["--depth", "8"], "of another system, or of other settings")):
+            status, out, err = command("summary", example(system), stored, *words)
+            assert (status, out) == (2, "") and "wrong identity" in err and phrase in err, (system, err)
+            status, out, err = command("summary", example(system), stored, *words, "--any-identity")
+            assert status == 0 or "not in the node's box" in err, (system, err)
         paver.campaign(example("ring"), kept, eps=1)
         status, out, err = command("export", kept)
         assert (status, out, err) == (0, paver.Paving.read(kept).file_text(), "")

@@ -15,8 +15,12 @@ from running import Count, is_chosen, program, word
 import package_answers
 import package_around
 import package_checks
+import package_misuse
+import package_parts
 import package_pavings
+import package_refusals
 import package_tools
+import package_users
 from package_checks import Skipped
 
 
@@ -37,7 +41,8 @@ def main():
     os.environ["PAVER"] = program()
     count = Count()
     for name, check, arguments in [*package_checks.checks(), *package_pavings.checks(), *package_tools.checks(),
-                                   *package_around.checks(), *package_answers.checks()]:
+                                   *package_misuse.checks(), *package_refusals.checks(), *package_users.checks(),
+                                   *package_parts.checks(), *package_around.checks(), *package_answers.checks()]:
         if is_chosen(name, word()):
             begun = time.monotonic()
             judge(count, name, check, arguments)

@@ -5,13 +5,17 @@ from fractions import Fraction
 from .. import minibex as profile
 from ..numbers import wide
 from . import terms
-from .refusals import INSTEAD, Refusal, refused_word
+from .refusals import INSTEAD, Overrun, Refusal, Work, refused_word
 from .terms import Array, scalar
 
 ARGUMENTS = {"abs": 1, "sqr": 1}
 MOST_PARAMETERS = 12
 MOST_TURNS = 10000  # of one loop or sum, and of a power
 MOST_ENTRIES = 10000  # of one array
+MOST_STEPS = 50_000  # of working out expressions and turns of loops, in one file
+SQUARE_ROOT = ("is the variable {name} with {name}^2 = its argument: an equation, so no box is inner, and where the root is no "
+               "rational number nothing is promised of it. Widened, as {name}^2 >= e - d; {name}^2 <= e + d, a removed box has no "
+               "real solution in its interior; squared by hand, sqrt(a) <= b is a <= b^2; a >= 0; b >= 0")
 
 
 class IntervalConstant:
@@ -29,6 +33,7 @@ class Scope:
         self.declared, self.taken = set(declared), set(profile.RESERVED)
         self.variables, self.variable_names = [], set()
         self.extra, self.written, self.notes = [], {}, []
+        self.more, self.keeping, self.work = [], False, Work(MOST_STEPS)
 
     def fresh(self, wanted, own=None):
         """A name that is not taken, near the wanted one: own is the declared name that may be taken."""
@@ -74,6 +79,8 @@ class Evaluator:
         low, high = self.whole(low), self.whole(high)
         if high - low > MOST_TURNS:
             raise Refusal(line, f"a loop of {high - low + 1} turns", f"at most {MOST_TURNS} turns")
+        for _ in range(low, high + 1):
+            self.scope.work.step(line)
         return range(low, high + 1)
 
     def end(self, e):
@@ -107,6 +114,7 @@ class Evaluator:
 
     def value(self, e):
         """The Array of an expression."""
+        self.scope.work.step(e[1])
         kind = e[0]
         if kind in ("+", "-"):
             return terms.by_entries(kind, self.value(e[2]), self.value(e[3]), e[1])
@@ -166,6 +174,8 @@ class Evaluator:
     def number_of_exponent(self, e):
         try:
             return self.number(e[3])
+        except Overrun:
+            raise
         except Refusal as fault:
             raise Refusal(e[1], "an exponent that is not constant", "a constant whole exponent, or a variable for the "
                           "whole power") from fault
@@ -231,9 +241,11 @@ class Evaluator:
         _, line, name, arguments = e
         if name in self.local or name in self.scope.names:
             return self.picked(self.named(("name", line, name)), arguments, 1, line)
-        if name in INSTEAD:
+        if name in INSTEAD and (name != "sqrt" or len(arguments) != 1 or self.scope.keeping):
             raise refused_word(line, name)
         found = [self.value(argument) for argument in arguments]
+        if name == "sqrt":
+            return found[0].each(lambda term: self.rooted(term, line))
         if name in ("min", "max") and len(found) >= 2:
             nested = self.scalar(arguments[-1])
             for argument in reversed(arguments[:-1]):
@@ -244,6 +256,22 @@ class Evaluator:
         if name not in self.scope.functions:
             raise Refusal(line, f"the function `{name}` of {len(found)}", "its definition by + - * / ^ abs sqr min max")
         return self.called(line, name, found)
+
+    def rooted(self, term, line):
+        """A square root is a new variable with an equation; of a square of a number it is that number."""
+        value = terms.value_of(term)
+        if value is not None and value >= 0:
+            root = Fraction(math.isqrt(value.numerator), math.isqrt(value.denominator))
+            if root * root == value:
+                return terms.number(root)
+        text = terms.text_of(term, line)
+        if ("sqrt", text) not in self.scope.written:
+            name = self.scope.fresh(f"sqrt_{1 + sum(key[:1] == ('sqrt',) for key in self.scope.written)}")
+            self.scope.extra.append((name, Fraction(0), math.inf, line))
+            self.scope.more.append((line, f"{name}^2 = {text}"))
+            self.scope.written["sqrt", text] = name
+            self.scope.notes.append(f"line {line}: sqrt {SQUARE_ROOT.format(name=name)}")
+        return ("name", self.scope.written["sqrt", text])
 
     def called(self, line, name, arguments):
         function = self.scope.functions[name]
@@ -290,13 +318,18 @@ class Function:
             while name in profile.RESERVED or name in evaluator.scope.functions or name in names:
                 name += "_"
             names.append(name)
+        evaluator.scope.keeping = True
         try:
             body = self.body_for(evaluator, [scalar(("name", name)) for name in names])
             if not body.is_scalar:
                 return
             text = terms.text_of(body.terms[0], self.line)
+        except Overrun:
+            raise
         except Refusal:
             return
+        finally:
+            evaluator.scope.keeping = False
         self.kept_name = evaluator.scope.fresh(self.name, self.name)
         self.kept = f"function {self.kept_name}({', '.join(names)})\n  return {text};\nend"
         evaluator.scope.written[("function", self.name)] = self

@@ -37,5 +37,22 @@ class Refusal(Exception):
         self.line, self.form, self.instead = line, form, instead
 
 
+class Overrun(Refusal):
+    """A file that asks for more work than any text of the profile needs: the translation ends there."""
+
+
+class Work:
+    """How much has been done for one file, in steps; Overrun beyond the most."""
+
+    def __init__(self, most):
+        self.left = most
+
+    def step(self, line):
+        self.left -= 1
+        if self.left < 0:
+            raise Overrun(line, "what stands here, written out,", "a text of at most 65,536 bytes once loops, sums and "
+                          "assignments are written out")
+
+
 def refused_word(line, word):
     return Refusal(line, f"`{word}`", INSTEAD[word.lower() if word.lower() in ("minimize", "maximize") else word])

@@ -6,9 +6,11 @@ A term is ("number", Fraction), ("constant", name, Fraction), ("name", name), ("
 from fractions import Fraction
 
 from ..numbers import minibex, wide
-from .refusals import Refusal
+from .refusals import Refusal, Work
 
 MOST_POWER = 32
+MOST_STEPS = 200_000  # of writing and working out terms; a text of the profile has at most 65,536 bytes
+WORK = [Work(MOST_STEPS)]  # of the file that is translated
 RANK = {"+": 1, "-": 1, "*": 2, "/": 2, "neg": 3, "^": 4}
 CALLS = {"abs": abs, "sqr": lambda x: x * x, "min": min, "max": max}
 
@@ -24,7 +26,7 @@ def value_of(term):
         return term[1]
     if kind == "constant":
         return term[2]
-    if kind == "name":
+    if kind == "name" or has_names(term):
         return None
     parts = [value_of(part) for part in (term[2] if kind == "call" else term[1:] if kind != "^" else term[1:2])]
     if None in parts or (kind == "call" and term[1] not in CALLS) or (kind == "/" and parts[1] == 0):
@@ -55,6 +57,7 @@ def text_of(term, line):
 
 
 def written(term, line):
+    WORK[0].step(line)
     kind = term[0]
     if kind == "number":
         return number_text(term[1], line)
@@ -89,13 +92,18 @@ def number_text(value, line):
 
 
 def has_names(term):
-    """Whether a term depends on a variable or parameter."""
-    kind = term[0]
-    if kind == "name":
-        return True
-    if kind in ("number", "constant"):
-        return False
-    return any(has_names(part) for part in (term[2] if kind == "call" else term[1:] if kind != "^" else term[1:2]))
+    """Whether a term depends on a variable or parameter. A part that stands in several places is looked at once."""
+    waiting, seen = [term], set()
+    while waiting:
+        part = waiting.pop()
+        kind = part[0]
+        if kind == "name":
+            return True
+        if kind in ("number", "constant") or id(part) in seen:
+            continue
+        seen.add(id(part))
+        waiting += part[2] if kind == "call" else part[1:] if kind != "^" else part[1:2]
+    return False
 
 
 class Array:

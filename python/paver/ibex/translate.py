@@ -5,7 +5,7 @@ from fractions import Fraction
 from ..numbers import minibex
 from . import terms
 from .evaluate import Evaluator, Function, IntervalConstant, Scope, shape_of
-from .refusals import Refusal
+from .refusals import Overrun, Refusal, Work
 from .syntax import read
 from .terms import Array, scalar
 
@@ -32,6 +32,8 @@ class Translator:
     def guarded(self, work, *arguments):
         try:
             work(*arguments)
+        except Overrun:
+            raise
         except Refusal as refusal:
             self.refusals.append(refusal)
 
@@ -45,6 +47,7 @@ class Translator:
             self.guarded(self.function, *entry)
         for constraint in file.constraints:
             self.guarded(self.constraint, self.evaluator, constraint)
+        self.constraints += self.scope.more
         if not self.constraints and not self.refusals:
             self.refusals.append(Refusal(1, "a system without constraints", "at least one constraint"))
         if not self.scope.variables and not self.refusals:
@@ -214,6 +217,7 @@ def outward(value, up):
 
 def translate(text):
     """The Translation of a file's text."""
+    terms.WORK[0] = Work(terms.MOST_STEPS)
     try:
         found = Translator(text).translated()
     except Refusal as refusal:

@@ -1,0 +1,197 @@
+"""The program's commands and options: which command takes which, and what values they take."""
+from __future__ import annotations
+
+import math
+import numbers as abstract
+import re
+from decimal import Decimal
+from fractions import Fraction
+from typing import Any, Dict, List, Mapping, Optional, Sequence, Tuple
+
+from .numbers import minibex
+
+SETTINGS = ("eps", "depth", "bisect", "contract")
+KEPT_SETTINGS = (*SETTINGS, "form")  # those that an identity holds
+OPTIONS = (*SETTINGS, "boxes", "workers", "limit", "form", "order")
+FILES = {"resume": "SYSTEM PAVING..", "merge": "SYSTEM PAVING..", "audit": "SYSTEM PAVING", "svg": "SYSTEM PAVING",
+         "audit-centered": "SYSTEM PAVING", "sample": ""}
+COMMANDS: Dict[str, Tuple[str, ...]] = {
+    "check": (),
+    "run": (*OPTIONS, "out"),
+    "resume": (*OPTIONS, "share", "out"),
+    "merge": (*SETTINGS, "limit", "form", "out"),
+    "audit": (*SETTINGS, "workers", "limit", "form"),
+    "svg": (*SETTINGS, "limit", "form", "x", "y", "at"),
+    "sample": ("seed", "count"),
+    "run-centered": (*SETTINGS, "boxes", "workers", "limit", "order", "out"),
+    "audit-centered": (*SETTINGS, "workers", "limit"),
+    "least": (*SETTINGS, "boxes", "limit", "of"),
+    "campaign": (*OPTIONS, "keep", "rounds"),
+}
+REQUIRED = {"svg": ("x", "y"), "sample": ("seed", "count"), "least": ("of",), "campaign": ("keep",)}
+LATER = ("limit", "form", "order", "share")  # which an older program does not have; nor `audit` its workers
+MOST_BOXES, MOST_LIMIT = 100_000, 100_000_000
+RANGES = {"depth": (1, 200), "boxes": (1, MOST_BOXES), "workers": (1, 16), "limit": (MOST_BOXES, MOST_LIMIT),
+          "seed": (0, 2 ** 31 - 1), "count": (1, 16), "rounds": (1, 100)}
+CHOICES = {"bisect": ("largest", "round"), "form": ("plain", "centered"), "order": ("depth", "level")}
+DEFAULTS = {"eps": "0.125", "depth": "60", "bisect": "largest", "contract": "prop(8)", "form": "plain"}
+NUMBER = r"[0-9]+(\.[0-9]*)?([eE][+-]?[0-9]+)?"
+
+
+def spelled(name: str, value: Any) -> str:
+    """An option's value in words. Numbers may be of any kind; a float is taken as it is written, so eps=0.1 is `--eps 0.1`.
+    ValueError where a number has no such words."""
+    if isinstance(value, str) or not isinstance(value, (abstract.Number, Decimal)) or isinstance(value, bool):
+        return str(value)
+    if name == "eps":
+        return number_text(value, "eps")
+    if name in RANGES:
+        number: Any = value
+        if number != number or number in (math.inf, -math.inf) or int(number) != number:
+            raise ValueError(f"{name} {value}: a whole number is expected")
+        return str(int(number))
+    return str(value)
+
+
+def number_text(value: Any, what: str, signed: bool = False) -> str:
+    """The Minibex number of a value, a float as it is written; ValueError where there is none."""
+    try:
+        exact = Fraction(repr(float(value))) if isinstance(value, float) else \
+            value if isinstance(value, Fraction) else Fraction(str(value))
+    except (ValueError, ZeroDivisionError) as fault:
+        raise ValueError(f"{what} {value} is no number") from fault
+    text = minibex(abs(exact))
+    if text is None or exact < 0 and not signed:
+        raise ValueError(f"{what} {value} can't be written as a Minibex number: give a text")
+    return f"-{text}" if exact < 0 else text
+
+
+def words_of(settings: Mapping[str, Any]) -> Dict[str, str]:
+    """The settings that are given, in words."""
+    return {name: spelled(name, value) for name, value in settings.items() if value is not None}
+
+
+def number_of(text: str) -> Fraction:
+    """The exact value of an unsigned number in words; ValueError where it is none."""
+    if not re.fullmatch(NUMBER, text, re.A) or len(text) > 1000 or len(text.lower().partition("e")[2]) > 5:
+        raise ValueError(f"`{text[:40]}`: an unsigned number as 0.5 or 1e-3 is expected")
+    return Fraction(text)
+
+
+def eps_of(settings: Mapping[str, Any]) -> Fraction:
+    """The exact eps of settings; ValueError where it is no number."""
+    value = settings.get("eps")
+    return number_of(DEFAULTS["eps"] if value is None else spelled("eps", value))
+
+
+# ---- what is refused
+
+class Words:
+    """The words after a command: options as (name, value or None, whether they are joined by `=`), and names of files."""
+
+    def __init__(self, command: str, words: Sequence[str]) -> None:
+        self.options: List[Tuple[str, Optional[str], bool]] = []
+        self.unknown: List[str] = []
+        self.files: List[str] = []
+        rest = list(words)
+        while rest:
+            word = rest.pop(0)
+            name, equals, value = word.partition("=")
+            if word == "--":
+                self.files += rest
+                return
+            if not word.startswith("-") or word == "-":
+                self.files.append(word)
+            elif not word.startswith("--") or name[2:] not in COMMANDS[command]:
+                self.unknown.append(name)
+                if not equals and rest and not rest[0].startswith("-"):
+                    rest.pop(0)
+            elif equals:
+                self.options.append((name[2:], value, True))
+            else:
+                self.options.append((name[2:], rest.pop(0) if rest else None, False))
+
+    def value(self, name: str) -> Optional[str]:
+        """The value of an option; None where it is not given."""
+        return next((value for option, value, _ in self.options if option == name), None)
+
+
+def faults(command: str, words: Sequence[str]) -> List[str]:
+    """Sentences on the words of a command of the program that are refused, by the same rules as the program's."""
+    read = Words(command, words)
+    found = [unknown(command, word) for word in read.unknown]
+    seen: Dict[str, Optional[str]] = {}
+    for name, value, joined in read.options:
+        if name in seen:
+            found.append(f"`--{name}` is given twice.")
+        seen[name] = value
+        found += value_fault(name, value, joined, most(seen))
+    found += [f"`{command}` needs `--{name}`." for name in REQUIRED.get(command, ()) if name not in seen]
+    if seen.get("x") is not None and seen.get("x") == seen.get("y"):
+        found.append("`--x` and `--y` name one variable: a picture has two.")
+    return found + file_faults(command, len(read.files))
+
+
+def most(seen: Mapping[str, Optional[str]]) -> int:
+    """The greatest budget under these options."""
+    limit = seen.get("limit") or ""
+    return int(limit) if re.fullmatch("[0-9]{1,10}", limit, re.A) else MOST_BOXES
+
+
+def unknown(command: str, word: str) -> str:
+    """The sentence on an option that a command does not take."""
+    known = COMMANDS[command]
+    takes = " and ".join([", ".join(f"--{name}" for name in known[:-1])] * (len(known) > 1) + [f"--{name}" for name in known[-1:]])
+    near = [name for name, options in COMMANDS.items() if word[2:] in options]
+    others = f"; it is one of {', '.join(near)}" if near else ""
+    return f"`{word}` is no option of {command}{others}: {command} takes {takes or 'none'}."
+
+
+def file_faults(command: str, count: int) -> List[str]:
+    """The sentence on the names of files, where there are too few or too many."""
+    wanted = FILES.get(command, "SYSTEM")
+    least = len(wanted.split())
+    greatest = 9 if wanted.endswith("..") else least
+    if least <= count <= greatest:
+        return []
+    names = {"": "no file", "SYSTEM": "one SYSTEM", "SYSTEM PAVING": "one SYSTEM and one PAVING",
+             "SYSTEM PAVING..": "one SYSTEM and 1 to 8 PAVINGs"}[wanted]
+    return [f"`{command}` takes {names}: {count} {'name is' if count == 1 else 'names are'} given."]
+
+
+def value_fault(name: str, value: Optional[str], joined: bool = False, boxes: int = MOST_BOXES) -> List[str]:
+    """The sentence on the value of an option, where it is refused."""
+    if value is None or (value.startswith("--") and not joined):
+        return [f"`--{name}` needs a value."]
+    if value.startswith("-") and not joined:
+        return [f"`--{name} {value}`: a value that begins with `-` is written `--{name}={value}`.", *value_fault(name, value, True)]
+    if name in RANGES:
+        low, high = RANGES[name] if name != "boxes" else (1, boxes)
+        if not (value.isdigit() and value.isascii() and len(value) <= 10 and low <= int(value) <= high):
+            return [f"`--{name} {value}`: a whole number from {low} to {high} is expected."]
+    if name in CHOICES and value not in CHOICES[name]:
+        return [f"`--{name} {value}`: {' or '.join(f'`{word}`' for word in CHOICES[name])} is expected."]
+    if name == "eps" and not is_number(value):
+        return [f"`--eps {value}`: an unsigned number as 0.5 or 1e-3 is expected."]
+    if name == "at" and not all(is_number(part[1:] if part[:1] == "-" else part) for part in value.split(",")):
+        return [f"`--at {value}`: numbers joined by commas are expected, one for each other variable, as 0.5,-1."]
+    if name == "share" and not is_share(value):
+        return [f"`--share {value}`: K/N is expected, with whole numbers 0 <= K < N <= 1000000."]
+    return []
+
+
+def is_number(text: str) -> bool:
+    """Whether a text is an unsigned number that is not too wide."""
+    if not re.fullmatch(NUMBER, text, re.A) or len(text) > 1000:
+        return False
+    digits, _, exponent = text.lower().partition("e")
+    if len(exponent.lstrip("+-0")) > 3:
+        return False
+    power = int(exponent or 0) - len(digits.partition(".")[2])
+    return -36 <= power <= 36 and len(digits.replace(".", "").lstrip("0") or "0") + max(power, 0) <= 37
+
+
+def is_share(text: str) -> bool:
+    """Whether a text is a share, as 3/16."""
+    match = re.fullmatch(r"([0-9]{1,7})/([0-9]{1,7})", text, re.A)
+    return match is not None and 0 <= int(match.group(1)) < int(match.group(2)) <= 1_000_000

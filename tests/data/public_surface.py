@@ -1,0 +1,28 @@
+"""A user's script over the public surface of the package: a test has its types checked, and never runs it."""
+from fractions import Fraction
+import paver
+
+answer: paver.Answer = paver.run("s.mbx", eps=0.1, depth=60, boxes=1e4, out="f")
+text: paver.Answer = paver.run_text("Variables x; Constraints x<=1; end")
+paving: paver.Paving = answer.paving()
+counts: dict[str, int] = paving.counts()
+print(answer.summary["open"], answer.complete, answer.known.names, answer.warnings(), counts)
+for box in paving.inner():
+    print(box.exact, box.floats, box.centre, box[0], box["x"], (1, 2) in box, box.width, box.volume, len(box), box == box)
+print(paving.hull("inner"), paving.floats_of_hull(), paving.widest(), paving.greatest(3), paving.where((1, 0)), paving.where({"x": 1}))
+for cluster in paving.clusters(gap=0.5):
+    print(cluster.hull, cluster.boxes)
+print(paving.numpy("inner"), paving.frame(exactly=True), paving.volumes()["inner"])
+old = paver.Paving.read("old", system="s.mbx", eps=0.5, identity=None)
+print(paver.check("s.mbx").identity(eps=0.5), old.identity, old.file_text())
+print(paver.least("s.mbx", "x", boxes=3).lower, paver.audit("s.mbx", "f"), paver.audit_centered("s.mbx", "f"))
+print(paver.resume("s.mbx", ["f"], share="0/2"), paver.merge("s.mbx", "f"), paver.campaign("s.mbx", "k", rounds=2))
+print(paver.draw("s.mbx", "f", "x", "y", at=[1.5, Fraction(1, 2)]), paver.sample(1, 2), paver.svg(paving, "x", 1, {"z": 1}))
+paver.plot(paving, "x", "y")
+print(paver.split("s.mbx", 3, "parts"), paver.gather("parts").counts(), paver.find_roots(paver.check("s.mbx"), paving)[0].middle)
+print(paver.depth_that_suffices([(0, 1)], 0.5), paver.__version__, paver.warnings_of(answer, paving))
+print(paver.find(), paver.run_centered("s.mbx").text, paver.plot_projection(paving), box, box.holds([1, 2]))
+try:
+    paver.check_text("bad")
+except paver.SystemRefused as fault:
+    print(fault.row, fault.column, fault.byte, fault.cause, fault.status, fault.line)

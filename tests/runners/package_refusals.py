@@ -1,0 +1,127 @@
+"""Checks of what the package says where the program refuses: options of every command, and forms of other languages."""
+import tempfile
+from pathlib import Path
+
+import paver
+from package_checks import example
+from package_tools import command
+from paver import options
+
+TEXTS = [  # what is written, the place of the caret, and what is said
+    ("Variables x in [0,4]; Constraints 0 <= x <= 1; end", 41, "`a <= e; e <= b`"),
+    ("Variables x in [0,4]; Constraints x <= 1; 0 < x < 1; end", 48, "`a <= e; e <= b`"),
+    ("Variables x in [0,4]; Constraints max(x, 1, 2) <= 1; end", 42, "`max(a, b, c)` is written `max(a, max(b, c))`"),
+    ("Variables x in [0,4]; Constraints abs(min(x, (1), 2)) <= 1; end", 48, "`min(a, b, c)` is written `min(a, min(b, c))`"),
+    ("Variables x in [0,4]; Constraints x <= .5; end", 39, "`0.5`"),
+    ("Variables x in [0,4]; Constraints x == 1; end", 37, "Equality is written `=`"),
+    ("Variables x in [0,4]; Constraints x != 1; end", 36, "abs(a - b) > 0"),
+    ("Variables x in [0,4]; Constraints x <> 1; end", 37, "abs(a - b) > 0"),
+    ("Variables x in [0,4]; Constraints x**2 <= 1; end", 36, "A power is written `x^2`"),
+    ("Variables x in [0,4]; Constraints x^-1 <= 1; end", 36, "`x^-1` is written `1/x^1`"),
+    ("Variables x in [0,4]; Constraints x^0.5 <= 1; end", 36, "r^n = x"),
+    ("Variables x in [0,4]; Minimize x; Constraints x >= 1; end", 22, "`paver least SYSTEM --of=OBJECTIVE`"),
+    ("Variables " + ", ".join(f"x{k} in [0,1]" for k in range(13)) + "; Constraints x0 <= 1; end", 168, "a paving for each"),
+    ("Variables x in [0,4]; Constraints sqrt(x) <= 1; end", 34, "a variable r in [0, oo] with r^2"),
+]
+PLAIN = [  # texts at which none of these sentences would be right
+    "Variables x in [0,4]; Constraints x <= 1; x <= 1 +; end", "Variables x in [0,4]; Constraints f(x, 1) <= 1; end",
+    "Variables x in [0,4]; Constraints x <= 1, x >= 0; end", "Variables x in [0,4]; Constraints x * / 2 <= 1; end",
+]
+HINTS = ("is written", "begins with a digit")
+WORDS = [  # of each command words that the program refuses, and a part of the sentence
+    (["run", "S", "--width", "1"], "`--width` is no option of run: run takes --eps,"),
+    (["run", "S", "--of", "x"], "`--of` is no option of run; it is one of least"),
+    (["run", "S", "T"], "`run` takes one SYSTEM: 2 names are given."),
+    (["run"], "`run` takes one SYSTEM: 0 names are given."),
+    (["run", "S", "--workers", "17"], "a whole number from 1 to 16"),
+    (["run", "S", "--boxes=100001"], "a whole number from 1 to 100000"),
+    (["run", "S", "--eps", "1", "--eps", "2"], "`--eps` is given twice."),
+    (["run", "S", "--eps", "1e-40"], "`--eps 1e-40`"),
+    (["run", "S", "--bisect"], "`--bisect` needs a value."),
+    (["run", "S", "-e", "1"], "`-e` is no option of run"),
+    (["check", "S", "--eps", "1"], "check takes none"),
+    (["resume", "S"], "one SYSTEM and 1 to 8 PAVINGs: 1 name is given."),
+    (["merge", "S", "P", "--boxes", "5"], "`--boxes` is no option of merge; it is one of run, resume"),
+    (["audit", "S"], "one SYSTEM and one PAVING: 1 name is given."),
+    (["audit", "S", "P", "--depth", "201"], "a whole number from 1 to 200"),
+    (["audit-centered", "S", "P", "--x", "a"], "`--x` is no option of audit-centered; it is one of svg"),
+    (["svg", "S", "P", "--x", "x"], "`svg` needs `--y`."),
+    (["svg", "S", "P", "--x", "x", "--y", "x"], "name one variable"),
+    (["svg", "S", "P", "--x", "x", "--y", "y", "--at", "-0.5"], "is written `--at=-0.5`"),
+    (["svg", "S", "P", "--x", "x", "--y", "y", "--at=0.5,one"], "numbers joined by commas"),
+    (["svg", "S", "P", "--x", "x", "--y", "q", "--at=0.5"], "there is no variable q: x, y, z are."),
+    (["svg", "S", "P", "--x", "x", "--y", "y"], "`--at` has 0 numbers: a number each for z."),
+    (["svg", "S", "P", "--x", "x", "--y", "y", "--at=50"], "lies outside the search box"),
+    (["sample", "--seed", "1"], "`sample` needs `--count`."),
+    (["sample", "--seed", "1", "--count", "17"], "a whole number from 1 to 16"),
+    (["sample", "--seed", "2147483648", "--count", "1"], "a whole number from 0 to 2147483647"),
+    (["sample", "S", "--seed", "1", "--count", "1"], "`sample` takes no file: 1 name is given."),
+    (["run-centered", "S", "--rounds", "2"], "`--rounds` is no option of run-centered; it is one of campaign"),
+    (["least", "S"], "`least` needs `--of`."),
+    (["least", "S", "--of", "w + 1"], "not declared for this use"),
+    (["least", "S", "--of", "x", "--workers", "2"], "`--workers` is no option of least"),
+    (["campaign", "S"], "`campaign` needs `--keep`."),
+    (["campaign", "S", "--keep", "k", "--rounds", "101"], "a whole number from 1 to 100"),
+    (["campaign", "S", "--keep", "k", "--out", "f"], "`--out` is no option of campaign"),
+    (["run", "S", "--contract", "hc4(9)"], "--contract: refused at byte"),
+]
+
+
+def check_hints():
+    """Each form of another language is met by a sentence that says how it is written; explain --line says the same in one."""
+    with tempfile.TemporaryDirectory() as folder:
+        path = Path(folder) / "s.mbx"
+        for text, byte, phrase in TEXTS:
+            path.write_text(text)
+            status, out, _ = command("explain", path)
+            assert status == 2 and phrase in out and f"\n    {' ' * byte}^" in out, (text, out)
+            status, line, _ = command("explain", "--line", path)
+            assert status == 2 and line.startswith(f"{path}:1:{byte + 1}: ") and phrase in line and line.count("\n") == 1, line
+        for text in PLAIN:
+            path.write_text(text)
+            status, out, _ = command("explain", path)
+            assert status == 2 and not any(hint in out for hint in HINTS), (text, out)
+        path.write_text("Variables x in [0,4]; Constraints x <= 1; end")
+        assert command("explain", "--line", path) == (0, "", "")
+
+
+def check_words_of_commands():
+    """Each mistake is one that the program refuses with status 2 and the usage line, and is said in a sentence."""
+    system = example("torus")
+    with tempfile.TemporaryDirectory() as folder:
+        paving, other = Path(folder) / "p", Path(folder) / "q"
+        paver.run(system, out=paving, boxes=50)
+        paver.run(system, out=other, eps=2)
+        for words, phrase in WORDS:
+            words = [str(system) if word == "S" else str(paving) if word == "P" else word for word in words]
+            status, _, line = paver.program.call(words)
+            assert status == (0 if "--at=50" in words else 2), (words, status, line)
+            status, out, err = command("explain", *words)
+            assert (status, err) == (2, "") and phrase in out, (words, out)
+        status, out, err = command("explain", "audit", system, other)
+        assert (status, err) == (2, "") and "it is this system's with --eps 2" in out, out
+        status, out, err = command("explain", "audit", system, other, "--eps", "2")
+        assert (status, err) == (0, "") and "it is taken" in out, out
+
+
+def check_table_of_options():
+    """The package's table of options is the program's: each is taken where the table has it, and refused where it has not. What
+    an older program lacks is left aside."""
+    values = {"eps": "1", "depth": "1", "bisect": "round", "contract": "prop(1)", "boxes": "1", "workers": "1", "out": "none",
+              "x": "x", "y": "y", "at": "1", "seed": "1", "count": "1", "of": "x", "keep": "none", "rounds": "1"}
+    for name, known in options.COMMANDS.items():
+        files = ["/no such system", "none"][:len(options.FILES.get(name, "SYSTEM").split())]
+        needed = {option: values[option] for option in options.REQUIRED.get(name, ())}
+        for option in values:
+            words = [name, *(f"--{key}={value}" for key, value in {**needed, option: values[option]}.items())]
+            if name == "sample" and option in known or (name, option) == ("audit", "workers") or option == "workers" \
+                    and name == "audit-centered":
+                continue
+            status = paver.program.call([*words, "--", *files])[0]
+            assert status == (11 if option in known else 2), (words, status)
+            assert bool(options.faults(name, [*words[1:], "--", *files])) == (option not in known), (words, option)
+
+
+def checks():
+    named = [check_hints, check_words_of_commands, check_table_of_options]
+    return [(check.__name__[6:].replace("_", " "), check, ()) for check in named]

@@ -1,0 +1,217 @@
+"""Checks of the package as its users have it: README's calls with their answers, notebooks, boxes, arrays, types, and times."""
+import doctest
+import os
+import random
+import re
+import shutil
+import subprocess
+import sys
+import tempfile
+import time
+from fractions import Fraction
+from pathlib import Path
+
+import paver
+from package_checks import Skipped, example, raised
+from paver import notebook, numbers
+
+TOP = Path(__file__).resolve().parents[2]
+TRIANGLE = "Variables x in [0,4], y in [0,4]; Constraints x + y <= 3; end"
+
+
+def check_readme_of_package():
+    """Every call of the package's README has the answer that stands below it."""
+    text = (TOP / "python" / "README.md").read_text()
+    blocks = re.findall(r"^```pycon\n(.*?)^```", text, re.M | re.S)
+    names, count, said = {}, 0, []
+    before = os.getcwd()
+    with tempfile.TemporaryDirectory() as folder:
+        for name in ("examples", "README.md"):
+            (Path(folder) / name).symlink_to(TOP / name)
+        os.chdir(folder)
+        try:
+            for number, block in enumerate(blocks):
+                test = doctest.DocTestParser().get_doctest(block, names, f"block {number}", "README.md", 0)
+                runner = doctest.DocTestRunner(verbose=False, optionflags=doctest.NORMALIZE_WHITESPACE)
+                count += runner.run(test, out=said.append, clear_globs=False).attempted
+                names = test.globs
+        finally:
+            os.chdir(before)
+    assert not said and count > 30, "".join(said)
+
+
+def check_boxes_of_users():
+    paving = paver.run_text(TRIANGLE, eps=0.5).paving()
+    boxes = list(paving.boxes())
+    assert len(set(boxes)) == len(boxes) and boxes == list(paving.boxes())
+    assert sum(box.volume for box in boxes) == 16 == sum(paving.volumes().values())
+    for box in paving.inner():
+        assert box.centre in box and sum(box.centre) <= 3 and box[0] == box["x"] == box.exact[0] and len(box) == 2
+        assert box == paver.Box("inner", box.words) != paver.Box("small", box.words)
+        assert paving.where(box.centre) == {"inner"} and list(box) == list(box.exact)
+    raised(KeyError, lambda: boxes[0]["z"])
+    raised(IndexError, lambda: boxes[0][2])
+    raised(ValueError, lambda: (1, 2, 3) in boxes[0])
+    far = paver.run_text("Variables x; Constraints x >= 1; end", depth=4).paving()
+    raised(ValueError, lambda: [box.centre for box in far.boxes()])
+    widths = [box.width for box in paving.greatest(4)]
+    assert widths == sorted((box.width for box in paving.small()), reverse=True)[:4]
+
+
+def check_points_against_boxes():
+    """A descent finds the classes that a look at every box finds, on points on faces, inside and outside."""
+    source = random.Random(4)
+    for name, settings in (("ring", {"eps": 0.5}), ("torus", {"eps": 1}), ("unbounded", {"depth": 8}), ("tolerance", {"eps": 2})):
+        for answer in (paver.run(example(name), **settings), paver.run(example(name), **settings, boxes=20)):
+            paving = answer.paving()
+            boxes = list(paving.boxes())
+            ends = [[end for box in boxes for end in box.exact[k] if not isinstance(end, float)] for k in range(paving.dims)]
+            for _ in range(60):
+                point = [source.choice(ends[k]) if source.random() < 0.7 else Fraction(source.randrange(-400, 400), 64)
+                         for k in range(paving.dims)]
+                wanted = {box.kind for box in boxes if box.holds(point)} or {"outside"}
+                assert paving.where(point) == wanted, (name, point)
+
+
+def check_notebooks():
+    """A cell shows little, whatever the size: and what is drawn coarsely keeps its word."""
+    answer = paver.run(example("ring"), eps="0.00390625", boxes=100_000)
+    html, picture = answer._repr_html_(), answer._repr_svg_()
+    assert len(html) < 1_000_000 and "<svg " in html and "<td>inner</td>" in html and len(repr(answer)) < 200, len(html)
+    assert len(repr(answer.paving())) < 200 and picture.endswith("</svg>\n")
+    paving, source = answer.paving(), random.Random(6)
+    coarse = list(notebook.coarse(paving, 4.0))
+    assert len(coarse) < paving.counts()["inner"] + paving.counts()["small"]
+    for _ in range(300):
+        point = [Fraction(source.randrange(-3 << 16, 3 << 16), 1 << 16) for _ in range(2)]
+        seen = {kind for kind, x, y in coarse if x[0] <= point[0] <= x[1] and y[0] <= point[1] <= y[1]}
+        truth = paving.where(point)
+        assert truth & {"inner", "small", "open"} <= seen | ({"inner", "open"} if "small" in seen else set()), (point, truth)
+        assert "inner" not in seen or "inner" in truth, point
+    assert "<div>" in paver.run(example("torus"), eps=2)._repr_html_()
+    assert paver.run_text("Variables x in [0,1]; Constraints x <= 2; end").paving()._repr_svg_() is None
+
+
+ARRAYS = """
+import numpy, paver, io
+from fractions import Fraction
+paving = paver.run("examples/ring.mbx", eps=0.5).paving()
+for kinds in ((), ("inner",), ("small", "inner"), ("removed",)):
+    array, exact = paving.numpy(*kinds), paving.numpy(*kinds, exactly=True)
+    boxes = list(paving.boxes(*(kinds or ("inner", "small", "open"))))
+    assert array.shape == exact.shape == (len(boxes), 2, 2) and array.dtype == float
+    assert [tuple(map(tuple, row)) for row in array.tolist()] == [box.floats for box in boxes]
+    assert [tuple(map(tuple, row)) for row in exact] == [box.exact for box in boxes]
+    assert all(Fraction(a) <= b for a, b in zip(array[:, :, 0].flat, exact[:, :, 0].flat))
+    assert all(Fraction(a) >= b for a, b in zip(array[:, :, 1].flat, exact[:, :, 1].flat))
+assert paver.run("examples/ring.mbx", eps=numpy.float64(0.5), boxes=numpy.int64(9000)).text == paver.run("examples/ring.mbx", eps=0.5).text
+assert paving.where(numpy.array([1.5, 0.0])) == paving.where((1.5, 0)) != {"outside"}
+"""
+FRAMES = """
+import io, pandas, paver
+paving = paver.run("examples/ring.mbx", eps=0.5).paving()
+file = io.StringIO()
+paving.write_csv(file)
+written = pandas.read_csv(io.StringIO(file.getvalue()), float_precision="round_trip")
+frame = paving.frame()
+assert list(frame.columns) == list(written.columns) == ["class", "x_low", "x_high", "y_low", "y_high"]
+assert (frame["class"].astype(str) == written["class"]).all() and (frame.iloc[:, 1:].values == written.iloc[:, 1:].values).all()
+"""
+PLOTS = """
+import matplotlib, paver
+matplotlib.use("Agg")
+axes = paver.plot(paver.run("examples/ring.mbx", eps=0.0625).paving(), "x", "y")
+assert len(axes.collections) == 2, "one collection a class"
+"""
+
+
+def python_with(module):
+    """A Python that has a module; Skipped where none has."""
+    for name in (sys.executable, "/usr/bin/python3"):
+        if shutil.which(name) and subprocess.run([name, "-c", f"import {module}"], capture_output=True, check=False).returncode == 0:
+            return name
+    raise Skipped(f"no Python here has {module}")
+
+
+def check_with(module, script):
+    """A script by a Python that has a module."""
+    environment = {**os.environ, "PYTHONPATH": str(TOP / "python")}
+    done = subprocess.run([python_with(module), "-c", script], cwd=TOP, env=environment, capture_output=True, text=True, timeout=300,
+                          check=False)
+    assert done.returncode == 0, done.stderr
+
+
+def check_types():
+    """`mypy --strict` takes a user's script over the public surface."""
+    if shutil.which("mypy") is None:
+        raise Skipped("there is no mypy here")
+    with tempfile.TemporaryDirectory() as folder:
+        script = TOP / "tests" / "data" / "public_surface.py"
+        done = subprocess.run(["mypy", "--strict", "--follow-imports=silent", "--cache-dir", folder, str(script)], cwd=folder,
+                              env={**os.environ, "MYPYPATH": str(TOP / "python")}, capture_output=True, text=True, timeout=300,
+                              check=False)
+        assert done.returncode == 0, done.stdout
+    used = script.read_text()
+    assert all(f"paver.{name}" in used for name in paver.__all__ if name[0].islower()), "each public function is called"
+    assert (TOP / "python" / "paver" / "py.typed").exists()
+
+
+def ring_text(depth):
+    """The text of a paving of a ring by halves, made here: of version 2, and how many nodes it has of each letter."""
+    size = 1 << (depth // 2)
+    least, most = int(size * 0.23) ** 2, int(size * 0.47) ** 2
+    spelled = [numbers.spelling((k << numbers.SCALE) // size) for k in range(size + 1)]
+    lines = []
+
+    def grow(k, ends):
+        squares = [((low - size // 2) ** 2, (high - size // 2) ** 2, low <= size // 2 <= high) for low, high in ends]
+        near = sum(0 if within else min(a, b) for a, b, within in squares)
+        far = sum(max(a, b) for a, b, _ in squares)
+        if far < least or near > most:
+            lines.append("X")
+        elif near >= least and far <= most:
+            lines.append("I = = = =")
+        elif k == depth:
+            lines.append("S = = = =")
+        else:
+            low, high = ends[k % 2]
+            middle = (low + high) // 2
+            lines.append(f"C {k % 2} {spelled[middle]} = = = =")
+            for half in ((low, middle), (middle, high)):
+                grow(k + 1, [half, ends[1]] if k % 2 == 0 else [ends[0], half])
+
+    grow(0, [(0, size), (0, size)])
+    return "paving 2\nidentity " + "0" * 64 + "\n" + "\n".join(lines) + "\n", lines
+
+
+def check_times():
+    """A quarter of a million nodes: each question takes its part of what README tells, with room for a loaded machine."""
+    text, lines = ring_text(26)
+    clock = time.process_time
+    begun = clock()
+    paving = paver.Paving.from_text(text, root=[(0, 1), (0, 1)])
+    read = clock() - begun
+    paving.check_numbers()
+    passed = clock() - begun - read
+    begun = clock()
+    for k in range(1000):
+        paving.where((Fraction(k, 1000), Fraction(k, 997)))
+    point = (clock() - begun) / 1000
+    volumes, hull, counts = paving.volumes(), paving.hull(), paving.counts()
+    begun = clock()
+    clusters = paving.clusters()
+    grouped = clock() - begun
+    print(f"a paving of {len(lines)} nodes: read in {read:.2f} s, its numbers in {passed:.2f} s, a point in {1000 * point:.3f} ms, "
+          f"clusters in {grouped:.1f} s")
+    assert read < 2 and passed < 8 and point < 0.001 and grouped < 20
+    inner = sum(line[0] == "I" for line in lines)
+    assert counts["inner"] == inner and sum(volumes.values()) == 1 and len(clusters) == 1 and hull is not None
+    small = Fraction(sum(line[0] == "S" for line in lines), 1 << 26)
+    assert volumes["small"] == small
+
+
+def checks():
+    named = [check_readme_of_package, check_boxes_of_users, check_points_against_boxes, check_notebooks, check_types, check_times]
+    found = [(check.__name__[6:].replace("_", " "), check, ()) for check in named]
+    return found + [(f"with {module}", check_with, (module, script))
+                    for module, script in (("numpy", ARRAYS), ("pandas", FRAMES), ("matplotlib", PLOTS))]
