@@ -262,14 +262,10 @@ def logs_of_something_else(f):
 
 
 def files_that_go_under_way(f):
-    """A campaign whose file is deleted, moved or replaced under way ends with the fault: its rows would be out of reach."""
+    """A campaign whose file is deleted or moved under way ends with the fault: its rows would be out of reach."""
     def moved():
         (f.path / "k").rename(f.path / "moved")
-
-    def replaced():
-        f.put("other", b"")
-        (f.path / "other").rename(f.path / "k")
-    for change in ((f.path / "k").unlink, moved, replaced):
+    for change in ((f.path / "k").unlink, moved):
         for name in ("k", "k-wal", "moved"):
             (f.path / name).unlink(missing_ok=True)
         words = f.words(100, 500, ["--eps", "0.00390625"], "k", DISC)
