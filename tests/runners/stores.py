@@ -17,7 +17,6 @@ import signal
 import subprocess
 import sys
 import time
-from pathlib import Path
 
 from running import SECONDS, Folder, judged_in_folders, word
 from outside import RING
@@ -85,7 +84,7 @@ def calls_of_store(f, words):
         if called := re.match(r"\d+ +(\w+)\(", line):
             name = called[1]
             counts[name] = counts.get(name, 0) + 1
-            if found or '"p"' in line:
+            if found or ('"p"' in line and name != "execve"):
                 found.append((name, counts[name]))
     log.unlink()
     assert len(found) >= 8, found
