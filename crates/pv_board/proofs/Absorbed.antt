@@ -1,6 +1,6 @@
 -- What absorbing a stage does to a board.
-use Rattle.std.proofs.Common.{◌≡◌, ℕ, zero, suc, ◌+◌, ◌-◌, ◌<◌, ◌≤◌, Bool, Option, Some, None, List, [], ◌∷◌, ◌++◌, length, refl, sym, ◌∙◌, ap, arith, subst, append-nil}
-use Rattle.std.specs.Prelude.{IsSome, if◌then◌else◌}
+use Rattle.std.proofs.Common.{◌≡◌, ℕ, zero, suc, ◌+◌, ◌-◌, ◌<◌, ◌≤◌, Bool, Some, List, [], ◌∷◌, ◌++◌, refl, sym, ◌∙◌, ap, arith, subst, append-nil}
+use Rattle.std.specs.Prelude.{vec_capacity, if◌then◌else◌}
 use Rattle.pv_interval.specs.Bounds.{Bounds}
 use Rattle.pv_tree.specs.Trees.{Tree, Seen, leaf, subtree, outcome_at, opens, box_of}
 use Rattle.pv_tree.specs.Stages.{Rule, IsStage, Grows, full_of}
@@ -12,7 +12,6 @@ use Rattle.pv_board.specs.declared.mark.Mark.{Mark}
 use Rattle.pv_board.specs.declared.leaves.Leaves.{Leaves}
 use Rattle.pv_board.specs.Marks.{weigh, at, times, holds, marked, issued, granted}
 use Rattle.pv_board.specs.Rules.{settled_in}
-use Rattle.pv_board.specs.Core.{Core}
 use Rattle.pv_board.specs.Events.{IsOver, may_issue}
 use Rattle.pv_board.specs.Leaves.{marks_of, AreOpen, HasRoom, IsBoard, seen}
 use Rattle.pv_board.specs.Absorbing.{IsJoinAside, IsAbsorbed, part_at, filled, if_some, filling, CanFill, CanPileAll}
@@ -50,8 +49,8 @@ none_free l t (p ∷ ps) e are h =
     let some : 0 < times p l.free.items = let s = at_self p 1 in let w = ap (times p) e in omega (arith, s, w) in
     let x = h p (free_open l t p are some) in let y = free_unheld l t p are some in absurd (omega (arith, x, y))
 
-module _ (rule : Rule) (depth dims : ℕ) (root : List Bounds) (opening : Tree) (budget : ℕ) where
-  module _ (p st : Seen) (l : Leaves) (used steps : ℕ) (h : IsBoard rule depth dims root opening budget (seen p l used steps) l) (at_root : st.root ≡ root) (stage : IsStage rule depth root opening st.tree) where
+module _ (rule : Rule) (depth dims : ℕ) (root : List Bounds) (opening : Tree) (budget limit : ℕ) where
+  module _ (p st : Seen) (l : Leaves) (used steps : ℕ) (h : IsBoard rule depth dims root opening budget limit (seen p l used steps) l) (at_root : st.root ≡ root) (stage : IsStage rule depth root opening st.tree) where
     once : (q : List Bool) → times q l.free.items + marked (marks_of l) q ≤ 1
     once q = let a = h.leaves (λ (p : List Bool). at p q 1) in let m = once_most p.tree q in omega (arith, a, m)
 
@@ -105,8 +104,8 @@ module _ (rule : Rule) (depth dims : ℕ) (root : List Bounds) (opening : Tree) 
           (λ x m. ap (λ (z : Tree). weigh (λ (q : List Bool). f (x ++ q)) (opens z)) (issued_open x m) ∙ (let n = ap f (append-nil x) in omega (arith, n))) in
           omega (arith, a, b, c, d, k)
 
-      pub can_pile_all : settled_in t ≤ 100000 → CanPileAll t l.free.items 100001
-      can_pile_all few = record {
+      pub can_pile_all : (room : ℕ) → settled_in t < room → CanPileAll t l.free.items room
+      can_pile_all room few = record {
         there = λ q m. some_is (subtree t q) (with q) (there q (free_open l p.tree q h.leaves m));
         few = let s = sums (λ (q : List Bool). 1) in let o = few_opens t in omega (arith, s, o, few);
       }
@@ -121,22 +120,23 @@ module _ (rule : Rule) (depth dims : ℕ) (root : List Bounds) (opening : Tree) 
             let a = sums f in let b = free f in let c = ap (weigh (λ (m : Mark). f m.path)) same_marks in
             let d = ap (λ (z : Tree). weigh f (opens z)) q_tree in omega (arith, a, b, c, d)
 
-        pub absorbed_board : HasRoom new → issued (marks_of l) + granted (marks_of l) + l.left ≤ q.spare → settled_in t + (issued (marks_of l) + granted (marks_of l) + l.left) ≤ 100000
-            → IsBoard rule depth dims root opening budget (seen q new used steps) new
-        absorbed_board room spare few =
+        pub absorbed_board : HasRoom new → settled_in t + (issued (marks_of l) + granted (marks_of l) + l.left) < vec_capacity new.free → issued (marks_of l) + granted (marks_of l) + l.left ≤ q.spare → settled_in t + (issued (marks_of l) + granted (marks_of l) + l.left) ≤ limit
+            → IsBoard rule depth dims root opening budget limit (seen q new used steps) new
+        absorbed_board room free_room spare few =
             let i = ap issued same_marks in let g = ap granted same_marks in
             let n : weigh (λ (m : Mark). m.grant - 15) (marks_of new) ≡ 0 = ap (weigh (λ (m : Mark). m.grant - 15)) same_marks ∙ h.few_grants in
             let k = h.core.conserved in let s = h.core.settled in let a = added_is in let z = ap settled_in q_tree in
             record {
               opens_right = h.opens_right;
-              core = core_of rule depth root opening budget (seen q new used steps) new (q_root ∙ h.core.root_is) (subst (IsStage rule depth root opening) (sym q_tree) filled_stage) refl are_open n
+              core = core_of rule depth root opening budget limit (seen q new used steps) new (q_root ∙ h.core.root_is) (subst (IsStage rule depth root opening) (sym q_tree) filled_stage) refl are_open n
                   (omega (arith, i, g, k, same_left)) (omega (arith, s, a, z)) (omega (arith, i, g, few, z, same_left)) (omega (arith, i, g, spare, same_left));
               leaves = are_open;
               few_grants = n;
               room = room;
+              for_free = omega (arith, i, g, free_room, z, same_left);
             }
 
-        pub absorbed_is : (added : ℕ) → settled_in q.tree ≡ settled_in p.tree + added → settled_in t + (issued (marks_of l) + granted (marks_of l) + l.left) ≤ 100000 → IsAbsorbed (seen p l used steps) (seen q new used steps) st.tree added
+        pub absorbed_is : (added : ℕ) → settled_in q.tree ≡ settled_in p.tree + added → settled_in t + (issued (marks_of l) + granted (marks_of l) + l.left) ≤ limit → IsAbsorbed limit (seen p l used steps) (seen q new used steps) st.tree added
         absorbed_is added count few = record {
           tree = subst (IsJoinAside (marks_of l) p.tree st.tree) (sym q_tree) filled_aside;
           added_is = count;

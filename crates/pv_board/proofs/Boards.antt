@@ -38,11 +38,11 @@ unheld_free l t q h e z = let a = h (λ p. at p q 1) in let o = open_once t q e 
 pub last_times : (xs : List (List Bool)) (p : List Bool) → 0 < times p (xs ++ p ∷ [])
 last_times xs p = let a = weigh-append (λ (q : List Bool). at q p 1) xs (p ∷ []) in let s = at_self p 1 in omega (arith, a, s)
 
-pub core_of : (rule : Rule) (depth : ℕ) (root : List Bounds) (opening : Tree) (budget : ℕ) (c : Core) (l : Leaves) → c.root ≡ root → IsStage rule depth root opening c.tree
+pub core_of : (rule : Rule) (depth : ℕ) (root : List Bounds) (opening : Tree) (budget limit : ℕ) (c : Core) (l : Leaves) → c.root ≡ root → IsStage rule depth root opening c.tree
     → c.marks ≡ marks_of l → AreOpen l c.tree → weigh (λ m. m.grant - 15) (marks_of l) ≡ 0
     → c.used + issued c.marks + granted c.marks + c.left ≡ budget → settled_in opening + c.used ≤ settled_in c.tree
-    → settled_in c.tree + issued c.marks + granted c.marks + c.left ≤ 100000 → issued c.marks + granted c.marks + c.left ≤ c.spare → IsCore rule depth root opening budget c
-core_of rule depth root opening budget c l e stage m are g n s f r = record {
+    → settled_in c.tree + issued c.marks + granted c.marks + c.left ≤ limit → issued c.marks + granted c.marks + c.left ≤ c.spare → IsCore rule depth root opening budget limit c
+core_of rule depth root opening budget limit c l e stage m are g n s f r = record {
   root_is = e;
   stage = stage;
   distinct = λ q. subst (λ (ms : List Mark). marked ms q ≤ 1) (sym m) (open_distinct l c.tree q are);

@@ -79,6 +79,7 @@ offered_two a b c xs ys h k =
       left = let x = h.left in let y = k.left in let z = add_count (take (units a) xs) (take (units b) ys) in let w = ap length t in omega (arith, x, y, z, w);
       stopped = k.stopped ∙ h.stopped;
       room = k.room;
+      for_free = k.for_free ∙ h.for_free;
     }
 
 listed_cut : (at low high : List Bool) (part s : Tree) (k : IsCutNode part) → s ≡ part → low ≡ at ++ false ∷ [] → high ≡ at ++ true ∷ [] → listed low k.low ++ listed high k.high ≡ listed at s
@@ -123,10 +124,10 @@ deal_low t path at len room h k =
     let d = h.depth in let e = ap height k.is in let s = length_app at false in let f = h.fits in let n = cut_count h.part k in
     record { part = k.low; is = low_there t path at len room h k; depth = omega (arith, d, e, s); fits = omega (arith, f, n) }
 
-pub deal_high : (t : Tree) (path at : List Bool) (len room : ℕ) (h : CanPile t path at len room) (k : IsCutNode h.part) (len' : ℕ) → len' ≤ len + length (opens k.low) → CanPile t (path ++ true ∷ []) (at ++ true ∷ []) len' room
-deal_high t path at len room h k len' l =
+pub deal_high : (t : Tree) (path at : List Bool) (len room : ℕ) (h : CanPile t path at len room) (k : IsCutNode h.part) (len' room' : ℕ) → len' ≤ len + length (opens k.low) → room' ≡ room → CanPile t (path ++ true ∷ []) (at ++ true ∷ []) len' room'
+deal_high t path at len room h k len' room' l r =
     let d = h.depth in let e = ap height k.is in let s = length_app at true in let f = h.fits in let n = cut_count h.part k in
-    record { part = k.high; is = high_there t path at len room h k; depth = omega (arith, d, e, s); fits = omega (arith, f, n, l) }
+    record { part = k.high; is = high_there t path at len room h k; depth = omega (arith, d, e, s); fits = omega (arith, f, n, l, r) }
 
 map_map : (p : List Bool) (b : Bool) (qs : List (List Bool)) → map (λ q. p ++ q) (map (λ q. b ∷ q) qs) ≡ map (λ q. (p ++ b ∷ []) ++ q) qs
 map_map p b [] = refl

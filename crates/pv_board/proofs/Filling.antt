@@ -1,8 +1,7 @@
 -- Trees whose open leaves were filled.
-use Rattle.std.proofs.Common.{◌≡◌, ℕ, zero, suc, ◌+◌, ◌<◌, ◌≤◌, max, Bool, true, false, Option, Some, None, List, [], ◌∷◌, ◌++◌, take, take_all, length, get_or, refl, sym, ◌∙◌, ap, arith, subst}
+use Rattle.std.proofs.Common.{◌≡◌, ℕ, zero, suc, ◌+◌, ◌<◌, ◌≤◌, Bool, true, false, Option, Some, None, List, [], ◌∷◌, ◌++◌, take, take_all, length, get_or, refl, sym, ◌∙◌, ap, arith, subst}
 use Rattle.std.specs.Prelude.{IsSome}
 use Rattle.std.proofs.lemmas.List.{take_more}
-use Rattle.pv_num.specs.Extended.{Extended}
 use Rattle.pv_interval.specs.Bounds.{Bounds}
 use Rattle.pv_box.specs.Boxes.{lower_half, upper_half}
 use Rattle.pv_tree.specs.Trees.{Tree, Seen, leaf, removed, inner, small, cut, top, subtree, outcome_at, graft, box_of, opens}
@@ -13,7 +12,7 @@ use Rattle.pv_tree.proofs.StageLaws.{IsCut, top_cut, grows_leaf, grows_self, gro
 use Rattle.pv_tree.specs.Trees.{shape_of, height}
 use Rattle.pv_tree.specs.declared.outcome.Shape.{Shape}
 use Rattle.pv_tree.specs.declared.outcome.Shape.TheVariants.{Absent}
-use Rattle.pv_join.specs.Joins.{settled_side, Agree, IsJoin, HasPart, IsOverlaid, IsRefusal, IsFirstDisagreement, is_a_cut}
+use Rattle.pv_join.specs.Joins.{settled_side, Agree, HasPart, IsOverlaid, IsRefusal, IsFirstDisagreement, is_a_cut}
 use Rattle.pv_join.specs.declared.merge.JoinRefused.{JoinRefused}
 use Rattle.pv_join.specs.declared.merge.JoinRefused.TheVariants as refused
 use Rattle.pv_join.proofs.JoinFacts.{join_unique, join_leaf_left, graft_same, some_there}

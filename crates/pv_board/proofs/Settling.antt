@@ -53,9 +53,9 @@ graft_settled t p s e =
     let h : Adds (counts_of t) (counts_of s) (counts_of (graft t p s)) = graft_counts t p s e in
     omega (arith, h.cut, h.removed, h.inner, h.small)
 
-module _ (rule : Rule) (depth dims : ℕ) (root : List Bounds) (opening : Tree) (budget : ℕ) where
+module _ (rule : Rule) (depth dims : ℕ) (root : List Bounds) (opening : Tree) (budget limit : ℕ) where
   abbrev Is : Seen → Leaves → ℕ → ℕ → Type 0
-  Is p l used steps = IsBoard rule depth dims root opening budget (seen p l used steps) l
+  Is p l used steps = IsBoard rule depth dims root opening budget limit (seen p l used steps) l
 
   -- a ticket's mark was closed, its leaf became a stage of the leaf, and the stage's open leaves were offered
   pub record WasSettled (p p' : Seen) (old mid new : Leaves) (t : Mark) (s : Tree) : Type 0 where
@@ -109,7 +109,7 @@ module _ (rule : Rule) (depth dims : ℕ) (root : List Bounds) (opening : Tree) 
         let sp = w.spare in
         record {
           opens_right = h.opens_right;
-          core = core_of rule depth root opening budget (seen p' new (used + settled_in s) steps') new (w.root_is ∙ h.core.root_is)
+          core = core_of rule depth root opening budget limit (seen p' new (used + settled_in s) steps') new (w.root_is ∙ h.core.root_is)
               (subst (IsStage rule depth root opening) tree
               (graft_stage rule depth dims h.opens_right.rule_fits opening p.tree root t.path s h.opens_right.box h.opens_right.places h.opens_right.paves h.core.stage is_open
               (subst (λ (b : List Bounds). Grows s (full_of rule depth (box_of b p.tree t.path) leaf (length t.path))) h.core.root_is w.grows)))
@@ -117,6 +117,7 @@ module _ (rule : Rule) (depth dims : ℕ) (root : List Bounds) (opening : Tree) 
           leaves = are;
           few_grants = grants_now;
           room = w.offered.room;
+          for_free = let s = h.for_free in let v = w.closed.for_free in let x = w.offered.for_free in omega (arith, a, b, c, d, z, u, l, k, g, s, v, x);
         }
 
     over_left : left_over (seen p old used steps) t s ≡ mid.left
@@ -185,11 +186,11 @@ cut_depth p (outcome.Cut to v a) h e = h
 pub same_mark : (m n : Mark) (o : Option Mark) → o ≡ Some m → o ≡ Some n → m ≡ n
 same_mark m n o e f = let w : Some m ≡ Some n = sym e ∙ f in cc
 
-module _ (rule : Rule) (depth dims : ℕ) (root : List Bounds) (opening : Tree) (budget : ℕ) where
+module _ (rule : Rule) (depth dims : ℕ) (root : List Bounds) (opening : Tree) (budget limit : ℕ) where
   -- the same of one outcome
   pub was_settled : (p p' : Seen) (old mid new : Leaves) (used steps : ℕ) (t r : Mark) (path : List Bool) (o : Outcome) (cuts : Bool) → path ≡ t.path → r ≡ t → cuts ≡ is_a_cut o
-      → IsDue rule depth dims root opening budget p path o → holds (marks_of old) t.path ≡ suc t.grant → IsClosed old mid r 1 → p'.root ≡ p.root → p'.tree ≡ graft p.tree path (settled o) → p.spare ≤ p'.spare + 1
-      → AreOffered mid new (children_of path cuts) → WasSettled rule depth dims root opening budget p p' old mid new t (settled o)
+      → IsDue rule depth dims root opening budget limit p path o → holds (marks_of old) t.path ≡ suc t.grant → IsClosed old mid r 1 → p'.root ≡ p.root → p'.tree ≡ graft p.tree path (settled o) → p.spare ≤ p'.spare + 1
+      → AreOffered mid new (children_of path cuts) → WasSettled rule depth dims root opening budget limit p p' old mid new t (settled o)
   was_settled p p' old mid new used steps t r path o cuts at_path same cuts_is due held closed root_is tree spare offered =
       let one = settled_one o in
       record {
@@ -203,19 +204,19 @@ module _ (rule : Rule) (depth dims : ℕ) (root : List Bounds) (opening : Tree) 
         offered = subst (AreOffered mid new) ((λ i. children_of (at_path i) (cuts_is i)) ∙ sym (outcome_leaves t.path o)) offered;
       }
 
-  pub one_board : (p p' : Seen) (old mid new : Leaves) (used steps : ℕ) (t : Mark) (o : Outcome) → IsBoard rule depth dims root opening budget (seen p old used steps) old → WasSettled rule depth dims root opening budget p p' old mid new t (settled o)
-      → (steps' : ℕ) → IsBoard rule depth dims root opening budget (seen p' new (used + 1) steps') new
+  pub one_board : (p p' : Seen) (old mid new : Leaves) (used steps : ℕ) (t : Mark) (o : Outcome) → IsBoard rule depth dims root opening budget limit (seen p old used steps) old → WasSettled rule depth dims root opening budget limit p p' old mid new t (settled o)
+      → (steps' : ℕ) → IsBoard rule depth dims root opening budget limit (seen p' new (used + 1) steps') new
   one_board p p' old mid new used steps t o h w steps' =
-      subst (λ (n : ℕ). IsBoard rule depth dims root opening budget (seen p' new (used + n) steps') new) (settled_one o) (settled_board rule depth dims root opening budget p p' old mid new used steps t (settled o) h w steps')
+      subst (λ (n : ℕ). IsBoard rule depth dims root opening budget limit (seen p' new (used + n) steps') new) (settled_one o) (settled_board rule depth dims root opening budget limit p p' old mid new used steps t (settled o) h w steps')
 
-  pub one_is : (p p' : Seen) (old mid new : Leaves) (used steps : ℕ) (t : Mark) (o : Outcome) (path : List Bool) (cuts : Bool) (children : List Mark) → IsBoard rule depth dims root opening budget (seen p old used steps) old → WasSettled rule depth dims root opening budget p p' old mid new t (settled o)
+  pub one_is : (p p' : Seen) (old mid new : Leaves) (used steps : ℕ) (t : Mark) (o : Outcome) (path : List Bool) (cuts : Bool) (children : List Mark) → IsBoard rule depth dims root opening budget limit (seen p old used steps) old → WasSettled rule depth dims root opening budget limit p p' old mid new t (settled o)
       → path ≡ t.path → cuts ≡ is_a_cut o → children ≡ map fresh (take (free_units mid.stopped mid.left) (children_of path cuts)) → IsSettling (seen p old used steps) (seen p' new (used + 1) (next_step steps)) t (settled o) children
   one_is p p' old mid new used steps t o path cuts children h w at_path cuts_is e =
       subst (λ (n : ℕ). IsSettling (seen p old used steps) (seen p' new (used + n) (next_step steps)) t (settled o) children) (settled_one o)
-      (settled_is rule depth dims root opening budget p p' old mid new used steps t (settled o) h w children
+      (settled_is rule depth dims root opening budget limit p p' old mid new used steps t (settled o) h w children
       (e ∙ ap (λ (ps : List (List Bool)). map fresh (take (free_units mid.stopped mid.left) ps)) ((λ i. children_of (at_path i) (cuts_is i)) ∙ sym (outcome_leaves t.path o))))
 
-  pub one_risen : (p p' : Seen) (old mid new : Leaves) (used steps steps' : ℕ) (t : Mark) (o : Outcome) → IsBoard rule depth dims root opening budget (seen p old used steps) old → WasSettled rule depth dims root opening budget p p' old mid new t (settled o)
+  pub one_risen : (p p' : Seen) (old mid new : Leaves) (used steps steps' : ℕ) (t : Mark) (o : Outcome) → IsBoard rule depth dims root opening budget limit (seen p old used steps) old → WasSettled rule depth dims root opening budget limit p p' old mid new t (settled o)
       → HasRisen (seen p old used steps) (seen p' new (used + 1) steps') 1
   one_risen p p' old mid new used steps steps' t o h w =
       let open_leaf = held_open old p.tree t.path t.grant h.leaves w.held in
@@ -227,7 +228,7 @@ module _ (rule : Rule) (depth dims : ℕ) (root : List Bounds) (opening : Tree) 
     pub grows : Grows st.tree (full_of rule depth (box_of p.root p.tree path) leaf (length path))
     pub depth_is : length path + height st.tree ≤ 200
 
-  pub staged_is : (p : Seen) (l : Leaves) (used steps : ℕ) (path : List Bool) (st : Seen) → IsBoard rule depth dims root opening budget (seen p l used steps) l → IsPaving p.root p.tree → subtree p.tree path ≡ Some leaf
+  pub staged_is : (p : Seen) (l : Leaves) (used steps : ℕ) (path : List Bool) (st : Seen) → IsBoard rule depth dims root opening budget limit (seen p l used steps) l → IsPaving p.root p.tree → subtree p.tree path ≡ Some leaf
       → st.root ≡ box_of root (full_of rule depth root opening 0) path → Grows st.tree (full_of rule depth st.root leaf (length path)) → length path ≤ 200 → IsStaged p path st
   staged_is p l used steps path st h paving e at_root grows few =
       let there : IsSome (subtree p.tree path) = subst IsSome (sym e) refl in
@@ -245,7 +246,7 @@ module _ (rule : Rule) (depth dims : ℕ) (root : List Bounds) (opening : Tree) 
 
   pub was_staged : (p p' : Seen) (old mid new : Leaves) (t r : Mark) (path : List Bool) (st : Seen) (n : ℕ) → path ≡ t.path → r ≡ t → n ≡ settled_in st.tree → IsStaged p path st → holds (marks_of old) t.path ≡ suc t.grant
       → settled_in st.tree ≤ 1 + t.grant → IsClosed old mid r n → p'.root ≡ p.root → p'.tree ≡ graft p.tree path st.tree → p.spare ≤ p'.spare + settled_in st.tree → AreOffered mid new (listed path st.tree)
-      → WasSettled rule depth dims root opening budget p p' old mid new t st.tree
+      → WasSettled rule depth dims root opening budget limit p p' old mid new t st.tree
   was_staged p p' old mid new t r path st n at_path same count staged held few closed root_is tree spare offered = record {
     held = held;
     grows = subst (λ (q : List Bool). Grows st.tree (full_of rule depth (box_of p.root p.tree q) leaf (length q))) at_path staged.grows;
@@ -257,20 +258,20 @@ module _ (rule : Rule) (depth dims : ℕ) (root : List Bounds) (opening : Tree) 
     offered = subst (AreOffered mid new) (listed_is path st.tree ∙ ap (λ (q : List Bool). leaves_at q st.tree) at_path) offered;
   }
 
-  pub stage_board : (p p' : Seen) (old mid new : Leaves) (used steps n : ℕ) (t : Mark) (s : Tree) → IsBoard rule depth dims root opening budget (seen p old used steps) old → WasSettled rule depth dims root opening budget p p' old mid new t s → n ≡ settled_in s
-      → (steps' : ℕ) → IsBoard rule depth dims root opening budget (seen p' new (used + n) steps') new
+  pub stage_board : (p p' : Seen) (old mid new : Leaves) (used steps n : ℕ) (t : Mark) (s : Tree) → IsBoard rule depth dims root opening budget limit (seen p old used steps) old → WasSettled rule depth dims root opening budget limit p p' old mid new t s → n ≡ settled_in s
+      → (steps' : ℕ) → IsBoard rule depth dims root opening budget limit (seen p' new (used + n) steps') new
   stage_board p p' old mid new used steps n t s h w e steps' =
-      subst (λ (m : ℕ). IsBoard rule depth dims root opening budget (seen p' new (used + m) steps') new) (sym e) (settled_board rule depth dims root opening budget p p' old mid new used steps t s h w steps')
+      subst (λ (m : ℕ). IsBoard rule depth dims root opening budget limit (seen p' new (used + m) steps') new) (sym e) (settled_board rule depth dims root opening budget limit p p' old mid new used steps t s h w steps')
 
-  pub stage_settles : (p p' : Seen) (old mid new : Leaves) (used steps n : ℕ) (t : Mark) (s : Tree) (path : List Bool) (before children : List Mark) → IsBoard rule depth dims root opening budget (seen p old used steps) old → WasSettled rule depth dims root opening budget p p' old mid new t s → n ≡ settled_in s
+  pub stage_settles : (p p' : Seen) (old mid new : Leaves) (used steps n : ℕ) (t : Mark) (s : Tree) (path : List Bool) (before children : List Mark) → IsBoard rule depth dims root opening budget limit (seen p old used steps) old → WasSettled rule depth dims root opening budget limit p p' old mid new t s → n ≡ settled_in s
       → path ≡ t.path → before ≡ [] → children ≡ before ++ map fresh (take (free_units mid.stopped mid.left) (listed path s)) → IsSettling (seen p old used steps) (seen p' new (used + n) (next_step steps)) t s children
   stage_settles p p' old mid new used steps n t s path before children h w e at_path none is =
       subst (λ (m : ℕ). IsSettling (seen p old used steps) (seen p' new (used + m) (next_step steps)) t s children) (sym e)
-      (settled_is rule depth dims root opening budget p p' old mid new used steps t s h w children
+      (settled_is rule depth dims root opening budget limit p p' old mid new used steps t s h w children
       (is ∙ ap (λ (ms : List Mark). ms ++ map fresh (take (free_units mid.stopped mid.left) (listed path s))) none
       ∙ ap (λ (ps : List (List Bool)). map fresh (take (free_units mid.stopped mid.left) ps)) (listed_is path s ∙ ap (λ (q : List Bool). leaves_at q s) at_path)))
 
-  pub stage_risen : (p p' : Seen) (old mid new : Leaves) (used steps steps' n : ℕ) (t : Mark) (s : Tree) → IsBoard rule depth dims root opening budget (seen p old used steps) old → WasSettled rule depth dims root opening budget p p' old mid new t s → n ≡ settled_in s
+  pub stage_risen : (p p' : Seen) (old mid new : Leaves) (used steps steps' n : ℕ) (t : Mark) (s : Tree) → IsBoard rule depth dims root opening budget limit (seen p old used steps) old → WasSettled rule depth dims root opening budget limit p p' old mid new t s → n ≡ settled_in s
       → HasRisen (seen p old used steps) (seen p' new (used + n) steps') (settled_in s)
   stage_risen p p' old mid new used steps steps' n t s h w e =
       let open_leaf = held_open old p.tree t.path t.grant h.leaves w.held in

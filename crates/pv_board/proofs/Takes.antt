@@ -36,9 +36,9 @@ pub current_issued : (ms : List Mark) (q : List Bool) → 0 < holds ms q → 0 <
 current_issued [] q h = absurd (omega (arith, h))
 current_issued (m ∷ ms) q h = omega arith
 
-module _ (rule : Rule) (depth dims : ℕ) (root : List Bounds) (opening : Tree) (budget : ℕ) where
+module _ (rule : Rule) (depth dims : ℕ) (root : List Bounds) (opening : Tree) (budget limit : ℕ) where
   abbrev Is : Seen → Leaves → ℕ → ℕ → Type 0
-  Is p l used steps = IsBoard rule depth dims root opening budget (seen p l used steps) l
+  Is p l used steps = IsBoard rule depth dims root opening budget limit (seen p l used steps) l
 
   issued_board : (p : Seen) (old new : Leaves) (used steps : ℕ) (t : Mark) → Is p old used steps → IsIssued old new t → Is p new used steps
   issued_board p old new used steps t h i =
@@ -48,11 +48,12 @@ module _ (rule : Rule) (depth dims : ℕ) (root : List Bounds) (opening : Tree) 
       let n = h.core.conserved in let f = h.core.few in let r = h.core.room in let l = i.left in
       record {
         opens_right = h.opens_right;
-        core = core_of rule depth root opening budget (seen p new used steps) new h.core.root_is h.core.stage refl are g (omega (arith, a, b, z, n, l)) h.core.settled
+        core = core_of rule depth root opening budget limit (seen p new used steps) new h.core.root_is h.core.stage refl are g (omega (arith, a, b, z, n, l)) h.core.settled
             (omega (arith, a, b, z, f, l)) (omega (arith, a, b, z, r, l));
         leaves = are;
         few_grants = g;
         room = i.room;
+        for_free = let s = h.for_free in let k = i.for_free in omega (arith, a, b, z, s, k, l);
       }
 
   pub taken_board : (p : Seen) (old new : Leaves) (used steps : ℕ) (o : Option Mark) → Is p old used steps → IfSome o (IsIssued old new) → IfNone o (new ≡ old) → Is p new used steps
@@ -96,11 +97,12 @@ module _ (rule : Rule) (depth dims : ℕ) (root : List Bounds) (opening : Tree) 
       let n = h.core.conserved in let f = h.core.few in let r = h.core.room in let l = i.left in
       record {
         opens_right = h.opens_right;
-        core = core_of rule depth root opening budget (seen p new used steps') new h.core.root_is h.core.stage refl are g (omega (arith, a, b, n, l)) h.core.settled
+        core = core_of rule depth root opening budget limit (seen p new used steps') new h.core.root_is h.core.stage refl are g (omega (arith, a, b, n, l)) h.core.settled
             (omega (arith, a, b, f, l)) (omega (arith, a, b, r, l));
         leaves = are;
         few_grants = g;
         room = i.room;
+        for_free = let s = h.for_free in let k = i.for_free in omega (arith, a, b, s, k, l);
       }
 
   -- a mark's grant grows
@@ -114,11 +116,12 @@ module _ (rule : Rule) (depth dims : ℕ) (root : List Bounds) (opening : Tree) 
       let n = h.core.conserved in let f = h.core.few in let r = h.core.room in let l = i.left in
       record {
         opens_right = h.opens_right;
-        core = core_of rule depth root opening budget (seen p new used steps) new h.core.root_is h.core.stage refl are g (omega (arith, a, b, n, l, gu)) h.core.settled
+        core = core_of rule depth root opening budget limit (seen p new used steps) new h.core.root_is h.core.stage refl are g (omega (arith, a, b, n, l, gu)) h.core.settled
             (omega (arith, a, b, f, l, gu)) (omega (arith, a, b, r, l, gu));
         leaves = are;
         few_grants = g;
         room = i.room;
+        for_free = let s = h.for_free in let k = i.for_free in omega (arith, a, b, s, k, l, gu);
       }
 
   -- where a leaf is issued, few leaves are free

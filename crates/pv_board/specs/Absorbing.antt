@@ -1,6 +1,5 @@
 -- What a board becomes where a stage is absorbed, and what refuses it.
 use Rattle.std.specs.Prelude.{◌≡◌, ℕ, zero, suc, ◌+◌, ◌<◌, ◌≤◌, Bool, true, false, Some, None, IsSome, List, [], ◌∷◌, ◌++◌}
-use Rattle.pv_interval.specs.Bounds.{Bounds}
 use Rattle.pv_tree.specs.Trees.{Tree, Seen, leaf, removed, inner, small, cut, subtree, outcome_at, box_of, opens}
 use Rattle.pv_join.specs.Joins.{settled_side}
 use Rattle.pv_board.specs.declared.mark.Mark.{Mark}
@@ -19,23 +18,23 @@ pub record IsJoinAside (marks : List Mark) (old stage new : Tree) : Type 0 where
   pub issued : (p : List Bool) → 0 < holds marks p → subtree new p ≡ Some leaf
   pub others : (p : List Bool) → IsApart marks p → outcome_at new p ≡ settled_side (outcome_at old p) (outcome_at stage p)
 
--- So many nodes were added by a stage.
-pub record IsAbsorbed (old new : Core) (stage : Tree) (added : ℕ) : Type 0 where
+-- So many nodes were added by a stage, and all keeps within a limit.
+pub record IsAbsorbed (limit : ℕ) (old new : Core) (stage : Tree) (added : ℕ) : Type 0 where
   pub tree : IsJoinAside old.marks old.tree stage new.tree
   pub added_is : settled_in new.tree ≡ settled_in old.tree + added
-  pub few : settled_in new.tree + issued old.marks + granted old.marks + old.left ≤ 100000
+  pub few : settled_in new.tree + issued old.marks + granted old.marks + old.left ≤ limit
   pub rest : new ≡ record old { tree = new.tree; spare = new.spare }
 
--- So many nodes would be settled, and there would be too many of them.
-pub record IsTooMuch (old : Core) (stage : Tree) (settled : ℕ) : Type 0 where
+-- So many nodes would be settled, and that would be more than a limit allows.
+pub record IsTooMuch (limit : ℕ) (old : Core) (stage : Tree) (settled : ℕ) : Type 0 where
   pub tree : Tree
   pub is : IsJoinAside old.marks old.tree stage tree
   pub count : settled ≡ settled_in tree
-  pub many : 100000 < settled + issued old.marks + granted old.marks + old.left
+  pub many : limit < settled + issued old.marks + granted old.marks + old.left
 
-abbrev pub IsAbsorbRefusal : Core → Tree → AbsorbRefused → Type 0
-IsAbsorbRefusal old stage refused.Memory = Unit {0}
-IsAbsorbRefusal old stage (refused.TreeLimit settled) = IsTooMuch old stage settled
+abbrev pub IsAbsorbRefusal : ℕ → Core → Tree → AbsorbRefused → Type 0
+IsAbsorbRefusal limit old stage refused.Memory = Unit {0}
+IsAbsorbRefusal limit old stage (refused.TreeLimit settled) = IsTooMuch limit old stage settled
 
 -- The part of a tree at a path, an open leaf where the tree has no such path.
 abbrev pub part_at : Tree → List Bool → Tree

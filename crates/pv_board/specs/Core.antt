@@ -29,8 +29,9 @@ pub record IsOpening (rule : Rule) (depth dims : ℕ) (root : List Bounds) (open
   pub places : length root ≡ dims
   pub paves : Paves root opening
 
--- The paving is a stage of the opening, the issued paths are distinct open leaves, each grant is at most 15, and nothing of the budget is lost.
-pub record IsCore (rule : Rule) (depth : ℕ) (root : List Bounds) (opening : Tree) (budget : ℕ) (c : Core) : Type 0 where
+-- The paving is a stage of the opening, the issued paths are distinct open leaves, each grant is at most 15, nothing of the budget is lost, and all of it
+-- keeps within the limit.
+pub record IsCore (rule : Rule) (depth : ℕ) (root : List Bounds) (opening : Tree) (budget limit : ℕ) (c : Core) : Type 0 where
   pub root_is : c.root ≡ root
   pub stage : IsStage rule depth root opening c.tree
   pub distinct : (q : List Bool) → marked c.marks q ≤ 1
@@ -38,7 +39,7 @@ pub record IsCore (rule : Rule) (depth : ℕ) (root : List Bounds) (opening : Tr
   pub grants : (q : List Bool) → holds c.marks q ≤ 16
   pub conserved : c.used + issued c.marks + granted c.marks + c.left ≡ budget
   pub settled : settled_in opening + c.used ≤ settled_in c.tree
-  pub few : settled_in c.tree + issued c.marks + granted c.marks + c.left ≤ 100000
+  pub few : settled_in c.tree + issued c.marks + granted c.marks + c.left ≤ limit
   pub room : issued c.marks + granted c.marks + c.left ≤ c.spare
 
 abbrev pub coded_mark : Coded Mark

@@ -21,7 +21,7 @@ pub record IsOpened (root : List Bounds) (opening : Tree) (budget : ℕ) (c : Co
 abbrev pub IsBack : Seen → Seen → Type 0
 IsBack opening back = (back.root ≡ opening.root) × (back.tree ≡ opening.tree)
 
-abbrev pub IsOpenRefusal : Seen → ℕ → OpenRefused → Type 0
-IsOpenRefusal opening budget (refused.Memory back) = IsBack opening back
-IsOpenRefusal opening budget (refused.TreeLimit settled back) =
-    IsBack opening back × (settled ≡ settled_in opening.tree) × (100000 < settled + budget)
+abbrev pub IsOpenRefusal : Seen → ℕ → ℕ → OpenRefused → Type 0
+IsOpenRefusal opening budget limit (refused.Memory back) = IsBack opening back
+IsOpenRefusal opening budget limit (refused.TreeLimit settled back) =
+    IsBack opening back × (settled ≡ settled_in opening.tree) × (limit < settled + budget)

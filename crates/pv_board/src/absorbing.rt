@@ -5,7 +5,6 @@ ghost use Rattle.pv_board.specs.Marks.{weigh};
 ghost use Rattle.pv_board.specs.Absorbing.{CanFill, filled, filling, part_at, CanPileAll};
 
 use crate::board::is_absent;
-use crate::leaves::MOST_LEAVES;
 use crate::pile::pile;
 use pv_join::{JoinRefused, overlay};
 use pv_num::Memory;
@@ -17,8 +16,8 @@ use std::alloc::Global;
 pub enum AbsorbRefused {
     /// Want of memory.
     Memory,
-    /// So many nodes would be settled. With what is issued, granted and left that is more than a
-    /// tree may have settled.
+    /// So many nodes would be settled. With what is issued, granted and left that is more than
+    /// the limit.
     TreeLimit { settled: u64 },
 }
 
@@ -70,20 +69,20 @@ pub(crate) fn fill_all(
     Ok(())
 }
 
-/// The open leaves below some nodes of a paving, with room for every open leaf that a tree can
-/// have.
+/// The open leaves below some nodes of a paving, with room for so many.
 pub(crate) fn leaves_below(
     alloc: Global,
     paving: &Paving,
     nodes: &[Path],
+    room: usize,
 ) -> Result<Vec<Path>, Memory>
-    requires { CanPileAll paving.now.tree nodes.now 100001 }
+    requires { CanPileAll paving.now.tree nodes.now room }
     ensures leaves { IfOk result (λ v. (f : List Bool → ℕ) → weigh f v.items ≡
         weigh (λ p. weigh (λ q. f (p ++ q)) (opens (part_at paving.now.tree p))) nodes.now) }
-    ensures room { IfOk result (λ v. 100001 ≤ vec_capacity v) }
+    ensures room { IfOk result (λ v. room ≤ vec_capacity v) }
 {
     let _places = paving.dims();
-    let mut leaves = Vec::with_capacity(alloc, MOST_LEAVES)?;
+    let mut leaves = Vec::with_capacity(alloc, room)?;
     for i in 0..nodes.len() {
         let path = nodes[i];
         pile(paving, path, path, &mut leaves);

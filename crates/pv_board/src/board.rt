@@ -12,15 +12,15 @@ ghost use Rattle.pv_tree.specs.declared.outcome.Shape.TheVariants.{Absent};
 ghost use Rattle.pv_board.specs.Leaves.{IsBoard, seen};
 
 use crate::absorbing::{AbsorbRefused, fill_all, leaves_below};
+use crate::ceiling::Ceiling;
 use crate::deal::deal;
 use crate::leaves::Leaves;
 use crate::naming::Naming;
-use crate::opening::MOST_SETTLED;
 use crate::ticket::{Look, Settled, Ticket};
 use pv_box::IBox;
 use pv_tree::{Batch, Counts, Outcome, Path, Paving, Shape};
 use std::alloc::Global;
-use std::marker::{Model, PhantomData};
+use std::marker::Model;
 
 /// A paving that is being settled: which of its open leaves are issued, and what is left of the
 /// budget.
@@ -30,7 +30,7 @@ pub struct Board<N: Naming> {
     leaves: Leaves,
     used: u64,
     steps: u64,
-    of: PhantomData<N>,
+    ceiling: Ceiling<N>,
 }
 
 impl<N: Naming> Model for Board<N> {
@@ -43,13 +43,13 @@ impl<N: Naming> Model for Board<N> {
 
     ghost view = { λ a. seen a.paving a.leaves a.used a.steps };
 
-    ghost invariant = { λ a. IsBoard N.rule N.depth N.dims N.root N.opening N.budget (seen a.paving a.leaves a.used a.steps) a.leaves };
+    ghost invariant = { λ a. IsBoard N.rule N.depth N.dims N.root N.opening N.budget N.limit (seen a.paving a.leaves a.used a.steps) a.leaves };
 }
 
 impl<N: Naming> Board<N> {
     /// A board of a paving and its open leaves, with nothing used.
-    pub(crate) fn of_parts(paving: Paving, leaves: Leaves) -> Board<N>
-        requires { IsBoard N.rule N.depth N.dims N.root N.opening N.budget
+    pub(crate) fn of_parts(paving: Paving, leaves: Leaves, ceiling: Ceiling<N>) -> Board<N>
+        requires { IsBoard N.rule N.depth N.dims N.root N.opening N.budget N.limit
             (seen paving leaves 0 0) leaves }
         ensures { result ≡ seen paving leaves 0 0 }
     {
@@ -58,7 +58,7 @@ impl<N: Naming> Board<N> {
             leaves,
             used: 0,
             steps: 0,
-            of: PhantomData,
+            ceiling,
         }
     }
 
@@ -66,7 +66,7 @@ impl<N: Naming> Board<N> {
     pub fn used(&self) -> u64
         ensures used { result ≡ self.now.used }
         ensures opening { IsOpening N.rule N.depth N.dims N.root N.opening }
-        ensures core { IsCore N.rule N.depth N.root N.opening N.budget self.now }
+        ensures core { IsCore N.rule N.depth N.root N.opening N.budget N.limit self.now }
     {
         self.used
     }
@@ -74,7 +74,7 @@ impl<N: Naming> Board<N> {
     /// What is left of the budget.
     pub fn left(&self) -> u64
         ensures left { result ≡ self.now.left }
-        ensures core { IsCore N.rule N.depth N.root N.opening N.budget self.now }
+        ensures core { IsCore N.rule N.depth N.root N.opening N.budget N.limit self.now }
     {
         self.leaves.left
     }
@@ -82,7 +82,7 @@ impl<N: Naming> Board<N> {
     /// How many leaves are issued.
     pub fn issued(&self) -> u64
         ensures issued { result ≡ issued self.now.marks }
-        ensures core { IsCore N.rule N.depth N.root N.opening N.budget self.now }
+        ensures core { IsCore N.rule N.depth N.root N.opening N.budget N.limit self.now }
     {
         self.leaves.marks.len()
     }
@@ -90,7 +90,7 @@ impl<N: Naming> Board<N> {
     /// How many nodes there are of each kind.
     pub fn counts(&self) -> Counts
         ensures counts { result ≡ counts_of self.now.tree }
-        ensures few { settled_in self.now.tree ≤ 100000 }
+        ensures few { settled_in self.now.tree ≤ N.limit }
     {
         self.paving.counts()
     }
@@ -303,8 +303,9 @@ impl<N: Naming> Board<N> {
         requires root { stage.now.root ≡ N.root }
         requires stage { IsStage N.rule N.depth N.root N.opening stage.now.tree }
         ensures absorbed { IfOk result (λ added.
-            IsAbsorbed self.old self.new stage.now.tree added) }
-        ensures refused { IfErr result (λ e. IsAbsorbRefusal self.old stage.now.tree e) }
+            IsAbsorbed N.limit self.old self.new stage.now.tree added) }
+        ensures refused { IfErr result (λ e.
+            IsAbsorbRefusal N.limit self.old stage.now.tree e) }
         ensures same { OnErr result (self.new ≡ self.old) }
         ensures over { IsOver self.old → IsOver self.new }
     {
@@ -312,11 +313,13 @@ impl<N: Naming> Board<N> {
         fill_all(alloc, &mut joined, stage, &self.leaves.free)?;
         let settled = joined.counts().settled();
         let unused = self.leaves.unused();
-        if settled + unused > MOST_SETTLED {
+        let most = self.ceiling.nodes();
+        if settled + unused > most {
             return Err(AbsorbRefused::TreeLimit { settled });
         }
         joined.reserve(unused)?;
-        let free = leaves_below(alloc, &joined, &self.leaves.free)?;
+        let room = (settled + unused) as usize + 1;
+        let free = leaves_below(alloc, &joined, &self.leaves.free, room)?;
         let added = settled - self.paving.counts().settled();
         self.leaves.free = free;
         self.paving = joined;
@@ -328,7 +331,7 @@ impl<N: Naming> Board<N> {
         requires { issued self.marks ≡ 0 }
         ensures root { result.root ≡ self.root }
         ensures tree { result.tree ≡ self.tree }
-        ensures core { IsCore N.rule N.depth N.root N.opening N.budget self }
+        ensures core { IsCore N.rule N.depth N.root N.opening N.budget N.limit self }
     {
         self.paving
     }

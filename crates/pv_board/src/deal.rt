@@ -1,5 +1,5 @@
 //! Offering the open leaves of a stage.
-ghost use Rattle.std.specs.Prelude.{◌≡◌, ◌+◌, ◌≤◌, ◌<◌, ◌++◌, [], ◌∷◌, Some, length, vec_len, map, take};
+ghost use Rattle.std.specs.Prelude.{◌≡◌, ◌+◌, ◌≤◌, ◌<◌, ◌++◌, [], ◌∷◌, Some, length, vec_len, vec_capacity, map, take};
 ghost use Rattle.pv_tree.specs.Trees.{Tree, subtree, opens};
 ghost use Rattle.pv_board.specs.Events.{free_units, fresh};
 ghost use Rattle.pv_board.specs.Leaves.{HasRoom, AreOffered};
@@ -12,7 +12,7 @@ use pv_tree::{Batch, Path, Paving};
 
 /// Offers one leaf, and puts its ticket into the batch.
 fn deal_one(leaves: &mut Leaves, at: Path, children: &mut Batch<Ticket>)
-    requires few { vec_len leaves.old.free < 100001 }
+    requires few { vec_len leaves.old.free < vec_capacity leaves.old.free }
     requires room { HasRoom leaves.old }
     requires batch { length children.old < 17 }
     ensures offered { AreOffered leaves.old leaves.new (at ∷ []) }
@@ -33,7 +33,8 @@ pub(crate) fn deal(
     at: Path,
     children: &mut Batch<Ticket>,
 )
-    requires free { CanPile stage.now.tree path at (vec_len leaves.old.free) 100001 }
+    requires free { CanPile stage.now.tree path at (vec_len leaves.old.free)
+        (vec_capacity leaves.old.free) }
     requires batch { (s : Tree) → subtree stage.now.tree path ≡ Some s →
         length children.old + length (opens s) ≤ 17 }
     requires room { HasRoom leaves.old }

@@ -1,5 +1,5 @@
 //! The open leaves of a board's paving: which are issued, and which are free.
-ghost use Rattle.std.specs.Prelude.{◌≡◌, ◌+◌, ◌<◌, ◌≤◌, ◌++◌, [], ◌∷◌, true, false, is_some, nat_lt, length, vec_len, IfOk, IfNone, IsSome, IsTrue, IfSome, option_to_list, map, take, min, Some, ℕ, suc, nat_eq, List, Bool};
+ghost use Rattle.std.specs.Prelude.{◌≡◌, ◌+◌, ◌<◌, ◌≤◌, ◌++◌, [], ◌∷◌, true, false, is_some, nat_lt, length, vec_len, vec_capacity, IfOk, IfNone, IsSome, IsTrue, IfSome, option_to_list, map, take, min, Some, ℕ, suc, nat_eq, List, Bool};
 ghost use Rattle.slab.specs.Slab.{values, get, ContainsKey};
 ghost use Rattle.pv_board.specs.declared.mark.Mark.{Mark};
 ghost use Rattle.pv_board.specs.Marks.{HasMore, marked, holds, issued, granted};
@@ -12,7 +12,7 @@ use crate::marks::Marks;
 use crate::pile::pile;
 use crate::ticket::Ticket;
 use pv_num::Memory;
-use pv_tree::{Path, Paving};
+use pv_tree::{NodeLimit, Path, Paving};
 use std::alloc::Global;
 
 /// The open leaves, issued or free, and how many more may be issued.
@@ -24,22 +24,29 @@ pub(crate) struct Leaves {
     pub(crate) stopped: bool,
 }
 
-/// The most free leaves that there is room for: one more than a tree has settled nodes.
-pub(crate) const MOST_LEAVES: usize = 100_001;
-
 impl Leaves {
-    /// The open leaves of a paving, all of them free.
-    pub(crate) fn open(alloc: Global, paving: &Paving, left: u64) -> Result<Leaves, Memory>
-        requires { settled_in paving.now.tree ≤ 100000 }
+    /// The open leaves of a paving, all of them free, with room for every open leaf that so many
+    /// settlings can bring.
+    pub(crate) fn open(
+        alloc: Global,
+        paving: &Paving,
+        left: u64,
+        limit: NodeLimit,
+    ) -> Result<Leaves, Memory>
+        requires { settled_in paving.now.tree + left ≤ limit }
         ensures leaves { IfOk result (λ l. AreOpen l paving.now.tree) }
         ensures none { IfOk result (λ l. marks_of l ≡ []) }
         ensures left { IfOk result (λ l. l.left ≡ left) }
         ensures stopped { IfOk result (λ l. l.stopped ≡ false) }
         ensures room { IfOk result HasRoom }
+        ensures for_free { IfOk result (λ l.
+            settled_in paving.now.tree + left < vec_capacity l.free) }
     {
         let _places = paving.dims();
+        let _most = limit.nodes();
+        let most = paving.counts().settled() + left;
         let marks = Marks::new(alloc, left as usize)?;
-        let mut free = Vec::with_capacity(alloc, MOST_LEAVES)?;
+        let mut free = Vec::with_capacity(alloc, most as usize + 1)?;
         pile(paving, Path::root(), Path::root(), &mut free);
         Ok(Leaves {
             marks,
@@ -62,7 +69,7 @@ impl Leaves {
 
     /// Frees every issued leaf.
     pub(crate) fn recall(&mut self, paving: &Paving)
-        requires few { settled_in paving.now.tree ≤ 100000 }
+        requires few { settled_in paving.now.tree < vec_capacity self.old.free }
         requires room { HasRoom self.old }
         ensures leaves { AreOpen self.new paving.now.tree }
         ensures none { marks_of self.new ≡ [] }
@@ -70,6 +77,7 @@ impl Leaves {
             self.old.left + issued (marks_of self.old) + granted (marks_of self.old) }
         ensures stopped { self.new.stopped ≡ self.old.stopped }
         ensures room { HasRoom self.new }
+        ensures for_free { vec_capacity self.new.free ≡ vec_capacity self.old.free }
     {
         let _places = paving.dims();
         let _room = self.marks.room();
@@ -96,6 +104,7 @@ impl Leaves {
         ensures stopped { self.new.stopped ≡ self.old.stopped }
         ensures free { self.new.free.items ≡ self.old.free.items }
         ensures room { HasRoom self.new }
+        ensures for_free { vec_capacity self.new.free ≡ vec_capacity self.old.free }
     {
         let _granted = self.marks.granted();
         let slot = self.marks.issue(path, 0);
@@ -105,7 +114,7 @@ impl Leaves {
 
     /// Adds an open leaf: issued, if one more may be, and free otherwise.
     pub(crate) fn offer(&mut self, path: Path) -> Option<Ticket>
-        requires few { vec_len self.old.free < 100001 }
+        requires few { vec_len self.old.free < vec_capacity self.old.free }
         requires room { HasRoom self.old }
         ensures given { is_some result ≡ nat_lt 0 (free_units self.old.stopped self.old.left) }
         ensures ticket { IfSome result (λ t. t ≡ fresh path) }
@@ -165,7 +174,7 @@ impl Leaves {
         cuts: bool,
     ) -> (Option<Ticket>, Option<Ticket>)
         requires depth { IsTrue cuts → length path < 200 }
-        requires few { vec_len self.old.free + 2 ≤ 100001 }
+        requires few { vec_len self.old.free + 2 ≤ vec_capacity self.old.free }
         requires room { HasRoom self.old }
         ensures offered { AreOffered self.old self.new (children_of path cuts) }
         ensures tickets { option_to_list result.0 ++ option_to_list result.1 ≡
@@ -185,7 +194,7 @@ impl Leaves {
     pub(crate) fn release(&mut self, slot: usize) -> Mark
         requires room { HasRoom self.old }
         requires there { ContainsKey self.old.marks.slots slot }
-        requires few { vec_len self.old.free < 100001 }
+        requires few { vec_len self.old.free < vec_capacity self.old.free }
         ensures mark { get self.old.marks.slots slot ≡ Some result }
         ensures freed { IsFreed self.old self.new result }
     {

@@ -4,6 +4,7 @@
 
 mod absorbing;
 mod board;
+mod ceiling;
 mod deal;
 mod desk;
 mod leaves;

@@ -28,6 +28,9 @@ pub trait Naming {
     /// How many nodes may be settled beyond the opening's.
     ghost budget: { ℕ };
 
+    /// The most nodes of the paving that may be settled.
+    ghost limit: { ℕ };
+
     /// The name of the ledger of settlings.
     ghost settlings: { ℕ };
 
@@ -51,6 +54,8 @@ impl Naming for Brand {
     ghost opening = { leaf };
 
     ghost budget = { 1 };
+
+    ghost limit = { 100000 };
 
     ghost settlings = { 0 };
 

@@ -11,7 +11,7 @@ use crate::ticket::{Look, Settled};
 use pv_box::IBox;
 use pv_num::{Memory, Num};
 use pv_sample::{Above, settle_first};
-use pv_tree::{Paving, Settler};
+use pv_tree::{NodeLimit, Paving, Settler};
 use std::alloc::Global;
 use std::marker::Brand;
 use std::test::Fail;
@@ -114,6 +114,7 @@ fn opens<N: Naming, S: Settler>(
     requires root { opening.root ≡ N.root }
     requires tree { opening.tree ≡ N.opening }
     requires budget { budget ≡ N.budget }
+    requires limit { N.limit ≡ 100000 }
     requires some { 1 ≤ budget }
     requires few { budget ≤ 100000 }
     requires places { length N.root ≡ N.dims }
@@ -152,18 +153,20 @@ fn refuses<N: Naming, S: Settler>(
     settler: &S,
     opening: Paving,
     budget: u64,
+    limit: NodeLimit,
     settled: u64,
 ) -> bool
     requires fits { IsFitting N.rule N.depth N.dims }
     requires root { opening.root ≡ N.root }
     requires tree { opening.tree ≡ N.opening }
     requires budget { budget ≡ N.budget }
+    requires limit { limit ≡ N.limit }
     requires some { 1 ≤ budget }
-    requires few { budget ≤ 100000 }
+    requires few { budget ≤ limit }
     requires places { length N.root ≡ N.dims }
 {
     let _depth = settler.depth();
-    match Board::<N>::open(alloc, opening, budget) {
+    match Board::<N>::open_within(alloc, opening, budget, limit) {
         Ok(_) => false,
         Err(OpenRefused::Memory(_)) => false,
         Err(
@@ -181,13 +184,14 @@ fn refuses_with<S: Settler>(
     settler: &S,
     opening: Paving,
     budget: u64,
+    limit: NodeLimit,
     settled: u64,
 ) -> bool
     requires root { length opening.root ≡ S.dims settler.now }
     requires some { 1 ≤ budget }
-    requires few { budget ≤ 100000 }
+    requires few { budget ≤ limit }
 {
-    refuses::<Brand, S>(alloc, settler, opening, budget, settled)
+    refuses::<Brand, S>(alloc, settler, opening, budget, limit, settled)
 }
 
 /// Cuts the root of one board, and asks another board for the low child's box.
@@ -231,6 +235,7 @@ fn opens_two<N: Naming, S: Settler>(
     requires root_too { second.root ≡ N.root }
     requires tree_too { second.tree ≡ N.opening }
     requires budget { N.budget ≡ 5 }
+    requires limit { N.limit ≡ 100000 }
     requires places { length N.root ≡ N.dims }
     requires scratch { length scratch.old ≡ N.dims }
 {
@@ -287,14 +292,34 @@ fn worked_boards(rt: HostRuntime) -> Result<(), Fail> {
     Ok(())
 }
 
-#[test]
-fn a_full_tree_is_refused(rt: HostRuntime) -> Result<(), Fail> {
-    let alloc = rt.alloc();
+/// Whether a budget is refused for a tree of three settled nodes.
+fn three_refuse(alloc: Global, budget: u64, limit: NodeLimit) -> Result<bool, Memory>
+    requires some { 1 ≤ budget }
+    requires few { budget ≤ limit }
+{
     let settler = quarter();
     let mut scratch = unit_box(alloc)?;
     let mut opening = Paving::open(alloc, unit_box(alloc)?)?;
     settle_first(alloc, &settler, &mut opening, 3, &mut scratch)?;
-    assert!(rt; refuses_with(alloc, &settler, opening, 100_000, 3));
+    Ok(refuses_with(alloc, &settler, opening, budget, limit, 3))
+}
+
+#[test]
+fn a_full_tree_is_refused(rt: HostRuntime) -> Result<(), Fail> {
+    let alloc = rt.alloc();
+    let least = NodeLimit::by_default();
+    assert!(rt; three_refuse(alloc, 100_000, least)?);
+    assert!(rt; three_refuse(alloc, 99_998, least)?);
+    assert!(rt; !three_refuse(alloc, 99_997, least)?);
+    Ok(())
+}
+
+#[test]
+fn a_higher_limit_lets_more_in(rt: HostRuntime) -> Result<(), Fail> {
+    let alloc = rt.alloc();
+    let limit = NodeLimit::new(100_001).unwrap_or(NodeLimit::by_default());
+    assert!(rt; three_refuse(alloc, 99_999, limit)?);
+    assert!(rt; !three_refuse(alloc, 99_998, limit)?);
     Ok(())
 }
 

@@ -512,6 +512,7 @@ fn plays<N: Naming, S: Settler>(
     requires tree { opening.tree ≡ N.opening }
     requires is_open { opening.tree ≡ leaf }
     requires budget { N.budget ≡ 3000 }
+    requires limit { N.limit ≡ 100000 }
     requires places { length N.root ≡ N.dims }
 {
     let _places = opening.dims();

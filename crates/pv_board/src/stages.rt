@@ -276,6 +276,7 @@ fn opens<N: Naming, S: Settler>(
     requires is_open { opening.tree ≡ leaf }
     requires stage_root { stage.now.root ≡ N.root }
     requires budget { budget ≡ N.budget }
+    requires limit { N.limit ≡ 100000 }
     requires some { 1 ≤ budget }
     requires few { budget ≤ 100000 }
     requires places { length N.root ≡ N.dims }

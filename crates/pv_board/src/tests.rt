@@ -123,6 +123,7 @@ fn works<N: Naming, S: Settler>(
     requires root { opening.root ≡ N.root }
     requires tree { opening.tree ≡ N.opening }
     requires budget { N.budget ≡ 5 }
+    requires limit { N.limit ≡ 100000 }
     requires places { length N.root ≡ N.dims }
     requires scratch { length scratch.old ≡ N.dims }
 {
@@ -181,6 +182,7 @@ fn opens_shared<N: Naming + Send + Sync, S: Settler, R: Threads + Wait + Sync>(
     requires root { opening.root ≡ N.root }
     requires tree { opening.tree ≡ N.opening }
     requires budget { N.budget ≡ 5 }
+    requires limit { N.limit ≡ 100000 }
     requires places { length N.root ≡ N.dims }
     requires settlings { (settlings.name ≡ N.settlings) × (settlings.parts ≡ 32) }
     requires endings { (endings.name ≡ N.endings) × (endings.parts ≡ 32) }

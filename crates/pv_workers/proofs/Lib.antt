@@ -6,3 +6,4 @@ pub mod Laws
 pub mod GrownLeaves
 pub mod Leaves
 pub mod Facts
+pub mod Shares

@@ -35,7 +35,7 @@ pub none_granted : (ms : List Mark) → issued ms ≡ 0 → granted ms ≡ 0
 none_granted [] e = refl
 none_granted (m ∷ ms) e = absurd (omega (arith, e))
 
-module _ (rule : Rule) (depth : ℕ) (root : List Bounds) (opening : Tree) (budget : ℕ) (c : Core) (h : IsCore rule depth root opening budget c) (r : IsRecalled opening c) where
+module _ (rule : Rule) (depth : ℕ) (root : List Bounds) (opening : Tree) (budget limit : ℕ) (c : Core) (h : IsCore rule depth root opening budget limit c) (r : IsRecalled opening c) where
   -- where nothing is left the budget is spent
   pub spent_all : c.left ≡ 0 → IsSpent budget opening c.tree
   spent_all z = let g = none_granted c.marks r.none in let n = r.none in let k = h.conserved in let s = r.settled in inl (omega (arith, g, n, k, s, z))
@@ -70,9 +70,9 @@ no_units true left e h = absurd (omega (arith, h))
 no_units false left e h = absurd (omega (arith, e, h))
 
 -- where all that was left was settled, nothing can be taken
-pub over_spent : (rule : Rule) (depth : ℕ) (root : List Bounds) (opening : Tree) (budget : ℕ) (old new : Core) → IsCore rule depth root opening budget old → IsCore rule depth root opening budget new
+pub over_spent : (rule : Rule) (depth : ℕ) (root : List Bounds) (opening : Tree) (budget limit : ℕ) (old new : Core) → IsCore rule depth root opening budget limit old → IsCore rule depth root opening budget limit new
     → issued old.marks ≡ 0 → issued new.marks ≡ 0 → new.used ≡ old.used + old.left → IsOver new
-over_spent rule depth root opening budget old new h k none gone used =
+over_spent rule depth root opening budget limit old new h k none gone used =
     let a = h.conserved in let b = k.conserved in let g = none_granted old.marks none in
     let z : new.left ≡ 0 = omega (arith, a, b, none, gone, g, used) in
     record { none = gone; dry = λ may q e. absurd (no_units new.stopped new.left z may) }

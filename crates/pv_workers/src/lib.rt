@@ -7,6 +7,7 @@ mod crew;
 mod growing;
 mod kit;
 mod lent;
+mod parts;
 mod paving;
 mod rest;
 mod ruled;

@@ -11,12 +11,13 @@ use crate::crew::Crew;
 use crate::growing::grow;
 use crate::kit::blank;
 use crate::lent::Lent;
+use crate::parts::by_parts;
 use crate::rest::{close, settle_rest};
 use crate::ruled::Ruled;
 use pv_board::{Board, Naming, OpenRefused, Shared};
 use pv_num::Memory;
 use pv_pool::{Gate, run_workers};
-use pv_tree::{Forgetful, KnowingSettler, Path, Paving, Settler, Shape};
+use pv_tree::{Forgetful, KnowingSettler, NodeLimit, Path, Paving, Settler, Shape};
 use std::alloc::Global;
 use std::marker::Brand;
 use std::sync::Wait;
@@ -32,8 +33,9 @@ pub struct Paved {
 }
 
 /// Settles open leaves of an opening by 1 to 16 workers, until none is left or the budget of 1 to
-/// 100,000 settlings is spent. The gate is entered with the number of the worker and the path of
-/// the leaf before each settling. It joins its workers, and may wait for them.
+/// 100,000 settlings is spent, for a tree of at most 100,000 settled nodes. The gate is entered with
+/// the number of the worker and the path of the leaf before each settling. It joins its workers, and
+/// may wait for them.
 ///
 /// Where the budget is enough the paving is the full tree of the opening, whatever the number of
 /// workers and their order. Else it is a stage of it with exactly the budget more
@@ -73,14 +75,16 @@ pub fn pave<S: Settler + Sync, G: Gate + Sync, R: Threads + Wait + Sync>(
     let lent = Forgetful {
         settler: Lent { settler },
     };
-    let paved = by_crew(rt, alloc, &lent, opening, budget, workers, gate)?;
+    let limit = NodeLimit::by_default();
+    let paved = by_crew(rt, alloc, &lent, opening, budget, limit, workers, gate)?;
     learn_paved(&paved.paving, settler);
     Ok(paved)
 }
 
-/// As `pave`, by a settler that knows: within what a worker settles at once, what is known of a box
-/// is handed to its halves. One worker grows an opening that is one open leaf with no board, and
-/// then each settling counts as one ticket.
+/// As `pave`, for a tree of at most so many settled nodes as a limit allows, and by a settler that
+/// knows: within what a worker settles at once, what is known of a box is handed to its halves. One
+/// worker grows an opening that is one open leaf with no board, and then each settling counts as one
+/// ticket.
 ///
 /// # Errors
 ///
@@ -91,6 +95,7 @@ pub fn pave_knowing<S: KnowingSettler + Sync, G: Gate + Sync, R: Threads + Wait 
     settler: &S,
     opening: Paving,
     budget: u64,
+    limit: NodeLimit,
     workers: u32,
     gate: &G,
 ) -> Result<Paved, Memory>
@@ -99,8 +104,8 @@ where
     S::Known: Send,
     requires dims { length opening.root ≡ S.dims settler.now }
     requires some { 1 ≤ budget }
-    requires few { budget ≤ 100000 }
-    requires limit { settled_in opening.tree + budget ≤ 100000 }
+    requires few { budget ≤ limit }
+    requires limit { settled_in opening.tree + budget ≤ limit }
     requires one { 1 ≤ workers }
     requires sixteen { workers ≤ 16 }
     ensures root { IfOk result (λ p. p.paving.root ≡ opening.root) }
@@ -116,18 +121,19 @@ where
         settled_in p.paving.tree ≤ settled_in opening.tree + 16 * p.spent) }
 {
     let _places = opening.dims();
-    let paved = settled_by(rt, alloc, settler, opening, budget, workers, gate)?;
+    let paved = settled_by(rt, alloc, settler, opening, budget, limit, workers, gate)?;
     learn_paved(&paved.paving, settler);
     Ok(paved)
 }
 
-// Settles by one worker alone, or by a crew.
+// Settles by one worker alone, or by crews.
 fn settled_by<S: KnowingSettler + Sync, G: Gate + Sync, R: Threads + Wait + Sync>(
     rt: &R,
     alloc: Global,
     settler: &S,
     opening: Paving,
     budget: u64,
+    limit: NodeLimit,
     workers: u32,
     gate: &G,
 ) -> Result<Paved, Memory>
@@ -136,8 +142,8 @@ where
     S::Known: Send,
     requires dims { length opening.root ≡ S.dims settler.now }
     requires some { 1 ≤ budget }
-    requires few { budget ≤ 100000 }
-    requires limit { settled_in opening.tree + budget ≤ 100000 }
+    requires few { budget ≤ limit }
+    requires limit { settled_in opening.tree + budget ≤ limit }
     requires one { 1 ≤ workers }
     requires sixteen { workers ≤ 16 }
     ensures root { IfOk result (λ p. p.paving.root ≡ opening.root) }
@@ -151,16 +157,17 @@ where
     if workers == 1 && is_leaf(&opening) {
         return grow(alloc, settler, &opening, budget, gate);
     }
-    by_crew(rt, alloc, settler, opening, budget, workers, gate)
+    by_parts(rt, alloc, settler, opening, budget, limit, workers, gate)
 }
 
-// Settles by a crew of workers on a board, under a new name.
-fn by_crew<S: KnowingSettler + Sync, G: Gate + Sync, R: Threads + Wait + Sync>(
+/// Settles by a crew of workers on a board, under a new name.
+pub(crate) fn by_crew<S: KnowingSettler + Sync, G: Gate + Sync, R: Threads + Wait + Sync>(
     rt: &R,
     alloc: Global,
     settler: &S,
     opening: Paving,
     budget: u64,
+    limit: NodeLimit,
     workers: u32,
     gate: &G,
 ) -> Result<Paved, Memory>
@@ -169,8 +176,8 @@ where
     S::Known: Send,
     requires dims { length opening.root ≡ S.dims settler.now }
     requires some { 1 ≤ budget }
-    requires few { budget ≤ 100000 }
-    requires limit { settled_in opening.tree + budget ≤ 100000 }
+    requires few { budget ≤ limit }
+    requires limit { settled_in opening.tree + budget ≤ limit }
     requires one { 1 ≤ workers }
     requires sixteen { workers ≤ 16 }
     ensures root { IfOk result (λ p. p.paving.root ≡ opening.root) }
@@ -180,6 +187,7 @@ where
     ensures paved { IfOk result (λ p. IsSpent budget opening.tree p.paving.tree) }
     ensures spent { IfOk result (λ p.
         settled_in p.paving.tree ≤ settled_in opening.tree + 16 * p.spent) }
+    ensures low { IfOk result (λ p. p.spent < 2 ^ 76) }
 {
     let _places = opening.dims();
     pave_named::<Brand, S, G, R>(
@@ -188,6 +196,7 @@ where
         settler,
         opening,
         budget,
+        limit,
         workers,
         gate,
         Blank::new(32),
@@ -202,9 +211,9 @@ fn is_leaf(paving: &Paving) -> bool
     matches!(paving.shape_at(Path::root()), Shape::OpenLeaf)
 }
 
-// Does nothing. Its contract is what a stage is that spent a budget or has no open leaf, and that a
-// stage of a stage is one.
-fn learn_paved<S: Settler>(paving: &Paving, settler: &S)
+/// Does nothing. Its contract is what a stage is that spent a budget or has no open leaf, and that a
+/// stage of a stage is one.
+pub(crate) fn learn_paved<S: Settler>(paving: &Paving, settler: &S)
     requires { length paving.now.root ≡ S.dims settler.now }
     ensures stages { (earlier opening : Tree) → Paves paving.now.root earlier →
         IsStage (S.settle_of settler.now)
@@ -236,6 +245,7 @@ fn pave_named<
     settler: &S,
     opening: Paving,
     budget: u64,
+    limit: NodeLimit,
     workers: u32,
     gate: &G,
     settlings: Blank,
@@ -252,9 +262,10 @@ where
     requires tree { opening.tree ≡ N.opening }
     requires places { length N.root ≡ N.dims }
     requires budget { budget ≡ N.budget }
+    requires most { limit ≡ N.limit }
     requires some { 1 ≤ budget }
-    requires few { budget ≤ 100000 }
-    requires limit { settled_in N.opening + budget ≤ 100000 }
+    requires few { budget ≤ limit }
+    requires limit { settled_in N.opening + budget ≤ limit }
     requires one { 1 ≤ workers }
     requires sixteen { workers ≤ 16 }
     requires settlings { (settlings.name ≡ N.settlings) × (settlings.parts ≡ 32) }
@@ -264,11 +275,12 @@ where
     ensures paved { IfOk result (λ p. IsSpent N.budget N.opening p.paving.tree) }
     ensures spent { IfOk result (λ p.
         settled_in p.paving.tree ≤ settled_in N.opening + 16 * p.spent) }
+    ensures low { IfOk result (λ p. p.spent < 2 ^ 76) }
 {
     let places = opening.dims();
     let ruled: Ruled<N, S> = Ruled::of(settler);
     let mut scratch = blank(alloc, places)?;
-    let board = opened(alloc, opening, budget)?;
+    let board = opened(alloc, opening, budget, limit)?;
     let (mut board, spent) = worked(
         rt, alloc, &ruled, board, places, workers, gate, settlings, endings,
     )?;
@@ -281,20 +293,26 @@ where
 }
 
 // A board on an opening.
-fn opened<N: Naming>(alloc: Global, opening: Paving, budget: u64) -> Result<Board<N>, Memory>
+fn opened<N: Naming>(
+    alloc: Global,
+    opening: Paving,
+    budget: u64,
+    limit: NodeLimit,
+) -> Result<Board<N>, Memory>
     requires fits { IsFitting N.rule N.depth N.dims }
     requires root { opening.root ≡ N.root }
     requires tree { opening.tree ≡ N.opening }
     requires places { length N.root ≡ N.dims }
     requires budget { budget ≡ N.budget }
+    requires most { limit ≡ N.limit }
     requires some { 1 ≤ budget }
-    requires few { budget ≤ 100000 }
-    requires limit { settled_in N.opening + budget ≤ 100000 }
+    requires few { budget ≤ limit }
+    requires limit { settled_in N.opening + budget ≤ limit }
     ensures issued { IfOk result (λ b. issued b.marks ≡ 0) }
     ensures used { IfOk result (λ b. b.used ≡ 0) }
     ensures tree { IfOk result (λ b. b.tree ≡ N.opening) }
 {
-    match Board::open(alloc, opening, budget) {
+    match Board::open_within(alloc, opening, budget, limit) {
         Ok(board) => Ok(board),
         Err(OpenRefused::Memory(_)) => Err(Memory),
         Err(OpenRefused::TreeLimit { .. }) => unreachable!(),

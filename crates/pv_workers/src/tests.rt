@@ -2,14 +2,14 @@
 ghost use Rattle.std.specs.Prelude.{◌≡◌, ◌+◌, ◌≤◌, length, IfOk};
 ghost use Rattle.pv_board.specs.Rules.{settled_in};
 
-use crate::paving::{Paved, pave};
+use crate::paving::{Paved, pave, pave_knowing};
 use pv_box::IBox;
 use pv_interval::Interval;
 use pv_join::join;
 use pv_num::{Memory, Num};
 use pv_pool::NoGate;
 use pv_sample::Above;
-use pv_tree::{Outcome, Paving, Settler};
+use pv_tree::{Forgetful, NodeLimit, Outcome, Paving, Settler};
 use std::alloc::Global;
 use std::test::Fail;
 
@@ -159,6 +159,38 @@ fn what_is_left_is_paved_later(rt: HostRuntime) -> Result<(), Fail> {
     }
     let whole = pave(&rt, alloc, &settler, opening, 443, 4, &NoGate)?;
     assert!(rt; has(&whole.paving, 271, 128, 128, 16, 0));
+    Ok(())
+}
+
+// The same with 4,096 strips, so that the full tree has more than 100,000 settled nodes.
+fn fine_third() -> Above
+    ensures { result.dims ≡ 2 }
+{
+    Above::new(2, Num::fin(0x1555_5555, -30).unwrap_or(Num::ZERO), 12, 28)
+}
+
+#[test]
+fn a_higher_limit_lets_a_tree_grow(rt: HostRuntime) -> Result<(), Fail> {
+    let alloc = rt.alloc();
+    let settler = Forgetful {
+        settler: fine_third(),
+    };
+    let Some(limit) = NodeLimit::new(100_002) else {
+        return Ok(());
+    };
+    for workers in [1u32, 4] {
+        let paved = pave_knowing(
+            &rt,
+            alloc,
+            &settler,
+            square(alloc)?,
+            100_002,
+            limit,
+            workers,
+            &NoGate,
+        )?;
+        assert_eq!(rt; paved.paving.counts().settled(), 100_002);
+    }
     Ok(())
 }
 

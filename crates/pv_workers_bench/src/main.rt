@@ -3,7 +3,7 @@
 //!
 //!     pv_workers_bench 14 4
 //!
-//! The first number says into how many strips a square is cut, 2 to the power of it, from 1 to 14,
+//! The first number says into how many strips a square is cut, 2 to the power of it, from 1 to 22,
 //! before each strip is cut once more; the second is that of the workers, of which there are 1 to
 //! 16. The first cut is made beforehand, so that one worker goes by tickets too.
 #![tactic(auto)]

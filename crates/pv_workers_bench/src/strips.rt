@@ -7,14 +7,11 @@ use pv_interval::Interval;
 use pv_num::{Memory, Num};
 use pv_pool::NoGate;
 use pv_sample::Above;
-use pv_tree::Paving;
-use pv_workers::pave;
+use pv_tree::{Forgetful, NodeLimit, Paving};
+use pv_workers::{pave, pave_knowing};
 use std::alloc::Global;
 use std::sync::Wait;
 use std::thread::Threads;
-
-// Enough for 2 to the power of 14 strips.
-const BUDGET: u64 = 99_000;
 
 /// What was settled.
 #[derive(Drop)]
@@ -42,9 +39,11 @@ pub fn pave_strips<R: Threads + Wait + Sync>(
     cuts: u64,
     workers: u64,
 ) -> Result<Strips, Memory> {
-    let cuts = cuts.clamp(1, 14) as u32;
-    let limit = Num::fin(1, -2).unwrap_or(Num::ZERO);
-    let settler = Above::new(2, limit, cuts, cuts + 2);
+    let cuts = cuts.clamp(1, 22) as u32;
+    let quarter = Num::fin(1, -2).unwrap_or(Num::ZERO);
+    let settler = Above::new(2, quarter, cuts, cuts + 2);
+    let limit = NodeLimit::new(100_000_000).unwrap_or(NodeLimit::by_default());
+    let budget = limit.nodes() - 1;
     let workers = workers.clamp(1, 16) as u32;
     let begun = pave(rt, alloc, &settler, square(alloc)?, 1, 1, &NoGate)?;
     let opening = begun.paving;
@@ -52,7 +51,8 @@ pub fn pave_strips<R: Threads + Wait + Sync>(
     if before > 1 {
         return Err(Memory);
     }
-    let paved = pave(rt, alloc, &settler, opening, BUDGET, workers, &NoGate)?;
+    let lent = Forgetful { settler };
+    let paved = pave_knowing(rt, alloc, &lent, opening, budget, limit, workers, &NoGate)?;
     Ok(Strips {
         nodes: paved.paving.counts().settled(),
         tickets: paved.spent,

@@ -1,4 +1,4 @@
-use Rattle.std.proofs.Common.{rules, ◌≡◌, Bool, List}
+use Rattle.std.proofs.Common.{rules}
 use Rattle.std.specs.Prelude.{IsSome}
 use Rattle.pv_tree.specs.Trees.{subtree}
 use Rattle.pv_board.proofs.Filling.{absent_part, overlaid_leaf, leaf_refusal}

@@ -8,5 +8,5 @@ use Rattle.pv_board.proofs.absorbing.leaves_below.Given as goal
 abbrev pub invariant-loop-i : goal.invariant-loop-i
 invariant-loop-i l = record {
   leaves : (f : List Bool → ℕ) → weigh f l.leaves.items ≡ weigh (λ p. weigh (λ q. f (p ++ q)) (opens (part_at l.paving.tree p))) (take l.i l.nodes);
-  room : 100001 ≤ vec_capacity l.leaves;
+  room : l.room ≤ vec_capacity l.leaves;
 }

@@ -8,6 +8,7 @@ ghosts-opens_two g a = record {
   root = a.opening.root;
   opening = a.opening.tree;
   budget = 5;
+  limit = 100000;
   settlings = 0;
   endings = 0;
 }

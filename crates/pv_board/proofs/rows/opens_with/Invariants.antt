@@ -8,6 +8,7 @@ ghosts-opens g a = record {
   root = a.opening.root;
   opening = a.opening.tree;
   budget = a.budget;
+  limit = 100000;
   settlings = 0;
   endings = 0;
 }

@@ -8,6 +8,7 @@ ghosts-refuses g a = record {
   root = a.opening.root;
   opening = a.opening.tree;
   budget = a.budget;
+  limit = a.limit;
   settlings = 0;
   endings = 0;
 }

@@ -8,6 +8,7 @@ ghosts-plays g a = record {
   root = a.opening.root;
   opening = a.opening.tree;
   budget = 3000;
+  limit = 100000;
   settlings = 0;
   endings = 0;
 }

@@ -8,6 +8,7 @@ ghosts-opens_shared g a = record {
   root = a.opening.root;
   opening = a.opening.tree;
   budget = 5;
+  limit = 100000;
   settlings = a.settlings.name;
   endings = a.endings.name;
 }

@@ -8,6 +8,7 @@ ghosts-pave_named g a = record {
   root = a.opening.root;
   opening = a.opening.tree;
   budget = a.budget;
+  limit = a.limit;
   settlings = a.settlings.name;
   endings = a.endings.name;
 }

@@ -8,7 +8,7 @@ pub returns-then-left-eq0-clause-spent : goal.returns-then-left-eq0-clause-spent
 returns-then-left-eq0-clause-spent g c =
     let n = g.N.Naming in
     subst (IsSpent n.budget n.opening) (sym c.into_paving-paving.ensures.tree)
-    (spent_all n.rule n.depth n.root n.opening n.budget c.args.board c.left-left.ensures.core c.requires.recalled (sym c.left-left.ensures.left ∙ c.if-left-eq0.true))
+    (spent_all n.rule n.depth n.root n.opening n.budget n.limit c.args.board c.left-left.ensures.core c.requires.recalled (sym c.left-left.ensures.left ∙ c.if-left-eq0.true))
 
 pub returns-in-Some-clause-stopped : goal.returns-in-Some-clause-stopped
 returns-in-Some-clause-stopped g c =

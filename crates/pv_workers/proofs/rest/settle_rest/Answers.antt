@@ -9,4 +9,4 @@ returns-clause-over g c =
     let u = c.loop-settled.invariant.used in let r = c.recall.ensures.rose.used in let l = c.left-left.ensures.left in
     let e = c.loop-settled-test.false in let m = c.loop-settled.auto.settled-end in
     let used : new.used ≡ old.used + old.left = omega (arith, u, r, l, e, m) in
-    over_spent n.rule n.depth n.root n.opening n.budget old new c.left-left.ensures.core c.used-used.ensures.core (ap issued c.recall.ensures.recalled.none) c.loop-settled.invariant.recalled.none used
+    over_spent n.rule n.depth n.root n.opening n.budget n.limit old new c.left-left.ensures.core c.used-used.ensures.core (ap issued c.recall.ensures.recalled.none) c.loop-settled.invariant.recalled.none used

@@ -13,21 +13,21 @@ pub fill_all-requires : goal.fill_all-requires
 fill_all-requires g c =
     let n = g.N.Naming in let a = c.self.inside in
     subst (CanFill c.in_ok-joined.joined c.args.stage.now) (sym c.deref.ensures.value)
-    (can_fill n.rule n.depth n.dims n.root n.opening n.budget a.paving c.args.stage.now a.leaves a.used a.steps c.self.invariant c.requires.root c.requires.stage c.in_ok-joined.joined c.in_ok-joined.ensures.root c.in_ok-joined.ensures.tree)
+    (can_fill n.rule n.depth n.dims n.root n.opening n.budget n.limit a.paving c.args.stage.now a.leaves a.used a.steps c.self.invariant c.requires.root c.requires.stage c.in_ok-joined.joined c.in_ok-joined.ensures.root c.in_ok-joined.ensures.tree)
 
-pub returns-then-settled-unused-gt-MOST_SETTLED-clause-refused :
-    goal.returns-then-settled-unused-gt-MOST_SETTLED-clause-refused
-returns-then-settled-unused-gt-MOST_SETTLED-clause-refused g c =
+pub returns-then-settled-unused-clause-refused :
+    goal.returns-then-settled-unused-clause-refused
+returns-then-settled-unused-clause-refused g c =
     let n = g.N.Naming in let a = c.self.inside in
     let is = c.in_ok-fill_all.ensures.tree ∙ (λ i. filled (c.in_ok-joined.ensures.tree i) (filling c.args.stage.now.tree (c.deref.ensures.value i))) in
     let count : c.settled-settled.result ≡ settled_in c.fill_all.new.joined.tree = c.settled-settled.ensures ∙ ap settled_of c.counts.ensures.counts in
-    let many = c.if-settled-unused-gt-MOST_SETTLED.true in let units = c.unused-unused.ensures in
-    subst (λ (o : Core). IsTooMuch o c.args.stage.now.tree c.settled-settled.result) c.self.view_is
+    let many = c.if-settled-unused.true in let units = c.unused-unused.ensures in let most = c.nodes-most.ensures.value in
+    subst (λ (o : Core). IsTooMuch n.limit o c.args.stage.now.tree c.settled-settled.result) c.self.view_is
     (record {
       tree = c.fill_all.new.joined.tree;
-      is = filled_aside n.rule n.depth n.dims n.root n.opening n.budget a.paving c.args.stage.now a.leaves a.used a.steps c.self.invariant c.requires.root c.requires.stage c.fill_all.new.joined.tree is;
+      is = filled_aside n.rule n.depth n.dims n.root n.opening n.budget n.limit a.paving c.args.stage.now a.leaves a.used a.steps c.self.invariant c.requires.root c.requires.stage c.fill_all.new.joined.tree is;
       count = count;
-      many = omega (arith, many, units);
+      many = omega (arith, many, units, most);
     })
 
 pub leaves_below-requires : goal.leaves_below-requires
@@ -36,9 +36,8 @@ leaves_below-requires g c =
     let is = c.reserve.ensures.tree ∙ c.in_ok-fill_all.ensures.tree ∙ (λ i. filled (c.in_ok-joined.ensures.tree i) (filling c.args.stage.now.tree (c.deref.ensures.value i))) in
     let count : c.settled-settled.result ≡ settled_in c.fill_all.new.joined.tree = c.settled-settled.ensures ∙ ap settled_of c.counts.ensures.counts in
     let same = ap settled_in c.reserve.ensures.tree in
-    let few = c.if-settled-unused-gt-MOST_SETTLED.false in
-    subst (λ (ps : List (List Bool)). CanPileAll c.reserve.new.self.tree ps 100001) (sym c.deref-2.ensures.value)
-    (can_pile_all n.rule n.depth n.dims n.root n.opening n.budget a.paving c.args.stage.now a.leaves a.used a.steps c.self.invariant c.requires.root c.requires.stage c.reserve.new.self.tree is (omega (arith, count, same, few)))
+    subst (λ (ps : List (List Bool)). CanPileAll c.reserve.new.self.tree ps (c.settled-settled.result + c.unused-unused.result + 1)) (sym c.deref-2.ensures.value)
+    (can_pile_all n.rule n.depth n.dims n.root n.opening n.budget n.limit a.paving c.args.stage.now a.leaves a.used a.steps c.self.invariant c.requires.root c.requires.stage c.reserve.new.self.tree is (c.settled-settled.result + c.unused-unused.result + 1) (omega (arith, count, same)))
 
 pub overflow_sub-added : goal.overflow_sub-added
 overflow_sub-added g c =
@@ -46,7 +45,7 @@ overflow_sub-added g c =
     let is = c.in_ok-fill_all.ensures.tree ∙ (λ i. filled (c.in_ok-joined.ensures.tree i) (filling c.args.stage.now.tree (c.deref.ensures.value i))) in
     let count : c.settled-settled.result ≡ settled_in c.fill_all.new.joined.tree = c.settled-settled.ensures ∙ ap settled_of c.counts.ensures.counts in
     let before : c.settled.result ≡ settled_in a.paving.tree = c.settled.ensures ∙ ap settled_of c.counts-2.ensures.counts in
-    let more = added_is n.rule n.depth n.dims n.root n.opening n.budget a.paving c.args.stage.now a.leaves a.used a.steps c.self.invariant c.requires.root c.requires.stage c.fill_all.new.joined.tree is in
+    let more = added_is n.rule n.depth n.dims n.root n.opening n.budget n.limit a.paving c.args.stage.now a.leaves a.used a.steps c.self.invariant c.requires.root c.requires.stage c.fill_all.new.joined.tree is in
     omega (arith, count, before, more)
 
 pub invariant_of-self : goal.invariant_of-self
@@ -55,12 +54,13 @@ invariant_of-self g c =
     let is = c.reserve.ensures.tree ∙ c.in_ok-fill_all.ensures.tree ∙ (λ i. filled (c.in_ok-joined.ensures.tree i) (filling c.args.stage.now.tree (c.deref.ensures.value i))) in
     let count : c.settled-settled.result ≡ settled_in c.fill_all.new.joined.tree = c.settled-settled.ensures ∙ ap settled_of c.counts.ensures.counts in
     let same = ap settled_in c.reserve.ensures.tree in
-    let few = c.if-settled-unused-gt-MOST_SETTLED.false in let units = c.unused-unused.ensures in let spare = c.in_ok-reserve.ensures.spare in
-    absorbed_board n.rule n.depth n.dims n.root n.opening n.budget a.paving c.args.stage.now a.leaves a.used a.steps c.self.invariant c.requires.root c.requires.stage c.reserve.new.self.tree is c.reserve.new.self
+    let few = c.if-settled-unused.false in let units = c.unused-unused.ensures in let spare = c.in_ok-reserve.ensures.spare in
+    let room = c.in_ok-free.ensures.room in let most = c.nodes-most.ensures.value in
+    absorbed_board n.rule n.depth n.dims n.root n.opening n.budget n.limit a.paving c.args.stage.now a.leaves a.used a.steps c.self.invariant c.requires.root c.requires.stage c.reserve.new.self.tree is c.reserve.new.self
     (record { marks = a.leaves.marks; free = c.in_ok-free.free; left = a.leaves.left; stopped = a.leaves.stopped })
     (c.reserve.ensures.root ∙ c.fill_all.ensures.root ∙ c.in_ok-joined.ensures.root) refl refl refl refl
     (subst (λ (ps : List (List Bool)). (f : List Bool → ℕ) → weigh f c.in_ok-free.free.items ≡ weigh (λ x. weigh (λ q. f (x ++ q)) (opens (part_at c.reserve.new.self.tree x))) ps) c.deref-2.ensures.value c.in_ok-free.ensures.leaves)
-    (record { for_marks = c.self.invariant.room.for_marks; for_free = c.in_ok-free.ensures.room }) (omega (arith, units, spare)) (omega (arith, count, same, few, units))
+    (record { for_marks = c.self.invariant.room.for_marks }) (omega (arith, count, same, units, room)) (omega (arith, units, spare)) (omega (arith, count, same, few, units, most))
 
 pub returns-clause-absorbed : goal.returns-clause-absorbed
 returns-clause-absorbed g c =
@@ -69,21 +69,21 @@ returns-clause-absorbed g c =
     let count : c.settled-settled.result ≡ settled_in c.fill_all.new.joined.tree = c.settled-settled.ensures ∙ ap settled_of c.counts.ensures.counts in
     let before : c.settled.result ≡ settled_in a.paving.tree = c.settled.ensures ∙ ap settled_of c.counts-2.ensures.counts in
     let same = ap settled_in c.reserve.ensures.tree in
-    let few = c.if-settled-unused-gt-MOST_SETTLED.false in let units = c.unused-unused.ensures in
-    let more = added_is n.rule n.depth n.dims n.root n.opening n.budget a.paving c.args.stage.now a.leaves a.used a.steps c.self.invariant c.requires.root c.requires.stage c.reserve.new.self.tree is in
-    subst (λ (o : Core). IsAbsorbed o (seen c.reserve.new.self (record { marks = a.leaves.marks; free = c.in_ok-free.free; left = a.leaves.left; stopped = a.leaves.stopped }) a.used a.steps) c.args.stage.now.tree (c.settled-settled.result - c.settled.result)) c.self.view_is
-    (absorbed_is n.rule n.depth n.dims n.root n.opening n.budget a.paving c.args.stage.now a.leaves a.used a.steps c.self.invariant c.requires.root c.requires.stage c.reserve.new.self.tree is c.reserve.new.self
+    let few = c.if-settled-unused.false in let units = c.unused-unused.ensures in let most = c.nodes-most.ensures.value in
+    let more = added_is n.rule n.depth n.dims n.root n.opening n.budget n.limit a.paving c.args.stage.now a.leaves a.used a.steps c.self.invariant c.requires.root c.requires.stage c.reserve.new.self.tree is in
+    subst (λ (o : Core). IsAbsorbed n.limit o (seen c.reserve.new.self (record { marks = a.leaves.marks; free = c.in_ok-free.free; left = a.leaves.left; stopped = a.leaves.stopped }) a.used a.steps) c.args.stage.now.tree (c.settled-settled.result - c.settled.result)) c.self.view_is
+    (absorbed_is n.rule n.depth n.dims n.root n.opening n.budget n.limit a.paving c.args.stage.now a.leaves a.used a.steps c.self.invariant c.requires.root c.requires.stage c.reserve.new.self.tree is c.reserve.new.self
     (record { marks = a.leaves.marks; free = c.in_ok-free.free; left = a.leaves.left; stopped = a.leaves.stopped })
     (c.reserve.ensures.root ∙ c.fill_all.ensures.root ∙ c.in_ok-joined.ensures.root) refl refl refl refl
     (subst (λ (ps : List (List Bool)). (f : List Bool → ℕ) → weigh f c.in_ok-free.free.items ≡ weigh (λ x. weigh (λ q. f (x ++ q)) (opens (part_at c.reserve.new.self.tree x))) ps) c.deref-2.ensures.value c.in_ok-free.ensures.leaves)
-    (c.settled-settled.result - c.settled.result) (omega (arith, count, before, same, more)) (omega (arith, count, same, few, units)))
+    (c.settled-settled.result - c.settled.result) (omega (arith, count, before, same, more)) (omega (arith, count, same, few, units, most)))
 
 pub returns-clause-over : goal.returns-clause-over
 returns-clause-over g c =
     let n = g.N.Naming in let a = c.self.inside in
     let is = c.reserve.ensures.tree ∙ c.in_ok-fill_all.ensures.tree ∙ (λ i. filled (c.in_ok-joined.ensures.tree i) (filling c.args.stage.now.tree (c.deref.ensures.value i))) in
     subst (λ (o : Core). IsOver o → IsOver (seen c.reserve.new.self (record { marks = a.leaves.marks; free = c.in_ok-free.free; left = a.leaves.left; stopped = a.leaves.stopped }) a.used a.steps)) c.self.view_is
-    (absorbed_over n.rule n.depth n.dims n.root n.opening n.budget a.paving c.args.stage.now a.leaves a.used a.steps c.self.invariant c.requires.root c.requires.stage c.reserve.new.self.tree is c.reserve.new.self
+    (absorbed_over n.rule n.depth n.dims n.root n.opening n.budget n.limit a.paving c.args.stage.now a.leaves a.used a.steps c.self.invariant c.requires.root c.requires.stage c.reserve.new.self.tree is c.reserve.new.self
     (record { marks = a.leaves.marks; free = c.in_ok-free.free; left = a.leaves.left; stopped = a.leaves.stopped })
     (c.reserve.ensures.root ∙ c.fill_all.ensures.root ∙ c.in_ok-joined.ensures.root) refl refl refl refl
     (subst (λ (ps : List (List Bool)). (f : List Bool → ℕ) → weigh f c.in_ok-free.free.items ≡ weigh (λ x. weigh (λ q. f (x ++ q)) (opens (part_at c.reserve.new.self.tree x))) ps) c.deref-2.ensures.value c.in_ok-free.ensures.leaves))

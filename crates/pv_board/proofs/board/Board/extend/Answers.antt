@@ -10,7 +10,7 @@ invariant_of-self g c =
     let n = g.N.Naming in let a = c.self.inside in
     let raised = c.raise-slot.ensures c.args.ticket.now c.in-Some.ensures.found in
     let units = c.within-units.ensures in
-    raised_board n.rule n.depth n.dims n.root n.opening n.budget a.paving a.leaves c.raise-slot.new.self a.used a.steps c.args.ticket.now (record { path = c.args.ticket.now.path; grant = c.args.ticket.now.grant + c.within-units.result }) c.within-units.result
+    raised_board n.rule n.depth n.dims n.root n.opening n.budget n.limit a.paving a.leaves c.raise-slot.new.self a.used a.steps c.args.ticket.now (record { path = c.args.ticket.now.path; grant = c.args.ticket.now.grant + c.within-units.result }) c.within-units.result
     c.self.invariant raised refl refl (omega (arith, units, c.requires))
 
 pub returns-clause-over : goal.returns-clause-over

@@ -9,11 +9,11 @@ release-requires-clause-few g c =
     let n = g.N.Naming in let a = c.self.inside in
     let held = is_equal _ _ c.in-Some.ensures.current in
     let some = current_issued (marks_of a.leaves) c.args.ticket.path (omega (arith, held)) in
-    let few = few_free n.rule n.depth n.dims n.root n.opening n.budget a.paving a.leaves a.used a.steps c.self.invariant in
-    let most = c.self.invariant.core.few in
+    let few = few_free n.rule n.depth n.dims n.root n.opening n.budget n.limit a.paving a.leaves a.used a.steps c.self.invariant in
+    let most = c.self.invariant.for_free in
     omega (arith, some, few, most)
 
 pub invariant_of-self : goal.invariant_of-self
 invariant_of-self g c =
     let n = g.N.Naming in let a = c.self.inside in
-    freed_board n.rule n.depth n.dims n.root n.opening n.budget a.paving a.leaves c.release.new.self a.used a.steps _ c.release.result c.self.invariant c.release.ensures.freed
+    freed_board n.rule n.depth n.dims n.root n.opening n.budget n.limit a.paving a.leaves c.release.new.self a.used a.steps _ c.release.result c.self.invariant c.release.ensures.freed

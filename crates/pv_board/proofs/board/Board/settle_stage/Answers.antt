@@ -22,7 +22,7 @@ pub graft-requires-clause-root : goal.graft-requires-clause-root
 graft-requires-clause-root g c =
     let n = g.N.Naming in let a = c.self.inside in
     let open_leaf = ap (subtree a.paving.tree) c.path-path.ensures ∙ held_open a.leaves a.paving.tree c.args.ticket.path c.args.ticket.grant c.self.invariant.leaves (is_equal _ _ c.in-Some.ensures.current) in
-    let staged = staged_is n.rule n.depth n.dims n.root n.opening n.budget a.paving a.leaves a.used a.steps c.path-path.result c.args.stage.now c.self.invariant c.dims-places.ensures.paving open_leaf
+    let staged = staged_is n.rule n.depth n.dims n.root n.opening n.budget n.limit a.paving a.leaves a.used a.steps c.path-path.result c.args.stage.now c.self.invariant c.dims-places.ensures.paving open_leaf
     (c.requires.root ∙ ap (box_of n.root (full_of n.rule n.depth n.root n.opening 0)) (sym c.path-path.ensures)) (subst (λ (q : List Bool). Grows c.args.stage.now.tree (full_of n.rule n.depth c.args.stage.now.root leaf (length q))) (sym c.path-path.ensures) c.requires.stage) c.len-steps.ensures.few in
     staged.root_is
 
@@ -30,7 +30,7 @@ pub graft-requires-clause-depth : goal.graft-requires-clause-depth
 graft-requires-clause-depth g c =
     let n = g.N.Naming in let a = c.self.inside in
     let open_leaf = ap (subtree a.paving.tree) c.path-path.ensures ∙ held_open a.leaves a.paving.tree c.args.ticket.path c.args.ticket.grant c.self.invariant.leaves (is_equal _ _ c.in-Some.ensures.current) in
-    let staged = staged_is n.rule n.depth n.dims n.root n.opening n.budget a.paving a.leaves a.used a.steps c.path-path.result c.args.stage.now c.self.invariant c.dims-places.ensures.paving open_leaf
+    let staged = staged_is n.rule n.depth n.dims n.root n.opening n.budget n.limit a.paving a.leaves a.used a.steps c.path-path.result c.args.stage.now c.self.invariant c.dims-places.ensures.paving open_leaf
     (c.requires.root ∙ ap (box_of n.root (full_of n.rule n.depth n.root n.opening 0)) (sym c.path-path.ensures)) (subst (λ (q : List Bool). Grows c.args.stage.now.tree (full_of n.rule n.depth c.args.stage.now.root leaf (length q))) (sym c.path-path.ensures) c.requires.stage) c.len-steps.ensures.few in
     staged.depth_is
 
@@ -40,7 +40,7 @@ graft-requires-clause-room g c =
     let held = is_equal _ _ c.in-Some.ensures.current in
     let some = current_issued (marks_of a.leaves) c.args.ticket.path (omega (arith, held)) in
     let units = held_issued (marks_of a.leaves) c.args.ticket.path in
-    let few = few_free n.rule n.depth n.dims n.root n.opening n.budget a.paving a.leaves a.used a.steps c.self.invariant in
+    let few = few_free n.rule n.depth n.dims n.root n.opening n.budget n.limit a.paving a.leaves a.used a.steps c.self.invariant in
     let most = c.self.invariant.core.few in let room = c.self.invariant.core.room in
     let opens_few = few_opens c.args.stage.now.tree in let ones = weigh-ones (opens c.args.stage.now.tree) in
     let limit = c.requires.few in
@@ -50,18 +50,18 @@ pub deal-requires-clause-free : goal.deal-requires-clause-free
 deal-requires-clause-free g c =
     let n = g.N.Naming in let a = c.self.inside in
     let open_leaf = ap (subtree a.paving.tree) c.path-path.ensures ∙ held_open a.leaves a.paving.tree c.args.ticket.path c.args.ticket.grant c.self.invariant.leaves (is_equal _ _ c.in-Some.ensures.current) in
-    let staged = staged_is n.rule n.depth n.dims n.root n.opening n.budget a.paving a.leaves a.used a.steps c.path-path.result c.args.stage.now c.self.invariant c.dims-places.ensures.paving open_leaf
+    let staged = staged_is n.rule n.depth n.dims n.root n.opening n.budget n.limit a.paving a.leaves a.used a.steps c.path-path.result c.args.stage.now c.self.invariant c.dims-places.ensures.paving open_leaf
     (c.requires.root ∙ ap (box_of n.root (full_of n.rule n.depth n.root n.opening 0)) (sym c.path-path.ensures)) (subst (λ (q : List Bool). Grows c.args.stage.now.tree (full_of n.rule n.depth c.args.stage.now.root leaf (length q))) (sym c.path-path.ensures) c.requires.stage) c.len-steps.ensures.few in
     let held = is_equal _ _ c.in-Some.ensures.current in
     let some = current_issued (marks_of a.leaves) c.args.ticket.path (omega (arith, held)) in
     let units = held_issued (marks_of a.leaves) c.args.ticket.path in
-    let few = few_free n.rule n.depth n.dims n.root n.opening n.budget a.paving a.leaves a.used a.steps c.self.invariant in
-    let most = c.self.invariant.core.few in let room = c.self.invariant.core.room in
+    let few = few_free n.rule n.depth n.dims n.root n.opening n.budget n.limit a.paving a.leaves a.used a.steps c.self.invariant in
+    let most = c.self.invariant.for_free in let room = c.close.ensures.closed.for_free in
     let opens_few = few_opens c.args.stage.now.tree in let ones = weigh-ones (opens c.args.stage.now.tree) in
     let limit = c.requires.few in
     let free = ap length c.close.ensures.closed.free in
     let is : vec_len c.close.new.self.free ≡ length c.close.new.self.free.items = search rules in
-    record { part = c.args.stage.now.tree; is = ap (subtree c.args.stage.now.tree) c.root.ensures; depth = staged.depth_is; fits = omega (arith, held, some, units, few, most, opens_few, ones, limit, free, is) }
+    record { part = c.args.stage.now.tree; is = ap (subtree c.args.stage.now.tree) c.root.ensures; depth = staged.depth_is; fits = omega (arith, held, some, units, few, most, room, opens_few, ones, limit, free, is) }
 
 pub deal-requires-clause-batch : goal.deal-requires-clause-batch
 deal-requires-clause-batch g c =
@@ -73,37 +73,37 @@ pub invariant_of-self : goal.invariant_of-self
 invariant_of-self g c =
     let n = g.N.Naming in let a = c.self.inside in
     let open_leaf = ap (subtree a.paving.tree) c.path-path.ensures ∙ held_open a.leaves a.paving.tree c.args.ticket.path c.args.ticket.grant c.self.invariant.leaves (is_equal _ _ c.in-Some.ensures.current) in
-    let staged = staged_is n.rule n.depth n.dims n.root n.opening n.budget a.paving a.leaves a.used a.steps c.path-path.result c.args.stage.now c.self.invariant c.dims-places.ensures.paving open_leaf
+    let staged = staged_is n.rule n.depth n.dims n.root n.opening n.budget n.limit a.paving a.leaves a.used a.steps c.path-path.result c.args.stage.now c.self.invariant c.dims-places.ensures.paving open_leaf
     (c.requires.root ∙ ap (box_of n.root (full_of n.rule n.depth n.root n.opening 0)) (sym c.path-path.ensures)) (subst (λ (q : List Bool). Grows c.args.stage.now.tree (full_of n.rule n.depth c.args.stage.now.root leaf (length q))) (sym c.path-path.ensures) c.requires.stage) c.len-steps.ensures.few in
     let count : c.settled-settled.result ≡ settled_in c.args.stage.now.tree = c.settled-settled.ensures ∙ ap settled_of c.counts.ensures.counts in
     let same = same_mark c.close.result c.args.ticket _ c.close.ensures.mark c.in-Some.ensures.found in
-    let was = was_staged n.rule n.depth n.dims n.root n.opening n.budget a.paving c.graft.new.self a.leaves c.close.new.self c.deal.new.leaves c.args.ticket c.close.result c.path-path.result c.args.stage.now c.settled-settled.result
+    let was = was_staged n.rule n.depth n.dims n.root n.opening n.budget n.limit a.paving c.graft.new.self a.leaves c.close.new.self c.deal.new.leaves c.args.ticket c.close.result c.path-path.result c.args.stage.now c.settled-settled.result
     c.path-path.ensures same count staged (is_equal _ _ c.in-Some.ensures.current) c.requires.few c.close.ensures.closed c.graft.ensures.root c.graft.ensures.tree c.graft.ensures.spare (c.deal.ensures.offered c.args.stage.now.tree (ap (subtree c.args.stage.now.tree) c.root.ensures)) in
-    stage_board n.rule n.depth n.dims n.root n.opening n.budget a.paving c.graft.new.self a.leaves c.close.new.self c.deal.new.leaves a.used a.steps c.settled-settled.result c.args.ticket c.args.stage.now.tree c.self.invariant was count _
+    stage_board n.rule n.depth n.dims n.root n.opening n.budget n.limit a.paving c.graft.new.self a.leaves c.close.new.self c.deal.new.leaves a.used a.steps c.settled-settled.result c.args.ticket c.args.stage.now.tree c.self.invariant was count _
 
 pub returns-clause-settled : goal.returns-clause-settled
 returns-clause-settled g c is_current =
     let n = g.N.Naming in let a = c.self.inside in
     let open_leaf = ap (subtree a.paving.tree) c.path-path.ensures ∙ held_open a.leaves a.paving.tree c.args.ticket.path c.args.ticket.grant c.self.invariant.leaves (is_equal _ _ c.in-Some.ensures.current) in
-    let staged = staged_is n.rule n.depth n.dims n.root n.opening n.budget a.paving a.leaves a.used a.steps c.path-path.result c.args.stage.now c.self.invariant c.dims-places.ensures.paving open_leaf
+    let staged = staged_is n.rule n.depth n.dims n.root n.opening n.budget n.limit a.paving a.leaves a.used a.steps c.path-path.result c.args.stage.now c.self.invariant c.dims-places.ensures.paving open_leaf
     (c.requires.root ∙ ap (box_of n.root (full_of n.rule n.depth n.root n.opening 0)) (sym c.path-path.ensures)) (subst (λ (q : List Bool). Grows c.args.stage.now.tree (full_of n.rule n.depth c.args.stage.now.root leaf (length q))) (sym c.path-path.ensures) c.requires.stage) c.len-steps.ensures.few in
     let count : c.settled-settled.result ≡ settled_in c.args.stage.now.tree = c.settled-settled.ensures ∙ ap settled_of c.counts.ensures.counts in
     let same = same_mark c.close.result c.args.ticket _ c.close.ensures.mark c.in-Some.ensures.found in
-    let was = was_staged n.rule n.depth n.dims n.root n.opening n.budget a.paving c.graft.new.self a.leaves c.close.new.self c.deal.new.leaves c.args.ticket c.close.result c.path-path.result c.args.stage.now c.settled-settled.result
+    let was = was_staged n.rule n.depth n.dims n.root n.opening n.budget n.limit a.paving c.graft.new.self a.leaves c.close.new.self c.deal.new.leaves c.args.ticket c.close.result c.path-path.result c.args.stage.now c.settled-settled.result
     c.path-path.ensures same count staged (is_equal _ _ c.in-Some.ensures.current) c.requires.few c.close.ensures.closed c.graft.ensures.root c.graft.ensures.tree c.graft.ensures.spare (c.deal.ensures.offered c.args.stage.now.tree (ap (subtree c.args.stage.now.tree) c.root.ensures)) in
     subst (λ (o : Core). IsSettling o (seen c.graft.new.self c.deal.new.leaves (a.used + c.settled-settled.result) (next_step a.steps)) c.args.ticket c.args.stage.now.tree c.deal.new.children) c.self.view_is
-    (stage_settles n.rule n.depth n.dims n.root n.opening n.budget a.paving c.graft.new.self a.leaves c.close.new.self c.deal.new.leaves a.used a.steps c.settled-settled.result c.args.ticket c.args.stage.now.tree c.path-path.result c.args.children.now c.deal.new.children
+    (stage_settles n.rule n.depth n.dims n.root n.opening n.budget n.limit a.paving c.graft.new.self a.leaves c.close.new.self c.deal.new.leaves a.used a.steps c.settled-settled.result c.args.ticket c.args.stage.now.tree c.path-path.result c.args.children.now c.deal.new.children
     c.self.invariant was count c.path-path.ensures c.requires.empty (c.deal.ensures.tickets c.args.stage.now.tree (ap (subtree c.args.stage.now.tree) c.root.ensures)))
 
 pub returns-clause-rose : goal.returns-clause-rose
 returns-clause-rose g c =
     let n = g.N.Naming in let a = c.self.inside in
     let open_leaf = ap (subtree a.paving.tree) c.path-path.ensures ∙ held_open a.leaves a.paving.tree c.args.ticket.path c.args.ticket.grant c.self.invariant.leaves (is_equal _ _ c.in-Some.ensures.current) in
-    let staged = staged_is n.rule n.depth n.dims n.root n.opening n.budget a.paving a.leaves a.used a.steps c.path-path.result c.args.stage.now c.self.invariant c.dims-places.ensures.paving open_leaf
+    let staged = staged_is n.rule n.depth n.dims n.root n.opening n.budget n.limit a.paving a.leaves a.used a.steps c.path-path.result c.args.stage.now c.self.invariant c.dims-places.ensures.paving open_leaf
     (c.requires.root ∙ ap (box_of n.root (full_of n.rule n.depth n.root n.opening 0)) (sym c.path-path.ensures)) (subst (λ (q : List Bool). Grows c.args.stage.now.tree (full_of n.rule n.depth c.args.stage.now.root leaf (length q))) (sym c.path-path.ensures) c.requires.stage) c.len-steps.ensures.few in
     let count : c.settled-settled.result ≡ settled_in c.args.stage.now.tree = c.settled-settled.ensures ∙ ap settled_of c.counts.ensures.counts in
     let same = same_mark c.close.result c.args.ticket _ c.close.ensures.mark c.in-Some.ensures.found in
-    let was = was_staged n.rule n.depth n.dims n.root n.opening n.budget a.paving c.graft.new.self a.leaves c.close.new.self c.deal.new.leaves c.args.ticket c.close.result c.path-path.result c.args.stage.now c.settled-settled.result
+    let was = was_staged n.rule n.depth n.dims n.root n.opening n.budget n.limit a.paving c.graft.new.self a.leaves c.close.new.self c.deal.new.leaves c.args.ticket c.close.result c.path-path.result c.args.stage.now c.settled-settled.result
     c.path-path.ensures same count staged (is_equal _ _ c.in-Some.ensures.current) c.requires.few c.close.ensures.closed c.graft.ensures.root c.graft.ensures.tree c.graft.ensures.spare (c.deal.ensures.offered c.args.stage.now.tree (ap (subtree c.args.stage.now.tree) c.root.ensures)) in
     subst (λ (o : Core). HasRisen o (seen c.graft.new.self c.deal.new.leaves (a.used + c.settled-settled.result) (next_step a.steps)) (settled_in c.args.stage.now.tree)) c.self.view_is
-    (stage_risen n.rule n.depth n.dims n.root n.opening n.budget a.paving c.graft.new.self a.leaves c.close.new.self c.deal.new.leaves a.used a.steps (next_step a.steps) c.settled-settled.result c.args.ticket c.args.stage.now.tree c.self.invariant was count)
+    (stage_risen n.rule n.depth n.dims n.root n.opening n.budget n.limit a.paving c.graft.new.self a.leaves c.close.new.self c.deal.new.leaves a.used a.steps (next_step a.steps) c.settled-settled.result c.args.ticket c.args.stage.now.tree c.self.invariant was count)

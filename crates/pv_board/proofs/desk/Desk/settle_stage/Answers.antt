@@ -8,5 +8,5 @@ returns-clause-children g c =
 pub returns-clause-full : goal.returns-clause-full
 returns-clause-full g c = λ so.
     let n = g.N.Naming in
-    current_full n.rule n.depth n.dims n.root n.opening n.budget c.self.inside.board c.args.ticket c.args.stage.now.root c.settle_stage-is_current.result
+    current_full n.rule n.depth n.dims n.root n.opening n.budget n.limit c.self.inside.board c.args.ticket c.args.stage.now.root c.settle_stage-is_current.result
     c.used-used.ensures.opening c.used-used.ensures.core c.settle_stage-is_current.ensures.current so c.requires.root

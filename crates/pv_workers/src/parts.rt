@@ -1,0 +1,128 @@
+//! Paving part by part, so that room is made by need.
+ghost use Rattle.std.specs.Prelude.{◌≡◌, ◌+◌, ◌*◌, ◌^◌, ◌<◌, ◌≤◌, [], length, IfOk, IsTrue, false};
+ghost use Rattle.pv_tree.specs.Trees.{opens};
+ghost use Rattle.pv_tree.specs.Stages.{IsStage};
+ghost use Rattle.pv_board.specs.Rules.{settled_in};
+ghost use Rattle.pv_workers.specs.Pavings.{IsSpent};
+
+use crate::paving::{Paved, by_crew, learn_paved};
+use pv_num::Memory;
+use pv_pool::Gate;
+use pv_tree::{KnowingSettler, NodeLimit, Paving};
+use std::alloc::Global;
+use std::sync::Wait;
+use std::thread::Threads;
+
+// A board makes room for its whole budget at once, so a large budget is spent in parts: a part has
+// as many settlings as the paving has settled nodes, and at least so many.
+const LEAST_PART: u64 = 100_000;
+
+/// Settles by crews, each on a board of its own for a part of the budget.
+pub(crate) fn by_parts<S: KnowingSettler + Sync, G: Gate + Sync, R: Threads + Wait + Sync>(
+    rt: &R,
+    alloc: Global,
+    settler: &S,
+    opening: Paving,
+    budget: u64,
+    limit: NodeLimit,
+    workers: u32,
+    gate: &G,
+) -> Result<Paved, Memory>
+where
+    S::Room: Send,
+    S::Known: Send,
+    requires dims { length opening.root ≡ S.dims settler.now }
+    requires some { 1 ≤ budget }
+    requires few { budget ≤ limit }
+    requires limit { settled_in opening.tree + budget ≤ limit }
+    requires one { 1 ≤ workers }
+    requires sixteen { workers ≤ 16 }
+    ensures root { IfOk result (λ p. p.paving.root ≡ opening.root) }
+    ensures stage { IfOk result (λ p.
+        IsStage (S.settle_of settler.now)
+        (S.depth_of settler.now) opening.root opening.tree p.paving.tree) }
+    ensures paved { IfOk result (λ p. IsSpent budget opening.tree p.paving.tree) }
+    ensures spent { IfOk result (λ p.
+        settled_in p.paving.tree ≤ settled_in opening.tree + 16 * p.spent) }
+{
+    let _places = opening.dims();
+    let _most = limit.nodes();
+    let _depth = settler.depth();
+    let mut paved = Paved {
+        paving: opening,
+        spent: 0,
+    };
+    let mut left = budget;
+    for _round in 0..budget {
+        let part = part_of(&paved.paving, left);
+        let next = go_on(rt, alloc, settler, paved, part, limit, workers, gate)?;
+        learn_paved(&next.paving, settler);
+        left -= part;
+        if left == 0 {
+            return Ok(next);
+        }
+        if is_done(&next.paving) {
+            return Ok(next);
+        }
+        paved = next;
+    }
+    Ok(paved)
+}
+
+// How many settlings the next part has.
+fn part_of(paving: &Paving, left: u64) -> u64
+    requires { 1 ≤ left }
+    ensures some { 1 ≤ result }
+    ensures few { result ≤ left }
+{
+    left.min(paving.counts().settled().max(LEAST_PART))
+}
+
+// Whether no leaf is open.
+fn is_done(paving: &Paving) -> bool
+    ensures done { IsTrue result → opens paving.now.tree ≡ [] }
+    ensures open { result ≡ false → opens paving.now.tree ≡ [] → ⊥ }
+{
+    match paving.first_open() {
+        None => true,
+        Some(_) => false,
+    }
+}
+
+// Spends one part on what was paved so far.
+fn go_on<S: KnowingSettler + Sync, G: Gate + Sync, R: Threads + Wait + Sync>(
+    rt: &R,
+    alloc: Global,
+    settler: &S,
+    before: Paved,
+    part: u64,
+    limit: NodeLimit,
+    workers: u32,
+    gate: &G,
+) -> Result<Paved, Memory>
+where
+    S::Room: Send,
+    S::Known: Send,
+    requires dims { length before.paving.root ≡ S.dims settler.now }
+    requires some { 1 ≤ part }
+    requires few { part ≤ limit }
+    requires limit { settled_in before.paving.tree + part ≤ limit }
+    requires one { 1 ≤ workers }
+    requires sixteen { workers ≤ 16 }
+    requires low { before.spent + 2 ^ 76 < 2 ^ 128 }
+    ensures root { IfOk result (λ p. p.paving.root ≡ before.paving.root) }
+    ensures stage { IfOk result (λ p.
+        IsStage (S.settle_of settler.now)
+        (S.depth_of settler.now) before.paving.root before.paving.tree p.paving.tree) }
+    ensures paved { IfOk result (λ p. IsSpent part before.paving.tree p.paving.tree) }
+    ensures spent { IfOk result (λ p. settled_in p.paving.tree + 16 * before.spent ≤
+        settled_in before.paving.tree + 16 * p.spent) }
+    ensures low { IfOk result (λ p. p.spent ≤ before.spent + 2 ^ 76) }
+{
+    let Paved { paving, spent } = before;
+    let next = by_crew(rt, alloc, settler, paving, part, limit, workers, gate)?;
+    Ok(Paved {
+        paving: next.paving,
+        spent: spent + next.spent,
+    })
+}
