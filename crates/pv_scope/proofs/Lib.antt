@@ -1,0 +1,5 @@
+pub mod Replaced
+pub mod Lists
+pub mod Going
+pub mod Ahead
+pub mod Under
