@@ -1,6 +1,6 @@
 -- A growth whose next leaf is settled or passed: what is still to come, and what is known of it.
 use Rattle.std.proofs.Common.{◌≡◌, inl, inr, ℕ, suc, ◌+◌, ◌-◌, ◌<◌, ◌≤◌, Bool, true, false, Option, Some, None, List, [], ◌∷◌, ◌++◌, length, append-nil, refl, sym, ◌∙◌, ap, arith, subst}
-use Rattle.std.specs.Prelude.{◌⊎◌, reverse}
+use Rattle.std.specs.Prelude.{◌⊎◌, reverse, is_some, not, IfSome}
 use Rattle.std.proofs.lemmas.List.{reverse-append}
 use Rattle.pv_interval.specs.Bounds.{Bounds}
 use Rattle.pv_tree.specs.Trees.{Tree, leaf, removed, inner, small, cut, subtree, outcome_at, graft, settled}
@@ -9,10 +9,11 @@ use Rattle.pv_tree.specs.KnownLeaves.{AreKnown}
 use Rattle.pv_tree.specs.declared.outcome.Outcome.{Outcome}
 use Rattle.pv_tree.specs.declared.outcome.Outcome.TheVariants.{Removed, Inner, Small, Cut}
 use Rattle.pv_tree.proofs.KnownLeaves.{next_tree, next_holes, next_is_leaf}
+use Rattle.pv_tree.proofs.Cells.{lt_or}
 use Rattle.pv_tree.proofs.TreeFacts.{settled_more}
 use Rattle.pv_board.specs.Rules.{settled_in}
 use Rattle.pv_scope.specs.Scopes.{IsIn}
-use Rattle.pv_scope.specs.Parts.{paths_of, AreToCome, AreShort, AreLong, HasShort, IsGrown}
+use Rattle.pv_scope.specs.Parts.{paths_of, AreToCome, AreShort, AreLong, IsGrown}
 use Rattle.pv_scope.proofs.Replaced.{IsFrom, IsMadeBy, leaf_after, made_after}
 
 -- ---- A leaf is settled
@@ -89,13 +90,10 @@ module _ (cap k : ℕ) where
 
   -- where none is to come, no open leaf has a short path
   pub none_to_come : (g : Growing) → g.holes ≡ [] → AreToCome cap k g → AreLong cap k g.tree
-  none_to_come g e h q f = by_case (nat_cases cap (k + length q))
-    where
-      nat_cases : (m n : ℕ) → (m ≤ n) ⊎ (n < m)
-      nat_cases m n = search rules
-      by_case : (cap ≤ k + length q) ⊎ (k + length q < cap) → cap ≤ k + length q
-      by_case (inl w) = w
-      by_case (inr w) = absurd (subst (λ (hs : List Hole). IsIn q (paths_of hs)) e (h q f w))
+  none_to_come g e h q f = elim (lt_or (k + length q) cap) [
+    | inl w ↦ absurd (subst (λ (hs : List Hole). IsIn q (paths_of hs)) e (h q f w))
+    | inr w ↦ w
+  ]
 
   pub first_short : (b : List Bounds) (g : Growing) → g ≡ growth_over b → AreShort cap k g.tree
   first_short b g e = subst (λ (g : Growing). AreShort cap k g.tree) (sym e) at_leaf
@@ -125,17 +123,13 @@ module _ (cap k : ℕ) where
   pub still_short : (g : Growing) (p : List Bool) (o : Outcome) → IsNext g p → k + length p < cap → AreShort cap k g.tree → AreShort cap k (settle_next g o).tree
   still_short g p o n few h = subst (AreShort cap k) (sym (next_tree g p o n)) (short_graft g.tree p o (next_is_leaf g p n) few h)
 
-  -- how far a stage has come
-  pub grown_done : (most own : ℕ) (t : Tree) (done : Bool) → done ≡ true → own ≤ most → AreLong cap k t → IsGrown cap k most own done t
-  grown_done most own t true e few h = (few, h)
-  grown_done most own t false e few h = cc
-
-  pub grown_short : (most own : ℕ) (t : Tree) (done : Bool) → done ≡ false → own ≡ most → HasShort cap k t → IsGrown cap k most own done t
-  grown_short most own t false e same h = (same, h)
-  grown_short most own t true e same h = cc
-
-  pub grown_same : (most own : ℕ) (t u : Tree) (done : Bool) → u ≡ t → IsGrown cap k most own done t → IsGrown cap k most own done u
-  grown_same most own t u done e h = subst (IsGrown cap k most own done) (sym e) h
+  -- how far a stage has come once all that was allowed was settled
+  pub ended : (most : ℕ) (g : Growing) (t : Tree) (o : Option (List Bool)) (done : Bool) → t ≡ g.tree → is_some o ≡ not done → IfSome o (λ p. IsNext g p) → IfSome o (λ p. k + length p < cap)
+      → (o ≡ None → AreLong cap k g.tree) → IsGrown cap k most most done t
+  ended most g t None true e s n l h = (omega arith, subst (AreLong cap k) (sym e) (h refl))
+  ended most g t None false e s n l h = cc
+  ended most g t (Some p) true e s n l h = cc
+  ended most g t (Some p) false e s n l h = (refl, record { steps = p; is_open = ap (λ (x : Tree). subtree x p) e ∙ next_is_leaf g p n; few = l })
 
 -- one more node is settled
 pub one_more : (g : Growing) (p : List Bool) (o : Outcome) → IsNext g p → settled_in (settle_next g o).tree ≡ settled_in g.tree + 1

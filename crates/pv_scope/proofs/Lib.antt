@@ -3,3 +3,5 @@ pub mod Lists
 pub mod Going
 pub mod Ahead
 pub mod Under
+pub mod Settled
+pub mod Whole

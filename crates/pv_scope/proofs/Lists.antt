@@ -1,6 +1,6 @@
 -- Lists of paths, and the open leaves of a tree.
-use Rattle.std.proofs.Common.{◌≡◌, inl, inr, ℕ, suc, ◌+◌, ◌<◌, ◌≤◌, Bool, true, false, Some, None, List, [], ◌∷◌, ◌++◌, map, length, if◌then◌else◌, refl, sym, ◌∙◌, ap, arith, subst}
-use Rattle.std.specs.Prelude.{◌⊎◌, reverse}
+use Rattle.std.proofs.Common.{◌≡◌, inl, inr, ℕ, suc, ◌+◌, ◌<◌, ◌≤◌, Bool, true, false, Option, Some, None, List, [], ◌∷◌, ◌++◌, map, length, if◌then◌else◌, refl, sym, ◌∙◌, ap, arith, subst}
+use Rattle.std.specs.Prelude.{◌⊎◌, ◌↔◌, IsSome, reverse}
 use Rattle.std.proofs.lemmas.List.{reverse-append}
 use Rattle.pv_tree.specs.Trees.{Tree, leaf, removed, inner, small, cut, subtree, opens}
 use Rattle.pv_scope.specs.Scopes.{IsIn, picked}
@@ -175,3 +175,12 @@ module _ (test : ℕ → Path → Bool) where
 
 pub last_first : (front : List Path) (p : Path) → reverse (front ++ p ∷ []) ≡ p ∷ reverse front
 last_first front p = reverse-append front (p ∷ [])
+
+none_there : (o : Option Path) → o ≡ None → IsSome o → ⊥
+none_there None e h = cc
+none_there (Some p) e h = cc
+
+-- a list of which nothing can be taken is empty
+pub emptied : (r : Option Path) (items : List Path) (n : ℕ) → r ≡ None → (IsSome r ↔ (0 < n)) → n ≡ length items → reverse items ≡ []
+emptied r [] n e v s = refl
+emptied r (x ∷ xs) n e v s = absurd (none_there r e (v.1 (omega (arith, s))))

@@ -58,3 +58,12 @@ IsSpent budget opening t =
 pub record IsLevel (opening t : Tree) (pass : ℕ) : Type 0 where
   pub open_below : (q : List Bool) → subtree t q ≡ Some leaf → 4 * (pass - 1) ≤ length q
   pub settled_above : (q : List Bool) (o : Outcome) → outcome_at t q ≡ Some o → (outcome_at opening q ≡ Some o) ⊎ (length q < 4 * pass)
+
+-- What a pass did that settles the leaves with fewer than cap steps.
+pub record IsPass (old new : Tree) (cap left own : ℕ) (done : Bool) : Type 0 where
+  pub keeps : (n : ℕ) → ((q : List Bool) → subtree old q ≡ Some leaf → n ≤ length q) → (q : List Bool) → subtree new q ≡ Some leaf → n ≤ length q
+  pub ends : done ≡ true → (q : List Bool) → subtree new q ≡ Some leaf → cap ≤ length q
+  pub short : (q : List Bool) (o : Outcome) → outcome_at new q ≡ Some o → (outcome_at old q ≡ Some o) ⊎ (length q < cap)
+  pub count : settled_in new ≡ settled_in old + own
+  pub few : own ≤ left
+  pub spent : done ≡ false → own ≡ left

@@ -1,11 +1,12 @@
 //! Settling an opening's shallow leaves first.
-ghost use Rattle.std.specs.Prelude.{◌≡◌, ◌+◌, ◌≤◌, length, IfOk};
+ghost use Rattle.std.specs.Prelude.{◌≡◌, ◌+◌, ◌*◌, ◌≤◌, length, IfOk, OnOk};
 ghost use Rattle.pv_tree.specs.Trees.{Tree, Paves};
 ghost use Rattle.pv_tree.specs.Stages.{IsStage};
 ghost use Rattle.pv_board.specs.Rules.{settled_in};
-ghost use Rattle.pv_scope.specs.Settlings.{IsLevel, IsSpent};
+ghost use Rattle.pv_scope.specs.Settlings.{IsLevel, IsPass, IsSpent};
 
 use crate::kit::Kit;
+use crate::part::Came;
 use crate::scope::Scope;
 use crate::settling::settle_scope;
 use pv_num::Memory;
@@ -13,10 +14,10 @@ use pv_pool::Gate;
 use pv_tree::{KnowingSettler, Paving};
 use std::alloc::Global;
 
-/// So many levels further down goes each pass than the one before it.
+/// Each pass goes so many levels further down than the one before it.
 const LEVELS: u32 = 4;
 
-/// After so many passes no path is left that has more steps.
+/// After so many passes no leaf is open, since no path has more steps.
 const MOST_PASSES: u32 = 51;
 
 /// An opening that was settled by levels.
@@ -62,13 +63,17 @@ pub fn settle_levels<S: KnowingSettler, G: Gate>(
     let mut kit = Kit::of(alloc, settler, paving.dims())?;
     let mut settled = 0u64;
     for pass in 1..MOST_PASSES {
-        let scope = Scope::Above {
-            steps: LEVELS * pass,
-        };
         let left = budget - settled;
-        let came = settle_scope(alloc, settler, gate, &mut paving, scope, left, &mut kit)?;
+        let came = settle_pass(alloc, settler, gate, &mut paving, pass, left, &mut kit)?;
         settled += came.settled;
-        if !came.done || paving.first_open().is_none() {
+        if !came.done {
+            return Ok(Levelled {
+                paving,
+                settled,
+                pass,
+            });
+        }
+        if paving.first_open().is_none() {
             return Ok(Levelled {
                 paving,
                 settled,
@@ -76,14 +81,43 @@ pub fn settle_levels<S: KnowingSettler, G: Gate>(
             });
         }
     }
-    let scope = Scope::Above {
-        steps: LEVELS * MOST_PASSES,
-    };
     let left = budget - settled;
-    let came = settle_scope(alloc, settler, gate, &mut paving, scope, left, &mut kit)?;
+    let pass = MOST_PASSES;
+    let came = settle_pass(alloc, settler, gate, &mut paving, pass, left, &mut kit)?;
+    let _sides = paving.dims();
     Ok(Levelled {
         paving,
         settled: settled + came.settled,
-        pass: MOST_PASSES,
+        pass,
     })
+}
+
+// Settles the leaves whose paths have fewer than four times so many steps as the pass has.
+fn settle_pass<S: KnowingSettler, G: Gate>(
+    alloc: Global,
+    settler: &S,
+    gate: &G,
+    paving: &mut Paving,
+    pass: u32,
+    left: u64,
+    kit: &mut Kit<S>,
+) -> Result<Came, Memory>
+    requires few { pass ≤ 51 }
+    requires dims { length paving.old.root ≡ S.dims settler.now }
+    requires scratch { length kit.old.scratch ≡ S.dims settler.now }
+    ensures root { paving.new.root ≡ paving.old.root }
+    ensures scratch { length kit.new.scratch ≡ S.dims settler.now }
+    ensures stage { OnOk result
+        ((opening : Tree) → Paves paving.old.root opening
+        → IsStage (S.settle_of settler.now)
+        (S.depth_of settler.now) paving.old.root opening paving.old.tree
+        → IsStage (S.settle_of settler.now)
+        (S.depth_of settler.now) paving.new.root opening paving.new.tree) }
+    ensures pass { IfOk result (λ came. IsPass paving.old.tree paving.new.tree
+        (4 * pass) left came.settled came.done) }
+{
+    let scope = Scope::Above {
+        steps: LEVELS * pass,
+    };
+    settle_scope(alloc, settler, gate, paving, scope, left, kit)
 }

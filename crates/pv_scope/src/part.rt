@@ -62,6 +62,8 @@ pub(crate) fn settle_at<S: KnowingSettler, G: Gate>(
 {
     let _places = paving.dims();
     paving.box_at(path, &mut kit.scratch);
+    let _sides = kit.scratch.dims();
+    let _steps = path.len();
     let part = grow_at(alloc, settler, gate, path, steps, most, kit)?;
     paving.reserve(part.came.settled)?;
     paving.graft(path, &part.stage);

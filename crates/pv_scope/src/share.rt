@@ -105,6 +105,7 @@ pub fn settle_share<S: KnowingSettler, G: Gate>(
         of: share.of,
     };
     let came = settle_scope(alloc, settler, gate, &mut paving, scope, budget, &mut kit)?;
+    let _sides = paving.dims();
     Ok(Shared {
         paving,
         settled: came.settled,
