@@ -5,3 +5,4 @@ pub mod Ahead
 pub mod Under
 pub mod Settled
 pub mod Whole
+pub mod Passes

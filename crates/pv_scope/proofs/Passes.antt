@@ -1,6 +1,6 @@
 -- Passes over an opening, each some levels further down than the one before it.
 use Rattle.std.proofs.Common.{◌≡◌, inl, inr, ℕ, suc, ◌+◌, ◌-◌, ◌*◌, ◌<◌, ◌≤◌, Bool, true, false, Option, Some, None, List, [], ◌∷◌, ◌++◌, length, append-nil, length-append, refl, sym, ◌∙◌, ap, arith, subst}
-use Rattle.std.specs.Prelude.{◌⊎◌, nat_lt, is_some, not}
+use Rattle.std.specs.Prelude.{◌⊎◌, nat_lt}
 use Rattle.std.proofs.lemmas.Bool.{lt-ltb}
 use Rattle.pv_tree.specs.Trees.{Tree, leaf, subtree, outcome_at, opens, first, height}
 use Rattle.pv_tree.specs.declared.outcome.Outcome.{Outcome}
@@ -84,13 +84,14 @@ module _ (opening t u : Tree) (pass cap left own : ℕ) (done : Bool) (size : ca
 pub spent_here : (opening t u : Tree) (cap budget before own : ℕ) (done : Bool) → IsPass t u cap (budget - before) own done → before ≤ budget → settled_in t ≡ settled_in opening + before → done ≡ false → IsSpent budget opening u
 spent_here opening t u cap budget before own done p few count d = let more = p.count in let same = p.spent d in inl (omega (arith, few, count, more, same))
 
-no_first : (ps : List (List Bool)) → is_some (first ps) ≡ false → ps ≡ []
-no_first [] e = refl
-no_first (p ∷ ps) e = cc
+pub no_first : (ps : List (List Bool)) (o : Option (List Bool)) → o ≡ None → o ≡ first ps → ps ≡ []
+no_first [] o e f = refl
+no_first (p ∷ ps) o e f = let w : None ≡ Some p = sym e ∙ f in cc
 
-pub none_spent : (opening t u : Tree) (cap budget before own : ℕ) (done : Bool) → IsPass t u cap (budget - before) own done → before ≤ budget → settled_in t ≡ settled_in opening + before → is_some (first (opens u)) ≡ false → IsSpent budget opening u
-none_spent opening t u cap budget before own done p few count e =
-    let more = p.count in let less = p.few in inr (no_first (opens u) e, omega (arith, few, count, more, less))
+pub over_spent : (opening t u : Tree) (cap budget before own : ℕ) (done : Bool) → IsPass t u cap (budget - before) own done → before ≤ budget → settled_in t ≡ settled_in opening + before
+    → (done ≡ false) ⊎ (opens u ≡ []) → IsSpent budget opening u
+over_spent opening t u cap budget before own done p few count (inl d) = spent_here opening t u cap budget before own done p few count d
+over_spent opening t u cap budget before own done p few count (inr e) = let more = p.count in let less = p.few in inr (e, omega (arith, few, count, more, less))
 
 pub last_spent : (opening t u : Tree) (cap budget before own : ℕ) (done : Bool) → IsPass t u cap (budget - before) own done → before ≤ budget → settled_in t ≡ settled_in opening + before → 201 ≤ cap → height u ≤ 200 → IsSpent budget opening u
 last_spent opening t u cap budget before own false p few count deep high = spent_here opening t u cap budget before own false p few count refl

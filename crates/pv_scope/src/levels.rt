@@ -1,6 +1,6 @@
 //! Settling an opening's shallow leaves first.
-ghost use Rattle.std.specs.Prelude.{◌≡◌, ◌+◌, ◌*◌, ◌≤◌, length, IfOk, OnOk};
-ghost use Rattle.pv_tree.specs.Trees.{Tree, Paves};
+ghost use Rattle.std.specs.Prelude.{◌≡◌, ◌⊎◌, ◌+◌, ◌*◌, ◌≤◌, [], true, false, length, IfOk, OnOk};
+ghost use Rattle.pv_tree.specs.Trees.{Tree, Paves, opens};
 ghost use Rattle.pv_tree.specs.Stages.{IsStage};
 ghost use Rattle.pv_board.specs.Rules.{settled_in};
 ghost use Rattle.pv_scope.specs.Settlings.{IsLevel, IsPass, IsSpent};
@@ -66,14 +66,7 @@ pub fn settle_levels<S: KnowingSettler, G: Gate>(
         let left = budget - settled;
         let came = settle_pass(alloc, settler, gate, &mut paving, pass, left, &mut kit)?;
         settled += came.settled;
-        if !came.done {
-            return Ok(Levelled {
-                paving,
-                settled,
-                pass,
-            });
-        }
-        if paving.first_open().is_none() {
+        if is_over(&paving, came) {
             return Ok(Levelled {
                 paving,
                 settled,
@@ -119,5 +112,20 @@ fn settle_pass<S: KnowingSettler, G: Gate>(
     let scope = Scope::Above {
         steps: LEVELS * pass,
     };
-    settle_scope(alloc, settler, gate, paving, scope, left, kit)
+    let came = settle_scope(alloc, settler, gate, paving, scope, left, kit)?;
+    Ok(came)
+}
+
+// Whether no pass is to follow one that came so far.
+fn is_over(paving: &Paving, came: Came) -> bool
+    ensures over { result ≡ true → (came.done ≡ false) ⊎ (opens paving.now.tree ≡ []) }
+    ensures on { result ≡ false → came.done ≡ true }
+{
+    if !came.done {
+        return true;
+    }
+    match paving.first_open() {
+        None => true,
+        Some(_path) => false,
+    }
 }

@@ -4,9 +4,11 @@
 
 mod kit;
 mod leaves;
+mod levels;
 mod part;
 mod scope;
 mod settling;
 mod share;
 
+pub use levels::{Levelled, settle_levels};
 pub use share::{Share, Shared, settle_share};
