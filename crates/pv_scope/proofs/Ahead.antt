@@ -1,8 +1,8 @@
 -- The open leaves that a walk is still to meet.
-use Rattle.std.proofs.Common.{◌≡◌, ℕ, suc, ◌+◌, ◌<◌, ◌≤◌, Bool, true, false, Some, List, [], ◌∷◌, ◌++◌, map, append_assoc, append-nil, refl, sym, ◌∙◌, ap, arith, subst}
+use Rattle.std.proofs.Common.{◌≡◌, ℕ, suc, ◌+◌, ◌≤◌, Bool, true, false, Some, List, [], ◌∷◌, ◌++◌, map, append_assoc, append-nil, refl, sym, ◌∙◌, ap, arith}
 use Rattle.pv_interval.specs.Bounds.{Bounds}
 use Rattle.pv_tree.specs.Trees.{Tree, leaf, removed, inner, small, cut, opens, shape_of}
-use Rattle.pv_tree.specs.Pieces.{Piece, Walked, walk_from, pieces_below, children_of, IsVisit, to_come, all_nodes}
+use Rattle.pv_tree.specs.Pieces.{Piece, Walked, walk_from, pieces_below, IsVisit, to_come}
 use Rattle.pv_tree.specs.declared.outcome.Shape.{Shape}
 use Rattle.pv_tree.specs.declared.outcome.Shape.TheVariants as shape
 use Rattle.pv_scope.specs.Scopes.{picked}

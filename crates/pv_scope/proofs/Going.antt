@@ -1,5 +1,5 @@
 -- A growth whose next leaf is settled or passed: what is still to come, and what is known of it.
-use Rattle.std.proofs.Common.{◌≡◌, inl, inr, ℕ, suc, ◌+◌, ◌-◌, ◌<◌, ◌≤◌, Bool, true, false, Option, Some, None, List, [], ◌∷◌, ◌++◌, length, append-nil, refl, sym, ◌∙◌, ap, arith, subst}
+use Rattle.std.proofs.Common.{◌≡◌, inl, inr, ℕ, ◌+◌, ◌<◌, ◌≤◌, Bool, true, false, Option, Some, None, List, [], ◌∷◌, ◌++◌, length, append-nil, refl, sym, ◌∙◌, ap, arith, subst}
 use Rattle.std.specs.Prelude.{◌⊎◌, reverse, is_some, not, IfSome}
 use Rattle.std.proofs.lemmas.List.{reverse-append}
 use Rattle.pv_interval.specs.Bounds.{Bounds}
@@ -8,7 +8,7 @@ use Rattle.pv_tree.specs.Holes.{Growing, Hole, IsNext, growth_over, holes_below,
 use Rattle.pv_tree.specs.KnownLeaves.{AreKnown}
 use Rattle.pv_tree.specs.declared.outcome.Outcome.{Outcome}
 use Rattle.pv_tree.specs.declared.outcome.Outcome.TheVariants.{Removed, Inner, Small, Cut}
-use Rattle.pv_tree.proofs.KnownLeaves.{next_tree, next_holes, next_is_leaf}
+use Rattle.pv_tree.proofs.KnownLeaves.{next_tree, next_is_leaf}
 use Rattle.pv_tree.proofs.Cells.{lt_or}
 use Rattle.pv_tree.proofs.TreeFacts.{settled_more}
 use Rattle.pv_board.specs.Rules.{settled_in}

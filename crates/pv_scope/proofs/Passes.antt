@@ -1,5 +1,5 @@
 -- Passes over an opening, each some levels further down than the one before it.
-use Rattle.std.proofs.Common.{◌≡◌, inl, inr, ℕ, suc, ◌+◌, ◌-◌, ◌*◌, ◌<◌, ◌≤◌, Bool, true, false, Option, Some, None, List, [], ◌∷◌, ◌++◌, length, append-nil, length-append, refl, sym, ◌∙◌, ap, arith, subst}
+use Rattle.std.proofs.Common.{◌≡◌, inl, inr, ℕ, ◌+◌, ◌-◌, ◌*◌, ◌<◌, ◌≤◌, Bool, true, false, Option, Some, None, List, [], ◌∷◌, length, append-nil, length-append, refl, sym, ◌∙◌, ap, arith, subst}
 use Rattle.std.specs.Prelude.{◌⊎◌, nat_lt}
 use Rattle.std.proofs.lemmas.Bool.{lt-ltb}
 use Rattle.pv_tree.specs.Trees.{Tree, leaf, subtree, outcome_at, opens, first, height}
@@ -8,7 +8,7 @@ use Rattle.pv_tree.proofs.Cells.{lt_or}
 use Rattle.pv_tree.proofs.Stacks.{height_below}
 use Rattle.pv_board.specs.Rules.{settled_in}
 use Rattle.pv_scope.specs.Scopes.{IsIn, IsBelow, picked, is_in_scope}
-use Rattle.pv_scope.specs.declared.scope.Scope.TheVariants.{Shared, Above}
+use Rattle.pv_scope.specs.declared.scope.Scope.TheVariants.{Above}
 use Rattle.pv_scope.specs.Settlings.{IsOver, IsEnded, IsSettled, IsPass, IsLevel, IsSpent}
 use Rattle.pv_scope.proofs.Lists.{open_in, in_open, picked_in, picked_all, none_open}
 use Rattle.pv_scope.proofs.Settled.{ended_few, ended_spent}

@@ -1,9 +1,8 @@
 -- Open leaves and settled nodes of a tree in which an open leaf was replaced.
-use Rattle.std.proofs.Common.{◌≡◌, inl, inr, ℕ, suc, ◌+◌, ◌<◌, ◌≤◌, Bool, true, false, Some, None, List, [], ◌∷◌, ◌++◌, map, length, refl, sym, ◌∙◌, ap, arith, subst}
+use Rattle.std.proofs.Common.{◌≡◌, inl, inr, Bool, true, false, Some, List, [], ◌∷◌, ◌++◌, refl, ap}
 use Rattle.std.specs.Prelude.{◌⊎◌}
-use Rattle.pv_tree.specs.Trees.{Tree, leaf, removed, inner, small, cut, subtree, outcome_at, graft, opens}
+use Rattle.pv_tree.specs.Trees.{Tree, leaf, removed, inner, small, cut, subtree, outcome_at, graft}
 use Rattle.pv_tree.specs.declared.outcome.Outcome.{Outcome}
-use Rattle.pv_scope.specs.Scopes.{IsIn}
 
 -- A path leads to an open leaf of what was put at another path.
 pub record IsFrom (s : Tree) (p q : List Bool) : Type 0 where

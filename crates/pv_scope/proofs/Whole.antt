@@ -1,5 +1,5 @@
 -- What is closed in a stage is what stands in the full tree.
-use Rattle.std.proofs.Common.{◌≡◌, ℕ, Bool, true, false, Option, Some, None, List, [], ◌∷◌, ◌++◌, refl, sym, ◌∙◌, ap, subst}
+use Rattle.std.proofs.Common.{◌≡◌, ℕ, Bool, true, false, Option, Some, None, List, [], ◌∷◌, refl, sym, ◌∙◌, ap, subst}
 use Rattle.std.specs.Prelude.{IsSome, nat_eq, ◌%◌}
 use Rattle.pv_interval.specs.Bounds.{Bounds}
 use Rattle.pv_tree.specs.Trees.{Tree, leaf, removed, inner, small, cut, subtree, opens}
@@ -7,8 +7,7 @@ use Rattle.pv_tree.specs.Stages.{Rule, Grows, IsStage, full_of}
 use Rattle.pv_tree.specs.declared.outcome.Outcome.TheVariants.{Cut}
 use Rattle.pv_tree.proofs.StageLaws.{IsCut, top_cut, grows_low, grows_high, grown_whole}
 use Rattle.pv_board.proofs.Fulls.{grows_there}
-use Rattle.pv_scope.specs.Scopes.{IsIn}
-use Rattle.pv_scope.specs.Settlings.{share_in, IsClosed, IsFullThere}
+use Rattle.pv_scope.specs.Settlings.{IsClosed, IsFullThere}
 use Rattle.pv_scope.proofs.Replaced.{subtree_below}
 use Rattle.pv_scope.proofs.Lists.{in_open, picked_in, none_open}
 

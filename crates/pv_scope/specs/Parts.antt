@@ -1,5 +1,5 @@
 -- What is settled below one open leaf.
-use Rattle.std.specs.Prelude.{◌≡◌, ◌⊎◌, ℕ, ◌+◌, ◌<◌, ◌≤◌, Bool, true, false, Some, List, [], ◌∷◌, ◌++◌, length}
+use Rattle.std.specs.Prelude.{◌≡◌, ℕ, ◌+◌, ◌<◌, ◌≤◌, Bool, true, false, Some, List, [], ◌∷◌, length}
 use Rattle.pv_tree.specs.Trees.{Tree, leaf, subtree, outcome_at, graft}
 use Rattle.pv_tree.specs.Holes.{Growing, Hole}
 use Rattle.pv_tree.specs.declared.outcome.Outcome.{Outcome}

@@ -1,6 +1,5 @@
 -- Which open leaves of an opening are in a scope.
-use Rattle.std.specs.Prelude.{◌≡◌, ◌⊎◌, ℕ, suc, ◌+◌, ◌%◌, ◌<◌, ◌≤◌, Bool, if◌then◌else◌, nat_eq, nat_lt, Some, List, [], ◌∷◌, ◌++◌, length}
-use Rattle.pv_tree.specs.Trees.{Tree, leaf, subtree}
+use Rattle.std.specs.Prelude.{◌≡◌, ◌⊎◌, ℕ, suc, ◌%◌, ◌≤◌, Bool, if◌then◌else◌, nat_eq, nat_lt, List, [], ◌∷◌, ◌++◌, length}
 use Rattle.pv_scope.specs.declared.scope.Scope.{Scope}
 use Rattle.pv_scope.specs.declared.scope.Scope.TheVariants.{Shared, Above}
 

@@ -32,12 +32,7 @@ pub(crate) fn leaves_in(alloc: Global, paving: &Paving, scope: Scope) -> Result<
 }
 
 // Appends the path of an open leaf, if it is in the scope.
-fn take_leaf(
-    leaves: &mut Vec<Path>,
-    scope: Scope,
-    number: u64,
-    path: Path,
-) -> Result<(), Memory>
+fn take_leaf(leaves: &mut Vec<Path>, scope: Scope, number: u64, path: Path) -> Result<(), Memory>
     requires { IsScope scope }
     ensures { OnOk result (leaves.new.items ≡
         leaves.old.items ++ picked (is_in_scope scope) number (path ∷ [])) }

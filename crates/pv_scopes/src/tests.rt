@@ -94,14 +94,7 @@ fn shares_of_sixteen_strips(rt: HostRuntime) -> Result<(), Fail> {
     assert!(rt; has(&fifth.paving, 15 + 5 * 16, 5 * 8, 5 * 8, 5, 11));
     assert!(rt; fifth.done);
     assert!(rt; fifth.settled == 5 * 33);
-    let part = settle_share(
-        alloc,
-        &settler,
-        strips.clone_of(alloc)?,
-        last,
-        40,
-        &NoGate,
-    )?;
+    let part = settle_share(alloc, &settler, strips.clone_of(alloc)?, last, 40, &NoGate)?;
     assert!(rt; !part.done);
     assert!(rt; part.settled == 40);
     let Some(none) = Share::new(20, 100) else {

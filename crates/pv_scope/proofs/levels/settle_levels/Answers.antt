@@ -1,9 +1,8 @@
-use Rattle.std.proofs.Common.{◌≡◌, ◌+◌, ◌-◌, ◌*◌, ◌≤◌, ℕ, List, Bool, true, refl, sym, ◌∙◌, ap, arith, subst}
+use Rattle.std.proofs.Common.{◌≡◌, ◌+◌, ◌-◌, ◌*◌, ℕ, List, refl, sym, ◌∙◌, arith, subst}
 use Rattle.pv_interval.specs.Bounds.{Bounds}
-use Rattle.pv_tree.specs.Trees.{Tree, Paves}
+use Rattle.pv_tree.specs.Trees.{Paves}
 use Rattle.pv_tree.specs.Stages.{IsStage}
 use Rattle.pv_tree.proofs.Earlier.{opening_is_stage}
-use Rattle.pv_board.specs.Rules.{settled_in}
 use Rattle.pv_scope.proofs.Passes.{IsBegun, begun_first, begun_next, level_here, over_spent, last_spent}
 use Rattle.pv_scope.proofs.levels.settle_levels.Goals as goal
 

@@ -1,4 +1,4 @@
-use Rattle.std.proofs.Common.{◌≡◌, ◌-◌, ◌++◌, List, Bool, length, sym, ◌∙◌, ap, subst}
+use Rattle.std.proofs.Common.{◌≡◌, ◌-◌, ◌++◌, List, length, sym, ◌∙◌, ap, subst}
 use Rattle.pv_interval.specs.Bounds.{Bounds}
 use Rattle.pv_tree.specs.Trees.{Tree, box_of, graft, leaf, settled}
 use Rattle.pv_tree.specs.Holes.{Growing}

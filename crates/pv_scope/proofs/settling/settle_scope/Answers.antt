@@ -1,8 +1,7 @@
-use Rattle.std.proofs.Common.{◌≡◌, ℕ, ◌+◌, ◌-◌, List, Bool, [], ◌∷◌, ◌++◌, length, true, inl, refl, arith, sym, ◌∙◌, ap, subst}
+use Rattle.std.proofs.Common.{◌≡◌, ℕ, ◌-◌, List, Bool, ◌∷◌, true, inl, refl, arith, sym, ◌∙◌, ap, subst}
 use Rattle.std.specs.Prelude.{reverse}
 use Rattle.std.proofs.lemmas.List.{reverse-reverse}
-use Rattle.pv_tree.specs.Trees.{Tree, Paves, opens}
-use Rattle.pv_tree.specs.Stages.{IsStage}
+use Rattle.pv_tree.specs.Trees.{Paves, opens}
 use Rattle.pv_scope.specs.Scopes.{is_in_scope, most_steps, picked}
 use Rattle.pv_scope.specs.Parts.{IsGrownAt}
 use Rattle.pv_scope.proofs.Lists.{last_first, emptied}

@@ -1,6 +1,5 @@
-use Rattle.std.proofs.Common.{◌≡◌, List, Bool, sym, ◌∙◌, ap, subst}
+use Rattle.std.proofs.Common.{List, subst}
 use Rattle.pv_interval.specs.Bounds.{Bounds}
-use Rattle.pv_tree.specs.Trees.{Tree, opens}
 use Rattle.pv_tree.specs.Stages.{IsStage}
 use Rattle.pv_tree.proofs.Earlier.{opening_is_stage}
 use Rattle.pv_scope.specs.Settlings.{share_in}
