@@ -16,10 +16,11 @@ all: paver
 
 # The libraries are proved side by side, by the kit's own `rt` where its parts have other names than build/prove.py knows.
 # `rt run` then proves the program's own crate, compiles and links, and runs it; with no words it answers its usage line.
+# Its jobs are given, since by itself it would take one: it counts 49 GB for the libraries below, of which a check takes few.
 paver: $(SOURCES)
 	python3 build/prove.py --jobs $(JOBS) paver || { [ $$? -eq 3 ] && rt all check --jobs $(JOBS); }
 	rm -f crates/paver/out/paver
-	cd crates/paver && rt run >../../paver.log 2>&1; test -x out/paver || { tail -n 20 ../../paver.log; exit 1; }
+	cd crates/paver && rt run --jobs $(JOBS) >../../paver.log 2>&1; test -x out/paver || { tail -n 20 ../../paver.log; exit 1; }
 	rm -f paver.log
 	cp crates/paver/out/paver paver
 

@@ -10,9 +10,10 @@ import sys
 import tempfile
 from pathlib import Path
 
-from running import TOP, Folder, judged, program
+from running import Folder, judged, program
 
-RING = str(TOP / "examples" / "ring.mbx")
+RING = "ring"
+TEXT = b"Variables x in [-3, 3], y in [-3, 3]; Constraints x^2 + y^2 >= 1; x^2 + y^2 <= 2; end\n"
 EPS = ["--eps", "0.0001"]
 LARGE = ["--limit", "1000000"]
 NODES = 886_217
@@ -24,6 +25,7 @@ class Ring(Folder):
 
     def __init__(self, paver, path):
         super().__init__(paver, path)
+        self.put(RING, TEXT)
         done = self.call("run", RING, *EPS, *LARGE, "--boxes", "1000000", "--workers", "1", "--out", "whole")
         self.summary = done.stdout
         assert done.returncode == 0 and done.stdout.startswith(f"settled {NODES} ".encode()), (done.returncode, done.stdout)

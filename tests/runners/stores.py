@@ -17,7 +17,6 @@ import signal
 import subprocess
 import sys
 import time
-from pathlib import Path
 
 from running import SECONDS, Folder, judged_in_folders, word
 from outside import RING
@@ -85,7 +84,7 @@ def calls_of_store(f, words):
         if called := re.match(r"\d+ +(\w+)\(", line):
             name = called[1]
             counts[name] = counts.get(name, 0) + 1
-            if found or '"p"' in line:
+            if found or ('"p"' in line and name != "execve"):
                 found.append((name, counts[name]))
     log.unlink()
     assert len(found) >= 8, found
@@ -119,22 +118,17 @@ def each_call_fails(f):
                     f.faults.append(f"{name} {number} {error}: {done.returncode} {done.stderr} {f.beside()}")
 
 
-def faults_of_close_and_sync(f):
-    """What a disk tells late, at the sync or the close, is a fault, and the old content stands."""
+def faults_of_the_sync(f):
+    """What a disk tells late, at the sync, is a fault, and the old content stands."""
     if not may_trace():
-        print("faults of close and sync: skipped, no system call can be watched here")
+        print("faults of the sync: skipped, no system call can be watched here")
         return
     old, words = f.made(*FINE, "1"), ["run", "s", *FINE, "0.25", "--out", "p"]
-    for call in ("close", "fsync"):
-        for error in ("ENOSPC", "EIO", "EDQUOT"):
-            number = dict(calls_of_store(f, words))[call] if call == "close" else 1
-            f.restore(old)
-            first = next(at for name, at in calls_of_store(f, words) if name == call)
-            f.restore(old)
-            faults = [traced(f, [f"{call}:error={error}:when={at}"], words).returncode for at in range(first, number + 1)
-                      if not f.restore(old)]
-            if 6 not in faults or set(faults) - {0, 6}:
-                f.faults.append(f"{call} {error}: {faults}")
+    for error in ("ENOSPC", "EIO", "EDQUOT"):
+        f.restore(old)
+        done = traced(f, [f"fsync:error={error}:when=1"], words)
+        if (done.returncode, done.stdout, done.stderr) != (6, b"", FAULT) or f.held() != old or f.beside():
+            f.faults.append(f"{error}: {done.returncode} {done.stderr} {f.beside()}")
 
 
 def killed_at_each_call(f):
@@ -359,7 +353,7 @@ def names_at_their_longest(f):
         f.faults.append(f"left: {strange}")
 
 
-CHECKS = [each_call_fails, faults_of_close_and_sync, killed_at_each_call, killed_runs, killed_resumes, small_disks,
+CHECKS = [each_call_fails, faults_of_the_sync, killed_at_each_call, killed_runs, killed_resumes, small_disks,
           two_runs_to_one_name, readers_see_whole_files, links_and_modes, folders_that_take_no_file, names_at_their_longest]
 
 

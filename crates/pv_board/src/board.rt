@@ -1,6 +1,6 @@
 //! The board's calls, each of them one event.
 ghost use Rattle.std.specs.Prelude.{◌≡◌, ◌+◌, ◌-◌, ◌%◌, ◌^◌, ◌<◌, ◌≤◌, [], ◌∷◌, ◌++◌, true, false, IsTrue, is_some, IfOk, IfErr, OnOk, OnErr, IfSome, IfNone, IsSome, ℕ, suc, length, min, ◌↔◌, if◌then◌else◌, nat_eq, option_to_list, List, Bool};
-ghost use Rattle.pv_tree.specs.Trees.{Tree, Seen, leaf, subtree, graft, settled, box_of, counts_of, Fits};
+ghost use Rattle.pv_tree.specs.Trees.{Tree, Seen, leaf, subtree, graft, settled, box_of, counts_of, settled_of, Fits};
 ghost use Rattle.pv_tree.specs.Stages.{full_of, IsStage};
 ghost use Rattle.pv_board.specs.Marks.{issued, granted, holds};
 ghost use Rattle.pv_board.specs.Rules.{IsFitting, IsStageBelow, settled_in};
@@ -91,6 +91,7 @@ impl<N: Naming> Board<N> {
     pub fn counts(&self) -> Counts
         ensures counts { result ≡ counts_of self.now.tree }
         ensures few { settled_in self.now.tree ≤ N.limit }
+        ensures fit { settled_of result + result.open_leaves < 2 ^ 63 }
     {
         self.paving.counts()
     }

@@ -8,7 +8,6 @@ use crate::StoreRefused;
 use crate::real_sink::takes_all;
 use std::fs::{File, Metadata, OpenOptions, Permissions};
 use std::io::ErrorKind;
-use std::os::fd::IntoRawFd;
 use std::os::unix::fs::{MetadataExt, OpenOptionsExt, PermissionsExt, lchown};
 use std::path::PathBuf;
 use std::{fs, io, process};
@@ -244,10 +243,9 @@ fn unless_denied(answer: io::Result<()>) -> bool {
     }
 }
 
-// Writes all bytes into a file, and closes it once the disk has them.
+// Writes all bytes into a file, and waits until the disk has them.
 fn fills(mut file: File, bytes: &[u8]) -> bool {
-    let synced = takes_all(&mut file, bytes) && is_kept(&file);
-    libc::close(file.into_raw_fd()) == 0 && synced
+    takes_all(&mut file, bytes) && is_kept(&file)
 }
 
 fn is_synced(folder: &Option<File>) -> bool {

@@ -4,7 +4,7 @@ use Rattle.pv_keep.specs.declared.row.Row.{Row}
 use Rattle.pv_keep.specs.declared.keeper.BeginRefused.{BeginRefused}
 use Rattle.pv_keep.specs.declared.keeper.BeginRefused.TheVariants.{Failed, Memory, OtherIdentity}
 use Rattle.pv_keep_sql.specs.declared.database.Entered.{Entered}
-use Rattle.pv_keep_sql.specs.declared.database.Entered.TheVariants.{Begun, Same, Other}
+use Rattle.pv_keep_sql.specs.declared.database.Entered.TheVariants.{Same, Other}
 use Rattle.pv_keep_sql.specs.declared.database.Extent.{Extent}
 use Rattle.pv_keep_sql.specs.declared.database.Extent.TheVariants.{Whole, OneTooMany}
 use Rattle.pv_keep_sql.specs.declared.connection_keeper.ConnectionKeeper.{ConnectionKeeper}
@@ -12,7 +12,6 @@ use Rattle.pv_keep_sql.specs.declared.file_keeper.FileKeeper.{FileKeeper}
 
 -- an identity that is told as another one is another one
 abbrev pub IsOther : List ℕ → Entered → Type 0
-IsOther identity Begun = Unit {0}
 IsOther identity Same = Unit {0}
 IsOther identity (Other kept) = kept ≢ identity
 

@@ -17,7 +17,6 @@ pub struct ConnectionKeeper<S: Alter> {
     connection: Connection<S>,
     name: Option<String>,
     is_begun: bool,
-    has_written: bool,
     faults: u64,
 }
 
@@ -28,7 +27,6 @@ impl<S: Alter + Drop> Drop for ConnectionKeeper<S> {
             connection: _,
             name: _,
             is_begun: _,
-            has_written: _,
             faults: _,
         } = self;
     }
@@ -45,7 +43,6 @@ impl<S: Alter + Drop> ConnectionKeeper<S> {
             connection,
             name: None,
             is_begun: false,
-            has_written: false,
             faults: 0,
         }
     }
@@ -57,7 +54,6 @@ impl<S: Alter + Drop> ConnectionKeeper<S> {
             connection,
             name: _,
             is_begun: _,
-            has_written: _,
             faults: _,
         } = self;
         connection
@@ -73,11 +69,6 @@ impl<S: Alter> ConnectionKeeper<S> {
     {
         self.faults = counted(self.faults, refused);
         refused
-    }
-
-    // Whether anything may have been written since the connection was handed in.
-    pub(crate) fn has_written(&self) -> bool {
-        self.has_written
     }
 
     fn serves_other(&self, name: &str) -> bool {
@@ -102,15 +93,14 @@ impl<S: Alter> Keeper for ConnectionKeeper<S> {
         }
         let name = String::from_str(self.alloc, name)?;
         match enter(self.alloc, &mut self.connection, &identity) {
+            Ok(Entered::Same) => {
+                self.name = Some(name);
+                self.is_begun = true;
+                Ok(())
+            }
             Ok(Entered::Other { kept }) => {
                 self.name = Some(name);
                 Err(BeginRefused::OtherIdentity { kept })
-            }
-            Ok(entered) => {
-                self.name = Some(name);
-                self.is_begun = true;
-                self.has_written |= matches!(entered, Entered::Begun);
-                Ok(())
             }
             Err(Refused::Failed) => {
                 self.name = Some(name);
@@ -132,7 +122,6 @@ impl<S: Alter> Keeper for ConnectionKeeper<S> {
     }
 
     fn save(&mut self, rows: &Rows) -> Result<(), KeepRefused> {
-        self.has_written = true;
         match write_rows(self.alloc, &mut self.connection, rows) {
             Ok(()) => Ok(()),
             Err(refused) => Err(self.refuse(refused).into()),

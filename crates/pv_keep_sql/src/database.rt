@@ -9,23 +9,14 @@ use sqlite::types::ValueRef;
 use sqlite::{Alter, Connection, Statement, Transaction, params};
 use std::alloc::Global;
 
-/// What a database lists of itself. Reading it runs nothing that the database holds.
-const LISTED: &str = "SELECT type, name, tbl_name, sql FROM sqlite_master";
+const OBJECTS: &str = "SELECT count(*) FROM sqlite_master";
 
-/// The texts of both tables, as a database lists them.
-const HEAD: &str = "CREATE TABLE head (
-    id INTEGER PRIMARY KEY CHECK (id = 1), identity BLOB NOT NULL) STRICT";
+const OWN_TABLES: &str =
+    "SELECT count(*) FROM sqlite_master WHERE type = 'table' AND name IN ('head', 'node')";
 
-const NODE: &str = "CREATE TABLE node (path TEXT PRIMARY KEY NOT NULL, line TEXT NOT NULL) STRICT";
-
-/// The same texts in databases that earlier versions made.
-const EARLIER_HEAD: &str = "CREATE TABLE IF NOT EXISTS head (
-    id INTEGER PRIMARY KEY CHECK (id = 1), identity BLOB NOT NULL) STRICT";
-
-const EARLIER_NODE: &str =
-    "CREATE TABLE IF NOT EXISTS node (path TEXT PRIMARY KEY NOT NULL, line TEXT NOT NULL) STRICT";
-
-const ANY_ROW: &str = "SELECT path FROM node LIMIT 1";
+const MAKE_TABLES: &str = "CREATE TABLE IF NOT EXISTS head (
+    id INTEGER PRIMARY KEY CHECK (id = 1), identity BLOB NOT NULL) STRICT;
+CREATE TABLE IF NOT EXISTS node (path TEXT PRIMARY KEY NOT NULL, line TEXT NOT NULL) STRICT";
 
 const IDENTITY: &str = "SELECT identity FROM head WHERE id = 1";
 
@@ -58,9 +49,7 @@ SELECT ?31, ?32 WHERE ?31 IS NOT NULL";
 /// How a database stands to an identity.
 #[derive(Clone, Copy)]
 pub(crate) enum Entered {
-    /// It has this identity since this call.
-    Begun,
-    /// It has this identity.
+    /// It has this identity, perhaps since this call.
     Same,
     /// It has another one, which is `kept`.
     Other { kept: [u8; 32] },
@@ -75,9 +64,8 @@ pub(crate) enum Extent {
     OneTooMany,
 }
 
-/// Sees to it that a database has the two tables and an identity. A database that holds anything
-/// but both tables, or rows without an identity, is refused. It stays as it was then, and where the
-/// identity is another one.
+/// Sees to it that a database has the two tables and an identity. Where the identity is another
+/// one, or the database is refused, it stays as it was.
 pub(crate) fn enter<S: Alter>(
     alloc: Global,
     connection: &mut Connection<S>,
@@ -89,94 +77,36 @@ pub(crate) fn enter<S: Alter>(
         return Err(Refused::Failed);
     }
     let mut change = connection.transaction();
-    let is_new = !has_tables(&mut change)?;
-    if is_new {
-        change.execute(HEAD, &[])?;
-        change.execute(NODE, &[])?;
+    let made = make_tables(&mut change)?;
+    let Some(kept) = kept_identity(alloc, &mut change)? else {
+        set_identity(&mut change, identity)?;
+        change.commit()?;
+        return Ok(Entered::Same);
+    };
+    let entered = entered_as(identity, &kept)?;
+    if made && matches!(entered, Entered::Same) {
+        change.commit()?;
     }
-    match kept_identity(alloc, &mut change)? {
-        Some(kept) => entered_as(identity, &kept),
-        None if has_rows(&mut change)? => Err(Refused::Failed),
-        None => {
-            set_identity(&mut change, identity)?;
-            change.commit()?;
-            Ok(Entered::Begun)
-        }
-    }
+    Ok(entered)
 }
 
-// What a campaign's database lists.
-#[derive(Clone, Copy)]
-enum Entry {
-    Head,
-    Node,
-    Keys,
-}
-
-// Whether a database has both tables: true where it lists them and nothing else, false where it
-// lists nothing. All else is refused.
-fn has_tables<S: Alter>(change: &mut Transaction<'_, S>) -> Result<bool, Refused> {
-    let mut found = change.query(LISTED, &[])?;
-    let (mut head, mut node, mut keys) = (false, false, false);
-    for _ in 0..4u32 {
-        let Some(row) = found.next()? else {
-            return told(head, node, keys);
-        };
-        match entry_of(row)? {
-            Some(Entry::Head) if !head => head = true,
-            Some(Entry::Node) if !node => node = true,
-            Some(Entry::Keys) if !keys => keys = true,
-            _ => return Err(Refused::Failed),
-        }
+// Makes the tables that are absent, and says whether one was. A database of another program is
+// refused: it has tables, and neither of these two.
+fn make_tables<S: Alter>(change: &mut Transaction<'_, S>) -> Result<bool, Refused> {
+    let own = count(change, OWN_TABLES)?;
+    if own == 0 && count(change, OBJECTS)? > 0 {
+        return Err(Refused::Failed);
     }
-    Err(Refused::Failed)
-}
-
-fn told(head: bool, node: bool, keys: bool) -> Result<bool, Refused> {
-    match (head, node, keys) {
-        (true, true, true) => Ok(true),
-        (false, false, false) => Ok(false),
-        _ => Err(Refused::Failed),
+    if own < 2 {
+        change.execute_batch(MAKE_TABLES)?;
     }
+    change.prepare(ROWS)?;
+    Ok(own < 2)
 }
 
-fn entry_of(row: &sqlite::Row) -> Result<Option<Entry>, Refused> {
-    if is_entry(row, "table", "head", "head")? && has_text(row, HEAD, EARLIER_HEAD)? {
-        return Ok(Some(Entry::Head));
-    }
-    if is_entry(row, "table", "node", "node")? && has_text(row, NODE, EARLIER_NODE)? {
-        return Ok(Some(Entry::Node));
-    }
-    let is_keys = is_entry(row, "index", "sqlite_autoindex_node_1", "node")?;
-    match row.get_ref(3)? {
-        ValueRef::Null if is_keys => Ok(Some(Entry::Keys)),
-        _ => Ok(None),
-    }
-}
-
-fn is_entry(row: &sqlite::Row, kind: &str, name: &str, table: &str) -> Result<bool, Refused> {
-    Ok(
-        is_text(row.get_ref(0)?, kind)
-            && is_text(row.get_ref(1)?, name)
-            && is_text(row.get_ref(2)?, table),
-    )
-}
-
-fn has_text(row: &sqlite::Row, text: &str, earlier: &str) -> Result<bool, Refused> {
-    let found = row.get_ref(3)?;
-    Ok(is_text(found, text) || is_text(found, earlier))
-}
-
-fn is_text(value: ValueRef<'_>, text: &str) -> bool {
-    match value {
-        ValueRef::Text(bytes) => bytes == text.as_bytes(),
-        _ => false,
-    }
-}
-
-fn has_rows<S: Alter>(change: &mut Transaction<'_, S>) -> Result<bool, Refused> {
-    let mut found = change.query(ANY_ROW, &[])?;
-    Ok(found.next()?.is_some())
+fn count<S: Alter>(change: &mut Transaction<'_, S>, sql: &str) -> Result<i64, Refused> {
+    let row = change.query_row(sql, &[])?;
+    Ok(row.get(0)?)
 }
 
 // The identity that is kept, if there is one.

@@ -1,13 +1,12 @@
 //! A keeper over the machine's files.
-ghost use Rattle.std.specs.Prelude.{◌≡◌, Some, None, IfOk, IfErr, OnOk, OnErr};
+ghost use Rattle.std.specs.Prelude.{◌≡◌, Some, None, IfOk, IfErr};
 ghost use Rattle.pv_keep.specs.Keeping.{untold};
 ghost use Rattle.pv_keep_sql.specs.Keepers.{begun_in, begun_in_file, faults_of_files, IsOtherThan};
 
 use crate::ConnectionKeeper;
-use crate::faults::Refused;
-use crate::places::{Log, Place};
+use crate::faults::{Refused, counted};
 use pv_keep::{BeginRefused, KeepRefused, Keeper, LoadRefused, Rows};
-use sqlite::{Connection, File, FileStore, Unknown};
+use sqlite::{Connection, File, FileStore};
 
 /// Keeps campaigns in database files of the folder in which the program runs: a campaign's name is
 /// that of its file, which is made where it is absent. Beside it lies the log of the database,
@@ -15,8 +14,6 @@ use sqlite::{Connection, File, FileStore, Unknown};
 pub struct FileKeeper<'a> {
     rt: &'a HostRuntime,
     open: Option<ConnectionKeeper<FileStore<File>>>,
-    place: Option<Place>,
-    log: Option<Log>,
     faults: u64,
 }
 
@@ -25,8 +22,6 @@ impl Drop for FileKeeper<'_> {
         let FileKeeper {
             rt: _,
             open: _,
-            place: _,
-            log: _,
             faults: _,
         } = self;
     }
@@ -41,85 +36,39 @@ impl<'a> FileKeeper<'a> {
         FileKeeper {
             rt,
             open: None,
-            place: None,
-            log: None,
             faults: 0,
         }
     }
 
     /// Closes the file that is open: what is kept is copied from its log into the file itself.
-    /// Where that can't be done it stays in the log, and nothing is lost. Where nothing was written
-    /// both files stay as they were.
+    /// Where that can't be done it stays in the log, and nothing is lost.
     pub fn close(self) {
         let FileKeeper {
-            rt,
+            rt: _,
             open,
-            place: _,
-            log,
             faults: _,
         } = self;
-        let Some(keeper) = open else {
-            return;
-        };
-        if keeper.has_written() {
+        if let Some(keeper) = open {
             let _ = keeper.into_connection().close();
-        } else if let Some(log) = log {
-            log.remove_if_new(rt);
         }
     }
 
-    // A keeper over the file of a name that has begun it. A refused file has no log that it had not
-    // before.
+    // A keeper over the file of a name that has begun it.
     fn begin_in(
         &self,
-        log: &Log,
         name: &str,
         identity: [u8; 32],
     ) -> Result<ConnectionKeeper<FileStore<File>>, BeginRefused>
         ensures begun { IfOk result (λ k. begun_in k ≡ Some name.now) }
         ensures other { IfErr result (IsOtherThan identity) }
     {
-        let connection = match Connection::open_from(self.rt, name, false, Unknown) {
+        let connection = match Connection::open(self.rt, name) {
             Ok(connection) => connection,
-            Err((error, left)) => {
-                if left.is_some() {
-                    log.remove_if_new(self.rt);
-                }
-                return Err(Refused::from(error).into());
-            }
+            Err(error) => return Err(Refused::from(error).into()),
         };
         let mut keeper = ConnectionKeeper::new(self.rt.alloc(), connection);
-        match keeper.begin(name, identity) {
-            Ok(()) => Ok(keeper),
-            Err(refused) => {
-                log.remove_if_new(self.rt);
-                Err(refused)
-            }
-        }
-    }
-
-    // Opens the file of a name, and begins it.
-    fn open_at(&mut self, name: &str, identity: [u8; 32]) -> Result<(), BeginRefused>
-        ensures begun { OnOk result (begun_in_file self.new ≡ Some name.now) }
-        ensures same { OnErr result (begun_in_file self.new ≡ begun_in_file self.old) }
-        ensures other { IfErr result (IsOtherThan identity) }
-        ensures faults { faults_of_files self.new ≡ faults_of_files self.old }
-    {
-        let log = Log::beside(self.rt, name)?;
-        let keeper = self.begin_in(&log, name, identity)?;
-        let place = Place::of(self.rt, name)?;
-        self.open = Some(keeper);
-        self.place = Some(place);
-        self.log = Some(log);
-        Ok(())
-    }
-
-    // Whether the open file is still the one that its name leads to.
-    fn is_in_place(&self) -> bool {
-        match &self.place {
-            Some(place) => place.stands(self.rt),
-            None => false,
-        }
+        keeper.begin(name, identity)?;
+        Ok(keeper)
     }
 }
 
@@ -132,8 +81,11 @@ impl Keeper for FileKeeper<'_> {
 
     fn begin(&mut self, name: &str, identity: [u8; 32]) -> Result<(), BeginRefused> {
         self.open = None;
-        match self.open_at(name, identity) {
-            Ok(()) => Ok(()),
+        match self.begin_in(name, identity) {
+            Ok(keeper) => {
+                self.open = Some(keeper);
+                Ok(())
+            }
             Err(refused) => {
                 if refused == BeginRefused::Failed {
                     self.faults = self.faults.saturating_add(1);
@@ -154,20 +106,11 @@ impl Keeper for FileKeeper<'_> {
         answer
     }
 
-    // A file that its name no longer leads to is out of reach, and so are its rows.
     fn save(&mut self, rows: &Rows) -> Result<(), KeepRefused> {
-        if !self.is_in_place() {
-            self.faults = self.faults.saturating_add(1);
-            return Err(KeepRefused::Failed);
-        }
         let Some(keeper) = &mut self.open else {
             unreachable!()
         };
         let answer = keeper.save(rows);
-        if answer == Ok(()) && !self.is_in_place() {
-            self.faults = self.faults.saturating_add(1);
-            return Err(KeepRefused::Failed);
-        }
         if answer == Err(KeepRefused::Failed) {
             self.faults = self.faults.saturating_add(1);
         }

@@ -2,10 +2,9 @@
 //!
 //! A database has a strict table `head` with one row, the campaign's identity as bytes, and a
 //! strict table `node` with the digits of each settled node's path, none for the root, and its
-//! line. So the order of the text keys is preorder. A database that lists anything else is refused
-//! before anything of it is run, and so are rows without an identity. What a file holds is told to
-//! no caller: that these keepers keep what they are given is for tests to show. That each refusal is
-//! counted unless memory was wanting is proved.
+//! line. So the order of the text keys is preorder. What a file holds is told to no caller: that
+//! these keepers keep what they are given is for tests to show. That each refusal is counted unless
+//! memory was wanting is proved.
 #![tactic(auto)]
 
 mod connection_keeper;
@@ -13,7 +12,6 @@ mod database;
 mod faults;
 mod file_keeper;
 mod kept_path;
-mod places;
 #[cfg(test)]
 mod tests;
 

@@ -14,15 +14,8 @@ const IDENTITY: [u8; 32] = [7; 32];
 const OTHER: [u8; 32] = [8; 32];
 
 /// Tables as the keepers make them, with the identity of these tests.
-const TABLES: &str = "CREATE TABLE head (
-    id INTEGER PRIMARY KEY CHECK (id = 1), identity BLOB NOT NULL) STRICT;
+const TABLES: &str = "CREATE TABLE head (id INTEGER PRIMARY KEY, identity BLOB NOT NULL) STRICT;
 CREATE TABLE node (path TEXT PRIMARY KEY NOT NULL, line TEXT NOT NULL) STRICT;
-INSERT INTO head VALUES (1, x'0707070707070707070707070707070707070707070707070707070707070707')";
-
-/// The same tables as earlier versions made them.
-const EARLIER_TABLES: &str = "CREATE TABLE IF NOT EXISTS head (
-    id INTEGER PRIMARY KEY CHECK (id = 1), identity BLOB NOT NULL) STRICT;
-CREATE TABLE IF NOT EXISTS node (path TEXT PRIMARY KEY NOT NULL, line TEXT NOT NULL) STRICT;
 INSERT INTO head VALUES (1, x'0707070707070707070707070707070707070707070707070707070707070707')";
 
 /// All that is no index.
@@ -359,49 +352,6 @@ fn a_database_of_another_program_stays_as_it_was(rt: HostRuntime) -> Result<(), 
         );
         let mut connection = keeper.into_connection();
         assert_eq!(rt; number(&mut connection, OBJECTS)?, 1, "of {sql}");
-    }
-    Ok(())
-}
-
-#[test]
-fn the_tables_of_earlier_versions_are_gone_on_with(rt: HostRuntime) -> Result<(), Fail> {
-    let alloc = rt.alloc();
-    let mut keeper = keeper_over(alloc, EARLIER_TABLES)?;
-    assert_eq!(rt; save(&mut keeper, &both_halves(alloc)?)?, Ok(()));
-    assert_eq!(rt; load(alloc, &mut keeper, 9)?.answer, Ok(()));
-    Ok(())
-}
-
-#[test]
-fn a_campaign_with_anything_beside_it_is_refused(rt: HostRuntime) -> Result<(), Fail> {
-    let alloc = rt.alloc();
-    for sql in [
-        "CREATE TABLE note (id INTEGER PRIMARY KEY)",
-        "CREATE VIEW one AS SELECT 1",
-        "CREATE INDEX lines ON node (line)",
-        "DROP TABLE head",
-        "DROP TABLE node",
-        "DROP TABLE head; CREATE TABLE head (id INTEGER PRIMARY KEY, identity BLOB NOT NULL) STRICT",
-        "DROP TABLE node; CREATE TABLE node (path TEXT PRIMARY KEY, line TEXT NOT NULL) STRICT",
-        "DROP TABLE node; CREATE TABLE node (path TEXT PRIMARY KEY NOT NULL, line TEXT NOT NULL, more TEXT) STRICT",
-        "INSERT INTO node VALUES ('', 'C'); DELETE FROM head",
-    ] {
-        let mut connection = keeper_of(alloc, sql)?.into_connection();
-        let before = number(&mut connection, "SELECT count(*) FROM sqlite_master")?;
-        let mut keeper = ConnectionKeeper::new(alloc, connection);
-        for identity in [IDENTITY, OTHER] {
-            assert_eq!(rt;
-                begin(&mut keeper, "k", identity),
-                Err(BeginRefused::Failed),
-                "of {sql}"
-            );
-        }
-        let mut connection = keeper.into_connection();
-        assert_eq!(rt;
-            number(&mut connection, "SELECT count(*) FROM sqlite_master")?,
-            before,
-            "of {sql}"
-        );
     }
     Ok(())
 }

@@ -9,11 +9,11 @@ returns-in-Err-BadLine-clause-refused g c =
     let f = c.args.folder.now in let e = c.fetch.new.self in
     bad_line (files (g.F.Folder.content f) (g.F.Folder.fetch_faults f) (g.F.Folder.store_faults f)) (files (g.F.Folder.content e) (g.F.Folder.fetch_faults e) (g.F.Folder.store_faults e))
     c.args.key.now.limit c.args.key.now.identity c.args.key.now.root c.args.name c.in-Err-BadLine.line c.fetch.new.into.items c.deref.result.now c.bad-in-Err-BadLine.result c.deref.ensures.value (subst (λ (n : ℕ). IsWhole (g.F.Folder.content f c.args.name.now) n c.fetch.new.into.items) c.most_bytes.ensures c.in-Ok.ensures.whole)
-    (c.read.ensures.bad_line c.in-Err-BadLine.line (search rules)) (search rules)
+    (c.read_within.ensures.bad_line c.in-Err-BadLine.line (search rules)) (search rules)
 
 pub returns-in-Err-TooManyNodes-clause-refused : goal.returns-in-Err-TooManyNodes-clause-refused
 returns-in-Err-TooManyNodes-clause-refused g c =
     let f = c.args.folder.now in let e = c.fetch.new.self in
     one_too_many (files (g.F.Folder.content f) (g.F.Folder.fetch_faults f) (g.F.Folder.store_faults f)) (files (g.F.Folder.content e) (g.F.Folder.fetch_faults e) (g.F.Folder.store_faults e))
     c.args.key.now.limit c.args.key.now.identity c.args.key.now.root c.args.name c.in-Err-TooManyNodes.line c.fetch.new.into.items c.deref.result.now c.bad-in-Err-TooManyNodes.result c.deref.ensures.value (subst (λ (n : ℕ). IsWhole (g.F.Folder.content f c.args.name.now) n c.fetch.new.into.items) c.most_bytes.ensures c.in-Ok.ensures.whole)
-    (c.read.ensures.too_many c.in-Err-TooManyNodes.line (search rules)) (search rules)
+    (c.read_within.ensures.too_many c.in-Err-TooManyNodes.line (search rules)) (search rules)

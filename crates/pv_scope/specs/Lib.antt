@@ -1,0 +1,4 @@
+pub mod Scopes
+pub mod Facts
+pub mod Parts
+pub mod Settlings

@@ -1,0 +1,46 @@
+//! What a call settles with.
+ghost use Rattle.std.specs.Prelude.{◌≡◌, ◌≤◌, length, IfOk};
+
+use pv_box::IBox;
+use pv_interval::Interval;
+use pv_num::Memory;
+use pv_tree::KnowingSettler;
+use std::alloc::Global;
+
+/// What is kept from one settling to the next, so that settling takes no memory but for the tree.
+#[derive(Drop)]
+pub(crate) struct Kit<S: KnowingSettler> {
+    /// The box that is settled.
+    pub(crate) scratch: IBox,
+    pub(crate) room: S::Room,
+    /// What is known of the leaves that are to come, that of the next one last.
+    pub(crate) facts: Vec<S::Known>,
+}
+
+impl<S: KnowingSettler> Kit<S> {
+    /// A kit for boxes of `places` places.
+    pub(crate) fn of(alloc: Global, settler: &S, places: u8) -> Result<Kit<S>, Memory>
+        requires some { 1 ≤ places }
+        requires few { places ≤ 12 }
+        ensures places { IfOk result (λ k. length k.scratch ≡ places) }
+    {
+        Ok(Kit {
+            scratch: blank(alloc, places)?,
+            room: settler.room(alloc),
+            facts: Vec::new(alloc),
+        })
+    }
+}
+
+// A box of `places` places.
+fn blank(alloc: Global, places: u8) -> Result<IBox, Memory>
+    requires some { 1 ≤ places }
+    requires few { places ≤ 12 }
+    ensures { IfOk result (λ b. length b ≡ places) }
+{
+    let mut parts = Vec::new(alloc);
+    for _ in 0..places {
+        parts.push(Interval::ALL)?;
+    }
+    Ok(IBox::new(parts))
+}

@@ -1,0 +1,236 @@
+//! What is settled below one open leaf.
+ghost use Rattle.std.specs.Prelude.{◌≡◌, ◌+◌, ◌-◌, ◌<◌, None, length, reverse, IfOk, IfSome, OnOk};
+ghost use Rattle.pv_tree.specs.Trees.{Tree, Paves, leaf, subtree};
+ghost use Rattle.pv_tree.specs.Stages.{IsStage};
+ghost use Rattle.pv_tree.specs.Holes.{IsNext};
+ghost use Rattle.pv_tree.specs.KnownHalves.{HoldsOfHalves};
+ghost use Rattle.pv_tree.specs.KnownLeaves.{AreKnown};
+ghost use Rattle.pv_board.specs.Rules.{IsStageBelow, settled_in};
+ghost use Rattle.pv_scope.specs.Facts.{with_handed};
+ghost use Rattle.pv_scope.specs.Parts.{AreToCome, AreLong, AreShort, IsGrown, IsGrownAt};
+
+use crate::kit::Kit;
+use pv_num::Memory;
+use pv_pool::Gate;
+use pv_tree::{Growth, KnowingSettler, Outcome, Path, Paving, Settled};
+use std::alloc::Global;
+
+/// How far a call came.
+#[derive(Clone, Copy)]
+pub(crate) struct Came {
+    /// How many leaves it settled.
+    pub(crate) settled: u64,
+    /// Whether nothing was left to settle.
+    pub(crate) done: bool,
+}
+
+#[derive(Drop)]
+struct Part {
+    stage: Paving,
+    came: Came,
+}
+
+/// Settles an open leaf and what is below it, each time the first open leaf whose path has fewer
+/// than `steps` steps, until there is none or `most` are settled.
+///
+/// # Errors
+///
+/// Want of memory.
+pub(crate) fn settle_at<S: KnowingSettler, G: Gate>(
+    alloc: Global,
+    settler: &S,
+    gate: &G,
+    paving: &mut Paving,
+    path: Path,
+    steps: u32,
+    most: u64,
+    kit: &mut Kit<S>,
+) -> Result<Came, Memory>
+    requires open { subtree paving.old.tree path ≡ Some leaf }
+    requires dims { length paving.old.root ≡ S.dims settler.now }
+    requires scratch { length kit.old.scratch ≡ S.dims settler.now }
+    ensures root { paving.new.root ≡ paving.old.root }
+    ensures scratch { length kit.new.scratch ≡ S.dims settler.now }
+    ensures stage { OnOk result
+        ((opening : Tree) → Paves paving.old.root opening
+        → IsStage (S.settle_of settler.now)
+        (S.depth_of settler.now) paving.old.root opening paving.old.tree
+        → IsStage (S.settle_of settler.now)
+        (S.depth_of settler.now) paving.new.root opening paving.new.tree) }
+    ensures grown { IfOk result (λ came.
+        IsGrownAt paving.old.tree paving.new.tree path steps most came.settled came.done) }
+{
+    let _places = paving.dims();
+    paving.box_at(path, &mut kit.scratch);
+    let _sides = kit.scratch.dims();
+    let _steps = path.len();
+    let part = grow_at(alloc, settler, gate, path, steps, most, kit)?;
+    paving.reserve(part.came.settled)?;
+    paving.graft(path, &part.stage);
+    Ok(part.came)
+}
+
+// Grows a stage of the box in `kit.scratch`, which is that of the leaf at a path.
+fn grow_at<S: KnowingSettler, G: Gate>(
+    alloc: Global,
+    settler: &S,
+    gate: &G,
+    at: Path,
+    steps: u32,
+    most: u64,
+    kit: &mut Kit<S>,
+) -> Result<Part, Memory>
+    requires scratch { length kit.old.scratch ≡ S.dims settler.now }
+    ensures root { IfOk result (λ p. p.stage.root ≡ kit.old.scratch) }
+    ensures stage { IfOk result (λ p. IsStageBelow (S.settle_of settler.now)
+        (S.depth_of settler.now) kit.old.scratch (length at) p.stage.tree) }
+    ensures count { IfOk result (λ p. settled_in p.stage.tree ≡ p.came.settled) }
+    ensures short { IfOk result (λ p. AreShort steps (length at) p.stage.tree) }
+    ensures grown { IfOk result (λ p.
+        IsGrown steps (length at) most p.came.settled p.came.done p.stage.tree) }
+    ensures scratch { length kit.new.scratch ≡ S.dims settler.now }
+{
+    let mut growth = Growth::open(alloc, kit.scratch.clone_of(alloc)?)?;
+    let _places = growth.dims();
+    kit.facts.clear();
+    kit.facts.push(settler.nothing())?;
+    for settled in 0..most {
+        let Some(path) = next_short(settler, &mut growth, at, steps, kit) else {
+            return Ok(Part {
+                stage: growth.finish(),
+                came: Came {
+                    settled,
+                    done: true,
+                },
+            });
+        };
+        settle_next(alloc, settler, gate, at, path, steps, &mut growth, kit)?;
+    }
+    let done = next_short(settler, &mut growth, at, steps, kit).is_none();
+    Ok(Part {
+        stage: growth.finish(),
+        came: Came {
+            settled: most,
+            done,
+        },
+    })
+}
+
+// The path of the next leaf that is to be settled. The leaves before it stay open.
+fn next_short<S: KnowingSettler>(
+    _settler: &S,
+    growth: &mut Growth,
+    at: Path,
+    steps: u32,
+    kit: &mut Kit<S>,
+) -> Option<Path>
+    requires to_come { AreToCome steps (length at) growth.old }
+    requires facts { AreKnown (S.knows _settler.now)
+        (reverse kit.old.facts.items) growth.old.holes }
+    ensures root { growth.new.root ≡ growth.old.root }
+    ensures tree { growth.new.tree ≡ growth.old.tree }
+    ensures next { IfSome result (λ p. IsNext growth.new p) }
+    ensures short { IfSome result (λ p. length at + length p < steps) }
+    ensures none { result ≡ None → AreLong steps (length at) growth.new.tree }
+    ensures to_come { AreToCome steps (length at) growth.new }
+    ensures facts { AreKnown (S.knows _settler.now)
+        (reverse kit.new.facts.items) growth.new.holes }
+    ensures scratch { kit.new.scratch ≡ kit.old.scratch }
+{
+    while let Some(path) = growth.next_leaf() {
+        if at.len() + path.len() < steps {
+            return Some(path);
+        }
+        growth.pass();
+        let Some(_known) = kit.facts.pop() else {
+            unreachable!()
+        };
+    }
+    None
+}
+
+// Settles the next leaf of a stage, with the cuts that its whole path leaves.
+fn settle_next<S: KnowingSettler, G: Gate>(
+    alloc: Global,
+    settler: &S,
+    gate: &G,
+    at: Path,
+    path: Path,
+    steps: u32,
+    growth: &mut Growth,
+    kit: &mut Kit<S>,
+) -> Result<(), Memory>
+    requires next { IsNext growth.old path }
+    requires few { length at + length path < steps }
+    requires dims { length growth.old.root ≡ S.dims settler.now }
+    requires stage { IsStageBelow (S.settle_of settler.now)
+        (S.depth_of settler.now) growth.old.root (length at) growth.old.tree }
+    requires facts { AreKnown (S.knows settler.now)
+        (reverse kit.old.facts.items) growth.old.holes }
+    requires to_come { AreToCome steps (length at) growth.old }
+    requires short { AreShort steps (length at) growth.old.tree }
+    requires scratch { length kit.old.scratch ≡ S.dims settler.now }
+    ensures root { growth.new.root ≡ growth.old.root }
+    ensures stage { OnOk result (IsStageBelow (S.settle_of settler.now)
+        (S.depth_of settler.now) growth.new.root (length at) growth.new.tree) }
+    ensures more { OnOk result (settled_in growth.new.tree ≡ settled_in growth.old.tree + 1) }
+    ensures facts { OnOk result (AreKnown (S.knows settler.now)
+        (reverse kit.new.facts.items) growth.new.holes) }
+    ensures to_come { OnOk result (AreToCome steps (length at) growth.new) }
+    ensures short { OnOk result (AreShort steps (length at) growth.new.tree) }
+    ensures scratch { length kit.new.scratch ≡ S.dims settler.now }
+{
+    let _places = growth.dims();
+    let _steps = at.len();
+    let whole = at.then(path);
+    gate.enter(0, whole);
+    growth.write_box(&mut kit.scratch);
+    let Some(known) = kit.facts.pop() else {
+        unreachable!()
+    };
+    let Settled {
+        outcome,
+        known: below,
+    } = settle_box(alloc, settler, whole, known, kit)?;
+    hand_on(&mut kit.facts, &outcome, below)?;
+    match growth.settle(outcome) {
+        Ok(()) => {}
+        Err(_) => return Err(Memory),
+    }
+    Ok(())
+}
+
+// Settles the box in `kit.scratch`, which is that of a path, and of which something is known.
+fn settle_box<S: KnowingSettler>(
+    alloc: Global,
+    settler: &S,
+    path: Path,
+    known: S::Known,
+    kit: &mut Kit<S>,
+) -> Result<Settled<S::Known>, Memory>
+    requires scratch { length kit.old.scratch ≡ S.dims settler.now }
+    requires known { S.knows settler.now known kit.old.scratch }
+    ensures outcome { IfOk result (λ s. s.outcome ≡ S.settle_of settler.now kit.old.scratch
+        (S.depth_of settler.now - length path) (length path)) }
+    ensures known { IfOk result (λ s. HoldsOfHalves (S.knows settler.now s.known) s.outcome) }
+    ensures scratch { kit.new.scratch ≡ kit.old.scratch }
+    ensures facts { kit.new.facts.items ≡ kit.old.facts.items }
+{
+    let steps = path.len();
+    let cuts_left = settler.depth().saturating_sub(steps);
+    settler.settle_knowing(alloc, &mut kit.room, &kit.scratch, known, cuts_left, steps)
+}
+
+// Hands what is known to the halves of a cut.
+fn hand_on<K: Copy + Drop>(facts: &mut Vec<K>, outcome: &Outcome, known: K) -> Result<(), Memory>
+    ensures { OnOk result (facts.new.items ≡ with_handed facts.old.items outcome.now known) }
+{
+    match outcome {
+        Outcome::Cut { .. } => {
+            facts.push(known)?;
+            facts.push(known)?;
+            Ok(())
+        }
+        Outcome::Removed | Outcome::Inner { .. } | Outcome::Small { .. } => Ok(()),
+    }
+}
