@@ -15,6 +15,7 @@ import tempfile
 import time
 import traceback
 import xml.etree.ElementTree
+import zipfile
 from fractions import Fraction
 from pathlib import Path
 
@@ -83,6 +84,25 @@ def check_opens(bench):
     assert browser.value("document.getElementById('legend').children.length") == 4
 
 
+def check_looks(bench):
+    """In the dark, on a fine screen and in a frame of a notebook the colours are right, too."""
+    browser, places = bench.browser, [(1.5, 0.0), (0.0, 0.0), (0.0, 1.95)]
+    browser.resize(900, 620, 2)
+    bench.open("ring")
+    assert browser.value("[devicePixelRatio, paverView.panes[0].cells.width > 800]") == [2, True]
+    for _ in range(2):
+        assert colours_at(bench, places) == ["inner", "removed", "undecided"]
+        browser.value("document.getElementById('theme').click()")
+        browser.drawn()
+    browser.resize(900, 620)
+    notebook = bench.folder / "notebook.html"
+    notebook.write_text(view(TOP / "examples" / "ring.mbx", eps="0.5", title='"</iframe>')._repr_html_())
+    browser.call("Page.navigate", url=notebook.as_uri())
+    browser.wait("document.querySelector('iframe') && document.querySelector('iframe').contentWindow.paverView && "
+                 "document.querySelector('iframe').contentWindow.paverView.drawn")
+    browser.value("new Promise((done) => setTimeout(done, 100))")
+
+
 def check_open_leaves(bench):
     """Open leaves are hatched, and told from paper and from what is outside."""
     bench.open("ring", eps="0.25", boxes=40)
@@ -147,6 +167,11 @@ def check_moves(bench):
     browser.value("document.getElementById('whole').click()")
     browser.drawn()
     assert browser.value("paverView.axes.x.scale") == before[0]
+    first = browser.value("nearFloat(paverView.axes.x.value(0))")
+    for key in ("ArrowRight", "-", "+"):
+        browser.call("Input.dispatchKeyEvent", type="keyDown", key=key)
+    assert browser.value("paverView.axes.x.scale") == before[0]
+    assert abs(browser.value("nearFloat(paverView.axes.x.value(0))") - first - 60 * before[0]) < 1e-12
 
 
 def check_last_place(bench):
@@ -531,6 +556,16 @@ def check_committed_page():
     assert not [word for word in ("http:", "https:", "//cdn", "import(") if word in html.replace("http://www.w3.org/2000/svg", "")]
 
 
+def check_wheel():
+    """The package for pip has the page's parts."""
+    sys.path.insert(0, str(TOP / "python"))
+    import wheel_of_package
+    with tempfile.TemporaryDirectory() as folder:
+        names = zipfile.ZipFile(Path(folder) / wheel_of_package.build_wheel(folder)).namelist()
+    missing = [path.name for path in (TOP / "python" / "paver" / "viewer").iterdir() if f"paver/viewer/{path.name}" not in names]
+    assert not missing, missing
+
+
 # ---- what is refused
 
 def check_refused():
@@ -552,8 +587,8 @@ def check_refused():
                 (done.stdout == "" and done.stderr.count("\n") == 1), (words, done.stdout[:200], done.stderr)
 
 
-WITHOUT_BROWSER = [check_size, check_committed_page, check_refused]
-WITH_BROWSER = [check_opens, check_open_leaves, check_variants, check_moves, check_last_place, check_numbers, check_boxes,
+WITHOUT_BROWSER = [check_size, check_committed_page, check_wheel, check_refused]
+WITH_BROWSER = [check_opens, check_looks, check_open_leaves, check_variants, check_moves, check_last_place, check_numbers, check_boxes,
                 check_verdicts, check_neighbours, check_search, check_svg, check_png, check_several, check_stages, check_texts,
                 check_colours, check_pixels]
 

@@ -88,11 +88,18 @@ class App {
     this.resize();
   }
 
+  // Gives the panes their sizes; what was in the middle stays there.
   resize() {
-    const before = this.axes && this.panes[0].width ? this.axes : null;
     for (const pane of this.panes) pane.resize(window.devicePixelRatio || 1);
-    if (before) this.redraw();
-    else this.showWhole();
+    const { width, height } = this.panes[0], before = this.size;
+    this.size = { width, height };
+    if (!before) {
+      this.showWhole();
+      return;
+    }
+    this.axes.x.offset -= Math.round((width - before.width) / 2);
+    this.axes.y.offset -= Math.round((height - before.height) / 2);
+    this.redraw();
   }
 
   showFrame(frame) {
@@ -352,6 +359,13 @@ function chooseAxis(app, own, other, variable) {
   app.showWhole();
 }
 
+function chooseLayout(app, layout) {
+  if (app.timer) play(app);
+  app.layout = layout;
+  app.buildPanes();
+  showChoices(app);
+}
+
 function play(app) {
   clearInterval(app.timer);
   app.timer = app.timer ? null : setInterval(() => app.showFrame((app.frame + 1) % app.trees.length), FRAME_TIME);
@@ -369,7 +383,7 @@ function listenToControls(app) {
   on("closer", "click", () => app.zoom(0.5, middle().width / 2, middle().height / 2));
   on("farther", "click", () => app.zoom(2, middle().width / 2, middle().height / 2));
   on("theme", "click", () => { app.isDark = !app.isDark; showChoices(app); app.redraw(); });
-  on("layout", "change", () => { app.layout = element("layout").value; app.axes = null; app.buildPanes(); showChoices(app); });
+  on("layout", "change", () => chooseLayout(app, element("layout").value));
   on("frame", "input", () => app.showFrame(Number(element("frame").value)));
   on("play", "click", () => play(app));
   on("search", "submit", (event) => { event.preventDefault(); element("answer").textContent = app.search(element("point").value); });
