@@ -29,5 +29,6 @@ __all__ = [
     "ObjectiveRefused", "Parts", "Paving", "PaverError", "PavingError", "PavingRefused", "ProgramFault", "ProgramMissing",
     "ReadFault", "System", "SystemRefused", "TreeLimit", "UsageError", "View", "WantOfMemory", "WriteFault", "audit",
     "audit_centered", "campaign", "check", "check_text", "depth_that_suffices", "draw", "find", "find_roots", "gather",
-    "least", "merge", "plot", "plot_projection", "resume", "run", "run_centered", "sample", "split", "svg", "view", "warnings_of",
+    "least", "merge", "plot", "plot_projection", "resume", "run", "run_centered", "sample", "split", "svg", "view",
+    "warnings_of",
 ]

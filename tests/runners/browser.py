@@ -87,8 +87,9 @@ class Browser:
 
     def __init__(self, width=1200, height=800):
         self.folder = tempfile.TemporaryDirectory(ignore_cleanup_errors=True)
-        words = [find_browser(), "--headless=new", "--no-sandbox", "--disable-gpu", "--remote-debugging-port=0", "--no-first-run",
-                 f"--user-data-dir={self.folder.name}/profile", f"--window-size={width},{height}", "--hide-scrollbars",
+        words = [find_browser(), "--headless=new", "--no-sandbox", "--disable-gpu", "--remote-debugging-port=0",
+                 "--no-first-run", f"--user-data-dir={self.folder.name}/profile", "--hide-scrollbars",
+                 f"--window-size={width},{height}",
                  "--disable-dev-shm-usage", "--disable-background-networking", "--disable-component-update", "about:blank"]
         self.process = subprocess.Popen(words, stdin=subprocess.DEVNULL, stdout=subprocess.DEVNULL, stderr=subprocess.DEVNULL)
         self.count, self.faults, self.requests, self.ended = 0, [], [], []

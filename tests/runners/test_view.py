@@ -200,7 +200,7 @@ def check_last_place(bench):
 
 
 def check_numbers(bench):
-    """Decimals are rounded to their sides, numbers are parsed exactly, and what is next to them is as numbers.rounded has it."""
+    """Decimals are rounded to their sides, texts are read exactly, and the numbers next to them are numbers.rounded's."""
     chance, browser = random.Random(3), bench.open("ring")
     values = [Fraction(chance.randrange(-10 ** 20, 10 ** 20), chance.randrange(1, 10 ** chance.randrange(1, 30)))
               for _ in range(150)] + [Fraction(0), Fraction(1, 3), Fraction(-7), Fraction(10) ** 25, Fraction(1, 2 ** 500)]
@@ -389,7 +389,8 @@ def check_several(bench):
         browser.drawn()
         counts.append(browser.value("[...paverView.panes[0].classes].filter((one) => one === 2).length"))
     assert 0 == counts[0] < counts[1] < counts[2], counts
-    choose = "(() => {{ const s = document.getElementById('layout'); s.value = '{}'; s.dispatchEvent(new Event('change')); }})()"
+    choose = "(() => {{ const s = document.getElementById('layout'); s.value = '{}'; " \
+             "s.dispatchEvent(new Event('change')); }})()"
     browser.value(choose.format("side"))
     browser.drawn()
     assert browser.value("paverView.panes.map((pane) => pane.caption.textContent)") == [file.name for file in files]
@@ -551,9 +552,10 @@ def check_committed_page():
     html = (TOP / "docs" / "view" / "pi_gains.html").read_text(encoding="utf-8")
     parts = TOP / "python" / "paver" / "viewer"
     assert len(html) < 300_000
-    old = [path.name for path in parts.iterdir() if path.suffix in (".js", ".css") and path.read_text(encoding="utf-8") not in html]
+    old = [path.name for path in [*parts.glob("*.js"), *parts.glob("*.css")] if path.read_text(encoding="utf-8") not in html]
     assert not old, f"{old} changed: make pictures writes the page again"
-    assert not [word for word in ("http:", "https:", "//cdn", "import(") if word in html.replace("http://www.w3.org/2000/svg", "")]
+    rest = html.replace("http://www.w3.org/2000/svg", "")
+    assert not [word for word in ("http:", "https:", "import(") if word in rest]
 
 
 def check_wheel():
@@ -562,7 +564,8 @@ def check_wheel():
     import wheel_of_package
     with tempfile.TemporaryDirectory() as folder:
         names = zipfile.ZipFile(Path(folder) / wheel_of_package.build_wheel(folder)).namelist()
-    missing = [path.name for path in (TOP / "python" / "paver" / "viewer").iterdir() if f"paver/viewer/{path.name}" not in names]
+    parts = [path.name for path in (TOP / "python" / "paver" / "viewer").iterdir()]
+    missing = [name for name in parts if f"paver/viewer/{name}" not in names]
     assert not missing, missing
 
 
@@ -588,9 +591,9 @@ def check_refused():
 
 
 WITHOUT_BROWSER = [check_size, check_committed_page, check_wheel, check_refused]
-WITH_BROWSER = [check_opens, check_looks, check_open_leaves, check_variants, check_moves, check_last_place, check_numbers, check_boxes,
-                check_verdicts, check_neighbours, check_search, check_svg, check_png, check_several, check_stages, check_texts,
-                check_colours, check_pixels]
+WITH_BROWSER = [check_opens, check_looks, check_open_leaves, check_variants, check_moves, check_last_place, check_numbers,
+                check_boxes, check_verdicts, check_neighbours, check_search, check_svg, check_png, check_several, check_stages,
+                check_texts, check_colours, check_pixels]
 
 
 def judge(count, check, *arguments):

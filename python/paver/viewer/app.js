@@ -192,16 +192,20 @@ class App {
 
   how() {
     const { names } = this.about, legend = LEGENDS[this.shownLevels() ? "slice" : "projection"];
-    return { palette: this.palette, names: { x: names[this.x], y: names.length > 1 ? names[this.y] : "" }, edges: element("edges").checked,
-      pinned: this.pinned, legend: this.layout === "over" ? [...legend, ...LEGENDS.over] : legend };
+    return {
+      palette: this.palette,
+      names: { x: names[this.x], y: names.length > 1 ? names[this.y] : "" },
+      edges: element("edges").checked,
+      pinned: this.pinned,
+      legend: this.layout === "over" ? [...legend, ...LEGENDS.over] : legend,
+    };
   }
 
   draw() {
     const begun = performance.now(), levels = this.shownLevels(), how = this.how();
     this.frameAsked = false;
     for (const pane of this.panes) {
-      pane.paint(this.axes, levels, this.isStale ? null : this.move);
-      pane.colour(this.palette);
+      pane.paint(this.axes, levels, this.isStale ? null : this.move, this.palette);
       pane.decorate(this.axes, levels, how);
     }
     this.isStale = false;
@@ -386,7 +390,10 @@ function listenToControls(app) {
   on("layout", "change", () => chooseLayout(app, element("layout").value));
   on("frame", "input", () => app.showFrame(Number(element("frame").value)));
   on("play", "click", () => play(app));
-  on("search", "submit", (event) => { event.preventDefault(); element("answer").textContent = app.search(element("point").value); });
+  on("search", "submit", (event) => {
+    event.preventDefault();
+    element("answer").textContent = app.search(element("point").value);
+  });
   on("svg", "click", () => download(new Blob([app.svgText()], { type: "image/svg+xml" }), `${app.about.title}.svg`));
   on("png", "click", async () => download(await app.pngBlob(), `${app.about.title}.png`));
   for (const radio of document.getElementsByName("mode")) {
@@ -398,8 +405,8 @@ function listenToControls(app) {
 function placeOf(app, event) {
   const pane = app.panes.find((one) => one.cells === event.target);
   if (!pane) return null;
-  const box = pane.cells.getBoundingClientRect();
-  return { pane, column: Math.floor((event.clientX - box.left) * pane.ratio), row: Math.floor((event.clientY - box.top) * pane.ratio) };
+  const box = pane.cells.getBoundingClientRect(), pixel = (length) => Math.floor(length * pane.ratio);
+  return { pane, column: pixel(event.clientX - box.left), row: pixel(event.clientY - box.top) };
 }
 
 function listenToPointer(app) {
@@ -425,7 +432,8 @@ function listenToPointer(app) {
 }
 
 function dragged(app, held, event) {
-  const ratio = app.panes[0].ratio, x = Math.round((event.clientX - held.x) * ratio), y = Math.round((event.clientY - held.y) * ratio);
+  const { ratio } = app.panes[0];
+  const x = Math.round((event.clientX - held.x) * ratio), y = Math.round((event.clientY - held.y) * ratio);
   if (!held.moved && Math.hypot(x, y) < 4 * ratio) return held;
   app.pan(x, y);
   return { x: held.x + x / ratio, y: held.y + y / ratio, moved: true };
