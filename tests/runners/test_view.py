@@ -21,7 +21,7 @@ from pathlib import Path
 
 from running import TOP, Count, is_chosen, program, word
 import paver
-from browser import Browser, find_browser
+from browser import Browser, BrowserFault, find_browser
 from made_pavings import canonical, grid_text, made_text
 from paver import intervals, numbers
 from paver.packed import packed
@@ -611,7 +611,11 @@ def judge(count, check, *arguments):
 def judge_in_browser(count, checks):
     """The checks that need a browser; after each, that it wrote no error on its console."""
     with tempfile.TemporaryDirectory() as folder:
-        bench = Bench(folder)
+        try:
+            bench = Bench(folder)
+        except (OSError, BrowserFault) as fault:
+            count.judge("the browser", [str(fault)])
+            return
         try:
             for check in checks:
                 judge(count, check, bench)
