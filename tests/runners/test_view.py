@@ -145,7 +145,7 @@ def check_variants(bench):
 
 def check_moves(bench):
     """The wheel zooms around the pointer, a drag moves by whole pixels, and what a drag draws is what is drawn anew."""
-    browser = bench.open("pi_gains", eps="0.015625", boxes=100000)
+    browser = bench.open("pi_gains", eps="0.015625", boxes=3000, workers=1)  # with open leaves
     x, y, column, _ = bench.place(1.0, 1.0)
     told = f"[paverView.axes.x.scale, nearFloat(paverView.axes.x.value({column}))]"
     before = browser.value(told)
@@ -158,8 +158,8 @@ def check_moves(bench):
     browser.drawn()
     moved = browser.value("[paverView.axes.x.offset, paverView.axes.y.offset]")
     assert [old - new for old, new in zip(offset, moved)] == [37, -21], (offset, moved)
-    differ = """(() => { const kept = paverView.panes[0].classes.slice(); paverView.redraw(); paverView.draw();
-      return paverView.panes[0].classes.reduce((sum, one, k) => sum + (one !== kept[k]), 0); })()"""
+    differ = """(() => { const pane = paverView.panes[0], kept = pane.words.slice(); paverView.redraw(); paverView.draw();
+      return pane.words.reduce((sum, one, k) => sum + (one !== kept[k]), 0); })()"""
     assert browser.value(differ) == 0
     for across, down in ((-3, 5), (60, 60), (-200, 11), (5000, 0)):
         browser.value(f"paverView.pan({across}, {down}); paverView.draw()")
