@@ -48,6 +48,9 @@ class Columns:
 
     def ends(self, words, box, same):
         """Adds the ends that differ from a box, given as grid forms with their texts, and gives the box of the ends."""
+        if same and words.count(same) == len(words):
+            self.changed.append(0)
+            return box
         texts, values = list(box[0]), list(box[1])
         changed = 0
         for k, word in enumerate(words):
