@@ -8,6 +8,8 @@ Columns, little-endian, deflated together: mantissas (8 bytes a number), changed
 end k differs), exponents (2 bytes a number), codes (1 byte a node: 0 removed, 1 inner, 2 small, 3 open, 4 + v a cut of
 variable v). The first numbers are the ends of the search box; then a cut has its place, and each node its changed ends.
 """
+from __future__ import annotations
+
 import base64
 import math
 import sys
@@ -17,6 +19,7 @@ from fractions import Fraction
 
 from .errors import PavingError
 from .numbers import INFINITE, SCALE, NumberError, grid, width
+from .paving import Paving
 
 INFINITE_EXPONENT = 32767
 CODES = {"X": 0, "I": 1, "S": 2, "O": 3}
@@ -45,6 +48,9 @@ class Columns:
 
     def ends(self, words, box, same):
         """Adds the ends that differ from a box, given as grid forms with their texts, and gives the box of the ends."""
+        if same and words.count(same) == len(words):
+            self.changed.append(0)
+            return box
         texts, values = list(box[0]), list(box[1])
         changed = 0
         for k, word in enumerate(words):
@@ -127,7 +133,7 @@ def volumes_of(paving, columns):
     return {kind: Fraction(size, 1 << SCALE * paving.dims) for kind, size in sizes.items()}
 
 
-def packed(paving):
+def packed(paving: Paving) -> tuple[str, int, int, dict]:
     """The text of a paving's columns, deflated and in base64; the counts of its nodes and of its numbers; its volumes."""
     columns = columns_of(paving)
     text = base64.b64encode(zlib.compress(columns.bytes(), 6)).decode("ascii")

@@ -1,4 +1,6 @@
 """One page of HTML that shows pavings of a system in any browser, with no network: see viewer/ for its parts."""
+from __future__ import annotations
+
 import base64
 import copy
 import hashlib
@@ -26,17 +28,17 @@ COMMANDS = {"plain": "run", "centered": "run-centered"}  # that make pavings of 
 class View:
     """A page: `html` is its text, `save` writes it; in a notebook it shows itself in a frame."""
 
-    def __init__(self, html):
+    def __init__(self, html: str) -> None:
         self.html = html
 
-    def save(self, path):
+    def save(self, path: str | Path) -> None:
         """Writes the page into a file."""
         Path(path).write_text(self.html, encoding="utf-8")
 
-    def _repr_html_(self):
+    def _repr_html_(self) -> str:
         return f'<iframe srcdoc="{escape(self.html)}" style="width:100%;height:640px;border:0"></iframe>'
 
-    def __repr__(self):
+    def __repr__(self) -> str:
         return f"<view of {len(self.html)} bytes: save it as an .html file>"
 
 
@@ -104,7 +106,7 @@ def page(system, source, entries, title):
     return "".join(filled[part] if k % 2 else part for k, part in enumerate(parts))
 
 
-def page_of_text(canonical, pavings, title="paving", source=""):
+def page_of_text(canonical: str, pavings: list[Paving], title: str = "paving", source: str = "") -> View:
     """The page of pavings whose system is given by its canonical text, with no call of the program: their identities are
     not compared."""
     system = System.from_text(canonical)
@@ -134,7 +136,8 @@ def run_one(path, system, settings, centered, options, program):
     return entry(paving, named, command_of(paving, system, named, form, False, command), command)
 
 
-def view(system, pavings=None, *, settings=None, title=None, unchecked=False, centered=False, program=None, **options):
+def view(system: str | Path, pavings: object = None, *, settings: list[dict] | None = None, title: str | None = None,
+         unchecked: bool = False, centered: bool = False, program: str | None = None, **options: object) -> View:
     """A page that shows pavings of a system: stored files, databases of campaigns, Pavings or Answers, one or several; with
     none the system is run (or run by centered forms).
 

@@ -15,7 +15,7 @@ import time
 from pathlib import Path
 
 NAMES = ("chromium", "chromium-browser", "google-chrome")
-WAIT = 30
+WAIT = 60
 
 
 class BrowserFault(AssertionError):
@@ -87,14 +87,23 @@ class Browser:
 
     def __init__(self, width=1200, height=800):
         self.folder = tempfile.TemporaryDirectory(ignore_cleanup_errors=True)
-        words = [find_browser(), "--headless=new", "--no-sandbox", "--disable-gpu", "--remote-debugging-port=0", "--no-first-run",
+        words = [find_browser(), "--headless=new", "--no-sandbox", "--disable-gpu", "--remote-debugging-port=0",
                  f"--user-data-dir={self.folder.name}/profile", f"--window-size={width},{height}", "--hide-scrollbars",
-                 "--disable-dev-shm-usage", "--disable-background-networking", "--disable-component-update", "about:blank"]
+                 "--no-first-run", "--disable-dev-shm-usage", "--disable-background-networking",
+                 "--disable-component-update", "about:blank"]
         self.process = subprocess.Popen(words, stdin=subprocess.DEVNULL, stdout=subprocess.DEVNULL, stderr=subprocess.DEVNULL)
         self.count, self.faults, self.requests, self.ended = 0, [], [], []
+        self.socket = self.session = None
+        try:
+            self._begin(width, height)
+        except (OSError, BrowserFault):
+            self.close()
+            raise
+
+    def _begin(self, width, height):
+        """Goes to the browser's one page."""
         self.socket = WebSocket("127.0.0.1", *self._port())
         target = next(one for one in self.call("Target.getTargets")["targetInfos"] if one["type"] == "page")
-        self.session = None
         self.session = self.call("Target.attachToTarget", targetId=target["targetId"], flatten=True)["sessionId"]
         for name in ("Page.enable", "Runtime.enable", "Log.enable", "Network.enable"):
             self.call(name)
@@ -117,7 +126,7 @@ class Browser:
         """The answer to a command; what comes before it is noted."""
         self.count += 1
         message = {"id": self.count, "method": method, "params": words}
-        if getattr(self, "session", None) and not method.startswith(("Target.", "Browser.")):
+        if self.session and not method.startswith(("Target.", "Browser.")):
             message["sessionId"] = self.session
         self.socket.send(json.dumps(message))
         while True:
@@ -207,7 +216,8 @@ class Browser:
         raise BrowserFault(f"{name} was not saved")
 
     def close(self):
-        self.socket.close()
+        if self.socket:
+            self.socket.close()
         self.process.terminate()
         try:
             self.process.wait(10)

@@ -87,7 +87,8 @@ class Scene:
                    for p, q in zip(across, across[1:]) for r, s in zip(up, up[1:]))
 
 
-ALLOWED = {"inner": {"inner"}, "removed": {"removed", "outside"}, "open": {"open", "removed", "outside"}, "outside": {"outside"}}
+ALLOWED = {"inner": {"inner"}, "removed": {"removed", "outside"}, "open": {"open", "removed", "outside"},
+           "outside": {"outside"}}
 
 
 def fault_of_slice(scene, part, seen, must=True):

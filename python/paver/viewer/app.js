@@ -88,11 +88,18 @@ class App {
     this.resize();
   }
 
+  // Gives the panes their sizes; what was in the middle stays there.
   resize() {
-    const before = this.axes && this.panes[0].width ? this.axes : null;
     for (const pane of this.panes) pane.resize(window.devicePixelRatio || 1);
-    if (before) this.redraw();
-    else this.showWhole();
+    const { width, height } = this.panes[0], before = this.size;
+    this.size = { width, height };
+    if (!before) {
+      this.showWhole();
+      return;
+    }
+    this.axes.x.offset -= Math.round((width - before.width) / 2);
+    this.axes.y.offset -= Math.round((height - before.height) / 2);
+    this.redraw();
   }
 
   showFrame(frame) {
@@ -185,16 +192,20 @@ class App {
 
   how() {
     const { names } = this.about, legend = LEGENDS[this.shownLevels() ? "slice" : "projection"];
-    return { palette: this.palette, names: { x: names[this.x], y: names.length > 1 ? names[this.y] : "" }, edges: element("edges").checked,
-      pinned: this.pinned, legend: this.layout === "over" ? [...legend, ...LEGENDS.over] : legend };
+    return {
+      palette: this.palette,
+      names: { x: names[this.x], y: names.length > 1 ? names[this.y] : "" },
+      edges: element("edges").checked,
+      pinned: this.pinned,
+      legend: this.layout === "over" ? [...legend, ...LEGENDS.over] : legend,
+    };
   }
 
   draw() {
     const begun = performance.now(), levels = this.shownLevels(), how = this.how();
     this.frameAsked = false;
     for (const pane of this.panes) {
-      pane.paint(this.axes, levels, this.isStale ? null : this.move);
-      pane.colour(this.palette);
+      pane.paint(this.axes, levels, this.isStale ? null : this.move, this.palette);
       pane.decorate(this.axes, levels, how);
     }
     this.isStale = false;
@@ -352,6 +363,13 @@ function chooseAxis(app, own, other, variable) {
   app.showWhole();
 }
 
+function chooseLayout(app, layout) {
+  if (app.timer) play(app);
+  app.layout = layout;
+  app.buildPanes();
+  showChoices(app);
+}
+
 function play(app) {
   clearInterval(app.timer);
   app.timer = app.timer ? null : setInterval(() => app.showFrame((app.frame + 1) % app.trees.length), FRAME_TIME);
@@ -369,10 +387,13 @@ function listenToControls(app) {
   on("closer", "click", () => app.zoom(0.5, middle().width / 2, middle().height / 2));
   on("farther", "click", () => app.zoom(2, middle().width / 2, middle().height / 2));
   on("theme", "click", () => { app.isDark = !app.isDark; showChoices(app); app.redraw(); });
-  on("layout", "change", () => { app.layout = element("layout").value; app.axes = null; app.buildPanes(); showChoices(app); });
+  on("layout", "change", () => chooseLayout(app, element("layout").value));
   on("frame", "input", () => app.showFrame(Number(element("frame").value)));
   on("play", "click", () => play(app));
-  on("search", "submit", (event) => { event.preventDefault(); element("answer").textContent = app.search(element("point").value); });
+  on("search", "submit", (event) => {
+    event.preventDefault();
+    element("answer").textContent = app.search(element("point").value);
+  });
   on("svg", "click", () => download(new Blob([app.svgText()], { type: "image/svg+xml" }), `${app.about.title}.svg`));
   on("png", "click", async () => download(await app.pngBlob(), `${app.about.title}.png`));
   for (const radio of document.getElementsByName("mode")) {
@@ -384,8 +405,8 @@ function listenToControls(app) {
 function placeOf(app, event) {
   const pane = app.panes.find((one) => one.cells === event.target);
   if (!pane) return null;
-  const box = pane.cells.getBoundingClientRect();
-  return { pane, column: Math.floor((event.clientX - box.left) * pane.ratio), row: Math.floor((event.clientY - box.top) * pane.ratio) };
+  const box = pane.cells.getBoundingClientRect(), pixel = (length) => Math.floor(length * pane.ratio);
+  return { pane, column: pixel(event.clientX - box.left), row: pixel(event.clientY - box.top) };
 }
 
 function listenToPointer(app) {
@@ -411,7 +432,8 @@ function listenToPointer(app) {
 }
 
 function dragged(app, held, event) {
-  const ratio = app.panes[0].ratio, x = Math.round((event.clientX - held.x) * ratio), y = Math.round((event.clientY - held.y) * ratio);
+  const { ratio } = app.panes[0];
+  const x = Math.round((event.clientX - held.x) * ratio), y = Math.round((event.clientY - held.y) * ratio);
   if (!held.moved && Math.hypot(x, y) < 4 * ratio) return held;
   app.pan(x, y);
   return { x: held.x + x / ratio, y: held.y + y / ratio, moved: true };

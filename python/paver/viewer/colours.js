@@ -37,14 +37,19 @@ function classOfSeveral(classes) {
   return has(CLASS_UNDECIDED) ? CLASS_UNDECIDED : classes[0];
 }
 
-// The same, pixel by pixel; lists of classes that were met are kept.
-function joinClasses(layers, target) {
-  const known = new Map();
-  for (let at = 0; at < target.length; at += 1) {
-    let key = 0;
+// The classes of pixels from one place of the buffers to another; lists of classes that were met are kept.
+const JOINED = new Map();
+
+function classify(layers, target, from, to) {
+  if (layers.length === 1) {
+    for (let at = from, bits = layers[0]; at < to; at += 1) target[at] = CLASS_OF_BITS[bits[at]];
+    return;
+  }
+  for (let at = from; at < to; at += 1) {
+    let key = 1;
     for (const bits of layers) key = key * 8 + CLASS_OF_BITS[bits[at]];
-    if (!known.has(key)) known.set(key, classOfSeveral(layers.map((bits) => CLASS_OF_BITS[bits[at]])));
-    target[at] = known.get(key);
+    if (!JOINED.has(key)) JOINED.set(key, classOfSeveral(layers.map((bits) => CLASS_OF_BITS[bits[at]])));
+    target[at] = JOINED.get(key);
   }
 }
 
@@ -53,14 +58,22 @@ function wordOfColour(colour) {
   return (255 << 24 | blue << 16 | green << 8 | red) >>> 0;
 }
 
-// Paints classes as the words of an image; open leaves get slanted lines.
-function paintClasses(classes, words, stride, palette, period) {
-  const colours = Uint32Array.from(CLASSES, (name) => wordOfColour(palette[name])), hatch = wordOfColour(palette.hatch);
-  const thick = Math.max(1, Math.round(period / 6));
-  for (let row = 0, at = 0; at < classes.length; row += 1) {
-    for (let column = 0; column < stride; column += 1, at += 1) {
+// Paints classes as words of an image. Open leaves get slanted lines, every so many pixels.
+class Brush {
+  constructor(palette, ratio) {
+    this.colours = Uint32Array.from(CLASSES, (name) => wordOfColour(palette[name]));
+    this.hatch = wordOfColour(palette.hatch);
+    this.period = Math.round(8 * ratio);
+    this.thick = Math.max(1, Math.round(this.period / 6));
+  }
+
+  // From one place of a row to another; `slant` is the sum of column and row at the first, in pixels of the axes.
+  paint(classes, words, from, to, slant) {
+    const { colours, hatch, period, thick } = this;
+    for (let at = from, phase = (slant % period + period) % period; at < to; at += 1) {
       const one = classes[at];
-      words[at] = one === CLASS_OPEN && (column + row) % period < thick ? hatch : colours[one];
+      words[at] = one === CLASS_OPEN && phase < thick ? hatch : colours[one];
+      phase = phase + 1 === period ? 0 : phase + 1;
     }
   }
 }

@@ -52,12 +52,13 @@ function places(tree, names, part) {
 
 // By which constraints a small box is undecided: worked out here, as the file does not say.
 function undecidedBy(tree, constraints, texts, part) {
-  const verdicts = verdictsOn(tree, constraints, part);
-  if (!verdicts) return made("p", "The file does not say by which constraints; with an infinite end nothing is worked out here.", "faint");
+  const verdicts = verdictsOn(tree, constraints, part), unsaid = "The file does not say by which constraints";
+  if (!verdicts) return made("p", `${unsaid}; with an infinite end nothing is worked out here.`, "faint");
   const open = verdicts.flatMap((verdict, k) => (verdict === "undecided" ? [k] : [])), block = made("div");
   const failing = verdicts.flatMap((verdict, k) => (verdict === "fails" ? [k] : []));
-  block.append(made("p", `The file does not say by which constraints. Worked out here by plain intervals of exact fractions: ` +
-    `${open.length} of ${verdicts.length} undecided on this box${failing.length ? `, ${failing.length} failing` : ""}.`, "faint"));
+  const fails = failing.length ? `, ${failing.length} failing` : "";
+  block.append(made("p", `${unsaid}. Worked out here by plain intervals of exact fractions: ` +
+    `${open.length} of ${verdicts.length} undecided on this box${fails}.`, "faint"));
   for (const k of open.slice(0, 12)) block.append(made("code", `${k}: ${texts[k]}`), made("br"));
   if (open.length > 12) block.append(made("p", `and ${open.length - 12} more`, "faint"));
   return block;
@@ -65,7 +66,7 @@ function undecidedBy(tree, constraints, texts, part) {
 
 function boxFacts(about, tree, found, constraints, palette) {
   const part = partOf(found), facts = [heading(found, palette), made("p")];
-  facts[1].append(document.createTextNode(found.isMargin ? "of the node at path " : "path "), made("code", pathText(found.path)));
+  facts[1].append(found.isMargin ? "of the node at path " : "path ", made("code", pathText(found.path)));
   if (found.isMargin) facts.push(made("p", "The node's box:", "faint"));
   facts.push(...places(tree, about.names, found.isMargin ? found.box : part));
   if (found.isMargin) {

@@ -101,8 +101,8 @@ class Painter {
   walk(node, x0, x1, y0, y1, sheet) {
     if (x1 < sheet.left - SLACK || x0 > sheet.right + SLACK || y1 < sheet.top - SLACK || y0 > sheet.bottom + SLACK) return;
     const tree = this.tree, kinds = tree.below[node];
-    const isOnePixel = Math.ceil(x1 + SLACK) - Math.floor(x0 - SLACK) <= 1 && Math.ceil(y1 + SLACK) - Math.floor(y0 - SLACK) <= 1;
-    if ((kinds & (kinds - 1)) === 0 || isOnePixel) this.mark(kinds, x0, x1, y0, y1, sheet, node);
+    const columns = Math.ceil(x1 + SLACK) - Math.floor(x0 - SLACK), rows = Math.ceil(y1 + SLACK) - Math.floor(y0 - SLACK);
+    if ((kinds & (kinds - 1)) === 0 || (columns <= 1 && rows <= 1)) this.mark(kinds, x0, x1, y0, y1, sheet, node);
     else this.enter(node, x0, x1, y0, y1, sheet);
   }
 

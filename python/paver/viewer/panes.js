@@ -27,7 +27,8 @@ class Pane {
     Object.assign(this.cells, { width: this.width, height: this.height });
     Object.assign(this.cells.style, { width: `${this.width / ratio}px`, height: `${this.height / ratio}px` });
     Object.assign(this.marks, { width: Math.round(clientWidth * ratio), height: Math.round(clientHeight * ratio) });
-    this.image = null;
+    this.image = this.cells.getContext("2d").createImageData(this.width, this.height);
+    this.words = new Uint32Array(this.image.data.buffer);
     this.show(this.layers.map((layer) => layer.tree));
   }
 
@@ -37,34 +38,28 @@ class Pane {
     this.classes = new Uint8Array(size);
   }
 
-  // Works out the bits of all pixels, or after a move of whole pixels those of the pixels that came into sight.
-  paint(axes, levels, move) {
-    const { width, height } = this;
+  // Draws all pixels anew, or after a move of whole pixels those that came into sight.
+  paint(axes, levels, move, palette) {
+    const { width, height, layers, classes, words } = this, whole = new Sheet(null, width, 0, 0, width, height);
     const isMove = move && Math.abs(move.x) < width && Math.abs(move.y) < height;
-    for (const { tree, bits } of this.layers) {
-      const painter = new Painter(tree, axes.x, axes.y, levels), sheet = new Sheet(bits, width, 0, 0, width, height);
-      if (!isMove) {
-        painter.paint(sheet);
-        continue;
-      }
-      const step = move.y * width + move.x;
-      bits.copyWithin(Math.max(0, step), Math.max(0, -step), bits.length - Math.max(0, step));
-      for (const part of exposed(sheet, move)) painter.paint(part);
+    const parts = isMove ? exposed(whole, move) : [whole], brush = new Brush(palette, this.ratio);
+    if (isMove) {
+      for (const buffer of [...layers.map(({ bits }) => bits), classes, words]) shift(buffer, move.y * width + move.x);
     }
+    for (const { tree, bits } of layers) {
+      const painter = new Painter(tree, axes.x, axes.y, levels);
+      for (const part of parts) painter.paint(Object.assign(part, { bits }));
+    }
+    for (const part of parts) this.colour(part, brush, axes.x.offset + axes.y.offset);
+    this.cells.getContext("2d").putImageData(this.image, 0, 0);
   }
 
-  colour(palette) {
-    const { layers, classes, width, height } = this;
-    if (layers.length === 1) {
-      const bits = layers[0].bits;
-      for (let at = 0; at < classes.length; at += 1) classes[at] = CLASS_OF_BITS[bits[at]];
-    } else {
-      joinClasses(layers.map((layer) => layer.bits), classes);
+  colour(part, brush, slant) {
+    const buffers = this.layers.map(({ bits }) => bits), length = part.right - part.left;
+    for (let row = part.top, at = part.start; row < part.bottom; row += 1, at += part.stride) {
+      classify(buffers, this.classes, at, at + length);
+      brush.paint(this.classes, this.words, at, at + length, slant + part.left + row);
     }
-    const context = this.cells.getContext("2d");
-    this.image = this.image || context.createImageData(width, height);
-    paintClasses(classes, new Uint32Array(this.image.data.buffer), width, palette, Math.round(8 * this.ratio));
-    context.putImageData(this.image, 0, 0);
   }
 
   // Axes, outlines of boxes and what is pinned, over the pixels.
@@ -91,8 +86,8 @@ class Pane {
     context.lineWidth = Math.max(1, Math.round(0.6 * this.ratio));
     context.beginPath();
     for (let k = 0; k < found.length; k += 4) {
-      const [x0, x1, y0, y1] = clippedOutline(found, k, this.width, this.height);
-      context.rect(Math.round(x0) + 0.5, Math.round(y0) + 0.5, Math.round(x1) - Math.round(x0), Math.round(y1) - Math.round(y0));
+      const [x0, x1, y0, y1] = clippedOutline(found, k, this.width, this.height).map(Math.round);
+      context.rect(x0 + 0.5, y0 + 0.5, x1 - x0, y1 - y0);
     }
     context.stroke();
     context.globalAlpha = 1;
@@ -102,7 +97,8 @@ class Pane {
   drawCircles(context, palette) {
     const kept = [], { classes, width, ratio } = this;
     for (let at = 0; at < classes.length && kept.length <= MOST_SPECKS; at += 1) {
-      if (classes[at] > CLASS_REMOVED && classes[at] < CLASS_REMOVED_BY_SOME) kept.push([at % width + 0.5, Math.floor(at / width) + 0.5]);
+      const isKept = classes[at] > CLASS_REMOVED && classes[at] < CLASS_REMOVED_BY_SOME;
+      if (isKept) kept.push([at % width + 0.5, Math.floor(at / width) + 0.5]);
     }
     if (kept.length > MOST_SPECKS) return;
     const around = [];
@@ -139,7 +135,13 @@ function outlinesOf(tree, axes, levels, width, height, least) {
 }
 
 function clippedOutline(found, k, width, height) {
-  return [Math.max(found[k], -9), Math.min(found[k + 1], width + 9), Math.max(found[k + 2], -9), Math.min(found[k + 3], height + 9)];
+  const [x0, x1, y0, y1] = found.slice(k, k + 4);
+  return [Math.max(x0, -9), Math.min(x1, width + 9), Math.max(y0, -9), Math.min(y1, height + 9)];
+}
+
+// Moves what stands in a buffer, by so many places.
+function shift(buffer, step) {
+  buffer.copyWithin(Math.max(0, step), Math.max(0, -step), buffer.length - Math.max(0, step));
 }
 
 // The rows and columns that a move brings into sight.

@@ -59,15 +59,15 @@ function drawHatch(context, left, top, side, palette) {
 // The classes of a pane's cells, FINE cells a pixel each way.
 function fineClasses(pane, axes, levels) {
   const width = pane.width * FINE, height = pane.height * FINE;
-  const [x, y] = [axes.x, axes.y].map((axis) => new Axis(axis.variable, axis, axis.scale / FINE, axis.offset * FINE, axis.sign));
+  const finer = (axis) => new Axis(axis.variable, axis, axis.scale / FINE, axis.offset * FINE, axis.sign);
+  const x = finer(axes.x), y = finer(axes.y);
   const layers = pane.layers.map(({ tree }) => {
     const bits = new Uint8Array(width * height);
     new Painter(tree, x, y, levels).paint(new Sheet(bits, width, 0, 0, width, height));
     return bits;
   });
   const classes = new Uint8Array(width * height);
-  if (layers.length > 1) joinClasses(layers, classes);
-  else for (let at = 0; at < classes.length; at += 1) classes[at] = CLASS_OF_BITS[layers[0][at]];
+  classify(layers, classes, 0, classes.length);
   return { classes, width, height };
 }
 
@@ -140,7 +140,8 @@ function svgTicks(axes, pane, { palette, names }) {
 
 // Slanted lines as a pattern, in units that are so many times smaller.
 function svgHatch(id, times, palette) {
-  return `<pattern id="${id}" width="6" height="6" patternUnits="userSpaceOnUse" patternTransform="scale(${times}) rotate(45)">` +
+  const size = 'width="6" height="6" patternUnits="userSpaceOnUse"';
+  return `<pattern id="${id}" ${size} patternTransform="scale(${times}) rotate(45)">` +
     `<rect width="6" height="6" fill="${palette.open}"/><rect width="1" height="6" fill="${palette.hatch}"/></pattern>`;
 }
 
