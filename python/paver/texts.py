@@ -76,8 +76,7 @@ class SystemText:
         if words[at].text == "in":
             comma = next(i for i in range(at, len(words)) if words[i].text == ",")
             close = next(i for i in range(comma, len(words)) if words[i].text == "]")
-            self.variables[name] = tuple("".join(token.text for token in words[a:b])
-                                         for a, b in ((at + 2, comma), (comma + 1, close)))
+            self.variables[name] = (text_of(words[at + 2:comma]), text_of(words[comma + 1:close]))
             at = close + 1
         return at + 1 if words[at].text in (",", ";") else at
 
@@ -112,6 +111,10 @@ class SystemText:
         between = self.between.strip()
         return "\n".join([f"{self.before}Variables", f"  {', '.join(entries)};", *([between] if between else []),
                           "Constraints", *lines, "end", ""])
+
+
+def text_of(words: list) -> str:
+    return "".join(token.text for token in words)
 
 
 def constants_of(words: list) -> dict[str, Fraction]:
