@@ -7,7 +7,7 @@ from __future__ import annotations
 import math
 import random
 from collections.abc import Callable, Sequence
-from time import monotonic
+from time import process_time
 
 from .canonical import Constraint, System
 
@@ -174,7 +174,7 @@ def improved(field: Field, x: Point, margin: float, enough: float, until: float)
             before = values[0]
         way = direction(field, x, 4 * margin + TINY)
         length = math.sqrt(sum(a * a for a in way)) if way else 0.0
-        if way is None or length < 1e-9 or monotonic() > until:
+        if way is None or length < 1e-9 or process_time() > until:
             return x
         while step * length > TINY:
             there = restored(field, [a + step * b for a, b in zip(x, way)], margin)
@@ -199,7 +199,7 @@ def starts(domains: Sequence[tuple[float, float]], count: int) -> list[Point]:
 def low_point(field: Field, seconds: float, enough: float, begin: Sequence[Point] = (), margin: float = 1e-9
               ) -> Point | None:
     """The best point of several descents, from these points or from some of the box; None where none ended in the set."""
-    best, value, until = None, math.inf, monotonic() + seconds
+    best, value, until = None, math.inf, process_time() + seconds
     for x in begin or starts(field.domains, STARTS):
         there = restored(field, list(x), margin)
         if there is None:
@@ -208,6 +208,6 @@ def low_point(field: Field, seconds: float, enough: float, begin: Sequence[Point
         found = field.at(there)
         if found is not None and found[0] < value:
             best, value = there, found[0]
-        if monotonic() > until:
+        if process_time() > until:
             break
     return best

@@ -101,7 +101,9 @@ class SystemText:
 
     def _bound(self, word: str) -> Fraction | float:
         sign, word = (-1 if word.startswith("-") else 1), word.lstrip("+-")
-        return sign * (float("inf") if word == "oo" else self.constants[word] if word in self.constants else Fraction(word))
+        if word == "oo":
+            return sign * float("inf")
+        return sign * (self.constants[word] if word in self.constants else Fraction(word))
 
     def written(self, constraints: Iterable[str], variables: Mapping[str, tuple[str, str] | None] | None = None) -> str:
         """The text with these constraints, and with these variables where they are given."""
