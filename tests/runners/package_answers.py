@@ -627,7 +627,7 @@ def check_scales():
 def check_answers_page():
     """What ANSWERS.md shows of commands is what they print; of a search only what holds of any."""
     text = (example("ring").parents[1] / "docs" / "ANSWERS.md").read_text()
-    shown = re.findall(r"^```\n\$ python3 -m paver (\w+) examples/(\w+)\.mbx (.*)\n([^`]*)^```", text, re.M)
+    shown = re.findall(r"^```\n\$ python3 -m paver (\w+) examples/(\w+)\.mbx ([^\n]*)\n(.*?)^```", text, re.M | re.S)
     assert [name for name, *_ in shown] == ["least", "robust"], shown
     for name, system, words, lines in shown:
         status, out, _ = command(name, example(system), *words.split())
