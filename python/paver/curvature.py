@@ -8,6 +8,8 @@ from __future__ import annotations
 
 from fractions import Fraction
 
+from .canonical import Constraint
+
 FREE, AFFINE, CONVEX, CONCAVE = "free", "affine", "convex", "concave"
 TURNED = {FREE: FREE, AFFINE: AFFINE, CONVEX: CONCAVE, CONCAVE: CONVEX, None: None}
 UPWARD = (FREE, AFFINE, CONVEX)
@@ -84,7 +86,7 @@ def scaled(bend: str | None, factor: Fraction | None) -> Bend:
     return (TURNED[bend] if factor is not None else None), None
 
 
-def at_vertices(constraint: object, variable: int) -> bool:
+def at_vertices(constraint: Constraint, variable: int) -> bool:
     """Whether a constraint holds on the whole interval of a variable where it holds at both ends, whatever the others are."""
     low, high = (constraint.left, constraint.right) if constraint.relation in ("<=", "<") else (
         constraint.right, constraint.left)

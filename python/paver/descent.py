@@ -7,7 +7,7 @@ from __future__ import annotations
 import math
 import random
 from collections.abc import Callable, Sequence
-from time import monotonic
+from time import process_time
 
 from .canonical import Constraint, System
 
@@ -20,7 +20,8 @@ STEPS, TURNS, STARTS = 400, 25, 6
 
 def source_of(expressions: Sequence[Steps]) -> str:
     """Python's text of a function of x that gives the expressions' values: one line an operation, none worked out twice."""
-    lines, known = [], {}
+    lines: list[str] = []
+    known: dict[str, str] = {}
 
     def named(text: str) -> str:
         if text not in known:
@@ -165,18 +166,20 @@ def improved(field: Field, x: Point, margin: float, enough: float, until: float)
     """A point of the set with a lower value, from one of the set; it ends where ten steps win no more than `enough`."""
     values, step, before = field.at(x), 0.1, math.inf
     for turn in range(STEPS):
+        if values is None:
+            return x
         if turn % 10 == 0:
             if before - values[0] < enough:
                 return x
             before = values[0]
         way = direction(field, x, 4 * margin + TINY)
         length = math.sqrt(sum(a * a for a in way)) if way else 0.0
-        if length < 1e-9 or monotonic() > until:
+        if way is None or length < 1e-9 or process_time() > until:
             return x
         while step * length > TINY:
             there = restored(field, [a + step * b for a, b in zip(x, way)], margin)
             found = field.at(there) if there else None
-            if found is not None and found[0] < values[0] - 1e-4 * step * length * length:
+            if there and found is not None and found[0] < values[0] - 1e-4 * step * length * length:
                 x, values, step = there, found, step * 3
                 break
             step /= 4
@@ -196,15 +199,15 @@ def starts(domains: Sequence[tuple[float, float]], count: int) -> list[Point]:
 def low_point(field: Field, seconds: float, enough: float, begin: Sequence[Point] = (), margin: float = 1e-9
               ) -> Point | None:
     """The best point of several descents, from these points or from some of the box; None where none ended in the set."""
-    best, value, until = None, math.inf, monotonic() + seconds
+    best, value, until = None, math.inf, process_time() + seconds
     for x in begin or starts(field.domains, STARTS):
-        x = restored(field, list(x), margin)
-        if x is None:
+        there = restored(field, list(x), margin)
+        if there is None:
             continue
-        x = improved(field, x, margin, enough, until)
-        found = field.at(x)
+        there = improved(field, there, margin, enough, until)
+        found = field.at(there)
         if found is not None and found[0] < value:
-            best, value = x, found[0]
-        if monotonic() > until:
+            best, value = there, found[0]
+        if process_time() > until:
             break
     return best

@@ -160,7 +160,7 @@ class Search:
         self.undecided: set[Fraction] = set()
         self.tried: set[Fraction] = set()
         self.step, self.falls = within, 0
-        floats = [tuple(float(end) for end in pair) for pair in question.root]
+        floats = [(float(low), float(high)) for low, high in question.root]
         self.field = Field(question.base, question.objective, floats)
 
     # ---- calls of the program
@@ -188,7 +188,7 @@ class Search:
         paving = Paving.from_text(data.decode(ENCODING), root=root, names=self.question.base.names)
         return Proof(command, settings, text, data, level, paving.counts()), paving
 
-    def ask(self, level: Fraction | None) -> tuple[str, Proof | None, Paving | None]:
+    def ask(self, level: Fraction | None) -> tuple[str, Proof, Paving]:
         """What the program says of a level (None for the set alone), with ever smaller boxes."""
         for eps in self.question.widths():
             proof, paving = self.call(self.question.command, level, eps, self.question.boxes)
@@ -198,7 +198,7 @@ class Search:
                 return NOTHING, proof, paving
             if proof.counts["open"]:
                 break
-        return UNDECIDED, None, None
+        return UNDECIDED, proof, paving
 
     # ---- upper bounds
 
@@ -222,7 +222,7 @@ class Search:
         self.found.upper, self.found.point, self.found.proofs["upper"] = bound, point, proof
         self.told()
 
-    def descend(self, begin: Iterable[Iterable[float]] = ()) -> None:
+    def descend(self, begin: Iterable[Iterable[Exact]] = ()) -> None:
         """A low point is looked for in floats, and then certified."""
         left = min(HINT, self.until - monotonic())
         x = low_point(self.field, left, float(self.found.within) / 100, [list(map(float, p)) for p in begin])
@@ -266,11 +266,12 @@ class Search:
         if found.lower == -math.inf:
             self.step *= 4
             return self.rounded((top or 0) - self.step) if self.step <= MOST_STEP else None
-        between = sorted(level for level in self.undecided if found.lower < level and (top is None or level < top))
-        ends = [found.lower, *between, *([] if top is None else [top])]
+        lower = Fraction(found.lower)
+        between = sorted(level for level in self.undecided if lower < level and (top is None or level < top))
+        ends = [lower, *between, *([] if top is None else [top])]
         if len(ends) == 1:
             self.step *= 4
-            return self.rounded(found.lower + self.step) if self.step <= MOST_STEP else None
+            return self.rounded(lower + self.step) if self.step <= MOST_STEP else None
         for low, high in ((ends[0], ends[1]), (ends[-2], ends[-1])):
             middle = self.rounded((low + high) / 2)
             if high - low > within / 4 and middle not in self.tried and (top is not None or high == ends[1]):

@@ -96,7 +96,8 @@ def raise_interrupt(_number: int, _frame: object) -> None:
 def work(arguments: argparse.Namespace) -> int:
     """Prints bounds of the least value by levels. Status 1 where they are not as near as asked."""
     options: Mapping = {
-        "within": number_of("within", arguments.within or "0.001"), "seconds": float(number_of("seconds", arguments.seconds or "60")),
+        "within": number_of("within", arguments.within or "0.001"),
+        "seconds": float(number_of("seconds", arguments.seconds or "60")),
         "tries": [point_of(word) for word in arguments.try_points or ()], "widen": arguments.widen, "keep": arguments.keep,
         "contract": arguments.contract, "limit": arguments.limit, "program": arguments.program,
         **({"boxes": int(arguments.boxes)} if arguments.boxes else {})}

@@ -46,8 +46,9 @@ def claims(proofs: Mapping[str, Proof], of: str) -> list[tuple[str, str]]:
         found.append(("lower", f"No rational point of the search box {what}: the run ends with status 0 and no leaf that is "
                       "inner, small or open."))
     if "upper" in proofs:
-        found.append(("upper", f"A point of the set has a value of `{of}` at or below {decimal(proofs['upper'].level)}: the run "
-                      "has an inner box, and every rational point of it meets the constraints."))
+        bound = decimal(proofs["upper"].level)
+        found.append(("upper", f"A point of the set has a value of `{of}` at or below {bound}: the run has an inner box, and "
+                      "every rational point of it meets the constraints."))
     return found
 
 

@@ -2,7 +2,7 @@
 from __future__ import annotations
 
 from collections.abc import Callable, Iterator, Sequence
-from typing import NamedTuple
+from typing import Any, NamedTuple
 
 Ends = tuple[int, ...]  # low and high end of each place in turn, in grid form: see numbers.py
 
@@ -10,7 +10,7 @@ Ends = tuple[int, ...]  # low and high end of each place in turn, in grid form: 
 class Item(NamedTuple):
     """A box, and what may refute all of it; None where nothing does."""
     ends: Ends
-    refuter: object = None
+    refuter: Any = None
 
 
 def meets(item: Ends, cell: Ends) -> bool:
@@ -43,8 +43,7 @@ def halves_of(cell: Ends, place: int, at: int) -> tuple[Ends, Ends]:
     return cell[:place + 1] + (at,) + cell[place + 2:], cell[:place] + (at,) + cell[place + 1:]
 
 
-def regions(root: Ends, items: Sequence[Item], witness_of: Callable[[Ends, object], object | None]
-            ) -> Iterator[tuple[str, Ends, object]]:
+def regions(root: Ends, items: Sequence[Item], witness_of: Callable[[Ends, Any], Any]) -> Iterator[tuple[str, Ends, Any]]:
     """The cells of a box, which meet in faces at most: ("sure", cell, None) where no item lies, ("refuted", cell, witness),
     and ("rest", cell, None)."""
     waiting = [(root, [item for item in items if meets(item.ends, root)])]

@@ -19,7 +19,7 @@ from pathlib import Path
 from typing import TextIO
 
 from . import program
-from .canonical import System, infix, value
+from .canonical import Constraint, System, infix, value
 from .cover import Box, Cover, Node
 from .curvature import at_vertices
 from .numbers import as_float, grid, spelling
@@ -32,7 +32,7 @@ from .widen import widened, width_of
 NEGATED = {"<=": ">", "<": ">=", ">=": "<", ">": "<="}
 MOST_CONSTRAINTS = 64
 SHOWN = {"sure": "inner", "refuted": "removed", "rest": "small"}  # the classes of boxes and pictures
-Witness = dict[str, Fraction]
+Witness = dict[str, Fraction | float]
 
 
 class NotRobust(ValueError):
@@ -45,7 +45,7 @@ class Negation:
     text: str
     gains: list[str]
     parameters: list[str]  # those that stay variables
-    vertices: list[dict[str, Fraction]]
+    vertices: list[Witness]
     divisors: int
 
     @property
@@ -75,7 +75,7 @@ class Vertices:
         for words in product(*(self.ends(name) for name in self.able[i])):
             yield {name: f"({word})" if word[0] in "+-" else word for name, word in zip(self.able[i], words)}
 
-    def exact(self, choice: dict[str, str]) -> dict[str, Fraction]:
+    def exact(self, choice: dict[str, str]) -> Witness:
         return {name: self.source.bounds(name)[word.strip("()") == self.ends(name)[-1]] for name, word in choice.items()}
 
     def rest(self) -> list[str]:
@@ -85,7 +85,7 @@ class Vertices:
         return [name for name in self.for_all if name in needed]
 
 
-def variables_of(c: object) -> set[int]:
+def variables_of(c: Constraint) -> set[int]:
     return {step[1] for step in [*c.left, *c.right] if step[0] == "var"}
 
 
@@ -240,7 +240,7 @@ class Robust(Cover):
         return found
 
     @property
-    def certified(self) -> Fraction | None:
+    def certified(self) -> Fraction | float | None:
         """Which part of what may be sure is sure: sure / (sure + rest); None where that has no volume, or an infinite one."""
         found = self.shares()
         whole = found["sure"] + found["rest"]
@@ -304,12 +304,12 @@ class Classifier:
         return None
 
 
-def inside(pair: tuple[Fraction, Fraction], domain: tuple[Fraction, Fraction]) -> Fraction:
+def inside(pair: tuple[Fraction, Fraction], domain: tuple[Fraction | float, Fraction | float]) -> Fraction | float:
     """The middle of an interval, moved into a domain as it is written."""
     return min(max((pair[0] + pair[1]) / 2, domain[0]), domain[1])
 
 
-def holds(c: object, point: Sequence[Fraction]) -> bool:
+def holds(c: Constraint, point: Sequence[Fraction]) -> bool:
     left, right = value(c.left, point), value(c.right, point)
     if left is None or right is None:
         return False

@@ -41,9 +41,9 @@ def proposals(system: System) -> Iterator[str]:
     domains = dict(zip(system.names, Box("open", system.root).exact))
     for name, power in found.items():
         low, high = domains[name]
-        factor = unit(power)
-        yield (f"{name} is {wide(high - low)} wide, {abs(power)} orders {'more' if power > 0 else 'less'} than most: take {name} in "
-               f"[{wide(low / Fraction(10) ** power)}, {wide(high / Fraction(10) ** power)}] and write {name}*{factor} in its place")
+        first, last = (wide(end / Fraction(10) ** power) for end in (low, high))
+        yield (f"{name} is {wide(high - low)} wide, {abs(power)} orders {'more' if power > 0 else 'less'} than most: take "
+               f"{name} in [{first}, {last}] and write {name}*{unit(power)} in its place")
     for name, (low, high) in domains.items():
         if isinstance(low, float) or isinstance(high, float):
             yield f"{name} has no bounded domain, and so no scale: give it one"

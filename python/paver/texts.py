@@ -76,8 +76,7 @@ class SystemText:
         if words[at].text == "in":
             comma = next(i for i in range(at, len(words)) if words[i].text == ",")
             close = next(i for i in range(comma, len(words)) if words[i].text == "]")
-            self.variables[name] = tuple("".join(token.text for token in words[a:b])
-                                         for a, b in ((at + 2, comma), (comma + 1, close)))
+            self.variables[name] = (text_of(words[at + 2:comma]), text_of(words[comma + 1:close]))
             at = close + 1
         return at + 1 if words[at].text in (",", ";") else at
 
@@ -102,7 +101,9 @@ class SystemText:
 
     def _bound(self, word: str) -> Fraction | float:
         sign, word = (-1 if word.startswith("-") else 1), word.lstrip("+-")
-        return sign * (float("inf") if word == "oo" else self.constants[word] if word in self.constants else Fraction(word))
+        if word == "oo":
+            return sign * float("inf")
+        return sign * (self.constants[word] if word in self.constants else Fraction(word))
 
     def written(self, constraints: Iterable[str], variables: Mapping[str, tuple[str, str] | None] | None = None) -> str:
         """The text with these constraints, and with these variables where they are given."""
@@ -112,6 +113,10 @@ class SystemText:
         between = self.between.strip()
         return "\n".join([f"{self.before}Variables", f"  {', '.join(entries)};", *([between] if between else []),
                           "Constraints", *lines, "end", ""])
+
+
+def text_of(words: list) -> str:
+    return "".join(token.text for token in words)
 
 
 def constants_of(words: list) -> dict[str, Fraction]:

@@ -12,8 +12,9 @@ from dataclasses import dataclass, field
 from time import monotonic
 
 from .canonical import System
-from .cover import Box, Cover
+from .cover import Box
 from .numbers import INFINITE, wide, width
+from .paving import Parts, Paving
 from .ranges import decided
 
 KINDS = ("small", "open")
@@ -37,7 +38,7 @@ def size_of(box: Box) -> int:
     return math.prod(max(1, min(w, INFINITE)) for w in widths)
 
 
-def undecided(paving: Cover, system: System, most: int = MOST, seconds: float = SECONDS) -> Undecided:
+def undecided(paving: Paving | Parts, system: System, most: int = MOST, seconds: float = SECONDS) -> Undecided:
     """Looks at the greatest small and open boxes, until that many were looked at or the time is used up."""
     found = Undecided(sum(paving.counts()[kind] for kind in KINDS))
     until = monotonic() + seconds
@@ -75,6 +76,6 @@ def lines_of(found: Undecided, system: System) -> Iterator[str]:
         yield f"  great: {box!r}, width {wide(box.width)}, by {', '.join(map(str, numbers)) or 'none'}"
 
 
-def report(paving: Cover, system: System) -> None:
+def report(paving: Paving | Parts, system: System) -> None:
     """Prints the lines."""
     print("\n".join(lines_of(undecided(paving, system), system)))

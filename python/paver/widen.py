@@ -92,7 +92,7 @@ def roots_width(system: System, paving: str | None, by: Width | None) -> Width |
 def claim_of_roots(by: Width | None) -> str:
     """What the paving says of roots that are in no cluster."""
     if by is None:
-        return ("The paving is of the equations as they stand: outside the clusters there is no rational root, and of irrational "
-                "ones nothing is said (--widen 1e-9).")
-    return (f"The paving is of the equations widened by {float(Fraction(by)):g}: each real root in the search box at which the other "
-            "constraints hold strictly lies in a cluster.")
+        return ("The paving is of the equations as they stand: outside the clusters there is no rational root, and of "
+                "irrational ones nothing is said (--widen 1e-9).")
+    return (f"The paving is of the equations widened by {float(Fraction(by)):g}: each real root in the search box at which "
+            "the other constraints hold strictly lies in a cluster.")

@@ -12,7 +12,6 @@ import signal
 import subprocess
 import sys
 import tempfile
-import time
 from fractions import Fraction
 from pathlib import Path
 
@@ -118,11 +117,11 @@ def check_near(system, of, known):
     """A gap of 1e-3 in little time, bounds that hold, and two runs that the reference makes alike."""
     text = system.read_text() if isinstance(system, Path) else system
     with Written(text) as path:
-        begun = time.monotonic()
+        begun = sum(os.times()[:4])
         found = paver.least_by_levels(path, of)
-        taken = time.monotonic() - begun
+        taken = sum(os.times()[:4]) - begun
     assert found.ended == WITHIN and found.gap <= Fraction(1, 1000), found
-    assert taken < 5, taken  # under a second on a quiet machine
+    assert taken < 2, taken  # processor seconds; a quarter of one on a quiet machine
     assert known is None or found.lower < known <= found.upper, found
     faults_of_bounds(text, of, found, DRAWS)
     for name, proof in found.proofs.items():
@@ -151,7 +150,7 @@ def check_known_least_values():
         domains, constraints, of, _, known = case
         text, easy = f"Variables {domains}; Constraints {constraints}; end", isinstance(known, (int, Fraction))
         with Written(text) as path:
-            found = paver.least_by_levels(path, of, seconds=0.7 if easy else 0.2, boxes=1000)
+            found = paver.least_by_levels(path, of, seconds=10 if easy else 0.2, boxes=1000)
         if easy:
             assert found.lower < known, (case, found)
             assert found.upper is None or known <= found.upper, (case, found)
@@ -221,7 +220,8 @@ def check_refused_levels():
     with Written("Variables x in [0,1], y in [0,1]; Constraints x >= 0; y >= 0; end") as path:
         for of, options, kind, place in REFUSED:
             raised(kind, lambda of=of, options=options: paver.least_by_levels(path, of, **options), **place)
-        for words, phrase in ((["--of", "x", "--within", "1"], "with --levels alone"), (["--of", "x + q", "--levels"], "      ^"),
+        for words, phrase in ((["--of", "x", "--within", "1"], "with --levels alone"),
+                              (["--of", "x + q", "--levels"], "      ^"),
                               (["--of", "x", "--levels", "--eps", "1"], "isn't taken with --levels"),
                               (["--of", "x", "--levels", "--try", "x"], "as --try x=1,y=0.5"),
                               (["--of", "x", "--levels", "--try", "x=1"], "look at y"),
@@ -259,8 +259,9 @@ def check_interrupted():
     least_there = Fraction(-math.isqrt(5 * 10 ** 40), 10 ** 20)
     with Written(CIRCLE) as path:
         for number in (signal.SIGINT, signal.SIGTERM):
-            child = subprocess.Popen([sys.executable, "-m", "paver", "least", str(path), "--of", "x + 2*y", "--levels",
-                                      "--within", "1e-9", "--try", "x=0,y=-1"], stdout=subprocess.PIPE, stderr=subprocess.PIPE, text=True,
+            words = ["least", path, "--of", "x + 2*y", "--levels", "--within", "1e-9", "--try", "x=0,y=-1"]
+            child = subprocess.Popen([sys.executable, "-m", "paver", *map(str, words)], stdout=subprocess.PIPE,
+                                     stderr=subprocess.PIPE, text=True,
                                      env={**os.environ, "PYTHONPATH": str(Path(paver.__file__).parents[1])})
             child.stderr.readline()  # the first bound is told
             child.send_signal(number)
@@ -341,7 +342,7 @@ def check_widened_ibex():
             path.write_text(file, encoding="latin-1")
             status, out, _ = command("from-ibex", path, "--widen", "1e-6")
         assert status == 0 and out == widened(translate(file).text, "1e-6"), name
-        assert not re.search("[^<>]=", out.split("Constraints")[1].replace("//", "")) or "//" in out.split("Constraints")[1], out
+        assert not re.search("[^<>]=", out.split("Constraints")[1]), out
 
 
 def check_roots_widened():
@@ -626,7 +627,7 @@ def check_scales():
 def check_answers_page():
     """What ANSWERS.md shows of commands is what they print; of a search only what holds of any."""
     text = (example("ring").parents[1] / "docs" / "ANSWERS.md").read_text()
-    shown = re.findall(r"^```\n\$ python3 -m paver (\w+) examples/(\w+)\.mbx (.*)\n([^`]*)^```", text, re.M)
+    shown = re.findall(r"^```\n\$ python3 -m paver (\w+) examples/(\w+)\.mbx ([^\n]*)\n(.*?)^```", text, re.M | re.S)
     assert [name for name, *_ in shown] == ["least", "robust"], shown
     for name, system, words, lines in shown:
         status, out, _ = command(name, example(system), *words.split())
