@@ -287,8 +287,8 @@ def more_commands(commands):
     explained = add("explain", explain_command)
     explained.usage = "%(prog)s [COMMAND] SYSTEM [--groups N [--agree N]] [--line] [OPTIONS]"
     explained.epilog = ("Words after COMMAND are those of the program's command, else of run: what is refused of them is told. "
-                        "--groups N: constraints in each group of a qinter text; --agree N: how many groups have to agree, else "
-                        "all but one; --line: a refused system in one line, for editors. COMMAND is one of "
+                        "--groups N: constraints in each group of a qinter text; --agree N: how many groups have to agree, "
+                        "else all but one; --line: a refused system in one line, for editors. COMMAND is one of "
                         f"{', '.join(COMMANDS)}.")
     explained.add_argument("words", nargs=argparse.REMAINDER)
     parted = add("split", split_command)
@@ -300,8 +300,8 @@ def more_commands(commands):
     gathered = add("gather", gather_command)
     gathered.add_argument("folder")
     gathered.add_argument("--csv", action="store_true")
-    gathered.add_argument("--clusters", action="store_true", help="count the groups of boxes that touch: takes the boxes of all "
-                          "parts at once")
+    gathered.add_argument("--clusters", action="store_true", help="count the groups of boxes that touch: takes the boxes of "
+                          "all parts at once")
     gathered.add_argument("--out", help="a file in place of standard output, which is there whole or not at all")
     run_options(gathered, KEPT_SETTINGS)
     compared(gathered)

@@ -57,7 +57,8 @@ class Forest:
         first, second = self.ends[low], self.ends[high]
         if first is None or second is None:
             return first or second
-        return tuple([(a if a < b else b) if k % 2 == 0 else (a if a > b else b) for k, (a, b) in enumerate(zip(first, second))])
+        pairs = enumerate(zip(first, second))
+        return tuple([(a if a < b else b) if k % 2 == 0 else (a if a > b else b) for k, (a, b) in pairs])
 
     def head(self, leaf: int) -> int:
         """The leaf that stands for a leaf's group."""

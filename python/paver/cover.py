@@ -277,8 +277,8 @@ class Cover:
             file.write("".join(some))
 
     def numpy(self, *kinds: str, exactly: bool = False) -> Any:
-        """The boxes of some classes (of what is kept, where none is named) as a numpy array of shape (boxes, variables, 2): floats
-        rounded outward, or with exactly objects that are Fractions. ImportError without numpy."""
+        """The boxes of some classes (of what is kept, where none is named) as a numpy array of shape (boxes, variables, 2):
+        floats rounded outward, or with exactly objects that are Fractions. ImportError without numpy."""
         from .rows import numpy_of
         return numpy_of(self, kinds_of(kinds) or KEPT, exactly)
 

@@ -32,7 +32,8 @@ def read_summary(line: str, row: int) -> Dict[str, int]:
 
 
 def texts_of_root(root: Root) -> Tuple[str, ...]:
-    """A root box as texts: from pairs of exact values, which are rounded outward, or from texts. ValueError where it is none."""
+    """A root box as texts: from pairs of exact values, which are rounded outward, or from texts. ValueError where it is
+    none."""
     if root and isinstance(root[0], str):
         found = tuple(map(str, root))
         for word in found:

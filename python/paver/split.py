@@ -123,7 +123,8 @@ def split(system: PathName, parts: int, folder: PathName, *, variables: Optional
 class Part:
     """A part of a folder: its system's file and its answer. A part whose own parts stand in a folder of its name has these."""
 
-    def __init__(self, path: Path, answer: Path, settings: Mapping[str, Any], identity: Identity, program: Optional[str]) -> None:
+    def __init__(self, path: Path, answer: Path, settings: Mapping[str, Any], identity: Identity,
+                 program: Optional[str]) -> None:
         self.path, self.answer, self.settings = path, answer, settings
         self.identity, self.program = identity, program
 
@@ -141,8 +142,8 @@ def manifest_of(folder: Path) -> Dict[str, Any]:
         names = sorted(path.name for path in folder.glob("part-*.mbx"))
         if not names:
             raise FileNotFoundError(f"{folder} has no part-NNN.mbx")
-        raise FileNotFoundError(f"{folder} has no {MANIFEST}, which `split` wrote, or it can't be read: nothing tells which parts "
-                                "there were")
+        raise FileNotFoundError(f"{folder} has no {MANIFEST}, which `split` wrote, or it can't be read: nothing tells which "
+                                "parts there were")
     parts = found.get("parts")
     if not isinstance(parts, dict) or not parts:
         raise ValueError(f"{folder / MANIFEST} names no parts")
@@ -177,9 +178,9 @@ def parts_of(folder: PathName, given: Mapping[str, Any], identity: Identity, pro
 
 
 class Gathered(Parts):
-    """The answers to a folder's parts as one. Where they are large, counts, volumes, hull and the widest small box come from one
-    pass that holds one part at a time, and so do CSV rows; what needs the boxes of all parts at once, as clusters and pictures,
-    reads them all and keeps them."""
+    """The answers to a folder's parts as one. Where they are large, counts, volumes, hull and the widest small box come from
+    one pass that holds one part at a time, and so do CSV rows; what needs the boxes of all parts at once, as clusters and
+    pictures, reads them all and keeps them."""
 
     def __init__(self, parts: Sequence[Part], progress: bool = False) -> None:
         self.parts, self.progress = list(parts), progress

@@ -61,7 +61,8 @@ def check_boxes_of_users():
 def check_points_against_boxes():
     """A descent finds the classes that a look at every box finds, on points on faces, inside and outside."""
     source = random.Random(4)
-    for name, settings in (("ring", {"eps": 0.5}), ("torus", {"eps": 1}), ("unbounded", {"depth": 8}), ("tolerance", {"eps": 2})):
+    for name, settings in (("ring", {"eps": 0.5}), ("torus", {"eps": 1}), ("unbounded", {"depth": 8}),
+                           ("tolerance", {"eps": 2})):
         for answer in (paver.run(example(name), **settings), paver.run(example(name), **settings, boxes=20)):
             paving = answer.paving()
             boxes = list(paving.boxes())
@@ -104,7 +105,8 @@ for kinds in ((), ("inner",), ("small", "inner"), ("removed",)):
     assert [tuple(map(tuple, row)) for row in exact] == [box.exact for box in boxes]
     assert all(Fraction(a) <= b for a, b in zip(array[:, :, 0].flat, exact[:, :, 0].flat))
     assert all(Fraction(a) >= b for a, b in zip(array[:, :, 1].flat, exact[:, :, 1].flat))
-assert paver.run("examples/ring.mbx", eps=numpy.float64(0.5), boxes=numpy.int64(9000)).text == paver.run("examples/ring.mbx", eps=0.5).text
+settings = {"eps": numpy.float64(0.5), "boxes": numpy.int64(9000)}
+assert paver.run("examples/ring.mbx", **settings).text == paver.run("examples/ring.mbx", eps=0.5).text
 assert paving.where(numpy.array([1.5, 0.0])) == paving.where((1.5, 0)) != {"outside"}
 """
 FRAMES = """
@@ -128,7 +130,8 @@ assert len(axes.collections) == 2, "one collection a class"
 def python_with(module):
     """A Python that has a module; Skipped where none has."""
     for name in (sys.executable, "/usr/bin/python3"):
-        if shutil.which(name) and subprocess.run([name, "-c", f"import {module}"], capture_output=True, check=False).returncode == 0:
+        words = [name, "-c", f"import {module}"]
+        if shutil.which(name) and subprocess.run(words, capture_output=True, check=False).returncode == 0:
             return name
     raise Skipped(f"no Python here has {module}")
 
@@ -136,8 +139,8 @@ def python_with(module):
 def check_with(module, script):
     """A script by a Python that has a module."""
     environment = {**os.environ, "PYTHONPATH": str(TOP / "python")}
-    done = subprocess.run([python_with(module), "-c", script], cwd=TOP, env=environment, capture_output=True, text=True, timeout=300,
-                          check=False)
+    done = subprocess.run([python_with(module), "-c", script], cwd=TOP, env=environment, capture_output=True, text=True,
+                          timeout=300, check=False)
     assert done.returncode == 0, done.stderr
 
 
@@ -201,8 +204,8 @@ def check_times():
     begun = clock()
     clusters = paving.clusters()
     grouped = clock() - begun
-    print(f"a paving of {len(lines)} nodes: read in {read:.2f} s, its numbers in {passed:.2f} s, a point in {1000 * point:.3f} ms, "
-          f"clusters in {grouped:.1f} s")
+    print(f"a paving of {len(lines)} nodes: read in {read:.2f} s, its numbers in {passed:.2f} s, a point in {1000 * point:.3f} "
+          f"ms, clusters in {grouped:.1f} s")
     assert read < 2 and passed < 8 and point < 0.001 and grouped < 20
     inner = sum(line[0] == "I" for line in lines)
     assert counts["inner"] == inner and sum(volumes.values()) == 1 and len(clusters) == 1 and hull is not None
@@ -211,7 +214,8 @@ def check_times():
 
 
 def checks():
-    named = [check_readme_of_package, check_boxes_of_users, check_points_against_boxes, check_notebooks, check_types, check_times]
+    named = [check_readme_of_package, check_boxes_of_users, check_points_against_boxes, check_notebooks, check_types,
+             check_times]
     found = [(check.__name__[6:].replace("_", " "), check, ()) for check in named]
     return found + [(f"with {module}", check_with, (module, script))
                     for module, script in (("numpy", ARRAYS), ("pandas", FRAMES), ("matplotlib", PLOTS))]
