@@ -41,7 +41,7 @@ class Forest:
     def add(self, tree: Tree, letters: str, scale: Optional[List[int]]) -> None:
         """Adds the nodes of a tree."""
         first = len(self.ends)
-        self.roots.append(first)
+        self.roots += [first + k for k in tree.starts]
         for k, kind in enumerate(tree.kinds):
             ends = None
             if kind in letters:

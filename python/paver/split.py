@@ -185,7 +185,6 @@ class Gathered(Parts):
     def __init__(self, parts: Sequence[Part], progress: bool = False) -> None:
         self.parts, self.progress = list(parts), progress
         self._pavings: Optional[List[Paving]] = None
-        self._kept = {}
         self._pass(sum(part.answer.stat().st_size for part in parts) <= HELD)
 
     def each(self) -> Iterator[Paving]:
@@ -217,7 +216,7 @@ class Gathered(Parts):
             widest = box if widest is None or box is not None and box.width > widest.width else widest
             held += [paving] * hold
         self._counts, self._pavings = counts, held if hold else None
-        self._kept = {"volumes": volumes, ("hull", frozenset(KEPT)): joined(hulls), ("widest", "small"): widest}
+        self._answers = {"volumes": volumes, ("hull", frozenset(KEPT)): joined(hulls), ("widest", "small"): widest}
 
     def counts(self) -> Dict[str, int]:
         """How many nodes of all parts are settled, cut, removed, inner, small and open."""

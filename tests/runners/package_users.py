@@ -1,5 +1,6 @@
 """Checks of the package as its users have it: README's calls with their answers, notebooks, boxes, arrays, types, and times."""
 import doctest
+import io
 import os
 import random
 import re
@@ -14,6 +15,7 @@ from pathlib import Path
 import paver
 from package_checks import Skipped, example, raised
 from paver import notebook, numbers
+from paver.cover import Cover
 
 TOP = Path(__file__).resolve().parents[2]
 TRIANGLE = "Variables x in [0,4], y in [0,4]; Constraints x + y <= 3; end"
@@ -72,6 +74,35 @@ def check_points_against_boxes():
                          for k in range(paving.dims)]
                 wanted = {box.kind for box in boxes if box.holds(point)} or {"outside"}
                 assert paving.where(point) == wanted, (name, point)
+
+
+class Squares(Cover):
+    """A cover with boxes of its own."""
+    names, dims, root = ["x", "y"], 2, ("0:0", "1:2", "0:0", "1:2")
+
+    def boxes(self, *kinds):
+        made = [("inner", ("0:0", "1:0", "0:0", "1:0")), ("small", ("1:0", "1:1", "0:0", "1:0")),
+                ("removed", ("1:1", "1:2", "0:0", "1:2"))]
+        return (paver.Box(kind, words) for kind, words in made if not kinds or kind in kinds)
+
+    def roots(self):
+        return [self]
+
+    def counts(self):
+        return {"settled": 3, "cut": 0, "removed": 1, "inner": 1, "small": 1, "open": 0}
+
+
+def check_covers_of_boxes():
+    """A cover that has boxes and no tree is asked in the same way."""
+    cover, file = Squares(), io.StringIO()
+    assert cover.volumes() == {"inner": 1, "small": 1, "open": 0, "removed": 8}
+    assert cover.hull() == ((0, 2), (0, 1)) and len(cover.clusters()) == 1 and cover.widest().kind == "small"
+    assert cover.where((0.5, 0.5)) == {"inner"} and cover.where((1, 1)) == {"inner", "small"}
+    assert cover.where((9, 9)) == {"outside"}
+    assert [box.kind for box in cover.slice({"x": 1})] == ["inner", "small"]
+    cover.write_csv(file)
+    assert file.getvalue().splitlines()[1:] == ["inner,0.0,1.0,0.0,1.0", "small,1.0,2.0,0.0,1.0"]
+    assert paver.svg(cover).count("z") > 3 and cover._repr_html_().startswith("<div>")
 
 
 def check_notebooks():
@@ -214,8 +245,8 @@ def check_times():
 
 
 def checks():
-    named = [check_readme_of_package, check_boxes_of_users, check_points_against_boxes, check_notebooks, check_types,
-             check_times]
+    named = [check_readme_of_package, check_boxes_of_users, check_points_against_boxes, check_covers_of_boxes,
+             check_notebooks, check_types, check_times]
     found = [(check.__name__[6:].replace("_", " "), check, ()) for check in named]
     return found + [(f"with {module}", check_with, (module, script))
                     for module, script in (("numpy", ARRAYS), ("pandas", FRAMES), ("matplotlib", PLOTS))]
