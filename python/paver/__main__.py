@@ -315,9 +315,9 @@ def more_commands(commands):
     explained = add("explain", explain_command)
     explained.usage = "%(prog)s [COMMAND] SYSTEM [--groups N [--agree N]] [--scale [FILE]] [--line] [OPTIONS]"
     explained.epilog = ("Words after COMMAND are those of the program's command, else of run: what is refused of them is told. "
-                        "--groups N: constraints in each group of a qinter text; --agree N: how many groups have to agree, else "
-                        "all but one; --scale: scales for variables, --scale=FILE writes the text in them; --line: a refused "
-                        f"system in one line, for editors. COMMAND is one of {', '.join(COMMANDS)}.")
+                        "--groups N: constraints in each group of a qinter text; --agree N: how many groups have to agree, "
+                        "else all but one; --scale: scales for variables, --scale=FILE writes the text in them; --line: a "
+                        f"refused system in one line, for editors. COMMAND is one of {', '.join(COMMANDS)}.")
     explained.add_argument("words", nargs=argparse.REMAINDER)
     add_words(add("view", page_command))
     parted = add("split", split_command)
@@ -329,8 +329,8 @@ def more_commands(commands):
     gathered = add("gather", gather_command)
     gathered.add_argument("folder")
     gathered.add_argument("--csv", action="store_true")
-    gathered.add_argument("--clusters", action="store_true", help="count the groups of boxes that touch: takes the boxes of all "
-                          "parts at once")
+    gathered.add_argument("--clusters", action="store_true", help="count the groups of boxes that touch: takes the boxes of "
+                          "all parts at once")
     gathered.add_argument("--out", help="a file in place of standard output, which is there whole or not at all")
     run_options(gathered, KEPT_SETTINGS)
     compared(gathered)

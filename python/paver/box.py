@@ -17,6 +17,8 @@ Pair = Tuple[Exact, Exact]
 
 def exact_number(value: Any) -> Exact:
     """A number of any kind as a Fraction, a float as what it is exactly; infinite floats stay. ValueError where it is none."""
+    if type(value) is Fraction:
+        return value
     if isinstance(value, bool) or not isinstance(value, (abstract.Number, Decimal, str)):
         raise ValueError(f"{value!r} is no number")
     try:
@@ -105,7 +107,7 @@ class Box:
 
     def holds(self, point: Sequence[Number]) -> bool:
         """Whether a point lies in the closed box; ValueError where it has another number of variables."""
-        exact_point = [exact_number(x) for x in point]
+        exact_point = [x if type(x) is Fraction else exact_number(x) for x in point]
         if len(exact_point) != len(self):
             raise ValueError(f"a point of {len(exact_point)} numbers, where the box has {len(self)} variables")
         return all(low <= x <= high for x, (low, high) in zip(exact_point, self.exact))

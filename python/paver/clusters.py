@@ -41,7 +41,7 @@ class Forest:
     def add(self, tree: Tree, letters: str, scale: Optional[List[int]]) -> None:
         """Adds the nodes of a tree."""
         first = len(self.ends)
-        self.roots.append(first)
+        self.roots += [first + k for k in tree.starts]
         for k, kind in enumerate(tree.kinds):
             ends = None
             if kind in letters:
@@ -57,7 +57,8 @@ class Forest:
         first, second = self.ends[low], self.ends[high]
         if first is None or second is None:
             return first or second
-        return tuple([(a if a < b else b) if k % 2 == 0 else (a if a > b else b) for k, (a, b) in enumerate(zip(first, second))])
+        pairs = enumerate(zip(first, second))
+        return tuple([(a if a < b else b) if k % 2 == 0 else (a if a > b else b) for k, (a, b) in pairs])
 
     def head(self, leaf: int) -> int:
         """The leaf that stands for a leaf's group."""

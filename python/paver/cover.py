@@ -11,7 +11,7 @@ from typing import (
 
 from .box import Box, Cluster, Exact, Number, exact_number, hull_of
 from .numbers import INFINITE, as_float, wide
-from .tree import Ends, Tree
+from .tree import Ends, Leaves, Tree
 
 if TYPE_CHECKING:
     from .paving import Paving
@@ -55,13 +55,30 @@ def slabs(box: Ends, to: Ends) -> Iterator[Ends]:
 
 
 class Cover:
-    """The questions. A subclass has counts, roots, dims, names and boxes_known; its answers are kept once they are worked
-    out. A question that needs numbers reads and checks them all first: PavingError names the first line that is wrong."""
+    """The questions. A subclass has counts, roots, dims and names, and a tree, or boxes of its own; its answers are kept once
+    they are worked out. A question that needs numbers reads and checks them all first: PavingError names the first line that is wrong."""
     names: Optional[List[str]]
     dims: Optional[int]
 
-    def __init__(self) -> None:
-        self._kept: Dict[Any, Any] = {}
+    root: Optional[Tuple[str, ...]] = None
+
+    @property
+    def _kept(self) -> Dict[Any, Any]:
+        found: Dict[Any, Any] = self.__dict__.setdefault("_answers", {})
+        return found
+
+    @property
+    def tree(self) -> Tree:
+        """The nodes as flat lists: of a cover that has boxes of its own, these beside each other."""
+        if "tree" not in self._kept:
+            self._kept["tree"] = Leaves([(LETTERS[box.kind], box.words) for box in self.boxes()], self.dims or 0)
+        found: Tree = self._kept["tree"]
+        return found
+
+    def need_root(self) -> None:
+        """ValueError where the search box is not known."""
+        if self.root is None:
+            raise ValueError("this needs the search box: give root= or system=")
 
     def roots(self) -> Sequence[Paving]:
         """The pavings of which this one is made."""
@@ -277,8 +294,8 @@ class Cover:
             file.write("".join(some))
 
     def numpy(self, *kinds: str, exactly: bool = False) -> Any:
-        """The boxes of some classes (of what is kept, where none is named) as a numpy array of shape (boxes, variables, 2): floats
-        rounded outward, or with exactly objects that are Fractions. ImportError without numpy."""
+        """The boxes of some classes (of what is kept, where none is named) as a numpy array of shape (boxes, variables, 2):
+        floats rounded outward, or with exactly objects that are Fractions. ImportError without numpy."""
         from .rows import numpy_of
         return numpy_of(self, kinds_of(kinds) or KEPT, exactly)
 
@@ -326,7 +343,7 @@ def volumes_of(paving: Paving) -> Dict[str, Exact]:
     alone; where an end is infinite each part is measured by itself."""
     paving.need_root()
     tree, dims = paving.tree, paving.dims or 0
-    if tree.table.has_infinite:
+    if tree.table.has_infinite or isinstance(tree, Leaves):
         found: Dict[str, Exact] = dict.fromkeys(KINDS, Fraction(0))
         for box in paving.boxes():
             found[box.kind] += box.volume
@@ -371,7 +388,7 @@ def joined(hulls: Sequence[Pairs]) -> Optional[Pairs]:
 def classes_at(tree: Tree, point: Sequence[float]) -> Set[str]:
     """The classes of the boxes of a tree that hold a point, given by its places among the ends."""
     found: Set[str] = set()
-    places, waiting = range(len(point)), [0]
+    places, waiting = range(len(point)), list(tree.starts)
     while waiting:
         k = waiting.pop()
         box, kind, to = tree.boxes[k], tree.kinds[k], tree.tos[k]

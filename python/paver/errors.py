@@ -38,8 +38,8 @@ class SystemRefused(PaverError):
 
 
 class PavingRefused(PaverError):
-    """Status 4: the paving .name is refused with .cause (by the program, or by the package as it reads a file), at .row (None where the cause has no place): the line of a file,
-    from 1, or the row of a campaign, from 0."""
+    """Status 4: the paving .name is refused with .cause, by the program or by the package as it reads a file, at .row (None
+    where the cause has no place): the line of a file, from 1, or the row of a campaign, from 0."""
     name: str
     cause: str
     row: Optional[int]

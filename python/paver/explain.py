@@ -207,7 +207,8 @@ def own_options(words: Sequence[str]) -> Own:
 def command_of(words: Sequence[str]) -> Tuple[str, List[str]]:
     """The command of the program that is meant, and the words after it: `run`, where none is named before the system."""
     first = words[0] if words else ""
-    named = first in COMMANDS and (first == "sample" or len(words) > 1 and not words[1].startswith("-") or not os.path.exists(first))
+    follows = first == "sample" or len(words) > 1 and not words[1].startswith("-")
+    named = first in COMMANDS and (follows or not os.path.exists(first))
     return (first, list(words[1:])) if named else ("run", list(words))
 
 

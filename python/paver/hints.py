@@ -8,8 +8,8 @@ from .minibex import FUNCTIONS, tokens
 
 RELATIONS = ("=", "<=", ">=", "<", ">")
 WHOLE = {
-    "TooManyVariables": "Fix some variables to numbers, put the expression of one that an equation gives in its place (a function "
-                        "may hold it), or take one value at a time: a paving for each.",
+    "TooManyVariables": "Fix some variables to numbers, put the expression of one that an equation gives in its place (a "
+                        "function may hold it), or take one value at a time: a paving for each.",
     "TooManyConstraints": "Join some: a <= 0 and b <= 0 is max(a, b) <= 0.",
 }
 

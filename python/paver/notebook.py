@@ -42,7 +42,7 @@ def coarse_of(paving: Any, least: Sequence[float]) -> List[Tuple[str, Pair, Pair
     """The same of one paving."""
     tree, found = paving.tree, []
     lows, highs = tree.table.floats(False), tree.table.floats(True)
-    kept, waiting = kept_below(tree), [0]
+    kept, waiting = kept_below(tree), list(tree.starts)
     while waiting:
         k = waiting.pop()
         kind, ends = tree.kinds[k], tree.boxes[k] if tree.kinds[k] in "XO" else tree.tos[k]

@@ -141,7 +141,8 @@ def most(seen: Mapping[str, Optional[str]]) -> int:
 def unknown(command: str, word: str) -> str:
     """The sentence on an option that a command does not take."""
     known = COMMANDS[command]
-    takes = " and ".join([", ".join(f"--{name}" for name in known[:-1])] * (len(known) > 1) + [f"--{name}" for name in known[-1:]])
+    names = [f"--{name}" for name in known]
+    takes = " and ".join([", ".join(names[:-1])] * (len(names) > 1) + names[-1:])
     near = [name for name, options in COMMANDS.items() if word[2:] in options]
     others = f"; it is one of {', '.join(near)}" if near else ""
     return f"`{word}` is no option of {command}{others}: {command} takes {takes or 'none'}."
@@ -164,7 +165,8 @@ def value_fault(name: str, value: Optional[str], joined: bool = False, boxes: in
     if value is None or (value.startswith("--") and not joined):
         return [f"`--{name}` needs a value."]
     if value.startswith("-") and not joined:
-        return [f"`--{name} {value}`: a value that begins with `-` is written `--{name}={value}`.", *value_fault(name, value, True)]
+        return [f"`--{name} {value}`: a value that begins with `-` is written `--{name}={value}`.",
+                *value_fault(name, value, True)]
     if name in RANGES:
         low, high = RANGES[name] if name != "boxes" else (1, boxes)
         if not (value.isdigit() and value.isascii() and len(value) <= 10 and low <= int(value) <= high):

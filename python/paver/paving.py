@@ -32,7 +32,8 @@ def read_summary(line: str, row: int) -> Dict[str, int]:
 
 
 def texts_of_root(root: Root) -> Tuple[str, ...]:
-    """A root box as texts: from pairs of exact values, which are rounded outward, or from texts. ValueError where it is none."""
+    """A root box as texts: from pairs of exact values, which are rounded outward, or from texts. ValueError where it is
+    none."""
     if root and isinstance(root[0], str):
         found = tuple(map(str, root))
         for word in found:
@@ -50,7 +51,6 @@ class Paving(Cover):
     def __init__(self, lines: List[str], version: Optional[int] = None, identity: Optional[str] = None,
                  summary: Optional[Dict[str, int]] = None, root: Optional[Tuple[str, ...]] = None,
                  names: Optional[List[str]] = None) -> None:
-        super().__init__()
         self.lines, self.version, self.identity, self.summary = lines, version, identity, summary
         self.root, self.names = root, names
         self.first_row = 2 if version is None else 3
@@ -155,11 +155,6 @@ class Paving(Cover):
             self._tree = Tree(self.lines, self.version == 2, self.root, self.dims or 0, self.first_row)
         return self._tree
 
-    def need_root(self) -> None:
-        """ValueError where the search box is not known."""
-        if self.root is None:
-            raise ValueError("this needs the search box: give root= or system=")
-
     def check_numbers(self) -> None:
         """Reads every number and compares it with the node's box. PavingError at the first line that is wrong."""
         self.tree  # pylint: disable=pointless-statement
@@ -229,7 +224,6 @@ class Parts(Cover):
     """The pavings of the parts of one search box, asked as one."""
 
     def __init__(self, pavings: Sequence[Paving]) -> None:
-        super().__init__()
         self.pavings = list(pavings)
         if not self.pavings:
             raise ValueError("no paving is given")

@@ -88,8 +88,8 @@ def legend(frame: Frame) -> Iterator[str]:
 def svg(cover: Cover, x: Name = 0, y: Name = 1, at: Optional[Mapping[Name, Number]] = None, project: bool = False,
         title: Optional[str] = None, equal: bool = True, near: bool = False) -> str:
     """The text of a picture: a slice with the values of the dict `at` for the other variables, or the projection on two.
-    What no kept box covers, or in a projection the shadow of none, is removed. Inner boxes lie on top, then small and open ones.
-    With near the axes end where what is kept ends. ValueError where a value of `at` lies outside the search box."""
+    What no kept box covers, or in a projection the shadow of none, is removed. Inner boxes lie on top, then small and open
+    ones. With near the axes end where what is kept ends. ValueError where a value of `at` lies outside the search box."""
     shown = grouped(projection(cover, x, y) if project else rectangles(cover, x, y, at, KEPT))
     return picture_of(cover, (x, y), shown, title, equal, near)
 

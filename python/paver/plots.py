@@ -40,7 +40,8 @@ def rectangles(cover: Cover, x: Name, y: Name, at: Optional[Mapping[Name, Number
         missing = ", ".join(cover.name_of(k) for k in sorted(others ^ set(values)))
         raise ValueError(f"a slice takes two variables and a value (at) for each other one, and no more: look at {missing}; "
                          "a projection takes two variables alone")
-    return ((box.kind, floats[first], floats[second]) for box in cover.slice({k: value for k, value in values.items()}, kinds) for floats in [box.floats])
+    seen = cover.slice({k: value for k, value in values.items()}, kinds)
+    return ((box.kind, floats[first], floats[second]) for box in seen for floats in [box.floats])
 
 
 def projection(cover: Cover, x: Name, y: Name, kinds: Sequence[str] = KEPT) -> Iterator[Shown]:

@@ -123,7 +123,8 @@ def split(system: PathName, parts: int, folder: PathName, *, variables: Optional
 class Part:
     """A part of a folder: its system's file and its answer. A part whose own parts stand in a folder of its name has these."""
 
-    def __init__(self, path: Path, answer: Path, settings: Mapping[str, Any], identity: Identity, program: Optional[str]) -> None:
+    def __init__(self, path: Path, answer: Path, settings: Mapping[str, Any], identity: Identity,
+                 program: Optional[str]) -> None:
         self.path, self.answer, self.settings = path, answer, settings
         self.identity, self.program = identity, program
 
@@ -141,8 +142,8 @@ def manifest_of(folder: Path) -> Dict[str, Any]:
         names = sorted(path.name for path in folder.glob("part-*.mbx"))
         if not names:
             raise FileNotFoundError(f"{folder} has no part-NNN.mbx")
-        raise FileNotFoundError(f"{folder} has no {MANIFEST}, which `split` wrote, or it can't be read: nothing tells which parts "
-                                "there were")
+        raise FileNotFoundError(f"{folder} has no {MANIFEST}, which `split` wrote, or it can't be read: nothing tells which "
+                                "parts there were")
     parts = found.get("parts")
     if not isinstance(parts, dict) or not parts:
         raise ValueError(f"{folder / MANIFEST} names no parts")
@@ -177,14 +178,13 @@ def parts_of(folder: PathName, given: Mapping[str, Any], identity: Identity, pro
 
 
 class Gathered(Parts):
-    """The answers to a folder's parts as one. Where they are large, counts, volumes, hull and the widest small box come from one
-    pass that holds one part at a time, and so do CSV rows; what needs the boxes of all parts at once, as clusters and pictures,
-    reads them all and keeps them."""
+    """The answers to a folder's parts as one. Where they are large, counts, volumes, hull and the widest small box come from
+    one pass that holds one part at a time, and so do CSV rows; what needs the boxes of all parts at once, as clusters and
+    pictures, reads them all and keeps them."""
 
     def __init__(self, parts: Sequence[Part], progress: bool = False) -> None:
         self.parts, self.progress = list(parts), progress
         self._pavings: Optional[List[Paving]] = None
-        self._kept = {}
         self._pass(sum(part.answer.stat().st_size for part in parts) <= HELD)
 
     def each(self) -> Iterator[Paving]:
@@ -216,7 +216,7 @@ class Gathered(Parts):
             widest = box if widest is None or box is not None and box.width > widest.width else widest
             held += [paving] * hold
         self._counts, self._pavings = counts, held if hold else None
-        self._kept = {"volumes": volumes, ("hull", frozenset(KEPT)): joined(hulls), ("widest", "small"): widest}
+        self._answers = {"volumes": volumes, ("hull", frozenset(KEPT)): joined(hulls), ("widest", "small"): widest}
 
     def counts(self) -> Dict[str, int]:
         """How many nodes of all parts are settled, cut, removed, inner, small and open."""

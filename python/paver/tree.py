@@ -117,6 +117,7 @@ class Tree:
     """Of each node, in preorder, its letter in kinds, its box, what it was contracted to (None of removed and open nodes),
     and of a cut node its variable and the number of its high half; its low half is the next node. Only the box of a root
     that is not known is None."""
+    starts: Sequence[int] = (0,)  # the nodes that are below no other
 
     def __init__(self, lines: Sequence[str], second: bool, root: Optional[Sequence[str]], dims: int, first_row: int) -> None:
         self.table = Table(words_of(lines, root or ()))
@@ -175,7 +176,7 @@ class Tree:
 
     def seen(self, places: Dict[int, float]) -> Iterator[int]:
         """The numbers of the nodes, in preorder, whose boxes hold these places of some variables."""
-        waiting, checks = [0], [(2 * k, place) for k, place in places.items()]
+        waiting, checks = list(reversed(self.starts)), [(2 * k, place) for k, place in places.items()]
         while waiting:
             k = waiting.pop()
             box = self.boxes[k]
@@ -184,6 +185,18 @@ class Tree:
             yield k
             if self.kinds[k] == "C":
                 waiting += (self.high[k], k + 1)
+
+
+class Leaves(Tree):
+    """Boxes beside each other, as leaves of no tree: (letter, texts of ends) each."""
+
+    def __init__(self, leaves: Sequence[Tuple[str, Sequence[str]]], dims: int) -> None:
+        self.table = Table({word for _, words in leaves for word in words})
+        self.kinds, self.dims = "".join([letter for letter, _ in leaves]), dims
+        self.boxes = [tuple([self.table.rank[word] for word in words]) for _, words in leaves]
+        self.tos = [ends if letter in "IS" else None for ends, (letter, _) in zip(self.boxes, leaves)]
+        self.high = self.variables = [0] * len(leaves)
+        self.starts = range(len(leaves))
 
 
 def refused(row: int, fault: Exception) -> PavingError:

@@ -40,7 +40,8 @@ def check_identity_at_every_read():
         other = paver.Paving.read(stored, system=example("ring"), identity=good.identity)
         assert other.counts() == paver.Paving.read(stored, system=example("ring"), identity=None).counts() == good.counts()
         raised(paver.PavingRefused, lambda: paver.Paving.read(stored, system=example("ring"), identity="0" * 64))
-        raised(paver.PavingRefused, lambda: paver.Paving.read(stored, system=example("ring"), eps=0.5, depth=40, form="centered"))
+        raised(paver.PavingRefused,
+               lambda: paver.Paving.read(stored, system=example("ring"), eps=0.5, depth=40, form="centered"))
         known = paver.check(example("ring"))
         text = paver.run(example("ring"), eps=1).text
         raised(paver.PavingRefused, lambda: paver.Paving.from_text(text, system=known), cause="no identity")

@@ -1,4 +1,5 @@
-"""Checks of split and gather: nothing that is missing, mixed, stale or damaged goes unnoticed, and large answers are streamed."""
+"""Checks of split and gather: nothing that is missing, mixed, stale or damaged goes unnoticed, and large answers are
+streamed."""
 import importlib
 import io
 import tempfile

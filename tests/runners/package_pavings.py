@@ -2,7 +2,6 @@
 import csv
 import io
 import random
-import time
 import xml.dom.minidom
 from fractions import Fraction
 
@@ -227,32 +226,6 @@ def check_svg(name, words):
 
 # ---- other texts
 
-def check_long_text():
-    """A text of a million lines is read in seconds."""
-    depth = 19
-    lines = []
-
-    def grow(k, low, high):
-        if k == depth:
-            lines.append(f"S {spelling(low)} {spelling(high)} 0:0 1:0")
-            return
-        middle = (low + high) // 2
-        lines.append(f"C 0 {spelling(middle)} {spelling(low)} {spelling(high)} 0:0 1:0")
-        grow(k + 1, low, middle)
-        grow(k + 1, middle, high)
-
-    grow(0, 0, UNIT)
-    count = 1 << depth
-    text = f"settled {len(lines)} cut {count - 1} removed 0 inner 0 small {count} open 0\n" + "\n".join(lines) + "\n"
-    begun = time.process_time()
-    paving = paver.Paving.from_text(text, root=[(0, 1), (0, 1)])
-    read = time.process_time() - begun
-    volumes = paving.volumes()
-    spent = time.process_time() - begun
-    print(f"a text of {len(lines)} lines: read in {read:.1f} s, its volumes in {spent - read:.1f} s")
-    assert volumes["small"] == 1 and read < 20 and spent < 90
-
-
 BAD = [
     ("", 1), ("paving 3\n", 1), ("paving 1", 1), ("paving 1\nidentity 12\n", 2),
     (f"paving 1\n{IDENTITY}\n", 3), (f"paving 1\n{IDENTITY}\nX\nX\n", 4), (f"paving 1\n{IDENTITY}\nQ\n", 3),
@@ -414,6 +387,6 @@ def checks():
             found.append((f"{check.__name__[6:]} of {name}", check, (name, words)))
         if name in TRUTHS:
             found.append((f"known points of {name}", check_truth, (name, words)))
-    more = [check_long_text, check_bad_texts, check_mutated_files, check_open_leaf, check_plots, check_half_lines,
+    more = [check_bad_texts, check_mutated_files, check_open_leaf, check_plots, check_half_lines,
             check_no_outlier]
     return found + [(check.__name__[6:].replace("_", " "), check, ()) for check in more]

@@ -1,5 +1,6 @@
 """Checks of the package as its users have it: README's calls with their answers, notebooks, boxes, arrays, types, and times."""
 import doctest
+import io
 import os
 import random
 import re
@@ -14,6 +15,7 @@ from pathlib import Path
 import paver
 from package_checks import Skipped, example, raised
 from paver import notebook, numbers
+from paver.cover import Cover
 
 TOP = Path(__file__).resolve().parents[2]
 TRIANGLE = "Variables x in [0,4], y in [0,4]; Constraints x + y <= 3; end"
@@ -61,7 +63,8 @@ def check_boxes_of_users():
 def check_points_against_boxes():
     """A descent finds the classes that a look at every box finds, on points on faces, inside and outside."""
     source = random.Random(4)
-    for name, settings in (("ring", {"eps": 0.5}), ("torus", {"eps": 1}), ("unbounded", {"depth": 8}), ("tolerance", {"eps": 2})):
+    for name, settings in (("ring", {"eps": 0.5}), ("torus", {"eps": 1}), ("unbounded", {"depth": 8}),
+                           ("tolerance", {"eps": 2})):
         for answer in (paver.run(example(name), **settings), paver.run(example(name), **settings, boxes=20)):
             paving = answer.paving()
             boxes = list(paving.boxes())
@@ -71,6 +74,35 @@ def check_points_against_boxes():
                          for k in range(paving.dims)]
                 wanted = {box.kind for box in boxes if box.holds(point)} or {"outside"}
                 assert paving.where(point) == wanted, (name, point)
+
+
+class Squares(Cover):
+    """A cover with boxes of its own."""
+    names, dims, root = ["x", "y"], 2, ("0:0", "1:2", "0:0", "1:2")
+
+    def boxes(self, *kinds):
+        made = [("inner", ("0:0", "1:0", "0:0", "1:0")), ("small", ("1:0", "1:1", "0:0", "1:0")),
+                ("removed", ("1:1", "1:2", "0:0", "1:2"))]
+        return (paver.Box(kind, words) for kind, words in made if not kinds or kind in kinds)
+
+    def roots(self):
+        return [self]
+
+    def counts(self):
+        return {"settled": 3, "cut": 0, "removed": 1, "inner": 1, "small": 1, "open": 0}
+
+
+def check_covers_of_boxes():
+    """A cover that has boxes and no tree is asked in the same way."""
+    cover, file = Squares(), io.StringIO()
+    assert cover.volumes() == {"inner": 1, "small": 1, "open": 0, "removed": 8}
+    assert cover.hull() == ((0, 2), (0, 1)) and len(cover.clusters()) == 1 and cover.widest().kind == "small"
+    assert cover.where((0.5, 0.5)) == {"inner"} and cover.where((1, 1)) == {"inner", "small"}
+    assert cover.where((9, 9)) == {"outside"}
+    assert [box.kind for box in cover.slice({"x": 1})] == ["inner", "small"]
+    cover.write_csv(file)
+    assert file.getvalue().splitlines()[1:] == ["inner,0.0,1.0,0.0,1.0", "small,1.0,2.0,0.0,1.0"]
+    assert paver.svg(cover).count("z") > 3 and cover._repr_html_().startswith("<div>")
 
 
 def check_notebooks():
@@ -104,7 +136,8 @@ for kinds in ((), ("inner",), ("small", "inner"), ("removed",)):
     assert [tuple(map(tuple, row)) for row in exact] == [box.exact for box in boxes]
     assert all(Fraction(a) <= b for a, b in zip(array[:, :, 0].flat, exact[:, :, 0].flat))
     assert all(Fraction(a) >= b for a, b in zip(array[:, :, 1].flat, exact[:, :, 1].flat))
-assert paver.run("examples/ring.mbx", eps=numpy.float64(0.5), boxes=numpy.int64(9000)).text == paver.run("examples/ring.mbx", eps=0.5).text
+settings = {"eps": numpy.float64(0.5), "boxes": numpy.int64(9000)}
+assert paver.run("examples/ring.mbx", **settings).text == paver.run("examples/ring.mbx", eps=0.5).text
 assert paving.where(numpy.array([1.5, 0.0])) == paving.where((1.5, 0)) != {"outside"}
 """
 FRAMES = """
@@ -128,7 +161,8 @@ assert len(axes.collections) == 2, "one collection a class"
 def python_with(module):
     """A Python that has a module; Skipped where none has."""
     for name in (sys.executable, "/usr/bin/python3"):
-        if shutil.which(name) and subprocess.run([name, "-c", f"import {module}"], capture_output=True, check=False).returncode == 0:
+        words = [name, "-c", f"import {module}"]
+        if shutil.which(name) and subprocess.run(words, capture_output=True, check=False).returncode == 0:
             return name
     raise Skipped(f"no Python here has {module}")
 
@@ -136,8 +170,8 @@ def python_with(module):
 def check_with(module, script):
     """A script by a Python that has a module."""
     environment = {**os.environ, "PYTHONPATH": str(TOP / "python")}
-    done = subprocess.run([python_with(module), "-c", script], cwd=TOP, env=environment, capture_output=True, text=True, timeout=300,
-                          check=False)
+    done = subprocess.run([python_with(module), "-c", script], cwd=TOP, env=environment, capture_output=True, text=True,
+                          timeout=300, check=False)
     assert done.returncode == 0, done.stderr
 
 
@@ -185,8 +219,8 @@ def ring_text(depth):
 
 
 def check_times():
-    """A quarter of a million nodes: each question takes its part of what README tells, with room for a loaded machine."""
-    text, lines = ring_text(26)
+    """Some 460,000 nodes: each question takes its part of what README tells, with room for a loaded machine."""
+    text, lines = ring_text(28)
     clock = time.process_time
     begun = clock()
     paving = paver.Paving.from_text(text, root=[(0, 1), (0, 1)])
@@ -201,17 +235,18 @@ def check_times():
     begun = clock()
     clusters = paving.clusters()
     grouped = clock() - begun
-    print(f"a paving of {len(lines)} nodes: read in {read:.2f} s, its numbers in {passed:.2f} s, a point in {1000 * point:.3f} ms, "
-          f"clusters in {grouped:.1f} s")
-    assert read < 2 and passed < 8 and point < 0.001 and grouped < 20
+    print(f"a paving of {len(lines)} nodes: read in {read:.2f} s, its numbers in {passed:.2f} s, a point in {1000 * point:.3f} "
+          f"ms, clusters in {grouped:.1f} s")
+    assert read < 4 and passed < 16 and point < 0.001 and grouped < 40
     inner = sum(line[0] == "I" for line in lines)
     assert counts["inner"] == inner and sum(volumes.values()) == 1 and len(clusters) == 1 and hull is not None
-    small = Fraction(sum(line[0] == "S" for line in lines), 1 << 26)
+    small = Fraction(sum(line[0] == "S" for line in lines), 1 << 28)
     assert volumes["small"] == small
 
 
 def checks():
-    named = [check_readme_of_package, check_boxes_of_users, check_points_against_boxes, check_notebooks, check_types, check_times]
+    named = [check_readme_of_package, check_boxes_of_users, check_points_against_boxes, check_covers_of_boxes,
+             check_notebooks, check_types, check_times]
     found = [(check.__name__[6:].replace("_", " "), check, ()) for check in named]
     return found + [(f"with {module}", check_with, (module, script))
                     for module, script in (("numpy", ARRAYS), ("pandas", FRAMES), ("matplotlib", PLOTS))]

@@ -14,8 +14,8 @@ MOST_TURNS = 10000  # of one loop or sum, and of a power
 MOST_ENTRIES = 10000  # of one array
 MOST_STEPS = 50_000  # of working out expressions and turns of loops, in one file
 SQUARE_ROOT = ("is the variable {name} with {name}^2 = its argument: an equation, so no box is inner, and where the root is no "
-               "rational number nothing is promised of it. Widened, as {name}^2 >= e - d; {name}^2 <= e + d, a removed box has no "
-               "real solution in its interior; squared by hand, sqrt(a) <= b is a <= b^2; a >= 0; b >= 0")
+               "rational number nothing is promised of it. Widened, as {name}^2 >= e - d; {name}^2 <= e + d, a removed box has "
+               "no real solution in its interior; squared by hand, sqrt(a) <= b is a <= b^2; a >= 0; b >= 0")
 
 
 class IntervalConstant:
