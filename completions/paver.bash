@@ -16,18 +16,21 @@ _paver() {
     case $before in
         --bisect) mapfile -t COMPREPLY < <(compgen -W "largest round" -- "$word"); return ;;
         --contract) mapfile -t COMPREPLY < <(compgen -W "prop(8) hc4( compose( union( qinter( fix( prop(" -- "$word"); return ;;
-        --eps|--depth|--boxes|--workers|--x|--y|--at|--seed|--count|--of|--rounds) return ;;
+        --form) mapfile -t COMPREPLY < <(compgen -W "plain centered" -- "$word"); return ;;
+        --eps|--depth|--boxes|--limit|--workers|--x|--y|--at|--seed|--count|--of|--rounds) return ;;
         --out|--keep) mapfile -t COMPREPLY < <(compgen -f -- "$word"); return ;;
     esac
     if [[ $word == -* ]]; then
         case $command in
-            run|resume|run-centered) mapfile -t COMPREPLY < <(compgen -W "$settings --boxes --workers --out" -- "$word") ;;
-            merge) mapfile -t COMPREPLY < <(compgen -W "$settings --out" -- "$word") ;;
-            audit|audit-centered) mapfile -t COMPREPLY < <(compgen -W "$settings" -- "$word") ;;
-            svg) mapfile -t COMPREPLY < <(compgen -W "$settings --x --y --at" -- "$word") ;;
+            run|resume) mapfile -t COMPREPLY < <(compgen -W "$settings --form --boxes --limit --workers --out" -- "$word") ;;
+            run-centered) mapfile -t COMPREPLY < <(compgen -W "$settings --boxes --limit --workers --out" -- "$word") ;;
+            merge) mapfile -t COMPREPLY < <(compgen -W "$settings --form --limit --out" -- "$word") ;;
+            audit) mapfile -t COMPREPLY < <(compgen -W "$settings --form --limit" -- "$word") ;;
+            audit-centered) mapfile -t COMPREPLY < <(compgen -W "$settings --limit" -- "$word") ;;
+            svg) mapfile -t COMPREPLY < <(compgen -W "$settings --form --limit --x --y --at" -- "$word") ;;
             sample) mapfile -t COMPREPLY < <(compgen -W "--seed --count" -- "$word") ;;
-            campaign) mapfile -t COMPREPLY < <(compgen -W "$settings --boxes --workers --keep --rounds" -- "$word") ;;
-            least) mapfile -t COMPREPLY < <(compgen -W "$settings --boxes --of" -- "$word") ;;
+            campaign) mapfile -t COMPREPLY < <(compgen -W "$settings --form --boxes --limit --workers --keep --rounds" -- "$word") ;;
+            least) mapfile -t COMPREPLY < <(compgen -W "$settings --boxes --limit --of" -- "$word") ;;
         esac
         return
     fi

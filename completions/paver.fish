@@ -17,6 +17,8 @@ complete -c paver -n "__fish_seen_subcommand_from $settled" -l eps -x -d 'A box 
 complete -c paver -n "__fish_seen_subcommand_from $settled" -l depth -x -d 'Cuts on a way down, 1 to 200'
 complete -c paver -n "__fish_seen_subcommand_from $settled" -l bisect -x -a 'largest round' -d 'Which variable is cut'
 complete -c paver -n "__fish_seen_subcommand_from $settled" -l contract -x -a "'prop(8)'" -d 'The contractor program'
+complete -c paver -n "__fish_seen_subcommand_from $settled" -l limit -x -d 'The most settled nodes of a tree, 100000 to 100000000'
+complete -c paver -n "__fish_seen_subcommand_from run resume merge audit svg campaign" -l form -x -a 'plain centered' -d 'By which forms boxes are tested'
 complete -c paver -n "__fish_seen_subcommand_from run resume run-centered least campaign" -l boxes -x -d 'Settle at most this many nodes'
 complete -c paver -n "__fish_seen_subcommand_from run resume run-centered campaign" -l workers -x -d 'Threads, 1 to 16'
 complete -c paver -n "__fish_seen_subcommand_from run resume merge run-centered" -l out -r -d 'Store the paving in this file'
