@@ -583,7 +583,8 @@ def check_refused():
         paver.run(ring, eps="0.5", out=stored)
         printed.write_text(paver.run(ring, eps="0.5").text)
         broken.write_text(stored.read_text().replace("C 0 0:0", "C 0 1:9", 1))
-        for words, status in (([ring, stored, "--eps", "0.5"], 0), ([ring, stored], 0), ([ring, stored, "--eps", "1"], 2), ([discs, stored, "--eps", "0.5"], 2),
+        for words, status in (([ring, stored, "--eps", "0.5"], 0), ([ring, stored], 0), ([ring, stored, "--eps", "1"], 2),
+                              ([discs, stored, "--eps", "0.5"], 2), ([discs, stored], 2),
                               ([ring, printed, "--eps", "0.5"], 2), ([ring, broken, "--eps", "0.5"], 2),
                               ([ring, printed, "--unchecked"], 0), ([ring, stored, stored, "--eps", "0.5", "--eps", "1"], 2),
                               ([ring, stored, stored, "--eps", "0.5"], 0), ([ring, folder], 2), (["no file"], 2)):
