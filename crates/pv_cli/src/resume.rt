@@ -53,7 +53,8 @@ pub(crate) fn resume<'a, F: Folder, G: Gate + Sync, R: Threads + Wait + Sync>(
         Err(refusal) => return Err(refusal),
     };
     let settled = opening.paving.counts().settled();
-    if settled + effort.boxes > effort.limit.nodes() {
+    let most = effort.limit.nodes();
+    if settled + effort.boxes > most {
         return Err(Refusal::TreeLimit { settled });
     }
     Ok(resumed(rt, alloc, opening, effort, gate)?)
