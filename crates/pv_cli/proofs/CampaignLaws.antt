@@ -5,8 +5,7 @@ use Rattle.std.specs.Borrow.{Bor}
 use Rattle.clap.specs.Words.{Text}
 use Rattle.pv_interval.specs.Bounds.{Bounds}
 use Rattle.pv_tree.specs.Stages.{Rule}
-use Rattle.pv_slope.specs.Methods.{settle_by}
-use Rattle.pv_slope.specs.Methods.{identity_of}
+use Rattle.pv_slope.specs.Methods.{settle_by, identity_of}
 use Rattle.pv_io.specs.Outside.{Rose}
 use Rattle.pv_keep.specs.Keeping.{Kept}
 use Rattle.pv_rounds.specs.Holding.{RefusesHold, IsInterrupted}

@@ -1,6 +1,6 @@
 -- What was read of a folder that was only read before.
 use Rattle.std.proofs.Common.{◌≡◌, inl, inr, ℕ, ◌≤◌, List, [], ◌∷◌, refl, sym, ◌∙◌, subst, arith}
-use Rattle.pv_slope.specs.Methods.{Method}
+use Rattle.pv_slope.specs.Methods.{Method, identity_of}
 use Rattle.pv_interval.specs.Bounds.{Bounds}
 use Rattle.pv_tree.specs.Trees.{Tree, Seen}
 use Rattle.pv_io.specs.Outside.{Content, Rose, IsWhole, IsTooLong, MayBeAbsent}
@@ -8,7 +8,6 @@ use Rattle.pv_cli.specs.Requests.{names_in}
 use Rattle.pv_cli.specs.Systems.{Files, AreOnlyRead, RefusesFetch, search_box}
 use Rattle.pv_cli.specs.Files.{HoldsPaving, HasPaving, HoldsOther, HoldsLong, HasFileFault, RefusesFile, HavePavings, RefusesPavings}
 use Rattle.std.specs.Borrow.{Bor}
-use Rattle.pv_slope.specs.Methods.{identity_of}
 use Rattle.pv_file.specs.Readings.{IsFirstBadLine, IsOneTooMany}
 use Rattle.pv_file.specs.Lengths.{length_limit}
 use Rattle.pv_cli.specs.Reads.{AreRead, AreOver, IsKeyOf, trees_of}

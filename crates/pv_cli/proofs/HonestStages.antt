@@ -2,8 +2,7 @@
 use Rattle.std.proofs.Common.{◌≡◌, List, sym, ◌∙◌, ap, subst}
 use Rattle.pv_interval.specs.Bounds.{Bounds}
 use Rattle.pv_expr.specs.Systems.{Parts}
-use Rattle.pv_slope.specs.Methods.{Method}
-use Rattle.pv_slope.specs.Methods.{settle_by, is_member}
+use Rattle.pv_slope.specs.Methods.{Method, settle_by, is_member}
 use Rattle.pv_tree.specs.Trees.{Tree, leaf}
 use Rattle.pv_tree.specs.Stages.{IsStage, full_of, ClosedStagesAreFull}
 use Rattle.pv_tree.specs.Sets.{Covers, IsSound}

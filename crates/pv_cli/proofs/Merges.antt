@@ -16,10 +16,9 @@ use Rattle.pv_parse.specs.Declarations.{AreAlike, IsMeaning}
 use Rattle.pv_parse.proofs.Outcomes.{one_system_meant}
 use Rattle.pv_ctc.specs.Plans.{plan_of}
 use Rattle.pv_ctc.specs.Texts.{program_text}
-use Rattle.pv_slope.specs.Methods.{Method}
+use Rattle.pv_slope.specs.Methods.{Method, identity_as, identity_of}
 use Rattle.pv_settle.specs.Rules.{SettlerParts}
 use Rattle.pv_settle.specs.Spelling.{bisector_text, settings_text}
-use Rattle.pv_slope.specs.Methods.{identity_as, identity_of}
 use Rattle.pv_slope.specs.declared.form.Form.{Form}
 use Rattle.pv_slope.specs.declared.form.Form.TheVariants.{Plain, Centered}
 use Rattle.pv_tree.specs.Trees.{Tree, outcome_at}

@@ -9,9 +9,7 @@ use Rattle.pv_interval.specs.Bounds.{Bounds, everything}
 use Rattle.pv_expr.specs.Searches.{search_bounds}
 use Rattle.pv_expr.specs.Systems.{Parts}
 use Rattle.pv_parse.proofs.Outcomes.{domains_named}
-use Rattle.pv_slope.specs.Methods.{Method, dims_of}
-use Rattle.pv_slope.specs.Methods.{method_of}
-use Rattle.pv_slope.specs.Methods.{settle_by, is_member}
+use Rattle.pv_slope.specs.Methods.{Method, method_of, dims_of, settle_by, is_member}
 use Rattle.pv_tree.specs.Trees.{Tree, leaf}
 use Rattle.pv_tree.specs.Stages.{IsStage}
 use Rattle.pv_svg.specs.Planes.{Plane, IsPlane, place}

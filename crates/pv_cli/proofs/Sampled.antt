@@ -15,9 +15,7 @@ use Rattle.pv_ctc.specs.Refusals.{refused_at}
 use Rattle.pv_ctc.specs.Symbols.{digits_token, further, token_of, tokens_at}
 use Rattle.pv_tree.specs.Trees.{Tree, leaf}
 use Rattle.pv_tree.specs.Stages.{full_of}
-use Rattle.pv_slope.specs.Methods.{Method}
-use Rattle.pv_slope.specs.Methods.{settle_by}
-use Rattle.pv_slope.specs.Methods.{method_of}
+use Rattle.pv_slope.specs.Methods.{Method, method_of, settle_by}
 use Rattle.pv_slope.specs.declared.form.FormSettler.{FormSettler}
 use Rattle.pv_cli.specs.Systems.{IsFaultOf, IsRuleFor, RefusesSettings, refusal_of, search_box}
 use Rattle.pv_cli.specs.Pavings.{IsPaved, settled_in}

@@ -8,8 +8,7 @@ use Rattle.pv_interval.specs.Points.{Point}
 use Rattle.pv_expr.specs.Terms.{Term}
 use Rattle.pv_expr.specs.Systems.{Parts}
 use Rattle.pv_tree.specs.Trees.{counts_of, settled_of}
-use Rattle.pv_slope.specs.Methods.{Method}
-use Rattle.pv_slope.specs.Methods.{is_member}
+use Rattle.pv_slope.specs.Methods.{Method, is_member}
 use Rattle.pv_parse.specs.Declarations.{IsExpressionMeaning}
 use Rattle.pv_least.specs.Searches.{lower_of, best_of}
 use Rattle.pv_least.specs.Promises.{NoneIsBelow, IsWitness}

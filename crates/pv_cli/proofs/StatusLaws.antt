@@ -7,12 +7,10 @@ use Rattle.std.proofs.lemmas.List.{length-map}
 use Rattle.std.proofs.lemmas.Bool.{false≢true}
 use Rattle.clap.specs.Words.{Row, Text, subcommand_of}
 use Rattle.pv_tree.specs.Trees.{Tree, leaf, opens, first, counts_of}
-use Rattle.pv_slope.specs.Methods.{Method}
-use Rattle.pv_slope.specs.Methods.{identity_of}
+use Rattle.pv_slope.specs.Methods.{Method, identity_of}
 use Rattle.pv_cli.specs.Commands.{paver_app}
-use Rattle.pv_cli.specs.Requests.{names_in, out_of, paving_names, AreSettings, IsEffort, ArePavings, HasBadSetting, bad_eps, bad_depth, bad_bisector, HasBadEffort, bad_form, bad_limit, bad_workers, bad_boxes, HasBadLimit, HasBadBoxes, HasBadBudget, IsCount, IsNodeLimit, IsSearch, limit_value, boxes_text, HasManyPavings, AreCircles, HasBadCircles, bad_seed, bad_count, Command, checks, runs, resumes, merges, audits, draws, samples, seeks, keeps, name_of, HasBadValueFor, HasBadValue, IsAskedBy, IsAsked, Asks, HasBadValueIn, AreRefused}
+use Rattle.pv_cli.specs.Requests.{names_in, out_of, paving_names, AreSettings, IsEffort, ArePavings, HasBadSetting, bad_eps, bad_depth, bad_bisector, HasBadEffort, bad_form, bad_limit, bad_workers, bad_boxes, HasBadLimit, HasBadBoxes, HasBadBudget, IsCount, IsNodeLimit, IsSearch, boxes_text, HasManyPavings, AreCircles, HasBadCircles, bad_seed, bad_count, Command, checks, runs, resumes, merges, audits, draws, samples, seeks, keeps, name_of, HasBadValueFor, HasBadValue, IsAskedBy, IsAsked, Asks, HasBadValueIn, AreRefused}
 use Rattle.pv_cli.specs.Refusals.{status_of}
-use Rattle.pv_slope.specs.Methods.{settle_by}
 use Rattle.pv_cli.specs.Systems.{Files, search_box}
 use Rattle.pv_cli.specs.Files.{RefusesPaving, RefusesPavings}
 use Rattle.pv_cli.specs.Leasts.{least_text}

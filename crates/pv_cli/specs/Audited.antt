@@ -5,8 +5,7 @@ use Rattle.pv_tree.specs.Trees.{Tree}
 use Rattle.pv_tree.specs.declared.outcome.Outcome.{Outcome}
 use Rattle.pv_join.specs.Audits.{IsVerdict}
 use Rattle.pv_join.specs.declared.verdict.Audit.TheVariants.{DiffersAt}
-use Rattle.pv_slope.specs.Methods.{Method}
-use Rattle.pv_slope.specs.Methods.{settle_by}
+use Rattle.pv_slope.specs.Methods.{Method, settle_by}
 use Rattle.pv_cli.specs.Systems.{IsRuleFor, search_box}
 use Rattle.pv_cli.specs.Products.{Product, text, IsHonest}
 use Rattle.pv_cli.specs.Reads.{IsDiffers}

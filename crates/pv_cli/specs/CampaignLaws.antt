@@ -1,9 +1,7 @@
 -- What the statuses say of campaigns, and of what is kept.
 use Rattle.std.specs.Prelude.{◌≡◌, ◌≢◌, ◌⊎◌, ℕ, List, Some, None}
 use Rattle.clap.specs.Words.{Text}
-use Rattle.pv_slope.specs.Methods.{Method}
-use Rattle.pv_slope.specs.Methods.{settle_by}
-use Rattle.pv_slope.specs.Methods.{identity_of}
+use Rattle.pv_slope.specs.Methods.{Method, settle_by, identity_of}
 use Rattle.pv_io.specs.Outside.{Rose}
 use Rattle.pv_rounds.specs.Holding.{IsInterrupted}
 use Rattle.pv_cli.specs.Requests.{Asks, campaign_of}

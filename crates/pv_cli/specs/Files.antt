@@ -1,8 +1,7 @@
 -- What a command reads of paving files, and their join.
 use Rattle.std.specs.Prelude.{◌≡◌, ◌⊎◌, ◌≤◌, ◌++◌, ℕ, Bool, Some, List, [], ◌∷◌}
 use Rattle.pv_interval.specs.Bounds.{Bounds}
-use Rattle.pv_slope.specs.Methods.{Method}
-use Rattle.pv_slope.specs.Methods.{identity_of}
+use Rattle.pv_slope.specs.Methods.{Method, identity_of}
 use Rattle.pv_tree.specs.Trees.{Tree, outcome_at}
 use Rattle.pv_tree.specs.Stages.{Grows}
 use Rattle.pv_tree.specs.declared.outcome.Outcome.{Outcome}

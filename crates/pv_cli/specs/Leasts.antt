@@ -7,8 +7,7 @@ use Rattle.pv_interval.specs.Bounds.{Bounds}
 use Rattle.pv_interval.specs.Points.{Point}
 use Rattle.pv_expr.specs.Terms.{Term}
 use Rattle.pv_tree.specs.Trees.{Tree, counts_of, settled_of}
-use Rattle.pv_slope.specs.Methods.{Method}
-use Rattle.pv_slope.specs.Methods.{settle_by, is_member}
+use Rattle.pv_slope.specs.Methods.{Method, settle_by, is_member}
 use Rattle.pv_grammar.specs.declared.cause.Cause.{Cause}
 use Rattle.pv_parse.specs.Declarations.{IsExpressionMeaning}
 use Rattle.pv_parse.specs.Faults.{IsExpressionFaultOf}

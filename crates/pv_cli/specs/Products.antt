@@ -11,11 +11,9 @@ use Rattle.pv_made.specs.Circles.{sample_text}
 use Rattle.pv_parse.specs.Declarations.{IsMeaning}
 use Rattle.pv_expr.specs.Systems.{Parts}
 use Rattle.pv_expr.specs.Canonical.{canonical_text}
-use Rattle.pv_slope.specs.Methods.{Method}
-use Rattle.pv_slope.specs.Methods.{settle_by, is_member}
-use Rattle.pv_slope.specs.Methods.{identity_of}
+use Rattle.pv_slope.specs.Methods.{Method, settle_by, identity_of, is_member}
 use Rattle.pv_tree.specs.Trees.{Tree, leaf, opens, counts_of, settled_of, IsPaving}
-use Rattle.pv_tree.specs.Stages.{Rule, IsStage, full_of}
+use Rattle.pv_tree.specs.Stages.{IsStage, full_of}
 use Rattle.pv_tree.specs.Sets.{IsSound, Covers}
 use Rattle.pv_tree.specs.declared.outcome.Counts.{Counts}
 use Rattle.pv_join.specs.Audits.{IsFirstDifference, due_at}

@@ -1,12 +1,10 @@
 -- Pavings that were read, as the code holds them.
 use Rattle.std.specs.Prelude.{◌≡◌, ℕ, Bool, Some, List, [], ◌∷◌, map, length}
-use Rattle.pv_slope.specs.Methods.{Method, dims_of}
-use Rattle.pv_slope.specs.Methods.{identity_of}
+use Rattle.pv_slope.specs.Methods.{Method, method_of, dims_of, identity_of}
 use Rattle.pv_interval.specs.Bounds.{Bounds}
 use Rattle.pv_tree.specs.Trees.{Tree, Seen, outcome_at}
 use Rattle.pv_tree.specs.declared.outcome.Outcome.{Outcome}
 use Rattle.pv_file.specs.Lines.{outcome_line}
-use Rattle.pv_slope.specs.Methods.{method_of}
 use Rattle.pv_cli.specs.Systems.{Files, search_box}
 use Rattle.pv_cli.specs.Files.{HasPaving, HasOpening}
 use Rattle.pv_cli.specs.declared.request.Settings.{Settings}

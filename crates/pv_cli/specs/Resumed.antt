@@ -3,9 +3,7 @@ use Rattle.std.specs.Prelude.{◌≡◌, ℕ}
 use Rattle.pv_expr.specs.Systems.{Parts}
 use Rattle.pv_tree.specs.Trees.{Tree, leaf}
 use Rattle.pv_tree.specs.Stages.{IsStage}
-use Rattle.pv_slope.specs.Methods.{Method}
-use Rattle.pv_slope.specs.Methods.{settle_by}
-use Rattle.pv_slope.specs.Methods.{identity_of}
+use Rattle.pv_slope.specs.Methods.{Method, settle_by, identity_of}
 use Rattle.pv_cli.specs.Systems.{IsRuleFor, search_box}
 use Rattle.pv_cli.specs.Pavings.{IsPaved}
 use Rattle.pv_cli.specs.Products.{Product, paved, IsHonest}

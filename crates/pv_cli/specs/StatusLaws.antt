@@ -3,9 +3,7 @@ use Rattle.std.specs.Prelude.{◌≡◌, ◌≢◌, ◌⊎◌, ◌+◌, ◌*◌,
 use Rattle.clap.specs.Words.{Text}
 use Rattle.pv_tree.specs.Trees.{Tree, leaf, opens, counts_of}
 use Rattle.pv_tree.specs.Stages.{IsStage}
-use Rattle.pv_slope.specs.Methods.{Method}
-use Rattle.pv_slope.specs.Methods.{settle_by}
-use Rattle.pv_slope.specs.Methods.{identity_of}
+use Rattle.pv_slope.specs.Methods.{Method, settle_by, identity_of}
 use Rattle.pv_io.specs.Outside.{Rose}
 use Rattle.pv_cli.specs.Requests.{names_in, out_of, Asks, AreRefused}
 use Rattle.pv_cli.specs.Refusals.{status_of, line_of}

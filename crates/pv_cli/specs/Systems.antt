@@ -9,8 +9,7 @@ use Rattle.pv_hc4.specs.Graphs.{sides_named}
 use Rattle.pv_ctc.specs.Contracting.{sides_in}
 use Rattle.pv_ctc.specs.Plans.{plan_of}
 use Rattle.pv_ctc.specs.Refusals.{refused_at, IsSpelling}
-use Rattle.pv_slope.specs.Methods.{Method}
-use Rattle.pv_slope.specs.Methods.{is_member}
+use Rattle.pv_slope.specs.Methods.{Method, is_member}
 use Rattle.pv_interval.specs.Points.{Point}
 use Rattle.pv_parse.specs.Declarations.{IsMeaning}
 use Rattle.pv_parse.specs.Faults.{IsPlaced, IsRefusal, SaysTooLong}

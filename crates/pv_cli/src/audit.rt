@@ -2,9 +2,8 @@
 ghost use Rattle.std.specs.Prelude.{◌≡◌, IfOk, IfErr, IsSome, length};
 ghost use Rattle.pv_tree.specs.Trees.{outcome_at};
 ghost use Rattle.pv_file.specs.Lines.{outcome_line};
-ghost use Rattle.pv_slope.specs.Methods.{dims_of};
+ghost use Rattle.pv_slope.specs.Methods.{method_of, dims_of};
 ghost use Rattle.pv_cli.specs.Systems.{files, AreOnlyRead, search_box};
-ghost use Rattle.pv_slope.specs.Methods.{method_of};
 ghost use Rattle.pv_cli.specs.Audited.{IsFoundHonest, IsFoundOther};
 ghost use Rattle.pv_cli.specs.Products.{ComesOfAudit, RefusesAudit};
 ghost use Rattle.pv_cli.specs.Reads.{IsDiffers};

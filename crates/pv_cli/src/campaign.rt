@@ -1,7 +1,6 @@
 //! `campaign`: a paving that is kept between rounds under a name.
 ghost use Rattle.std.specs.Prelude.{◌≡◌, ◌*◌, IfOk, IfErr, length};
-ghost use Rattle.pv_slope.specs.Methods.{dims_of};
-ghost use Rattle.pv_slope.specs.Methods.{method_of};
+ghost use Rattle.pv_slope.specs.Methods.{method_of, dims_of};
 ghost use Rattle.pv_cli.specs.Systems.{files, AreOnlyRead, search_box};
 ghost use Rattle.pv_cli.specs.Campaigns.{stock, AreOthersStocked, RefusesRounds, RefusesCampaign, campaign_refusal, is_done};
 ghost use Rattle.pv_cli.specs.Products.{ComesOfCampaign, ComesOfRounds, LearnsHeld, report_as, summary_of};

@@ -2,8 +2,7 @@
 ghost use Rattle.std.specs.Prelude.{◌≡◌, ◌≤◌, ◌++◌, ◌∷◌, IfOk, IfErr, OnOk};
 ghost use Rattle.pv_num.specs.Parts.{number_text};
 ghost use Rattle.pv_parse.specs.Declarations.{IsExpressionMeaning};
-ghost use Rattle.pv_slope.specs.Methods.{method_of};
-ghost use Rattle.pv_slope.specs.Methods.{dims_of};
+ghost use Rattle.pv_slope.specs.Methods.{method_of, dims_of};
 ghost use Rattle.pv_least.specs.Objectives.{aim_of};
 ghost use Rattle.pv_cli.specs.Systems.{files, AreOnlyRead, search_box};
 ghost use Rattle.pv_cli.specs.Leasts.{IsLeastBy, RefusesObjective, RefusesLeast, least_text, best_text, numbers_text};

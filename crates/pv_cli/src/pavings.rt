@@ -1,8 +1,6 @@
 //! Paving files of a system, read.
 ghost use Rattle.std.specs.Prelude.{◌≡◌, ◌≤◌, ◌∷◌, ℕ, List, map, length, IfOk, IfErr, OnOk};
-ghost use Rattle.pv_slope.specs.Methods.{identity_of};
-ghost use Rattle.pv_slope.specs.Methods.{method_of};
-ghost use Rattle.pv_slope.specs.Methods.{Method};
+ghost use Rattle.pv_slope.specs.Methods.{Method, method_of, identity_of};
 ghost use Rattle.pv_cli.specs.Requests.{names_in};
 ghost use Rattle.pv_cli.specs.Systems.{files, AreOnlyRead, search_box};
 ghost use Rattle.pv_cli.specs.Files.{HoldsPaving, RefusesFile, RefusesPavings};

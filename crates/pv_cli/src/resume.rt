@@ -1,7 +1,6 @@
 //! `resume`: what a budget settles of the join of paving files.
 ghost use Rattle.std.specs.Prelude.{◌≡◌, ◌+◌, ◌<◌, ◌≤◌, IfOk, IfErr, length};
-ghost use Rattle.pv_slope.specs.Methods.{dims_of};
-ghost use Rattle.pv_slope.specs.Methods.{method_of};
+ghost use Rattle.pv_slope.specs.Methods.{method_of, dims_of};
 ghost use Rattle.pv_cli.specs.Requests.{names_in};
 ghost use Rattle.pv_cli.specs.Systems.{files, AreOnlyRead, search_box};
 ghost use Rattle.pv_cli.specs.Pavings.{settled_in};

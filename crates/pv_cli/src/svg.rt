@@ -1,7 +1,6 @@
 //! `svg`: the picture of a plane of a paving file.
 ghost use Rattle.std.specs.Prelude.{◌≡◌, ◌≢◌, IfOk, IfErr, IsTrue, MatchOption, false, length};
-ghost use Rattle.pv_slope.specs.Methods.{method_of};
-ghost use Rattle.pv_slope.specs.Methods.{dims_of};
+ghost use Rattle.pv_slope.specs.Methods.{method_of, dims_of};
 ghost use Rattle.pv_svg.specs.Pixels.{IsFinite};
 ghost use Rattle.pv_cli.specs.Systems.{files, AreOnlyRead, search_box};
 ghost use Rattle.pv_cli.specs.Views.{IsAxis, HasNoAxis, IsPlaneOf, HasNoPlane, IsSoundFor};

@@ -2,8 +2,7 @@ use Rattle.std.proofs.Common.{List, subst}
 use Rattle.pv_interval.specs.Bounds.{Bounds}
 use Rattle.pv_tree.specs.Trees.{leaf}
 use Rattle.pv_tree.specs.Stages.{IsStage}
-use Rattle.pv_slope.specs.Methods.{method_of}
-use Rattle.pv_slope.specs.Methods.{settle_by}
+use Rattle.pv_slope.specs.Methods.{method_of, settle_by}
 use Rattle.pv_cli.proofs.campaign.learn_held.Goals as goal
 
 pub returns : goal.returns

@@ -2,8 +2,7 @@ use Rattle.std.proofs.Common.{◌≡◌, ◌∙◌, List, subst}
 use Rattle.std.proofs.lemmas.Result.{IfOk-weaker}
 use Rattle.pv_interval.specs.Bounds.{Bounds}
 use Rattle.pv_tree.specs.Trees.{leaf}
-use Rattle.pv_slope.specs.Methods.{method_of}
-use Rattle.pv_slope.specs.Methods.{settle_by}
+use Rattle.pv_slope.specs.Methods.{method_of, settle_by}
 use Rattle.pv_cli.specs.Pavings.{IsPaved}
 use Rattle.pv_cli.specs.Products.{IsHonest, full_by, report_of}
 use Rattle.pv_cli.proofs.Sampled.{is_full, on_ok}

@@ -1,8 +1,7 @@
 use Rattle.std.proofs.Common.{◌≡◌, rules, length, ◌∙◌, ap}
 use Rattle.pv_svg.specs.Rectangles.{picture_of}
 use Rattle.pv_svg.specs.Texts.{picture_text}
-use Rattle.pv_slope.specs.Methods.{method_of}
-use Rattle.pv_slope.specs.Methods.{identity_of}
+use Rattle.pv_slope.specs.Methods.{method_of, identity_of}
 use Rattle.pv_cli.specs.Systems.{files, search_box}
 use Rattle.pv_cli.specs.Files.{HoldsPaving, RefusesFile}
 use Rattle.pv_cli.specs.Products.{text}
