@@ -56,7 +56,8 @@ def slabs(box: Ends, to: Ends) -> Iterator[Ends]:
 
 class Cover:
     """The questions. A subclass has counts, roots, dims and names, and a tree, or boxes of its own; its answers are kept once
-    they are worked out. A question that needs numbers reads and checks them all first: PavingError names the first line that is wrong."""
+    they are worked out. A question that needs numbers reads and checks them all first: PavingError names the first line that
+    is wrong."""
     names: Optional[List[str]]
     dims: Optional[int]
 

@@ -191,7 +191,7 @@ class Robust(Cover):
     """What robust answered. `paving` is that of the negated system, `negation` its text; as a cover it has the sure boxes as
     inner ones, the refuted as removed and the rest as small."""
     names: list[str]
-    root: tuple[str, ...]
+    root: tuple[str, ...] = field()  # which has no value of its own as in Cover
     regions: list[Region]
     negation: Negation
     paving: Paving
@@ -319,8 +319,8 @@ def holds(c: Constraint, point: Sequence[Fraction]) -> bool:
 def robust(system: str | Path, for_all: Iterable[str], *, vertices: bool = True, centered: bool = True,
            widen: str | Fraction | None = None, program_path: str | None = None, **options: object) -> Robust:
     """The values of a system's other variables with which all constraints hold for all values of some, `for_all`, in their
-    domains. Options: eps, depth, bisect, boxes, workers, limit. With vertices a parameter in which a constraint is convex, affine
-    at best, stands at its ends there. NotRobust where a constraint is an equation, a parameter has no bounded domain, or
+    domains. Options: eps, depth, bisect, boxes, workers, limit. With vertices a parameter in which a constraint is convex,
+    affine at best, stands at its ends there. NotRobust where a constraint is an equation, a parameter has no bounded domain, or
     there are too many constraints. Where the budget ends the run, what is said is right as far as it goes."""
     known, names = program.check(system, program=program_path), list(for_all)
     text = Path(system).read_bytes().decode(ENCODING)

@@ -8,9 +8,10 @@ from .numbers import spelling
 
 
 class Call:
-    """A system's text and its settings, as the options spell them."""
+    """A system's text and its settings, as the options spell them, and the limit on a tree's settled nodes."""
 
-    def __init__(self, system, canonical, centered=False, **settings):
+    def __init__(self, system, canonical, centered=False, limit=files.MOST_SETTLED, **settings):
+        self.limit = limit
         self.settler = (CenteredSettler if centered else Settler)(system, **settings)
         depth, bisector = self.settler.depth, self.settler.bisector
         contract = settings.get("contract", "prop(8)")
@@ -23,7 +24,7 @@ class Call:
 
     def read(self, name, data):
         try:
-            return files.read(data, self.settler.root, self.identity)
+            return files.read(data, self.settler.root, self.identity, self.limit)
         except files.Refused as refused:
             raise Stopped(4, f"paving {name}: {refused}") from None
 
@@ -51,14 +52,14 @@ class Call:
     def resume(self, named, budget, out):
         tree = self.opening(named)
         settled = files.settled(tree)
-        if settled + budget > files.MOST_SETTLED:
+        if settled + budget > self.limit:
             raise Stopped(8, f"tree limit: {settled} settled")
         return self.delivered(files.go_on(self.settler, tree, budget), out)
 
     def merge(self, named, out):
         tree = self.opening(named)
         settled = files.settled(tree)
-        if settled > files.MOST_SETTLED:
+        if settled > self.limit:
             raise Stopped(8, f"tree limit: {settled} settled")
         return self.delivered(tree, out)
 

@@ -7,8 +7,7 @@ import re
 from .numbers import NEG_INF, POS_INF, TOP, is_grid, spelling
 from .paver import halves, node_line
 
-MOST_SETTLED = 100_000
-MOST_BYTES = 70_000_000
+MOST_SETTLED = 100_000  # where no limit is given
 MOST_STEPS = 200
 
 
@@ -141,8 +140,8 @@ class Reader:
         raise Refused(f"bad line {self.line}")
 
 
-def read(data, root, identity):
-    if len(data) > MOST_BYTES:
+def read(data, root, identity, limit=MOST_SETTLED):
+    if len(data) > 662 * limit + 3_800_000:
         raise Refused("too long")
     reader = Reader(data)
     version = {"paving 1": 1, "paving 2": 2}.get(reader.next()) or reader.bad()
@@ -159,7 +158,7 @@ def read(data, root, identity):
         if node is None or (node[0] == "C" and steps == MOST_STEPS):
             reader.bad()
         count += node[0] != "O"
-        if count > MOST_SETTLED:
+        if count > limit:
             raise Refused(f"too many nodes at line {reader.line}")
         found.append(node)
         if node[0] == "C":

@@ -5,8 +5,8 @@
 
 A contractor text and an objective have to be refused at the byte that the reference says, or else to answer what the
 reference does. Good words of each command, in any order and with either spelling of an option, have to answer what the
-same call answers in its plain form, and words with one thing wrong end with the usage line. The last line is
-'N passed, M failed'; a call that differs is printed with both answers.
+same call answers in its plain form; words with a limit and a form what the reference does; words with one thing wrong
+end with the usage line. The last line is 'N passed, M failed'; a call that differs is printed with both answers.
 """
 import random
 import sys
@@ -18,6 +18,7 @@ from data.cases import USAGE, system
 from fuzz_reader import Maker
 from paving_files import call
 from reference import least, minibex
+from reference.commands import answer
 from reference.faults import first_expression_fault
 from reference.programs import refused_at
 
@@ -70,19 +71,20 @@ class Programs:
 
 
 SETTINGS = ["eps", "depth", "bisect", "contract"]
-RUN = [*SETTINGS, "workers", "boxes", "out"]
+KEPT = [*SETTINGS, "form", "limit"]
+RUN = [*KEPT, "workers", "boxes", "out"]
 # The least and the most paving files of a command, the options that it wants, and those that it may have.
 COMMANDS = {
     "check": ((0, 0), [], []),
     "run": ((0, 0), [], RUN),
-    "run-centered": ((0, 0), [], RUN),
+    "run-centered": ((0, 0), [], [name for name in RUN if name != "form"]),
     "resume": ((1, 8), [], RUN),
-    "merge": ((1, 8), [], [*SETTINGS, "out"]),
-    "audit": ((1, 1), [], SETTINGS),
-    "audit-centered": ((1, 1), [], SETTINGS),
-    "svg": ((1, 1), ["x", "y"], SETTINGS),
-    "least": ((0, 0), ["of"], [*SETTINGS, "boxes"]),
-    "campaign": ((0, 0), ["keep"], [*SETTINGS, "workers", "boxes", "rounds"]),
+    "merge": ((1, 8), [], [*KEPT, "out"]),
+    "audit": ((1, 1), [], KEPT),
+    "audit-centered": ((1, 1), [], [*SETTINGS, "limit"]),
+    "svg": ((1, 1), ["x", "y"], KEPT),
+    "least": ((0, 0), ["of"], [*SETTINGS, "boxes", "limit"]),
+    "campaign": ((0, 0), ["keep"], [*KEPT, "workers", "boxes", "rounds"]),
 }
 
 
@@ -93,11 +95,14 @@ class Words:
     VALUES = {"eps": ["0.5", "1", "2", "1e0", "0.25", "100"], "depth": ["1", "5", "60", "200", "0000000007"],
               "bisect": ["largest", "round"], "contract": ["prop(8)", "prop(1)", "hc4(0)", "union(hc4(0),hc4(1))"],
               "workers": ["1", "2", "16"], "boxes": ["5000", "20000", "100000"], "out": ["o"], "x": ["x"], "y": ["y"],
+              "limit": ["100000", "100001", "0000250000"], "form": ["plain", "centered"],
               "of": ["x+y", "-x*y", "sqr(x-1)"], "keep": ["k"], "rounds": ["1", "2", "100", "0000000003"]}
     BAD = {"eps": ["", "-1", "+1", "x", "1e", "0x1", "1 ", " 1", ".5", "1e37", "oo", "1/2"],
            "depth": ["0", "201", "-1", "", "1.0", "00000000001", "x", "4294967297"],
            "bisect": ["", "Largest", "rounds", "both"], "workers": ["0", "17", "", "1e0", "-2"],
-           "boxes": ["0", "100001", "", "99999999999", "1_000"], "rounds": ["0", "101", "", "-1", "+1", "1.0"]}
+           "boxes": ["0", "100001", "", "99999999999", "1_000"], "form": ["", "Plain", "both", "centred"],
+           "limit": ["0", "99999", "100000001", "", "99999999999", "1e5", "-1", "100_000"],
+           "rounds": ["0", "101", "", "-1", "+1", "1.0"]}
 
     def __init__(self, source):
         self.source = source
@@ -109,7 +114,10 @@ class Words:
 
     def options(self, wanted, others):
         chosen = self.source.sample(sorted(others), self.source.randrange(min(5, len(others) + 1)))
-        return {name: self.source.choice(self.VALUES[name]) for name in [*wanted, *chosen]}
+        found = {name: self.source.choice(self.VALUES[name]) for name in [*wanted, *chosen]}
+        if "limit" in found and "boxes" in found and self.source.random() < 0.5:
+            found["boxes"] = found["limit"]  # the greatest budget follows the limit
+        return found
 
     def positional(self, pavings):
         return [["s"], *([self.source.choice("pq")] for _ in range(self.source.randint(pavings[0], min(3, pavings[1]))))]
@@ -144,7 +152,10 @@ class Words:
         if kind == 0 and judged:
             name = self.source.choice(judged)
             options.pop(name, None)
-            wrong = [f"--{name}={self.source.choice(self.BAD[name])}"]
+            value = self.source.choice(self.BAD[name])
+            if name == "boxes" and "limit" in options:
+                value = str(int(options["limit"]) + 1)
+            wrong = [f"--{name}={value}"]
             return [command, *self.shuffled([*self.groups(options), wrong], places)]
         if kind in (0, 1) and known:
             name = self.source.choice(known)
@@ -223,6 +234,24 @@ class Calls(Folder):
         self.is_as(wanted, ["least", "s", "--boxes=1", "--eps=4", f"--of={text}"])
 
 
+    def limited(self, source):
+        """Words with a limit and a form, beside the reference's answer."""
+        limit, centered = source.choice([100_000, 100_001, 100_003, 100_009, 250_000]), source.random() < 0.5
+        said = known(eps=Fraction(1), centered=centered, limit=limit)
+        paving = source.choice("lc")
+        named = [(paving, (self.path / paving).read_bytes())]
+        boxes = source.choice([5, limit - 3, limit - 1, limit])
+        words = [f"--limit={limit}", f"--form={'centered' if centered else 'plain'}", "--eps=1"]
+        budget = [f"--boxes={boxes}", "--workers=1"]
+        works = {"run": (lambda: said.run(boxes, None), budget, []),
+                 "resume": (lambda: said.resume(named, boxes, None), budget, [paving]),
+                 "merge": (lambda: said.merge(named, None), [], [paving]),
+                 "audit": (lambda: said.audit(*named[0]), [], [paving])}
+        command = source.choice(sorted(works))
+        work, more, places = works[command]
+        self.is_as(answer(work)[:3], [command, *source.sample(words + more, len(words + more)), "s", *places])
+
+
 def objectives(source, count):
     """Texts of expressions over two variables, and what is left of them when a piece is exchanged."""
     maker = Maker(source)
@@ -245,6 +274,10 @@ def main():
             calls.program(text)
         for text in objectives(source, count // 4):
             calls.objective(text)
+        for paving, centered in (("l", False), ("c", True)):
+            calls.put(paving, known(eps=Fraction(1), centered=centered).run(3, "o")[3])
+        for _ in range(count // 6):
+            calls.limited(source)
         for _ in range(count // 4):
             made, plain = words.good()
             calls.is_as(calls.answer(plain), made)

@@ -16,11 +16,13 @@ from package_checks import COMMANDS, Skipped
 
 TOP = Path(__file__).resolve().parents[2]
 SETTINGS = ["eps", "depth", "bisect", "contract"]
-RUN_OPTIONS = [*SETTINGS, "boxes", "workers", "out"]
-SVG_OPTIONS = [*SETTINGS, "x", "y", "at"]
+CENTERED_OPTIONS = [*SETTINGS, "boxes", "limit", "workers", "out"]
+RUN_OPTIONS = [*CENTERED_OPTIONS, "form"]
+AUDIT_OPTIONS = [*SETTINGS, "form", "limit"]
+SVG_OPTIONS = [*AUDIT_OPTIONS, "x", "y", "at"]
 SAMPLE_OPTIONS = ["seed", "count"]
-LEAST_OPTIONS = [*SETTINGS, "boxes", "of"]
-CAMPAIGN_OPTIONS = [*SETTINGS, "boxes", "workers", "keep", "rounds"]
+LEAST_OPTIONS = [*SETTINGS, "boxes", "limit", "of"]
+CAMPAIGN_OPTIONS = [*AUDIT_OPTIONS, "boxes", "workers", "keep", "rounds"]
 OPTIONS = [*RUN_OPTIONS, "x", "y", "at", *SAMPLE_OPTIONS, "of", "keep", "rounds"]
 STATUSES = [str(status) for status in range(12)]
 LINES = ["usage: paver COMMAND SYSTEM [OPTIONS] [PAVING..]", "contract: refused at byte B", "objective: byte B: CAUSE",
@@ -69,13 +71,16 @@ def check_completions():
     assert completed("paver", "") == COMMANDS
     assert completed("paver", "re") == ["resume"]
     assert sorted(completed("paver", "run", "--")) == sorted(f"--{name}" for name in RUN_OPTIONS)
-    assert completed("paver", "run-centered", "--") == completed("paver", "run", "--")
-    assert completed("paver", "audit-centered", "--") == completed("paver", "audit", "--")
+    assert sorted(completed("paver", "run-centered", "--")) == sorted(f"--{name}" for name in CENTERED_OPTIONS)
+    assert completed("paver", "resume", "--") == completed("paver", "run", "--")
+    assert sorted(completed("paver", "audit-centered", "--")) == sorted(f"--{name}" for name in [*SETTINGS, "limit"])
+    assert sorted(completed("paver", "merge", "--")) == sorted(f"--{name}" for name in [*AUDIT_OPTIONS, "out"])
     assert sorted(completed("paver", "svg", "--")) == sorted(f"--{name}" for name in SVG_OPTIONS)
     assert sorted(completed("paver", "sample", "--")) == sorted(f"--{name}" for name in SAMPLE_OPTIONS)
     assert sorted(completed("paver", "least", "--")) == sorted(f"--{name}" for name in LEAST_OPTIONS)
     assert sorted(completed("paver", "campaign", "--")) == sorted(f"--{name}" for name in CAMPAIGN_OPTIONS)
-    assert sorted(completed("paver", "audit", "--")) == ["--bisect", "--contract", "--depth", "--eps"]
+    assert sorted(completed("paver", "audit", "--")) == sorted(f"--{name}" for name in AUDIT_OPTIONS)
+    assert completed("paver", "run", "s", "--form", "") == ["plain", "centered"]
     assert "--boxes" not in completed("paver", "merge", "s", "--")
     assert completed("paver", "run", "s", "--bisect", "") == ["largest", "round"]
     assert completed("paver", "run", "s", "--bisect", "=", "l") == ["largest"]
@@ -104,10 +109,10 @@ def check_fish():
     needs_tool("fish")
     assert sorted(fish_offers("paver ")) == sorted(COMMANDS)
     assert sorted(fish_offers("paver run s --")) == sorted(f"--{name}" for name in RUN_OPTIONS)
-    assert sorted(fish_offers("paver run-centered s --")) == sorted(f"--{name}" for name in RUN_OPTIONS)
+    assert sorted(fish_offers("paver run-centered s --")) == sorted(f"--{name}" for name in CENTERED_OPTIONS)
     assert sorted(fish_offers("paver svg s --")) == sorted(f"--{name}" for name in SVG_OPTIONS)
     assert sorted(fish_offers("paver least s --")) == sorted(f"--{name}" for name in LEAST_OPTIONS)
-    assert sorted(fish_offers("paver audit s --")) == ["--bisect", "--contract", "--depth", "--eps"]
+    assert sorted(fish_offers("paver audit s --")) == sorted(f"--{name}" for name in AUDIT_OPTIONS)
     assert sorted(fish_offers("paver sample --")) == sorted(f"--{name}" for name in SAMPLE_OPTIONS)
     assert sorted(fish_offers("paver campaign s --")) == sorted(f"--{name}" for name in CAMPAIGN_OPTIONS)
     assert fish_offers("paver run s --bisect r") == ["round"]

@@ -108,7 +108,8 @@ def check_table_of_options():
     """The package's table of options is the program's: each is taken where the table has it, and refused where it has not. What
     an older program lacks is left aside."""
     values = {"eps": "1", "depth": "1", "bisect": "round", "contract": "prop(1)", "boxes": "1", "workers": "1", "out": "none",
-              "x": "x", "y": "y", "at": "1", "seed": "1", "count": "1", "of": "x", "keep": "none", "rounds": "1"}
+              "x": "x", "y": "y", "at": "1", "seed": "1", "count": "1", "of": "x", "keep": "none", "rounds": "1",
+              "limit": "100000", "form": "centered"}
     for name, known in options.COMMANDS.items():
         files = ["/no such system", "none"][:len(options.FILES.get(name, "SYSTEM").split())]
         needed = {option: values[option] for option in options.REQUIRED.get(name, ())}

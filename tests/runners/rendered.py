@@ -96,8 +96,8 @@ class Plane:
 class Read:
     """A stored paving with the exact search box."""
 
-    def __init__(self, path, system):
-        self.paving = package.Paving.read(path, system=system)
+    def __init__(self, path, system, settings):
+        self.paving = package.Paving.read(path, system=system, **settings)
         ends = [package.cover.exact(text) for text in self.paving.root]
         self.root_exact = list(zip(ends[::2], ends[1::2]))
         self.inner, self.small = self.paving.inner, self.paving.small
@@ -112,7 +112,8 @@ def compare(name, words, axes, at, folder):
     png = run("rsvg-convert", folder.path, "drawn.svg").stdout
     rows, chance = pixels_of(png), random.Random(1)
     known = package.check(system, program=folder.paver)
-    plane = Plane(Read(stored, known), list(known.names), axes, at)
+    given = {word[2:]: value for word, value in zip(settings[::2], settings[1::2])}
+    plane = Plane(Read(stored, known, given), list(known.names), axes, at)
     seen = {kind: 0 for kind in FILL}
     for _ in range(PIXELS):
         column, row = chance.randrange(1, 999), chance.randrange(1, 999)

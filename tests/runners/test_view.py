@@ -496,7 +496,7 @@ def check_pixels(bench):
 def check_big(bench):
     """A page of a million nodes opens within the time and pans at the rate, on two processors."""
     text = canonical([-2, 2, -2, 2])
-    paving = paver.Paving.from_text(grid_text(19, 2), system=paver.System.from_text(text))
+    paving = paver.Paving.from_text(grid_text(19, 2), system=paver.System.from_text(text), identity=None)
     assert len(paving.lines) >= 1_000_000
     page = bench.folder / "big.html"
     page_of_text(text, [paving]).save(page)
@@ -545,7 +545,7 @@ def check_size():
             faults.append(f"{name}: {len(html) - data} bytes and {data / len(paving.lines):.1f} a node")
     for seed in range(3):
         system = paver.System.from_text(canonical([-2, 2, -2, 2]))
-        paving = paver.Paving.from_text(made_text(seed, [-2, 2, -2, 2], 12, contract=1.0), system=system)
+        paving = paver.Paving.from_text(made_text(seed, [-2, 2, -2, 2], 12, contract=1.0), system=system, identity=None)
         if len(packed(paving)[0]) > BYTES_A_NODE * len(paving.lines):
             faults.append(f"made {seed}: {len(packed(paving)[0]) / len(paving.lines):.1f} bytes a node")
     return faults
@@ -583,7 +583,8 @@ def check_refused():
         paver.run(ring, eps="0.5", out=stored)
         printed.write_text(paver.run(ring, eps="0.5").text)
         broken.write_text(stored.read_text().replace("C 0 0:0", "C 0 1:9", 1))
-        for words, status in (([ring, stored, "--eps", "0.5"], 0), ([ring, stored], 2), ([discs, stored, "--eps", "0.5"], 2),
+        for words, status in (([ring, stored, "--eps", "0.5"], 0), ([ring, stored], 0), ([ring, stored, "--eps", "1"], 2),
+                              ([discs, stored, "--eps", "0.5"], 2), ([discs, stored], 2),
                               ([ring, printed, "--eps", "0.5"], 2), ([ring, broken, "--eps", "0.5"], 2),
                               ([ring, printed, "--unchecked"], 0), ([ring, stored, stored, "--eps", "0.5", "--eps", "1"], 2),
                               ([ring, stored, stored, "--eps", "0.5"], 0), ([ring, folder], 2), (["no file"], 2)):

@@ -124,7 +124,7 @@ class Made:
     def __init__(self, seed, dims, depth, folder, **how):
         ends = [-2, 2] * dims
         system = paver.System.from_text(canonical(ends))
-        self.paving = paver.Paving.from_text(made_text(seed, ends, depth, **how), system=system)
+        self.paving = paver.Paving.from_text(made_text(seed, ends, depth, **how), system=system, identity=None)
         self.page = folder / f"made-{seed}-{dims}.html"
         page_of_text(system.text, [self.paving], "made").save(self.page)
 
