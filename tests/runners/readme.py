@@ -62,7 +62,7 @@ def check_commands_in_text(count: Count, folder: Path) -> None:
     page = re.search(r"`(python3 -m paver view [^`]*)`", TEXT)
     assert page is not None
     done = shell(folder, page.group(1))
-    count.compare(done.returncode == 0 and (folder / "ring.html").read_text().startswith("<!doctype html>"),
+    count.compare(done.returncode == 0 and (folder / "ring.html").read_text()[:15].lower() == "<!doctype html>",
                   "view", done.stderr[:500], "")
     export = re.search(r"`python3 -m paver export torus.db > FILE`", TEXT)
     assert export is not None
