@@ -58,7 +58,8 @@ def check_commands_in_text(count: Count, folder: Path) -> None:
     """The commands that stand between the lines, too: the sample's digest, and the page for a browser."""
     digest = re.search(r"`\./paver sample --seed 1 --count 2` ends with `(file [0-9a-f]{64})`", TEXT)
     assert digest is not None
-    count.compare(shell(folder, "./paver sample --seed 1 --count 2").stdout.splitlines()[-1] == digest.group(1), "sample", "", "")
+    last = shell(folder, "./paver sample --seed 1 --count 2").stdout.splitlines()[-1]
+    count.compare(last == digest.group(1), "sample", last, digest.group(1))
     page = re.search(r"`(python3 -m paver view [^`]*)`", TEXT)
     assert page is not None
     done = shell(folder, page.group(1))
@@ -89,7 +90,8 @@ def check_examples_and_sizes(count: Count, folder: Path) -> None:
     shown = re.search(r"^```\n(Variables\n.*?)^```", TEXT, re.M | re.S)
     assert shown is not None
     text = (TOP / "examples" / "ring.mbx").read_text()
-    count.compare("".join(line for line in text.splitlines(True) if not line.startswith("//")) == shown.group(1), "ring.mbx", "", "")
+    bare = "".join(line for line in text.splitlines(True) if not line.startswith("//"))
+    count.compare(bare == shown.group(1), "ring.mbx", shown.group(1), bare)
     rows, name = ROW.findall(TEXT), ""
     count.compare(len(rows) >= 6, "rows of the table of sizes", len(rows), 6)
     for of, eps, settled, megabytes in rows:
@@ -122,7 +124,7 @@ def main() -> int:
         for check in (check_commands, check_commands_in_text, check_head, check_examples_and_sizes, check_form):
             if check is check_commands_in_text and word() and is_chosen("commands in text", word()):
                 check_commands(Count(), folder)
-            if is_chosen(check.__name__, word()):
+            if is_chosen(check.__name__.replace("_", " "), word()):
                 check(count, folder)
     return count.end()
 

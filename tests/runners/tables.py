@@ -76,7 +76,8 @@ def check_values(count: Count, calls: Calls) -> None:
                 continue
             most = options.MOST_BOXES if name == "boxes" else high
             for value, wanted in ((low, True), (most, True), (low - 1, False), (most + 1, False)):
-                count.compare(calls.takes(command, {name: str(value)}) == wanted, f"{command} --{name}={value}", not wanted, wanted)
+                taken = calls.takes(command, {name: str(value)})
+                count.compare(taken == wanted, f"{command} --{name}={value}", taken, wanted)
         for name, choices in options.CHOICES.items():
             if name in names:
                 for value in choices:
@@ -85,9 +86,11 @@ def check_values(count: Count, calls: Calls) -> None:
     for name, (low, high) in options.RANGES.items():
         if name in ("seed", "count"):
             for value, wanted in ((low, True), (low - 1, False), (high + 1, False)):
-                count.compare(calls.takes("sample", {name: str(value)}) == wanted, f"sample --{name}={value}", not wanted, wanted)
+                taken = calls.takes("sample", {name: str(value)})
+                count.compare(taken == wanted, f"sample --{name}={value}", taken, wanted)
     limits = {"limit": "200000", "boxes": "200000"}
-    count.compare(calls.takes("run", limits) and not calls.takes("run", limits | {"boxes": "200001"}), "boxes and limit", "", "")
+    given = calls.takes("run", limits), calls.takes("run", limits | {"boxes": "200001"})
+    count.compare(given == (True, False), "boxes and limit", given, (True, False))
 
 
 def check_defaults(count: Count, calls: Calls) -> None:
@@ -102,7 +105,8 @@ def check_defaults(count: Count, calls: Calls) -> None:
         count.compare(row is not None and row.group(1) == value, f"README's default of {name}", row and row.group(1), value)
         start = re.search(rf'^\.B[IR] --{name} "', MANUAL, re.M)
         told = re.search(r"default\s+(?:\.BR )?([\w().]*[\w)])", MANUAL[start.start():] if start else "")
-        count.compare(told is not None and told.group(1) == value, f"the manual's default of {name}", told and told.group(1), value)
+        given = told and told.group(1)
+        count.compare(given == value, f"the manual's default of {name}", given, value)
 
 
 def named(cell: str) -> set[str]:
@@ -203,14 +207,16 @@ def check_version(count: Count, _calls: Calls) -> None:
             "pyproject": re.search(r'^version = "([0-9.]+)"$', (TOP / "python" / "pyproject.toml").read_text(), re.M),
             "CHANGELOG": re.search(r"^## ([0-9.]+) ", (TOP / "CHANGELOG.md").read_text(), re.M)}
     for place, found in told.items():
-        count.compare(found is not None and found.group(1) == VERSION, f"the version in {place}", found and found.group(1), VERSION)
+        given = found and found.group(1)
+        count.compare(given == VERSION, f"the version in {place}", given, VERSION)
 
 
 def check_dist(count: Count, calls: Calls) -> None:
     """`make dist` packs the same bytes twice, with digests that are right."""
     digests = []
     for _ in range(2):
-        done = subprocess.run([str(TOP / "build" / "dist.sh"), program()], capture_output=True, text=True, timeout=120, check=False)
+        done = subprocess.run([str(TOP / "build" / "dist.sh"), program()], capture_output=True, text=True, timeout=120,
+                              check=False)
         digests.append(done.stdout)
         count.compare(done.returncode == 0, "dist", done.stderr[-500:], 0)
     count.compare(digests[0] == digests[1] != "", "two archives", digests, "alike")
@@ -223,14 +229,15 @@ def check_dist(count: Count, calls: Calls) -> None:
     there = {str(path.relative_to(packed)) for path in packed.rglob("*") if path.is_file()} - {"SHA256SUMS"}
     count.compare(done.returncode == 0 and listed == there, "digests", done.stdout[:500], sorted(listed ^ there))
     done = run(str(packed / "bin" / "paver"), packed, "sample", "--seed", "1", "--count", "2")
-    count.compare(done.stdout.splitlines()[-1].decode() in README, "the packed program", done.stdout[-100:], "the sample's digest")
+    last = done.stdout.splitlines()[-1].decode()
+    count.compare(last in README, "the packed program", last, "the sample's digest")
 
 
 def main() -> int:
     count = Count()
     for check in (check_program, check_values, check_defaults, check_readme, check_manual, check_completions,
                   check_lists_of_tests, check_version, check_dist):
-        if is_chosen(check.__name__, word()):
+        if is_chosen(check.__name__.replace("_", " "), word()):
             with tempfile.TemporaryDirectory() as made:
                 check(count, Calls(Path(made)))
     return count.end()
