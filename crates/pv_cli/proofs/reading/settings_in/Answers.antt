@@ -1,5 +1,6 @@
-use Rattle.std.proofs.Common.{ℕ, List, sym, ◌∙◌, subst}
-use Rattle.pv_cli.specs.Requests.{IsCount, IsWidth, bad_eps, bad_depth, bad_bisector}
+use Rattle.std.proofs.Common.{ℕ, List, sym, ◌∙◌, ap, subst, codes}
+use Rattle.pv_cli.specs.Requests.{IsCount, IsWidth, value_of, bad_eps, bad_depth, bad_bisector, bad_form}
+use Rattle.pv_cli.specs.Found.{rows_in}
 use Rattle.pv_cli.proofs.reading.settings_in.Goals as goal
 
 pub returns-in_err-eps : goal.returns-in_err-eps
@@ -13,3 +14,8 @@ returns-in_err-depth c =
 pub returns-in_err-bisector : goal.returns-in_err-bisector
 returns-in_err-bisector c =
     rw c.from_residual-in_err-bisector.ensures (bad_bisector (λ b h. c.in_err-bisector.ensures b (c.text_in-3.ensures ∙ h)))
+
+pub returns-in_err-form : goal.returns-in_err-form
+returns-in_err-form c =
+    rw c.from_residual-in_err-form.ensures (bad_form (λ f h. c.in_err-form.ensures f
+    (c.text_in-4.ensures ∙ ap (λ (usual : List ℕ). value_of (codes "form") usual (rows_in c.args.found.now)) c.name_of_form.ensures ∙ h)))

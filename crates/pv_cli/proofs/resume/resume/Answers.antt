@@ -10,8 +10,8 @@ pub returns-in-Err-clause-refused : goal.returns-in-Err-clause-refused
 returns-in-Err-clause-refused g c =
     opening_refused _ _ c.args.system.now (names_in c.args.names.now) c.args.settings.now c.args.effort.now.limit c.args.effort.now.boxes c.in-Err.refusal c.in-Err.ensures.refused
 
-pub returns-then-settled-effort-nodes-clause-refused : goal.returns-then-settled-effort-nodes-clause-refused
-returns-then-settled-effort-nodes-clause-refused g c =
+pub returns-then-settled-effort-clause-refused : goal.returns-then-settled-effort-clause-refused
+returns-then-settled-effort-clause-refused g c =
     let o = c.in-Ok.ensures.opened in
     record {
       rule = method_of c.in-Ok.opening.settler;
