@@ -16,6 +16,7 @@ import tempfile
 from pathlib import Path
 
 from running import TOP, Count, is_chosen, program, run, word
+import package_around
 
 TEXT = (TOP / "README.md").read_text()
 MOST_LINES = 200
@@ -103,6 +104,16 @@ def check_examples_and_sizes(count: Count, folder: Path) -> None:
         count.compare(given == wanted, f"{name} with eps {eps}", given, wanted)
 
 
+def check_links(count: Count, _folder: Path) -> None:
+    """The links of the documents beside README; those of README and of docs/ are met by package_around.py."""
+    for document in (TOP / "CONTRIBUTING.md", TOP / "CHANGELOG.md"):
+        for link in re.findall(r"\]\((?!https?:)([^)]+)\)", document.read_text()):
+            name, _, heading = link.partition("#")
+            target = TOP / name
+            good = target.exists() and (not heading or heading in package_around.anchors_of(target.read_text()))
+            count.compare(good, f"{document.name}: {link}", "", "")
+
+
 def check_form(count: Count, _folder: Path) -> None:
     """It is short, and what it says in passing of the program's arithmetic is so."""
     count.compare(TEXT.count("\n") < MOST_LINES, "lines", TEXT.count("\n"), MOST_LINES)
@@ -121,7 +132,7 @@ def main() -> int:
         folder = Path(made)
         for name, to in (("paver", Path(program())), ("examples", TOP / "examples"), ("python", TOP / "python")):
             (folder / name).symlink_to(to)
-        for check in (check_commands, check_commands_in_text, check_head, check_examples_and_sizes, check_form):
+        for check in (check_commands, check_commands_in_text, check_head, check_examples_and_sizes, check_links, check_form):
             if check is check_commands_in_text and word() and is_chosen("commands in text", word()):
                 check_commands(Count(), folder)
             if is_chosen(check.__name__.replace("_", " "), word()):
