@@ -122,8 +122,8 @@ def check_form(count: Count, _folder: Path) -> None:
     mantissa, power = re.search(r"`(-\d+):(-\d+)` is about (-0\.866)", TEXT).group(1, 2)
     count.compare(abs(int(mantissa) * 2.0 ** int(power) + 0.866) < 0.0005, "the number that is read", mantissa, -0.866)
     lower, upper = (int(m) * 2.0 ** int(e) for m, e in re.findall(r"^(?:lower|upper) (\d+):(-\d+)$", TEXT, re.M))
-    count.compare("below 1.9957 stabilises" in TEXT and 1.9957 <= lower < 1.9958, "the lower bound", lower, 1.9957)
-    count.compare("and 2.0198 at" in TEXT and 2.0197 < upper <= 2.0198, "the upper bound", upper, 2.0198)
+    count.compare("has a `kd` below 1.9957" in TEXT and 1.9957 <= lower < 1.9958, "the lower bound", lower, 1.9957)
+    count.compare("one of at most 2.0198" in TEXT and 2.0197 < upper <= 2.0198, "the upper bound", upper, 2.0198)
 
 
 def main() -> int:
