@@ -5,6 +5,7 @@
 # make fuzz     COUNT made texts, words and files each, a tenth as many systems and databases, and each allocation of each command refused in turn
 # make pictures draws each example into docs/pictures, and writes docs/GALLERY.md
 # make bench    measures beside a lean Rust program, where there is a rustc
+# make dist     packs the program, its man page, completions, examples and the package into dist/, with their SHA-256
 # make install PREFIX=/usr/local      the program, its man page and completions; make uninstall takes them away
 PREFIX ?= /usr/local
 SHARE := $(DESTDIR)$(PREFIX)/share
@@ -56,6 +57,9 @@ fuzz: paver
 	python3 tests/runners/allocations.py ./paver
 	python3 tests/runners/campaign_allocations.py ./paver
 
+dist: paver
+	build/dist.sh ./paver
+
 install: paver
 	install -d $(DESTDIR)$(PREFIX)/bin $(SHARE)/man/man1 $(SHARE)/bash-completion/completions
 	install -d $(SHARE)/zsh/site-functions $(SHARE)/fish/vendor_completions.d
@@ -70,6 +74,6 @@ uninstall:
 	rm -f $(SHARE)/zsh/site-functions/_paver $(SHARE)/fish/vendor_completions.d/paver.fish
 
 clean:
-	rm -rf paver demo crates/*/out
+	rm -rf paver demo dist crates/*/out
 
-.PHONY: all try demo test pictures fuzz bench install uninstall clean
+.PHONY: all try demo test pictures fuzz bench dist install uninstall clean

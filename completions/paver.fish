@@ -14,7 +14,7 @@ complete -c paver -n "not __fish_seen_subcommand_from $commands" -a least -d 'Bo
 complete -c paver -n "not __fish_seen_subcommand_from $commands" -a campaign -d 'Pave a system in rounds that are kept'
 set -l settled run resume merge audit svg run-centered audit-centered least campaign
 complete -c paver -n "__fish_seen_subcommand_from $settled" -l eps -x -d 'A box with no greater width is small'
-complete -c paver -n "__fish_seen_subcommand_from $settled" -l depth -x -d 'Cuts on a way down, 1 to 200'
+complete -c paver -n "__fish_seen_subcommand_from $settled" -l depth -x -d 'Cuts above a node, 1 to 200'
 complete -c paver -n "__fish_seen_subcommand_from $settled" -l bisect -x -a 'largest round' -d 'Which variable is cut'
 complete -c paver -n "__fish_seen_subcommand_from $settled" -l contract -x -a "'prop(8)'" -d 'The contractor program'
 complete -c paver -n "__fish_seen_subcommand_from $settled" -l limit -x -d 'The most settled nodes of a tree, 100000 to 100000000'

@@ -21,6 +21,8 @@ from data.examples import (  # noqa: E402
 
 HEAD = """# Gallery
 
+For engineers who look for a question like theirs.
+
 Each example of `examples/`, with its question, the command that answers it and the first line of the answer. Green boxes are inner: every rational point of them is in the set. Grey parts are removed: no rational point of them is. (Of irrational points, as most poses that equations ask for are, that says nothing: [ANSWERS.md](ANSWERS.md#equations) says what does.) Yellow boxes are undecided. Of three variables and more a picture is a slice, or the projection on two variables, where green says that some values of the other variables are in the set, and grey that none are; some are drawn with another eps or depth than that of the first command. `examples/pictures.sh` draws them all, `tests/generators/gallery.py` writes this page. Each can be looked at in a browser, too: `python3 -m paver view` writes a page with the boxes, their exact ends and a slider for each other variable, as [that of the PI gains](view/pi_gains.html).
 """
 
