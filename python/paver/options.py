@@ -12,28 +12,28 @@ from .numbers import minibex
 
 SETTINGS = ("eps", "depth", "bisect", "contract")
 KEPT_SETTINGS = (*SETTINGS, "form")  # those that an identity holds
-OPTIONS = (*SETTINGS, "boxes", "workers", "limit", "form", "order")
+OPTIONS = (*SETTINGS, "boxes", "workers", "limit", "form")
 FILES = {"resume": "SYSTEM PAVING..", "merge": "SYSTEM PAVING..", "audit": "SYSTEM PAVING", "svg": "SYSTEM PAVING",
          "audit-centered": "SYSTEM PAVING", "sample": ""}
 COMMANDS: Dict[str, Tuple[str, ...]] = {
     "check": (),
     "run": (*OPTIONS, "out"),
-    "resume": (*OPTIONS, "share", "out"),
+    "resume": (*OPTIONS, "out"),
     "merge": (*SETTINGS, "limit", "form", "out"),
-    "audit": (*SETTINGS, "workers", "limit", "form"),
+    "audit": (*SETTINGS, "limit", "form"),
     "svg": (*SETTINGS, "limit", "form", "x", "y", "at"),
     "sample": ("seed", "count"),
-    "run-centered": (*SETTINGS, "boxes", "workers", "limit", "order", "out"),
-    "audit-centered": (*SETTINGS, "workers", "limit"),
+    "run-centered": (*SETTINGS, "boxes", "workers", "limit", "out"),
+    "audit-centered": (*SETTINGS, "limit"),
     "least": (*SETTINGS, "boxes", "limit", "of"),
     "campaign": (*OPTIONS, "keep", "rounds"),
 }
 REQUIRED = {"svg": ("x", "y"), "sample": ("seed", "count"), "least": ("of",), "campaign": ("keep",)}
-LATER = ("limit", "form", "order", "share")  # which an older program does not have; nor `audit` its workers
+LATER = ("limit", "form", "out")  # which an older program does not have
 MOST_BOXES, MOST_LIMIT = 100_000, 100_000_000
 RANGES = {"depth": (1, 200), "boxes": (1, MOST_BOXES), "workers": (1, 16), "limit": (MOST_BOXES, MOST_LIMIT),
           "seed": (0, 2 ** 31 - 1), "count": (1, 16), "rounds": (1, 100)}
-CHOICES = {"bisect": ("largest", "round"), "form": ("plain", "centered"), "order": ("depth", "level")}
+CHOICES = {"bisect": ("largest", "round"), "form": ("plain", "centered")}
 DEFAULTS = {"eps": "0.125", "depth": "60", "bisect": "largest", "contract": "prop(8)", "form": "plain"}
 NUMBER = r"[0-9]+(\.[0-9]*)?([eE][+-]?[0-9]+)?"
 
@@ -177,8 +177,6 @@ def value_fault(name: str, value: Optional[str], joined: bool = False, boxes: in
         return [f"`--eps {value}`: an unsigned number as 0.5 or 1e-3 is expected."]
     if name == "at" and not all(is_number(part[1:] if part[:1] == "-" else part) for part in value.split(",")):
         return [f"`--at {value}`: numbers joined by commas are expected, one for each other variable, as 0.5,-1."]
-    if name == "share" and not is_share(value):
-        return [f"`--share {value}`: K/N is expected, with whole numbers 0 <= K < N <= 1000000."]
     return []
 
 
@@ -191,9 +189,3 @@ def is_number(text: str) -> bool:
         return False
     power = int(exponent or 0) - len(digits.partition(".")[2])
     return -36 <= power <= 36 and len(digits.replace(".", "").lstrip("0") or "0") + max(power, 0) <= 37
-
-
-def is_share(text: str) -> bool:
-    """Whether a text is a share, as 3/16."""
-    match = re.fullmatch(r"([0-9]{1,7})/([0-9]{1,7})", text, re.A)
-    return match is not None and 0 <= int(match.group(1)) < int(match.group(2)) <= 1_000_000

@@ -173,7 +173,7 @@ def asked(words: Sequence[Any], program: Optional[str], timeout: Optional[float]
 def refuse_usage(fault: errors.PaverError, words: Sequence[str], program: Optional[str]) -> NoReturn:
     """The exception of words that are refused: it says which command or option an older program lacks, or what is wrong."""
     names = [word[2:].partition("=")[0] for word in takewhile(lambda word: word != "--", words[1:])]
-    later = [f"{words[0]} --{name}" for name in names if name in (*LATER, "out") or (words[0], name) == ("audit", "workers")]
+    later = [f"{words[0]} --{name}" for name in names if name in LATER]
     for command in [words[0], *later]:
         if not has(command, program):
             raise errors.NotInProgram(fault.status, f"the program has no `{command}`: it is older than this package")
@@ -182,7 +182,7 @@ def refuse_usage(fault: errors.PaverError, words: Sequence[str], program: Option
     raise fault
 
 
-HARMLESS = {"out": "none", "limit": "100000", "form": "plain", "order": "depth", "share": "0/1", "workers": "1"}
+HARMLESS = {"out": "none", "limit": "100000", "form": "plain"}
 
 
 def has(command: str, program: Optional[str] = None) -> bool:
@@ -251,42 +251,39 @@ def named(work: Any, system: PathName, pavings: Sequence[PathName], settings: Ma
 
 
 def run(system: PathName, *, eps: Any = None, depth: Any = None, bisect: Optional[str] = None, contract: Optional[str] = None,
-        boxes: Any = None, workers: Any = None, limit: Any = None, form: Optional[str] = None, order: Optional[str] = None,
-        out: Optional[PathName] = None, program: Optional[str] = None, timeout: Optional[float] = None) -> Answer:
+        boxes: Any = None, workers: Any = None, limit: Any = None, form: Optional[str] = None, out: Optional[PathName] = None,
+        program: Optional[str] = None, timeout: Optional[float] = None) -> Answer:
     """Paves a system. eps and the whole numbers may be of any kind: a float is taken as it is written, so that eps=0.1 is
     `--eps 0.1`. out stores the paving in a file, and the settings in another beside it, `out`.json."""
-    given = dict(eps=eps, depth=depth, bisect=bisect, contract=contract, boxes=boxes, workers=workers, limit=limit, form=form,
-                 order=order)
+    given = dict(eps=eps, depth=depth, bisect=bisect, contract=contract, boxes=boxes, workers=workers, limit=limit, form=form)
     return paved("run", system, [], out, given, program, timeout)
 
 
 def run_text(text: Union[str, bytes], *, eps: Any = None, depth: Any = None, bisect: Optional[str] = None,
              contract: Optional[str] = None, boxes: Any = None, workers: Any = None, limit: Any = None,
-             form: Optional[str] = None, order: Optional[str] = None, out: Optional[PathName] = None,
-             program: Optional[str] = None, timeout: Optional[float] = None) -> Answer:
+             form: Optional[str] = None, out: Optional[PathName] = None, program: Optional[str] = None,
+             timeout: Optional[float] = None) -> Answer:
     """The same for a system's text."""
     with as_file(text) as name:
         return run(name, eps=eps, depth=depth, bisect=bisect, contract=contract, boxes=boxes, workers=workers, limit=limit,
-                   form=form, order=order, out=out, program=program, timeout=timeout)
+                   form=form, out=out, program=program, timeout=timeout)
 
 
 def run_centered(system: PathName, *, eps: Any = None, depth: Any = None, bisect: Optional[str] = None,
                  contract: Optional[str] = None, boxes: Any = None, workers: Any = None, limit: Any = None,
-                 order: Optional[str] = None, out: Optional[PathName] = None, program: Optional[str] = None,
-                 timeout: Optional[float] = None) -> Answer:
+                 out: Optional[PathName] = None, program: Optional[str] = None, timeout: Optional[float] = None) -> Answer:
     """As run, where boxes are tested by centered forms, too."""
-    given = dict(eps=eps, depth=depth, bisect=bisect, contract=contract, boxes=boxes, workers=workers, limit=limit, order=order)
+    given = dict(eps=eps, depth=depth, bisect=bisect, contract=contract, boxes=boxes, workers=workers, limit=limit)
     return paved("run-centered", system, [], out, given, program, timeout)
 
 
 def resume(system: PathName, pavings: Pavings, *, eps: Any = None, depth: Any = None, bisect: Optional[str] = None,
            contract: Optional[str] = None, boxes: Any = None, workers: Any = None, limit: Any = None,
-           form: Optional[str] = None, order: Optional[str] = None, share: Optional[str] = None,
-           out: Optional[PathName] = None, program: Optional[str] = None, timeout: Optional[float] = None) -> Answer:
+           form: Optional[str] = None, out: Optional[PathName] = None, program: Optional[str] = None,
+           timeout: Optional[float] = None) -> Answer:
     """Joins 1 to 8 stored pavings of the system under the same settings, and goes on from there. Settings that aren't given
     are those that were kept beside the first file."""
-    given = dict(eps=eps, depth=depth, bisect=bisect, contract=contract, boxes=boxes, workers=workers, limit=limit, form=form,
-                 order=order, share=share)
+    given = dict(eps=eps, depth=depth, bisect=bisect, contract=contract, boxes=boxes, workers=workers, limit=limit, form=form)
     return paved("resume", system, listed(pavings), out, given, program, timeout)
 
 
@@ -301,23 +298,23 @@ def merge(system: PathName, pavings: Pavings, *, eps: Any = None, depth: Any = N
 
 def campaign(system: PathName, keep: PathName, *, rounds: Any = None, eps: Any = None, depth: Any = None,
              bisect: Optional[str] = None, contract: Optional[str] = None, boxes: Any = None, workers: Any = None,
-             limit: Any = None, form: Optional[str] = None, order: Optional[str] = None, program: Optional[str] = None,
+             limit: Any = None, form: Optional[str] = None, program: Optional[str] = None,
              timeout: Optional[float] = None) -> Answer:
     """Goes on with the paving that is kept in the database `keep`, or begins one there, for 1 to 100 rounds (else one).
     Each round settles at most `boxes` nodes and keeps them before the next begins, so what whole rounds settled stays
     whatever ends the call. With status 1 the same call again goes on from there."""
     given = dict(eps=eps, depth=depth, bisect=bisect, contract=contract, boxes=boxes, workers=workers, limit=limit, form=form,
-                 order=order, keep=os.fspath(keep))
+                 keep=os.fspath(keep))
     more = [] if rounds is None else [f"--rounds={spelled('rounds', rounds)}"]
     return paved("campaign", system, [], None, given, program, timeout, more)
 
 
 def audit(system: PathName, paving: PathName, *, eps: Any = None, depth: Any = None, bisect: Optional[str] = None,
-          contract: Optional[str] = None, workers: Any = None, limit: Any = None, form: Optional[str] = None,
-          program: Optional[str] = None, timeout: Optional[float] = None) -> bool:
+          contract: Optional[str] = None, limit: Any = None, form: Optional[str] = None, program: Optional[str] = None,
+          timeout: Optional[float] = None) -> bool:
     """Has every settled node of a stored paving recomputed. True where it is honest; Disagree where a node differs. Settings
     that aren't given are those that were kept beside the file."""
-    given = dict(eps=eps, depth=depth, bisect=bisect, contract=contract, workers=workers, limit=limit, form=form)
+    given = dict(eps=eps, depth=depth, bisect=bisect, contract=contract, limit=limit, form=form)
     settings = beside.with_kept([paving], given)
     if form is None and settings.get("form") == "centered":
         return honest("audit-centered", system, paving, {**settings, "form": None}, program, timeout)
@@ -325,10 +322,10 @@ def audit(system: PathName, paving: PathName, *, eps: Any = None, depth: Any = N
 
 
 def audit_centered(system: PathName, paving: PathName, *, eps: Any = None, depth: Any = None, bisect: Optional[str] = None,
-                   contract: Optional[str] = None, workers: Any = None, limit: Any = None, program: Optional[str] = None,
+                   contract: Optional[str] = None, limit: Any = None, program: Optional[str] = None,
                    timeout: Optional[float] = None) -> bool:
     """The same for a stored paving of run_centered."""
-    given = dict(eps=eps, depth=depth, bisect=bisect, contract=contract, workers=workers, limit=limit)
+    given = dict(eps=eps, depth=depth, bisect=bisect, contract=contract, limit=limit)
     return honest("audit-centered", system, paving, {**beside.with_kept([paving], given), "form": None}, program, timeout)
 
 

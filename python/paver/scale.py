@@ -1,4 +1,4 @@
-"""Scales for variables whose domains differ by orders: eps and `--bisect largest` compare widths in the variables' own units."""
+"""Scales for variables whose domains differ by orders: eps and `--bisect largest` compare widths in the variables' units."""
 from __future__ import annotations
 
 import math

@@ -30,6 +30,6 @@ def table(name, kind, rows, scope="crate"):
 
 
 def write(crate, heading, groups, row, *more):
-    """Writes a crate's src/table.rt: the heading's lines, a table for each group with a line for each of its cases, and more."""
+    """Writes a crate's src/table.rt: the heading's lines, a table for each group with a line for each case, and more."""
     tables = [table(name, "Case", [row(*case) for case in cases]) for name, cases in groups.items()]
     (CRATES / crate / "src" / "table.rt").write_text("\n".join([heading, *tables, *more]))

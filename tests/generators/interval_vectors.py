@@ -209,7 +209,8 @@ def intervals():
     return result
 
 
-BINARY = {"Add": plus, "Sub": minus, "Mul": times, "Min": least, "Max": greatest, "Hull": hull, "Quotient": quotient, "Meet": meet}
+BINARY = {"Add": plus, "Sub": minus, "Mul": times, "Min": least, "Max": greatest, "Hull": hull, "Quotient": quotient,
+          "Meet": meet}
 
 
 def cases():
@@ -218,7 +219,8 @@ def cases():
     found = [("Quotient", 0, (Fraction(1), Fraction(2)), (Fraction(0), Fraction(4))),
              ("Quotient", 0, (Fraction(0), Fraction(0)), (Fraction(-1), Fraction(1))),
              ("Quotient", 0, (Fraction(1), Fraction(1)), (Fraction(0), Fraction(0)))]
-    for name, count in [("Add", 30), ("Sub", 30), ("Mul", 60), ("Min", 15), ("Max", 15), ("Hull", 15), ("Quotient", 70), ("Meet", 25)]:
+    counts = [("Add", 30), ("Sub", 30), ("Mul", 60), ("Min", 15), ("Max", 15), ("Hull", 15), ("Quotient", 70), ("Meet", 25)]
+    for name, count in counts:
         for _ in range(count):
             found.append((name, 0, chance.choice(pool), chance.choice(pool)))
     for _ in range(15):

@@ -158,8 +158,8 @@ def settled_row(x, text, program, depth_left):
     system = f"Variables x in {x}; Constraints {text}; End"
     settler = CenteredSettler(minibex.read(system), eps=Fraction(0), contract=program)
     outcome = settler.settle(settler.root, depth_left, 0)
-    answer = {"X": lambda: "Removed", "I": lambda: f"Inner({ends(outcome[1][0])})", "S": lambda: f"Small({ends(outcome[1][0])})",
-              "C": lambda: f"Cut({ends(outcome[1][0])})"}[outcome[0]]()
+    answer = {"X": lambda: "Removed", "I": lambda: f"Inner({ends(outcome[1][0])})",
+              "S": lambda: f"Small({ends(outcome[1][0])})", "C": lambda: f"Cut({ends(outcome[1][0])})"}[outcome[0]]()
     return f'    ("{system}", "{program}", {depth_left}, {answer}),'
 
 

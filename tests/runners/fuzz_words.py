@@ -233,7 +233,6 @@ class Calls(Folder):
         wanted = self.least(text) if fault is None else (2, b"", "objective: byte {}: {}\n".format(*fault).encode())
         self.is_as(wanted, ["least", "s", "--boxes=1", "--eps=4", f"--of={text}"])
 
-
     def limited(self, source):
         """Words with a limit and a form, beside the reference's answer."""
         limit, centered = source.choice([100_000, 100_001, 100_003, 100_009, 250_000]), source.random() < 0.5

@@ -200,8 +200,14 @@ def balanced(part, count):
     return part if count == 1 else f"({balanced(part, count // 2)}+{balanced(part, count - count // 2)})"
 
 
+def processor_seconds():
+    """What the calls that ended have taken of the processor."""
+    usage = resource.getrusage(resource.RUSAGE_CHILDREN)
+    return usage.ru_utime + usage.ru_stime
+
+
 def slow_texts(f):
-    """The slowest texts that we know are answered in a moment; what starting costs under load is allowed for."""
+    """The slowest texts that we know take a moment of the processor; other work on the machine is not counted."""
     aliases = "function w0(u) return -u; end\n" + "".join(
         f"function w{i}(u) return w{i - 1}(u); end\n" for i in range(1, 60))
     functions = (f"{aliases}function g(u) return {'w59(' * 40}u{')' * 40}; end\n"
@@ -217,9 +223,9 @@ def slow_texts(f):
         f.put("s", text.encode())
         spent = []
         for _ in range(3):
-            start = time.perf_counter()
+            before = processor_seconds()
             f.call("check", "s")
-            spent.append(time.perf_counter() - start)
+            spent.append(processor_seconds() - before)
         assert min(spent) < 0.3, (text[:60], spent)
 
 

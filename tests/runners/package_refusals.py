@@ -105,8 +105,7 @@ def check_words_of_commands():
 
 
 def check_table_of_options():
-    """The package's table of options is the program's: each is taken where the table has it, and refused where it has not. What
-    an older program lacks is left aside."""
+    """The package's table of options is the program's: each is taken where the table has it, and refused where it has not."""
     values = {"eps": "1", "depth": "1", "bisect": "round", "contract": "prop(1)", "boxes": "1", "workers": "1", "out": "none",
               "x": "x", "y": "y", "at": "1", "seed": "1", "count": "1", "of": "x", "keep": "none", "rounds": "1",
               "limit": "100000", "form": "centered"}
@@ -115,8 +114,7 @@ def check_table_of_options():
         needed = {option: values[option] for option in options.REQUIRED.get(name, ())}
         for option in values:
             words = [name, *(f"--{key}={value}" for key, value in {**needed, option: values[option]}.items())]
-            if name == "sample" and option in known or (name, option) == ("audit", "workers") or option == "workers" \
-                    and name == "audit-centered":
+            if name == "sample" and option in known:
                 continue
             status = paver.program.call([*words, "--", *files])[0]
             assert status == (11 if option in known else 2), (words, status)

@@ -269,7 +269,8 @@ def rect(x, y, width, height, fill):
 
 
 def picture(*rects):
-    return lines('<svg xmlns="http://www.w3.org/2000/svg" width="1000" height="1000" viewBox="0 0 1000 1000">', *rects, "</svg>")
+    head = '<svg xmlns="http://www.w3.org/2000/svg" width="1000" height="1000" viewBox="0 0 1000 1000">'
+    return lines(head, *rects, "</svg>")
 
 
 def drawn_files(f):

@@ -22,8 +22,8 @@ INSTEAD = {
     "pi": "a variable in [3.14159265358979323, 3.14159265358979324], or a rational number that is near enough",
     "minimize": "leave the line out and ask for the least value by `paver least SYSTEM --of=OBJECTIVE`; or ask for the points "
                 "with objective <= level",
-    "maximize": "leave the line out and ask for the least value of its opposite by `paver least SYSTEM --of='-(OBJECTIVE)'`; or "
-                "ask for the points with objective >= level",
+    "maximize": "leave the line out and ask for the least value of its opposite by `paver least SYSTEM --of='-(OBJECTIVE)'`; "
+                "or ask for the points with objective >= level",
     "diff": "write the derivative out",
     "integer": "a whole number is no rational interval: run once for each value",
 }
