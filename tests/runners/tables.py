@@ -21,13 +21,9 @@ import package_checks
 from paver import options
 from paver.version import VERSION
 
-# What the table has for a later program: this one refuses it, and no document tells it.
-NOT_YET = {(command, name) for command, names in options.COMMANDS.items() for name in names
-           if name in ("order", "share") or name == "workers" and command.startswith("audit")}
-TABLE = {command: {name for name in names if (command, name) not in NOT_YET} for command, names in options.COMMANDS.items()}
+TABLE = {command: set(names) for command, names in options.COMMANDS.items()}
 NAMES = sorted({name for names in options.COMMANDS.values() for name in names})
-VALUES = {"eps": "0.5", "contract": "prop(1)", "out": "stored", "x": "a", "y": "b", "at": "0.5", "of": "a", "keep": "kept",
-          "share": "0/2"} | {name: str(low) for name, (low, _) in options.RANGES.items()} | \
+VALUES = {"eps": "0.5", "contract": "prop(1)", "out": "stored", "x": "a", "y": "b", "at": "0.5", "of": "a", "keep": "kept"} | {name: str(low) for name, (low, _) in options.RANGES.items()} | \
          {name: first for name, (first, *_) in options.CHOICES.items()}
 USAGE = 2
 README = (TOP / "README.md").read_text()
