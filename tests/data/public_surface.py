@@ -24,6 +24,14 @@ print(paver.split("s.mbx", 3, "parts"), paver.gather("parts").counts())
 print(paver.find_roots(paver.check("s.mbx"), paving)[0].middle)
 print(paver.depth_that_suffices([(0, 1)], 0.5), paver.__version__, paver.warnings_of(answer, paving))
 print(paver.find(), paver.run_centered("s.mbx").text, paver.plot_projection(paving), box, box.holds([1, 2]))
+print(paver.least_by_levels("s.mbx", "x", within="0.01", tries=[{"x": Fraction(1)}]).lower)
+print(paver.undecided(paving, paver.check("s.mbx")))
+print(paver.robust("s.mbx", ["p"], eps="0.5"), paver.vertices_text("s.mbx", ["p"]), paver.scaled_text("s.mbx"))
+print(paver.widened("Variables x; Constraints x=1; end", Fraction(1, 8)), paver.widened_contract("hc4(0)", ["="]))
+with paver.widened_file("s.mbx", Fraction(1, 8), {"eps": 1}) as (widened, options):
+    print(widened.name, options)
+page: paver.View = paver.view("s.mbx", ["f", paving], eps=0.5, form="plain", unchecked=True)
+page.save("page.html")
 try:
     paver.check_text("bad")
 except paver.SystemRefused as fault:

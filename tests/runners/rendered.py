@@ -98,7 +98,7 @@ class Read:
 
     def __init__(self, path, system, settings):
         self.paving = package.Paving.read(path, system=system, **settings)
-        ends = [package.cover.exact(text) for text in self.paving.root]
+        ends = [package.numbers.exact(text) for text in self.paving.root]
         self.root_exact = list(zip(ends[::2], ends[1::2]))
         self.inner, self.small = self.paving.inner, self.paving.small
 
