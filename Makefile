@@ -11,6 +11,8 @@ PREFIX ?= /usr/local
 SHARE := $(DESTDIR)$(PREFIX)/share
 JOBS ?= $(shell nproc)
 COUNT ?= 100000
+export PAVER := $(CURDIR)/paver
+export PYTHONPATH := $(CURDIR)/python
 SOURCES := $(shell find crates -name out -prune -o -type f \( -name '*.rt' -o -name '*.antt' \) -print) crates.txt
 
 all: paver
@@ -45,17 +47,14 @@ test:
 
 pictures: paver
 	examples/pictures.sh ./paver
-	python3 tests/generators/gallery.py
-	python3 tests/generators/view_picture.py ./paver
+	python3 -m tests.generators.gallery
+	python3 -m tests.generators.view_picture ./paver
 
 fuzz: paver
-	python3 tests/runners/fuzz_reader.py ./paver $(COUNT)
-	python3 tests/runners/fuzz_words.py ./paver $(COUNT)
-	python3 tests/runners/fuzz_files.py ./paver $(COUNT)
-	python3 tests/runners/fuzz_systems.py ./paver $$(($(COUNT) / 10))
-	python3 tests/runners/fuzz_databases.py ./paver $$(($(COUNT) / 10))
-	python3 tests/runners/allocations.py ./paver
-	python3 tests/runners/campaign_allocations.py ./paver
+	for name in fuzz_reader fuzz_words fuzz_files; do COUNT=$(COUNT) python3 -m tests.runners.$$name || exit; done
+	for name in fuzz_systems fuzz_databases; do COUNT=$$(($(COUNT) / 10)) python3 -m tests.runners.$$name || exit; done
+	python3 -m tests.runners.allocations
+	python3 -m tests.runners.campaign_allocations
 
 dist: paver
 	build/dist.sh ./paver

@@ -1,7 +1,7 @@
 #!/usr/bin/env python3
 """Measures `run` beside `run-centered` on examples, with one worker.
 
-    python3 bench/centered.py ./paver > tests/data/centered_times.txt
+    python3 -m bench.centered ./paver > tests/data/centered_times.txt
 
 prints a line per example: its name, for each of the two commands the settled nodes and the least seconds of five runs,
 and how many nodes `run` settles, with eps halved as often as needed, to leave no greater volume undecided than
@@ -13,10 +13,10 @@ import time
 from fractions import Fraction
 from pathlib import Path
 
+import paver
+from tests.data.examples import EXAMPLES, settings_of
+
 TOP = Path(__file__).resolve().parents[1]
-sys.path[:0] = [str(TOP / "tests"), str(TOP / "python")]
-import paver  # noqa: E402
-from data.examples import EXAMPLES, settings_of  # noqa: E402
 
 SHOWN = ["lyapunov_fall", "platform_determinant", "damped_gains", "pi_gains", "robust_pid", "torus", "three_rpr", "ring"]
 TIMES = 5

@@ -10,11 +10,15 @@
     python3 bench/run.py files              a large paving file: stored, joined with itself and in eight parts, audited
     python3 bench/run.py campaigns          what a campaign costs beside the plain run: its rounds, its opening and its file
     python3 bench/run.py workers            how much faster 2, 3, 4 and 16 workers are than one, on fifteen runs
+    python3 bench/run.py millions           the same of 2, 4 and 16 workers on runs of about a million nodes, beside what the
+                                            machine gives to runs of one worker side by side
+    python3 bench/run.py sizes              seconds and memory of runs from 10,000 nodes to 10,000,000
     python3 bench/run.py tickets            what the pool's jobs and the board's tickets cost
     python3 bench/run.py trees              milliseconds for settling, counting, copying, joining and auditing a large tree
 
 Each figure is the best of five runs or more. Needs rustc for the yardstick; without it only paver's own figures are printed.
 """
+import os
 import re
 import resource
 import shutil
@@ -24,13 +28,14 @@ import sys
 import tempfile
 import time
 from pathlib import Path
+from typing import List, Optional, Tuple
 
 TOP = Path(__file__).parent.parent
 EXAMPLES = TOP / "examples"
 SYSTEMS = TOP / "bench" / "systems"
 STEPS = 10_000_000
 TURNS = 6
-PAVINGS = [
+PAVINGS: List[Tuple[str, Optional[Path], Optional[List[str]]]] = [
     ("ring", EXAMPLES / "ring.mbx", ["--eps", "0.00390625"]),
     ("agnesi", SYSTEMS / "agnesi.mbx", None),
     ("PI gains", EXAMPLES / "pi_gains.mbx", ["--eps", "0.0078125"]),
@@ -51,6 +56,13 @@ COSTLY = [("ring", "run-centered", "0.00390625"), ("robust_pid", "run", "0.125")
           ("lyapunov_fall", "run-centered", "0.0009765625"), ("torus", "run-centered", "0.125"),
           ("three_rpr", "run", "0.0625"), ("robust_pid", "run-centered", "0.25"), ("three_rpr", "run-centered", "0.0625"),
           ("damped_gains", "run-centered", "0.001953125"), ("platform_determinant", "run-centered", "0.001953125")]
+# Runs of about a million nodes: the title in PAVINGS, and eps. What has None takes its own eps.
+MILLIONS = [("ring", "0.0001"), ("Gough slice, 12 constraints", "0.000025"), ("rate law, 8 measurements", "0.000008"),
+            ("torus", "0.03125"), ("planar arm", "0.04"), ("PI gains", "0.0002"), ("circles of known points", "0.0001"),
+            ("beacons, qinter", "0.00001"), ("union of solids", "0.01"), ("polynomial of degree 4", "0.0001"),
+            ("strict order, a deep tree", None)]
+# Questions whose nodes' time is to be the same at each size.
+SIZES = ("ring", "torus", "Gough slice, 12 constraints", "rate law, 8 measurements", "strict order, a deep tree")
 ORDER = "Variables x in [0,9999999], y in [0,9999999]; Constraints x < y; end\n"
 
 
@@ -133,10 +145,10 @@ def paving(folder):
         print(line, flush=True)
 
 
-def side_by_side(words, count):
+def side_by_side(words, count, turns=TURNS):
     """The best time in which so many runs of one worker end that start together, each storing under a name of its own."""
     best = float("inf")
-    for _ in range(TURNS):
+    for _ in range(turns):
         start = time.perf_counter()
         runs = [subprocess.Popen([*map(str, words[:-1]), f"{words[-1]}{i}", "--workers", "1"], stdout=subprocess.DEVNULL)
                 for i in range(count)]
@@ -170,6 +182,57 @@ def workers(folder):
     for name, command, eps in COSTLY:
         system = EXAMPLES / f"{name}.mbx"
         grown(f"{name}, {command}", [TOP / "paver", command, system, "--eps", eps, "--boxes", "100000", *stored])
+
+
+def of_size(folder, title, eps, nodes):
+    """The words that follow a command to settle that system's first so many nodes, with this eps."""
+    file = next(file for name, file, _ in PAVINGS if name == title)
+    words = paving_of(folder, file, None if file and file.parent == SYSTEMS else [])[:-2]
+    if "--eps" in words:
+        at = words.index("--eps")
+        words = words[:at] + words[at + 2:]
+    return [*words, *(["--eps", eps] if eps else []), "--boxes", str(nodes), "--limit", str(max(nodes, 100_000))]
+
+
+def by_clock(words, turns=3):
+    """The best time by the clock of some runs, and what the last one printed."""
+    best, printed = float("inf"), b""
+    for _ in range(turns):
+        start = time.perf_counter()
+        printed = subprocess.run([*map(str, words)], stdout=subprocess.PIPE, check=False).stdout
+        best = min(best, time.perf_counter() - start)
+    return best, printed
+
+
+def millions(folder):
+    """How many times as fast as one worker 2, 4 and 16 are, as a part of what two and four runs of one worker get done."""
+    for title, eps in MILLIONS:
+        words = [TOP / "paver", "run", *of_size(folder, title, eps, 1_000_000), "--out", Path(folder) / "paving"]
+        alone, printed = by_clock([*words, "--workers", 1])
+        used = processor_seconds([*words, "--workers", 1])[0]
+        parts = [f"1: {alone:.2f} s"]
+        for count in (2, 4, 16):
+            spent, _ = by_clock([*words, "--workers", count])
+            work = processor_seconds([*words, "--workers", count])[0] / used
+            most = min(count, 4) * alone / side_by_side(words, min(count, 4), 3)
+            parts.append(f"{count}: x{alone / spent:.2f} of x{most:.2f}, {alone / spent / most:.2f}, work x{work:.2f}")
+        print(f"{title:28} {int(printed.split()[1]):8} nodes, {'; '.join(parts)}", flush=True)
+
+
+def sizes(folder):
+    """Seconds, microseconds a node, and bytes a node of memory and file, by one worker that stores. Up to some 100,000 nodes
+    the memory told is this script's own, of which a child begins as a copy."""
+    for title in SIZES:
+        eps = dict(MILLIONS)[title] and "1e-9"
+        for nodes in (10_000, 100_000, 1_000_000, 10_000_000):
+            out = Path(folder) / "paving"
+            words = [TOP / "paver", "run", *of_size(folder, title, eps, nodes), "--workers", 1, "--out", out]
+            with subprocess.Popen([*map(str, words)], stdout=subprocess.PIPE) as run:
+                settled = int(run.stdout.read().split()[1])
+                _, _, used = os.wait4(run.pid, 0)
+            spent = used.ru_utime + used.ru_stime
+            print(f"{title:28} {settled:9} nodes {spent:8.2f} s {spent / settled * 1e6:6.2f} us and "
+                  f"{used.ru_maxrss * 1024 / settled:5.0f} bytes a node, file {out.stat().st_size / settled:5.1f}", flush=True)
 
 
 def printing(folder):
@@ -264,7 +327,7 @@ def tickets(_):
 def main():
     parts = {"numbers": numbers, "calls": calls, "paving": paving, "printing": printing, "growth": growth, "files": files,
              "workers": workers, "campaigns": campaigns,
-             "tickets": tickets, "trees": trees}
+             "tickets": tickets, "trees": trees, "millions": millions, "sizes": sizes}
     with tempfile.TemporaryDirectory() as folder:
         for part in sys.argv[1:] or parts:
             parts[part](folder)

@@ -29,7 +29,7 @@ install -D -m 644 completions/paver.bash "$to/share/bash-completion/completions/
 install -D -m 644 completions/_paver "$to/share/zsh/site-functions/_paver"
 install -D -m 644 completions/paver.fish "$to/share/fish/vendor_completions.d/paver.fish"
 install -D -m 644 -t "$to" README.md CHANGELOG.md CONTRIBUTING.md
-find docs python examples -type f ! -path '*/__pycache__/*' ! -name '*.pyc' ! -path '*/build/*' ! -path '*.egg-info/*' -print0 | sort -z |
+find docs python examples -type f ! -path '*/.*' ! -path '*/__pycache__/*' ! -name '*.pyc' ! -path '*/build/*' ! -path '*.egg-info/*' -print0 | sort -z |
     while IFS= read -r -d '' file; do install -D -m 644 "$file" "$to/$file"; done
 (cd "$to" && find . -type f ! -name SHA256SUMS -printf '%P\0' | LC_ALL=C sort -z | xargs -0 sha256sum >"$made/sums")
 install -m 644 "$made/sums" "$to/SHA256SUMS"

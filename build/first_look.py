@@ -14,9 +14,9 @@ import sys
 import tempfile
 from pathlib import Path
 
+import paver
+
 TOP = Path(__file__).resolve().parents[1]
-sys.path.insert(0, str(TOP / "python"))
-import paver  # noqa: E402
 
 MAIN = TOP / "build" / "first_look.rt.txt"
 SYSTEM = TOP / "examples" / "ring.mbx"

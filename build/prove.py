@@ -31,6 +31,8 @@ def kit() -> Any:
         return None
     sys.dont_write_bytecode = True
     spec = importlib.util.spec_from_file_location("rtlib", file)
+    if spec is None or spec.loader is None:
+        return None
     module = sys.modules["rtlib"] = importlib.util.module_from_spec(spec)
     spec.loader.exec_module(module)
     known = all(hasattr(module, name) for name in CALLS) and hasattr(module.Crate, "is_built")
@@ -135,13 +137,12 @@ def main() -> int:
     crates = {crate.name: crate for crate in rtlib.crates_below(os.getcwd())}
     if given.crate not in crates:
         words.error(f"crates.txt lists no crate {given.crate}")
-    crates = crates[given.crate].below()
-    build = Build(rtlib, crates, max(1, given.jobs))
+    build = Build(rtlib, crates[given.crate].below(), max(1, given.jobs))
     if given.dry_run:
         for crate in build.left:
             print(f"{crate.name}: {build.chain[crate]} lines from here up, {build.needs[crate] / GIGABYTE:.1f} GB a job")
         return 0
-    rtlib.lock(crates)  # until this process ends
+    rtlib.lock(crates.values())  # until this process ends
     return build.run()
 
 

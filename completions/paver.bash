@@ -17,19 +17,21 @@ _paver() {
         --bisect) mapfile -t COMPREPLY < <(compgen -W "largest round" -- "$word"); return ;;
         --contract) mapfile -t COMPREPLY < <(compgen -W "prop(8) hc4( compose( union( qinter( fix( prop(" -- "$word"); return ;;
         --form) mapfile -t COMPREPLY < <(compgen -W "plain centered" -- "$word"); return ;;
-        --eps|--depth|--boxes|--limit|--workers|--x|--y|--at|--seed|--count|--of|--rounds) return ;;
+        --order) mapfile -t COMPREPLY < <(compgen -W "depth level" -- "$word"); return ;;
+        --eps|--depth|--boxes|--limit|--workers|--share|--x|--y|--at|--seed|--count|--of|--rounds) return ;;
         --out|--keep) mapfile -t COMPREPLY < <(compgen -f -- "$word"); return ;;
     esac
     if [[ $word == -* ]]; then
         case $command in
-            run|resume) mapfile -t COMPREPLY < <(compgen -W "$settings --form --boxes --limit --workers --out" -- "$word") ;;
-            run-centered) mapfile -t COMPREPLY < <(compgen -W "$settings --boxes --limit --workers --out" -- "$word") ;;
+            run) mapfile -t COMPREPLY < <(compgen -W "$settings --form --boxes --limit --workers --order --out" -- "$word") ;;
+            resume) mapfile -t COMPREPLY < <(compgen -W "$settings --form --boxes --limit --workers --order --share --out" -- "$word") ;;
+            run-centered) mapfile -t COMPREPLY < <(compgen -W "$settings --boxes --limit --workers --order --out" -- "$word") ;;
             merge) mapfile -t COMPREPLY < <(compgen -W "$settings --form --limit --out" -- "$word") ;;
-            audit) mapfile -t COMPREPLY < <(compgen -W "$settings --form --limit" -- "$word") ;;
-            audit-centered) mapfile -t COMPREPLY < <(compgen -W "$settings --limit" -- "$word") ;;
+            audit) mapfile -t COMPREPLY < <(compgen -W "$settings --form --limit --workers" -- "$word") ;;
+            audit-centered) mapfile -t COMPREPLY < <(compgen -W "$settings --limit --workers" -- "$word") ;;
             svg) mapfile -t COMPREPLY < <(compgen -W "$settings --form --limit --x --y --at" -- "$word") ;;
             sample) mapfile -t COMPREPLY < <(compgen -W "--seed --count" -- "$word") ;;
-            campaign) mapfile -t COMPREPLY < <(compgen -W "$settings --form --boxes --limit --workers --keep --rounds" -- "$word") ;;
+            campaign) mapfile -t COMPREPLY < <(compgen -W "$settings --form --boxes --limit --workers --order --keep --rounds" -- "$word") ;;
             least) mapfile -t COMPREPLY < <(compgen -W "$settings --boxes --limit --of" -- "$word") ;;
         esac
         return

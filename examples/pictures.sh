@@ -28,11 +28,11 @@ draw localisation --eps 0.0625 --contract "$(pairs 4 5)"
 draw unbounded --depth 10
 draw torus --eps 0.125 --boxes 100000 --at z=0.3
 draw tolerance --eps 0.5 --at c=6
-draw planar_arm --eps 0.25 --boxes 100000 --x hx --y hy --project
-draw arm_configurations --eps 0.0625
+draw planar_arm --eps 0.0625 --boxes 1000000 --limit 1000000 --x hx --y hy --project
+draw arm_configurations --eps 0.0078125
 draw robust_pid --eps 0.25 --boxes 100000 --at kd=1
 draw outlier_decay --eps 0.0078125 --contract "$(pairs 6 7)" --near --stretch
-draw three_rpr --eps 0.0625 --boxes 100000 --at t=0.1
+draw three_rpr --eps 0.015625 --boxes 200000 --limit 200000 --at t=0.1
 draw damped_gains --eps 0.03125
 draw platform_determinant --eps 0.03125
 draw lyapunov_fall --eps 0.03125

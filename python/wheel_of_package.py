@@ -9,7 +9,7 @@ from pathlib import Path
 
 HERE = Path(__file__).parent
 NAME = "paver"
-VERSION = re.search(r'VERSION = "([^"]+)"', (HERE / NAME / "version.py").read_text()).group(1)
+VERSION = re.findall(r'VERSION = "([^"]+)"', (HERE / NAME / "version.py").read_text())[0]
 ABOUT = f"{NAME}-{VERSION}.dist-info"
 METADATA = f"""Metadata-Version: 2.1
 Name: {NAME}

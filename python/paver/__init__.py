@@ -12,8 +12,9 @@ from .advice import depth_that_suffices, warnings_of
 from .box import Box, Cluster
 from .canonical import System
 from .errors import (
-    ContractRefused, Disagree, KeeperFault, NoFile, NotInProgram, ObjectiveRefused, PaverError, PavingError, PavingRefused,
-    ProgramFault, ProgramMissing, ReadFault, SystemEdited, SystemRefused, TreeLimit, UsageError, WantOfMemory, WriteFault)
+    ContractRefused, Disagree, FolderRefused, KeeperFault, NoFile, NotInProgram, ObjectiveRefused, PaverError, PavingError,
+    PavingRefused, ProgramFault, ProgramMissing, ReadFault, SystemEdited, SystemRefused, TaskLost, TreeLimit, UsageError,
+    WantOfMemory, WriteFault)
 from .levels import Levels, least_by_levels
 from .paving import Parts, Paving
 from .picture import svg
@@ -24,6 +25,7 @@ from .robust import NotRobust, Robust, robust, vertices_text
 from .roots import Root, find_roots
 from .scale import scaled_text
 from .split import Gathered, gather, split
+from .sweep import Progress, Sweep, sweep
 from .undecided import undecided
 from .values import Bounds, least
 from .version import VERSION as __version__
@@ -31,11 +33,12 @@ from .view import View, view
 from .widen import widened, widened_contract, widened_file
 
 __all__ = [
-    "Answer", "Bounds", "Box", "Cluster", "ContractRefused", "Disagree", "Gathered", "KeeperFault", "Levels", "NoFile",
-    "NotInProgram", "NotRobust", "ObjectiveRefused", "Parts", "Paving", "PaverError", "PavingError", "PavingRefused",
-    "ProgramFault", "ProgramMissing", "ReadFault", "Robust", "Root", "System", "SystemEdited", "SystemRefused", "TreeLimit",
-    "UsageError", "View", "WantOfMemory", "WriteFault", "__version__", "audit", "audit_centered", "campaign", "check",
-    "check_text", "depth_that_suffices", "draw", "find", "find_roots", "gather", "least", "least_by_levels", "merge", "plot",
-    "plot_projection", "resume", "robust", "run", "run_centered", "run_text", "sample", "scaled_text", "split", "svg",
-    "undecided", "vertices_text", "view", "warnings_of", "widened", "widened_contract", "widened_file",
+    "Answer", "Bounds", "Box", "Cluster", "ContractRefused", "Disagree", "FolderRefused", "Gathered", "KeeperFault", "Levels",
+    "NoFile", "NotInProgram", "NotRobust", "ObjectiveRefused", "Parts", "Paving", "PaverError", "PavingError", "PavingRefused",
+    "ProgramFault", "ProgramMissing", "Progress", "ReadFault", "Robust", "Root", "Sweep", "System", "SystemEdited",
+    "SystemRefused", "TaskLost", "TreeLimit", "UsageError", "View", "WantOfMemory", "WriteFault", "__version__", "audit",
+    "audit_centered", "campaign", "check", "check_text", "depth_that_suffices", "draw", "find", "find_roots", "gather", "least",
+    "least_by_levels", "merge", "plot", "plot_projection", "resume", "robust", "run", "run_centered", "run_text", "sample",
+    "scaled_text", "split", "svg", "sweep", "undecided", "vertices_text", "view", "warnings_of", "widened", "widened_contract",
+    "widened_file",
 ]

@@ -6,7 +6,7 @@ from contextlib import contextmanager
 from fractions import Fraction
 from pathlib import Path
 
-from . import beside, errors, explain, levels_command, program, robust_command, scale
+from . import beside, errors, explain, levels_command, program, robust_command, scale, sweep_command
 from .advice import limits_of, stored_sentences, warnings_of
 from .cover import KEPT
 from .ibex import translate
@@ -320,6 +320,7 @@ def more_commands(commands):
                         f"refused system in one line, for editors. COMMAND is one of {', '.join(COMMANDS)}.")
     explained.add_argument("words", nargs=argparse.REMAINDER)
     add_words(add("view", page_command))
+    sweep_command.add_options(add("sweep", sweep_command.work))
     parted = add("split", split_command)
     parted.add_argument("system")
     parted.add_argument("--parts", type=int, required=True)

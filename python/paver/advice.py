@@ -55,7 +55,7 @@ def wider(paving: Cover, eps: Fraction) -> int:
     """How many small boxes are wider than eps."""
     from .cover import width_in
     count = 0
-    for part in paving.roots():
+    for part in paving.pieces():
         table = part.tree.table
         scaled = eps * (1 << table.shift)
         most = scaled.numerator // scaled.denominator
@@ -83,7 +83,7 @@ def depth_rule(paving: Cover, eps: Fraction, depth: int, bisect: str) -> str:
 def root_pairs(paving: Cover) -> List[Tuple[Exact, Exact]]:
     """The search box of the first part as pairs of exact values."""
     from .box import Box
-    return [pair for part in paving.roots()[:1] for pair in Box("open", part.root or ()).exact]
+    return [pair for root in paving.search_boxes()[:1] for pair in Box("open", root).exact]
 
 
 STORED = "go on from a file that --out stored by `paver resume SYSTEM FILE --out FILE2`, or take a larger eps"

@@ -4,8 +4,7 @@ from __future__ import annotations
 import math
 from collections import namedtuple
 from fractions import Fraction
-from itertools import islice
-from operator import itemgetter
+from itertools import chain, islice
 from typing import (
     TYPE_CHECKING, Any, Dict, Iterable, Iterator, List, Mapping, Optional, Protocol, Sequence, Set, TextIO, Tuple, Union)
 
@@ -89,13 +88,22 @@ class Cover:
         """How many nodes are settled, cut, removed, inner, small and open."""
         raise NotImplementedError
 
+    def pieces(self) -> Iterable[Any]:
+        """The same, or where they are too large to be held at once their nodes in pieces, for questions that take one node
+        after the other."""
+        return self.roots()
+
+    def search_boxes(self) -> List[Tuple[str, ...]]:
+        """The search boxes that are known, as texts."""
+        return [paving.root for paving in self.roots() if paving.root is not None]
+
     def boxes_known(self) -> bool:
         """Whether the search box is known."""
         return all(paving.root is not None for paving in self.roots())
 
     def nodes(self) -> Iterator[Node]:
         """Each node in preorder, of one paving after the other."""
-        for paving in self.roots():
+        for paving in self.pieces():
             tree, variable = paving.tree, None
             words = tree.table.words
             for k, kind in enumerate(tree.kinds):
@@ -112,7 +120,7 @@ class Cover:
 
     def _boxes(self, wanted: Set[str]) -> Iterator[Box]:
         letters = {LETTERS[kind] for kind in wanted}
-        for paving in self.roots():
+        for paving in self.pieces():
             tree, names = paving.tree, self.names
             table, removed = tree.table, "removed" in wanted
             if removed:
@@ -159,7 +167,7 @@ class Cover:
         wanted = kinds_of(kinds) or KEPT
         key = ("hull", frozenset(wanted))
         if key not in self._kept:
-            found = [hull for paving in self.roots() for hull in [hull_in(paving, wanted)] if hull is not None]
+            found = [hull for paving in self.pieces() for hull in [hull_in(paving, wanted)] if hull is not None]
             self._kept[key] = joined(found)
         hull: Optional[Pairs] = self._kept[key]
         return hull
@@ -187,7 +195,7 @@ class Cover:
         """The widest boxes of some classes (small ones, where none is named), the widest first and then in preorder."""
         from heapq import nlargest
         wanted, found = kinds_of(kinds) or ("small",), []
-        for paving in self.roots():
+        for paving in self.pieces():
             if "removed" in wanted:
                 found += nlargest(count, paving.boxes(*wanted), key=lambda box: box.width)
                 continue
@@ -222,7 +230,7 @@ class Cover:
         """The classes of all boxes that hold a point, ends included, or `outside` where it lies outside the search box. Floats
         are taken exactly."""
         exact, found = self.point_of(point), set()
-        for paving in self.roots():
+        for paving in self.pieces():
             paving.need_root()
             found |= classes_at(paving.tree, [paving.tree.table.place(x) for x in exact])
         return found or {"outside"}
@@ -255,7 +263,7 @@ class Cover:
         return self._sliced(fixed, wanted)
 
     def _sliced(self, fixed: Dict[int, Exact], wanted: Set[str]) -> Iterator[Box]:
-        for paving in self.roots():
+        for paving in self.pieces():
             tree, table = paving.tree, paving.tree.table
             places = {k: table.place(value) for k, value in fixed.items()}
 
@@ -274,7 +282,7 @@ class Cover:
 
     def need_within(self, fixed: Mapping[int, Exact]) -> None:
         """ValueError where a value of a variable lies outside the search box."""
-        known = [Box("open", paving.root).exact for paving in self.roots() if paving.root is not None]
+        known = [Box("open", root).exact for root in self.search_boxes()]
         for k, value in fixed.items():
             if known and not any(root[k][0] <= value <= root[k][1] for root in known):
                 low, high = min(root[k][0] for root in known), max(root[k][1] for root in known)
@@ -349,12 +357,16 @@ def volumes_of(paving: Paving) -> Dict[str, Exact]:
         for box in paving.boxes():
             found[box.kind] += box.volume
         return found
-    values, unit = tree.table.values, 1 << tree.table.shift * dims
-    sums = {kind: volume_sum(values, tree.ends_of(LETTERS[kind]), dims) for kind in KEPT}
-    root = tree.boxes[0]
+    kept, root = kept_volumes(tree), tree.boxes[0]
     assert root is not None
-    sums["removed"] = volume_sum(values, [root], dims) - sum(sums.values())
-    return {kind: Fraction(sums[kind], unit) for kind in KINDS}
+    whole = Fraction(volume_sum(tree.table.values, [root], dims), 1 << tree.table.shift * dims)
+    return {**kept, "removed": whole - sum(kept.values())}
+
+
+def kept_volumes(tree: Tree) -> Dict[str, Fraction]:
+    """The volumes of what is kept of bounded nodes."""
+    unit = 1 << tree.table.shift * tree.dims
+    return {kind: Fraction(volume_sum(tree.table.values, tree.ends_of(LETTERS[kind]), tree.dims), unit) for kind in KEPT}
 
 
 def volume_sum(values: Sequence[int], boxes: Sequence[Ends], dims: int) -> int:
@@ -367,16 +379,22 @@ def volume_sum(values: Sequence[int], boxes: Sequence[Ends], dims: int) -> int:
     return sum([math.prod([values[ends[k + 1]] - values[ends[k]] for k in places]) for ends in boxes])
 
 
-def hull_in(paving: Paving, wanted: Sequence[str]) -> Optional[Pairs]:
+def columns_of(boxes: Sequence[Ends]) -> List[List[int]]:
+    """The first ends of all boxes, the second ones, and so on."""
+    ends = list(chain.from_iterable(boxes))
+    count = len(boxes[0]) if boxes else 0
+    return [ends[k::count] for k in range(count)]
+
+
+def hull_in(paving: Cover, wanted: Sequence[str]) -> Optional[Pairs]:
     """The hull of some classes of one paving."""
     if "removed" in wanted:
         return hull_of(paving.boxes(*wanted))
     boxes = [ends for kind in wanted for ends in paving.tree.ends_of(LETTERS[kind]) if ends is not None]
     if not boxes:
         return None
-    exact = paving.tree.table.exact
-    return tuple((exact(min(map(itemgetter(k), boxes))), exact(max(map(itemgetter(k + 1), boxes))))
-                 for k in range(0, len(boxes[0]), 2))
+    exact, columns = paving.tree.table.exact, columns_of(boxes)
+    return tuple((exact(min(columns[k])), exact(max(columns[k + 1]))) for k in range(0, len(columns), 2))
 
 
 def joined(hulls: Sequence[Pairs]) -> Optional[Pairs]:
@@ -402,7 +420,7 @@ def classes_at(tree: Tree, point: Sequence[float]) -> Set[str]:
         if to is not box and not reaches(point, box, to, found):
             continue
         if kind == "C":
-            waiting += (k + 1, tree.high[k])
+            waiting += tree.halves(k)
         else:
             found.add(NAMED[kind])
     return found

@@ -7,6 +7,7 @@ variable after the other the greatest value lies at an end of its interval.
 from __future__ import annotations
 
 from fractions import Fraction
+from typing import Optional, Tuple
 
 from .canonical import Constraint
 
@@ -14,7 +15,7 @@ FREE, AFFINE, CONVEX, CONCAVE = "free", "affine", "convex", "concave"
 TURNED = {FREE: FREE, AFFINE: AFFINE, CONVEX: CONCAVE, CONCAVE: CONVEX, None: None}
 UPWARD = (FREE, AFFINE, CONVEX)
 DOWNWARD = (FREE, AFFINE, CONCAVE)
-Bend = tuple[str | None, Fraction | None]  # with the value of a constant
+Bend = Tuple[Optional[str], Optional[Fraction]]  # with the value of a constant
 
 
 def bend_of(steps: list, variable: int) -> str | None:

@@ -8,11 +8,12 @@ import math
 import random
 from collections.abc import Callable, Sequence
 from time import process_time
+from typing import List
 
 from .canonical import Constraint, System
 
 Steps = list  # an expression as canonical.py has it
-Point = list[float]
+Point = List[float]
 SPAN = 10.0  # of a start where a domain has no end
 TINY = 1e-13
 STEPS, TURNS, STARTS = 400, 25, 6

@@ -75,8 +75,10 @@ class Disagree(PaverError):
 
 
 class KeeperFault(PaverError):
-    """Status 10: the database .name of a campaign failed. What the rounds before it settled stays kept."""
+    """Status 10: the database .name of a campaign failed. What the rounds before it settled stays kept. The text .cause begins
+    with locked, full, damaged or foreign; it is None where neither Python's sqlite3 nor the system tells."""
     name: str
+    cause: Optional[str] = None
 
 
 class NoFile(PaverError):
@@ -94,6 +96,18 @@ class ProgramMissing(PaverError):
 
 class SystemEdited(PaverError):
     """The system's file was edited while it was paved."""
+
+
+class FolderRefused(PaverError):
+    """The folder .name of a sweep is not the one that was asked for: .cause says what is another."""
+    name: str
+    cause: str
+
+
+class TaskLost(PaverError):
+    """The task .name of a sweep was lost .attempts times; its text says how the last one ended."""
+    name: str
+    attempts: int
 
 
 class NotInProgram(UsageError):

@@ -313,4 +313,3 @@ def of_picture(command: str, read: Words, system: System) -> List[str]:
     except ValueError as fault:
         return [f"`--at`: {fault}; the picture is empty."]
     return []
-

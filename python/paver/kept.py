@@ -1,4 +1,4 @@
-"""The rows that a campaign keeps in its database, as the lines of a paving."""
+"""The rows that a campaign keeps in its database, as the lines of a paving, and what stands in a campaign's way there."""
 from __future__ import annotations
 
 import os
@@ -14,6 +14,7 @@ from .errors import PavingError
 HEADER = b"SQLite format 3\0"
 PathName = Union[str, "os.PathLike[str]"]
 TABLES = ("head", "node")
+DAMAGED = "the database is damaged"
 LONGEST_ROW = 1 << 16  # bytes of a path or a line; the longest of 12 variables has 660
 
 
@@ -38,14 +39,26 @@ def opened(path: PathName) -> Iterator[Any]:
         else:
             connection = sqlite3.connect(f"file:{quote(str(name))}?mode=ro&immutable=1", uri=True)
         if hasattr(connection, "setlimit"):  # from Python 3.11 on
-            connection.setlimit(sqlite3.SQLITE_LIMIT_LENGTH, LONGEST_ROW)
+            connection.setlimit(getattr(sqlite3, "SQLITE_LIMIT_LENGTH"), LONGEST_ROW)
         try:
             need_tables(connection)
             yield connection
         except (sqlite3.DatabaseError, OverflowError, UnicodeDecodeError) as fault:
-            raise PavingError(1, f"no database of a campaign: {fault}") from fault
+            raise PavingError(1, f"{said_of(fault)}: {fault}") from fault
         finally:
             connection.close()
+
+
+def said_of(fault: Exception) -> str:
+    """Which of locked, full, damaged and foreign a fault of sqlite3 is. Its texts are the same in each version."""
+    text = str(fault)
+    if "locked" in text or "busy" in text:
+        return "the database is locked by another program"
+    if "full" in text:
+        return "the disk is full"
+    if "malformed" in text or "corrupt" in text or "I/O" in text:
+        return DAMAGED
+    return "no database of a campaign"
 
 
 def need_tables(connection: Any) -> None:
@@ -102,3 +115,87 @@ def lines_of(path: PathName) -> Tuple[List[str], str]:
     if taken < len(rows):
         raise PavingError(3 + taken, f"the kept row {taken} is at no open leaf of the rows before it")
     return lines, identity
+
+
+# ---- What stands in a campaign's way
+
+TEXTS = {"head": "CREATE TABLE head (\n    id INTEGER PRIMARY KEY CHECK (id = 1), identity BLOB NOT NULL) STRICT",
+         "node": "CREATE TABLE node (path TEXT PRIMARY KEY NOT NULL, line TEXT NOT NULL) STRICT"}
+KEYS = ("index", "sqlite_autoindex_node_1", None)
+EMPTY_LOG, LOG_MARK = 41, b"\x37\x7f\x06"  # the longest log that keeps nothing, and what logs begin with
+LOCKS = 1 << 30, 512  # where SQLite's locks lie, and the program's: the first byte and how many
+ROOM = 1 << 20  # with fewer bytes left a disk counts as full
+
+
+def obstacle(path: PathName) -> Optional[str]:
+    """What keeps the program from a campaign's database, as far as Python's sqlite3 and the system tell: a text that begins
+    with locked, full, damaged or foreign; None where nothing is found. It changes nothing."""
+    name = os.fspath(path)
+    if not os.path.exists(name):
+        if not may_be_log(f"{name}-wal"):
+            return f"foreign: {name}-wal is there without its database"
+    elif not os.path.isfile(name) or os.stat(name).st_nlink != 1:
+        return "foreign: it is no regular file with one name"
+    else:
+        found = is_locked(name) or is_strange(name)
+        if found:
+            return found
+    folder = os.path.dirname(os.path.abspath(name))
+    if os.path.isdir(folder) and shutil.disk_usage(folder).free < ROOM:
+        return f"full: the disk of {folder} has less than a mebibyte left"
+    return None
+
+
+def may_be_log(name: str) -> bool:
+    """Whether nothing is there, or the beginning of a log that keeps nothing: only these may lie beside no database."""
+    if not os.path.lexists(name):
+        return True
+    if not os.path.isfile(name):
+        return False
+    with open(name, "rb") as file:
+        found = file.read(EMPTY_LOG + 1)
+    return len(found) <= EMPTY_LOG and all(byte in (0, mark) for byte, mark in zip(found, LOG_MARK))
+
+
+def is_locked(name: str) -> Optional[str]:
+    """Whether another process holds SQLite's locks of a file. A lock of this process is not seen."""
+    try:
+        import fcntl  # only where files are locked in this way
+        with open(name, "r+b") as file:
+            fcntl.lockf(file, fcntl.LOCK_EX | fcntl.LOCK_NB, LOCKS[1], LOCKS[0])
+    except ImportError:
+        return None
+    except BlockingIOError:
+        return "locked: another program has it open"
+    except PermissionError:
+        return "foreign: it may not be written"
+    return None
+
+
+def is_strange(name: str) -> Optional[str]:
+    """Whether a file is damaged, or is no database of a campaign."""
+    if os.path.getsize(name) == 0:
+        return None
+    if not is_database(name):
+        return "foreign: it is no SQLite database"
+    try:
+        with opened(name) as connection:
+            for listed in connection.execute("SELECT type, name, sql FROM sqlite_master"):
+                if not is_own(*listed):
+                    return f"foreign: it has a {listed[0]} `{listed[1]}` that no campaign made"
+            checked = connection.execute("PRAGMA quick_check(1)").fetchone()[0]
+            if checked != "ok":
+                return f"damaged: {checked}"
+            if identity_in(connection) is None and connection.execute("SELECT 1 FROM node LIMIT 1").fetchone():
+                return "foreign: it has rows and no identity"
+    except PavingError as fault:
+        return f"{'damaged' if fault.cause.startswith(DAMAGED) else 'foreign'}: {fault.cause}"
+    return None
+
+
+def is_own(kind: str, name: str, text: Optional[str]) -> bool:
+    """Whether a database of a campaign lists this: a table by the text that the program gives it, or its index. Earlier versions
+    wrote IF NOT EXISTS."""
+    if kind == "table" and name in TEXTS and text is not None:
+        return text.replace("CREATE TABLE IF NOT EXISTS ", "CREATE TABLE ", 1) == TEXTS[name]
+    return (kind, name, text) == KEYS

@@ -14,6 +14,7 @@ from dataclasses import dataclass, field
 from fractions import Fraction
 from pathlib import Path
 from time import monotonic
+from typing import Any, Union
 
 from . import canonical, errors, numbers, program
 from .canonical import System
@@ -24,7 +25,7 @@ from .paving import Paving
 from .texts import ENCODING, SystemText
 from .widen import Width, widened, widened_contract
 
-Exact = Fraction | float  # a float where it is infinite
+Exact = Union[Fraction, float]  # a float where it is infinite
 HINT = 0.15  # seconds of a descent
 DEPTH, LADDER = 200, 12
 MOST_POINTS = 200  # inner boxes of a run that are looked at
@@ -126,7 +127,8 @@ class Question:
             constraints.append(f"{self.of}\n<= {numbers.minibex(level)}")
         if point is None:
             return self.text.written(constraints)
-        ends = {name: (numbers.minibex(value),) * 2 for name, value in zip(self.base.names, point)}
+        words = (numbers.minibex(value) or "" for value in point)  # a point's numbers are ones that a text can hold
+        ends = {name: (word, word) for name, word in zip(self.base.names, words)}
         return self.text.written(constraints, ends)
 
     def settings(self, level: Fraction | None, eps: Fraction, boxes: int) -> dict:
@@ -184,7 +186,7 @@ class Search:
             except errors.WantOfMemory as fault:
                 raise Stopped(MEMORY) from fault
             data = out.read_bytes()
-        root = self.question.base.root if point is None else [(value, value) for value in point]
+        root: Any = self.question.base.root if point is None else [(value, value) for value in point]
         paving = Paving.from_text(data.decode(ENCODING), root=root, names=self.question.base.names)
         return Proof(command, settings, text, data, level, paving.counts()), paving
 
@@ -324,7 +326,8 @@ def points_of(box: Box, domains: Iterable[tuple[Exact, Exact]]) -> Iterable[tupl
             return
         if isinstance(low, float) and isinstance(high, float):
             low, high = Fraction(-1), Fraction(1)
-        ends.append((high - 1 if isinstance(low, float) else low, low + 1 if isinstance(high, float) else high))
+        ends.append((Fraction(high - 1 if isinstance(low, float) else low),
+                     Fraction(low + 1 if isinstance(high, float) else high)))
     yield tuple((low + high) / 2 for low, high in ends)
     yield tuple(low for low, _ in ends)
     yield tuple(high for _, high in ends)

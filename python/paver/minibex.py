@@ -37,6 +37,8 @@ def tokens(text: str) -> List[Token]:
     found, at = [], 0
     while at < len(text):
         match = TOKEN.match(text, at)
+        if match is None or match.lastgroup is None:
+            raise ValueError(f"no token at byte {at}")
         if match.lastgroup != "blank":
             found.append(Token(match.lastgroup, match.group(), at))
         at = match.end()

@@ -11,7 +11,7 @@ import re
 import sys
 from fractions import Fraction
 from functools import lru_cache
-from typing import Any, Optional, Tuple, Union
+from typing import Any, List, Optional, Sequence, Set, Tuple, Union
 
 Exact = Union[Fraction, float]  # a float where it is infinite
 SCALE = 512
@@ -21,6 +21,8 @@ MOST_MANTISSA = (1 << MANTISSA_BITS) - 1
 MOST_EXPONENT, LARGE = 511, 450  # of a number in its shortest form; up to LARGE any mantissa has its place
 GREATEST = MOST_MANTISSA << (LARGE + SCALE)
 NUMBER = re.compile(r"(-?[1-9][0-9]{0,18}):(-?[1-9][0-9]{0,2}|0)\Z")
+# A line that is a number where its mantissa is not too large: odd, and with an exponent far from its ends.
+USUAL = re.compile(r"^((-?(?:[1-9][0-9]{0,17})?[13579]):(0|-?(?:[1-3][0-9]{2}|[1-9][0-9]?)))$", re.M)
 
 
 class NumberError(ValueError):
@@ -41,6 +43,25 @@ def parts(text: str) -> Tuple[int, int]:
             and (exponent <= LARGE or abs(mantissa) << exponent + SCALE <= GREATEST):
         return mantissa, exponent
     raise NumberError(f"{text!r} is no number of a paving")
+
+
+def parts_of(texts: Set[str]) -> Tuple[List[str], List[int], List[int]]:
+    """The texts that are numbers, their mantissas and their exponents. Most are looked at together."""
+    usual = USUAL.findall("\n".join(texts))
+    columns: List[Sequence[str]] = list(zip(*usual)) or [(), (), ()]
+    words, mantissas, exponents = list(columns[0]), list(map(int, columns[1])), list(map(int, columns[2]))
+    rest = texts.difference(words)
+    if mantissas and (min(mantissas) < -MOST_MANTISSA or max(mantissas) > MOST_MANTISSA):
+        rest, words, mantissas, exponents = texts, [], [], []
+    for text in rest:
+        try:
+            mantissa, exponent = parts(text)
+        except NumberError:
+            continue
+        words.append(text)
+        mantissas.append(mantissa)
+        exponents.append(exponent)
+    return words, mantissas, exponents
 
 
 @lru_cache(maxsize=1 << 16)

@@ -12,28 +12,28 @@ from .numbers import minibex
 
 SETTINGS = ("eps", "depth", "bisect", "contract")
 KEPT_SETTINGS = (*SETTINGS, "form")  # those that an identity holds
-OPTIONS = (*SETTINGS, "boxes", "workers", "limit", "form")
+OPTIONS = (*SETTINGS, "boxes", "workers", "order", "limit", "form")
 FILES = {"resume": "SYSTEM PAVING..", "merge": "SYSTEM PAVING..", "audit": "SYSTEM PAVING", "svg": "SYSTEM PAVING",
          "audit-centered": "SYSTEM PAVING", "sample": ""}
 COMMANDS: Dict[str, Tuple[str, ...]] = {
     "check": (),
     "run": (*OPTIONS, "out"),
-    "resume": (*OPTIONS, "out"),
+    "resume": (*OPTIONS, "share", "out"),
     "merge": (*SETTINGS, "limit", "form", "out"),
-    "audit": (*SETTINGS, "limit", "form"),
+    "audit": (*SETTINGS, "workers", "limit", "form"),
     "svg": (*SETTINGS, "limit", "form", "x", "y", "at"),
     "sample": ("seed", "count"),
-    "run-centered": (*SETTINGS, "boxes", "workers", "limit", "out"),
-    "audit-centered": (*SETTINGS, "limit"),
+    "run-centered": (*SETTINGS, "boxes", "workers", "order", "limit", "out"),
+    "audit-centered": (*SETTINGS, "workers", "limit"),
     "least": (*SETTINGS, "boxes", "limit", "of"),
     "campaign": (*OPTIONS, "keep", "rounds"),
 }
 REQUIRED = {"svg": ("x", "y"), "sample": ("seed", "count"), "least": ("of",), "campaign": ("keep",)}
-LATER = ("limit", "form", "out")  # which an older program does not have
-MOST_BOXES, MOST_LIMIT = 100_000, 100_000_000
+LATER = ("limit", "form", "order", "share", "out")  # which an older program does not have
+MOST_BOXES, MOST_LIMIT, MOST_SHARES = 100_000, 100_000_000, 1_000_000
 RANGES = {"depth": (1, 200), "boxes": (1, MOST_BOXES), "workers": (1, 16), "limit": (MOST_BOXES, MOST_LIMIT),
           "seed": (0, 2 ** 31 - 1), "count": (1, 16), "rounds": (1, 100)}
-CHOICES = {"bisect": ("largest", "round"), "form": ("plain", "centered")}
+CHOICES = {"bisect": ("largest", "round"), "form": ("plain", "centered"), "order": ("depth", "level")}
 DEFAULTS = {"eps": "0.125", "depth": "60", "bisect": "largest", "contract": "prop(8)", "form": "plain"}
 NUMBER = r"[0-9]+(\.[0-9]*)?([eE][+-]?[0-9]+)?"
 
@@ -129,6 +129,8 @@ def faults(command: str, words: Sequence[str]) -> List[str]:
     found += [f"`{command}` needs `--{name}`." for name in REQUIRED.get(command, ()) if name not in seen]
     if seen.get("x") is not None and seen.get("x") == seen.get("y"):
         found.append("`--x` and `--y` name one variable: a picture has two.")
+    if seen.get("share") is not None and seen.get("order") == "level":
+        found.append("`--share` and `--order level` exclude each other: a share is settled in its own order.")
     return found + file_faults(command, len(read.files))
 
 
@@ -173,11 +175,19 @@ def value_fault(name: str, value: Optional[str], joined: bool = False, boxes: in
             return [f"`--{name} {value}`: a whole number from {low} to {high} is expected."]
     if name in CHOICES and value not in CHOICES[name]:
         return [f"`--{name} {value}`: {' or '.join(f'`{word}`' for word in CHOICES[name])} is expected."]
+    if name == "share" and not is_share(value):
+        return [f"`--share {value}`: K/N is expected, K below N and N at most {MOST_SHARES}, as 0/4."]
     if name == "eps" and not is_number(value):
         return [f"`--eps {value}`: an unsigned number as 0.5 or 1e-3 is expected."]
     if name == "at" and not all(is_number(part[1:] if part[:1] == "-" else part) for part in value.split(",")):
         return [f"`--at {value}`: numbers joined by commas are expected, one for each other variable, as 0.5,-1."]
     return []
+
+
+def is_share(text: str) -> bool:
+    """Whether a text is K/N, of up to ten digits each, with K below N and N at most a million."""
+    found = re.fullmatch("([0-9]{1,10})/([0-9]{1,10})", text, re.A)
+    return found is not None and int(found[1]) < int(found[2]) <= MOST_SHARES
 
 
 def is_number(text: str) -> bool:

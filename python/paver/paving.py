@@ -13,7 +13,7 @@ from .errors import PavingError
 from .identity import UNSAID, Identity, compared
 from .numbers import NumberError, parts, rounded
 from .canonical import System
-from .tree import Tree
+from .tree import FOLLOW, Tree
 
 SUMMARY = re.compile(r"settled (\d+) cut (\d+) removed (\d+) inner (\d+) small (\d+) open (\d+)\Z", re.A)
 FIELDS = ("settled", "cut", "removed", "inner", "small", "open")
@@ -116,11 +116,9 @@ class Paving(Cover):
 
     def _check_shape(self) -> None:
         """Each line begins with a node's letter and has its number of words, and together they are one whole tree."""
-        ends = 2 * (self.dims or 0)
-        blanks = {"C ": ends + 2, "I ": ends, "S ": ends, "X": 0, "O": 0}
         kinds = [line[:2] for line in self.lines]
-        if list(map(blanks.get, kinds)) != list(map(str.count, self.lines, repeat(" "))):
-            row = next(k for k, line in enumerate(self.lines) if blanks.get(line[:2]) != line.count(" "))
+        row = first_strange(self.lines, kinds, self.dims or 0)
+        if row is not None:
             raise self._end_within(kinds[:row]) or PavingError(self.first_row + row, f"no node of {self.dims} variables")
         fault = self._end_within(kinds)
         if fault is not None:
@@ -136,7 +134,7 @@ class Paving(Cover):
         """The error where the whole tree ends before these lines do."""
         left = list(accumulate(map(STEPS.__getitem__, kinds), initial=1))
         ended = left.index(0) if 0 in left else len(kinds)
-        return PavingError(self.first_row + ended, "lines follow the whole tree") if ended < len(kinds) else None
+        return PavingError(self.first_row + ended, FOLLOW) if ended < len(kinds) else None
 
     def counts(self) -> Dict[str, int]:
         """How many nodes are settled, cut, removed, inner, small and open."""
@@ -182,6 +180,16 @@ class Paving(Cover):
         return f"<paving{in_words(self)}>"
 
 
+def first_strange(lines: Sequence[str], kinds: Sequence[str], dims: int) -> Optional[int]:
+    """The number of the first line that has no node's letter, or another number of words; None where there is none. kinds are
+    their first two bytes."""
+    ends = 2 * dims
+    blanks = {"C ": ends + 2, "I ": ends, "S ": ends, "X": 0, "O": 0}
+    if list(map(blanks.get, kinds)) == list(map(str.count, lines, repeat(" "))):
+        return None
+    return next(k for k, (kind, line) in enumerate(zip(kinds, lines)) if blanks.get(kind) != line.count(" "))
+
+
 def whole_text(head: bytes, file: BinaryIO) -> str:
     """The text of a file from its first bytes on. PavingError where it can be no paving's: a file as /dev/zero has no end."""
     if not head.startswith((b"paving ", b"settled ")):
@@ -204,13 +212,19 @@ def parsed(kind: type[Paving], text: str, root: Optional[Tuple[str, ...]], names
         raise PavingError(len(lines) + 1, "the line has no end: the text was cut short")
     if lines and lines[0].startswith("settled "):
         return kind(lines[1:], None, None, read_summary(lines[0], 1), root, names)
+    version, identity = header_of(lines)
+    return kind(lines[2:], version, identity, None, root, names)
+
+
+def header_of(lines: Sequence[str]) -> Tuple[int, str]:
+    """The version and the identity that the first two lines of a stored paving tell."""
     match = re.fullmatch(r"paving ([12])", lines[0] if lines else "")
     if match is None:
         raise PavingError(1, "neither a summary line nor `paving 1` or `paving 2`")
     found = re.fullmatch(r"identity ([0-9a-f]{64})", lines[1] if len(lines) > 1 else "")
     if found is None:
         raise PavingError(2, "no identity")
-    return kind(lines[2:], int(match.group(1)), found.group(1), None, root, names)
+    return int(match.group(1)), found.group(1)
 
 
 def in_words(cover: Cover) -> str:
@@ -221,10 +235,13 @@ def in_words(cover: Cover) -> str:
 
 
 class Parts(Cover):
-    """The pavings of the parts of one search box, asked as one."""
+    """Several pavings asked as one: those of the parts of a search box, as `split` makes them, or stages of one tree, as the
+    shares and joins of a `sweep` are and what `resume` goes on with. Stages have one identity, and are told as their join: each
+    node once, and open only where it is in all. ValueError where pavings have one search box and are not known to be of one
+    tree."""
 
     def __init__(self, pavings: Sequence[Paving]) -> None:
-        self.pavings = list(pavings)
+        self.pavings = one_for_each_tree(pavings)
         if not self.pavings:
             raise ValueError("no paving is given")
         self.names, self.dims = self.pavings[0].names, self.pavings[0].dims
@@ -232,6 +249,30 @@ class Parts(Cover):
             raise ValueError("the pavings have different numbers of variables")
         if any(paving.names != self.names for paving in self.pavings):
             raise ValueError("the pavings have different names of variables")
+        boxes = self.search_boxes()
+        if len(set(boxes)) < len(boxes):
+            raise ValueError("pavings of one search box are one where they have one identity: these have others, or none")
+
+    @classmethod
+    def read(cls, paths: Sequence[PathName], *, root: Optional[Root] = None, names: Optional[List[str]] = None,
+             system: Union[System, PathName, None] = None, program: Optional[str] = None, identity: Identity = UNSAID,
+             eps: Any = None, depth: Any = None, bisect: Optional[str] = None, contract: Optional[str] = None,
+             form: Optional[str] = None) -> Parts:
+        """Reads stored stages of one tree: shares and joins that a sweep leaves, files of `resume`, databases of campaigns. The
+        search box comes from the system, or is given; all files have to be of its identity under these settings (see
+        Paving.read), or of one identity where no system is given: PavingRefused names one that isn't.
+
+        Files of more than 64 MB together are read again for each question, and some 50,000 nodes of them are held at a time;
+        clusters and pictures alone have to hold all. Disagree where two stages tell different things of a node."""
+        from .stages import stages_of
+        if isinstance(system, (str, Path)):
+            from .program import check
+            system = check(system, program=program)
+        given = {"eps": eps, "depth": depth, "bisect": bisect, "contract": contract, "form": form}
+        found = texts_of_root(root) if root is not None else system.root if system is not None else None
+        if found is None:
+            raise ValueError("this needs the search box: give root= or system=")
+        return stages_of(paths, tuple(found), names or (system.names if system is not None else None), system, identity, given)
 
     def counts(self) -> Dict[str, int]:
         """How many nodes of all parts are settled, cut, removed, inner, small and open."""
@@ -244,6 +285,15 @@ class Parts(Cover):
 
     def __repr__(self) -> str:
         return f"<{len(self.pavings)} pavings{in_words(self)}>"
+
+
+def one_for_each_tree(pavings: Sequence[Paving]) -> List[Paving]:
+    """The pavings, where those of one identity are joined into one. Disagree where two tell different things of a node."""
+    from .stages import joined_paving
+    trees: Dict[Any, List[Paving]] = {}
+    for number, paving in enumerate(pavings):
+        trees.setdefault(number if paving.identity is None else paving.identity, []).append(paving)
+    return [stages[0] if len(stages) == 1 else joined_paving(stages) for stages in trees.values()]
 
 
 __all__ = ["Box", "NumberError", "Paving", "Parts", "read_summary"]

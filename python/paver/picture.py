@@ -3,7 +3,7 @@ from __future__ import annotations
 
 import math
 from html import escape
-from typing import TYPE_CHECKING, Iterable, Iterator, List, Mapping, Optional, Sequence, Tuple
+from typing import TYPE_CHECKING, Dict, Iterable, Iterator, List, Mapping, Optional, Sequence, Tuple
 
 from .box import Number
 from .cover import KEPT, Name
@@ -15,6 +15,8 @@ if TYPE_CHECKING:
 
 SIZE, MARGIN, BELOW = 600, 60, 90
 EDGE = "#90a4ae"
+MOST_OUTLINES = 5000  # of a class: of more boxes the union is drawn, to half a pixel
+FINE = 2  # parts of a pixel there
 
 
 class Frame:
@@ -59,6 +61,36 @@ def path_of(pairs: Iterable[Sequence[Pair]], frame: Frame) -> str:
     return "".join(parts)
 
 
+def path_of_union(pairs: Iterable[Sequence[Pair]], frame: Frame) -> str:
+    """The union of rectangles as one path of fewer, whose ends are rounded to half a pixel; each has a width at least."""
+    columns = [0] * (FINE * math.ceil(MARGIN + frame.sizes[0]) + FINE)  # of each the rows that are covered, a bit each
+    for (a, b), (c, d) in pairs:
+        first, end, top, bottom = (round(FINE * place) for place in (frame.x(a), frame.x(b), frame.y(d), frame.y(c)))
+        rows = (1 << max(bottom, top + 1)) - (1 << top)
+        for column in range(first, max(end, first + 1)):
+            columns[column] |= rows
+    parts, begun = [], {}  # type: List[str], Dict[Tuple[int, int], int]
+    for column, covered in enumerate([*columns, 0]):
+        now = set(runs_of(covered))
+        for top, bottom in [run for run in begun if run not in now]:
+            left, high, right, low = (short(place / FINE) for place in (begun.pop((top, bottom)), top, column, bottom))
+            parts.append(f"M{left} {high}H{right}V{low}H{left}z")
+        for run in now:
+            begun.setdefault(run, column)
+    return "".join(parts)
+
+
+def runs_of(bits: int) -> Iterator[Tuple[int, int]]:
+    """The first and the end of each run of ones, from the lowest on."""
+    at = 0
+    while bits:
+        zeros = (bits & -bits).bit_length() - 1
+        bits, at = bits >> zeros, at + zeros
+        ones = (~bits & (bits + 1)).bit_length() - 1
+        yield at, at + ones
+        bits, at = bits >> ones, at + ones
+
+
 def axis_lines(frame: Frame, names: Sequence[str]) -> Iterator[str]:
     """The ticks, numbers and names of both axes."""
     left, bottom = MARGIN, MARGIN / 2 + frame.sizes[1]
@@ -89,7 +121,8 @@ def svg(cover: Cover, x: Name = 0, y: Name = 1, at: Optional[Mapping[Name, Numbe
         title: Optional[str] = None, equal: bool = True, near: bool = False) -> str:
     """The text of a picture: a slice with the values of the dict `at` for the other variables, or the projection on two.
     What no kept box covers, or in a projection the shadow of none, is removed. Inner boxes lie on top, then small and open
-    ones. With near the axes end where what is kept ends. ValueError where a value of `at` lies outside the search box."""
+    ones. With near the axes end where what is kept ends. Of more than 5,000 boxes of a class their union is drawn, without the
+    edges within. ValueError where a value of `at` lies outside the search box."""
     shown = grouped(projection(cover, x, y) if project else rectangles(cover, x, y, at, KEPT))
     return picture_of(cover, (x, y), shown, title, equal, near)
 
@@ -107,7 +140,8 @@ def picture_of(cover: Cover, variables: Tuple[Name, Name], shown: Mapping[str, S
     outline = path_of([frame.axes], frame)
     lines.append(f'<path d="{outline}" fill="{FILL["removed"]}" stroke="none"/>')
     for kind, pairs in shown.items():
-        drawn = path_of((finite(pair, frame.axes) for pair in pairs), frame)
+        outlines = path_of if len(pairs) <= MOST_OUTLINES else path_of_union
+        drawn = outlines((finite(pair, frame.axes) for pair in pairs), frame)
         lines.append(f'<path d="{drawn}" fill="{FILL[kind]}" stroke="{EDGE}" stroke-width="0.4"/>')
     lines.append(f'<path d="{outline}" fill="none" stroke="#000"/>')
     names = [cover.name_of(cover.variable(k)) for k in variables]

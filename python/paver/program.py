@@ -13,7 +13,7 @@ from itertools import takewhile
 from pathlib import Path
 from typing import Any, Dict, Iterable, Iterator, List, Mapping, NoReturn, Optional, Sequence, Tuple, Union
 
-from . import beside, errors, identity
+from . import beside, errors, identity, kept
 from .box import exact_number
 from .canonical import System
 from .options import COMMANDS, LATER, OPTIONS, SETTINGS, faults, number_text, spelled
@@ -75,7 +75,7 @@ class Answer:
 
     @property
     def complete(self) -> bool:
-        """Whether no leaf is open."""
+        """Whether no leaf is open; of a share, none at or below its leaves."""
         return self.status == 0
 
     @property
@@ -167,6 +167,9 @@ def asked(words: Sequence[Any], program: Optional[str], timeout: Optional[float]
     fault = fault_of(status, line)
     if type(fault) is errors.UsageError:
         refuse_usage(fault, list(map(str, words)), program)
+    if isinstance(fault, errors.KeeperFault):
+        fault.cause = kept.obstacle(fault.name)
+        fault.args = (f"{fault.line}: {fault.cause}" if fault.cause else fault.line,)
     raise fault
 
 
@@ -182,7 +185,7 @@ def refuse_usage(fault: errors.PaverError, words: Sequence[str], program: Option
     raise fault
 
 
-HARMLESS = {"out": "none", "limit": "100000", "form": "plain"}
+HARMLESS = {"out": "none", "limit": "100000", "form": "plain", "order": "depth", "share": "0/1"}
 
 
 def has(command: str, program: Optional[str] = None) -> bool:
@@ -251,39 +254,43 @@ def named(work: Any, system: PathName, pavings: Sequence[PathName], settings: Ma
 
 
 def run(system: PathName, *, eps: Any = None, depth: Any = None, bisect: Optional[str] = None, contract: Optional[str] = None,
-        boxes: Any = None, workers: Any = None, limit: Any = None, form: Optional[str] = None, out: Optional[PathName] = None,
-        program: Optional[str] = None, timeout: Optional[float] = None) -> Answer:
+        boxes: Any = None, workers: Any = None, order: Optional[str] = None, limit: Any = None, form: Optional[str] = None,
+        out: Optional[PathName] = None, program: Optional[str] = None, timeout: Optional[float] = None) -> Answer:
     """Paves a system. eps and the whole numbers may be of any kind: a float is taken as it is written, so that eps=0.1 is
     `--eps 0.1`. out stores the paving in a file, and the settings in another beside it, `out`.json."""
-    given = dict(eps=eps, depth=depth, bisect=bisect, contract=contract, boxes=boxes, workers=workers, limit=limit, form=form)
+    given = dict(eps=eps, depth=depth, bisect=bisect, contract=contract, boxes=boxes, workers=workers, order=order, limit=limit,
+                 form=form)
     return paved("run", system, [], out, given, program, timeout)
 
 
 def run_text(text: Union[str, bytes], *, eps: Any = None, depth: Any = None, bisect: Optional[str] = None,
-             contract: Optional[str] = None, boxes: Any = None, workers: Any = None, limit: Any = None,
-             form: Optional[str] = None, out: Optional[PathName] = None, program: Optional[str] = None,
+             contract: Optional[str] = None, boxes: Any = None, workers: Any = None, order: Optional[str] = None,
+             limit: Any = None, form: Optional[str] = None, out: Optional[PathName] = None, program: Optional[str] = None,
              timeout: Optional[float] = None) -> Answer:
     """The same for a system's text."""
     with as_file(text) as name:
-        return run(name, eps=eps, depth=depth, bisect=bisect, contract=contract, boxes=boxes, workers=workers, limit=limit,
-                   form=form, out=out, program=program, timeout=timeout)
+        return run(name, eps=eps, depth=depth, bisect=bisect, contract=contract, boxes=boxes, workers=workers, order=order,
+                   limit=limit, form=form, out=out, program=program, timeout=timeout)
 
 
 def run_centered(system: PathName, *, eps: Any = None, depth: Any = None, bisect: Optional[str] = None,
-                 contract: Optional[str] = None, boxes: Any = None, workers: Any = None, limit: Any = None,
-                 out: Optional[PathName] = None, program: Optional[str] = None, timeout: Optional[float] = None) -> Answer:
+                 contract: Optional[str] = None, boxes: Any = None, workers: Any = None, order: Optional[str] = None,
+                 limit: Any = None, out: Optional[PathName] = None, program: Optional[str] = None,
+                 timeout: Optional[float] = None) -> Answer:
     """As run, where boxes are tested by centered forms, too."""
-    given = dict(eps=eps, depth=depth, bisect=bisect, contract=contract, boxes=boxes, workers=workers, limit=limit)
+    given = dict(eps=eps, depth=depth, bisect=bisect, contract=contract, boxes=boxes, workers=workers, order=order, limit=limit)
     return paved("run-centered", system, [], out, given, program, timeout)
 
 
 def resume(system: PathName, pavings: Pavings, *, eps: Any = None, depth: Any = None, bisect: Optional[str] = None,
-           contract: Optional[str] = None, boxes: Any = None, workers: Any = None, limit: Any = None,
-           form: Optional[str] = None, out: Optional[PathName] = None, program: Optional[str] = None,
-           timeout: Optional[float] = None) -> Answer:
-    """Joins 1 to 8 stored pavings of the system under the same settings, and goes on from there. Settings that aren't given
-    are those that were kept beside the first file."""
-    given = dict(eps=eps, depth=depth, bisect=bisect, contract=contract, boxes=boxes, workers=workers, limit=limit, form=form)
+           contract: Optional[str] = None, boxes: Any = None, workers: Any = None, order: Optional[str] = None,
+           limit: Any = None, form: Optional[str] = None, share: Optional[str] = None, out: Optional[PathName] = None,
+           program: Optional[str] = None, timeout: Optional[float] = None) -> Answer:
+    """Joins 1 to 8 stored pavings of the system under the same settings, and goes on from there; with share, as "0/4", at and
+    below the open leaves alone whose number is 0 modulo 4. Settings that aren't given are those that were kept beside the
+    first file."""
+    given = dict(eps=eps, depth=depth, bisect=bisect, contract=contract, boxes=boxes, workers=workers, order=order, limit=limit,
+                 form=form, share=share)
     return paved("resume", system, listed(pavings), out, given, program, timeout)
 
 
@@ -298,13 +305,13 @@ def merge(system: PathName, pavings: Pavings, *, eps: Any = None, depth: Any = N
 
 def campaign(system: PathName, keep: PathName, *, rounds: Any = None, eps: Any = None, depth: Any = None,
              bisect: Optional[str] = None, contract: Optional[str] = None, boxes: Any = None, workers: Any = None,
-             limit: Any = None, form: Optional[str] = None, program: Optional[str] = None,
+             order: Optional[str] = None, limit: Any = None, form: Optional[str] = None, program: Optional[str] = None,
              timeout: Optional[float] = None) -> Answer:
     """Goes on with the paving that is kept in the database `keep`, or begins one there, for 1 to 100 rounds (else one).
     Each round settles at most `boxes` nodes and keeps them before the next begins, so what whole rounds settled stays
     whatever ends the call. With status 1 the same call again goes on from there."""
-    given = dict(eps=eps, depth=depth, bisect=bisect, contract=contract, boxes=boxes, workers=workers, limit=limit, form=form,
-                 keep=os.fspath(keep))
+    given = dict(eps=eps, depth=depth, bisect=bisect, contract=contract, boxes=boxes, workers=workers, order=order, limit=limit,
+                 form=form, keep=os.fspath(keep))
     more = [] if rounds is None else [f"--rounds={spelled('rounds', rounds)}"]
     return paved("campaign", system, [], None, given, program, timeout, more)
 

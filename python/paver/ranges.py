@@ -7,11 +7,12 @@ from __future__ import annotations
 
 from collections.abc import Sequence
 from fractions import Fraction
+from typing import Tuple
 
 from . import intervals as iv
 from .canonical import Constraint, value
 
-Interval = tuple[Fraction, Fraction]
+Interval = Tuple[Fraction, Fraction]
 TWO = {"+": iv.plus, "-": iv.minus, "*": iv.times, "/": iv.over,
        "min": lambda x, y: (min(x[0], y[0]), min(x[1], y[1])), "max": lambda x, y: (max(x[0], y[0]), max(x[1], y[1]))}
 

@@ -2,9 +2,9 @@
 from __future__ import annotations
 
 from collections.abc import Callable, Iterator, Sequence
-from typing import Any, NamedTuple
+from typing import Any, NamedTuple, Tuple
 
-Ends = tuple[int, ...]  # low and high end of each place in turn, in grid form: see numbers.py
+Ends = Tuple[int, ...]  # low and high end of each place in turn, in grid form: see numbers.py
 
 
 class Item(NamedTuple):

@@ -16,7 +16,7 @@ from dataclasses import dataclass, field
 from fractions import Fraction
 from itertools import product
 from pathlib import Path
-from typing import TextIO
+from typing import Any, Dict, TextIO, Union
 
 from . import program
 from .canonical import Constraint, System, infix, value
@@ -32,7 +32,7 @@ from .widen import widened, width_of
 NEGATED = {"<=": ">", "<": ">=", ">=": "<", ">": "<="}
 MOST_CONSTRAINTS = 64
 SHOWN = {"sure": "inner", "refuted": "removed", "rest": "small"}  # the classes of boxes and pictures
-Witness = dict[str, Fraction | float]
+Witness = Dict[str, Union[Fraction, float]]
 
 
 class NotRobust(ValueError):
@@ -286,14 +286,15 @@ class Classifier:
     def witness_of(self, cell: tuple[int, ...], box: Box) -> Witness | None:
         """Values of the parameters with which each point of the cell fails one constraint; None where none are found."""
         ends = Box("inner", tuple(spelling(end) for end in cell)).exact
-        whole = list(box.exact)
+        pairs = list(box.exact)
         for k, pair in zip(self.gains, ends):
-            whole[k] = pair
-        if any(isinstance(end, float) for pair in whole for end in pair):
+            pairs[k] = pair
+        if any(isinstance(end, float) for pair in pairs for end in pair):
             return None
+        whole = [(Fraction(low), Fraction(high)) for low, high in pairs]
         chosen = {name: inside(whole[k], self.domains[name]) for name, k in self.rest.items()}
         for name, k in self.rest.items():
-            whole[k] = (chosen[name], chosen[name])
+            whole[k] = (Fraction(chosen[name]),) * 2
         centre = [(low + high) / 2 for low, high in whole]
         for i, stands in enumerate(self.negation.vertices):
             c = self.system.constraints[i]
@@ -331,7 +332,7 @@ def robust(system: str | Path, for_all: Iterable[str], *, vertices: bool = True,
     with tempfile.TemporaryDirectory() as folder:
         path = Path(folder) / "negated.mbx"
         path.write_bytes(negation.text.encode(ENCODING))
-        run = program.run_centered if centered else program.run
+        run: Any = program.run_centered if centered else program.run
         answer = run(path, program=program_path, contract=negation.contract, **options)
         paving, negated = answer.paving(), program.check(path, program=program_path)
     return classified(negation, negated, paving, names, SystemText(text), answer.status)

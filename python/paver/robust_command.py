@@ -3,12 +3,13 @@ from __future__ import annotations
 
 import argparse
 import sys
-from collections.abc import Callable
+from collections.abc import Callable, Mapping
 from fractions import Fraction
 from pathlib import Path
 
 from .numbers import as_float
 from .picture import svg
+from .plots import Name, Number
 from .robust import SHOWN, Robust, robust, vertices_text
 from .widen import widened_file
 
@@ -39,7 +40,7 @@ def work(arguments: argparse.Namespace, values_of: Callable[[list[str]], dict[st
         with widened_file(arguments.system, arguments.widen, program=arguments.program) as (path, _):
             sys.stdout.write(vertices_text(path, names, program_path=arguments.program))
         return 0
-    at = values_of(arguments.at or [])
+    at: dict[Name, Number] = {name: value for name, value in values_of(arguments.at or []).items()}
     options = {name: getattr(arguments, name) for name in OPTIONS if getattr(arguments, name) is not None}
     found = robust(arguments.system, names, vertices=not arguments.boxes_alone, widen=arguments.widen,
                    program_path=arguments.program, **options)
@@ -56,7 +57,7 @@ def work(arguments: argparse.Namespace, values_of: Callable[[list[str]], dict[st
     return found.status
 
 
-def picture_of(found: Robust, x: str | int, y: str | int, at: dict[str, Fraction], title: str) -> str:
+def picture_of(found: Robust, x: str | int, y: str | int, at: Mapping[Name, Number], title: str) -> str:
     """The picture of a slice, with the words for regions in its legend."""
     text = svg(found, x, y, at, title=title, equal=False)
     for kind, shown in SHOWN.items():

@@ -17,7 +17,7 @@ def columns_of(cover: Cover) -> List[str]:
 def csv_rows(cover: Cover, kinds: Sequence[str], exactly: bool) -> Iterator[str]:
     """The lines of a CSV file. No word of them needs quotes: names are letters, digits and `_`."""
     yield ",".join(columns_of(cover)) + "\n"
-    for paving in cover.roots():
+    for paving in cover.pieces():
         if "removed" in (kinds or KINDS) or exactly:
             for box in paving.boxes(*kinds):
                 pairs = box.exact if exactly else box.floats
@@ -38,7 +38,7 @@ def numpy_of(cover: Cover, kinds: Sequence[str], exactly: bool) -> Any:
         for k, box in enumerate(cover.boxes(*kinds)):
             found[k] = box.exact
         return found
-    arrays = [floats_of(paving, kinds, dims) for paving in cover.roots()]
+    arrays = [floats_of(paving, kinds, dims) for paving in cover.pieces()]
     return numpy.concatenate(arrays) if arrays else numpy.empty((0, dims, 2))
 
 
@@ -57,7 +57,7 @@ def frame_of(cover: Cover, kinds: Sequence[str], exactly: bool) -> Any:
     """A pandas DataFrame with a row a box and the columns of the CSV."""
     import pandas  # type: ignore[import]
     array = numpy_of(cover, kinds, exactly)
-    classes = [kind for paving in cover.roots() for kind in classes_of(paving, kinds)]
+    classes = [kind for paving in cover.pieces() for kind in classes_of(paving, kinds)]
     frame = pandas.DataFrame(array.reshape(len(classes), -1), columns=columns_of(cover)[1:])
     frame.insert(0, "class", pandas.Categorical(classes, categories=list(KINDS)))
     return frame

@@ -52,7 +52,8 @@ def proposals(system: System) -> Iterator[str]:
 
 
 def unit(power: int) -> str:
-    return minibex(Fraction(10) ** power) if -3 <= power <= 3 else f"1e{power}"
+    text = minibex(Fraction(10) ** power)
+    return text if text is not None and abs(power) <= 3 else f"1e{power}"
 
 
 def scaled_text(system: str | Path, *, program_path: str | None = None) -> str:
@@ -62,10 +63,10 @@ def scaled_text(system: str | Path, *, program_path: str | None = None) -> str:
     instead = {name: f"({name}*{unit(power)})" for name, power in powers.items()}
     domains = dict(source.variables)
     for name, power in powers.items():
-        ends = [minibex(end / Fraction(10) ** power) for end in source.bounds(name)]
-        if None in ends:
+        low, high = (minibex(end / Fraction(10) ** power) for end in source.bounds(name))
+        if low is None or high is None:
             raise ValueError(f"the bounds of {name} can't be written in its unit: they have too many digits")
-        domains[name] = (ends[0], ends[1])
+        domains[name] = (low, high)
     return source.written([c.written(instead) for c in source.constraints], domains)
 
 

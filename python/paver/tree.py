@@ -10,16 +10,19 @@ import math
 from bisect import bisect_left, bisect_right
 from contextlib import contextmanager
 from fractions import Fraction
-from operator import le
-from typing import Dict, Iterable, Iterator, List, Optional, Sequence, Tuple, Union
+from functools import cached_property
+from operator import eq, le
+from typing import Dict, Iterable, Iterator, List, Optional, Sequence, Set, Tuple, Union
 
 from .errors import PavingError
-from .numbers import INFINITE, NumberError, parts
+from .numbers import INFINITE, parts_of
 
 Ends = Tuple[int, ...]
+Waiting = Tuple[Ends, int, int]  # a node that is to come: its box, the number of the cut node above it, and the steps to it
 Exact = Union[Fraction, float]
 DEEPEST = 200  # steps of the longest way to a node
 CHUNK = 50000  # lines whose numbers are collected at a time
+FOLLOW = "lines follow the whole tree"
 CLASSES = {"X": "removed", "I": "inner", "S": "small", "O": "open", "C": "cut"}
 
 
@@ -38,19 +41,15 @@ def without_collection() -> Iterator[None]:
 class Table:
     """The distinct numbers of a paving in order: their texts, and their values times 2^shift as whole numbers."""
 
-    def __init__(self, words: Iterable[str]) -> None:
-        found: Dict[str, Tuple[int, int]] = {}
-        for word in words:
-            try:
-                found[word] = parts(word)
-            except NumberError:
-                continue  # the line that has it is refused
-        self.shift = max([0, *(-exponent for _, exponent in found.values())])
-        values = {word: mantissa << exponent + self.shift if abs(mantissa) < INFINITE else mantissa
-                  for word, (mantissa, exponent) in found.items()}
-        self.words: List[str] = sorted(values, key=values.__getitem__)
-        self.values: List[int] = [values[word] for word in self.words]
-        self.rank: Dict[str, int] = {word: k for k, word in enumerate(self.words)}
+    def __init__(self, words: Set[str]) -> None:
+        found, mantissas, exponents = parts_of(words)  # the line that has another word is refused
+        shift = self.shift = max(0, -min(exponents, default=0))
+        values = [mantissa << exponent + shift if -INFINITE < mantissa < INFINITE else mantissa
+                  for mantissa, exponent in zip(mantissas, exponents)]
+        order = sorted(range(len(values)), key=values.__getitem__)
+        self.words: List[str] = list(map(found.__getitem__, order))
+        self.values: List[int] = list(map(values.__getitem__, order))
+        self.rank: Dict[str, int] = dict(zip(self.words, range(len(self.words))))
         self._exact: Dict[int, Exact] = {}
         self._floats: List[Optional[List[float]]] = [None, None]
         self._spelled: List[Optional[List[str]]] = [None, None]
@@ -120,7 +119,6 @@ class Tree:
     starts: Sequence[int] = (0,)  # the nodes that are below no other
 
     def __init__(self, lines: Sequence[str], second: bool, root: Optional[Sequence[str]], dims: int, first_row: int) -> None:
-        self.table = Table(words_of(lines, root or ()))
         self.kinds = "".join([line[:1] for line in lines])
         self.dims = dims
         self.boxes: List[Optional[Ends]] = []
@@ -128,38 +126,57 @@ class Tree:
         self.high: List[int] = [0] * len(lines)
         self.variables: List[int] = [0] * len(lines)
         with without_collection():
-            self._read(lines, second, None if root is None else tuple(self.table.rank[word] for word in root), first_row)
+            self.table = Table(words_of(lines, root or ()))
+            self._read(lines, second, None if root is None else self._ends_of(root), 0, [], first_row)
 
-    def _read(self, lines: Sequence[str], second: bool, root: Optional[Ends], first_row: int) -> None:
-        reader = LineReader(self.table, second, self.dims)
-        boxes, tos, waiting, box, depth = self.boxes, self.tos, [], root, 0
-        add_box, add_to, cut, settled = boxes.append, tos.append, reader.cut, reader.settled
-        for k, line in enumerate(lines):
-            kind = line[0]
-            add_box(box)
-            if kind == "C":
-                try:
-                    variable, at, to = cut(line, box)
-                except (KeyError, ValueError) as fault:
-                    raise refused(first_row + k, fault) from fault
-                if depth == DEEPEST:
-                    raise PavingError(first_row + k, f"a cut at a way of {DEEPEST} steps")
-                add_to(to)
-                self.variables[k] = variable
-                place, depth = 2 * variable, depth + 1
-                waiting.append((to[:place] + (at,) + to[place + 1:], k, depth))
-                box = to[:place + 1] + (at,) + to[place + 2:]
-                continue
-            if kind == "X" or kind == "O":
-                add_to(None)
-            else:
-                try:
-                    add_to(settled(line, box))
-                except (KeyError, ValueError) as fault:
-                    raise refused(first_row + k, fault) from fault
-            if waiting:
-                box, parent, depth = waiting.pop()
-                self.high[parent] = k + 1
+    def _ends_of(self, words: Iterable[str]) -> Ends:
+        """The places of a box's ends."""
+        return tuple([self.table.rank[word] for word in words])
+
+    def _read(self, lines: Sequence[str], second: bool, box: Optional[Ends], depth: int, waiting: List[Waiting],
+              first_row: int) -> List[Waiting]:
+        """Reads nodes from the one of this box and depth on; those that wait come behind it, the last one first. What still
+        waits then."""
+        reader, k, last = LineReader(self.table, second, self.dims), 0, len(lines) - 1
+        add_box, add_to, add_waiting, rank = self.boxes.append, self.tos.append, waiting.append, self.table.rank
+        same, numbers, high = reader.same if second else None, reader.numbers, self.high
+        try:
+            for k, (kind, line) in enumerate(zip(self.kinds, lines)):
+                add_box(box)
+                if kind == "C":
+                    _, number, word, rest = line.split(" ", 3)
+                    variable, at, to = numbers[number], rank[word], box if rest == same else reader.ends(rest, box)
+                    place = 2 * variable
+                    if not to[place] < at < to[place + 1]:  # type: ignore[index]
+                        raise ValueError("a cut that is not between the ends")
+                    if depth == DEEPEST:
+                        raise ValueError(f"a cut at a way of {DEEPEST} steps")
+                    add_to(to)
+                    self.variables[k] = variable
+                    ends, depth = list(to), depth + 1  # type: ignore[arg-type]
+                    ends[place] = at
+                    add_waiting((tuple(ends), k, depth))
+                    ends[place], ends[place + 1] = to[place], at  # type: ignore[index]
+                    box = tuple(ends)
+                    continue
+                add_to(None if kind in "XO" else box if line[2:] == same else reader.ends(line[2:], box))
+                if waiting:
+                    box, parent, depth = waiting.pop()
+                    high[parent] = k + 1
+                elif k < last:
+                    raise PavingError(first_row + k + 1, FOLLOW)
+                else:
+                    return []
+        except PavingError:
+            raise
+        except (KeyError, ValueError) as fault:
+            raise refused(first_row + k, fault) from fault
+        assert box is not None
+        return [*waiting, (box, len(self.high) - 1, depth)]
+
+    def halves(self, k: int) -> Sequence[int]:
+        """The numbers of a cut node's halves, the high one first."""
+        return self.high[k], k + 1
 
     def cover_of(self, k: int) -> Optional[Ends]:
         """The box that a kept leaf stands for: of an open one its whole box."""
@@ -172,7 +189,15 @@ class Tree:
     def ends_of(self, letter: str) -> List[Ends]:
         """The boxes of all leaves of a letter (I, S or O), in order."""
         source = self.boxes if letter == "O" else self.tos
-        return [ends for kind, ends in zip(self.kinds, source) if kind == letter]  # type: ignore[misc]
+        if letter not in self._ends:
+            pairs = zip(self.kinds, source) if letter in self.kinds else ()
+            self._ends[letter] = [ends for kind, ends in pairs if kind == letter]  # type: ignore[misc]
+        return self._ends[letter]
+
+    @cached_property
+    def _ends(self) -> Dict[str, List[Ends]]:
+        """The boxes of the letters that were asked for."""
+        return {}
 
     def seen(self, places: Dict[int, float]) -> Iterator[int]:
         """The numbers of the nodes, in preorder, whose boxes hold these places of some variables."""
@@ -184,7 +209,28 @@ class Tree:
                 continue
             yield k
             if self.kinds[k] == "C":
-                waiting += (self.high[k], k + 1)
+                waiting += self.halves(k)
+
+
+class Segment(Tree):
+    """Some nodes of a tree, one after the other in preorder, as a forest. waiting are the nodes that come behind them, the next
+    one last: the texts of their boxes' ends, and how many steps lead there."""
+
+    def __init__(self, lines: Sequence[str], waiting: Sequence[Tuple[Sequence[str], int]], dims: int, first_row: int) -> None:
+        self.kinds, self.dims, self.boxes, self.tos = "".join([line[:1] for line in lines]), dims, [], []
+        count = len(lines)
+        self.high, self.variables = [0] * (count + len(waiting)), [0] * count
+        with without_collection():
+            self.table = Table(words_of(lines, [word for words, _ in waiting for word in words]))
+            before = [(self._ends_of(words), count + k, depth) for k, (words, depth) in enumerate(waiting)]
+            box, _, depth = before.pop()
+            rest = self._read(lines, True, box, depth, before, first_row)
+        self.starts = [0, *sorted(k for k in self.high[count:] if 0 < k < count)]
+        self.waiting = [(tuple([self.table.words[end] for end in ends]), depth) for ends, _, depth in rest]
+
+    def halves(self, k: int) -> Sequence[int]:
+        """The numbers of those halves of a cut node that are among these nodes."""
+        return [half for half in (self.high[k], k + 1) if 0 < half < len(self.kinds)]
 
 
 class Leaves(Tree):
@@ -206,12 +252,12 @@ def refused(row: int, fault: Exception) -> PavingError:
     return PavingError(row, str(fault))
 
 
-def words_of(lines: Sequence[str], more: Iterable[str]) -> set[str]:
-    """The distinct words of lines that may be numbers."""
+def words_of(lines: Sequence[str], more: Iterable[str]) -> Set[str]:
+    """The distinct words of lines, but for `=`."""
     found = set(more)
     for k in range(0, len(lines), CHUNK):
         found.update(" ".join(lines[k:k + CHUNK]).replace(" =", "").split(" "))
-    return {word for word in found if ":" in word or word in ("-oo", "+oo")}
+    return found
 
 
 class LineReader:
@@ -222,31 +268,19 @@ class LineReader:
         self.rank, self.second = table.rank, second
         self.same = " ".join(["="] * (2 * dims))
         self.numbers = {str(k): k for k in range(dims)}
+        self.infinite = table.has_infinite
         self.top, self.bottom = table.rank.get("+oo"), table.rank.get("-oo")
 
-    def cut(self, line: str, box: Optional[Ends]) -> Tuple[int, int, Ends]:
-        """The variable of a cut, where it is cut, and the ends."""
-        letter, word, number, rest = line.split(" ", 3)
-        variable, at = self.numbers[word], self.rank[number]
-        to = self.ends(rest, box)
-        if letter != "C" or not to[2 * variable] < at < to[2 * variable + 1]:
-            raise ValueError("a cut that is not between the ends")
-        return variable, at, to
-
-    def settled(self, line: str, box: Optional[Ends]) -> Ends:
-        """The ends of an inner or small node."""
-        if line[1] != " ":
-            raise ValueError("no node")
-        return self.ends(line[2:], box)
-
     def ends(self, rest: str, box: Optional[Ends]) -> Ends:
+        """The ends that a line tells of a node with a box."""
         rank = self.rank
         if self.second:
             assert box is not None  # its root box is known: see Paving
             if rest == self.same:
                 return box
-            to = tuple([old if word == "=" else rank[word] for word, old in zip(rest.split(" "), box)])
-            if to == box or any(word != "=" and new == old for word, new, old in zip(rest.split(" "), to, box)):
+            words = rest.split(" ")
+            to = tuple([old if word == "=" else rank[word] for word, old in zip(words, box)])
+            if sum(map(eq, to, box)) != words.count("="):
                 raise ValueError("a number that equals the box's end, where `=` stands for it")
         else:
             to = tuple([rank[word] for word in rest.split(" ")])
@@ -257,9 +291,12 @@ class LineReader:
 
     def compare(self, to: Ends, box: Ends) -> None:
         """ValueError where these are no ends of a box within the box."""
-        lows, highs = to[::2], to[1::2]
-        if not (all(map(le, box[::2], lows)) and all(map(le, lows, highs)) and all(map(le, highs, box[1::2]))):
+        if len(to) == 4:  # the usual case, without slices
+            is_within = box[0] <= to[0] <= to[1] <= box[1] and box[2] <= to[2] <= to[3] <= box[3]
+        else:
+            lows, highs = to[::2], to[1::2]
+            is_within = all(map(le, box[::2], lows)) and all(map(le, lows, highs)) and all(map(le, highs, box[1::2]))
+        if not is_within:
             raise ValueError("ends that are not in the node's box")
-        if self.top in lows or self.bottom in highs:
+        if self.infinite and (self.top in to[::2] or self.bottom in to[1::2]):
             raise ValueError("a box at infinity")
-

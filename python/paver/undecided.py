@@ -9,6 +9,7 @@ import heapq
 import math
 from collections.abc import Iterator
 from dataclasses import dataclass, field
+from fractions import Fraction
 from time import monotonic
 
 from .canonical import System
@@ -49,7 +50,8 @@ def undecided(paving: Paving | Parts, system: System, most: int = MOST, seconds:
         if any(isinstance(end, float) for pair in pairs for end in pair):
             found.unbounded += 1
             continue
-        numbers = [i for i, c in enumerate(system.constraints) if decided(c, pairs) is None]
+        bounded = [(Fraction(low), Fraction(high)) for low, high in pairs]
+        numbers = [i for i, c in enumerate(system.constraints) if decided(c, bounded) is None]
         found.boxes.append((box, numbers))
         for i in numbers:
             found.counts[i] = found.counts.get(i, 0) + 1

@@ -37,7 +37,7 @@ def bounds_of(status: int, text: str) -> Bounds:
         if not uppers and not words:
             return Bounds(status, text, lower)
         (upper,), point = uppers, words["point"]
-        return Bounds(status, text, lower, upper, tuple(map(Fraction, point)))
+        return Bounds(status, text, lower, upper, tuple(Fraction(value) for value in point))
     except (KeyError, TypeError, ValueError, OverflowError) as fault:
         raise errors.ProgramFault(status, f"least answered {text!r}") from fault
 

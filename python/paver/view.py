@@ -5,8 +5,11 @@ import base64
 import copy
 import hashlib
 import json
+import os
+from collections.abc import Iterable, Sequence
 from html import escape
 from pathlib import Path
+from typing import Union
 
 from . import beside
 from . import program as calls
@@ -127,6 +130,11 @@ def read_one(given, system, settings):
     return Paving.read(given, system=system, identity=None), Path(given).name, beside.with_kept([given], settings)
 
 
+# Names of stored files or of campaigns' databases, Pavings and Answers: one, several, or none for a run.
+One = Union[str, "os.PathLike[str]", Paving, calls.Answer]
+Pavings = Union[One, Iterable[One], None]
+
+
 def run_one(path, system, settings, centered, options, program):
     """An entry of the system's own run."""
     work = calls.run_centered if centered else calls.run
@@ -136,7 +144,7 @@ def run_one(path, system, settings, centered, options, program):
     return entry(paving, named, command_of(paving, system, named, form, False, command), command)
 
 
-def view(system: str | Path, pavings: object = None, *, settings: list[dict] | None = None, title: str | None = None,
+def view(system: str | Path, pavings: Pavings = None, *, settings: list[dict] | None = None, title: str | None = None,
          unchecked: bool = False, centered: bool = False, program: str | None = None, **options: object) -> View:
     """A page that shows pavings of a system: stored files, databases of campaigns, Pavings or Answers, one or several; with
     none the system is run (or run by centered forms).
@@ -155,7 +163,7 @@ def view(system: str | Path, pavings: object = None, *, settings: list[dict] | N
         return View(page(known, source, entries, title))
     if options:
         raise TypeError(f"unknown option {sorted(options)[0]}")
-    given = calls.listed(pavings) if not isinstance(pavings, (Paving, calls.Answer)) else [pavings]
+    given: Sequence[One] = [pavings] if isinstance(pavings, (str, os.PathLike, Paving, calls.Answer)) else list(pavings)
     if not given or (settings is not None and len(settings) != len(given)):
         raise ValueError("a paving at least, and as many settings as pavings")
     entries = []

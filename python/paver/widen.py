@@ -12,13 +12,14 @@ import tempfile
 from collections.abc import Iterator, Sequence
 from fractions import Fraction
 from pathlib import Path
+from typing import Union
 
 from . import numbers
 from .canonical import System
 from .program import check, run
 from .texts import ENCODING, SystemText
 
-Width = str | int | float | Fraction
+Width = Union[str, int, float, Fraction]
 MOST_CONSTRAINTS = 64
 USUAL = Fraction(1, 10 ** 9)  # for `roots`: below every eps in use, and far above the rounding
 

@@ -1,4 +1,5 @@
 """A user's script over the public surface of the package: a test has its types checked, and never runs it."""
+from concurrent.futures import ThreadPoolExecutor
 from fractions import Fraction
 import paver
 
@@ -30,6 +31,8 @@ print(paver.robust("s.mbx", ["p"], eps="0.5"), paver.vertices_text("s.mbx", ["p"
 print(paver.widened("Variables x; Constraints x=1; end", Fraction(1, 8)), paver.widened_contract("hc4(0)", ["="]))
 with paver.widened_file("s.mbx", Fraction(1, 8), {"eps": 1}) as (widened, options):
     print(widened.name, options)
+swept: paver.Sweep = paver.sweep("s.mbx", "folder", eps=0.5, shares=8, engine=ThreadPoolExecutor(2), tell=print)
+print(swept.counts["open"], swept.out.name, swept.hours, swept.greatest["seconds"], swept.idle, swept.paving().hull())
 page: paver.View = paver.view("s.mbx", ["f", paving], eps=0.5, form="plain", unchecked=True)
 page.save("page.html")
 try:

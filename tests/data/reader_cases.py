@@ -1,7 +1,7 @@
 #!/usr/bin/env python3
 """The table of texts for the reader's tests, by hand from the grammar; the sign ¶ stands right before the fault.
 
-    python3 tests/data/reader_cases.py
+    python3 -m tests.data.reader_cases
 
 writes crates/pv_parse/src/tests/systems.rt, after a comparison with the reference reader; tests/runners/reader_table.py runs
 the whole table on the real program.
@@ -9,10 +9,9 @@ the whole table on the real program.
 import sys
 from pathlib import Path
 
-sys.path.insert(0, str(Path(__file__).resolve().parents[1]))
-from reference import minibex, numbers  # noqa: E402
-from reference.faults import first_fault  # noqa: E402
-from reference.paver import bound  # noqa: E402
+from tests.reference import minibex, numbers
+from tests.reference.faults import first_fault
+from tests.reference.paver import bound
 
 V = "Variables x in [0,4], y; "
 C = "Variables x; Constraints "

@@ -2,13 +2,11 @@
 
 A number of the plain paver is written as a mantissa and an exponent; the exponent 999 stands for an infinite end.
 """
-import sys
 from pathlib import Path
 
-TESTS = Path(__file__).resolve().parents[1]
-CRATES = TESTS.parent / "crates"
-sys.path.insert(0, str(TESTS))
-from reference.numbers import NEG_INF, POS_INF, SCALE  # noqa: E402
+from tests.reference.numbers import NEG_INF, POS_INF, SCALE
+
+CRATES = Path(__file__).resolve().parents[2] / "crates"
 
 
 def spelled(a):

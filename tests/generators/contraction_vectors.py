@@ -5,9 +5,9 @@ anew from the whole history of revisions.
 
 Writes crates/pv_programs/src/table.rt.
 """
-from case_table import ends, write
-from reference import minibex
-from reference.paver import Settler
+from tests.generators.case_table import ends, write
+from tests.reference import minibex
+from tests.reference.paver import Settler
 
 THREE = ("[0,4]", "[0,4]", "x <= 2; x >= 1; x >= 3")
 RINGS = ("[-4,4]", "[-4,4]", "x^2 + y^2 <= 4; (x - 1)^2 + y^2 <= 4; (x - 6)^2 + y^2 <= 1")

@@ -1,7 +1,7 @@
 #!/usr/bin/env python3
 """Works out by the slow reference what `paver least` has to print for each search of tests/data/examples.py.
 
-    python3 tests/generators/expected_least.py [NAME..]
+    python3 -m tests.generators.expected_least [NAME..]
 
 prints a line per search: the example's name, the words, and the status with the printed words. tests/data/least.txt
 holds what it printed; tests/runners/least_values.py compares the program with that.
@@ -9,11 +9,11 @@ holds what it printed; tests/runners/least_values.py compares the program with t
 import sys
 from pathlib import Path
 
+from tests.data.examples import LEAST, settings_of
+from tests.reference import least, minibex
+from tests.reference.paver import Settler
+
 TOP = Path(__file__).resolve().parents[2]
-sys.path.insert(0, str(TOP / "tests"))
-from data.examples import LEAST, settings_of  # noqa: E402
-from reference import least, minibex  # noqa: E402
-from reference.paver import Settler  # noqa: E402
 
 
 def answer_to(name, words):

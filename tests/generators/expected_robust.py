@@ -2,7 +2,7 @@
 """Works out by the slow reference what `python3 -m paver robust` has to print for each example of it, and what
 `run-centered` has to for each level of the gallery.
 
-    python3 tests/generators/expected_robust.py ./paver
+    python3 -m tests.generators.expected_robust ./paver
 
 writes tests/data/levels.txt and robust.txt. The program serves to read systems alone.
 """
@@ -11,15 +11,15 @@ import sys
 from fractions import Fraction
 from pathlib import Path
 
+import paver
+from paver.robust import classified, negation_of
+from paver.robust_command import lines_of
+from paver.texts import SystemText
+from tests.data.examples import LEVELS, ROBUST, at_level, settings_of
+from tests.reference import minibex, paver as plain
+from tests.reference.slopes import CenteredSettler
+
 TOP = Path(__file__).resolve().parents[2]
-sys.path[:0] = [str(TOP / "tests"), str(TOP / "python")]
-from data.examples import LEVELS, ROBUST, at_level, settings_of  # noqa: E402
-from reference import minibex, paver as plain  # noqa: E402
-from reference.slopes import CenteredSettler  # noqa: E402
-import paver  # noqa: E402
-from paver.robust import classified, negation_of  # noqa: E402
-from paver.robust_command import lines_of  # noqa: E402
-from paver.texts import SystemText  # noqa: E402
 
 
 def answer_of(name, words):

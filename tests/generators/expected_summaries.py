@@ -2,7 +2,7 @@
 """Works out by the slow reference what `paver run` has to print for each example, or `paver run-centered` for those that
 are paved so, too.
 
-    python3 tests/generators/expected_summaries.py [--centered] [NAME..]
+    python3 -m tests.generators.expected_summaries [--centered] [NAME..]
 
 prints a line per example: its name, the SHA-256 of the printed text, and the summary line.
 tests/data/summaries.txt and centered_summaries.txt hold what it printed; the end-to-end tests compare the program with that.
@@ -11,10 +11,9 @@ import hashlib
 import sys
 from pathlib import Path
 
-sys.path.insert(0, str(Path(__file__).resolve().parents[1]))
-from data.examples import CENTERED, EXAMPLES, settings_of  # noqa: E402
-from reference import minibex, paver  # noqa: E402
-from reference.slopes import CenteredSettler  # noqa: E402
+from tests.data.examples import CENTERED, EXAMPLES, settings_of
+from tests.reference import minibex, paver
+from tests.reference.slopes import CenteredSettler
 
 
 def main():

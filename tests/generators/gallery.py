@@ -1,7 +1,7 @@
 #!/usr/bin/env python3
 """Writes docs/GALLERY.md: each example's question, command, summary and picture.
 
-    python3 tests/generators/gallery.py
+    python3 -m tests.generators.gallery
 
 The summaries are those of tests/data/summaries.txt, which the plain paver worked out; the pictures are drawn by
 examples/pictures.sh, and bench/centered.py measured the times of tests/data/centered_times.txt.
@@ -9,15 +9,15 @@ examples/pictures.sh, and bench/centered.py measured the times of tests/data/cen
 import math
 import re
 import shlex
-import sys
 from fractions import Fraction
 from itertools import groupby, takewhile
 from pathlib import Path
 
+from tests.data.examples import (
+    EXAMPLES, LEAST, LEVELS, ROBUST, least_answers, level_answers, pairs, robust_answers,
+)
+
 TOP = Path(__file__).resolve().parents[2]
-sys.path.insert(0, str(TOP / "tests"))
-from data.examples import (  # noqa: E402
-    EXAMPLES, LEAST, LEVELS, ROBUST, least_answers, level_answers, pairs, robust_answers)
 
 HEAD = """# Gallery
 

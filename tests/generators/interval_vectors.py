@@ -8,7 +8,7 @@ import math
 import random
 from fractions import Fraction
 
-from case_table import CRATES, table
+from tests.generators.case_table import CRATES, table
 
 INF = math.inf
 TOP = Fraction((2**62 - 1) * 2**450)

@@ -9,17 +9,18 @@ Writes crates/pv_values/src/table.rt.
 """
 import random
 from fractions import Fraction
+from typing import Any
 
-from case_table import write
-from reference import least, minibex
-from reference.numbers import NEG_INF, POS_INF, as_fraction, is_finite, spelling
-from reference.paver import Settler
+from tests.generators.case_table import write
+from tests.reference import least, minibex
+from tests.reference.numbers import NEG_INF, POS_INF, as_fraction, is_finite, spelling
+from tests.reference.paver import Settler
 
 NONE, UNBOUNDED, HUGE = "Nowhere", "Unbounded", "Huge"
 X4, X10 = "x in [-4,4]", "x in [-10,10]"
 XY = "x in [-4,4], y in [-4,4]"
 
-GROUPS = {
+GROUPS: dict[str, list[tuple[Any, ...]]] = {
     "QUADRATICS": [
         ("x in [0,4]", "x <= 1", "2*x+1", 40, 1),
         (X4, "x >= -3", "x^2", 40, 0),

@@ -1,12 +1,12 @@
 """Arithmetic cases of pv_num, worked out with exact integers and fractions.
 
-Run `python3 tests/generators/number_vectors.py` at the top of the repository: it writes crates/pv_num/src/tests/vectors.rt.
+Run `python3 -m tests.generators.number_vectors` at the top of the repository: it writes crates/pv_num/src/tests/vectors.rt.
 A number is a whole number N of units of 2^-512 that is m * 2^k with m < 2^62 and k <= 962, or an infinite end.
 """
 import random
 from fractions import Fraction
 
-from case_table import CRATES, table
+from tests.generators.case_table import CRATES, table
 
 UNIT = 1 << 512
 TOP = ((1 << 62) - 1) << 962

@@ -9,10 +9,10 @@ import random
 from fractions import Fraction
 from math import floor
 
-from case_table import ends, spelled, write
-from reference import files
-from reference.numbers import DOWN, TOP, UP, as_fraction, from_fraction, is_finite
-from reference.paver import halves
+from tests.generators.case_table import ends, spelled, write
+from tests.reference import files
+from tests.reference.numbers import DOWN, TOP, UP, as_fraction, from_fraction, is_finite
+from tests.reference.paver import halves
 
 FILLS = {"X": "#cfd8dc", "I": "#43a047", "S": "#fdd835", "O": "#ffffff"}
 HEAD = '<svg xmlns="http://www.w3.org/2000/svg" width="1000" height="1000" viewBox="0 0 1000 1000">\n'
@@ -24,13 +24,40 @@ def rounded(value, side):
     return as_fraction(number) if is_finite(number) else None
 
 
-def pixel(axis, v):
+def lower_pixel(axis, v):
+    """How many pixels from the lower end on end at or below a number, by steps that are each rounded down."""
     lo, hi, v = as_fraction(axis[0]), as_fraction(axis[1]), as_fraction(v)
-    if lo == hi:
-        return 0
+    if v == hi:
+        return 1000
     length = rounded(hi - lo, UP)
     share = Fraction(0) if length is None else rounded(rounded(v - lo, DOWN) / length, DOWN)
     return floor(rounded(share * 1000, DOWN))
+
+
+def upper_pixel(axis, v):
+    """How many pixels from the lower end on begin below a number: by the same steps from the upper end down."""
+    lo, hi = axis
+    return 1000 - lower_pixel((-hi, -lo), -v)
+
+
+def side(kind, axis, part):
+    """The first pixel of a part of an axis, and the first behind it."""
+    if axis[0] == axis[1]:
+        return 0, 1
+    if kind in "XI":
+        first, past = upper_pixel(axis, part[0]), lower_pixel(axis, part[1])
+        assert first >= exact(axis, part[0]) and past <= exact(axis, part[1])
+        return first, past
+    first = min(lower_pixel(axis, part[0]), 999)
+    past = max(upper_pixel(axis, part[1]), first + 1)
+    assert first <= exact(axis, part[0]) and past >= exact(axis, part[1])
+    return first, past
+
+
+def exact(axis, v):
+    """Where a number lies on an axis with a length, in pixels."""
+    lo, hi, v = as_fraction(axis[0]), as_fraction(axis[1]), as_fraction(v)
+    return 1000 * (v - lo) / (hi - lo)
 
 
 def rectangles(tree, box, x, y, at):
@@ -58,8 +85,9 @@ def rectangles(tree, box, x, y, at):
 def picture(tree, root, x, y, at):
     text = HEAD
     for box, kind in rectangles(tree, root, x, y, at):
-        left, right = (pixel(root[x], end) for end in box[x])
-        bottom, top = (pixel(root[y], end) for end in box[y])
+        (left, right), (bottom, top) = (side(kind, root[i], box[i]) for i in (x, y))
+        if right <= left or top <= bottom:
+            continue
         text += f'<rect x="{left}" y="{1000 - top}" width="{right - left}" height="{top - bottom}" fill="{FILLS[kind]}"/>\n'
     return text + "</svg>\n"
 

@@ -8,8 +8,8 @@ rounded down, is at least the given one.
 import random
 from fractions import Fraction
 
-from case_table import CRATES, table
-from interval_vectors import (DOWN, INF, UP, answer, hull, intervals, meet, minus, opposite, pair, plus,
+from tests.generators.case_table import CRATES, table
+from tests.generators.interval_vectors import (DOWN, INF, UP, answer, hull, intervals, meet, minus, opposite, pair, plus,
                               power, quotient, times)
 
 RANKS = 962 * 2**61 + 2**62

@@ -4,10 +4,10 @@ tests/reference, which computes on whole numbers and shares nothing with the pro
 
 Writes crates/pv_revisions/src/table.rt.
 """
-from case_table import ends, write
-from reference import minibex
-from reference.numbers import DOWN, UP
-from reference.paver import Constraint, Empty, bound
+from tests.generators.case_table import ends, write
+from tests.reference import minibex
+from tests.reference.numbers import DOWN, UP
+from tests.reference.paver import Constraint, Empty, bound
 
 # x, y, constraint: ten cases a group
 GROUPS = {

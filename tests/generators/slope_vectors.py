@@ -6,11 +6,11 @@ Writes crates/pv_ranges/src/table.rt.
 """
 from fractions import Fraction
 
-from case_table import ends, table, write
-from reference import minibex
-from reference.numbers import DOWN, UP, as_fraction, is_finite
-from reference.paver import Constraint, bound
-from reference.slopes import Centered, CenteredSettler, gap, ranged
+from tests.generators.case_table import ends, table, write
+from tests.reference import minibex
+from tests.reference.numbers import DOWN, UP, as_fraction, is_finite
+from tests.reference.paver import Constraint, bound
+from tests.reference.slopes import Centered, CenteredSettler, gap, ranged
 
 # x, y, constraint: ten cases a group
 GROUPS = {

@@ -2,7 +2,7 @@
 """Writes the tables of crates/pv_tokens/src/tests/lexical.rt: tokens, values of numbers, lines and columns.
 
 The tokens come from regular expressions, the values from fractions, and none from the program.
-Run it at the top of the repository: python3 tests/generators/token_vectors.py > crates/pv_tokens/src/tests/lexical.rt
+Run it at the top of the repository: python3 -m tests.generators.token_vectors > crates/pv_tokens/src/tests/lexical.rt
 """
 import re
 from fractions import Fraction

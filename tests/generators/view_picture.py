@@ -1,17 +1,17 @@
 #!/usr/bin/env python3
 """Writes docs/view/pi_gains.html, the page of an example, and docs/pictures/view.png, what a browser shows of it.
 
-    python3 tests/generators/view_picture.py ./paver
+    python3 -m tests.generators.view_picture ./paver
 
 The picture needs a Chromium; without one the page alone is written.
 """
 import sys
 from pathlib import Path
 
+import paver
+from tests.runners.browser import Browser, find_browser
+
 TOP = Path(__file__).resolve().parents[2]
-sys.path[:0] = [str(TOP / "python"), str(TOP / "tests" / "runners")]
-import paver  # noqa: E402
-from browser import Browser, find_browser  # noqa: E402
 
 PAGE, PICTURE = TOP / "docs" / "view" / "pi_gains.html", TOP / "docs" / "pictures" / "view.png"
 STEPS = ["document.getElementById('equal').click()", "paverView.showKept()", "paverView.search('4.6, 1.82')",

@@ -7,6 +7,9 @@ from .slopes import CenteredSettler
 from .numbers import spelling
 
 
+ORDERS = {"depth": files.go_on, "level": files.go_on_by_levels}
+
+
 class Call:
     """A system's text and its settings, as the options spell them, and the limit on a tree's settled nodes."""
 
@@ -38,23 +41,28 @@ class Call:
                 raise Stopped(9, line_of("disagree", apart.path, apart.one, apart.other)) from None
         return whole
 
-    def delivered(self, tree, out):
+    def delivered(self, tree, out, done=None):
+        """What comes of a tree, with status 0 where this or, by itself, no open leaf says that all is done."""
         summary = (files.summary(tree) + "\n").encode()
-        status = 1 if files.counts(tree)["O"] else 0
+        status = 0 if (not files.counts(tree)["O"] if done is None else done) else 1
         if out:
             return status, summary, b"", self.write(tree)
         body = "".join(line + "\n" for line in files.lines(tree, self.settler.root, 1))
         return status, summary + body.encode(), b"", None
 
-    def run(self, budget, out):
-        return self.delivered(files.go_on(self.settler, ("O",), budget), out)
+    def run(self, budget, out, order="depth"):
+        return self.delivered(ORDERS[order](self.settler, ("O",), budget), out)
 
-    def resume(self, named, budget, out):
+    def resume(self, named, budget, out, order="depth", share=None):
+        """What is gone on with: all open leaves in an order, or those of a share, a number and of how many."""
         tree = self.opening(named)
         settled = files.settled(tree)
         if settled + budget > self.limit:
             raise Stopped(8, f"tree limit: {settled} settled")
-        return self.delivered(files.go_on(self.settler, tree, budget), out)
+        if share is None:
+            return self.delivered(ORDERS[order](self.settler, tree, budget), out)
+        tree, done = files.go_on_with_share(self.settler, tree, budget, *share)
+        return self.delivered(tree, out, done)
 
     def merge(self, named, out):
         tree = self.opening(named)

@@ -196,20 +196,62 @@ def join(one, other, path=""):
     return (*outcome(one), low, join(one[5], other[5], path + "1"))
 
 
-def go_on(settler, tree, budget):
-    """The tree with so many more nodes settled, each time the first open leaf in preorder."""
-    found, waiting = [], [(tree, settler.root, 0)]
+def go_on(settler, tree, budget, within=MOST_STEPS + 1):
+    """The tree with so many more nodes settled, each time the first open leaf in preorder whose path has fewer steps."""
+    return settle_chosen(settler, tree, budget, lambda number, steps: steps < within)[0]
+
+
+def go_on_with_share(settler, tree, budget, number, of):
+    """The tree with so many more nodes settled at or below the open leaves that have this number modulo `of`, counted from 0
+    in preorder; and whether none is open there."""
+    return settle_chosen(settler, tree, budget, lambda leaf, steps: leaf % of == number)
+
+
+def settle_chosen(settler, tree, budget, is_chosen):
+    """The tree with so many more nodes settled, in preorder, where the number of the opening's leaf at or above a leaf and the
+    steps to it are chosen; and whether no chosen leaf is open."""
+    found, waiting, leaves, done = [], [(tree, settler.root, 0, None)], 0, True
     while waiting:
-        node, box, steps = waiting.pop()
-        if node[0] == "O" and budget:
-            budget -= 1
-            node = settler.settle(box, max(0, settler.depth - steps), steps)
+        node, box, steps, leaf = waiting.pop()
+        if node[0] == "O":
+            if leaf is None:
+                leaf, leaves = leaves, leaves + 1
+            if is_chosen(leaf, steps):
+                if budget:
+                    budget -= 1
+                    node = settler.settle(box, max(0, settler.depth - steps), steps)
+                else:
+                    done = False
         found.append(outcome(node))
         if node[0] == "C":
             low, high = halves(*outcome(node)[1:])
             kids = node[4:] or (("O",), ("O",))
-            waiting += [(kids[1], high, steps + 1), (kids[0], low, steps + 1)]
-    return tree_of(found)
+            waiting += [(kids[1], high, steps + 1, leaf), (kids[0], low, steps + 1, leaf)]
+    return tree_of(found), done
+
+
+def go_on_by_levels(settler, tree, budget):
+    """The tree with so many more nodes settled, in passes of which each settles the leaves above a depth, four more each."""
+    within, most = 4, settled(tree) + budget
+    while counts(tree)["O"] and settled(tree) < most:
+        tree = go_on(settler, tree, most - settled(tree), within)
+        within += 4
+    return tree
+
+
+def open_paths(tree, path=""):
+    """The paths of the open leaves, in preorder."""
+    if tree[0] == "O":
+        return [path]
+    return open_paths(tree[4], path + "0") + open_paths(tree[5], path + "1") if tree[0] == "C" else []
+
+
+def settled_paths(tree, path=""):
+    """The paths of the settled nodes, in preorder."""
+    if tree[0] == "O":
+        return []
+    below = settled_paths(tree[4], path + "0") + settled_paths(tree[5], path + "1") if tree[0] == "C" else []
+    return [path] + below
 
 
 def audit(settler, tree):

@@ -1,23 +1,22 @@
-#!/usr/bin/env python3
 """Runs each command of the real binary with its n-th allocation refused, for every n in turn, and with all from the
 n-th on.
 
-    python3 tests/runners/allocations.py ./paver [WORD]
+    [ONLY=COMMAND] python3 -m tests.runners.allocations
 
 The answer has to be status 7 with its line, or the very answer of a call that is refused nothing; no other file may change,
-and a file that is stored is whole. Needs a C compiler, and says so where there is none. The last line is
-'N passed, M failed'.
+and a file that is stored is whole. Needs a C compiler, and is skipped where there is none.
 """
+from __future__ import annotations
+
 import shutil
 import subprocess
-import sys
 import tempfile
-from functools import partial
+import unittest
 from pathlib import Path
 
-from running import Count, Folder, answered, faults_in_folder, judged
-from data.cases import HALF_LINE, RECIPROCAL, system
-from paving_files import A, B, QUARTER, TWO_DISCS, file_of
+from tests.data.cases import HALF_LINE, RECIPROCAL, system
+from tests.runners.paving_files import A, B, QUARTER, TWO_DISCS, file_of
+from tests.runners.running import FolderTest, main, rows
 
 # By these the lines are so many that several workers make them.
 FINE = ["--eps", "0.0078125"]
@@ -68,18 +67,35 @@ def commands():
     }
 
 
-class Tried(Folder):
-    """A folder in which allocations of the program are refused, and counted in a file beside it."""
+class RefusingTest(FolderTest):
+    """A test in which allocations of the program are refused, and counted in a file beside its folder."""
+    shim: Path
+    counted: Path
 
-    def __init__(self, shim, paver, path):
-        super().__init__(paver, Path(path) / "files")
-        self.shim, self.counted = shim, Path(path) / "count"
-        self.path.mkdir()
+    @classmethod
+    def setUpClass(cls) -> None:
+        """Builds the shared object that refuses allocations."""
+        compiler = shutil.which("cc")
+        if not compiler:
+            raise unittest.SkipTest("there is no C compiler here")
+        made = tempfile.TemporaryDirectory()
+        cls.addClassCleanup(made.cleanup)
+        cls.shim, cls.counted = Path(made.name) / "refuse.so", Path(made.name) / "count"
+        source = Path(__file__).with_name("refuse_allocation.c")
+        subprocess.run([compiler, "-O1", "-shared", "-fPIC", str(source), "-o", str(cls.shim)], check=True)
+
+    def try_all(self, listed: dict[str, tuple[int, list[str], str | None]]) -> None:
+        """Each command in a folder of its own."""
+        for name, command in rows(listed.items()):
+            with self.subTest(name), tempfile.TemporaryDirectory() as made:
+                folder = self.elsewhere(made)
+                folder.prepare()
+                folder.try_command(*command)
 
     def refusing(self, words, **refuse):
         environment = {"LD_PRELOAD": str(self.shim), "REFUSE_COUNT": str(self.counted),
                        **{name.upper(): str(value) for name, value in refuse.items()}}
-        return answered(self.paver, self.path, *words, env=environment)
+        return self.answered(*words, env=environment)
 
     def prepare(self):
         for name, text in (("s", SOLID), ("r", RECIPROCAL), ("d", TWO_DISCS), ("h", HALF_LINE), ("q", HALF_SQUARE),
@@ -100,13 +116,13 @@ class Tried(Folder):
         wanted = self.refusing(words)
         count, after = int(self.counted.read_text()), self.files()
         new = after.get(stored)
-        if wanted[0] != status or (stored and not new):
-            self.faults.append(f"{' '.join(words)}: status {wanted[0]} where nothing is refused, {wanted[2]!r}")
+        self.assertEqual(wanted[0], status, wanted[2])
+        self.assertTrue(new or not stored, f"{stored} is not stored")
         for how in ("refuse", "refuse_from"):
             for n in self.refused(count):
                 self.remove(stored)
                 got = self.refusing(words, **{how: n})
-                self.judge(words, how, n, got, wanted, before, stored, new)
+                self.judge(words, f"{how} {n}", got, wanted, before, stored, new)
 
     def refused(self, count):
         """Which of so many allocations are refused."""
@@ -116,46 +132,31 @@ class Tried(Folder):
         if stored:
             (self.path / stored).unlink(missing_ok=True)
 
-    def judge(self, words, how, n, got, wanted, before, stored, new):
-        status, out, err = got
-        whole = wanted[1].startswith(out) if status == 7 else got == wanted
-        # where the line finds no memory, nothing more is written
-        line = err in (b"want of memory\n", b"") if status == 7 else True
+    def judge(self, words, how, got, wanted, before, stored, new):
+        """Want of memory with its line and a front of the output, or the very answer; files as before, the stored one whole."""
+        self.judge_answer(how, got, wanted)
         now = self.files()
-        kept = {name: text for name, text in now.items() if name != stored} == {
-            name: text for name, text in before.items() if name != stored}
-        held = stored is None or now.get(stored) in ((new,) if status == wanted[0] else (new, None))
-        if not (whole and line and kept and held):
-            self.faults.append(f"{' '.join(words)}, {how} {n}: status {status}, {out[:80]!r}, {err[:80]!r}, "
-                               f"files kept {kept}, stored whole {held}")
+        self.assertEqual({name: text for name, text in now.items() if name != stored},
+                         {name: text for name, text in before.items() if name != stored}, how)
+        if stored is not None:
+            self.assertIn(now.get(stored), (new,) if got[0] == wanted[0] else (new, None), how)
+
+    def judge_answer(self, how, got, wanted):
+        status, out, err = got
+        if status == 7:
+            self.assertTrue(wanted[1].startswith(out), (how, out[:80]))
+            # where the line finds no memory, nothing more is written
+            self.assertIn(err, (b"want of memory\n", b""), how)
+        else:
+            self.assertEqual(got, wanted, how)
 
 
-def built_shim(folder):
-    """The shared object that refuses allocations; None where there is no C compiler."""
-    compiler, shim = shutil.which("cc"), Path(folder) / "refuse.so"
-    if not compiler:
-        return None
-    source = Path(__file__).with_name("refuse_allocation.c")
-    subprocess.run([compiler, "-O1", "-shared", "-fPIC", str(source), "-o", str(shim)], check=True)
-    return shim
+class Allocations(RefusingTest):
+    """Each command with its n-th allocation refused."""
 
-
-def tried_all(kind, listed):
-    """Tries the commands whose names contain a word, each in a folder of its own; the status of the runner."""
-    with tempfile.TemporaryDirectory() as made:
-        shim = built_shim(made)
-        if not shim:
-            print("skipped: there is no C compiler here")
-            Count().end()
-            return 0
-        return judged([(name, faults_in_folder, partial(kind, shim), partial(tried, command))
-                       for name, command in listed.items()]).end()
-
-
-def tried(command, folder):
-    folder.prepare()
-    folder.try_command(*command)
+    def test_commands(self) -> None:
+        self.try_all(commands())
 
 
 if __name__ == "__main__":
-    sys.exit(tried_all(Tried, commands()))
+    main()

@@ -1,18 +1,18 @@
-#!/usr/bin/env python3
 """Runs campaigns of the real binary with the n-th allocation refused, and with all from the n-th on, for the first n, the last
 and every seventh between.
 
-    python3 tests/runners/campaign_allocations.py ./paver [WORD]
+    [ONLY=COMMAND] python3 -m tests.runners.campaign_allocations
 
 The answer has to be status 7 with its line, or the very answer of a call that is refused nothing. Stock sqlite3 has to
 find the database sound, with the rows of whole rounds, and of all of them where the answer is the right one; no other
-file may change. Needs a C compiler, and says so where there is none. The last line is 'N passed, M failed'.
+file may change. Needs a C compiler, and is skipped where there is none.
 """
-import sys
+from __future__ import annotations
 
-from allocations import Tried, tried_all
-from campaigns import ROWS, identity_of, is_stage, make, stock
-from paving_files import QUARTER
+from tests.runners.allocations import RefusingTest
+from tests.runners.campaigns import ROWS, identity_of, is_stage, make, stock
+from tests.runners.paving_files import QUARTER
+from tests.runners.running import main
 
 ENDINGS = ["", "-wal", "-shm", "-journal"]
 FIRST, LAST = 600, 150
@@ -34,7 +34,12 @@ COMMANDS = {
 }
 
 
-class TriedCampaign(Tried):
+class CampaignAllocations(RefusingTest):
+    """Campaigns with allocations refused."""
+
+    def test_campaigns(self) -> None:
+        self.try_all(COMMANDS)
+
     def prepare(self):
         super().prepare()
         self.begun = {"begun": (ROWS[:1], identity_of()), "others": (ROWS[:1], bytes(32))}
@@ -54,19 +59,18 @@ class TriedCampaign(Tried):
     def others(self, files, stored):
         return {name: text for name, text in files.items() if name not in [stored + ending for ending in ENDINGS]}
 
-    def judge(self, words, how, n, got, wanted, before, stored, new):
-        status, out, err = got
-        whole = wanted[1].startswith(out) if status == 7 else got == wanted
-        line = err in (b"want of memory\n", b"") if status == 7 else True
-        kept = self.others(self.files(), stored) == self.others(before, stored)
+    def judge(self, words, how, got, wanted, before, stored, new):
+        """As of any command; the database is sound, and has the rows of whole rounds, of all where the answer is right."""
+        self.judge_answer(how, got, wanted)
+        self.assertEqual(self.others(self.files(), stored), self.others(before, stored), how)
         sound, rows = self.rows(stored)
+        self.assertTrue(sound, how)
         boxes = int(words[words.index("--boxes") + 1])
-        held = is_stage(rows, set(ROWS), 1 if stored in self.begun else boxes) and (status == 7 or rows == self.wanted_rows)
+        self.assertTrue(is_stage(rows, set(ROWS), 1 if stored in self.begun else boxes), (how, rows))
+        if got[0] != 7:
+            self.assertEqual(rows, self.wanted_rows, how)
         if stored in self.begun:
-            held = held and set(self.begun[stored][0]) <= set(rows)
-        if not (whole and line and kept and sound and held):
-            self.faults.append(f"{' '.join(words)}, {how} {n}: status {status}, {out[:80]!r}, {err[:80]!r}, "
-                               f"others kept {kept}, sound {sound}, rows {rows}")
+            self.assertLessEqual(set(self.begun[stored][0]), set(rows), how)
 
     def rows(self, stored):
         if not (self.path / stored).exists():
@@ -78,11 +82,11 @@ class TriedCampaign(Tried):
         self.remove(stored)
         self.call(*words)
         self.wanted_rows = self.rows(stored)[1]
-        if status == 0 and self.wanted_rows != ROWS:
-            self.faults.append(f"{' '.join(words)}: {self.wanted_rows} where nothing is refused")
+        if status == 0:
+            self.assertEqual(self.wanted_rows, ROWS, "where nothing is refused")
         self.remove(stored)
         super().try_command(status, words, stored)
 
 
 if __name__ == "__main__":
-    sys.exit(tried_all(TriedCampaign, COMMANDS))
+    main()

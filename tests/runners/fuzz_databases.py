@@ -1,25 +1,23 @@
-#!/usr/bin/env python3
 """Runs `campaign` over hostile databases: made by stock sqlite3 with other tables, types, orders, lines and identities, and
 then cut short, changed in random bytes, or given another's log or journal.
 
-    python3 tests/runners/fuzz_databases.py ./paver [COUNT [SEED]]
+    [COUNT=300 SEED=1] python3 -m tests.runners.fuzz_databases
 
 Each answer is compared with what a model says of the rows: a good campaign goes on, another identity and a bad row are named,
 and what is no campaign is a fault of the keeper. Where bytes were changed the model allows each of these, but no other status,
-no other rows than those of the full tree with status 0 and 1, and no change with another status. The last line is
-'N passed, M failed'.
+no other rows than those of the full tree with status 0 and 1, and no change with another status.
 """
+from __future__ import annotations
+
 import random
 import sqlite3
-import sys
-import tempfile
 from fractions import Fraction
 
-from running import Count, Folder, answered, count_and_seed, faults_of, program
-from campaigns import FAULT as LINE, QUARTER, TABLES, identity_of, rows_of, stock
-from paving_files import call
-from data.cases import RECIPROCAL, system
-from reference import files
+from tests.data.cases import RECIPROCAL, system
+from tests.reference import files
+from tests.runners.campaigns import FAULT as LINE, FOREIGN, QUARTER, TABLES, identity_of, rows_of, stock
+from tests.runners.paving_files import call
+from tests.runners.running import FolderTest, made_cases, main
 
 TWO = system("x in [0,1], y in [-1,2]", "x*y <= 0.5; x + y >= 0")
 FAULT = (10, b"", LINE)
@@ -29,8 +27,10 @@ LOOSE = TABLES.replace(") STRICT", ")")
 OTHERS = [TABLES.replace("TEXT PRIMARY KEY", "BLOB PRIMARY KEY"), TABLES.replace("path TEXT PRIMARY KEY NOT NULL", "path TEXT"),
           TABLES.replace("line TEXT", "line BLOB"), TABLES.replace("identity BLOB", "identity TEXT"),
           TABLES.replace("path", "place"), TABLES.replace("head", "top"), TABLES.replace("node", "leaf"),
+          TABLES.replace("NOT NULL,", "NOT NULL ,"), TABLES.replace(" CHECK (id = 1)", ""), LOOSE,
           "CREATE TABLE head (a); CREATE TABLE node (b);",
-          "CREATE VIEW head AS SELECT 1 AS id, zeroblob(32) AS identity; CREATE TABLE node (path TEXT, line TEXT);"]
+          "CREATE VIEW head AS SELECT 1 AS id, zeroblob(32) AS identity; CREATE TABLE node (path TEXT, line TEXT);",
+          *FOREIGN.values()]
 
 
 class Model:
@@ -102,12 +102,13 @@ def altered(source, rows):
     return rows
 
 
-class Fuzz(Folder):
-    """A folder with a database that is made anew at each turn, and what was not as wanted at the last one."""
+class FuzzDatabases(FolderTest):
+    """Campaigns over a database that is made anew at each turn."""
 
-    def __init__(self, paver, path, source):
-        super().__init__(paver, path)
-        self.source = source
+    def setUp(self) -> None:
+        super().setUp()
+        self.turns, seed = made_cases(300)
+        self.source = random.Random(seed)
         self.models = [Model(RECIPROCAL, QUARTER, eps=Fraction(1, 4)), Model(TWO, ["--eps", "0.5"], eps=Fraction(1, 2))]
 
     def write(self, rows, identity, tables):
@@ -121,18 +122,14 @@ class Fuzz(Folder):
         connection.execute("COMMIT")
         connection.close()
 
-    def run(self, model, boxes=100):
+    def answer_of(self, model, boxes=100):
         self.put("s", model.text)
-        return answered(self.paver, self.path, "campaign", "s", "--keep", "k", "--boxes", str(boxes), *model.options)
-
-    def judge(self, wanted, got, title):
-        if wanted != got:
-            self.faults.append(f"{title}: {got} in place of {wanted}")
+        return self.answered("campaign", "s", "--keep", "k", "--boxes", str(boxes), *model.options)
 
     def goes_on(self, model, got, before, title):
         """A campaign that was gone on with to its end keeps the full tree where its rows were the tree's."""
         if got[0] == 0 and set(before) <= set(model.full):
-            self.judge((True, model.identity, model.full), stock(self.path, "k"), title)
+            self.assertEqual(stock(self.path, "k"), (True, model.identity, model.full), title)
 
     def rows(self):
         """Good tables with rows of any kind."""
@@ -141,33 +138,27 @@ class Fuzz(Folder):
         for _ in range(self.source.choice([0, 0, 1, 1, 2])):
             rows = altered(self.source, rows)
         identity = self.source.choice([model.identity] * 6 + [bytes(32), bytes(31), identity_of(eps=Fraction(1, 8))])
-        self.write(rows, identity, self.source.choice([TABLES, TABLES, LOOSE]))
-        wanted, got = model.answer(identity, rows), self.run(model)
+        tables = self.source.choice([TABLES, TABLES, TABLES, LOOSE])
+        self.write(rows, identity, tables)
+        wanted = (FAULT[0], FAULT[2]) if tables == LOOSE else model.answer(identity, rows)
+        got = self.answer_of(model)
         title = f"{len(rows)} rows"
         if wanted is None:
-            self.judge((True, b""), (got[0] in (0, 1), got[2]), title)
+            self.assertEqual((got[0] in (0, 1), got[2]), (True, b""), title)
             self.goes_on(model, got, rows, title)
         else:
-            self.judge((wanted[0], b"", wanted[1]), got, title)
-            self.judge((True, identity, sorted(rows)), stock(self.path, "k"), title)
+            self.assertEqual(got, (wanted[0], b"", wanted[1]), title)
+            self.assertEqual(stock(self.path, "k"), (True, identity, sorted(rows)), title)
 
     def tables(self):
-        """Tables of another form: they are gone on with as they are, or are a fault, and stay as they are but for an
-        identity."""
+        """Anything but a campaign's tables is a fault, and stays as it is, to the byte."""
         model, tables = self.source.choice(self.models), self.source.choice(OTHERS)
         connection = sqlite3.connect(self.path / "k", isolation_level=None)
-        connection.executescript(tables)
-        before = connection.execute("SELECT * FROM sqlite_master").fetchall()
+        connection.executescript(f"PRAGMA journal_mode = {self.source.choice(['DELETE', 'WAL'])};{tables}")
         connection.close()
-        got = self.run(model)
-        if got[0] not in (0, 1, 4):
-            self.judge(FAULT, got, tables)
-            connection = sqlite3.connect(self.path / "k")
-            after = connection.execute("SELECT * FROM sqlite_master").fetchall()
-            held = [row[1] for row in after if row[1] != "head" and row[0] == "table"
-                    and connection.execute(f"SELECT count(*) FROM {row[1]}").fetchone() != (0,)]
-            connection.close()
-            self.judge((before, []), (after, held), tables)
+        self.put("s", model.text)
+        before = self.files()
+        self.assertEqual((self.answer_of(model), self.files()), (FAULT, before), tables)
 
     def damage(self):
         """A good campaign whose files were changed."""
@@ -188,34 +179,24 @@ class Fuzz(Folder):
                                                b"\x37\x7f\x06\x82" + self.source.randbytes(5000),
                                                bytes.fromhex("d9d505f920a163d7") + self.source.randbytes(600)]))
         self.put("k", data)
-        got, title = self.run(model), f"damage {kind}"
+        got, title = self.answer_of(model), f"damage {kind}"
         if got[0] in (0, 1):
-            self.judge(b"", got[2], title)
+            self.assertEqual(got[2], b"", title)
             if kind in (0, 3):
                 self.goes_on(model, got, [], title)
         elif got[0] == 4:
-            self.judge((b"", b"paving k: "), (got[1], got[2][:10]), title)
+            self.assertEqual((got[1], got[2][:10]), (b"", b"paving k: "), title)
         else:
-            self.judge(FAULT, got, title)
-            self.judge(bytes(data), self.get("k"), title)
+            self.assertEqual(got, FAULT, title)
+            self.assertEqual(self.get("k"), bytes(data), title)
 
-    def turn(self):
-        for file in self.path.iterdir():
-            file.unlink()
-        self.faults = []
-        self.source.choice([self.rows, self.rows, self.rows, self.tables, self.damage, self.damage])()
-        return self.faults
-
-
-def main():
-    turns, seed = count_and_seed(300)
-    count = Count()
-    with tempfile.TemporaryDirectory() as name:
-        fuzz = Fuzz(program(), name, random.Random(seed))
-        for turn in range(turns):
-            count.judge(f"turn {turn}", faults_of(fuzz.turn))
-    return count.end()
+    def test_turns(self) -> None:
+        for turn in range(self.turns):
+            for file in self.path.iterdir():
+                file.unlink()
+            with self.subTest(turn=turn):
+                self.source.choice([self.rows, self.rows, self.rows, self.tables, self.damage, self.damage])()
 
 
 if __name__ == "__main__":
-    sys.exit(main())
+    main()

@@ -1,21 +1,20 @@
-#!/usr/bin/env python3
 """Compares `merge`, `resume`, `audit` and `audit-centered` with the reference's on made paving files: good ones, cut out
 of full trees, and random edits of them; and one file of each version with each byte replaced and cut at each.
 
-    python3 tests/runners/fuzz_files.py ./paver [COUNT [SEED]]
+    [COUNT=1000 SEED=1] python3 -m tests.runners.fuzz_files
 
-The last line is 'N passed, M failed'. Words whose answer differs are printed with both answers.
+Words whose answer differs are printed with both answers.
 """
+from __future__ import annotations
+
 import random
-import sys
-import tempfile
 from fractions import Fraction
 
-from running import Count, Folder, answered, count_and_seed, program
-from data.cases import system
-from paving_files import call
-from reference import files
-from reference.commands import answer
+from tests.data.cases import system
+from tests.reference import files
+from tests.reference.commands import answer
+from tests.runners.paving_files import call
+from tests.runners.running import FolderTest, made_cases, main
 
 SYSTEMS = [
     (system("x in [0,1]", "1/x >= 0"), ["--eps", "0.25"], {"eps": Fraction(1, 4)}),
@@ -167,20 +166,20 @@ def are_same(words, got, wanted):
         (stored is None) == (wanted_stored is None))
 
 
-def main():
-    rounds, seed = count_and_seed(1000)
-    maker, count = Maker(random.Random(seed)), Count()
-    with tempfile.TemporaryDirectory() as name:
-        folder = Folder(program(), name)
-        for words, made, work in maker.works(rounds):
-            (folder.path / "o").unlink(missing_ok=True)
+class FuzzFiles(FolderTest):
+    """Commands on made paving files beside the reference's."""
+
+    def test_files(self) -> None:
+        count, seed = made_cases(1000)
+        for words, made, work in Maker(random.Random(seed)).works(count):
+            (self.path / "o").unlink(missing_ok=True)
             for file, data in made.items():
-                folder.put(file, data)
-            given = *answered(folder.paver, folder.path, *words), folder.files().get("o")
+                self.put(file, data)
+            given = *self.answered(*words), self.files().get("o")
             wanted = answer(work)
-            count.compare(are_same(words, given, wanted), f"{words} over {made}", given, wanted)
-    return count.end()
+            with self.subTest(words=words, files=made):
+                self.assertTrue(are_same(words, given, wanted), f"{given} in place of {wanted}")
 
 
 if __name__ == "__main__":
-    sys.exit(main())
+    main()

@@ -1,19 +1,19 @@
-#!/usr/bin/env python3
 """Compares `paver check` with the reference's first fault and canonical text on made texts: good, broken, in odd
 encodings, of random bytes, and with sizes round the limits.
 
-    python3 tests/runners/fuzz_reader.py ./paver [COUNT [SEED]]
+    [COUNT=800 SEED=1] python3 -m tests.runners.fuzz_reader
 
-The last line is 'N passed, M failed'. A text that differs is printed with both answers.
+A text that differs is printed with both answers.
 """
+from __future__ import annotations
+
 import random
 import sys
-import tempfile
 import threading
 
-from running import Count, Folder, answered, count_and_seed, program
-from data.reader_cases import canonical
-from reference.faults import line_of
+from tests.data.reader_cases import canonical
+from tests.reference.faults import line_of
+from tests.runners.running import FolderTest, made_cases, main
 
 NAMES = ["x", "y", "z", "k", "f", "g", "a", "b", "_t", "x1", "in", "oo", "min", "sqr", "sin", "pi", "End", "end",
          "Variables", "return", "abs", "undeclared"]
@@ -178,22 +178,28 @@ def wanted_of(data):
     return 0, canonical(data.decode("latin-1")), b""
 
 
-def main():
-    count = Count()
-    with tempfile.TemporaryDirectory() as name:
-        folder = Folder(program(), name)
-        for data in texts(*count_and_seed(800)):
-            folder.put("s", data)
-            given, wanted = answered(folder.paver, folder.path, "check", "s"), wanted_of(data)
-            count.compare(given == wanted, data, given, wanted)
-    return count.end()
+def with_a_deep_stack(work):
+    """Does work, which may go deep, on a thread with room for it."""
+    sys.setrecursionlimit(1_000_000)
+    size = threading.stack_size(512 << 20)
+    thread = threading.Thread(target=work)
+    thread.start()
+    thread.join()
+    threading.stack_size(size)
+
+
+class FuzzReader(FolderTest):
+    """`check` of made texts beside the reference's reader."""
+
+    def test_texts(self) -> None:
+        wanted: list[tuple[bytes, tuple[int, bytes, bytes]]] = []
+        with_a_deep_stack(lambda: wanted.extend((data, wanted_of(data)) for data in texts(*made_cases(800))))
+        self.assertTrue(wanted)
+        for data, answer in wanted:
+            self.put("s", data)
+            with self.subTest(text=data):
+                self.assertEqual(self.answered("check", "s"), answer)
 
 
 if __name__ == "__main__":
-    sys.setrecursionlimit(1_000_000)
-    threading.stack_size(512 << 20)
-    result = []
-    thread = threading.Thread(target=lambda: result.append(main()))
-    thread.start()
-    thread.join()
-    sys.exit(0 if result == [0] else 1)
+    main()

@@ -1,24 +1,24 @@
-#!/usr/bin/env python3
 """Compares what the commands make of made systems, settings and budgets with what the reference makes of them.
 
-    python3 tests/runners/fuzz_systems.py ./paver [COUNT [SEED]]
+    [COUNT=40 SEED=1] python3 -m tests.runners.fuzz_systems
 
 Each system is paved by one worker, whose leaves come in preorder, and by several, whose bytes are the same where the run is
-done; what is stored is audited by both, gone on with, kept by a campaign, searched for a least value, and drawn. The last
-line is 'N passed, M failed'; a call that differs is printed with both answers.
+done; what is stored is audited by both, gone on with, kept by a campaign, searched for a least value, and drawn.
+A call that differs is printed with both answers.
 """
+from __future__ import annotations
+
 import random
 import sys
-import tempfile
 from fractions import Fraction
 
-from running import Count, Folder, answered, count_and_seed, program
-from data.reader_cases import canonical
-from fuzz_words import Programs
-from pictures import picture
-from reference import least, minibex
-from reference.commands import Call, answer
-from reference.numbers import DOWN, from_fraction, is_finite
+from tests.data.reader_cases import canonical
+from tests.generators.pictures import picture
+from tests.reference import least, minibex
+from tests.reference.commands import Call, answer
+from tests.reference.numbers import DOWN, from_fraction, is_finite
+from tests.runners.fuzz_words import Programs
+from tests.runners.running import FolderTest, made_cases, main
 
 PLAIN = ["0", "1", "2", "3", "0.1", "0.5", "1.5", "0.3333", "7", "10"]
 ODD = ["1e-3", "1e3", "2.5e-10", "1e15", "1e30", "1e36", "1e-36", "1e-20", "123456789012345678901234567890",
@@ -75,8 +75,8 @@ class Systems:
 class Comparison:
     """A system, its settings and a budget: the program's answers beside the reference's."""
 
-    def __init__(self, folder, count, source, made, settings, budget, centered):
-        self.folder, self.count, self.source = folder, count, source
+    def __init__(self, folder, source, made, settings, budget, centered):
+        self.folder, self.source = folder, source
         self.settings, self.budget, self.centered = settings, budget, centered
         self.text, self.names, _ = made
         self.system = minibex.read(self.text)
@@ -92,11 +92,12 @@ class Comparison:
     def is_as(self, wanted, *words):
         """The call has this answer; where leaves are open, several workers settle as many nodes as one."""
         options = (f"--{name}={value}" for name, value in self.settings.items())
-        given = answered(self.folder.paver, self.folder.path, *words, *options)
+        given = self.folder.answered(*words, *options)
         good = given == tuple(wanted[:3])
         if wanted[0] == 1 and words[0] in SETTLING and "--workers=1" not in words:
             good = (given[0], given[1].split()[:2], given[2]) == (1, wanted[1].split()[:2], b"")
-        self.count.compare(good, f"{words} {self.settings}\n{self.text}", given, wanted[:3])
+        with self.folder.subTest(words=words, settings=self.settings, text=self.text):
+            self.folder.assertTrue(good, f"{given} in place of {wanted[:3]}")
 
     def paved(self):
         """By one worker and by several, and stored; what is stored is honest by both."""
@@ -106,7 +107,8 @@ class Comparison:
         self.is_as(wanted, self.name("run"), "s", boxes, f"--workers={self.source.choice([2, 3, 16])}", "--out=p")
         stored = self.folder.get("p")
         if wanted[0] == 0:
-            self.count.compare(stored == wanted[3], f"the file of\n{self.text}", stored, wanted[3])
+            with self.folder.subTest(file_of=self.text):
+                self.folder.assertEqual(stored, wanted[3])
         self.is_as(answer(lambda: self.known.audit("p", stored)), self.name("audit"), "s", "p")
         self.is_as((0, b"honest\n", b""), self.name("audit"), "s", "p")
         return stored
@@ -143,19 +145,21 @@ class Comparison:
             self.drawn(stored)
 
 
-def main():
-    rounds, seed = count_and_seed(40)
-    source, count = random.Random(seed), Count()
-    systems = Systems(source)
-    with tempfile.TemporaryDirectory() as name:
-        folder = Folder(program(), name)
-        for _ in range(rounds):
+class FuzzSystems(FolderTest):
+    """Commands on made systems beside the reference."""
+
+    def test_systems(self) -> None:
+        deepest = sys.getrecursionlimit()
+        self.addCleanup(sys.setrecursionlimit, deepest)
+        sys.setrecursionlimit(max(deepest, 20_000))
+        count, seed = made_cases(40)
+        source = random.Random(seed)
+        systems = Systems(source)
+        for _ in range(count):
             made = systems.system()
             budget = source.choice([1, 2, 3, 5, 10, 25, 40])
-            Comparison(folder, count, source, made, systems.settings(made[2]), budget, source.random() < 0.3).all()
-    return count.end()
+            Comparison(self, source, made, systems.settings(made[2]), budget, source.random() < 0.3).all()
 
 
 if __name__ == "__main__":
-    sys.setrecursionlimit(20_000)
-    sys.exit(main())
+    main()

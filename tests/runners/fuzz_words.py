@@ -1,26 +1,26 @@
-#!/usr/bin/env python3
 """Calls the real binary with made words, contractor texts and objectives, good and broken.
 
-    python3 tests/runners/fuzz_words.py ./paver [COUNT [SEED]]
+    [COUNT=600 SEED=1] python3 -m tests.runners.fuzz_words
 
 A contractor text and an objective have to be refused at the byte that the reference says, or else to answer what the
 reference does. Good words of each command, in any order and with either spelling of an option, have to answer what the
 same call answers in its plain form; words with a limit and a form what the reference does; words with one thing wrong
-end with the usage line. The last line is 'N passed, M failed'; a call that differs is printed with both answers.
+end with the usage line. A call that differs is printed with both answers.
 """
+from __future__ import annotations
+
 import random
 import sys
-import tempfile
 from fractions import Fraction
 
-from running import Count, Folder, answered, count_and_seed, program
-from data.cases import USAGE, system
-from fuzz_reader import Maker
-from paving_files import call
-from reference import least, minibex
-from reference.commands import answer
-from reference.faults import first_expression_fault
-from reference.programs import refused_at
+from tests.data.cases import USAGE, system
+from tests.reference import least, minibex
+from tests.reference.commands import answer
+from tests.reference.faults import first_expression_fault
+from tests.reference.programs import refused_at
+from tests.runners.fuzz_reader import Maker
+from tests.runners.paving_files import call
+from tests.runners.running import FolderTest, made_cases, main
 
 CONSTRAINTS = 3
 SYSTEM = system("x in [0,4], y in [0,4]", "x + y <= 4; x >= 1; y^2 <= x")
@@ -72,19 +72,19 @@ class Programs:
 
 SETTINGS = ["eps", "depth", "bisect", "contract"]
 KEPT = [*SETTINGS, "form", "limit"]
-RUN = [*KEPT, "workers", "boxes", "out"]
+RUN = [*KEPT, "workers", "boxes", "order", "out"]
 # The least and the most paving files of a command, the options that it wants, and those that it may have.
 COMMANDS = {
     "check": ((0, 0), [], []),
     "run": ((0, 0), [], RUN),
     "run-centered": ((0, 0), [], [name for name in RUN if name != "form"]),
-    "resume": ((1, 8), [], RUN),
+    "resume": ((1, 8), [], [*RUN, "share"]),
     "merge": ((1, 8), [], [*KEPT, "out"]),
-    "audit": ((1, 1), [], KEPT),
-    "audit-centered": ((1, 1), [], [*SETTINGS, "limit"]),
+    "audit": ((1, 1), [], [*KEPT, "workers"]),
+    "audit-centered": ((1, 1), [], [*SETTINGS, "limit", "workers"]),
     "svg": ((1, 1), ["x", "y"], KEPT),
     "least": ((0, 0), ["of"], [*SETTINGS, "boxes", "limit"]),
-    "campaign": ((0, 0), ["keep"], [*KEPT, "workers", "boxes", "rounds"]),
+    "campaign": ((0, 0), ["keep"], [*KEPT, "workers", "boxes", "order", "rounds"]),
 }
 
 
@@ -96,13 +96,15 @@ class Words:
               "bisect": ["largest", "round"], "contract": ["prop(8)", "prop(1)", "hc4(0)", "union(hc4(0),hc4(1))"],
               "workers": ["1", "2", "16"], "boxes": ["5000", "20000", "100000"], "out": ["o"], "x": ["x"], "y": ["y"],
               "limit": ["100000", "100001", "0000250000"], "form": ["plain", "centered"],
-              "of": ["x+y", "-x*y", "sqr(x-1)"], "keep": ["k"], "rounds": ["1", "2", "100", "0000000003"]}
+              "of": ["x+y", "-x*y", "sqr(x-1)"], "keep": ["k"], "rounds": ["1", "2", "100", "0000000003"],
+              "order": ["depth", "level"], "share": ["0/1", "1/3", "0000000002/0001000000"]}
     BAD = {"eps": ["", "-1", "+1", "x", "1e", "0x1", "1 ", " 1", ".5", "1e37", "oo", "1/2"],
            "depth": ["0", "201", "-1", "", "1.0", "00000000001", "x", "4294967297"],
            "bisect": ["", "Largest", "rounds", "both"], "workers": ["0", "17", "", "1e0", "-2"],
            "boxes": ["0", "100001", "", "99999999999", "1_000"], "form": ["", "Plain", "both", "centred"],
            "limit": ["0", "99999", "100000001", "", "99999999999", "1e5", "-1", "100_000"],
-           "rounds": ["0", "101", "", "-1", "+1", "1.0"]}
+           "rounds": ["0", "101", "", "-1", "+1", "1.0"], "order": ["", "Depth", "levels", "breadth"],
+           "share": ["", "1", "1/1", "2/1", "0/0", "0/1000001", "-1/2", "0/1/1", "/1", "0/", "00000000000/1", "0 /1"]}
 
     def __init__(self, source):
         self.source = source
@@ -200,24 +202,40 @@ def known(**settings):
     return call(SYSTEM, **{"eps": Fraction(1, 8)} | settings)
 
 
-class Calls(Folder):
-    """A folder in which each call is made beside the reference's."""
+def objectives(source, count):
+    """Texts of expressions over two variables, and what is left of them when a piece is exchanged."""
+    maker = Maker(source)
+    yield from ("", "x", "y+", "(" * 101 + "x", "x" + "+1" * 1000, "x" + "+1" * 1001, "x^33", "z", "x y", "x;", "x<=1")
+    for _ in range(count):
+        text = maker.expression(3, ["x", "y"])
+        yield text if source.random() < 0.3 else maker.broken(text)
 
-    def __init__(self, paver, path):
-        super().__init__(paver, path)
-        self.count, self.wide = Count(), known(eps=Fraction(4)).settler
+
+class FuzzWords(FolderTest):
+    """Calls with made words, each beside the reference's or its plain form."""
+
+    def setUp(self) -> None:
+        super().setUp()
+        deepest = sys.getrecursionlimit()
+        self.addCleanup(sys.setrecursionlimit, deepest)
+        sys.setrecursionlimit(max(deepest, 20_000))
+        self.count, seed = made_cases(600)
+        self.source, self.wide = random.Random(seed), known(eps=Fraction(4)).settler
+        self.put("s", SYSTEM)
+        for paving, budget in (("p", 3), ("q", 9)):
+            self.put(paving, known().run(budget, "o")[3])
 
     def answer(self, words):
         """The answer of a call that finds no campaign."""
         for kept in self.path.glob("k*"):
             kept.unlink()
-        return answered(self.paver, self.path, *words)
+        return self.answered(*words)
 
     def is_as(self, wanted, words):
-        given = self.answer(words)
-        self.count.compare(given == wanted, words, given, wanted)
+        with self.subTest(words=words):
+            self.assertEqual(self.answer(words), wanted)
 
-    def program(self, text):
+    def program_text(self, text):
         place = refused_at(text.encode(), CONSTRAINTS)
         wanted = known(contract=text).run(1, None)[:3] if place is None else (
             2, b"", f"contract: refused at byte {place}\n".encode())
@@ -233,60 +251,52 @@ class Calls(Folder):
         wanted = self.least(text) if fault is None else (2, b"", "objective: byte {}: {}\n".format(*fault).encode())
         self.is_as(wanted, ["least", "s", "--boxes=1", "--eps=4", f"--of={text}"])
 
-    def limited(self, source):
-        """Words with a limit and a form, beside the reference's answer."""
+    def limited(self):
+        """Words with a limit, a form, an order or a share, beside the reference's answer."""
+        source = self.source
         limit, centered = source.choice([100_000, 100_001, 100_003, 100_009, 250_000]), source.random() < 0.5
         said = known(eps=Fraction(1), centered=centered, limit=limit)
         paving = source.choice("lc")
         named = [(paving, (self.path / paving).read_bytes())]
         boxes = source.choice([5, limit - 3, limit - 1, limit])
         words = [f"--limit={limit}", f"--form={'centered' if centered else 'plain'}", "--eps=1"]
-        budget = [f"--boxes={boxes}", "--workers=1"]
-        works = {"run": (lambda: said.run(boxes, None), budget, []),
-                 "resume": (lambda: said.resume(named, boxes, None), budget, [paving]),
-                 "merge": (lambda: said.merge(named, None), [], [paving]),
-                 "audit": (lambda: said.audit(*named[0]), [], [paving])}
-        command = source.choice(sorted(works))
-        work, more, places = works[command]
+        budget, order = [f"--boxes={boxes}", "--workers=1"], source.choice(["depth", "level"])
+        number, of = source.choice([(0, 1), (0, 2), (1, 2), (2, 3), (0, 1_000_000)])
+        command, work, more, places = source.choice([
+            ("run", lambda: said.run(boxes, None, order), [*budget, f"--order={order}"], []),
+            ("resume", lambda: said.resume(named, boxes, None, order), [*budget, f"--order={order}"], [paving]),
+            ("resume", lambda: said.resume(named, boxes, None, share=(number, of)), [*budget, f"--share={number}/{of}"], [paving]),
+            ("merge", lambda: said.merge(named, None), [], [paving]),
+            ("audit", lambda: said.audit(*named[0]), [], [paving])])
         self.is_as(answer(work)[:3], [command, *source.sample(words + more, len(words + more)), "s", *places])
 
+    def test_contractor_texts(self) -> None:
+        for text in Programs(self.source, CONSTRAINTS, [1, 2, 3, 5]).texts(self.count // 4):
+            self.program_text(text)
 
-def objectives(source, count):
-    """Texts of expressions over two variables, and what is left of them when a piece is exchanged."""
-    maker = Maker(source)
-    yield from ("", "x", "y+", "(" * 101 + "x", "x" + "+1" * 1000, "x" + "+1" * 1001, "x^33", "z", "x y", "x;", "x<=1")
-    for _ in range(count):
-        text = maker.expression(3, ["x", "y"])
-        yield text if source.random() < 0.3 else maker.broken(text)
+    def test_objectives(self) -> None:
+        for text in objectives(self.source, self.count // 4):
+            self.objective(text)
 
-
-def main():
-    count, seed = count_and_seed(600)
-    source = random.Random(seed)
-    words = Words(source)
-    with tempfile.TemporaryDirectory() as name:
-        calls = Calls(program(), name)
-        calls.put("s", SYSTEM)
-        for paving, budget in (("p", 3), ("q", 9)):
-            calls.put(paving, known().run(budget, "o")[3])
-        for text in Programs(source, CONSTRAINTS, [1, 2, 3, 5]).texts(count // 4):
-            calls.program(text)
-        for text in objectives(source, count // 4):
-            calls.objective(text)
+    def test_limits_and_forms(self) -> None:
         for paving, centered in (("l", False), ("c", True)):
-            calls.put(paving, known(eps=Fraction(1), centered=centered).run(3, "o")[3])
-        for _ in range(count // 6):
-            calls.limited(source)
-        for _ in range(count // 4):
+            self.put(paving, known(eps=Fraction(1), centered=centered).run(3, "o")[3])
+        for _ in range(self.count // 6):
+            self.limited()
+
+    def test_good_words(self) -> None:
+        words = Words(self.source)
+        for _ in range(self.count // 4):
             made, plain = words.good()
-            calls.is_as(calls.answer(plain), made)
-        for _ in range(count // 4):
-            calls.is_as((2, b"", USAGE), words.bad())
+            self.is_as(self.answer(plain), made)
+
+    def test_bad_words(self) -> None:
+        words = Words(self.source)
+        for _ in range(self.count // 4):
+            self.is_as((2, b"", USAGE), words.bad())
         for _ in range(10):
-            calls.is_as((2, b"", USAGE), words.bytes_that_are_no_text())
-    return calls.count.end()
+            self.is_as((2, b"", USAGE), words.bytes_that_are_no_text())
 
 
 if __name__ == "__main__":
-    sys.setrecursionlimit(20_000)
-    sys.exit(main())
+    main()

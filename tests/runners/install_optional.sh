@@ -9,17 +9,21 @@
 set -u
 limit=${SECONDS_TO_FETCH:-300}
 
-# A line each: a command, or a module of the system's Python, then its package.
+# A line each: a command, or a module of the system's Python, then its package; the large ones last.
 wanted() {
     cat <<'LIST'
+strace strace
+sqlite3 sqlite3
 rsvg-convert librsvg2-bin
+/usr/sbin/munged munge
+/usr/sbin/slurmctld slurm-wlm
+module:distributed python3-distributed
+module:dask python3-dask
+module:matplotlib python3-matplotlib
 fish fish
 zsh zsh
 octave octave
-sqlite3 sqlite3
-strace strace
 chromium chromium
-module:matplotlib python3-matplotlib
 LIST
 }
 

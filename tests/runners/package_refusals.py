@@ -1,11 +1,13 @@
 """Checks of what the package says where the program refuses: options of every command, and forms of other languages."""
+from __future__ import annotations
+
 import tempfile
 from pathlib import Path
 
 import paver
-from package_checks import example
-from package_tools import command
 from paver import options
+from tests.runners.package_test import PackageTest, command, example
+from tests.runners.running import main
 
 TEXTS = [  # what is written, the place of the caret, and what is said
     ("Variables x in [0,4]; Constraints 0 <= x <= 1; end", 41, "`a <= e; e <= b`"),
@@ -46,7 +48,7 @@ WORDS = [  # of each command words that the program refuses, and a part of the s
     (["merge", "S", "P", "--boxes", "5"], "`--boxes` is no option of merge; it is one of run, resume"),
     (["audit", "S"], "one SYSTEM and one PAVING: 1 name is given."),
     (["audit", "S", "P", "--depth", "201"], "a whole number from 1 to 200"),
-    (["audit", "S", "P", "--workers", "2"], "`--workers` is no option of audit"),
+    (["merge", "S", "P", "--workers", "2"], "`--workers` is no option of merge"),
     (["audit-centered", "S", "P", "--x", "a"], "`--x` is no option of audit-centered; it is one of svg"),
     (["svg", "S", "P", "--x", "x"], "`svg` needs `--y`."),
     (["svg", "S", "P", "--x", "x", "--y", "x"], "name one variable"),
@@ -71,60 +73,69 @@ WORDS = [  # of each command words that the program refuses, and a part of the s
 ]
 
 
-def check_hints():
-    """Each form of another language is met by a sentence that says how it is written; explain --line says the same in one."""
-    with tempfile.TemporaryDirectory() as folder:
-        path = Path(folder) / "s.mbx"
-        for text, byte, phrase in TEXTS:
-            path.write_text(text)
-            status, out, _ = command("explain", path)
-            assert status == 2 and phrase in out and f"\n    {' ' * byte}^" in out, (text, out)
-            status, line, _ = command("explain", "--line", path)
-            assert status == 2 and line.startswith(f"{path}:1:{byte + 1}: ") and phrase in line and line.count("\n") == 1, line
-        for text in PLAIN:
-            path.write_text(text)
-            status, out, _ = command("explain", path)
-            assert status == 2 and not any(hint in out for hint in HINTS), (text, out)
-        path.write_text("Variables x in [0,4]; Constraints x <= 1; end")
-        assert command("explain", "--line", path) == (0, "", "")
+class Refusals(PackageTest):
+    """What is said where the program refuses."""
+
+    def test_hints(self) -> None:
+        """Each form of another language is met by a sentence that says how it is written, by explain --line in one line."""
+        with tempfile.TemporaryDirectory() as folder:
+            path = Path(folder) / "s.mbx"
+            for text, byte, phrase in TEXTS:
+                path.write_text(text)
+                status, out, _ = command("explain", path)
+                self.assertEqual(status, 2, (text, out))
+                self.assertIn(phrase, out, (text, out))
+                self.assertIn(f"\n    {' ' * byte}^", out, (text, out))
+                status, line, _ = command("explain", "--line", path)
+                self.assertEqual(status, 2, line)
+                self.assertTrue(line.startswith(f"{path}:1:{byte + 1}: "), line)
+                self.assertIn(phrase, line, line)
+                self.assertEqual(line.count("\n"), 1, line)
+            for text in PLAIN:
+                path.write_text(text)
+                status, out, _ = command("explain", path)
+                self.assertEqual(status, 2, (text, out))
+                self.assertFalse(any(hint in out for hint in HINTS), (text, out))
+            path.write_text("Variables x in [0,4]; Constraints x <= 1; end")
+            self.assertEqual(command("explain", "--line", path), (0, "", ""))
+
+    def test_words_of_commands(self) -> None:
+        """Each mistake is one that the program refuses with status 2 and the usage line, and is said in a sentence."""
+        system = example("torus")
+        with tempfile.TemporaryDirectory() as folder:
+            paving, other = Path(folder) / "p", Path(folder) / "q"
+            paver.run(system, out=paving, boxes=50)
+            paver.run(system, out=other, eps=2)
+            for words, phrase in WORDS:
+                words = [str(system) if word == "S" else str(paving) if word == "P" else word for word in words]
+                status, _, line = paver.program.call(words)
+                self.assertEqual(status, 0 if "--at=50" in words else 2, (words, status, line))
+                status, out, err = command("explain", *words)
+                self.assertEqual((status, err), (2, ""), (words, out))
+                self.assertIn(phrase, out, (words, out))
+            status, out, err = command("explain", "audit", system, other)
+            self.assertEqual((status, err), (2, ""), out)
+            self.assertIn("it is this system's with --eps 2", out, out)
+            status, out, err = command("explain", "audit", system, other, "--eps", "2")
+            self.assertEqual((status, err), (0, ""), out)
+            self.assertIn("it is taken", out, out)
+
+    def test_table_of_options(self) -> None:
+        """The package's table of options is the program's: each is taken where the table has it, and refused elsewhere."""
+        values = {"eps": "1", "depth": "1", "bisect": "round", "contract": "prop(1)", "boxes": "1", "workers": "1",
+                  "out": "none", "x": "x", "y": "y", "at": "1", "seed": "1", "count": "1", "of": "x", "keep": "none",
+                  "rounds": "1", "limit": "100000", "form": "centered"}
+        for name, known in options.COMMANDS.items():
+            files = ["/no such system", "none"][:len(options.FILES.get(name, "SYSTEM").split())]
+            needed = {option: values[option] for option in options.REQUIRED.get(name, ())}
+            for option in values:
+                words = [name, *(f"--{key}={value}" for key, value in {**needed, option: values[option]}.items())]
+                if name == "sample" and option in known:
+                    continue
+                status = paver.program.call([*words, "--", *files])[0]
+                self.assertEqual(status, 11 if option in known else 2, (words, status))
+                self.assertEqual(bool(options.faults(name, [*words[1:], "--", *files])), option not in known, (words, option))
 
 
-def check_words_of_commands():
-    """Each mistake is one that the program refuses with status 2 and the usage line, and is said in a sentence."""
-    system = example("torus")
-    with tempfile.TemporaryDirectory() as folder:
-        paving, other = Path(folder) / "p", Path(folder) / "q"
-        paver.run(system, out=paving, boxes=50)
-        paver.run(system, out=other, eps=2)
-        for words, phrase in WORDS:
-            words = [str(system) if word == "S" else str(paving) if word == "P" else word for word in words]
-            status, _, line = paver.program.call(words)
-            assert status == (0 if "--at=50" in words else 2), (words, status, line)
-            status, out, err = command("explain", *words)
-            assert (status, err) == (2, "") and phrase in out, (words, out)
-        status, out, err = command("explain", "audit", system, other)
-        assert (status, err) == (2, "") and "it is this system's with --eps 2" in out, out
-        status, out, err = command("explain", "audit", system, other, "--eps", "2")
-        assert (status, err) == (0, "") and "it is taken" in out, out
-
-
-def check_table_of_options():
-    """The package's table of options is the program's: each is taken where the table has it, and refused where it has not."""
-    values = {"eps": "1", "depth": "1", "bisect": "round", "contract": "prop(1)", "boxes": "1", "workers": "1", "out": "none",
-              "x": "x", "y": "y", "at": "1", "seed": "1", "count": "1", "of": "x", "keep": "none", "rounds": "1",
-              "limit": "100000", "form": "centered"}
-    for name, known in options.COMMANDS.items():
-        files = ["/no such system", "none"][:len(options.FILES.get(name, "SYSTEM").split())]
-        needed = {option: values[option] for option in options.REQUIRED.get(name, ())}
-        for option in values:
-            words = [name, *(f"--{key}={value}" for key, value in {**needed, option: values[option]}.items())]
-            if name == "sample" and option in known:
-                continue
-            status = paver.program.call([*words, "--", *files])[0]
-            assert status == (11 if option in known else 2), (words, status)
-            assert bool(options.faults(name, [*words[1:], "--", *files])) == (option not in known), (words, option)
-
-
-def checks():
-    named = [check_hints, check_words_of_commands, check_table_of_options]
-    return [(check.__name__[6:].replace("_", " "), check, ()) for check in named]
+if __name__ == "__main__":
+    main()

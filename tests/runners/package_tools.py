@@ -1,31 +1,23 @@
 """Checks of the tools around the program: roots, from-ibex, explain, split and gather."""
-import contextlib
-import io
+from __future__ import annotations
+
 import random
 import re
 import tempfile
 from fractions import Fraction
 from pathlib import Path
+from typing import Any, Callable, Iterable, Sequence
 
 import paver
-from data.ibex_cases import REFUSED, TAKEN
-from package_checks import example, raised
-from paver import __main__ as commands
 from paver import expect, explain
 from paver.cover import hull_of
 from paver.ibex import translate
-from data.reader_cases import FAULTS, GOOD
-from reference import minibex
-from reference.faults import first_fault
-
-
-def command(*words):
-    """The status, standard output and standard error of a command of the package."""
-    out, err = io.StringIO(), io.StringIO()
-    with contextlib.redirect_stdout(out), contextlib.redirect_stderr(err):
-        status = commands.main([str(word) for word in words])
-    return status, out.getvalue(), err.getvalue()
-
+from tests.data.ibex_cases import REFUSED, TAKEN
+from tests.data.reader_cases import FAULTS, GOOD
+from tests.reference import minibex
+from tests.reference.faults import first_fault
+from tests.runners.package_test import PackageTest, command, example
+from tests.runners.running import main, rows
 
 # ---- roots
 
@@ -46,107 +38,6 @@ ROOTS = [
     ("a root on the edge", "Variables x in [0,2]; Constraints x^3 + x = 0; end", [(0,)], 0, 0),
     ("a quotient", "Variables x in [0.5,2], y in [0.5,2]; Constraints x/y = 1.25; x*y = 0.8; end", [(1.0, 0.8)], 0, 0),
 ]
-
-
-def check_roots(text, wanted, none, undecided):
-    with tempfile.TemporaryDirectory() as folder:
-        path = Path(folder) / "s.mbx"
-        path.write_text(text)
-        system, answer = paver.check(path), paver.run(path, eps="0.01")
-        found = paver.find_roots(system, answer.paving())
-    ones = sorted(root.box for root in found if root.verdict == "one root, here")
-    assert len(ones) == len(wanted), found
-    for box, point in zip(ones, wanted):
-        for (low, high), x in zip(box, point):
-            assert low - Fraction(1, 10 ** 12) <= Fraction(x) <= high + Fraction(1, 10 ** 12) and high - low < 1e-9
-    if none is not None:
-        assert sum(root.verdict == "none" for root in found) == none, found
-    count = sum(root.verdict == "undecided" for root in found)
-    assert count == undecided if undecided is not None else count > 0, found
-
-
-def check_random_roots():
-    """Systems that are made from their roots: each is found once, or its cluster stays undecided."""
-    source = random.Random(12)
-    for _ in range(12):
-        wanted = sorted(Fraction(k, 10) for k in source.sample(range(-19, 20), 3))
-        shift = Fraction(source.randrange(-5, 6), 4)
-        product = "*".join(f"(x - {a})" if a >= 0 else f"(x + {-a})" for a in map(float, wanted))
-        text = f"Variables x in [-2,2], y in [-9,9]; Constraints {product} = 0; y - x^2 - x = {float(shift)}; end"
-        with tempfile.TemporaryDirectory() as folder:
-            path = Path(folder) / "s.mbx"
-            path.write_text(text)
-            found = paver.find_roots(paver.check(path), paver.run(path, eps="0.01", boxes=3000).paving())
-        points = [(x, x * x + x + shift) for x in wanted]
-        for root in found:
-            inside = [p for p in points if all(low <= x <= high for x, (low, high) in zip(p, root.box))]
-            assert root.verdict != "one root, here" or len(inside) == 1, (text, root)
-            assert root.verdict != "none" or not inside, (text, root)
-        for point in points:
-            assert any(all(low <= x <= high for x, (low, high) in zip(point, root.box)) for root in found), (text, point)
-
-
-def check_roots_of_puma():
-    system = paver.check(example("puma_poses"))
-    found = paver.find_roots(system, paver.run(example("puma_poses"), eps="0.0625").paving())
-    assert [root.verdict for root in found] == ["one root, here"] * 4
-    known = [Fraction(n, 100) for n in (80, 60, 96, -28, 60, -80)]
-    assert sum(all(low <= x <= high for (low, high), x in zip(root.box, known)) for root in found) == 1
-    for root in found:
-        for constraint in minibex.read(example("puma_poses").read_text()).constraints:
-            left, right = (minibex.value(side, root.middle) for side in constraint[1:])
-            assert abs(left - right) < Fraction(1, 10 ** 20)
-
-
-def check_roots_of_no_square():
-    system = paver.check(example("ring"))
-    raised(ValueError, lambda: paver.find_roots(system, paver.run(example("ring")).paving()))
-
-
-def check_roots_command():
-    status, out, _ = command("roots", example("puma_poses"), "--eps", "0.0625")
-    assert status == 0 and out.count("one root, here") == 4 and "tested and not proved" in out
-    low, high = re.search(r"c1 in \[(0\.[78]\d*), (0\.8\d*)\]", out).groups()
-    assert Fraction(float(low)) <= Fraction(4, 5) <= Fraction(float(high)) and float(high) - float(low) < 1e-15
-
-
-# ---- from IBEX
-
-def check_taken(file, wanted):
-    found = translate(file)
-    assert found.text is not None, [str(refusal) for refusal in found.refusals]
-    assert first_fault(found.text.encode()) is None, found.text
-    paver.check_text(found.text)
-    ours, theirs, source = minibex.read(found.text), minibex.read(wanted), random.Random(3)
-    assert ours.names == theirs.names and ours.domains == theirs.domains, (ours.names, ours.domains)
-    assert [c[0] for c in ours.constraints] == [c[0] for c in theirs.constraints], found.text
-    for _ in range(40):
-        point = [Fraction(source.randrange(-40, 41), 16) or Fraction(1, 7) for _ in ours.names]
-        for mine, other in zip(ours.constraints, theirs.constraints):
-            values = [[minibex.value(side, point) for side in constraint[1:]] for constraint in (mine, other)]
-            differences = [None if None in pair else pair[0] - pair[1] for pair in values]
-            assert differences[0] == differences[1], (mine, other)
-
-
-def check_refused(file, wanted):
-    found = translate(file)
-    assert found.text is None
-    seen = [(refusal.line, refusal.form) for refusal in found.refusals]
-    assert len(seen) == len(wanted), seen
-    for (line, word), (at, form) in zip(wanted, seen):
-        assert line == at and word in form, (seen, wanted)
-    assert all(refusal.instead and "Instead" in str(refusal) for refusal in found.refusals)
-
-
-def check_ibex_command():
-    with tempfile.TemporaryDirectory() as folder:
-        path = Path(folder) / "a.mbx"
-        path.write_text(TAKEN[0][1])
-        status, out, _ = command("from-ibex", path)
-        assert status == 0 and out == translate(TAKEN[0][1]).text
-        path.write_text(REFUSED[0][1])
-        status, out, err = command("from-ibex", path)
-        assert status == 3 and out == "" and "line 4: `cos` can't be written. Instead: two variables c and s" in err
 
 
 # ---- explain
@@ -176,16 +67,6 @@ EXPLAINED = [
 ]
 
 
-def check_explained(text, words, phrases):
-    with tempfile.TemporaryDirectory() as folder:
-        path = Path(folder) / "s.mbx"
-        path.write_text(text)
-        status, out, _ = command("explain", path, *words)
-    assert status == 2
-    for phrase in phrases:
-        assert phrase in out, f"{phrase!r} is not in {out!r}"
-
-
 TOKENS = {"a sign": "-", "a number": "1", "an operator": "+", "a relation (= <= >= < >)": "<=", "`in [low, high]`": "in",
           "a whole exponent from 0 to 32, in digits alone": "2"}
 
@@ -201,38 +82,6 @@ def token_of(phrase):
     return named.group(1) if named else quoted.group(1) if quoted else None
 
 
-def check_expected():
-    """With any token that is expected put in, the text is good beyond it: by the reference's reader."""
-    count = 0
-    for cause, marked in FAULTS:
-        if cause in explain.WHOLE:
-            continue
-        byte, text = len(marked[:marked.index("¶")].encode()), marked.replace("¶", "").encode()
-        phrases = expect.at_system(text.decode("latin-1"), byte)
-        assert phrases, marked
-        for phrase in phrases:
-            if phrase == "the end of the text":
-                assert first_fault(text[:byte]) is None, (marked, phrase)
-            elif token_of(phrase):
-                token = token_of(phrase).encode()
-                fault = first_fault(text[:byte] + b" " + token + b" " + text[byte:])
-                at_limit = fault is not None and fault[1] in explain.WHOLE
-                assert fault is None or at_limit or fault[0] > byte + len(token), (marked, phrase, fault)
-                count += 1
-    assert count > 300, count
-
-
-def check_explained_good():
-    status, out, _ = command("explain", example("localisation"), "--groups", "2", "--agree", "4")
-    assert status == 0 and "  9: (x - 9)^2 + (y - 8)^2 <= 1.4^2" in out
-    text = explain.qinter_text(explain.groups_of(10, 2), 4)
-    assert f"--contract '{text}'" in out
-    assert paver.run(example("localisation"), eps="0.0625", contract=text).summary["inner"] == 15
-    raised(ValueError, lambda: explain.qinter_text([[0], [1]], 3))
-    for words in (("--groups", "0"), ("--groups", "-1"), ("--groups", "2", "--agree", "0"), ("--groups", "2", "--agree", "6")):
-        assert command("explain", example("localisation"), *words)[0] == 2, words
-
-
 # ---- split and gather
 
 SPLIT = [
@@ -241,144 +90,322 @@ SPLIT = [
 ]
 
 
-def check_split(name, count, options, variables):
-    """The parts have no gap and overlap in faces alone; the sum of the answers is an answer to the whole."""
-    whole = paver.run(example(name), **options).paving()
-    with tempfile.TemporaryDirectory() as folder:
-        paths = paver.split(example(name), count, folder, variables=variables)
-        assert len(paths) == count
-        roots = [paver.Box("open", paver.check(path).root) for path in paths]
-        assert all(paver.check(path).constraints[0].left == paver.check(example(name)).constraints[0].left for path in paths)
-        assert sum(root.volume for root in roots) == paver.Box("open", whole.root).volume
-        for k, first in enumerate(roots):
-            for second in roots[k + 1:]:
-                assert any(a[1] <= b[0] or b[1] <= a[0] for a, b in zip(first.exact, second.exact))
-        raised(FileNotFoundError, lambda: paver.gather(folder))
-        for path in paths:
-            path.with_suffix(".txt").write_text(paver.run(path, **options).text)
-        parts = paver.gather(folder)
-        status, out, _ = command("gather", folder)
-        assert status == 0 and out.startswith(f"settled {parts.counts()['settled']} ")
-    if name != "unbounded":
-        volumes = parts.volumes()
-        assert sum(volumes.values()) == sum(whole.volumes().values())
-        assert volumes["inner"] <= sum(whole.volumes()[kind] for kind in ("inner", "small"))
-        assert len(parts.clusters()) == len(whole.clusters())
+class Tools(PackageTest):
+    """The tools around the program."""
 
-
-def check_split_texts():
-    """Every good text of the reader's table can be split: comments, constants as bounds, variables without a domain."""
-    count = 0
-    for text in GOOD:
+    def check_roots(self, text, wanted, none, undecided):
         with tempfile.TemporaryDirectory() as folder:
             path = Path(folder) / "s.mbx"
-            path.write_bytes(text.encode())
-            whole = paver.check(path)
-            try:
-                paths = paver.split(path, 3, folder)
-            except ValueError:
-                assert paver.Box("open", whole.root).width == 0 or len(whole.names) == 1, text
+            path.write_text(text)
+            system, answer = paver.check(path), paver.run(path, eps="0.01")
+            found = paver.find_roots(system, answer.paving())
+        ones = sorted(root.box for root in found if root.verdict == "one root, here")
+        self.assertEqual(len(ones), len(wanted), found)
+        for box, point in zip(ones, wanted):
+            for (low, high), x in zip(box, point):
+                self.assertTrue(low - Fraction(1, 10 ** 12) <= Fraction(x) <= high + Fraction(1, 10 ** 12))
+                self.assertLess(high - low, 1e-9)
+        if none is not None:
+            self.assertEqual(sum(root.verdict == "none" for root in found), none, found)
+        count = sum(root.verdict == "undecided" for root in found)
+        self.assertTrue(count == undecided if undecided is not None else count > 0, found)
+
+    def test_random_roots(self) -> None:
+        """Systems that are made from their roots: each is found once, or its cluster stays undecided."""
+        source = random.Random(12)
+        for _ in range(12):
+            wanted = sorted(Fraction(k, 10) for k in source.sample(range(-19, 20), 3))
+            shift = Fraction(source.randrange(-5, 6), 4)
+            product = "*".join(f"(x - {a})" if a >= 0 else f"(x + {-a})" for a in map(float, wanted))
+            text = f"Variables x in [-2,2], y in [-9,9]; Constraints {product} = 0; y - x^2 - x = {float(shift)}; end"
+            with tempfile.TemporaryDirectory() as folder:
+                path = Path(folder) / "s.mbx"
+                path.write_text(text)
+                found = paver.find_roots(paver.check(path), paver.run(path, eps="0.01", boxes=3000).paving())
+            points = [(x, x * x + x + shift) for x in wanted]
+            for root in found:
+                inside = [p for p in points if all(low <= x <= high for x, (low, high) in zip(p, root.box))]
+                self.assertTrue(root.verdict != "one root, here" or len(inside) == 1, (text, root))
+                self.assertTrue(root.verdict != "none" or not inside, (text, root))
+            for point in points:
+                self.assertTrue(any(all(low <= x <= high for x, (low, high) in zip(point, root.box)) for root in found),
+                                (text, point))
+
+    def test_roots_of_puma(self) -> None:
+        system = paver.check(example("puma_poses"))
+        found = paver.find_roots(system, paver.run(example("puma_poses"), eps="0.0625").paving())
+        self.assertEqual([root.verdict for root in found], ["one root, here"] * 4)
+        known = [Fraction(n, 100) for n in (80, 60, 96, -28, 60, -80)]
+        self.assertEqual(sum(all(low <= x <= high for (low, high), x in zip(root.box, known)) for root in found), 1)
+        for root in found:
+            for constraint in minibex.read(example("puma_poses").read_text()).constraints:
+                left, right = (minibex.value(side, root.middle) for side in constraint[1:])
+                self.assertLess(abs(left - right), Fraction(1, 10 ** 20))
+
+    def test_roots_of_no_square(self) -> None:
+        system = paver.check(example("ring"))
+        self.assert_raised(ValueError, lambda: paver.find_roots(system, paver.run(example("ring")).paving()))
+
+    def test_roots_command(self) -> None:
+        status, out, _ = command("roots", example("puma_poses"), "--eps", "0.0625")
+        self.assertEqual(status, 0)
+        self.assertEqual(out.count("one root, here"), 4)
+        self.assertIn("tested and not proved", out)
+        low, high = re.search(r"c1 in \[(0\.[78]\d*), (0\.8\d*)\]", out).groups()
+        self.assertTrue(Fraction(float(low)) <= Fraction(4, 5) <= Fraction(float(high)))
+        self.assertLess(float(high) - float(low), 1e-15)
+
+    # ---- from IBEX
+
+    def check_taken(self, file, wanted):
+        found = translate(file)
+        self.assertIsNotNone(found.text, [str(refusal) for refusal in found.refusals])
+        self.assertIsNone(first_fault(found.text.encode()), found.text)
+        paver.check_text(found.text)
+        ours, theirs, source = minibex.read(found.text), minibex.read(wanted), random.Random(3)
+        self.assertEqual(ours.names, theirs.names, (ours.names, ours.domains))
+        self.assertEqual(ours.domains, theirs.domains, (ours.names, ours.domains))
+        self.assertEqual([c[0] for c in ours.constraints], [c[0] for c in theirs.constraints], found.text)
+        for _ in range(40):
+            point = [Fraction(source.randrange(-40, 41), 16) or Fraction(1, 7) for _ in ours.names]
+            for mine, other in zip(ours.constraints, theirs.constraints):
+                values = [[minibex.value(side, point) for side in constraint[1:]] for constraint in (mine, other)]
+                differences = [None if None in pair else pair[0] - pair[1] for pair in values]
+                self.assertEqual(differences[0], differences[1], (mine, other))
+
+    def check_refused(self, file, wanted):
+        found = translate(file)
+        self.assertIsNone(found.text)
+        seen = [(refusal.line, refusal.form) for refusal in found.refusals]
+        self.assertEqual(len(seen), len(wanted), seen)
+        for (line, word), (at, form) in zip(wanted, seen):
+            self.assertEqual(line, at, (seen, wanted))
+            self.assertIn(word, form, (seen, wanted))
+        self.assertTrue(all(refusal.instead and "Instead" in str(refusal) for refusal in found.refusals))
+
+    def test_ibex_command(self) -> None:
+        with tempfile.TemporaryDirectory() as folder:
+            path = Path(folder) / "a.mbx"
+            path.write_text(TAKEN[0][1])
+            status, out, _ = command("from-ibex", path)
+            self.assertEqual(status, 0)
+            self.assertEqual(out, translate(TAKEN[0][1]).text)
+            path.write_text(REFUSED[0][1])
+            status, out, err = command("from-ibex", path)
+            self.assertEqual(status, 3)
+            self.assertEqual(out, "")
+            self.assertIn("line 4: `cos` can't be written. Instead: two variables c and s", err)
+
+    def check_explained(self, text, words, phrases):
+        with tempfile.TemporaryDirectory() as folder:
+            path = Path(folder) / "s.mbx"
+            path.write_text(text)
+            status, out, _ = command("explain", path, *words)
+        self.assertEqual(status, 2)
+        for phrase in phrases:
+            self.assertIn(phrase, out, f"{phrase!r} is not in {out!r}")
+
+    def test_expected(self) -> None:
+        """With any token that is expected put in, the text is good beyond it: by the reference's reader."""
+        count = 0
+        for cause, marked in FAULTS:
+            if cause in explain.WHOLE:
                 continue
-            parts = [paver.check(part) for part in paths]
-            assert all(part.text.split("ctrs")[1] == whole.text.split("ctrs")[1] for part in parts), text
-            boxes = [paver.Box("open", part.root) for part in parts]
-            assert hull_of(boxes) == paver.Box("open", whole.root).exact, text
-            count += 1
-    assert count > len(GOOD) // 2
+            byte, text = len(marked[:marked.index("¶")].encode()), marked.replace("¶", "").encode()
+            phrases = expect.at_system(text.decode("latin-1"), byte)
+            self.assertTrue(phrases, marked)
+            for phrase in phrases:
+                if phrase == "the end of the text":
+                    self.assertIsNone(first_fault(text[:byte]), (marked, phrase))
+                elif token_of(phrase):
+                    token = token_of(phrase).encode()
+                    fault = first_fault(text[:byte] + b" " + token + b" " + text[byte:])
+                    at_limit = fault is not None and fault[1] in explain.WHOLE
+                    self.assertTrue(fault is None or at_limit or fault[0] > byte + len(token), (marked, phrase, fault))
+                    count += 1
+        self.assertGreater(count, 300, count)
+
+    def test_explained_good(self) -> None:
+        status, out, _ = command("explain", example("localisation"), "--groups", "2", "--agree", "4")
+        self.assertEqual(status, 0)
+        self.assertIn("  9: (x - 9)^2 + (y - 8)^2 <= 1.4^2", out)
+        text = explain.qinter_text(explain.groups_of(10, 2), 4)
+        self.assertIn(f"--contract '{text}'", out)
+        self.assertEqual(paver.run(example("localisation"), eps="0.0625", contract=text).summary["inner"], 15)
+        self.assert_raised(ValueError, lambda: explain.qinter_text([[0], [1]], 3))
+        for words in (("--groups", "0"), ("--groups", "-1"), ("--groups", "2", "--agree", "0"),
+                      ("--groups", "2", "--agree", "6")):
+            self.assertEqual(command("explain", example("localisation"), *words)[0], 2, words)
+
+    def check_split(self, name, count, options, variables):
+        """The parts have no gap and overlap in faces alone; the sum of the answers is an answer to the whole."""
+        whole = paver.run(example(name), **options).paving()
+        with tempfile.TemporaryDirectory() as folder:
+            paths = paver.split(example(name), count, folder, variables=variables)
+            self.assertEqual(len(paths), count)
+            roots = [paver.Box("open", paver.check(path).root) for path in paths]
+            self.assertTrue(all(paver.check(path).constraints[0].left == paver.check(example(name)).constraints[0].left
+                                for path in paths))
+            self.assertEqual(sum(root.volume for root in roots), paver.Box("open", whole.root).volume)
+            for k, first in enumerate(roots):
+                for second in roots[k + 1:]:
+                    self.assertTrue(any(a[1] <= b[0] or b[1] <= a[0] for a, b in zip(first.exact, second.exact)))
+            self.assert_raised(FileNotFoundError, lambda: paver.gather(folder))
+            for path in paths:
+                path.with_suffix(".txt").write_text(paver.run(path, **options).text)
+            parts = paver.gather(folder)
+            status, out, _ = command("gather", folder)
+            self.assertEqual(status, 0)
+            self.assertTrue(out.startswith(f"settled {parts.counts()['settled']} "))
+        if name != "unbounded":
+            volumes = parts.volumes()
+            self.assertEqual(sum(volumes.values()), sum(whole.volumes().values()))
+            self.assertLessEqual(volumes["inner"], sum(whole.volumes()[kind] for kind in ("inner", "small")))
+            self.assertEqual(len(parts.clusters()), len(whole.clusters()))
+
+    def test_split_texts(self) -> None:
+        """Every good text of the reader's table can be split: comments, constants as bounds, variables without a domain."""
+        count = 0
+        for text in GOOD:
+            with tempfile.TemporaryDirectory() as folder:
+                path = Path(folder) / "s.mbx"
+                path.write_bytes(text.encode())
+                whole = paver.check(path)
+                try:
+                    paths = paver.split(path, 3, folder)
+                except ValueError:
+                    self.assertTrue(paver.Box("open", whole.root).width == 0 or len(whole.names) == 1, text)
+                    continue
+                parts = [paver.check(part) for part in paths]
+                self.assertTrue(all(part.text.split("ctrs")[1] == whole.text.split("ctrs")[1] for part in parts), text)
+                boxes = [paver.Box("open", part.root) for part in parts]
+                self.assertEqual(hull_of(boxes), paver.Box("open", whole.root).exact, text)
+                count += 1
+        self.assertGreater(count, len(GOOD) // 2)
+
+    def test_split_again(self) -> None:
+        """A part can be split once more."""
+        with tempfile.TemporaryDirectory() as folder:
+            first = paver.split(example("ring"), 3, Path(folder) / "a")[0]
+            second = paver.split(first, 2, Path(folder) / "b")
+            volumes = [paver.Box("open", paver.check(path).root).volume for path in (first, *second)]
+            self.assertEqual(volumes[0], volumes[1] + volumes[2])
+            self.assert_raised(ValueError, lambda: paver.split(example("ring"), 2, folder, variables=[]))
+            self.assert_raised(ValueError, lambda: paver.split(example("ring"), 2, folder, variables=["z"]),
+                               args=("there is no variable 'z'",))
+            self.assert_raised(ValueError, lambda: paver.split(example("ring"), 0, folder))
+            self.assert_raised(FileNotFoundError, lambda: paver.gather(folder))
+            self.assert_raised(FileExistsError, lambda: paver.split(example("ring"), 2, Path(folder) / "a"))
+            self.assertEqual(len(list((Path(folder) / "a").iterdir())), 4, "three parts and the manifest")
+
+    def test_gathered_kinds(self) -> None:
+        """Answers to parts may be stored, printed or kept by a campaign."""
+        with tempfile.TemporaryDirectory() as folder:
+            stored, printed, kept = paver.split(example("ring"), 3, folder)
+            paver.run(stored, out=stored.with_suffix(".paving"))
+            printed.with_suffix(".txt").write_text(paver.run(printed).text)
+            paver.campaign(kept, kept.with_suffix(".db"))
+            whole = paver.gather(folder)
+            self.assertEqual(sum(whole.volumes().values()), 36)
+            self.assertEqual(whole.counts()["open"], 0)
+            self.assertLess(0, whole.counts()["inner"])
+
+    def test_least_command(self) -> None:
+        """The bounds in decimal lie outside the program's, and the point is exact; a refused expression is shown."""
+        system, words = example("least_derivative_gain"), ["--of", "kd", "--eps", "0.125"]
+        found = paver.least(system, "kd", eps="0.125")
+        status, out, err = command("least", system, *words)
+        lower, upper = (Fraction(float(re.search(rf"^{word} (.*)$", out, re.M).group(1))) for word in ("lower", "upper"))
+        self.assertEqual(status, 0)
+        self.assertEqual(err, "")
+        self.assertTrue(found.upper is not None and lower <= found.lower < found.upper <= upper, (lower, found, upper))
+        self.assertLess(upper - lower, 1)
+        point = re.findall(r"^  (\w+) = ([^,\n]*)", out, re.M)
+        self.assertEqual(point, [(name, str(value)) for name, value in zip(("kp", "ki", "kd"), found.point or ())])
+        status, out, err = command("least", system, *words, "--boxes", "1")
+        self.assertEqual(status, 1)
+        self.assertIn("upper none\n", out)
+        self.assertIn("the budget ended the search", err)
+        for of, phrase in (("kd+q", "names the variables"), ("sqrt(kd)", "NotInProfile"), ("kd +", "\n    kd +\n        ^")):
+            status, out, err = command("least", system, "--of", of)
+            self.assertEqual((status, out), (2, ""), (of, err))
+            self.assertIn(phrase, err, (of, err))
+
+    def test_summary_command(self) -> None:
+        status, out, err = command("summary", example("ring"), "--depth", "8", "--clusters")
+        self.assertEqual(status, 0)
+        self.assertTrue(out.startswith("settled 335 "))
+        self.assertIn("clusters 1\n", out)
+        self.assertIn("--depth 12 suffices", err)
+        status, out, _ = command("csv", example("ring"), "--eps", "2")
+        self.assertEqual(status, 0)
+        self.assertEqual(out.splitlines()[0], "class,x_low,x_high,y_low,y_high")
+
+    def test_stored_commands(self) -> None:
+        """Of a stored file it is said whether its identity is the system's under the given settings, and what depth left."""
+        with tempfile.TemporaryDirectory() as folder:
+            stored, kept = Path(folder) / "p", Path(folder) / "k"
+            paver.run(example("ring"), depth=8, out=stored)
+            status, out, err = command("summary", example("ring"), stored, "--depth", "8")
+            self.assertEqual(status, 0)
+            self.assertTrue(out.startswith("settled 335 "))
+            self.assertIn("--depth 12 suffices", err)
+            self.assertNotIn("identity", err)
+            status, out, err = command("summary", example("ring"), stored)
+            self.assertEqual(status, 0, "the settings are kept beside the file")
+            self.assertIn("--depth 12 suffices", err, "the settings are kept beside the file")
+            Path(f"{stored}.json").unlink()
+            others: list[tuple[str, list[str], str]] = [
+                ("ring", [], "it is this system's with --depth 8"),
+                ("two_discs", ["--depth", "8"], "of another system, or of other settings")]
+            for system, words, phrase in others:
+                status, out, err = command("summary", example(system), stored, *words)
+                self.assertEqual((status, out), (2, ""), (system, err))
+                self.assertIn("wrong identity", err, (system, err))
+                self.assertIn(phrase, err, (system, err))
+                status, out, err = command("summary", example(system), stored, *words, "--any-identity")
+                self.assertTrue(status == 0 or "not in the node's box" in err, (system, err))
+            paver.campaign(example("ring"), kept, eps=1)
+            status, out, err = command("export", kept)
+            self.assertEqual((status, out, err), (0, paver.Paving.read(kept).file_text(), ""))
+
+    def test_refused_words(self) -> None:
+        """What is refused of the words of a command is said in sentences."""
+        ring = example("ring")
+        for words, phrase in ((["--eps", ".5"], "an unsigned number"), (["--boxes", "0"], "from 1 to 100000"),
+                              (["--contract", "hc4(2)"], "from 0 to 1"), (["--contract", "prop(8"], "Expected here: `)`")):
+            status, out, err = command("summary", ring, *words)
+            self.assertEqual((status, out), (2, ""), (words, err))
+            self.assertIn(phrase, err, (words, err))
+        for word in ("z", "z=", "z=one", "z=1/0"):
+            status, _, err = command("plot", example("torus"), "--picture", "none.svg", "--eps", "2", "--at", word)
+            self.assertEqual(status, 2, (word, err))
+            self.assertIn("as --at z=0.5", err, (word, err))
+        status, _, err = command("plot", example("torus"), "--picture", "none.svg", "--eps", "2")
+        self.assertEqual(status, 2, err)
+        self.assertIn("look at z", err, err)
+
+    def each_row(self, table: Iterable[Sequence[Any]], check: Callable[..., None]) -> None:
+        """Makes a check of each row of a table behind the row's name."""
+        for name, *rest in rows(table):
+            with self.subTest(name):
+                check(*rest)
+
+    def test_roots(self) -> None:
+        self.each_row(ROOTS, self.check_roots)
+
+    def test_taken_from_ibex(self) -> None:
+        self.each_row(TAKEN, self.check_taken)
+
+    def test_refused_from_ibex(self) -> None:
+        self.each_row(REFUSED, self.check_refused)
+
+    def test_explained(self) -> None:
+        self.each_row(((f"{text} {words}", text, words, phrases) for text, words, phrases in EXPLAINED), self.check_explained)
+
+    def test_split(self) -> None:
+        self.each_row(((case[0], *case) for case in SPLIT), self.check_split)
 
 
-def check_split_again():
-    """A part can be split once more."""
-    with tempfile.TemporaryDirectory() as folder:
-        first = paver.split(example("ring"), 3, Path(folder) / "a")[0]
-        second = paver.split(first, 2, Path(folder) / "b")
-        volumes = [paver.Box("open", paver.check(path).root).volume for path in (first, *second)]
-        assert volumes[0] == volumes[1] + volumes[2]
-        raised(ValueError, lambda: paver.split(example("ring"), 2, folder, variables=[]))
-        raised(ValueError, lambda: paver.split(example("ring"), 2, folder, variables=["z"]), args=("there is no variable 'z'",))
-        raised(ValueError, lambda: paver.split(example("ring"), 0, folder))
-        raised(FileNotFoundError, lambda: paver.gather(folder))
-        raised(FileExistsError, lambda: paver.split(example("ring"), 2, Path(folder) / "a"))
-        assert len(list((Path(folder) / "a").iterdir())) == 4, "three parts and the manifest"
-
-
-def check_gathered_kinds():
-    """Answers to parts may be stored, printed or kept by a campaign."""
-    with tempfile.TemporaryDirectory() as folder:
-        stored, printed, kept = paver.split(example("ring"), 3, folder)
-        paver.run(stored, out=stored.with_suffix(".paving"))
-        printed.with_suffix(".txt").write_text(paver.run(printed).text)
-        paver.campaign(kept, kept.with_suffix(".db"))
-        whole = paver.gather(folder)
-        assert sum(whole.volumes().values()) == 36 and whole.counts()["open"] == 0 < whole.counts()["inner"]
-
-
-def check_least_command():
-    """The bounds in decimal lie outside the program's, and the point is exact; a refused expression is shown."""
-    system, words = example("least_derivative_gain"), ["--of", "kd", "--eps", "0.125"]
-    found = paver.least(system, "kd", eps="0.125")
-    status, out, err = command("least", system, *words)
-    lower, upper = (Fraction(float(re.search(rf"^{word} (.*)$", out, re.M).group(1))) for word in ("lower", "upper"))
-    assert status == 0 and err == "" and lower <= found.lower < found.upper <= upper and upper - lower < 1
-    point = re.findall(r"^  (\w+) = ([^,\n]*)", out, re.M)
-    assert point == [(name, str(value)) for name, value in zip(("kp", "ki", "kd"), found.point)]
-    status, out, err = command("least", system, *words, "--boxes", "1")
-    assert status == 1 and "upper none\n" in out and "the budget ended the search" in err
-    for of, phrase in (("kd+q", "names the variables"), ("sqrt(kd)", "NotInProfile"), ("kd +", "\n    kd +\n        ^")):
-        status, out, err = command("least", system, "--of", of)
-        assert (status, out) == (2, "") and phrase in err, (of, err)
-
-
-def check_summary_command():
-    status, out, err = command("summary", example("ring"), "--depth", "8", "--clusters")
-    assert status == 0 and out.startswith("settled 335 ") and "clusters 1\n" in out
-    assert "--depth 12 suffices" in err
-    status, out, _ = command("csv", example("ring"), "--eps", "2")
-    assert status == 0 and out.splitlines()[0] == "class,x_low,x_high,y_low,y_high"
-
-
-def check_stored_commands():
-    """Of a stored file it is said whether its identity is the system's under the given settings, and what the depth left."""
-    with tempfile.TemporaryDirectory() as folder:
-        stored, kept = Path(folder) / "p", Path(folder) / "k"
-        paver.run(example("ring"), depth=8, out=stored)
-        status, out, err = command("summary", example("ring"), stored, "--depth", "8")
-        assert status == 0 and out.startswith("settled 335 ") and "--depth 12 suffices" in err and "identity" not in err
-        status, out, err = command("summary", example("ring"), stored)
-        assert status == 0 and "--depth 12 suffices" in err, "the settings are kept beside the file"
-        Path(f"{stored}.json").unlink()
-        for system, words, phrase in (("ring", [], "it is this system's with --depth 8"),
-                                      ("two_discs", ["--depth", "8"], "of another system, or of other settings")):
-            status, out, err = command("summary", example(system), stored, *words)
-            assert (status, out) == (2, "") and "wrong identity" in err and phrase in err, (system, err)
-            status, out, err = command("summary", example(system), stored, *words, "--any-identity")
-            assert status == 0 or "not in the node's box" in err, (system, err)
-        paver.campaign(example("ring"), kept, eps=1)
-        status, out, err = command("export", kept)
-        assert (status, out, err) == (0, paver.Paving.read(kept).file_text(), "")
-
-
-def check_refused_words():
-    """What is refused of the words of a command is said in sentences."""
-    ring = example("ring")
-    for words, phrase in ((["--eps", ".5"], "an unsigned number"), (["--boxes", "0"], "from 1 to 100000"),
-                          (["--contract", "hc4(2)"], "from 0 to 1"), (["--contract", "prop(8"], "Expected here: `)`")):
-        status, out, err = command("summary", ring, *words)
-        assert (status, out) == (2, "") and phrase in err, (words, err)
-    for word in ("z", "z=", "z=one", "z=1/0"):
-        status, _, err = command("plot", example("torus"), "--picture", "none.svg", "--eps", "2", "--at", word)
-        assert status == 2 and "as --at z=0.5" in err, (word, err)
-    status, _, err = command("plot", example("torus"), "--picture", "none.svg", "--eps", "2")
-    assert status == 2 and "look at z" in err, err
-
-
-def checks():
-    named = [check_random_roots, check_roots_of_puma, check_roots_of_no_square, check_roots_command, check_ibex_command,
-             check_expected, check_explained_good, check_split_texts, check_split_again, check_summary_command,
-             check_gathered_kinds, check_least_command, check_stored_commands, check_refused_words]
-    found = [(check.__name__[6:].replace("_", " "), check, ()) for check in named]
-    found += [(f"roots: {name}", check_roots, rest) for name, *rest in ROOTS]
-    found += [(f"from IBEX: {name}", check_taken, rest) for name, *rest in TAKEN]
-    found += [(f"from IBEX, refused: {name}", check_refused, rest) for name, *rest in REFUSED]
-    found += [(f"explain: {text} {words}", check_explained, (text, words, phrases)) for text, words, phrases in EXPLAINED]
-    return found + [(f"split of {case[0]}", check_split, case) for case in SPLIT]
+if __name__ == "__main__":
+    main()

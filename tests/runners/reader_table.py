@@ -1,16 +1,13 @@
-#!/usr/bin/env python3
 """Runs `paver check` on the table of texts by hand, and on texts by hand at the limits of the profile.
 
-    python3 tests/runners/reader_table.py ./paver
+    python3 -m tests.runners.reader_table
 
-The sign ¶ stands right before the fault of a text. The last line is 'N passed, M failed'.
+The sign ¶ stands right before the fault of a text.
 """
-import sys
-import tempfile
-from pathlib import Path
+from __future__ import annotations
 
-from running import Count, answered, program
-from data.reader_cases import C, FAULTS, GOOD, canonical, place
+from tests.data.reader_cases import C, FAULTS, GOOD, canonical, place
+from tests.runners.running import FolderTest, main
 
 ONE = "x<=1"
 FUNCTIONS = [f"function f{k}(a) return a; end " for k in range(64)]
@@ -65,29 +62,35 @@ GOOD_LIMITS = [
 ]
 
 
-def check(folder, text):
-    (Path(folder) / "s").write_bytes(text)
-    return answered(program(), folder, "check", "s")
-
-
 def line_of(cause, text, byte):
     line, column = place(text, byte)
     return f"system: line {line} column {column} byte {byte}: {cause}\n".encode()
 
 
-def main():
-    count = Count()
-    with tempfile.TemporaryDirectory() as folder:
+class ReaderTable(FolderTest):
+    """`check` of texts by hand."""
+
+    def check(self, text: bytes) -> tuple[int, bytes, bytes]:
+        self.put("s", text)
+        return self.answered("check", "s")
+
+    def test_faults(self) -> None:
         for cause, marked in FAULTS + LIMITS:
             byte, text = len(marked[:marked.index("¶")].encode()), marked.replace("¶", "").encode()
-            given, wanted = check(folder, text), (3, b"", line_of(cause, text, byte))
-            count.compare(given == wanted, marked[:200], given, wanted)
-        for text in GOOD + GOOD_LIMITS:
-            given = check(folder, text.encode())
-            wanted = 0, given[1] if text in GOOD_LIMITS else canonical(text), b""
-            count.compare(given == wanted, text[:200], given, wanted)
-    return count.end()
+            with self.subTest(marked[:200]):
+                self.assertEqual(self.check(text), (3, b"", line_of(cause, text, byte)))
+
+    def test_good_texts(self) -> None:
+        for text in GOOD:
+            with self.subTest(text[:200]):
+                self.assertEqual(self.check(text.encode()), (0, canonical(text), b""))
+
+    def test_good_texts_at_limits(self) -> None:
+        for text in GOOD_LIMITS:
+            with self.subTest(text[:200]):
+                status, _, line = self.check(text.encode())
+                self.assertEqual((status, line), (0, b""))
 
 
 if __name__ == "__main__":
-    sys.exit(main())
+    main()

@@ -1,18 +1,16 @@
-#!/usr/bin/env python3
 """Checks docs/READING.md: its commands give what it shows, and each named line of a file has the name.
 
-    python3 tests/runners/reading.py ./paver [--mend]
+    [MEND=yes] python3 -m tests.runners.reading
 
-With --mend the numbers of lines are set to those on which the names now are declared. The last line is 'N passed, M failed'.
+With MEND the numbers of lines are first set to those on which the names now are declared.
 """
 from __future__ import annotations
 
+import os
 import re
-import sys
-import tempfile
 from pathlib import Path
 
-from running import TOP, Count, program, run, word
+from tests.runners.running import TOP, FolderTest, main
 
 PAGE = TOP / "docs" / "READING.md"
 LINK = re.compile(r"\[`([a-zA-Z_]+)`, line (\d+)\]\(([^)]+)\)")
@@ -34,29 +32,34 @@ def mended(text: str) -> str:
     return LINK.sub(number, text)
 
 
-def main() -> int:
-    if word() == "--mend":
-        PAGE.write_text(mended(PAGE.read_text()))
-    count, text = Count(), PAGE.read_text()
-    links = LINK.findall(text)
-    count.compare(len(links) > 20, "links with lines", len(links), "more than 20")
-    for name, line, to in links:
-        places = declared(name, PAGE.parent / to)
-        count.compare(int(line) in places, f"{name} in {to}", line, places)
-    blocks = re.findall(r"^```\n(.*?)^```", text, re.M | re.S)
-    systems, shown = ([block for block in blocks if block.startswith("$ ") == wanted] for wanted in (False, True))
-    count.compare((len(systems), len(shown)) == (2, 3), "blocks", (len(systems), len(shown)), (2, 3))
-    with tempfile.TemporaryDirectory() as made:
-        folder = Path(made)
+class Reading(FolderTest):
+    """The page's lines and commands."""
+
+    def setUp(self) -> None:
+        super().setUp()
+        if os.environ.get("MEND"):
+            PAGE.write_text(mended(PAGE.read_text()))
+        self.text = PAGE.read_text()
+
+    def test_lines(self) -> None:
+        links = LINK.findall(self.text)
+        self.assertGreater(len(links), 20)
+        for name, line, to in links:
+            with self.subTest(name, file=to):
+                self.assertIn(int(line), declared(name, PAGE.parent / to))
+
+    def test_commands(self) -> None:
+        blocks = re.findall(r"^```\n(.*?)^```", self.text, re.M | re.S)
+        systems, shown = ([block for block in blocks if block.startswith("$ ") == wanted] for wanted in (False, True))
+        self.assertEqual((len(systems), len(shown)), (2, 3))
         for name, system in zip(("square.mbx", "broken.mbx"), systems):
-            (folder / name).write_text(system)
+            self.put(name, system.encode())
         for block in shown:
             command, _, wanted = block.partition("\n")
-            done = run(program(), folder, *command.split()[2:])
-            given = (done.stdout + done.stderr).decode()
-            count.compare(given == wanted, command, given, wanted)
-    return count.end()
+            with self.subTest(command):
+                done = self.call(*command.split()[2:])
+                self.assertEqual((done.stdout + done.stderr).decode(), wanted)
 
 
 if __name__ == "__main__":
-    sys.exit(main())
+    main()

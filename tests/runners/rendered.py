@@ -1,26 +1,31 @@
-#!/usr/bin/env python3
-"""Renders pictures of `paver svg` by rsvg-convert, and compares pixels with the classes that exact fractions give.
+"""Compares pixels of pictures of `paver svg` with what exact fractions say of the points in them.
 
-    python3 tests/runners/rendered.py ./paver
+    [ONLY=EXAMPLE] python3 -m tests.runners.rendered
 
-Says so and passes over it where there is no rsvg-convert. The last line is 'N passed, M failed'.
+The rectangles of a picture are whole pixels, so that they are painted here one after another; where there is an
+rsvg-convert, it renders the picture too and has to paint the same.
 """
-import os
+from __future__ import annotations
+
 import random
+import re
 import shutil
 import struct
-import sys
+import subprocess
 import zlib
 from fractions import Fraction
-from functools import partial
 
-from running import TOP, Count, Folder, faults_in_folder, judged, program, run
 import paver as package
+from tests.runners.running import TOP, FolderTest, main, rows
 
 FILL = {"removed": (0xCF, 0xD8, 0xDC), "inner": (0x43, 0xA0, 0x47), "small": (0xFD, 0xD8, 0x35)}
-PIXELS = 1000
-# A system, its words, its axes, and the numbers of its other variables.
+BARE = (0, 0, 0)
+RECTANGLE = re.compile(r'<rect x="(\d+)" y="(\d+)" width="(\d+)" height="(\d+)" fill="#(..)(..)(..)"/>')
+SIDE, PIXELS, CELLS = 1000, 1000, 300
+CIRCLE = b"Variables x in [-2,2], y in [-2,2]; Constraints x^2 + y^2 = 1; end"
+# A system, its words, its axes, and the numbers of its other variables. The cells of the circle are smaller than a pixel.
 PICTURES = [
+    ("circle", ["--eps", "0.002"], ("x", "y"), {}),
     ("ring", ["--eps", "0.25"], ("x", "y"), {}),
     ("pi_gains", ["--eps", "0.125"], ("kp", "ki"), {}),
     ("torus", ["--eps", "0.125", "--boxes", "100000"], ("x", "y"), {"z": "0.3125"}),
@@ -36,7 +41,8 @@ def pixels_of(png):
         part = png[at + 8:at + 8 + length]
         if kind == b"IHDR":
             width, height, depth, colour = struct.unpack(">IIBB", part[:10])
-            assert depth == 8 and colour in (2, 6) and part[12] == 0
+            if depth != 8 or colour not in (2, 6) or part[12]:
+                raise ValueError("a PNG file of another kind")
         elif kind == b"IDAT":
             data += part
         at += 12 + length
@@ -66,31 +72,59 @@ def unfiltered(how, line, before, size):
     return line
 
 
+def painted(text):
+    """Rows of (red, green, blue) of a picture's text; what no rectangle covers is black."""
+    rows = [[BARE] * SIDE for _ in range(SIDE)]
+    for found in RECTANGLE.finditer(text):
+        x, y, width, height = map(int, found.groups()[:4])
+        assert width > 0 and height > 0 and x + width <= SIDE and y + height <= SIDE, found[0]
+        for row in rows[y:y + height]:
+            row[x:x + width] = [tuple(int(part, 16) for part in found.groups()[4:])] * width
+    return rows
+
+
 class Plane:
-    """The kept boxes of a slice, and the part of the plane that a pixel and its neighbours take."""
+    """The kept boxes of a slice, in pixels of the picture, to the right and down."""
 
     def __init__(self, paving, names, axes, at):
-        self.places = [names.index(name) for name in axes]
+        places = [names.index(name) for name in axes]
         numbers = {names.index(name): Fraction(text) for name, text in at.items()}
         root = [tuple(map(Fraction, pair)) for pair in paving.root_exact]
-        self.ends = [root[place] for place in self.places]
-        self.kept = [(kind, [box[place] for place in self.places]) for kind in ("inner", "small")
-                     for box in (found.exact for found in getattr(paving, kind)())
-                     if all(box[place][0] <= number <= box[place][1] for place, number in numbers.items())]
+        (self.left, self.wide), (self.bottom, self.high) = ((low, high - low) for low, high in (root[place] for place in places))
+        self.kept = {kind: [self.in_pixels(*(box[place] for place in places)) for box in (found.exact for found in boxes())
+                            if all(box[place][0] <= number <= box[place][1] for place, number in numbers.items())]
+                     for kind, boxes in (("inner", paving.inner), ("small", paving.small))}
 
-    def around(self, column, row):
-        (left, right), (bottom, top) = self.ends
-        x, y = (right - left) / 1000, (top - bottom) / 1000
-        return ((left + x * (column - 1), left + x * (column + 2)), (top - y * (row + 2), top - y * (row - 1)))
+    def in_pixels(self, x, y):
+        """From the left, to the right, from the top, to the bottom."""
+        across = (SIDE * (end - self.left) / self.wide for end in x)
+        down = (SIDE - SIDE * (end - self.bottom) / self.high for end in reversed(y))
+        return (*across, *down)
 
-    def class_of(self, part):
-        """The one class of a part of the plane, or None where it has several."""
-        for kind, sides in self.kept:
-            if all(low < side[0] and side[1] < high for (low, high), side in zip(sides, part)):
-                return kind
-        touched = any(all(side[0] < high and low < side[1] for (low, high), side in zip(sides, part))
-                      for _, sides in self.kept)
-        return None if touched else "removed"
+    def touches(self, kind, column, row, around=0):
+        """Whether a kept box and a pixel, with some pixels around it, have more than edges in common."""
+        return any(left < column + 1 + around and column - around < right and top < row + 1 + around and row - around < bottom
+                   for left, right, top, bottom in self.kept[kind])
+
+    def fills(self, column, row, around=0):
+        """Whether an inner box holds all of a pixel, with some pixels around it."""
+        return any(left <= column - around and column + 1 + around <= right and top <= row - around and row + 1 + around <= bottom
+                   for left, right, top, bottom in self.kept["inner"])
+
+    def is_right(self, column, row, colour):
+        """Whether a pixel says nothing but the truth, and as much as it can but at the distance of a pixel."""
+        if colour == FILL["small"]:
+            return self.touches("small", column, row, around=1)
+        if self.touches("small", column, row):
+            return False
+        if colour == FILL["inner"]:
+            return self.fills(column, row)
+        return colour in (FILL["removed"], BARE) and not self.fills(column, row, around=1)
+
+    def cells(self):
+        """The pixel of the corner of each small box."""
+        for left, _, top, _ in self.kept["small"]:
+            yield min(int(left), SIDE - 1), min(int(top), SIDE - 1)
 
 
 class Read:
@@ -103,36 +137,38 @@ class Read:
         self.inner, self.small = self.paving.inner, self.paving.small
 
 
-def compare(name, words, axes, at, folder):
-    system, stored = TOP / "examples" / f"{name}.mbx", folder.path / "stored"
-    assert folder.call("run", system, *words, "--out", stored).returncode == 0
-    settings = [word for k in range(0, len(words), 2) if words[k] != "--boxes" for word in words[k:k + 2]]
-    others = [f"--at={','.join(at.values())}"] if at else []
-    folder.put("drawn.svg", folder.call("svg", system, stored, *settings, "--x", axes[0], "--y", axes[1], *others).stdout)
-    png = run("rsvg-convert", folder.path, "drawn.svg").stdout
-    rows, chance = pixels_of(png), random.Random(1)
-    known = package.check(system, program=folder.paver)
-    given = {word[2:]: value for word, value in zip(settings[::2], settings[1::2])}
-    plane = Plane(Read(stored, known, given), list(known.names), axes, at)
-    seen = {kind: 0 for kind in FILL}
-    for _ in range(PIXELS):
-        column, row = chance.randrange(1, 999), chance.randrange(1, 999)
-        kind = plane.class_of(plane.around(column, row))
-        if kind:
-            assert rows[row][column] == FILL[kind], (name, column, row, kind, rows[row][column])
-            seen[kind] += 1
-    assert min(seen.values()) > 5, seen
+class Rendered(FolderTest):
+    """Pixels of pictures, painted here and by a renderer."""
 
+    def test_pictures(self) -> None:
+        for name, words, axes, at in rows(PICTURES):
+            with self.subTest(name, axes=axes):
+                self.compare(name, words, axes, at)
 
-def main():
-    os.environ["PAVER"] = program()
-    if not shutil.which("rsvg-convert"):
-        print("skipped: there is no rsvg-convert here")
-        Count().end()
-        return 0
-    return judged([(f"{name} {axes}", faults_in_folder, Folder, partial(compare, name, words, axes, at))
-                   for name, words, axes, at in PICTURES]).end()
+    def compare(self, name, words, axes, at) -> None:
+        system, stored = TOP / "examples" / f"{name}.mbx", self.path / "stored"
+        if name == "circle":
+            system = self.path / "circle.mbx"
+            system.write_bytes(CIRCLE)
+        self.assertEqual(self.call("run", system, *words, "--out", stored).returncode, 0)
+        settings = [word for k in range(0, len(words), 2) if words[k] != "--boxes" for word in words[k:k + 2]]
+        others = [f"--at={','.join(at.values())}"] if at else []
+        drawn = self.call("svg", system, stored, *settings, "--x", axes[0], "--y", axes[1], *others).stdout
+        pixels, chance = painted(drawn.decode()), random.Random(1)
+        known = package.check(system)
+        given = {word[2:]: value for word, value in zip(settings[::2], settings[1::2])}
+        plane = Plane(Read(stored, known, given), list(known.names), axes, at)
+        cells = list(plane.cells())
+        chosen = [(chance.randrange(SIDE), chance.randrange(SIDE)) for _ in range(PIXELS)]
+        for column, row in chosen + chance.sample(cells, min(CELLS, len(cells))):
+            self.assertTrue(plane.is_right(column, row, pixels[row][column]), (column, row, pixels[row][column]))
+        for column, row in cells:
+            self.assertEqual(pixels[row][column], FILL["small"], (column, row, "a small box is hidden"))
+        if shutil.which("rsvg-convert"):
+            self.put("drawn.svg", drawn)
+            png = subprocess.run(["rsvg-convert", "drawn.svg"], cwd=self.path, capture_output=True, check=True).stdout
+            self.assertEqual(pixels_of(png), pixels)
 
 
 if __name__ == "__main__":
-    sys.exit(main())
+    main()

@@ -1,120 +1,185 @@
-"""What the runners share: the words of their command line, calls of the program, folders in which it is called, and counts.
+"""What the runners share: tests with a folder of their own in which the program is called, and a last line that counts.
 
-A runner is called with the path of the program. Its last line is 'N passed, M failed', and its status is 0 where none failed
-and at least one passed.
+    python3 -m tests.runners.NAME [-k WORD]     the tests of a runner; its last line is 'N passed, M failed'
+    python3 -m unittest tests.runners.NAME      the same by unittest's own runner
+
+at the top of the repository, with `python` on PYTHONPATH. Words of the environment: PAVER is the program (./paver where it
+isn't set), ONLY a word of the names of the rows of a table that are tried, COUNT how many cases are made, SEED from which seed.
 """
+from __future__ import annotations
+
+import copy
+import io
 import os
+import random
 import subprocess
 import sys
 import tempfile
+import time
+import traceback
+import unittest
 from pathlib import Path
+from typing import Any, Iterable, Iterator
 
 TOP = Path(__file__).resolve().parents[2]
-sys.path[:0] = [str(TOP / "tests"), str(TOP / "tests" / "generators"), str(TOP / "python")]
+PROGRAM = os.path.abspath(os.environ.get("PAVER") or TOP / "paver")
+os.environ["PAVER"] = PROGRAM  # for the package, and for what it starts
 
 SECONDS = 300  # of one call
-SHOWN = 10  # faults of one check, or comparisons of one runner
-WIDTH = 1500
+SLOW = 20  # seconds of a test that is told
+SHOWN, WIDTH = 10, 1500  # faults of a test that are shown, and the bytes of each
 
 
-def program():
-    return os.path.abspath(sys.argv[1])
+def made_cases(count: int) -> tuple[int, int]:
+    """How many cases are made, this many where COUNT isn't set, and their seed."""
+    return int(os.environ.get("COUNT") or count), int(os.environ.get("SEED") or 1)
 
 
-def word(place=2):
-    """A word of the command line; an empty one where there are fewer."""
-    return sys.argv[place] if len(sys.argv) > place else ""
+def rows(table: Iterable[Any]) -> Iterator[Any]:
+    """The rows of a table whose first word has the word ONLY in it."""
+    only = os.environ.get("ONLY", "")
+    return (row for row in table if only in str(row[0] if isinstance(row, (tuple, list)) else row))
 
 
-def count_and_seed(count):
-    """The words COUNT and SEED of the command line; this count and 1 where they aren't given."""
-    return int(word(2) or count), int(word(3) or 1)
-
-
-def run(paver, folder, *words, **how):
+def run(folder: str | Path, *words: Any, **how: Any) -> subprocess.CompletedProcess[bytes]:
     """Calls the program in a folder, with no standard input, and takes what it prints."""
     how = {"stdin": subprocess.DEVNULL, "stdout": subprocess.PIPE, "stderr": subprocess.PIPE, "timeout": SECONDS} | how
-    return subprocess.run([paver, *words], cwd=folder, check=False, **how)
+    return subprocess.run([PROGRAM, *words], cwd=folder, check=False, **how)
 
 
-def answered(paver, folder, *words, **how):
-    """The status of a call, its standard output and its standard error."""
-    done = run(paver, folder, *words, **how)
-    return done.returncode, done.stdout, done.stderr
+class Moments:
+    """Random moments of a call, to end it at. How long a call takes is learnt from the calls themselves, as it changes with all
+    else that the machine does: nine of ten are ended before they come to their end."""
+
+    def __init__(self, source: random.Random, seconds: float = 0.01) -> None:
+        self.source, self.seconds = source, seconds
+
+    def wait(self) -> None:
+        """Until such a moment, from the call's beginning on."""
+        time.sleep(self.source.random() * self.seconds)
+
+    def learn(self, is_ended_early: bool) -> None:
+        """Takes what became of the call after that."""
+        self.seconds *= 1.04 if is_ended_early else 0.7
 
 
-class Folder:
-    """A folder in which the program is called, and what was not as wanted there."""
+def wait_until_it_works(child: subprocess.Popen[Any], seconds: float = 0.03) -> None:
+    """Waits until a call has had so much of the processor, however late the machine lets it begin."""
+    ticks = seconds * os.sysconf("SC_CLK_TCK")
+    place = Path(f"/proc/{child.pid}/stat")
+    until = time.monotonic() + SECONDS
+    while sum(map(int, place.read_text().rpartition(")")[2].split()[11:13])) < ticks and time.monotonic() < until:
+        time.sleep(0.001)
 
-    def __init__(self, paver, path):
-        self.paver, self.path, self.faults = paver, Path(path), []
 
-    def put(self, name, data):
+class FolderTest(unittest.TestCase):
+    """A test with a fresh folder of its own."""
+
+    program = PROGRAM
+
+    def setUp(self) -> None:
+        made = tempfile.TemporaryDirectory()
+        self.addCleanup(made.cleanup)
+        self.path = Path(made.name)
+
+    def elsewhere(self, path: str | Path, program: str | Path | None = None) -> Any:
+        """The same test in another folder, or by another copy of the program."""
+        other = copy.copy(self)
+        other.path, other.program = Path(path), str(program or self.program)
+        return other
+
+    def put(self, name: str, data: bytes) -> None:
         (self.path / name).write_bytes(data)
 
-    def get(self, name):
+    def get(self, name: str) -> bytes:
         return (self.path / name).read_bytes()
 
-    def files(self):
+    def files(self) -> dict[str, bytes]:
         return {path.name: path.read_bytes() for path in self.path.iterdir() if path.is_file()}
 
-    def call(self, *words, **how):
-        return run(self.paver, self.path, *words, **how)
+    def call(self, *words: Any, **how: Any) -> subprocess.CompletedProcess[bytes]:
+        """The program's answer in the folder."""
+        how = {"stdin": subprocess.DEVNULL, "stdout": subprocess.PIPE, "stderr": subprocess.PIPE, "timeout": SECONDS} | how
+        return subprocess.run([self.program, *words], cwd=self.path, check=False, **how)
+
+    def answered(self, *words: Any, **how: Any) -> tuple[int, bytes, bytes]:
+        """The status of a call, its standard output and its standard error."""
+        done = self.call(*words, **how)
+        return done.returncode, done.stdout, done.stderr
 
 
-class Count:
-    """How many checks passed and how many failed; the first faults are printed."""
+class Checks(unittest.TestResult):
+    """Counts checks: the subtests of a test, or the test itself where it has none; tells what failed, was skipped or slow."""
 
-    def __init__(self):
-        self.passed = self.failed = 0
+    def __init__(self) -> None:
+        super().__init__()
+        self.passed = self.failed = self.subtests = self.shown = 0
+        self.begun = 0.0
 
-    def judge(self, name, faults):
-        """A check, which passed where it has no faults."""
-        self.passed, self.failed = self.passed + (not faults), self.failed + bool(faults)
-        for fault in faults[:SHOWN]:
-            print(f"{name}: {fault}"[:WIDTH])
+    def startTest(self, test: unittest.TestCase) -> None:
+        super().startTest(test)
+        self.subtests = self.shown = 0
+        self.begun = time.monotonic()
 
-    def compare(self, good, what, given, wanted):
-        """A comparison and whether it came out well."""
-        self.passed, self.failed = self.passed + good, self.failed + (not good)
-        if not good and self.failed <= SHOWN:
-            print(f"{what}"[:WIDTH], f"given {given}"[:WIDTH], f"wanted {wanted}"[:WIDTH], sep="\n  ")
+    def stopTest(self, test: unittest.TestCase) -> None:
+        super().stopTest(test)
+        if time.monotonic() - self.begun > SLOW:
+            print(f"{name_of(test)}: took {time.monotonic() - self.begun:.0f} s", flush=True)
 
-    def end(self):
-        """Prints the last line, and gives the runner's status."""
-        print(f"{self.passed} passed, {self.failed} failed")
-        return 1 if self.failed or not self.passed else 0
+    def addSubTest(self, test: unittest.TestCase, subtest: unittest.TestCase, err: Any) -> None:
+        self.subtests += 1
+        if err is None:
+            self.passed += 1
+        else:
+            self.fault(subtest, err)
 
+    def addSuccess(self, test: unittest.TestCase) -> None:
+        self.passed += not self.subtests
 
-def faults_of(check, *arguments):
-    """The faults that a check gives, and one more where it ends badly."""
-    try:
-        return check(*arguments) or []
-    except (AssertionError, subprocess.SubprocessError, OSError, ValueError) as fault:
-        return [f"{type(fault).__name__}: {fault}"]
+    def addFailure(self, test: unittest.TestCase, err: Any) -> None:
+        self.fault(test, err)
 
+    def addError(self, test: unittest.TestCase, err: Any) -> None:
+        self.fault(test, err)
 
-def faults_in_folder(kind, check):
-    """The faults of a check in a fresh folder of its own."""
-    with tempfile.TemporaryDirectory() as made:
-        folder = kind(program(), made)
-        return faults_of(check, folder) + folder.faults
+    def addSkip(self, test: unittest.TestCase, reason: str) -> None:
+        super().addSkip(test, reason)
+        print(f"skipped: {name_of(test)}: {reason}", flush=True)
 
+    def fault(self, test: unittest.TestCase, err: Any) -> None:
+        """Counts what failed, and shows it with the lines of the test that led there."""
+        self.failed += 1
+        self.shown += 1
+        if self.shown <= SHOWN:
+            kind, value, trail = err
+            places = [place for place in traceback.extract_tb(trail) if f"{os.sep}unittest{os.sep}" not in place.filename]
+            lines = ", ".join(f"{Path(place.filename).name} {place.lineno}" for place in places[-4:])
+            print(f"FAILED {name_of(test)} ({lines}):\n  {kind.__name__}: {value}"[:WIDTH], flush=True)
 
-def is_chosen(name, chosen):
-    return chosen in name or chosen.replace("_", " ") in name
-
-
-def judged(checks, chosen=None):
-    """Makes the checks whose names contain a word of the command line, each a name, a call that gives faults, and what the
-    call is given; and gives the count of them."""
-    chosen, count = word() if chosen is None else chosen, Count()
-    for name, check, *arguments in checks:
-        if is_chosen(name, chosen):
-            count.judge(name, faults_of(check, *arguments))
-    return count
+    def wasSuccessful(self) -> bool:
+        return not self.failed and bool(self.passed or self.skipped)
 
 
-def judged_in_folders(kind, checks):
-    """The status of checks that are named by their functions, each made in a folder of its own."""
-    return judged([(check.__name__.replace("_", " "), faults_in_folder, kind, check) for check in checks]).end()
+def name_of(test: unittest.TestCase) -> str:
+    """The name of a test in its class, with the words of a subtest."""
+    return str(test).replace("__main__.", "")[:WIDTH // 5]
+
+
+class Runner:
+    """Runs tests, and ends with the line that counts them."""
+
+    def __init__(self, **_words: Any) -> None:
+        pass
+
+    def run(self, tests: unittest.TestSuite | unittest.TestCase) -> Checks:
+        checks = Checks()
+        tests(checks)
+        print(f"{checks.passed} passed, {checks.failed} failed", flush=True)
+        return checks
+
+
+def main() -> None:
+    """Runs the tests of the module that is run, by unittest's words, and ends with its status."""
+    if isinstance(sys.stdout, io.TextIOWrapper):
+        sys.stdout.reconfigure(errors="backslashreplace")
+    unittest.main(testRunner=Runner)

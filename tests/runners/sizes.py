@@ -1,16 +1,17 @@
-#!/usr/bin/env python3
 """Runs commands on a tree of 886,217 settled nodes, which `--limit` allows, and on files with one node more than a limit.
 
-    python3 tests/runners/sizes.py ./paver [WORD]
+    python3 -m tests.runners.sizes [-k WORD]
 
-runs the checks whose names contain WORD. The count of the ring's nodes is that of a plain paver outside this repository.
-The last line is 'N passed, M failed'.
+The count of the ring's nodes is that of a plain paver outside this repository.
 """
-import sys
+from __future__ import annotations
+
+import os
+import subprocess
 import tempfile
 from pathlib import Path
 
-from running import Folder, judged, program
+from tests.runners.running import FolderTest, main, run
 
 RING = "ring"
 TEXT = b"Variables x in [-3, 3], y in [-3, 3]; Constraints x^2 + y^2 >= 1; x^2 + y^2 <= 2; end\n"
@@ -20,84 +21,90 @@ NODES = 886_217
 USAGE = b"usage: paver COMMAND SYSTEM [OPTIONS] [PAVING..]\n"
 
 
-class Ring(Folder):
-    """A folder with the whole paving of the ring, by one worker."""
+class Sizes(FolderTest):
+    """Commands in a folder with the whole paving of the ring, by one worker."""
+    folder: Path
+    done: subprocess.CompletedProcess[bytes]
 
-    def __init__(self, paver, path):
-        super().__init__(paver, path)
-        self.put(RING, TEXT)
-        done = self.call("run", RING, *EPS, *LARGE, "--boxes", "1000000", "--workers", "1", "--out", "whole")
-        self.summary = done.stdout
-        assert done.returncode == 0 and done.stdout.startswith(f"settled {NODES} ".encode()), (done.returncode, done.stdout)
+    @classmethod
+    def setUpClass(cls) -> None:
+        made = tempfile.TemporaryDirectory()
+        cls.addClassCleanup(made.cleanup)
+        cls.folder = Path(made.name)
+        (cls.folder / RING).write_bytes(TEXT)
+        words = ["run", RING, *EPS, *LARGE, "--boxes", "1000000", "--workers", "1", "--out", "whole"]
+        cls.done = run(cls.folder, *words)
+
+    def setUp(self) -> None:
+        self.path, self.summary = self.folder, self.done.stdout
+        self.assertEqual(self.done.returncode, 0, self.done.stderr)
+        self.assertTrue(self.summary.startswith(f"settled {NODES} ".encode()), self.summary)
 
     def wants(self, words, status, out=None, err=b""):
-        """Notes what differs from what a call has to come to."""
+        """A call has this status, output and line."""
         done = self.call(*words)
-        if (done.returncode, done.stderr) != (status, err) or out not in (None, done.stdout):
-            self.faults.append(f"{words}: {done.returncode} {done.stdout[:200]!r} {done.stderr!r}")
+        self.assertEqual((done.returncode, done.stderr), (status, err),
+                         f"{words}: {done.returncode} {done.stdout[:200]!r} {done.stderr!r}")
+        self.assertIn(out, (None, done.stdout), f"{words}: {done.returncode} {done.stdout[:200]!r} {done.stderr!r}")
 
     def is_whole(self, name):
-        if (self.path / name).read_bytes() != (self.path / "whole").read_bytes():
-            self.faults.append(f"{name} differs from what one worker wrote")
+        self.assertEqual((self.path / name).read_bytes(), (self.path / "whole").read_bytes(),
+                         f"{name} differs from what one worker wrote")
 
+    def most_memory(self, *words):
+        """The most memory in KiB that a call took, which was done."""
+        with subprocess.Popen([self.program, *words], cwd=self.path, stdout=subprocess.DEVNULL) as child:
+            _, status, usage = os.wait4(child.pid, 0)
+            child.returncode = os.waitstatus_to_exitcode(status)
+        self.assertEqual(child.returncode, 0, words)
+        return usage.ru_maxrss
 
-def several_workers(ring):
-    for workers in ("4", "16"):
-        ring.wants(["run", RING, *EPS, *LARGE, "--boxes", str(NODES), "--workers", workers, "--out", "more"], 0, ring.summary)
-        ring.is_whole("more")
+    def test_several_workers(self) -> None:
+        for workers in ("4", "16"):
+            self.wants(["run", RING, *EPS, *LARGE, "--boxes", str(NODES), "--workers", workers, "--out", "more"], 0,
+                       self.summary)
+            self.is_whole("more")
 
+    def test_resumed_and_merged(self) -> None:
+        self.wants(["run", RING, *EPS, *LARGE, "--boxes", "400000", "--out", "part"], 1)
+        self.wants(["resume", RING, "part", *EPS, *LARGE, "--boxes", "600000", "--out", "on"], 0, self.summary)
+        self.is_whole("on")
+        self.wants(["merge", RING, "part", "whole", *EPS, *LARGE, "--out", "joined"], 0, self.summary)
+        self.is_whole("joined")
+        self.wants(["resume", RING, "part", *EPS, *LARGE, "--boxes", "600001"], 8, b"", b"tree limit: 400000 settled\n")
 
-def resumed_and_merged(ring):
-    ring.wants(["run", RING, *EPS, *LARGE, "--boxes", "400000", "--out", "part"], 1)
-    ring.wants(["resume", RING, "part", *EPS, *LARGE, "--boxes", "600000", "--out", "on"], 0, ring.summary)
-    ring.is_whole("on")
-    ring.wants(["merge", RING, "part", "whole", *EPS, *LARGE, "--out", "joined"], 0, ring.summary)
-    ring.is_whole("joined")
-    ring.wants(["resume", RING, "part", *EPS, *LARGE, "--boxes", "600001"], 8, b"", b"tree limit: 400000 settled\n")
+    def test_memory_of_joins(self) -> None:
+        """A join of eight files takes the memory of one of two, within a tenth."""
+        for words in (["merge", RING], ["resume", RING, "--boxes", "1"]):
+            two, eight = (self.most_memory(*words, *["whole"] * count, *EPS, *LARGE, "--out", "joined") for count in (2, 8))
+            self.assertLessEqual(eight, two * 1.1, f"{words}: {two} and {eight} KiB")
+            self.is_whole("joined")
 
+    def test_audited_and_drawn(self) -> None:
+        self.wants(["audit", RING, "whole", *EPS, *LARGE], 0, b"honest\n")
+        drawn = self.call("svg", RING, "whole", *EPS, *LARGE, "--x", "x", "--y", "y")
+        self.assertEqual(drawn.returncode, 0, f"svg: {drawn.returncode} {drawn.stderr!r}")
+        self.assertTrue(drawn.stdout.endswith(b"</svg>\n"), f"svg: {drawn.returncode} {drawn.stderr!r}")
+        self.assertGreaterEqual(drawn.stdout.count(b"<rect"), 100_000, f"svg: {drawn.returncode} {drawn.stderr!r}")
 
-def audited_and_drawn(ring):
-    ring.wants(["audit", RING, "whole", *EPS, *LARGE], 0, b"honest\n")
-    drawn = ring.call("svg", RING, "whole", *EPS, *LARGE, "--x", "x", "--y", "y")
-    if drawn.returncode != 0 or not drawn.stdout.endswith(b"</svg>\n") or drawn.stdout.count(b"<rect") < 100_000:
-        ring.faults.append(f"svg: {drawn.returncode} {drawn.stderr!r}")
+    def test_kept(self) -> None:
+        self.wants(["campaign", RING, *EPS, *LARGE, "--keep", "k", "--boxes", "300000", "--rounds", "3"], 0, self.summary)
+        self.wants(["campaign", RING, *EPS, "--keep", "k"], 4, b"", b"paving k: too many rows\n")
 
+    def test_refused_without_it(self) -> None:
+        """A whole file has a line for each settled node behind its two first ones."""
+        for most in (100_000, NODES - 1):
+            self.wants(["audit", RING, "whole", *EPS, "--limit", str(most)], 4, b"",
+                       f"paving whole: too many nodes at line {most + 3}\n".encode())
+        self.wants(["merge", RING, "whole", *EPS], 4, b"", b"paving whole: too many nodes at line 100003\n")
+        self.wants(["audit", RING, "whole", *EPS, "--limit", str(NODES)], 0, b"honest\n")
 
-def kept(ring):
-    ring.wants(["campaign", RING, *EPS, *LARGE, "--keep", "k", "--boxes", "300000", "--rounds", "3"], 0, ring.summary)
-    ring.wants(["campaign", RING, *EPS, "--keep", "k"], 4, b"", b"paving k: too many rows\n")
-
-
-def refused_without_it(ring):
-    """A whole file has a line for each settled node behind its two first ones."""
-    for most in (100_000, NODES - 1):
-        ring.wants(["audit", RING, "whole", *EPS, "--limit", str(most)], 4, b"",
-                   f"paving whole: too many nodes at line {most + 3}\n".encode())
-    ring.wants(["merge", RING, "whole", *EPS], 4, b"", b"paving whole: too many nodes at line 100003\n")
-    ring.wants(["audit", RING, "whole", *EPS, "--limit", str(NODES)], 0, b"honest\n")
-
-
-def refused_words(ring):
-    for words in (["--boxes", "100001"], ["--limit", "99999"], ["--limit", "100000001"],
-                  [*LARGE, "--boxes", "1000001"], ["--limit", ""], ["--limit", "+200000"], [*LARGE, *LARGE]):
-        ring.wants(["run", RING, *words], 2, b"", USAGE)
-    ring.wants(["check", RING, *LARGE], 2, b"", USAGE)
-
-
-CHECKS = (several_workers, resumed_and_merged, audited_and_drawn, kept, refused_without_it, refused_words)
-
-
-def faults_of(check, ring):
-    ring.faults = []
-    check(ring)
-    return ring.faults
-
-
-def main():
-    with tempfile.TemporaryDirectory() as folder:
-        ring = Ring(program(), Path(folder))
-        return judged([(check.__name__.replace("_", " "), faults_of, check, ring) for check in CHECKS]).end()
+    def test_refused_words(self) -> None:
+        for words in (["--boxes", "100001"], ["--limit", "99999"], ["--limit", "100000001"],
+                      [*LARGE, "--boxes", "1000001"], ["--limit", ""], ["--limit", "+200000"], [*LARGE, *LARGE]):
+            self.wants(["run", RING, *words], 2, b"", USAGE)
+        self.wants(["check", RING, *LARGE], 2, b"", USAGE)
 
 
 if __name__ == "__main__":
-    sys.exit(main())
+    main()

@@ -3,9 +3,9 @@ member of the set, and none of a removed part is."""
 import random
 from fractions import Fraction
 
-from data.examples import settings_of
-from reference import minibex, paver
-from reference.numbers import NEG_INF, POS_INF, UNIT
+from tests.data.examples import settings_of
+from tests.reference import minibex, paver
+from tests.reference.numbers import NEG_INF, POS_INF, UNIT
 
 POINTS = 4000  # of one paving
 FAR = 1 << 540  # how far a point goes where a box has no end

@@ -1,55 +1,27 @@
-#!/usr/bin/env python3
 """Tests the Python package in python/paver on the program, beside the plain paver in tests/reference.
 
-    python3 tests/runners/test_python.py ./paver [WORD]
+    python3 -m tests.runners.test_python [-k WORD]
 
-runs the checks whose names contain WORD. What the program does not have yet, and plots where matplotlib is not
-installed, is skipped by name. The last line is 'N passed, M failed'.
+What the program does not have yet, and plots where matplotlib is not installed, is skipped by name. Each of the modules
+that are listed here is a runner of its own.
 """
-import os
-import sys
-import time
-import traceback
+from __future__ import annotations
 
-from running import Count, is_chosen, program, word
-import package_answers
-import package_around
-import package_checks
-import package_misuse
-import package_parts
-import package_pavings
-import package_refusals
-import package_tools
-import package_users
-from package_checks import Skipped
+import unittest
+
+from tests.runners import (
+    package_answers, package_around, package_checks, package_misuse, package_parts, package_pavings, package_refusals,
+    package_stages, package_tools, package_users,
+)
+from tests.runners.running import main
+
+MODULES = (package_checks, package_pavings, package_tools, package_misuse, package_refusals, package_users, package_parts,
+           package_stages, package_around, package_answers)
 
 
-def judge(count, name, check, arguments):
-    """A check of any kind; one that ends in another way than by an assertion shows where."""
-    try:
-        check(*arguments)
-        count.judge(name, [])
-    except Skipped as reason:
-        print(f"skipped: {name}: {reason}")
-    except Exception as fault:
-        count.judge(name, [f"{type(fault).__name__}: {fault}"])
-        if not isinstance(fault, AssertionError):
-            traceback.print_exc()
-
-
-def main():
-    os.environ["PAVER"] = program()
-    count = Count()
-    for name, check, arguments in [*package_checks.checks(), *package_pavings.checks(), *package_tools.checks(),
-                                   *package_misuse.checks(), *package_refusals.checks(), *package_users.checks(),
-                                   *package_parts.checks(), *package_around.checks(), *package_answers.checks()]:
-        if is_chosen(name, word()):
-            begun = time.monotonic()
-            judge(count, name, check, arguments)
-            if time.monotonic() - begun > 20:
-                print(f"{name}: took {time.monotonic() - begun:.0f} s")
-    return count.end()
+def load_tests(loader: unittest.TestLoader, _found: unittest.TestSuite, _pattern: str | None) -> unittest.TestSuite:
+    return unittest.TestSuite(map(loader.loadTestsFromModule, MODULES))
 
 
 if __name__ == "__main__":
-    sys.exit(main())
+    main()

@@ -3,13 +3,12 @@
 Places are whole numbers times 2^-512, as numbers.grid has them; those of pixels are exact too, since the page tells the two
 floats of an axis' anchor, its scale and its offset.
 """
-import random
 from fractions import Fraction
 
 import paver
-from made_pavings import canonical, made_text
 from paver.numbers import SCALE
 from paver.view import page_of_text
+from tests.generators.made_pavings import canonical, made_text
 
 NEAR = Fraction(1, 1 << 16)  # of a pixel: what lies this near may be taken as touching
 READ = """(() => { const { x, y } = paverView.axes, tell = (a) => [a.high, a.low, a.scale, a.offset];

@@ -1,14 +1,12 @@
 -- Offering the open leaves of a stage one after the other.
-use Rattle.std.proofs.Common.{◌≡◌, ℕ, zero, suc, ◌+◌, ◌-◌, ◌≤◌, Bool, true, false, Some, List, [], ◌∷◌, ◌++◌, map, take, drop, length, refl, sym, ◌∙◌, ap, arith, subst, append_assoc, append-nil}
-use Rattle.pv_tree.specs.Trees.{Tree, leaf, removed, inner, small, cut, subtree, opens, height}
+use Rattle.std.proofs.Common.{◌≡◌, ℕ, zero, suc, ◌+◌, ◌-◌, ◌≤◌, Bool, true, false, List, [], ◌∷◌, ◌++◌, map, take, drop, length, refl, sym, ◌∙◌, ap, arith, subst, append_assoc}
+use Rattle.pv_tree.specs.Trees.{Tree, opens}
 use Rattle.pv_board.specs.declared.mark.Mark.{Mark}
 use Rattle.pv_board.specs.declared.leaves.Leaves.{Leaves}
 use Rattle.pv_board.specs.Marks.{weigh}
 use Rattle.pv_board.specs.Events.{free_units, fresh, leaves_at}
 use Rattle.pv_board.specs.Leaves.{AreOffered}
-use Rattle.pv_board.specs.Piles.{listed, CanPile}
 use Rattle.pv_board.proofs.Paths.{weigh-append}
-use Rattle.pv_board.proofs.Piling.{IsCutNode, low_there, high_there, same_part, opens_count, length_app}
 
 none_less : (m : ℕ) → 0 - m ≡ 0
 none_less m = omega arith
@@ -82,64 +80,26 @@ offered_two a b c xs ys h k =
       for_free = k.for_free ∙ h.for_free;
     }
 
-listed_cut : (at low high : List Bool) (part s : Tree) (k : IsCutNode part) → s ≡ part → low ≡ at ++ false ∷ [] → high ≡ at ++ true ∷ [] → listed low k.low ++ listed high k.high ≡ listed at s
-listed_cut at low high part s k e l h = (λ i. listed (l i) k.low ++ listed (h i) k.high) ∙ ap (listed at) (sym k.is ∙ sym e)
+-- one more was offered
+pub offered_more : (a b c : Leaves) (ps qs : List (List Bool)) (p : List Bool) → qs ≡ ps ++ p ∷ [] → AreOffered a b ps → AreOffered b c (p ∷ []) → AreOffered a c qs
+offered_more a b c ps qs p e h k = subst (AreOffered a c) (sym e) (offered_two a b c ps (p ∷ []) h k)
 
-pub offered_cut : (a b c : Leaves) (at low high : List Bool) (part s : Tree) (k : IsCutNode part) → s ≡ part → low ≡ at ++ false ∷ [] → high ≡ at ++ true ∷ [] → AreOffered a b (listed low k.low) → AreOffered b c (listed high k.high) → AreOffered a c (listed at s)
-offered_cut a b c at low high part s k e l h x y = subst (AreOffered a c) (listed_cut at low high part s k e l h) (offered_two a b c (listed low k.low) (listed high k.high) x y)
+pub tickets_more : (a b : Leaves) (ps qs : List (List Bool)) (p : List Bool) (old mid new : List Mark) → qs ≡ ps ++ p ∷ [] → AreOffered a b ps
+    → mid ≡ old ++ map fresh (take (free_units a.stopped a.left) ps) → new ≡ mid ++ map fresh (take (free_units b.stopped b.left) (p ∷ [])) → new ≡ old ++ map fresh (take (free_units a.stopped a.left) qs)
+tickets_more a b ps qs p old mid new e h m n =
+    n ∙ ap (λ zs. zs ++ map fresh (take (units b) (p ∷ []))) m ∙ append_assoc old (map fresh (take (units a) ps)) (map fresh (take (units b) (p ∷ [])))
+    ∙ ap (λ zs. old ++ zs) (sym (map_two fresh (take (units a) ps) (take (units b) (p ∷ []))) ∙ ap (map fresh) (sym (taken_two a b ps (p ∷ []) h) ∙ ap (take (units a)) (sym e)))
 
-pub tickets_cut : (a b : Leaves) (at low high : List Bool) (part s : Tree) (k : IsCutNode part) (old mid new : List Mark) → s ≡ part → low ≡ at ++ false ∷ [] → high ≡ at ++ true ∷ [] → AreOffered a b (listed low k.low)
-    → mid ≡ old ++ map fresh (take (free_units a.stopped a.left) (listed low k.low)) → new ≡ mid ++ map fresh (take (free_units b.stopped b.left) (listed high k.high)) → new ≡ old ++ map fresh (take (free_units a.stopped a.left) (listed at s))
-tickets_cut a b at low high part s k old mid new e l h x m n =
-    let xs = listed low k.low in let ys = listed high k.high in
-    n ∙ ap (λ zs. zs ++ map fresh (take (units b) ys)) m ∙ append_assoc old (map fresh (take (units a) xs)) (map fresh (take (units b) ys))
-    ∙ ap (λ zs. old ++ zs) (sym (map_two fresh (take (units a) xs) (take (units b) ys)) ∙ ap (map fresh) (sym (taken_two a b xs ys x) ∙ ap (take (units a)) (listed_cut at low high part s k e l h)))
+-- no more leaves are free than there were with those that were offered
+pub few_more : (a b : Leaves) (ps : List (List Bool)) → AreOffered a b ps → length b.free.items ≤ length a.free.items + length ps
+few_more a b ps h =
+    let x = ap length h.free in let y = add_count a.free.items (drop (units a) ps) in let z = split_count (units a) ps in omega (arith, x, y, z)
 
-pub list_count : (p : List Bool) (t : Tree) → length (listed p t) ≡ length (opens t)
-list_count p leaf = refl
-list_count p removed = refl
-list_count p (inner to) = refl
-list_count p (small to) = refl
-list_count p (cut to v a l r) =
-    let x = list_count (p ++ false ∷ []) l in let y = list_count (p ++ true ∷ []) r in let c = opens_count to v a l r in
-    let s = add_count (listed (p ++ false ∷ []) l) (listed (p ++ true ∷ []) r) in omega (arith, x, y, c, s)
+pub few_tickets : (old new : List Mark) (u : ℕ) (ps : List (List Bool)) → new ≡ old ++ map fresh (take u ps) → length new ≤ length old + length ps
+few_tickets old new u ps e =
+    let x = ap length e in let y = add_count old (map fresh (take u ps)) in let m = map_count fresh (take u ps) in
+    let z = split_count u ps in omega (arith, x, y, m, z)
 
-pub few_more : (a b : Leaves) (p : List Bool) (t : Tree) → AreOffered a b (listed p t) → length b.free.items ≤ length a.free.items + length (opens t)
-few_more a b p t h =
-    let x = ap length h.free in let y = add_count a.free.items (drop (units a) (listed p t)) in let z = split_count (units a) (listed p t) in let n = list_count p t in omega (arith, x, y, z, n)
-
-pub few_tickets : (old new : List Mark) (u : ℕ) (p : List Bool) (t : Tree) → new ≡ old ++ map fresh (take u (listed p t)) → length new ≤ length old + length (opens t)
-few_tickets old new u p t e =
-    let x = ap length e in let y = add_count old (map fresh (take u (listed p t))) in let m = map_count fresh (take u (listed p t)) in
-    let z = split_count u (listed p t) in let n = list_count p t in omega (arith, x, y, m, z, n)
-
-pub batch_child : (t : Tree) (path : List Bool) (x : Tree) (n m : ℕ) → subtree t path ≡ Some x → n + length (opens x) ≤ m → (s : Tree) → subtree t path ≡ Some s → n + length (opens s) ≤ m
-batch_child t path x n m e h s f = subst (λ (z : Tree). n + length (opens z) ≤ m) (same_part (subtree t path) x s e f) h
-
-pub cut_count : (t : Tree) (k : IsCutNode t) → length (opens t) ≡ length (opens k.low) + length (opens k.high)
-cut_count t k = ap (λ (z : Tree). length (opens z)) k.is ∙ opens_count k.to k.var k.at k.low k.high
-
-pub deal_low : (t : Tree) (path at : List Bool) (len room : ℕ) (h : CanPile t path at len room) (k : IsCutNode h.part) → CanPile t (path ++ false ∷ []) (at ++ false ∷ []) len room
-deal_low t path at len room h k =
-    let d = h.depth in let e = ap height k.is in let s = length_app at false in let f = h.fits in let n = cut_count h.part k in
-    record { part = k.low; is = low_there t path at len room h k; depth = omega (arith, d, e, s); fits = omega (arith, f, n) }
-
-pub deal_high : (t : Tree) (path at : List Bool) (len room : ℕ) (h : CanPile t path at len room) (k : IsCutNode h.part) (len' room' : ℕ) → len' ≤ len + length (opens k.low) → room' ≡ room → CanPile t (path ++ true ∷ []) (at ++ true ∷ []) len' room'
-deal_high t path at len room h k len' room' l r =
-    let d = h.depth in let e = ap height k.is in let s = length_app at true in let f = h.fits in let n = cut_count h.part k in
-    record { part = k.high; is = high_there t path at len room h k; depth = omega (arith, d, e, s); fits = omega (arith, f, n, l, r) }
-
-map_map : (p : List Bool) (b : Bool) (qs : List (List Bool)) → map (λ q. p ++ q) (map (λ q. b ∷ q) qs) ≡ map (λ q. (p ++ b ∷ []) ++ q) qs
-map_map p b [] = refl
-map_map p b (q ∷ qs) = λ i. sym (append_assoc p (b ∷ []) q) i ∷ map_map p b qs i
-
--- the listed paths are the open leaves behind the path
-pub listed_is : (p : List Bool) (t : Tree) → listed p t ≡ leaves_at p t
-listed_is p leaf = ap (λ q. q ∷ []) (sym (append-nil p))
-listed_is p removed = refl
-listed_is p (inner to) = refl
-listed_is p (small to) = refl
-listed_is p (cut to v a l r) =
-    (λ i. listed_is (p ++ false ∷ []) l i ++ listed_is (p ++ true ∷ []) r i)
-    ∙ (λ i. sym (map_map p false (opens l)) i ++ sym (map_map p true (opens r)) i)
-    ∙ sym (map_two (λ (q : List Bool). p ++ q) (map (λ (q : List Bool). false ∷ q) (opens l)) (map (λ (q : List Bool). true ∷ q) (opens r)))
+-- a stage brings as many open leaves as it has
+pub leaves_count : (p : List Bool) (t : Tree) → length (leaves_at p t) ≡ length (opens t)
+leaves_count p t = map_count (λ (q : List Bool). p ++ q) (opens t)

@@ -1,5 +1,7 @@
 -- Open leaves, the last first.
-use Rattle.std.proofs.Common.{◌≡◌, ℕ, suc, ◌+◌, ◌<◌, ◌≤◌, Bool, true, false, Option, Some, List, [], ◌∷◌, ◌++◌, length, refl, sym, ◌∙◌, ap, arith, append_assoc, append-nil}
+use Rattle.std.proofs.Common.{◌≡◌, ℕ, suc, ◌+◌, ◌<◌, ◌≤◌, Bool, true, false, Option, Some, List, [], ◌∷◌, ◌++◌, map, length, refl, sym, ◌∙◌, ap, arith, append_assoc, append-nil}
+use Rattle.std.specs.Prelude.{reverse}
+use Rattle.std.proofs.lemmas.List.{reverse-append}
 use Rattle.pv_num.specs.Extended.{Extended}
 use Rattle.pv_interval.specs.Bounds.{Bounds}
 use Rattle.pv_tree.specs.Trees.{Tree, leaf, removed, inner, small, cut, subtree, opens, height, shape_of}
@@ -7,6 +9,7 @@ use Rattle.pv_tree.specs.declared.outcome.Shape.{Shape}
 use Rattle.pv_tree.specs.declared.outcome.Shape.TheVariants as shape
 use Rattle.pv_join.proofs.JoinFacts.{subtree_low, subtree_high, cut_height}
 use Rattle.pv_board.specs.Marks.{weigh}
+use Rattle.pv_board.specs.Events.{leaves_at}
 use Rattle.pv_board.specs.Piles.{piled, CanPile, is_cut_shape}
 use Rattle.pv_board.proofs.Paths.{weigh-append, weigh-ones}
 use Rattle.pv_board.proofs.Growth.{weigh_cut}
@@ -125,3 +128,23 @@ pub piled_cut : (at up down : List Bool) (old mid new : List (List Bool)) (part 
 piled_cut at up down old mid new part s k e u d m n =
     n ∙ ap (λ (xs : List (List Bool)). xs ++ piled down k.low) m ∙ append_assoc old (piled up k.high) (piled down k.low)
     ∙ (λ i. old ++ (piled (u i) k.high ++ piled (d i) k.low)) ∙ ap (λ (z : Tree). old ++ piled at z) (sym k.is ∙ sym e)
+
+map_map : (p : List Bool) (b : Bool) (qs : List (List Bool)) → map (λ q. p ++ q) (map (λ q. b ∷ q) qs) ≡ map (λ q. (p ++ b ∷ []) ++ q) qs
+map_map p b [] = refl
+map_map p b (q ∷ qs) = λ i. sym (append_assoc p (b ∷ []) q) i ∷ map_map p b qs i
+
+map_two : (p : List Bool) (xs ys : List (List Bool)) → map (λ q. p ++ q) (xs ++ ys) ≡ map (λ q. p ++ q) xs ++ map (λ q. p ++ q) ys
+map_two p [] ys = refl
+map_two p (x ∷ xs) ys = ap (λ zs. (p ++ x) ∷ zs) (map_two p xs ys)
+
+-- turned round they are the open leaves in preorder
+pub piled_back : (p : List Bool) (t : Tree) → reverse (piled p t) ≡ leaves_at p t
+piled_back p leaf = ap (λ q. q ∷ []) (sym (append-nil p))
+piled_back p removed = refl
+piled_back p (inner to) = refl
+piled_back p (small to) = refl
+piled_back p (cut to v a l r) =
+    reverse-append (piled (p ++ true ∷ []) r) (piled (p ++ false ∷ []) l)
+    ∙ (λ i. piled_back (p ++ false ∷ []) l i ++ piled_back (p ++ true ∷ []) r i)
+    ∙ (λ i. sym (map_map p false (opens l)) i ++ sym (map_map p true (opens r)) i)
+    ∙ sym (map_two p (map (λ (q : List Bool). false ∷ q) (opens l)) (map (λ (q : List Bool). true ∷ q) (opens r)))

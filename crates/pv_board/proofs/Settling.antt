@@ -22,8 +22,6 @@ use Rattle.pv_board.proofs.Paths.{weigh-append, weigh-map, weigh-ones}
 use Rattle.pv_board.proofs.Growth.{graft_opens}
 use Rattle.pv_board.proofs.Fulls.{grows_box, graft_stage, stage_height, top_leaf}
 use Rattle.pv_board.proofs.Boards.{core_of}
-use Rattle.pv_board.specs.Piles.{listed}
-use Rattle.pv_board.proofs.Dealing.{listed_is}
 use Rattle.pv_board.proofs.Takes.{held_open}
 
 -- a box in a paving is a box
@@ -61,7 +59,7 @@ module _ (rule : Rule) (depth dims : ℕ) (root : List Bounds) (opening : Tree) 
   pub record WasSettled (p p' : Seen) (old mid new : Leaves) (t : Mark) (s : Tree) : Type 0 where
     pub held : holds (marks_of old) t.path ≡ suc t.grant
     pub grows : Grows s (full_of rule depth (box_of p.root p.tree t.path) leaf (length t.path))
-    pub few : settled_in s ≤ t.grant + 1
+    pub few : settled_in s ≤ old.left + t.grant + 1
     pub root_is : p'.root ≡ p.root
     pub tree : p'.tree ≡ graft p.tree t.path s
     pub spare : p.spare ≤ p'.spare + settled_in s
@@ -183,6 +181,10 @@ cut_depth p (outcome.Inner to) h e = cc
 cut_depth p (outcome.Small to) h e = cc
 cut_depth p (outcome.Cut to v a) h e = h
 
+-- where a stage takes no more units than its ticket and the board have
+pub enough_units : (left n own grant settled more : ℕ) → n ≡ settled → own ≡ grant → more ≡ n - (1 + own) → more ≤ left → settled ≤ left + grant + 1
+enough_units left n own grant settled more e o m h = omega (arith, e, o, m, h)
+
 pub same_mark : (m n : Mark) (o : Option Mark) → o ≡ Some m → o ≡ Some n → m ≡ n
 same_mark m n o e f = let w : Some m ≡ Some n = sym e ∙ f in cc
 
@@ -244,10 +246,10 @@ module _ (rule : Rule) (depth dims : ℕ) (root : List Bounds) (opening : Tree) 
         depth_is = stage_height rule depth dims h.opens_right.rule_fits (box_of p.root p.tree path) st.tree (length path) box size few grown;
       }
 
-  pub was_staged : (p p' : Seen) (old mid new : Leaves) (t r : Mark) (path : List Bool) (st : Seen) (n : ℕ) → path ≡ t.path → r ≡ t → n ≡ settled_in st.tree → IsStaged p path st → holds (marks_of old) t.path ≡ suc t.grant
-      → settled_in st.tree ≤ 1 + t.grant → IsClosed old mid r n → p'.root ≡ p.root → p'.tree ≡ graft p.tree path st.tree → p.spare ≤ p'.spare + settled_in st.tree → AreOffered mid new (listed path st.tree)
+  pub was_staged : (p p' : Seen) (old mid new : Leaves) (t r : Mark) (path : List Bool) (ps : List (List Bool)) (st : Seen) (n : ℕ) → path ≡ t.path → r ≡ t → n ≡ settled_in st.tree → IsStaged p path st → holds (marks_of old) t.path ≡ suc t.grant
+      → settled_in st.tree ≤ old.left + t.grant + 1 → IsClosed old mid r n → p'.root ≡ p.root → p'.tree ≡ graft p.tree path st.tree → p.spare ≤ p'.spare + settled_in st.tree → AreOffered mid new ps → ps ≡ leaves_at t.path st.tree
       → WasSettled rule depth dims root opening budget limit p p' old mid new t st.tree
-  was_staged p p' old mid new t r path st n at_path same count staged held few closed root_is tree spare offered = record {
+  was_staged p p' old mid new t r path ps st n at_path same count staged held few closed root_is tree spare offered are = record {
     held = held;
     grows = subst (λ (q : List Bool). Grows st.tree (full_of rule depth (box_of p.root p.tree q) leaf (length q))) at_path staged.grows;
     few = omega (arith, few);
@@ -255,7 +257,7 @@ module _ (rule : Rule) (depth dims : ℕ) (root : List Bounds) (opening : Tree) 
     tree = tree ∙ ap (λ (q : List Bool). graft p.tree q st.tree) at_path;
     spare = spare;
     closed = subst (λ (m : Mark). IsClosed old mid m (settled_in st.tree)) same (subst (IsClosed old mid r) count closed);
-    offered = subst (AreOffered mid new) (listed_is path st.tree ∙ ap (λ (q : List Bool). leaves_at q st.tree) at_path) offered;
+    offered = subst (AreOffered mid new) are offered;
   }
 
   pub stage_board : (p p' : Seen) (old mid new : Leaves) (used steps n : ℕ) (t : Mark) (s : Tree) → IsBoard rule depth dims root opening budget limit (seen p old used steps) old → WasSettled rule depth dims root opening budget limit p p' old mid new t s → n ≡ settled_in s
@@ -263,13 +265,13 @@ module _ (rule : Rule) (depth dims : ℕ) (root : List Bounds) (opening : Tree) 
   stage_board p p' old mid new used steps n t s h w e steps' =
       subst (λ (m : ℕ). IsBoard rule depth dims root opening budget limit (seen p' new (used + m) steps') new) (sym e) (settled_board rule depth dims root opening budget limit p p' old mid new used steps t s h w steps')
 
-  pub stage_settles : (p p' : Seen) (old mid new : Leaves) (used steps n : ℕ) (t : Mark) (s : Tree) (path : List Bool) (before children : List Mark) → IsBoard rule depth dims root opening budget limit (seen p old used steps) old → WasSettled rule depth dims root opening budget limit p p' old mid new t s → n ≡ settled_in s
-      → path ≡ t.path → before ≡ [] → children ≡ before ++ map fresh (take (free_units mid.stopped mid.left) (listed path s)) → IsSettling (seen p old used steps) (seen p' new (used + n) (next_step steps)) t s children
-  stage_settles p p' old mid new used steps n t s path before children h w e at_path none is =
+  pub stage_settles : (p p' : Seen) (old mid new : Leaves) (used steps n : ℕ) (t : Mark) (s : Tree) (ps : List (List Bool)) (before children : List Mark) → IsBoard rule depth dims root opening budget limit (seen p old used steps) old → WasSettled rule depth dims root opening budget limit p p' old mid new t s → n ≡ settled_in s
+      → ps ≡ leaves_at t.path s → before ≡ [] → children ≡ before ++ map fresh (take (free_units mid.stopped mid.left) ps) → IsSettling (seen p old used steps) (seen p' new (used + n) (next_step steps)) t s children
+  stage_settles p p' old mid new used steps n t s ps before children h w e are none is =
       subst (λ (m : ℕ). IsSettling (seen p old used steps) (seen p' new (used + m) (next_step steps)) t s children) (sym e)
       (settled_is rule depth dims root opening budget limit p p' old mid new used steps t s h w children
-      (is ∙ ap (λ (ms : List Mark). ms ++ map fresh (take (free_units mid.stopped mid.left) (listed path s))) none
-      ∙ ap (λ (ps : List (List Bool)). map fresh (take (free_units mid.stopped mid.left) ps)) (listed_is path s ∙ ap (λ (q : List Bool). leaves_at q s) at_path)))
+      (is ∙ ap (λ (ms : List Mark). ms ++ map fresh (take (free_units mid.stopped mid.left) ps)) none
+      ∙ ap (λ (qs : List (List Bool)). map fresh (take (free_units mid.stopped mid.left) qs)) are))
 
   pub stage_risen : (p p' : Seen) (old mid new : Leaves) (used steps steps' n : ℕ) (t : Mark) (s : Tree) → IsBoard rule depth dims root opening budget limit (seen p old used steps) old → WasSettled rule depth dims root opening budget limit p p' old mid new t s → n ≡ settled_in s
       → HasRisen (seen p old used steps) (seen p' new (used + n) steps') (settled_in s)

@@ -1,10 +1,12 @@
 -- The events of a board. What a record does not name stays.
-use Rattle.std.specs.Prelude.{◌≡◌, ◌≢◌, ℕ, suc, ◌+◌, ◌-◌, ◌^◌, ◌%◌, ◌<◌, ◌≤◌, Bool, if◌then◌else◌, nat_eq, Some, List, [], ◌++◌, map, take, length}
+use Rattle.std.specs.Prelude.{◌≡◌, ◌≢◌, ℕ, suc, ◌+◌, ◌-◌, ◌^◌, ◌%◌, ◌<◌, ◌≤◌, Bool, false, IsTrue, if◌then◌else◌, nat_eq, Some, List, [], ◌++◌, map, take, length}
 use Rattle.pv_tree.specs.Trees.{Tree, leaf, subtree, graft, opens}
 use Rattle.pv_board.specs.declared.mark.Mark.{Mark}
 use Rattle.pv_board.specs.Marks.{weigh, holds, issued, granted, HasMore}
 use Rattle.pv_board.specs.Rules.{settled_in}
 use Rattle.pv_board.specs.Core.{Core}
+use Rattle.pv_board.specs.declared.ticket.Handed.{Handed}
+use Rattle.pv_board.specs.declared.ticket.Handed.TheVariants as handed
 use Rattle.pv_board.specs.declared.ticket.Look.{Look}
 use Rattle.pv_board.specs.declared.ticket.Look.TheVariants as look
 
@@ -83,6 +85,19 @@ pub record IsGiveBack (old new : Core) (t : Mark) : Type 0 where
   pub left : new.left ≡ old.left + 1 + t.grant
   pub steps : new.steps ≡ next_step old.steps
   pub rest : new ≡ record old { marks = new.marks; left = new.left; steps = new.steps }
+
+-- A stage was handed in. It stands in the place of its ticket's leaf; or the ticket is not current; or the ticket and the board have too few units for
+-- the stage, and the leaf was given back.
+abbrev pub IsHandedIn : Core → Core → Mark → Tree → List Mark → Handed → Type 0
+IsHandedIn old new t s children handed.Taken = IsTrue (is_current old t) × (settled_in s ≤ old.left + 1 + t.grant) × IsSettling old new t s children
+IsHandedIn old new t s children handed.Stale = (is_current old t ≡ false) × (new ≡ old) × (children ≡ [])
+IsHandedIn old new t s children handed.Short = IsTrue (is_current old t) × (old.left + 1 + t.grant < settled_in s) × IsGiveBack old new t × (children ≡ [])
+
+-- How many nodes were settled by a stage of so many.
+abbrev pub taken_by : Handed → ℕ → ℕ
+taken_by handed.Taken n = n
+taken_by handed.Stale n = 0
+taken_by handed.Short n = 0
 
 -- So many nodes more are settled and used.
 pub record HasRisen (old new : Core) (n : ℕ) : Type 0 where

@@ -26,11 +26,3 @@ is_cut_shape shape.Removed = false
 is_cut_shape shape.Inner = false
 is_cut_shape shape.Small = false
 is_cut_shape (shape.Cut var at) = true
-
--- The same paths, the first in preorder first.
-abbrev pub listed : List Bool → Tree → List (List Bool)
-listed p leaf = p ∷ []
-listed p removed = []
-listed p (inner to) = []
-listed p (small to) = []
-listed p (cut to v a low high) = listed (p ++ false ∷ []) low ++ listed (p ++ true ∷ []) high

@@ -5,7 +5,7 @@ ghost use Rattle.pv_tree.specs.Stages.{full_of, IsStage};
 ghost use Rattle.pv_board.specs.Marks.{issued, granted, holds};
 ghost use Rattle.pv_board.specs.Rules.{IsFitting, IsStageBelow, settled_in};
 ghost use Rattle.pv_board.specs.Core.{Core, IsCore, IsOpening};
-ghost use Rattle.pv_board.specs.Events.{is_current, may_issue, next_step, IsDry, IsOver, IsTake, IsExtend, IsSettling, IsGiveBack, IsRecall, IsLook, HasRisen, fresh};
+ghost use Rattle.pv_board.specs.Events.{is_current, may_issue, next_step, IsDry, IsOver, IsTake, IsExtend, IsSettling, IsHandedIn, IsGiveBack, IsRecall, IsLook, HasRisen, fresh, leaves_at, taken_by};
 ghost use Rattle.pv_board.specs.Absorbing.{IsAbsorbed, IsAbsorbRefusal};
 ghost use Rattle.pv_tree.specs.Arena.{is_a_cut};
 ghost use Rattle.pv_tree.specs.declared.outcome.Shape.TheVariants.{Absent};
@@ -16,7 +16,7 @@ use crate::ceiling::Ceiling;
 use crate::deal::deal;
 use crate::leaves::Leaves;
 use crate::naming::Naming;
-use crate::ticket::{Look, Settled, Ticket};
+use crate::ticket::{Handed, Look, Settled, Ticket};
 use pv_box::IBox;
 use pv_tree::{Batch, Counts, Outcome, Path, Paving, Shape};
 use std::alloc::Global;
@@ -77,6 +77,13 @@ impl<N: Naming> Board<N> {
         ensures core { IsCore N.rule N.depth N.root N.opening N.budget N.limit self.now }
     {
         self.leaves.left
+    }
+
+    /// Whether it was stopped.
+    pub fn is_stopped(&self) -> bool
+        ensures { result ≡ self.now.stopped }
+    {
+        self.leaves.stopped
     }
 
     /// How many leaves are issued.
@@ -165,45 +172,48 @@ impl<N: Naming> Board<N> {
     }
 
     /// Puts a stage of a ticket's leaf in the leaf's place, and issues the stage's open leaves in
-    /// preorder, as many as may be. True exactly where the ticket is current; else nothing changes.
-    /// It takes no memory.
+    /// preorder, as many as may be. The units that the stage took beyond the ticket's are taken of
+    /// what is left; where there are fewer, the leaf is given back. `leaves` has the paths of the
+    /// stage's open leaves from the root of the board's tree. It takes no memory.
     pub fn settle_stage(
         &mut self,
         ticket: Ticket,
         stage: &Paving,
+        leaves: &[Path],
         children: &mut Batch<Ticket>,
-    ) -> bool
+    ) -> Handed
         requires there { IsSome (subtree (full_of N.rule N.depth N.root N.opening 0) ticket.path) }
         requires root { stage.now.root ≡
             box_of N.root (full_of N.rule N.depth N.root N.opening 0) ticket.path }
         requires stage { IsStageBelow N.rule N.depth stage.now.root
             (length ticket.path) stage.now.tree }
         requires some { 1 ≤ settled_in stage.now.tree }
-        requires few { settled_in stage.now.tree ≤ 1 + ticket.grant }
+        requires leaves { leaves.now ≡ leaves_at ticket.path stage.now.tree }
+        requires few { length leaves.now ≤ 17 }
         requires empty { children.old ≡ [] }
-        ensures current { result ≡ is_current self.old ticket }
-        ensures settled { IsTrue result →
-            IsSettling self.old self.new ticket stage.now.tree children.new }
-        ensures stale { result ≡ false → (self.new ≡ self.old) × (children.new ≡ []) }
-        ensures rose { HasRisen self.old self.new
-            (if result then settled_in stage.now.tree else 0) }
+        ensures handed { IsHandedIn self.old self.new ticket stage.now.tree children.new result }
+        ensures rose { HasRisen self.old self.new (taken_by result (settled_in stage.now.tree)) }
         ensures over { IsOver self.old → IsOver self.new }
     {
         let Some(slot) = self.leaves.find(&ticket) else {
-            return false;
+            return Handed::Stale;
         };
         let _places = self.paving.dims();
         let _sides = stage.dims();
-        let _grant = ticket.grant();
         let settled = stage.counts().settled();
+        let own = 1 + ticket.grant();
+        if self.leaves.left < settled.saturating_sub(own) {
+            self.give_back(ticket);
+            return Handed::Short;
+        }
         let path = ticket.path();
         let _steps = path.len();
         self.paving.graft(path, stage);
         self.leaves.close(slot, settled);
         self.used += settled;
         self.steps = self.steps.wrapping_add(1);
-        deal(&mut self.leaves, stage, Path::root(), path, children);
-        true
+        deal(&mut self.leaves, leaves, children);
+        Handed::Taken
     }
 
     /// Takes a current ticket's leaf back: it is no longer issued, and its units are left again.

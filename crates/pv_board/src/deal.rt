@@ -1,14 +1,11 @@
 //! Offering the open leaves of a stage.
-ghost use Rattle.std.specs.Prelude.{◌≡◌, ◌+◌, ◌≤◌, ◌<◌, ◌++◌, [], ◌∷◌, Some, length, vec_len, vec_capacity, map, take};
-ghost use Rattle.pv_tree.specs.Trees.{Tree, subtree, opens};
+ghost use Rattle.std.specs.Prelude.{◌≡◌, ◌+◌, ◌≤◌, ◌<◌, ◌++◌, [], ◌∷◌, length, vec_len, vec_capacity, map, take};
 ghost use Rattle.pv_board.specs.Events.{free_units, fresh};
 ghost use Rattle.pv_board.specs.Leaves.{HasRoom, AreOffered};
-ghost use Rattle.pv_board.specs.Piles.{listed, CanPile};
 
 use crate::leaves::Leaves;
-use crate::pile::{is_cut_node, is_open_leaf};
 use crate::ticket::Ticket;
-use pv_tree::{Batch, Path, Paving};
+use pv_tree::{Batch, Path};
 
 /// Offers one leaf, and puts its ticket into the batch.
 fn deal_one(leaves: &mut Leaves, at: Path, children: &mut Batch<Ticket>)
@@ -24,35 +21,16 @@ fn deal_one(leaves: &mut Leaves, at: Path, children: &mut Batch<Ticket>)
     }
 }
 
-/// Offers the open leaves at and below a path of a stage in preorder, as if its node stood at
-/// another path.
-pub(crate) fn deal(
-    leaves: &mut Leaves,
-    stage: &Paving,
-    path: Path,
-    at: Path,
-    children: &mut Batch<Ticket>,
-)
-    requires free { CanPile stage.now.tree path at (vec_len leaves.old.free)
-        (vec_capacity leaves.old.free) }
-    requires batch { (s : Tree) → subtree stage.now.tree path ≡ Some s →
-        length children.old + length (opens s) ≤ 17 }
+/// Offers leaves in their order, and puts their tickets into the batch.
+pub(crate) fn deal(leaves: &mut Leaves, paths: &[Path], children: &mut Batch<Ticket>)
+    requires free { vec_len leaves.old.free + length paths.now ≤ vec_capacity leaves.old.free }
+    requires batch { length children.old + length paths.now ≤ 17 }
     requires room { HasRoom leaves.old }
-    ensures offered { (s : Tree) → subtree stage.now.tree path ≡ Some s →
-        AreOffered leaves.old leaves.new (listed at s) }
-    ensures tickets { (s : Tree) → subtree stage.now.tree path ≡ Some s → children.new ≡
-        children.old ++ map fresh (take (free_units leaves.old.stopped leaves.old.left)
-        (listed at s)) }
+    ensures offered { AreOffered leaves.old leaves.new paths.now }
+    ensures tickets { children.new ≡ children.old ++ map fresh
+        (take (free_units leaves.old.stopped leaves.old.left) paths.now) }
 {
-    let _places = stage.dims();
-    let shape = stage.shape_at(path);
-    if is_open_leaf(&shape) {
-        deal_one(leaves, at, children);
-        return;
+    for i in 0..paths.len() {
+        deal_one(leaves, paths[i], children);
     }
-    if !is_cut_node(&shape) {
-        return;
-    }
-    deal(leaves, stage, path.low(), at.low(), children);
-    deal(leaves, stage, path.high(), at.high(), children);
 }

@@ -1,21 +1,22 @@
 //! What lies under the lock: the board and the books.
-ghost use Rattle.std.specs.Prelude.{◌≡◌, ◌+◌, ◌-◌, ◌<◌, ◌≤◌, [], ◌++◌, false, IsTrue, is_some, IsSome, Some, length, option_to_list, min, if◌then◌else◌};
-ghost use Rattle.pv_tree.specs.Trees.{leaf, subtree, box_of};
+ghost use Rattle.std.specs.Prelude.{◌≡◌, ◌+◌, ◌-◌, ◌<◌, ◌≤◌, ◌↔◌, [], ◌∷◌, ◌++◌, true, false, IsTrue, IfSome, IfNone, is_some, IsSome, Some, length, option_to_list, min, if◌then◌else◌};
+ghost use Rattle.pv_tree.specs.Trees.{leaf, subtree, settled, box_of};
 ghost use Rattle.pv_tree.specs.Stages.{full_of};
 ghost use Rattle.pv_board.specs.Marks.{issued};
 ghost use Rattle.pv_board.specs.Rules.{IsStageBelow, settled_in};
-ghost use Rattle.pv_board.specs.Children.{AreFirst};
+ghost use Rattle.pv_board.specs.Children.{AreHandedOut};
 ghost use Rattle.pv_board.specs.Core.{Core};
-ghost use Rattle.pv_board.specs.Events.{IsOver};
+ghost use Rattle.pv_board.specs.Events.{is_current, may_issue, next_step, fresh, IsDry, IsOver, IsTake, IsExtend, IsSettling, IsHandedIn, IsGiveBack, leaves_at, taken_by};
+ghost use Rattle.pv_board.specs.declared.ticket.Handed.TheVariants.{Taken};
 ghost use Rattle.pv_board.specs.declared.ticket.Look.TheVariants.{Done};
-ghost use Rattle.pv_board.specs.Tallies.{Tally, tally_of, handed_in, given_more, told_of, one_if, tickets_in, IsLow};
+ghost use Rattle.pv_board.specs.Tallies.{Tally, tally_of, handed_in, given_more, told_of, one_if, tickets_in, IsLow, IsDeskLook};
 
 use crate::board::Board;
 use crate::naming::{Endings, Naming, Settlings};
-use crate::ticket::{Look, Settled, Ticket};
+use crate::ticket::{Handed, Look, Settled, Ticket};
 use crate::told::Told;
 use pv_box::IBox;
-use pv_tree::{Batch, Outcome, Paving};
+use pv_tree::{Batch, Outcome, Path, Paving};
 use std::marker::Model;
 use std::sync::ledger::{Blank, Book};
 
@@ -57,11 +58,14 @@ fn tickets(settled: &Settled) -> u64
     count(settled.low.is_some()) + count(settled.high.is_some())
 }
 
-/// So many where it is so.
-fn settled_if(so: bool, nodes: u64) -> u64
-    ensures { result ≡ (if so then nodes else 0) }
+/// How many nodes a stage settled that was handed in.
+fn settled_by(handed: Handed, nodes: u64) -> u64
+    ensures { result ≡ taken_by handed nodes }
 {
-    if so { nodes } else { 0 }
+    match handed {
+        Handed::Taken => nodes,
+        Handed::Stale | Handed::Short => 0,
+    }
 }
 
 impl<N: Naming> Desk<N> {
@@ -86,7 +90,10 @@ impl<N: Naming> Desk<N> {
 
     pub(crate) fn take(&mut self, told: &mut Told<N>) -> Option<Ticket>
         requires { IsLow told.old }
-        ensures { told.new ≡ given_more told.old (one_if (is_some result)) }
+        ensures told { told.new ≡ given_more told.old (one_if (is_some result)) }
+        ensures taken { IfSome result (λ t. IsTake self.old self.new t) }
+        ensures none { IfNone result (IsDry self.old) }
+        ensures same { IfNone result (self.new ≡ self.old) }
     {
         let ticket = self.board.take();
         told.give(count(ticket.is_some()));
@@ -99,7 +106,15 @@ impl<N: Naming> Desk<N> {
         requires due { outcome ≡ N.rule
             (box_of N.root (full_of N.rule N.depth N.root N.opening 0) ticket.path)
             (N.depth - length ticket.path) (length ticket.path) }
-        ensures { told.new ≡ handed_in told.old (one_if result.fresh) (tickets_in result) }
+        ensures told { told.new ≡ handed_in told.old (one_if result.fresh) (tickets_in result) }
+        ensures fresh { result.fresh ≡ is_current self.old ticket }
+        ensures settled { IsTrue result.fresh →
+            IsSettling self.old self.new ticket (settled outcome)
+            (option_to_list result.low ++ option_to_list result.high) }
+        ensures low { IfSome result.low (λ t. t ≡ fresh (ticket.path ++ false ∷ [])) }
+        ensures high { IfSome result.high (λ t. t ≡ fresh (ticket.path ++ true ∷ [])) }
+        ensures stale { result.fresh ≡ false → (self.new ≡ self.old) ×
+            (option_to_list result.low ++ option_to_list result.high ≡ []) }
     {
         let settled = self.board.settle(ticket, outcome);
         told.hand_in(&mut self.settlings, count(settled.fresh), tickets(&settled));
@@ -110,9 +125,10 @@ impl<N: Naming> Desk<N> {
         &mut self,
         ticket: Ticket,
         stage: &Paving,
+        leaves: &[Path],
         told: &mut Told<N>,
         children: &mut Batch<Ticket>,
-    ) -> bool
+    ) -> Handed
         requires low { IsLow told.old }
         requires there { IsSome (subtree (full_of N.rule N.depth N.root N.opening 0) ticket.path) }
         requires root { stage.now.root ≡
@@ -120,28 +136,31 @@ impl<N: Naming> Desk<N> {
         requires stage { IsStageBelow N.rule N.depth stage.now.root
             (length ticket.path) stage.now.tree }
         requires some { 1 ≤ settled_in stage.now.tree }
-        requires few { settled_in stage.now.tree ≤ 1 + ticket.grant }
+        requires few { settled_in stage.now.tree ≤ 4096 }
+        requires leaves { leaves.now ≡ leaves_at ticket.path stage.now.tree }
+        requires batch { length leaves.now ≤ 17 }
         requires empty { children.old ≡ [] }
         ensures told { told.new ≡ handed_in told.old
-            (if result then settled_in stage.now.tree else 0) (length children.new) }
-        ensures children { IsTrue result → AreFirst ticket.path stage.now.tree children.new }
-        ensures stale { result ≡ false → children.new ≡ [] }
-        ensures full { IsTrue result →
+            (taken_by result (settled_in stage.now.tree)) (length children.new) }
+        ensures handed { IsHandedIn self.old self.new ticket stage.now.tree children.new result }
+        ensures children { AreHandedOut ticket.path stage.now.tree children.new result }
+        ensures full { result ≡ Taken →
             subtree (full_of N.rule N.depth N.root N.opening 0) ticket.path ≡ Some
             (full_of N.rule N.depth stage.now.root leaf (length ticket.path)) }
     {
         let _used = self.board.used();
-        let _grant = ticket.grant();
         let settled = stage.counts().settled();
-        let is_current = self.board.settle_stage(ticket, stage, children);
-        let nodes = settled_if(is_current, settled);
+        let handed = self.board.settle_stage(ticket, stage, leaves, children);
+        let nodes = settled_by(handed, settled);
         told.hand_in(&mut self.settlings, nodes, u64::from(children.len()));
-        is_current
+        handed
     }
 
     pub(crate) fn give_back(&mut self, ticket: Ticket, told: &mut Told<N>)
         requires { IsLow told.old }
-        ensures { told.new ≡ handed_in told.old 0 0 }
+        ensures told { told.new ≡ handed_in told.old 0 0 }
+        ensures given { IsTrue (is_current self.old ticket) → IsGiveBack self.old self.new ticket }
+        ensures stale { is_current self.old ticket ≡ false → self.new ≡ self.old }
     {
         self.board.give_back(ticket);
         told.hand_in(&mut self.settlings, 0, 0);
@@ -149,15 +168,22 @@ impl<N: Naming> Desk<N> {
 
     pub(crate) fn extend(&mut self, ticket: &mut Ticket, want: u64) -> u64
         requires { ticket.old.grant + want ≤ 15 }
-        ensures units { result ≤ want }
+        ensures few { result ≤ want }
         ensures path { ticket.new.path ≡ ticket.old.path }
         ensures grant { ticket.new.grant ≡ ticket.old.grant + result }
+        ensures units { result ≡ (if is_current self.old ticket.old then min want
+            (may_issue self.old) else 0) }
+        ensures extended { IsTrue (is_current self.old ticket.old) →
+            IsExtend self.old self.new ticket.old ticket.new result }
+        ensures stale { is_current self.old ticket.old ≡ false → (self.new ≡ self.old) ×
+            (ticket.new ≡ ticket.old) }
     {
         self.board.extend(ticket, want)
     }
 
     pub(crate) fn box_of(&self, ticket: &Ticket, into: &mut IBox) -> bool
         requires dims { length into.old ≡ N.dims }
+        ensures there { IsTrue result ↔ IsSome (subtree self.now.tree ticket.now.path) }
         ensures is { IsTrue result → into.new ≡
             box_of N.root (full_of N.rule N.depth N.root N.opening 0) ticket.now.path }
         ensures in_full { IsTrue result →
@@ -169,36 +195,47 @@ impl<N: Naming> Desk<N> {
         self.board.box_of(ticket, into)
     }
 
-    pub(crate) fn prepare(&mut self, ticket: &mut Ticket, want: u64, into: &mut IBox) -> bool
+    pub(crate) fn prepare(&mut self, ticket: &mut Ticket, want: u64, into: &mut IBox) -> Option<u64>
         requires units { ticket.old.grant + want ≤ 15 }
         requires dims { length into.old ≡ N.dims }
         ensures path { ticket.new.path ≡ ticket.old.path }
         ensures least { ticket.old.grant ≤ ticket.new.grant }
         ensures most { ticket.new.grant ≤ ticket.old.grant + want }
-        ensures is { IsTrue result → into.new ≡
-            box_of N.root (full_of N.rule N.depth N.root N.opening 0) ticket.old.path }
-        ensures in_full { IsTrue result →
-            IsSome (subtree (full_of N.rule N.depth N.root N.opening 0) ticket.old.path) }
-        ensures same { result ≡ false → (into.new ≡ into.old) × (ticket.new ≡ ticket.old) }
+        ensures left { IfSome result (λ n. n ≡ self.new.left) }
+        ensures is { IfSome result (λ _. into.new ≡
+            box_of N.root (full_of N.rule N.depth N.root N.opening 0) ticket.old.path) }
+        ensures in_full { IfSome result (λ _.
+            IsSome (subtree (full_of N.rule N.depth N.root N.opening 0) ticket.old.path)) }
+        ensures same { IfNone result ((into.new ≡ into.old) × (ticket.new ≡ ticket.old)) }
+        ensures nothing { IfNone result (self.new ≡ self.old) }
+        ensures runs { IfSome result (λ _. self.old.stopped ≡ false) }
         ensures places { length into.new ≡ length into.old }
     {
+        if self.board.is_stopped() {
+            return None;
+        }
         if !self.box_of(ticket, into) {
-            return false;
+            return None;
         }
         self.extend(ticket, want);
-        true
+        Some(self.board.left())
     }
 
-    pub(crate) fn stop(&mut self) {
+    pub(crate) fn stop(&mut self)
+        ensures { self.new ≡ record self.old { stopped = true } }
+    {
         self.board.stop();
     }
 
-    pub(crate) fn announce(&mut self) {
+    pub(crate) fn announce(&mut self)
+        ensures { self.new ≡ record self.old { steps = next_step self.old.steps } }
+    {
         self.board.announce();
     }
 
     pub(crate) fn look(&mut self, seen: u64, told: &mut Told<N>) -> Look
         requires { IsLow told.old }
+        ensures look { IsDeskLook self.old self.new seen result }
         ensures told { told.new ≡ told_of told.old result }
         ensures rises { result ≡ Done → told.new.ended ≡ told.old.ended + 1 }
     {
@@ -227,6 +264,7 @@ impl<N: Naming> Desk<N> {
     pub(crate) fn close(self, told: Told<N>) -> Board<N>
         requires { told.parts ≡ 32 }
         ensures used { result.used ≡ told.settled }
+        ensures lots { told.lots ≤ result.used }
         ensures over { 0 < told.ended → IsOver result }
         ensures none_added { settled_in result.tree ≡ settled_in N.opening + result.used }
     {

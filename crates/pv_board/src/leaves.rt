@@ -157,13 +157,14 @@ impl Leaves {
     pub(crate) fn close(&mut self, slot: usize, spent: u64) -> Mark
         requires room { HasRoom self.old }
         requires there { ContainsKey self.old.marks.slots slot }
-        requires few { (m : Mark) → get self.old.marks.slots slot ≡ Some m → spent ≤ m.grant + 1 }
+        requires few { (m : Mark) → get self.old.marks.slots slot ≡ Some m →
+            spent ≤ self.old.left + m.grant + 1 }
         ensures mark { get self.old.marks.slots slot ≡ Some result }
         ensures closed { IsClosed self.old self.new result spent }
     {
         let _room = self.marks.room();
         let mark = self.marks.close(slot);
-        self.left += mark.grant + 1 - spent;
+        self.left = self.left + mark.grant + 1 - spent;
         mark
     }
 

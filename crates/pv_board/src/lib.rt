@@ -30,5 +30,5 @@ pub use board::Board;
 pub use naming::{Endings, Naming, Settlings};
 pub use opening::OpenRefused;
 pub use shared::Shared;
-pub use ticket::{Look, Settled, Ticket};
+pub use ticket::{Handed, Look, Settled, Ticket};
 pub use told::Told;

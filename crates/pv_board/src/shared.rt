@@ -1,21 +1,23 @@
 //! A board in a lock, for several callers.
-ghost use Rattle.std.specs.Prelude.{◌≡◌, ◌≢◌, ◌+◌, ◌-◌, ◌<◌, ◌≤◌, [], false, IsTrue, is_some, IsSome, Some, length, if◌then◌else◌};
+ghost use Rattle.std.specs.Prelude.{◌≡◌, ◌≢◌, ◌+◌, ◌-◌, ◌<◌, ◌≤◌, [], ◌∷◌, ◌++◌, true, false, IsTrue, IfSome, IfNone, is_some, IsSome, Some, length, option_to_list, if◌then◌else◌};
 ghost use Rattle.pv_tree.specs.Trees.{leaf, subtree, box_of};
 ghost use Rattle.pv_tree.specs.Stages.{full_of};
 ghost use Rattle.pv_board.specs.Marks.{issued};
 ghost use Rattle.pv_board.specs.Rules.{IsStageBelow, settled_in};
-ghost use Rattle.pv_board.specs.Children.{AreFirst};
-ghost use Rattle.pv_board.specs.Events.{IsOver};
+ghost use Rattle.pv_board.specs.Children.{AreHandedOut};
+ghost use Rattle.pv_board.specs.Events.{fresh, IsOver, leaves_at, taken_by};
 ghost use Rattle.pv_board.specs.Tallies.{tally_of, handed_in, given_more, told_of, one_if, tickets_in, IsLow};
+ghost use Rattle.pv_board.specs.declared.ticket.Handed.TheVariants.{Taken};
 ghost use Rattle.pv_board.specs.declared.ticket.Look.TheVariants.{Done, Same};
 
 use crate::board::Board;
 use crate::desk::Desk;
 use crate::naming::Naming;
-use crate::ticket::{Look, Settled, Ticket};
+use crate::ticket::{Handed, Look, Settled, Ticket};
 use crate::told::Told;
 use pv_box::IBox;
-use pv_tree::{Batch, Outcome, Paving};
+use pv_tree::{Batch, Outcome, Path, Paving};
+use std::sync::atomic::{AtomicU64, Ordering};
 use std::sync::ledger::Blank;
 use std::sync::{Condvar, Mutex, Wait};
 
@@ -25,6 +27,8 @@ use std::sync::{Condvar, Mutex, Wait};
 pub struct Shared<N: Naming> {
     desk: Mutex<Desk<N>>,
     changed: Condvar,
+    // How many callers are idle.
+    hungry: AtomicU64,
 }
 
 impl<N: Naming> Shared<N> {
@@ -41,6 +45,7 @@ impl<N: Naming> Shared<N> {
         let shared = Shared {
             desk: Mutex::new(desk),
             changed: Condvar::new(),
+            hungry: AtomicU64::new(0),
         };
         (shared, told)
     }
@@ -48,12 +53,13 @@ impl<N: Naming> Shared<N> {
     /// Issues some open leaf.
     pub fn take<R: Wait>(&self, rt: &R, told: &mut Told<N>) -> Option<Ticket>
         requires { IsLow told.old }
-        ensures { told.new ≡ given_more told.old (one_if (is_some result)) }
+        ensures told { told.new ≡ given_more told.old (one_if (is_some result)) }
+        ensures grant { IfSome result (λ t. t.grant ≡ 0) }
     {
         self.desk.lock(rt).take(told)
     }
 
-    /// Settles a ticket's leaf, and wakes all who wait.
+    /// Settles a ticket's leaf. Who waits is woken by `announce`, once what came of it can be found.
     pub fn settle<R: Wait>(
         &self,
         rt: &R,
@@ -66,23 +72,27 @@ impl<N: Naming> Shared<N> {
         requires due { outcome ≡ N.rule
             (box_of N.root (full_of N.rule N.depth N.root N.opening 0) ticket.path)
             (N.depth - length ticket.path) (length ticket.path) }
-        ensures { told.new ≡ handed_in told.old (one_if result.fresh) (tickets_in result) }
+        ensures told { told.new ≡ handed_in told.old (one_if result.fresh) (tickets_in result) }
+        ensures low { IfSome result.low (λ t. t ≡ fresh (ticket.path ++ false ∷ [])) }
+        ensures high { IfSome result.high (λ t. t ≡ fresh (ticket.path ++ true ∷ [])) }
+        ensures stale { result.fresh ≡ false →
+            option_to_list result.low ++ option_to_list result.high ≡ [] }
     {
-        let settled = self.desk.lock(rt).settle(ticket, outcome, told);
-        self.changed.notify_all();
-        settled
+        self.desk.lock(rt).settle(ticket, outcome, told)
     }
 
-    /// Puts a stage of a ticket's leaf in the leaf's place, and wakes all who wait. The children
-    /// are tickets of the first open leaves of the stage, in preorder.
+    /// Puts a stage of a ticket's leaf in the leaf's place. The children are tickets of the first
+    /// open leaves of the stage, in preorder. Who waits is woken by `announce`, once what came of
+    /// the stage can be found.
     pub fn settle_stage<R: Wait>(
         &self,
         rt: &R,
         ticket: Ticket,
         stage: &Paving,
+        leaves: &[Path],
         told: &mut Told<N>,
         children: &mut Batch<Ticket>,
-    ) -> bool
+    ) -> Handed
         requires low { IsLow told.old }
         requires there { IsSome (subtree (full_of N.rule N.depth N.root N.opening 0) ticket.path) }
         requires root { stage.now.root ≡
@@ -90,22 +100,20 @@ impl<N: Naming> Shared<N> {
         requires stage { IsStageBelow N.rule N.depth stage.now.root
             (length ticket.path) stage.now.tree }
         requires some { 1 ≤ settled_in stage.now.tree }
-        requires few { settled_in stage.now.tree ≤ 1 + ticket.grant }
+        requires few { settled_in stage.now.tree ≤ 4096 }
+        requires leaves { leaves.now ≡ leaves_at ticket.path stage.now.tree }
+        requires batch { length leaves.now ≤ 17 }
         requires empty { children.old ≡ [] }
         ensures told { told.new ≡ handed_in told.old
-            (if result then settled_in stage.now.tree else 0) (length children.new) }
-        ensures children { IsTrue result → AreFirst ticket.path stage.now.tree children.new }
-        ensures stale { result ≡ false → children.new ≡ [] }
-        ensures full { IsTrue result →
+            (taken_by result (settled_in stage.now.tree)) (length children.new) }
+        ensures children { AreHandedOut ticket.path stage.now.tree children.new result }
+        ensures full { result ≡ Taken →
             subtree (full_of N.rule N.depth N.root N.opening 0) ticket.path ≡ Some
             (full_of N.rule N.depth stage.now.root leaf (length ticket.path)) }
     {
-        let is_current = self
-            .desk
+        self.desk
             .lock(rt)
-            .settle_stage(ticket, stage, told, children);
-        self.changed.notify_all();
-        is_current
+            .settle_stage(ticket, stage, leaves, told, children)
     }
 
     /// Gives a ticket's leaf back, and wakes all who wait.
@@ -142,18 +150,25 @@ impl<N: Naming> Shared<N> {
     }
 
     /// Writes the box of a ticket's path as `box_of` does, and moves units to its grant as `extend`
-    /// does, both at once.
-    pub fn prepare<R: Wait>(&self, rt: &R, ticket: &mut Ticket, want: u64, into: &mut IBox) -> bool
+    /// does, both at once. Answers what is left then, and None where the tree has no such path yet
+    /// or the board was stopped.
+    pub fn prepare<R: Wait>(
+        &self,
+        rt: &R,
+        ticket: &mut Ticket,
+        want: u64,
+        into: &mut IBox,
+    ) -> Option<u64>
         requires units { ticket.old.grant + want ≤ 15 }
         requires dims { length into.old ≡ N.dims }
         ensures path { ticket.new.path ≡ ticket.old.path }
         ensures least { ticket.old.grant ≤ ticket.new.grant }
         ensures most { ticket.new.grant ≤ ticket.old.grant + want }
-        ensures is { IsTrue result → into.new ≡
-            box_of N.root (full_of N.rule N.depth N.root N.opening 0) ticket.old.path }
-        ensures in_full { IsTrue result →
-            IsSome (subtree (full_of N.rule N.depth N.root N.opening 0) ticket.old.path) }
-        ensures same { result ≡ false → (into.new ≡ into.old) × (ticket.new ≡ ticket.old) }
+        ensures is { IfSome result (λ _. into.new ≡
+            box_of N.root (full_of N.rule N.depth N.root N.opening 0) ticket.old.path) }
+        ensures in_full { IfSome result (λ _.
+            IsSome (subtree (full_of N.rule N.depth N.root N.opening 0) ticket.old.path)) }
+        ensures same { IfNone result ((into.new ≡ into.old) × (ticket.new ≡ ticket.old)) }
         ensures places { length into.new ≡ length into.old }
     {
         self.desk.lock(rt).prepare(ticket, want, into)
@@ -171,9 +186,27 @@ impl<N: Naming> Shared<N> {
         self.changed.notify_all();
     }
 
+    /// Whether another caller has nothing to do, as it seems at the moment.
+    pub fn is_hungry(&self) -> bool {
+        self.hungry.load(Ordering::SeqCst) != 0
+    }
+
     /// Waits until there is a leaf to settle, all is done, or the board's number differs from
-    /// `seen`. It may wait for another thread.
+    /// `seen`. It may wait for another thread, and is hungry meanwhile.
     pub fn idle<R: Wait>(&self, rt: &R, seen: u64, told: &mut Told<N>) -> Look
+        requires { IsLow told.old }
+        ensures told { told.new ≡ told_of told.old result }
+        ensures rises { result ≡ Done → told.new.ended ≡ told.old.ended + 1 }
+        ensures news { result ≢ Same }
+    {
+        self.hungry.fetch_add(1, Ordering::SeqCst);
+        let look = self.await_news(rt, seen, told);
+        self.hungry.fetch_sub(1, Ordering::SeqCst);
+        look
+    }
+
+    // Waits as `idle` does.
+    fn await_news<R: Wait>(&self, rt: &R, seen: u64, told: &mut Told<N>) -> Look
         requires { IsLow told.old }
         ensures told { told.new ≡ told_of told.old result }
         ensures rises { result ≡ Done → told.new.ended ≡ told.old.ended + 1 }
@@ -196,6 +229,7 @@ impl<N: Naming> Shared<N> {
     pub fn into_board(self, told: Told<N>) -> Board<N>
         requires { told.parts ≡ 32 }
         ensures used { result.used ≡ told.settled }
+        ensures lots { told.lots ≤ result.used }
         ensures over { 0 < told.ended → IsOver result }
         ensures none_added { settled_in result.tree ≡ settled_in N.opening + result.used }
     {

@@ -1,13 +1,15 @@
 //! Worked boards that take in stages: what was settled elsewhere, and what a ticket's leaf became.
-ghost use Rattle.std.specs.Prelude.{◌≡◌, ◌≤◌, length, IfOk};
+ghost use Rattle.std.specs.Prelude.{◌≡◌, ◌≤◌, [], length, IfOk};
 ghost use Rattle.pv_tree.specs.Trees.{leaf};
+ghost use Rattle.pv_board.specs.Events.{leaves_at};
 ghost use Rattle.pv_board.specs.Rules.{IsFitting};
 
 use crate::absorbing::AbsorbRefused;
 use crate::board::Board;
 use crate::naming::Naming;
+use crate::pile::pile;
 use crate::tests::{has, settle_by, unit_box};
-use crate::ticket::{Settled, Ticket};
+use crate::ticket::{Handed, Settled, Ticket};
 use pv_box::IBox;
 use pv_join::{Audit, audit};
 use pv_num::{Memory, Num};
@@ -188,6 +190,18 @@ fn is_at(ticket: &Option<Ticket>, path: Path) -> bool {
     }
 }
 
+/// The paths of a stage's open leaves, in preorder.
+fn leaves_of(alloc: Global, stage: &Paving) -> Result<Vec<Path>, Memory>
+    ensures { IfOk result (λ v. v.items ≡ leaves_at [] stage.now.tree) }
+{
+    let _places = stage.dims();
+    let most = stage.counts().settled();
+    let mut leaves = Vec::with_capacity(alloc, most as usize + 1)?;
+    pile(stage, Path::root(), Path::root(), &mut leaves);
+    leaves.reverse();
+    Ok(leaves)
+}
+
 /// Takes the root with five units more, and settles three nodes at once.
 fn three_at_once<N: Naming, S: Settler>(
     alloc: Global,
@@ -222,13 +236,17 @@ fn three_at_once<N: Naming, S: Settler>(
             outcome: _,
         } => return Ok(false),
     }
+    let leaves = leaves_of(alloc, &stage)?;
+    if leaves.len() != 2 {
+        return Ok(false);
+    }
     let mut children = Batch::new(alloc)?;
-    let current = board.settle_stage(root, &stage, &mut children);
+    let handed = board.settle_stage(root, &stage, leaves.as_slice(), &mut children);
     let high = children.pop();
     let low = children.pop();
     let above = Path::root().high();
     let both = is_at(&low, above.low()) && is_at(&high, above.high());
-    Ok(current && both && children.len() == 0 && has(board, 3, 2, 1))
+    Ok(handed == Handed::Taken && both && children.len() == 0 && has(board, 3, 2, 1))
 }
 
 /// Plays one of the rows on a board.

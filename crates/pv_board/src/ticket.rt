@@ -100,3 +100,14 @@ pub enum Look {
     /// Nothing new.
     Same,
 }
+
+/// What became of a stage that was handed in.
+#[derive(Clone, Copy, Debug, PartialEq, Eq)]
+pub enum Handed {
+    /// It stands in the place of its ticket's leaf.
+    Taken,
+    /// The ticket was not current.
+    Stale,
+    /// It has more nodes than the ticket and the board have units for, so the leaf was given back.
+    Short,
+}

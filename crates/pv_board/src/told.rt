@@ -1,6 +1,6 @@
 //! What a caller of a shared board has counted.
 ghost use Rattle.std.specs.Prelude.{◌≡◌, ◌+◌, ◌-◌, ◌*◌, ◌<◌, ◌≤◌, min};
-ghost use Rattle.pv_board.specs.Tallies.{Tally, tally_of, most, joined, handed_in, given_more, ended_more, looked_more, IsLow};
+ghost use Rattle.pv_board.specs.Tallies.{Tally, tally_of, most, lots_of, joined, handed_in, given_more, ended_more, looked_more, IsLow};
 
 use crate::naming::{Endings, Naming, Settlings};
 use std::marker::Model;
@@ -16,6 +16,7 @@ pub struct Told<N: Naming> {
     looks: u128,
     given: u128,
     spent: u128,
+    lots: u128,
 }
 
 impl<N: Naming> Model for Told<N> {
@@ -25,9 +26,17 @@ impl<N: Naming> Model for Told<N> {
 
     ghost coded = { coded_tally };
 
-    ghost view = { λ a. record { settled = a.settled; ended = a.ended; looks = a.looks; given = a.given; spent = a.spent; parts = a.settlings.parts } };
+    ghost view = { λ a. record { settled = a.settled; ended = a.ended; looks = a.looks; given = a.given; spent = a.spent; lots = a.lots; parts = a.settlings.parts } };
 
-    ghost invariant = { λ a. IsTold a.settlings.amount a.endings.amount a.settled a.ended a.spent a.settlings.parts a.endings.parts };
+    ghost invariant = { λ a. IsTold a.settlings.amount a.endings.amount a.settled a.ended a.spent a.lots a.settlings.parts a.endings.parts };
+}
+
+/// How many lots of up to 16 are so many nodes.
+fn lots_of(nodes: u64) -> u64
+    requires { nodes ≤ 4096 }
+    ensures { result ≡ lots_of nodes }
+{
+    (nodes + 15) / 16
 }
 
 impl<N: Naming> Told<N> {
@@ -47,13 +56,14 @@ impl<N: Naming> Told<N> {
             looks: 0,
             given: 0,
             spent: 0,
+            lots: 0,
         }
     }
 
     /// How many nodes it settled; the count stands still at its end.
     pub fn settled(&self) -> u64
         ensures settled { result ≡ self.now.settled }
-        ensures few { result ≤ 16 * self.now.spent }
+        ensures few { result ≤ 16 * self.now.lots }
     {
         self.settled
     }
@@ -86,6 +96,14 @@ impl<N: Naming> Told<N> {
         self.spent
     }
 
+    /// How many lots of up to 16 nodes it settled, each ticket's nodes by themselves.
+    pub fn lots(&self) -> u128
+        ensures is { result ≡ self.now.lots }
+        ensures few { result ≤ 256 * self.now.spent }
+    {
+        self.lots
+    }
+
     /// A caller with no counts, which gets one of the parts.
     pub fn split(&mut self) -> Told<N>
         requires { 2 ≤ self.old.parts }
@@ -102,6 +120,7 @@ impl<N: Naming> Told<N> {
             looks: 0,
             given: 0,
             spent: 0,
+            lots: 0,
         }
     }
 
@@ -120,6 +139,7 @@ impl<N: Naming> Told<N> {
             looks,
             given,
             spent,
+            lots,
         } = other;
         self.settlings.merge(settlings);
         self.endings.merge(endings);
@@ -128,12 +148,13 @@ impl<N: Naming> Told<N> {
         self.looks += looks;
         self.given += given;
         self.spent += spent;
+        self.lots += lots;
     }
 
     /// Books a ticket that was handed in.
     pub(crate) fn hand_in(&mut self, book: &mut Book<Settlings<N>>, nodes: u64, tickets: u64)
         requires low { IsLow self.old }
-        requires few { nodes ≤ 16 }
+        requires few { nodes ≤ 4096 }
         requires most { tickets ≤ 17 }
         ensures told { self.new ≡ handed_in self.old nodes tickets }
         ensures book { book.new.total ≡ book.old.total + nodes }
@@ -141,6 +162,7 @@ impl<N: Naming> Told<N> {
         book.add(&mut self.settlings, nodes);
         self.settled = self.settled.saturating_add(nodes);
         self.spent += 1;
+        self.lots += u128::from(lots_of(nodes));
         self.given += u128::from(tickets);
     }
 
@@ -181,6 +203,7 @@ impl<N: Naming> Told<N> {
         requires { self.old.parts ≡ 32 }
         ensures settled { self.old.settled ≡ min settlings.old.total most }
         ensures ended { self.old.ended ≡ min endings.old.total most }
+        ensures lots { self.old.lots ≤ settlings.old.total }
     {
         settlings.audit(&mut self.settlings);
         endings.audit(&mut self.endings);

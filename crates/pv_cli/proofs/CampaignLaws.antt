@@ -8,6 +8,7 @@ use Rattle.pv_tree.specs.Stages.{Rule}
 use Rattle.pv_slope.specs.Methods.{settle_by, identity_of}
 use Rattle.pv_io.specs.Outside.{Rose}
 use Rattle.pv_keep.specs.Keeping.{Kept}
+use Rattle.pv_scope.specs.declared.order.Order.{Order}
 use Rattle.pv_rounds.specs.Holding.{RefusesHold, IsInterrupted}
 use Rattle.pv_rounds.specs.declared.campaign.HoldRefused.{HoldRefused}
 use Rattle.pv_rounds.specs.declared.campaign.HoldRefused.TheVariants as hold
@@ -32,43 +33,43 @@ use Rattle.pv_cli.proofs.StatusLaws.{no_files, is_answer}
 
 -- ---- What is kept behind a refusal
 
-abbrev Remains : ℕ → Rule → ℕ → List Bounds → List ℕ → ℕ → ℕ → Kept → Kept → Type 0
-Remains limit rule depth b identity boxes count k0 k1 = RowsStay k0 k1 ⊎ IsInterrupted limit rule depth b identity boxes count k0 k1
+abbrev Remains : ℕ → Rule → ℕ → List Bounds → Order → List ℕ → ℕ → ℕ → Kept → Kept → Type 0
+Remains limit rule depth b order identity boxes count k0 k1 = RowsStay k0 k1 ⊎ IsInterrupted limit rule depth b order identity boxes count k0 k1
 
-refused_remains : (limit : ℕ) (rule : Rule) (depth : ℕ) (b : List Bounds) (identity : List ℕ) (boxes count : ℕ) (k0 k1 : Kept) (r : HoldRefused)
-    → RefusesHold limit rule depth b identity boxes count k0 k1 r → Remains limit rule depth b identity boxes count k0 k1
-refused_remains limit rule depth b identity boxes count k0 k1 hold.Memory h = inr h
-refused_remains limit rule depth b identity boxes count k0 k1 hold.Failed h = inr h
-refused_remains limit rule depth b identity boxes count k0 k1 (hold.OtherIdentity found) h = inl (left_stays k0 k1 identity h.1)
-refused_remains limit rule depth b identity boxes count k0 k1 hold.TooMany h = inl (left_stays k0 k1 identity h.1)
-refused_remains limit rule depth b identity boxes count k0 k1 (hold.BadRow n) h = inl (left_stays k0 k1 identity h.1)
-refused_remains limit rule depth b identity boxes count k0 k1 (hold.TreeLimit n) h = inl (opened_stays limit k0 k1 identity b h.opening h.opened)
+refused_remains : (limit : ℕ) (rule : Rule) (depth : ℕ) (b : List Bounds) (order : Order) (identity : List ℕ) (boxes count : ℕ) (k0 k1 : Kept) (r : HoldRefused)
+    → RefusesHold limit rule depth b order identity boxes count k0 k1 r → Remains limit rule depth b order identity boxes count k0 k1
+refused_remains limit rule depth b order identity boxes count k0 k1 hold.Memory h = inr h
+refused_remains limit rule depth b order identity boxes count k0 k1 hold.Failed h = inr h
+refused_remains limit rule depth b order identity boxes count k0 k1 (hold.OtherIdentity found) h = inl (left_stays k0 k1 identity h.1)
+refused_remains limit rule depth b order identity boxes count k0 k1 hold.TooMany h = inl (left_stays k0 k1 identity h.1)
+refused_remains limit rule depth b order identity boxes count k0 k1 (hold.BadRow n) h = inl (left_stays k0 k1 identity h.1)
+refused_remains limit rule depth b order identity boxes count k0 k1 (hold.TreeLimit n) h = inl (opened_stays limit k0 k1 identity b h.opening h.opened)
 
 -- all rows stay, or the campaign that is asked for was interrupted
 abbrev Keeps : Files → Stock → Stock → Request → Type 0
 Keeps before u v q = AllRowsStay u v ⊎ IsInterruptedIn before u v q
 
-campaign_keeps : (before : Files) (u v : Stock) (system : Text) (s : Settings) (limit boxes : ℕ) (rounds : Rounds) (r : Refusal) → HasNoCampaign before u v system s limit boxes rounds r
-    → LeavesStock (Some rounds.name.now) u v → AllRowsStay u v ⊎ HasInterrupted before u v system s limit boxes rounds
-campaign_keeps before u v system s limit boxes rounds r h kept =
-    by (refused_remains limit (settle_by h.rule) h.rule.parts.depth (search_box h.rule) (identity_of h.rule) boxes rounds.count (u.kept rounds.name.now) (v.kept rounds.name.now)
+campaign_keeps : (before : Files) (u v : Stock) (system : Text) (s : Settings) (limit : ℕ) (order : Order) (boxes : ℕ) (rounds : Rounds) (r : Refusal) → HasNoCampaign before u v system s limit order boxes rounds r
+    → LeavesStock (Some rounds.name.now) u v → AllRowsStay u v ⊎ HasInterrupted before u v system s limit order boxes rounds
+campaign_keeps before u v system s limit order boxes rounds r h kept =
+    by (refused_remains limit (settle_by h.rule) h.rule.parts.depth (search_box h.rule) order (identity_of h.rule) boxes rounds.count (u.kept rounds.name.now) (v.kept rounds.name.now)
     h.refused.refused h.refused.because)
   where
-    by : Remains limit (settle_by h.rule) h.rule.parts.depth (search_box h.rule) (identity_of h.rule) boxes rounds.count (u.kept rounds.name.now) (v.kept rounds.name.now)
-        → AllRowsStay u v ⊎ HasInterrupted before u v system s limit boxes rounds
+    by : Remains limit (settle_by h.rule) h.rule.parts.depth (search_box h.rule) order (identity_of h.rule) boxes rounds.count (u.kept rounds.name.now) (v.kept rounds.name.now)
+        → AllRowsStay u v ⊎ HasInterrupted before u v system s limit order boxes rounds
     by (inl stay) = inl (all_rows rounds.name.now u v stay kept)
     by (inr broken) = inr (record { rule = h.rule; read = h.read; interrupted = broken })
 
 work_keeps : (before after : Files) (u v : Stock) (q : Request) (r : Refusal) → RefusesWork before after u v q r → LeavesStock (campaign_of q) u v → Keeps before u v q
 work_keeps before after u v (Campaign system settings effort rounds) r (inl h) kept = inl (same_rows u v h.1)
-work_keeps before after u v (Campaign system settings effort rounds) r (inr h) kept = campaign_keeps before u v system.now settings effort.limit effort.boxes rounds r h kept
+work_keeps before after u v (Campaign system settings effort rounds) r (inr h) kept = campaign_keeps before u v system.now settings effort.limit effort.order effort.boxes rounds r h kept
 work_keeps before after u v q r h kept = inl (same_rows u v kept)
 
 product_keeps : (before : Files) (u v : Stock) (q : Request) (p : Product) → ComesOf before u v q p → LeavesStock (campaign_of q) u v → Keeps before u v q
 product_keeps before u v (Campaign system settings effort rounds) p h kept = inr (record {
   rule = h.rule;
   read = h.read;
-  interrupted = inr (held_broken effort.limit (settle_by h.rule) h.rule.parts.depth (search_box h.rule) (identity_of h.rule) effort.boxes rounds.count (u.kept rounds.name.now)
+  interrupted = inr (held_broken effort.limit (settle_by h.rule) h.rule.parts.depth (search_box h.rule) effort.order (identity_of h.rule) effort.boxes rounds.count (u.kept rounds.name.now)
       (v.kept rounds.name.now) h.tree h.held);
 })
 product_keeps before u v q p h kept = inl (same_rows u v kept)
@@ -111,14 +112,14 @@ pub record IsFailedIn (before : Files) (u v : Stock) (q : Request) : Type 0 wher
   pub interrupted : IsInterruptedIn before u v q
   pub rose : Rose u.faults v.faults
 
-campaign_failed : (before : Files) (u v : Stock) (system : Text) (s : Settings) (limit boxes : ℕ) (rounds : Rounds) (n : Bor Text)
-    → HasNoCampaign before u v system s limit boxes rounds (KeeperFault n) → HasInterrupted before u v system s limit boxes rounds × Rose u.faults v.faults
-campaign_failed before u v system s limit boxes rounds n h =
+campaign_failed : (before : Files) (u v : Stock) (system : Text) (s : Settings) (limit : ℕ) (order : Order) (boxes : ℕ) (rounds : Rounds) (n : Bor Text)
+    → HasNoCampaign before u v system s limit order boxes rounds (KeeperFault n) → HasInterrupted before u v system s limit order boxes rounds × Rose u.faults v.faults
+campaign_failed before u v system s limit order boxes rounds n h =
     let failed : h.refused.refused ≡ hold.Failed = only_failed rounds.name h.refused.refused (subst IsFault h.refused.is tt) in (
       record {
         rule = h.rule;
         read = h.read;
-        interrupted = subst (RefusesHold limit (settle_by h.rule) h.rule.parts.depth (search_box h.rule) (identity_of h.rule) boxes rounds.count (u.kept rounds.name.now) (v.kept rounds.name.now))
+        interrupted = subst (RefusesHold limit (settle_by h.rule) h.rule.parts.depth (search_box h.rule) order (identity_of h.rule) boxes rounds.count (u.kept rounds.name.now) (v.kept rounds.name.now))
             failed h.refused.because;
       },
       h.refused.rose failed,
@@ -128,23 +129,23 @@ module _ (before after : Files) (u v : Stock) where
   work_failed : (q : Request) (n : Bor Text) → RefusesWork before after u v q (KeeperFault n) → IsFailedIn before u v q
   work_failed (Check system) n h = absurd h
   work_failed (Run system settings effort out) n h = absurd h
-  work_failed (Resume system pavings settings effort out) n (inl h) = absurd h
-  work_failed (Resume system pavings settings effort out) n (inr (inl h)) =
+  work_failed (Resume system pavings settings effort share out) n (inl h) = absurd h
+  work_failed (Resume system pavings settings effort share out) n (inr (inl h)) =
       absurd (no_files before after effort.limit h.rule (KeeperFault n) (fault_or_memory n) (λ m k. k) (names_in pavings.items) h.refused)
-  work_failed (Resume system pavings settings effort out) n (inr (inr h)) = absurd h.refused
+  work_failed (Resume system pavings settings effort share out) n (inr (inr h)) = absurd h.refused
   work_failed (Merge system pavings settings limit out) n (inl h) = absurd h
   work_failed (Merge system pavings settings limit out) n (inr (inl h)) =
       absurd (no_files before after limit h.rule (KeeperFault n) (fault_or_memory n) (λ m k. k) (names_in pavings.items) h.refused)
   work_failed (Merge system pavings settings limit out) n (inr (inr h)) = absurd h.refused
-  work_failed (Audit system paving settings limit) n (inl h) = absurd h
-  work_failed (Audit system paving settings limit) n (inr h) = absurd h.refused
+  work_failed (Audit system paving settings limit workers) n (inl h) = absurd h
+  work_failed (Audit system paving settings limit workers) n (inr h) = absurd h.refused
   work_failed (Svg system paving settings limit view) n (inl h) = absurd h
   work_failed (Svg system paving settings limit view) n (inr h) = absurd h.refused
   work_failed (Sample circles) n h = absurd h
   work_failed (Least system settings search) n h = absurd h
   work_failed (Campaign system settings effort rounds) n (inl h) = absurd h.0
   work_failed (Campaign system settings effort rounds) n (inr h) =
-      let both = campaign_failed before u v system.now settings effort.limit effort.boxes rounds n h in record { interrupted = both.0; rose = both.1 }
+      let both = campaign_failed before u v system.now settings effort.limit effort.order effort.boxes rounds n h in record { interrupted = both.0; rose = both.1 }
 
 abbrev IsFaultStatus : Status → Type 0
 IsFaultStatus status.KeeperFault = Unit {0}

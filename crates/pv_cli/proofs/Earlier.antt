@@ -1,16 +1,20 @@
 -- What was read of a folder that was only read before.
+use Rattle.std.specs.Prelude.{Result, Err, MatchResult}
 use Rattle.std.proofs.Common.{◌≡◌, inl, inr, ℕ, ◌≤◌, List, [], ◌∷◌, refl, sym, ◌∙◌, subst, arith}
 use Rattle.pv_slope.specs.Methods.{Method, identity_of}
 use Rattle.pv_interval.specs.Bounds.{Bounds}
-use Rattle.pv_tree.specs.Trees.{Tree, Seen}
+use Rattle.pv_tree.specs.Trees.{Tree}
 use Rattle.pv_io.specs.Outside.{Content, Rose, IsWhole, IsTooLong, MayBeAbsent}
+use Rattle.pv_cli.specs.Pavings.{settled_in}
 use Rattle.pv_cli.specs.Requests.{names_in}
 use Rattle.pv_cli.specs.Systems.{Files, AreOnlyRead, RefusesFetch, search_box}
-use Rattle.pv_cli.specs.Files.{HoldsPaving, HasPaving, HoldsOther, HoldsLong, HasFileFault, RefusesFile, HavePavings, RefusesPavings}
+use Rattle.pv_cli.specs.Files.{HoldsPaving, HasPaving, IsNoText, HoldsOther, HoldsLong, HasFileFault, RefusesFile, HavePavings, RefusesPavings}
 use Rattle.std.specs.Borrow.{Bor}
-use Rattle.pv_file.specs.Readings.{IsFirstBadLine, IsOneTooMany}
+use Rattle.pv_file.specs.Readings.{IsTextOf, IsPavingInFormat, HasOtherIdentity, IsFirstBadLine, IsOneTooMany}
+use Rattle.pv_file.specs.declared.refusal.FileRefused.{FileRefused}
+use Rattle.pv_file.specs.declared.refusal.FileRefused.TheVariants as refused
 use Rattle.pv_file.specs.Lengths.{length_limit}
-use Rattle.pv_cli.specs.Reads.{AreRead, AreOver, IsKeyOf, trees_of}
+use Rattle.pv_cli.specs.Reads.{IsKeyOf}
 use Rattle.pv_cli.specs.declared.pavings.Key.{Key}
 use Rattle.pv_cli.specs.declared.refusal.FileFault.{FileFault}
 use Rattle.pv_cli.specs.declared.refusal.FileFault.TheVariants.{TooLong, WrongIdentity, BadLine, TooManyNodes, BadRow, TooManyRows}
@@ -29,17 +33,22 @@ rose_from a b c h (inl more) = inl (omega arith)
 rose_from a b c h (inr end) = inr end
 
 module _ (a b : Files) (read : AreOnlyRead a b) (limit : ℕ) where
-  other_before : (name : List ℕ) (says : List ℕ → Type 0) → HoldsOther b limit name says → HoldsOther a limit name says
-  other_before name says h = record { bytes = h.bytes; fetched = subst (λ (x : Content). IsWhole x (length_limit limit) h.bytes) (read.content name) h.fetched; other = h.other }
+  other_before : (identity : List ℕ) (root : List Bounds) (name : List ℕ) (says : List ℕ → Type 0) → HoldsOther b limit identity root name says → HoldsOther a limit identity root name says
+  other_before identity root name says h = record {
+    bytes = h.bytes;
+    fetched = subst (λ (x : Content). IsWhole x (length_limit limit) h.bytes) (read.content name) h.fetched;
+    other = h.other;
+    no_text = h.no_text;
+  }
 
   long_before : (name : List ℕ) → HoldsLong b limit name → HoldsLong a limit name
   long_before name h = record { bytes = h.bytes; long = subst (λ (x : Content). IsTooLong x (length_limit limit) h.bytes) (read.content name) h.long }
 
   fault_before : (identity : List ℕ) (root : List Bounds) (name : List ℕ) (f : FileFault) → HasFileFault b limit identity root name f → HasFileFault a limit identity root name f
   fault_before identity root name TooLong h = long_before name h
-  fault_before identity root name WrongIdentity h = other_before name _ h
-  fault_before identity root name (BadLine n) h = other_before name _ h
-  fault_before identity root name (TooManyNodes n) h = other_before name _ h
+  fault_before identity root name WrongIdentity h = other_before identity root name _ h
+  fault_before identity root name (BadLine n) h = other_before identity root name _ h
+  fault_before identity root name (TooManyNodes n) h = other_before identity root name _ h
   fault_before identity root name (BadRow n) h = h
   fault_before identity root name TooManyRows h = h
 
@@ -84,29 +93,16 @@ module _ (a b : Files) (read : AreOnlyRead a b) (limit : ℕ) where
   refused_before c identity root name (Disagree p x y) h = h
   refused_before c identity root name (Differs p x y) h = h
 
-  pub read_before : (rule : Method) (ns : List (List ℕ)) (ps : List Seen) → AreRead b limit rule ns ps → AreRead a limit rule ns ps
-  read_before rule [] [] h = tt
-  read_before rule [] (p ∷ ps) h = absurd h
-  read_before rule (n ∷ ns) [] h = absurd h
-  read_before rule (n ∷ ns) (p ∷ ps) h = (h.0, paving_before (identity_of rule) (search_box rule) n p.tree h.1, read_before rule ns ps h.2)
+  pub have_before : (rule : Method) (ns : List (List ℕ)) (ts : List Tree) → HavePavings b limit rule ns ts → HavePavings a limit rule ns ts
+  have_before rule [] [] h = tt
+  have_before rule [] (t ∷ ts) h = absurd h
+  have_before rule (n ∷ ns) [] h = absurd h
+  have_before rule (n ∷ ns) (t ∷ ts) h = (paving_before (identity_of rule) (search_box rule) n t h.0, have_before rule ns ts h.1)
 
   pub all_refused_before : (c : Files) (rule : Method) (ns : List (List ℕ)) (r : Refusal) → RefusesPavings b c limit rule ns r → RefusesPavings a c limit rule ns r
   all_refused_before c rule [] r h = h
   all_refused_before c rule (n ∷ ns) r (inl h) = inl (refused_before c (identity_of rule) (search_box rule) n r h)
   all_refused_before c rule (n ∷ ns) r (inr h) = inr (h.0, paving_before (identity_of rule) (search_box rule) n h.0 h.1, all_refused_before c rule ns r h.2)
-
--- what was read are pavings of the files, and over the search box
-pub held_of : (a : Files) (limit : ℕ) (rule : Method) (ns : List (List ℕ)) (ps : List Seen) → AreRead a limit rule ns ps → HavePavings a limit rule ns (trees_of ps)
-held_of a limit rule [] [] h = tt
-held_of a limit rule [] (p ∷ ps) h = absurd h
-held_of a limit rule (n ∷ ns) [] h = absurd h
-held_of a limit rule (n ∷ ns) (p ∷ ps) h = (h.1, held_of a limit rule ns ps h.2)
-
-pub over_of : (a : Files) (limit : ℕ) (rule : Method) (b : List Bounds) (ns : List (List ℕ)) (ps : List Seen) → b ≡ search_box rule → AreRead a limit rule ns ps → AreOver b ps
-over_of a limit rule b [] [] e h = tt
-over_of a limit rule b [] (p ∷ ps) e h = absurd h
-over_of a limit rule b (n ∷ ns) [] e h = absurd h
-over_of a limit rule b (n ∷ ns) (p ∷ ps) e h = (h.0 ∙ sym e, over_of a limit rule b ns ps e h.2)
 
 -- ---- A file that was read for a key
 
@@ -117,24 +113,37 @@ by_key P limit rule key is h =
     (subst (λ (x : List ℕ). P limit x key.root) is.identity (subst (λ (n : ℕ). P n key.identity key.root) is.limit_is h))
 
 pub bad_line : (a b : Files) (limit : ℕ) (identity : List ℕ) (root : List Bounds) (name : Bor (List ℕ)) (n : ℕ) (bytes read : List ℕ) (r : Refusal) → read ≡ bytes
-    → IsWhole (a.content name.now) (length_limit limit) bytes → IsFirstBadLine limit n read identity root → r ≡ Paving name (BadLine n) → RefusesFile a b limit identity root name.now r
-bad_line a b limit identity root name n bytes read r same whole h e =
+    → IsWhole (a.content name.now) (length_limit limit) bytes → IsFirstBadLine limit n read identity root → IsNoText limit read identity root → r ≡ Paving name (BadLine n) → RefusesFile a b limit identity root name.now r
+bad_line a b limit identity root name n bytes read r same whole h none e =
     subst (RefusesFile a b limit identity root name.now) (sym e)
-    (refl, record { bytes = bytes; fetched = whole; other = subst (λ (x : List ℕ). IsFirstBadLine limit n x identity root) same h })
+    (refl, record { bytes = bytes; fetched = whole; other = subst (λ (x : List ℕ). IsFirstBadLine limit n x identity root) same h; no_text = subst (λ (x : List ℕ). IsNoText limit x identity root) same none })
 
 pub one_too_many : (a b : Files) (limit : ℕ) (identity : List ℕ) (root : List Bounds) (name : Bor (List ℕ)) (n : ℕ) (bytes read : List ℕ) (r : Refusal) → read ≡ bytes
-    → IsWhole (a.content name.now) (length_limit limit) bytes → IsOneTooMany limit n read identity root → r ≡ Paving name (TooManyNodes n) → RefusesFile a b limit identity root name.now r
-one_too_many a b limit identity root name n bytes read r same whole h e =
+    → IsWhole (a.content name.now) (length_limit limit) bytes → IsOneTooMany limit n read identity root → IsNoText limit read identity root → r ≡ Paving name (TooManyNodes n) → RefusesFile a b limit identity root name.now r
+one_too_many a b limit identity root name n bytes read r same whole h none e =
     subst (RefusesFile a b limit identity root name.now) (sym e)
-    (refl, record { bytes = bytes; fetched = whole; other = subst (λ (x : List ℕ). IsOneTooMany limit n x identity root) same h })
+    (refl, record { bytes = bytes; fetched = whole; other = subst (λ (x : List ℕ). IsOneTooMany limit n x identity root) same h; no_text = subst (λ (x : List ℕ). IsNoText limit x identity root) same none })
+
+pub other_identity : (a b : Files) (limit : ℕ) (identity : List ℕ) (root : List Bounds) (name : Bor (List ℕ)) (bytes read : List ℕ) (r : Refusal) → read ≡ bytes
+    → IsWhole (a.content name.now) (length_limit limit) bytes → HasOtherIdentity read identity root → IsNoText limit read identity root → r ≡ Paving name WrongIdentity → RefusesFile a b limit identity root name.now r
+other_identity a b limit identity root name bytes read r same whole h none e =
+    subst (RefusesFile a b limit identity root name.now) (sym e)
+    (refl, record { bytes = bytes; fetched = whole; other = subst (λ (x : List ℕ). HasOtherIdentity x identity root) same h; no_text = subst (λ (x : List ℕ). IsNoText limit x identity root) same none })
+
+-- Bytes in whose reading a fault was found are the text of no paving: of one that is there the reader says it, or that memory
+-- was wanting.
+pub no_text : {A : Type 0} (limit : ℕ) (read identity : List ℕ) (root : List Bounds) (result : Result A FileRefused) (tree : A → Tree) (e : FileRefused) → result ≡ Err e → (e ≡ refused.Memory → ⊥)
+    → ((t : Tree) → IsPavingInFormat root t → settled_in t ≤ limit → IsTextOf read identity root t → MatchResult result (λ p. tree p ≡ t) (λ x. x ≡ refused.Memory)) → IsNoText limit read identity root
+no_text {A} limit read identity root result tree e is other complete t f few x =
+    other (subst (λ (r : Result A FileRefused). MatchResult r (λ p. tree p ≡ t) (λ y. y ≡ refused.Memory)) is (complete t f few x))
 
 -- ---- Several files, the first of which was read
 
-pub first_read : (a b : Files) → AreOnlyRead a b → (limit : ℕ) (rule : Method) (key : Key) (names rest : List (Bor (List ℕ))) (name : Bor (List ℕ)) (ps qs : List Seen) (p : Seen) → IsKeyOf rule limit key
-    → names ≡ name ∷ rest → ps ≡ p ∷ qs → p.root ≡ key.root → HoldsPaving a key.limit key.identity key.root name.now p.tree → AreRead b limit rule (names_in rest) qs → AreRead a limit rule (names_in names) ps
-first_read a b read limit rule key names rest name ps qs p is e f root held h =
-    subst (λ (ns : List (Bor (List ℕ))). AreRead a limit rule (names_in ns) ps) (sym e)
-    (subst (λ (xs : List Seen). AreRead a limit rule (name.now ∷ names_in rest) xs) (sym f) (root ∙ is.root, by_key (λ n i x. HoldsPaving a n i x name.now p.tree) limit rule key is held, read_before a b read limit rule (names_in rest) qs h))
+pub first_have : (a b : Files) → AreOnlyRead a b → (limit : ℕ) (rule : Method) (key : Key) (names rest : List (Bor (List ℕ))) (name : Bor (List ℕ)) (t : Tree) (ts : List Tree) → IsKeyOf rule limit key
+    → names ≡ name ∷ rest → HoldsPaving a key.limit key.identity key.root name.now t → HavePavings b limit rule (names_in rest) ts → HavePavings a limit rule (names_in names) (t ∷ ts)
+first_have a b read limit rule key names rest name t ts is e held h =
+    subst (λ (ns : List (Bor (List ℕ))). HavePavings a limit rule (names_in ns) (t ∷ ts)) (sym e)
+    (by_key (λ n i x. HoldsPaving a n i x name.now t) limit rule key is held, have_before a b read limit rule (names_in rest) ts h)
 
 pub first_held : (a b : Files) → AreOnlyRead a b → (c : Files) (limit : ℕ) (rule : Method) (key : Key) (names rest : List (Bor (List ℕ))) (name : Bor (List ℕ)) (t : Tree) (r : Refusal) → IsKeyOf rule limit key
     → names ≡ name ∷ rest → HoldsPaving a key.limit key.identity key.root name.now t → RefusesPavings b c limit rule (names_in rest) r → RefusesPavings a c limit rule (names_in names) r

@@ -8,7 +8,7 @@ use Rattle.pv_cli.specs.Requests.{Asks, out_of, campaign_of}
 use Rattle.pv_cli.specs.Campaigns.{Stock, IsSameStock, LeavesStock}
 use Rattle.pv_cli.specs.Systems.{Files, AreOnlyRead}
 use Rattle.pv_cli.specs.Printing.{RefusesPrint}
-use Rattle.pv_cli.specs.Products.{Product, text, unfinished, paved, HasStatus, ComesOf}
+use Rattle.pv_cli.specs.Products.{Product, text, unfinished, paved_as, HasStatus, ComesOf}
 use Rattle.pv_cli.specs.Ends.{Stream, Outside, AreUntouched, AreOthersKept, IsStored, IsKept, IsDelivered, IsCutOff, RefusesDelivery, IsAnswered, RefusesRequest, RefusesWords, in_words, in_request, Tells, IsEnd}
 use Rattle.pv_cli.specs.declared.request.Request.{Request}
 use Rattle.pv_cli.specs.declared.refusal.Refusal.{Refusal}
@@ -65,7 +65,7 @@ module _ (a b c : Files) (read : AreOnlyRead a b) (u v : Stock) (x y : Stream) w
   kept_on None p h = only_read_on a b c read h
   kept_on (Some name) (text t) h = only_read_on a b c read h
   kept_on (Some name) (unfinished t) h = only_read_on a b c read h
-  kept_on (Some name) (paved identity root t) h = stored_on name _ h
+  kept_on (Some name) (paved_as identity root t done) h = stored_on name _ h
 
   cut_on : (out : Option Text) (p : Product) → IsCutOff out p b c x y → IsCutOff out p a c x y
   cut_on out p h = record { files = kept_on out p h.files; out = h.out }

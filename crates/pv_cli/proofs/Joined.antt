@@ -1,9 +1,7 @@
 -- The join of several trees, one after the other.
-use Rattle.std.proofs.Common.{◌≡◌, ◌⊎◌, inl, inr, ℕ, Bool, true, false, List, [], ◌∷◌, ◌++◌, refl, sym, ◌∙◌, ap, subst, append_assoc}
-use lib.Dec.{eqb-suc-zero}
-use Rattle.std.specs.Prelude.{Option, Some, None, IsSome, ◌==◌, length, drop, slice_index_or}
-use Rattle.pv_interval.specs.Bounds.{Bounds}
-use Rattle.pv_tree.specs.Trees.{Tree, Seen, leaf, removed, inner, small, cut, top, subtree, outcome_at}
+use Rattle.std.proofs.Common.{◌≡◌, ◌⊎◌, inl, inr, ℕ, Bool, true, false, List, [], ◌∷◌, ◌++◌, refl, sym, ◌∙◌, ap, subst}
+use Rattle.std.specs.Prelude.{Option, Some, None, IsSome}
+use Rattle.pv_tree.specs.Trees.{Tree, leaf, removed, inner, small, cut, top, subtree, outcome_at}
 use Rattle.pv_file.specs.Lines.{node_line, node_line_with, ends_text, outcome_line}
 use Rattle.pv_file.specs.Shapes.{AppendsNodeLine}
 use Rattle.pv_tree.specs.Stages.{Rule, Grows, IsStage, full_of}
@@ -12,7 +10,7 @@ use Rattle.pv_tree.proofs.StageLaws.{grows_leaf, grows_self, grows_on}
 use Rattle.pv_join.specs.Joins.{IsJoin, settled_side, IsFirstDisagreement}
 use Rattle.pv_join.proofs.JoinFacts.{side_some, side_left, top_is}
 use Rattle.pv_cli.specs.Files.{AllTrees, AnyTree, IsJoinOf, RefusesJoin}
-use Rattle.pv_cli.specs.Reads.{IsLineAt, IsDisagree, AreOver, trees_of}
+use Rattle.pv_cli.specs.Reads.{IsLineAt, IsDisagree}
 use Rattle.pv_cli.specs.declared.refusal.Refusal.{Refusal}
 use Rattle.pv_cli.specs.declared.refusal.Refusal.TheVariants.{Usage, System, Contract, Objective, NoFile, ReadFault, Paving, NotStored, KeeperFault, NotPrinted, Memory, TreeLimit, Disagree, Differs}
 
@@ -111,34 +109,6 @@ disagreement ts us joined next path (KeeperFault n) j first h = h
 disagreement ts us joined next path NotPrinted j first h = h
 disagreement ts us joined next path (TreeLimit n) j first h = h
 disagreement ts us joined next path (Differs p a b) j first h = h
-
--- ---- The first tree, and those after it
-
-pub from_first : (P : List Tree → Type 0) (ps rest : List Seen) (first : Seen) → (length ps == 0) ≡ false → first ≡ slice_index_or ps 0 first → rest ≡ drop 1 ps
-    → ((ts : List Tree) → IsJoinOf ts first.tree → P (ts ++ trees_of rest)) → P (trees_of ps)
-from_first P [] rest first some is e f = absurd (cc)
-from_first P (p ∷ ps) rest first some is e f =
-    subst (λ (q : List Seen). P (p.tree ∷ trees_of q)) e (f (p.tree ∷ []) (subst (λ (x : Seen). IsJoinOf (p.tree ∷ []) x.tree) (sym is) (one_tree p.tree)))
-
-not_both : false ≡ true → ⊥
-not_both e = cc
-
-pub join_of_none : (ps : List Seen) (t : Tree) → (length ps == 0) ≡ true → t ≡ leaf → IsJoinOf (trees_of ps) t
-join_of_none [] t none e = subst (IsJoinOf []) (sym e) no_trees
-join_of_none (p ∷ ps) t none e = absurd (not_both (sym (eqb-suc-zero (length ps)) ∙ none))
-
-pub over_first : (b : List Bounds) (ps rest : List Seen) → rest ≡ drop 1 ps → AreOver b ps → AreOver b rest
-over_first b [] rest e h = subst (AreOver b) (sym e) tt
-over_first b (p ∷ ps) rest e h = subst (AreOver b) (sym e) h.1
-
-pub over_later : (b c : List Bounds) (ps qs : List Seen) (q : Seen) → ps ≡ q ∷ qs → c ≡ b → AreOver b ps → AreOver c qs
-over_later b c ps qs q e same h = subst (λ (x : List Bounds). AreOver x qs) (sym same) ((subst (AreOver b) e h).1)
-
--- what holds of all trees, by what holds where the first of them is joined
-pub one_later : (P : List Tree → Type 0) (ps qs : List Seen) (q : Seen) (a b : Tree) → ps ≡ q ∷ qs → IsJoin a q.tree b
-    → ((ts : List Tree) → IsJoinOf ts b → P (ts ++ trees_of qs)) → (ts : List Tree) → IsJoinOf ts a → P (ts ++ trees_of ps)
-one_later P ps qs q a b e j f ts h =
-    subst (λ (x : List Seen). P (ts ++ trees_of x)) (sym e) (subst P (append_assoc ts (q.tree ∷ []) (trees_of qs)) (f (ts ++ q.tree ∷ []) (one_more ts a q.tree b h j)))
 
 -- ---- The line of a settled node
 

@@ -1,7 +1,7 @@
--- Numbers between commas.
+-- Parts of a text at a mark, and the numbers between commas.
 use Rattle.std.proofs.Common.{length-append, append_assoc, ◌≡◌, ℕ, ℤ, ◌+◌, ◌<◌, ◌==◌, ◌++◌, Bool, true, false, List, [], ◌∷◌, length, drop, sym, ◌∙◌, ap, ap₂, subst, arith, if◌then◌else◌}
 use Rattle.std.specs.Prelude.{neg_ℤ, Option, Some, None, MatchOption}
-use Rattle.std.specs.List.{position_or_len}
+use Rattle.std.specs.List.{position_or_len, slice_split}
 use Rattle.std.specs.Borrow.{Bor}
 use Rattle.std.proofs.lemmas.Str.Pattern.{IsSplitOnceResult, split_once_first, split_parts}
 use Rattle.std.proofs.lemmas.List.Splits.{slice_split_none, slice_split_first}
@@ -18,21 +18,29 @@ use Rattle.pv_cli.specs.declared.refusal.Refusal.TheVariants.{Usage, System, Con
 
 -- ---- The words
 
-one_word : (bs : List ℕ) → position_or_len (λ c. c == 44) bs ≡ length bs → words_between bs ≡ bs ∷ []
-one_word bs e =
-    slice_split_none (λ (c : ℕ). c == 44) bs
-    (λ k d l. fails_before_first (λ (c : ℕ). c == 44) bs k d (let same : position_or_len (λ (c : ℕ). c == 44) bs ≡ length bs = e in omega arith))
+-- the parts of a text at a mark
+abbrev parts_at : ℕ → List ℕ → List (List ℕ)
+parts_at mark bs = slice_split (λ c. c == mark) bs
+
+one_part : (mark : ℕ) (bs : List ℕ) → position_or_len (λ c. c == mark) bs ≡ length bs → parts_at mark bs ≡ bs ∷ []
+one_part mark bs e =
+    slice_split_none (λ (c : ℕ). c == mark) bs
+    (λ k d l. fails_before_first (λ (c : ℕ). c == mark) bs k d (let same : position_or_len (λ (c : ℕ). c == mark) bs ≡ length bs = e in omega arith))
+
+pub split_at : (mark : ℕ) → mark < 128 → (bs : List ℕ) (r : Option (Bor (List ℕ) × Bor (List ℕ))) → IsSplitOnceResult mark bs r
+    → MatchOption r (parts_at mark bs ≡ bs ∷ []) (λ x. (parts_at mark bs ≡ x.0.now ∷ parts_at mark x.1.now) × (length x.1.now < length bs))
+split_at mark low bs None h = one_part mark bs (split_once_first mark bs None h low)
+split_at mark low bs (Some x) h =
+    let first = split_once_first mark bs (Some x) h low in
+    let parts = split_parts mark bs (Some x) h low in
+    let count : length bs ≡ length x.0.now + length (mark ∷ x.1.now) = ap length parts.0 ∙ length-append x.0.now (mark ∷ x.1.now) in (
+      slice_split_first (λ (c : ℕ). c == mark) bs 0 first.0 ∙ ap₂ (λ (a b : List ℕ). a ∷ parts_at mark b) (sym first.1) (sym first.2),
+      omega arith,
+    )
 
 pub split_words : (bs : List ℕ) (r : Option (Bor (List ℕ) × Bor (List ℕ))) → IsSplitOnceResult 44 bs r
     → MatchOption r (words_between bs ≡ bs ∷ []) (λ x. (words_between bs ≡ x.0.now ∷ words_between x.1.now) × (length x.1.now < length bs))
-split_words bs None h = one_word bs (split_once_first 44 bs None h (omega arith))
-split_words bs (Some x) h =
-    let first = split_once_first 44 bs (Some x) h (omega arith) in
-    let parts = split_parts 44 bs (Some x) h (omega arith) in
-    let count : length bs ≡ length x.0.now + length (44 ∷ x.1.now) = ap length parts.0 ∙ length-append x.0.now (44 ∷ x.1.now) in (
-      slice_split_first (λ (c : ℕ). c == 44) bs 0 first.0 ∙ ap₂ (λ (a b : List ℕ). a ∷ words_between b) (sym first.1) (sym first.2),
-      omega arith,
-    )
+split_words bs r h = split_at 44 (omega arith) bs r h
 
 -- ---- One number
 

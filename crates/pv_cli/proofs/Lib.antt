@@ -6,11 +6,15 @@ pub mod Asked
 pub mod Widths
 pub mod Counts
 pub mod Ends
+pub mod Formats
+pub mod Formatted
 pub mod Inside
 pub mod HonestStages
 pub mod Spelled
 pub mod Joined
+pub mod JoinedShares
 pub mod Earlier
+pub mod Openings
 pub mod Refused
 pub mod Merges
 pub mod Stocks
@@ -18,7 +22,11 @@ pub mod StatusLaws
 pub mod SampleLaws
 pub mod Campaigned
 pub mod CampaignLaws
+pub mod Headline
+pub mod Stored
+pub mod Complete
 pub mod Levels
+pub mod Slashes
 pub mod Drawn
 pub mod Planes
 pub mod Few

@@ -38,7 +38,7 @@ use Rattle.pv_cli.specs.Systems.{Files, IsFetched, IsRuleFor, HasRule, search_bo
 use Rattle.pv_cli.specs.Pavings.{settled_in}
 use Rattle.pv_cli.specs.Files.{HasPaving, HavePavings, AllTrees, AnyTree, IsJoinOf, IsDisagreement}
 use Rattle.pv_cli.specs.Campaigns.{Stock}
-use Rattle.pv_cli.specs.Products.{Product, text, unfinished, paved, HasStatus, ComesOf, ComesOfMerge, IsOverLimit, RefusesJoined, RefusesWork}
+use Rattle.pv_cli.specs.Products.{Product, text, unfinished, paved, paved_as, HasStatus, ComesOf, ComesOfMerge, IsOverLimit, RefusesJoined, RefusesWork}
 use Rattle.pv_cli.specs.Ends.{Stream, Outside, IsKept, IsDelivered, IsAnswered, RefusesDelivery, RefusesWords, IsRefusedSo, in_words, in_request, Tells}
 use Rattle.pv_cli.specs.Merges.{IsTree, AreSameTrees, JoinAlike, IsNamed, AreSameNames, AreSameSettings, AreSameMerge, AskForSameMerge, AreTold, EndAlike, MergesEndAlike, MergesAreTakenAlike}
 use Rattle.pv_cli.specs.declared.request.Settings.{Settings}
@@ -149,7 +149,7 @@ pub record AreSameRules (r q : Method) : Type 0 where
   pub identity : identity_of r ≡ identity_of q
   pub box : search_box r ≡ search_box q
 
-same_rules : (s other : Parts) (x y : Settings) (r q : Method) → AreAlike s other → AreSameSettings x y → IsRuleFor s x r → IsRuleFor other y q → AreSameRules r q
+pub same_rules : (s other : Parts) (x y : Settings) (r q : Method) → AreAlike s other → AreSameSettings x y → IsRuleFor s x r → IsRuleFor other y q → AreSameRules r q
 same_rules s other x y r q alike same h k =
     let canonical : canonical_text r.parts.system ≡ canonical_text q.parts.system = ap canonical_text h.system_is ∙ same_canonical s other alike ∙ sym (ap canonical_text k.system_is) in
     let text : settings_text r.parts ≡ settings_text q.parts =
@@ -160,7 +160,7 @@ same_rules s other x y r q alike same h k =
       box = ap (λ (p : Parts). map search_bounds p.domains) h.system_is ∙ ap (map search_bounds) alike.domains ∙ sym (ap (λ (p : Parts). map search_bounds p.domains) k.system_is);
     }
 
-same_fetched : (c : Content) (x y : List ℕ) → c ≢ untold → IsFetched c x → IsFetched c y → x ≡ y
+pub same_fetched : (c : Content) (x y : List ℕ) → c ≢ untold → IsFetched c x → IsFetched c y → x ≡ y
 same_fetched untold x y told h k = absurd (told refl)
 same_fetched absent x y told h k = absurd h
 same_fetched (holds whole) x y told h k = h ∙ sym k
@@ -186,7 +186,7 @@ other_version : (identity : List ℕ) (b : List Bounds) (s t : Tree) → file_te
 other_version identity b s t e =
     not_same (slice_index (file_text One identity b s) 7) (slice_index (file_text Two identity b t) 7) (ap (λ (l : List ℕ). slice_index l 7) e) refl refl
 
-same_text : (v w : Version) (identity : List ℕ) (b : List Bounds) (s t : Tree) → IsPavingInFormat b s → IsPavingInFormat b t → file_text v identity b s ≡ file_text w identity b t → s ≡ t
+pub same_text : (v w : Version) (identity : List ℕ) (b : List Bounds) (s t : Tree) → IsPavingInFormat b s → IsPavingInFormat b t → file_text v identity b s ≡ file_text w identity b t → s ≡ t
 same_text One One identity b s t h k e = texts-differ One identity b s t h k e
 same_text Two Two identity b s t h k e = texts-differ Two identity b s t h k e
 same_text One Two identity b s t h k e = absurd (other_version identity b s t e)
@@ -256,7 +256,7 @@ kept_alike : (out : Option Text) (p : Product) (before one other : Files) → Is
 kept_alike None p before one other h k name = h.content name ∙ sym (k.content name)
 kept_alike (Some m) (text t) before one other h k name = h.content name ∙ sym (k.content name)
 kept_alike (Some m) (unfinished t) before one other h k name = h.content name ∙ sym (k.content name)
-kept_alike (Some m) (paved identity b t) before one other h k name = by (same_or_other name m)
+kept_alike (Some m) (paved_as identity b t done) before one other h k name = by (same_or_other name m)
   where
     by : (name ≡ m) ⊎ (name ≡ m → ⊥) → one.content name ≡ other.content name
     by (inl e) = ap one.content e ∙ h.is ∙ sym k.is ∙ sym (ap other.content e)
@@ -265,10 +265,7 @@ kept_alike (Some m) (paved identity b t) before one other h k name = by (same_or
 one_status : (p : Product) (s other : Status) → HasStatus p s → HasStatus p other → s ≡ other
 one_status (text t) s other h k = h ∙ sym k
 one_status (unfinished t) s other h k = h ∙ sym k
-one_status (paved identity b t) s other (inl h) (inl k) = h.0 ∙ sym k.0
-one_status (paved identity b t) s other (inl h) (inr k) = absurd (k.1 h.1)
-one_status (paved identity b t) s other (inr h) (inl k) = absurd (h.1 k.1)
-one_status (paved identity b t) s other (inr h) (inr k) = h.0 ∙ sym k.0
+one_status (paved_as identity b t done) s other h k = h ∙ sym k
 
 answered_alike : (q r : Request) (before one other : Outside) (s s' : Status) → AreTold before.files → AreSameMerge q r
     → IsAnswered q before.files one.files before.stock one.stock before.out one.out s → IsAnswered r before.files other.files before.stock other.stock before.out other.out s' → EndAlike one other s s'

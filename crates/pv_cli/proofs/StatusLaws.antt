@@ -7,9 +7,10 @@ use Rattle.std.proofs.lemmas.List.{length-map}
 use Rattle.std.proofs.lemmas.Bool.{false≢true}
 use Rattle.clap.specs.Words.{Row, Text, subcommand_of}
 use Rattle.pv_tree.specs.Trees.{Tree, leaf, opens, first, counts_of}
+use Rattle.pv_scope.specs.declared.order.Order.{Order}
 use Rattle.pv_slope.specs.Methods.{Method, identity_of}
 use Rattle.pv_cli.specs.Commands.{paver_app}
-use Rattle.pv_cli.specs.Requests.{names_in, out_of, paving_names, AreSettings, IsEffort, ArePavings, HasBadSetting, bad_eps, bad_depth, bad_bisector, HasBadEffort, bad_form, bad_limit, bad_workers, bad_boxes, HasBadLimit, HasBadBoxes, HasBadBudget, IsCount, IsNodeLimit, IsSearch, boxes_text, HasManyPavings, AreCircles, HasBadCircles, bad_seed, bad_count, Command, checks, runs, resumes, merges, audits, draws, samples, seeks, keeps, name_of, HasBadValueFor, HasBadValue, IsAskedBy, IsAsked, Asks, HasBadValueIn, AreRefused}
+use Rattle.pv_cli.specs.Requests.{names_in, out_of, paving_names, AreSettings, IsEffort, ArePavings, HasBadSetting, bad_eps, bad_depth, bad_bisector, HasBadEffort, bad_form, bad_limit, bad_workers, bad_boxes, bad_order, HasBadLimit, HasBadBoxes, HasBadBudget, IsCount, IsNodeLimit, IsSearch, boxes_text, HasManyPavings, AreCircles, HasBadCircles, bad_seed, bad_count, Command, checks, runs, resumes, merges, audits, draws, samples, seeks, keeps, name_of, HasBadValueFor, HasBadValue, IsAskedBy, IsAsked, Asks, HasBadValueIn, AreRefused}
 use Rattle.pv_cli.specs.Refusals.{status_of}
 use Rattle.pv_cli.specs.Systems.{Files, search_box}
 use Rattle.pv_cli.specs.Files.{RefusesPaving, RefusesPavings}
@@ -19,9 +20,10 @@ use Rattle.pv_rounds.specs.declared.campaign.HoldRefused.{HoldRefused}
 use Rattle.pv_rounds.specs.declared.campaign.HoldRefused.TheVariants as hold
 use Rattle.pv_cli.proofs.Stocks.{same_rows, early_rows}
 use Rattle.pv_keep.specs.Campaigns.{IsSaved}
-use Rattle.pv_cli.specs.Products.{Product, text, unfinished, paved, HasStatus, IsHonest, full_by, report_as, ComesOf, ComesOfRun, ComesOfResume, ComesOfMerge, ComesOfLeast, ComesOfCampaign, summary_of, RefusesWork}
+use Rattle.pv_cli.specs.Products.{Product, text, unfinished, paved, paved_as, status_by, HasStatus, IsHonest, full_by, report_as, ComesOf, ComesOfRun, ComesOfResume, ComesOfMerge, ComesOfLeast, ComesOfCampaign, summary_of, RefusesWork}
 use Rattle.pv_cli.specs.Ends.{Stream, Outside, AreUntouched, IsKept, RefusesDelivery, RefusesWords, IsRefusedSo, in_words, in_request, Tells}
-use Rattle.pv_cli.specs.StatusLaws.{IsFullRun, IsFullResume, IsClosedJoin, IsFinalLeast, IsFullCampaign, IsWhole, DoneIsWhole, IsPartRun, IsPartResume, IsOpenJoin, IsPartLeast, IsPartCampaign, IsPart, OpenLeftIsPart, IsEarly, IsCause, IsRefusedEarly, EarlyIsUntouched, IsUnstored, IsUnprinted, IsUnwritten, WriteFaultIsUnwritten, IsCutOffText, MemoryLeaves, OthersStay, AskingIsNotRefused, IsWordsRefused, RefusedWordsEnd, HaveBadText, UsageIsOfWords}
+use Rattle.pv_cli.specs.StatusLaws.{IsFullRun, IsFullResume, IsWholeResume, IsClosedJoin, IsFinalLeast, IsFullCampaign, IsWhole, DoneIsWhole, IsPartRun, IsCutShortResume, IsOpenJoin, IsPartLeast, IsPartCampaign, IsPart, OpenLeftIsPart, IsEarly, IsCause, IsRefusedEarly, EarlyIsUntouched, IsUnstored, IsUnprinted, IsUnwritten, WriteFaultIsUnwritten, IsCutOffText, MemoryLeaves, OthersStay, AskingIsNotRefused, IsWordsRefused, RefusedWordsEnd, HaveBadText, UsageIsOfWords}
+use Rattle.pv_scope.specs.declared.share.Share.{Share}
 use Rattle.pv_slope.specs.declared.form.Form.{Form}
 use Rattle.pv_slope.specs.declared.form.Form.TheVariants.{Plain, Centered}
 use Rattle.pv_cli.specs.declared.request.Settings.{Settings}
@@ -68,7 +70,7 @@ no_answer (TreeLimit n) h = h
 no_answer (Disagree p a b) h = h
 no_answer (Differs p a b) h = h
 
-not_told : (r : Refusal) (s : Status) (before after : Stream) → IsAnswer s → Tells r s before after → ⊥
+pub not_told : (r : Refusal) (s : Status) (before after : Stream) → IsAnswer s → Tells r s before after → ⊥
 not_told r s before after h (inl told) = no_answer r (subst IsAnswer told.0 h)
 not_told r s before after h (inr memory) = subst IsAnswer memory.0 h
 
@@ -76,20 +78,28 @@ not_told r s before after h (inr memory) = subst IsAnswer memory.0 h
 pub is_answer : (p : Product) (s : Status) → HasStatus p s → IsAnswer s
 is_answer (text t) s h = subst IsAnswer (sym h) tt
 is_answer (unfinished t) s h = subst IsAnswer (sym h) tt
-is_answer (paved identity b t) s (inl h) = subst IsAnswer (sym h.0) tt
-is_answer (paved identity b t) s (inr h) = subst IsAnswer (sym h.0) tt
+is_answer (paved_as identity b t true) s h = subst IsAnswer (sym h) tt
+is_answer (paved_as identity b t false) s h = subst IsAnswer (sym h) tt
 
 -- ---- Status 0
 
 not_open : status.Done ≡ status.OpenLeft → ⊥
 not_open e = cc
 
-closed_at : (t : Tree) → ((status.Done ≡ status.Done) × (opens t ≡ [])) ⊎ ((status.Done ≡ status.OpenLeft) × (opens t ≢ [])) → opens t ≡ []
-closed_at t (inl h) = h.1
-closed_at t (inr h) = absurd (not_open h.0)
+is_all : (d : Bool) → status.Done ≡ status_by d → d ≡ true
+is_all true e = refl
+is_all false e = absurd (not_open e)
 
-full_run : (before : Files) (system : Text) (s : Settings) (budget : ℕ) (p : Product) → ComesOfRun before system s budget p → HasStatus p status.Done → IsFullRun before system s p
-full_run before system s budget p h done =
+none_open : (ps : List (List Bool)) → is_none (first ps) ≡ true → ps ≡ []
+none_open [] e = refl
+none_open (p ∷ ps) e = absurd (false≢true e)
+
+pub closed_at : (t : Tree) → status.Done ≡ status_by (is_done t) → opens t ≡ []
+closed_at t e = none_open (opens t) (is_all (is_done t) e)
+
+full_run : (before : Files) (system : Text) (s : Settings) (order : Order) (budget : ℕ) (p : Product) → ComesOfRun before system s order budget p → HasStatus p status.Done
+    → IsFullRun before system s p
+full_run before system s order budget p h done =
     let closed : opens h.tree ≡ [] = closed_at h.tree (subst (λ (x : Product). HasStatus x status.Done) h.is done) in
     let full : h.tree ≡ full_by h.rule leaf = h.run.full closed in
     record {
@@ -99,18 +109,33 @@ full_run before system s budget p h done =
       is = h.is ∙ ap (paved (identity_of h.rule) (search_box h.rule)) full;
     }
 
-full_resume : (before : Files) (system : Text) (names : List Text) (s : Settings) (limit budget : ℕ) (p : Product) → ComesOfResume before system names s limit budget p → HasStatus p status.Done
-    → IsFullResume before system names s limit p
-full_resume before system names s limit budget p h done =
-    let closed : opens h.tree ≡ [] = closed_at h.tree (subst (λ (x : Product). HasStatus x status.Done) h.is done) in
-    let full : h.tree ≡ full_by h.rule h.opening = h.run.full closed in
+full_resume : (before : Files) (system : Text) (names : List Text) (s : Settings) (limit : ℕ) (order : Order) (budget : ℕ) (share : Option Share) (p : Product)
+    → ComesOfResume before system names s limit order budget share p → HasStatus p status.Done → IsWholeResume before system names s limit share p
+full_resume before system names s limit order budget None p h done =
+    let flag : h.done ≡ true = is_all h.done (subst (λ (x : Product). HasStatus x status.Done) h.is done) in
+    let full : h.tree ≡ full_by h.rule h.opening = h.run.0.full (none_open (opens h.tree) (sym h.run.2 ∙ flag)) in
     record {
       rule = h.rule;
       trees = h.trees;
       opening = h.opening;
       opened = h.opened;
       honest = λ stages. subst (IsHonest s h.rule) full (h.honest stages);
-      is = h.is ∙ ap (paved (identity_of h.rule) (search_box h.rule)) full;
+      is = h.is ∙ ap (paved_as (identity_of h.rule) (search_box h.rule) h.tree) h.run.2 ∙ ap (paved (identity_of h.rule) (search_box h.rule)) full;
+    }
+full_resume before system names s limit order budget (Some share) p h done =
+    let flag : h.done ≡ true = is_all h.done (subst (λ (x : Product). HasStatus x status.Done) h.is done) in
+    record {
+      rule = h.rule;
+      trees = h.trees;
+      opening = h.opening;
+      opened = h.opened;
+      tree = h.tree;
+      stage = h.run.stage;
+      others = h.run.others;
+      closed = h.run.closed.0 flag;
+      full = h.run.full flag;
+      honest = h.honest;
+      is = h.is ∙ ap (paved_as (identity_of h.rule) (search_box h.rule) h.tree) flag;
     }
 
 closed_join : (before : Files) (system : Text) (names : List Text) (s : Settings) (limit : ℕ) (p : Product) → ComesOfMerge before system names s limit p → HasStatus p status.Done
@@ -140,13 +165,9 @@ final_least before system s search p h done =
       is = h.is ∙ ap (report_as (least_text h.least)) final;
     }
 
-none_open : (ps : List (List Bool)) → is_none (first ps) ≡ true → ps ≡ []
-none_open [] e = refl
-none_open (p ∷ ps) e = absurd (false≢true e)
-
-full_campaign : (before : Files) (u v : Stock) (system : Text) (s : Settings) (limit boxes : ℕ) (rounds : Rounds) (p : Product) → ComesOfCampaign before u v system s limit boxes rounds p
+full_campaign : (before : Files) (u v : Stock) (system : Text) (s : Settings) (limit : ℕ) (order : Order) (boxes : ℕ) (rounds : Rounds) (p : Product) → ComesOfCampaign before u v system s limit order boxes rounds p
     → HasStatus p status.Done → IsFullCampaign before u v system s limit rounds p
-full_campaign before u v system s limit boxes rounds p h done =
+full_campaign before u v system s limit order boxes rounds p h done =
     let report = summary_of (counts_of h.tree) in
     let flag : is_done h.tree ≡ true = is_final report (is_done h.tree) (subst (λ (x : Product). HasStatus x status.Done) h.is done) in
     let full : h.tree ≡ full_by h.rule h.held.opening = h.held.gone.run.full (none_open (opens h.tree) flag) in
@@ -163,14 +184,14 @@ full_campaign before u v system s limit boxes rounds p h done =
 
 whole_of : (before : Files) (u v : Stock) (q : Request) (p : Product) → ComesOf before u v q p → HasStatus p status.Done → IsWhole before u v q p
 whole_of before u v (Check system) p h done = h
-whole_of before u v (Run system settings effort out) p h done = full_run before _ settings _ p h done
-whole_of before u v (Resume system pavings settings effort out) p h done = full_resume before _ _ settings _ _ p h done
+whole_of before u v (Run system settings effort out) p h done = full_run before _ settings _ _ p h done
+whole_of before u v (Resume system pavings settings effort share out) p h done = full_resume before _ _ settings _ _ _ share p h done
 whole_of before u v (Merge system pavings settings limit out) p h done = closed_join before _ _ settings limit p h done
-whole_of before u v (Audit system paving settings limit) p h done = h
+whole_of before u v (Audit system paving settings limit workers) p h done = h
 whole_of before u v (Svg system paving settings limit view) p h done = h
 whole_of before u v (Sample circles) p h done = h
 whole_of before u v (Least system settings search) p h done = final_least before _ settings search p h done
-whole_of before u v (Campaign system settings effort rounds) p h done = full_campaign before u v _ settings _ _ rounds p h done
+whole_of before u v (Campaign system settings effort rounds) p h done = full_campaign before u v _ settings _ _ _ rounds p h done
 
 pub done_is_whole : DoneIsWhole
 done_is_whole words before after (inl d) = record {
@@ -188,39 +209,65 @@ done_is_whole words before after (inr r) = absurd (not_told r.refusal status.Don
 not_done : status.OpenLeft ≡ status.Done → ⊥
 not_done e = cc
 
-open_at : (t : Tree) → ((status.OpenLeft ≡ status.Done) × (opens t ≡ [])) ⊎ ((status.OpenLeft ≡ status.OpenLeft) × (opens t ≢ [])) → opens t ≢ []
-open_at t (inl h) = absurd (not_done h.0)
-open_at t (inr h) = h.1
+is_part : (d : Bool) → status.OpenLeft ≡ status_by d → d ≡ false
+is_part true e = absurd (not_done e)
+is_part false e = refl
+
+not_closed : (ps : List (List Bool)) → is_none (first ps) ≡ false → ps ≢ []
+not_closed [] e = absurd (false≢true (sym e))
+not_closed (p ∷ ps) e = λ none. cc
+
+open_at : (t : Tree) → status.OpenLeft ≡ status_by (is_done t) → opens t ≢ []
+open_at t e = not_closed (opens t) (is_part (is_done t) e)
 
 no_text : (p : Product) (t : List ℕ) → p ≡ text t → HasStatus p status.OpenLeft → ⊥
 no_text p t e h = not_done (subst (λ (x : Product). HasStatus x status.OpenLeft) e h)
 
-part_run : (before : Files) (system : Text) (s : Settings) (budget : ℕ) (p : Product) → ComesOfRun before system s budget p → HasStatus p status.OpenLeft
-    → IsPartRun before system s budget p
-part_run before system s budget p h left =
+part_run : (before : Files) (system : Text) (s : Settings) (order : Order) (budget : ℕ) (p : Product) → ComesOfRun before system s order budget p → HasStatus p status.OpenLeft
+    → IsPartRun before system s order budget p
+part_run before system s order budget p h left =
     let open_left : opens h.tree ≢ [] = open_at h.tree (subst (λ (x : Product). HasStatus x status.OpenLeft) h.is left) in
     record {
       rule = h.rule;
       read = h.read;
       tree = h.tree;
       part = record { open_left = open_left; spent = h.run.spent open_left; short = λ fits. open_left (h.run.fits.1 fits) };
+      ordered = h.ordered;
       honest = h.honest;
       is = h.is;
     }
 
-part_resume : (before : Files) (system : Text) (names : List Text) (s : Settings) (limit budget : ℕ) (p : Product) → ComesOfResume before system names s limit budget p
-    → HasStatus p status.OpenLeft → IsPartResume before system names s limit budget p
-part_resume before system names s limit budget p h left =
-    let open_left : opens h.tree ≢ [] = open_at h.tree (subst (λ (x : Product). HasStatus x status.OpenLeft) h.is left) in
+part_resume : (before : Files) (system : Text) (names : List Text) (s : Settings) (limit : ℕ) (order : Order) (budget : ℕ) (share : Option Share) (p : Product)
+    → ComesOfResume before system names s limit order budget share p → HasStatus p status.OpenLeft → IsCutShortResume before system names s limit order budget share p
+part_resume before system names s limit order budget None p h left =
+    let flag : h.done ≡ false = is_part h.done (subst (λ (x : Product). HasStatus x status.OpenLeft) h.is left) in
+    let open_left : opens h.tree ≢ [] = not_closed (opens h.tree) (sym h.run.2 ∙ flag) in
+    let run = h.run.0 in
     record {
       rule = h.rule;
       trees = h.trees;
       opening = h.opening;
       opened = h.opened;
       tree = h.tree;
-      part = record { open_left = open_left; spent = h.run.spent open_left; short = λ fits. open_left (h.run.fits.1 fits) };
+      part = record { open_left = open_left; spent = run.spent open_left; short = λ fits. open_left (run.fits.1 fits) };
+      ordered = h.run.1;
       honest = h.honest;
-      is = h.is;
+      is = h.is ∙ ap (paved_as (identity_of h.rule) (search_box h.rule) h.tree) h.run.2;
+    }
+part_resume before system names s limit order budget (Some share) p h left =
+    let flag : h.done ≡ false = is_part h.done (subst (λ (x : Product). HasStatus x status.OpenLeft) h.is left) in
+    record {
+      rule = h.rule;
+      trees = h.trees;
+      opening = h.opening;
+      opened = h.opened;
+      tree = h.tree;
+      stage = h.run.stage;
+      others = h.run.others;
+      open_left = λ closed. false≢true (sym flag ∙ h.run.closed.1 closed);
+      spent = h.run.spent flag;
+      honest = h.honest;
+      is = h.is ∙ ap (paved_as (identity_of h.rule) (search_box h.rule) h.tree) flag;
     }
 
 open_join : (before : Files) (system : Text) (names : List Text) (s : Settings) (limit : ℕ) (p : Product) → ComesOfMerge before system names s limit p → HasStatus p status.OpenLeft
@@ -253,13 +300,9 @@ part_least before system s search p h left =
       is = h.is ∙ ap (report_as (least_text h.least)) short;
     }
 
-not_closed : (ps : List (List Bool)) → is_none (first ps) ≡ false → ps ≢ []
-not_closed [] e = absurd (false≢true (sym e))
-not_closed (p ∷ ps) e = λ none. cc
-
-part_campaign : (before : Files) (u v : Stock) (system : Text) (s : Settings) (limit boxes : ℕ) (rounds : Rounds) (p : Product) → ComesOfCampaign before u v system s limit boxes rounds p
-    → HasStatus p status.OpenLeft → IsPartCampaign before u v system s limit boxes rounds p
-part_campaign before u v system s limit boxes rounds p h left =
+part_campaign : (before : Files) (u v : Stock) (system : Text) (s : Settings) (limit : ℕ) (order : Order) (boxes : ℕ) (rounds : Rounds) (p : Product) → ComesOfCampaign before u v system s limit order boxes rounds p
+    → HasStatus p status.OpenLeft → IsPartCampaign before u v system s limit order boxes rounds p
+part_campaign before u v system s limit order boxes rounds p h left =
     let report = summary_of (counts_of h.tree) in
     let flag : is_done h.tree ≡ false = is_cut_short report (is_done h.tree) (subst (λ (x : Product). HasStatus x status.OpenLeft) h.is left) in
     let open_left : opens h.tree ≢ [] = not_closed (opens h.tree) flag in
@@ -272,6 +315,7 @@ part_campaign before u v system s limit boxes rounds p h left =
       opened = h.held.opened;
       tree = h.tree;
       part = record { open_left = open_left; spent = run.spent open_left; short = λ fits. open_left (run.fits.1 fits) };
+      ordered = h.held.gone.ordered;
       kept = h.held.gone.saved;
       honest = h.honest;
       is = h.is ∙ ap (report_as report) flag;
@@ -279,14 +323,14 @@ part_campaign before u v system s limit boxes rounds p h left =
 
 part_of : (before : Files) (u v : Stock) (q : Request) (p : Product) → ComesOf before u v q p → HasStatus p status.OpenLeft → IsPart before u v q p
 part_of before u v (Check system) p h left = no_text p _ h.is left
-part_of before u v (Run system settings effort out) p h left = part_run before _ settings _ p h left
-part_of before u v (Resume system pavings settings effort out) p h left = part_resume before _ _ settings _ _ p h left
+part_of before u v (Run system settings effort out) p h left = part_run before _ settings _ _ p h left
+part_of before u v (Resume system pavings settings effort share out) p h left = part_resume before _ _ settings _ _ _ share p h left
 part_of before u v (Merge system pavings settings limit out) p h left = open_join before _ _ settings limit p h left
-part_of before u v (Audit system paving settings limit) p h left = no_text p _ h.is left
+part_of before u v (Audit system paving settings limit workers) p h left = no_text p _ h.is left
 part_of before u v (Svg system paving settings limit view) p h left = no_text p _ h.is left
 part_of before u v (Sample circles) p h left = no_text p _ h.is left
 part_of before u v (Least system settings search) p h left = part_least before _ settings search p h left
-part_of before u v (Campaign system settings effort rounds) p h left = part_campaign before u v _ settings _ _ rounds p h left
+part_of before u v (Campaign system settings effort rounds) p h left = part_campaign before u v _ settings _ _ _ rounds p h left
 
 pub open_left_is_part : OpenLeftIsPart
 open_left_is_part words before after (inl d) = record {
@@ -331,14 +375,14 @@ module _ (before after : Files) (u v : Stock) where
   no_work_stored : (q : Request) (m : Bor Text) → RefusesWork before after u v q (NotStored m) → ⊥
   no_work_stored (Check system) m h = h
   no_work_stored (Run system settings effort out) m h = h
-  no_work_stored (Resume system pavings settings effort out) m (inl h) = h
-  no_work_stored (Resume system pavings settings effort out) m (inr (inl h)) = no_files before after effort.limit h.rule (NotStored m) (stored_or_memory m) (λ n k. k) (names_in pavings.items) h.refused
-  no_work_stored (Resume system pavings settings effort out) m (inr (inr h)) = h.refused
+  no_work_stored (Resume system pavings settings effort share out) m (inl h) = h
+  no_work_stored (Resume system pavings settings effort share out) m (inr (inl h)) = no_files before after effort.limit h.rule (NotStored m) (stored_or_memory m) (λ n k. k) (names_in pavings.items) h.refused
+  no_work_stored (Resume system pavings settings effort share out) m (inr (inr h)) = h.refused
   no_work_stored (Merge system pavings settings limit out) m (inl h) = h
   no_work_stored (Merge system pavings settings limit out) m (inr (inl h)) = no_files before after limit h.rule (NotStored m) (stored_or_memory m) (λ n k. k) (names_in pavings.items) h.refused
   no_work_stored (Merge system pavings settings limit out) m (inr (inr h)) = h.refused
-  no_work_stored (Audit system paving settings limit) m (inl h) = h
-  no_work_stored (Audit system paving settings limit) m (inr h) = h.refused
+  no_work_stored (Audit system paving settings limit workers) m (inl h) = h
+  no_work_stored (Audit system paving settings limit workers) m (inr h) = h.refused
   no_work_stored (Svg system paving settings limit view) m (inl h) = h
   no_work_stored (Svg system paving settings limit view) m (inr h) = h.refused
   no_work_stored (Sample circles) m h = h
@@ -352,14 +396,14 @@ module _ (before after : Files) (u v : Stock) where
   no_work_printed : (q : Request) → RefusesWork before after u v q NotPrinted → ⊥
   no_work_printed (Check system) h = h
   no_work_printed (Run system settings effort out) h = h
-  no_work_printed (Resume system pavings settings effort out) (inl h) = h
-  no_work_printed (Resume system pavings settings effort out) (inr (inl h)) = no_files before after effort.limit h.rule NotPrinted printed_or_memory (λ n k. k) (names_in pavings.items) h.refused
-  no_work_printed (Resume system pavings settings effort out) (inr (inr h)) = h.refused
+  no_work_printed (Resume system pavings settings effort share out) (inl h) = h
+  no_work_printed (Resume system pavings settings effort share out) (inr (inl h)) = no_files before after effort.limit h.rule NotPrinted printed_or_memory (λ n k. k) (names_in pavings.items) h.refused
+  no_work_printed (Resume system pavings settings effort share out) (inr (inr h)) = h.refused
   no_work_printed (Merge system pavings settings limit out) (inl h) = h
   no_work_printed (Merge system pavings settings limit out) (inr (inl h)) = no_files before after limit h.rule NotPrinted printed_or_memory (λ n k. k) (names_in pavings.items) h.refused
   no_work_printed (Merge system pavings settings limit out) (inr (inr h)) = h.refused
-  no_work_printed (Audit system paving settings limit) (inl h) = h
-  no_work_printed (Audit system paving settings limit) (inr h) = h.refused
+  no_work_printed (Audit system paving settings limit workers) (inl h) = h
+  no_work_printed (Audit system paving settings limit workers) (inr h) = h.refused
   no_work_printed (Svg system paving settings limit view) (inl h) = h
   no_work_printed (Svg system paving settings limit view) (inr h) = h.refused
   no_work_printed (Sample circles) h = h
@@ -529,7 +573,7 @@ kept_others : (out : Option Text) (p : Product) (before after : Files) (name : T
 kept_others None p before after name h other = h.content name
 kept_others (Some m) (text t) before after name h other = h.content name
 kept_others (Some m) (unfinished t) before after name h other = h.content name
-kept_others (Some m) (paved identity b t) before after name h other = h.kept.others name (λ e. other (ap Some (sym e)))
+kept_others (Some m) (paved_as identity b t done) before after name h other = h.kept.others name (λ e. other (ap Some (sym e)))
 
 unwritten_others : (before after : Outside) (q : Request) (p : Product) (name : Text) → out_of q ≢ Some name → IsUnstored q p before after ⊎ IsUnprinted q p before after
     → after.files.content name ≡ before.files.content name
@@ -563,6 +607,7 @@ effort_is_good : (rows : List Row) (e : Effort) → IsEffort rows e → HasBadEf
 effort_is_good rows e h (bad_limit none) = none e.limit h.limit
 effort_is_good rows e h (bad_workers none) = none e.workers h.workers
 effort_is_good rows e h (bad_boxes none) = boxes_are_good rows e.limit e.boxes h.limit h.boxes none
+effort_is_good rows e h (bad_order none) = none e.order h.order
 
 search_is_good : (rows : List Row) (search : Search) → IsSearch rows search → HasBadBudget rows → ⊥
 search_is_good rows search h (inl none) = none search.limit h.limit
@@ -624,9 +669,9 @@ one_command name c d e f = ap (λ (o : Option Command). unwrap_or o c) (sym (nam
 abbrev pub command_of : Form → Request → Command
 command_of usual (Check system) = checks
 command_of usual (Run system settings effort out) = runs usual
-command_of usual (Resume system pavings settings effort out) = resumes
+command_of usual (Resume system pavings settings effort share out) = resumes
 command_of usual (Merge system pavings settings limit out) = merges
-command_of usual (Audit system paving settings limit) = audits usual
+command_of usual (Audit system paving settings limit workers) = audits usual
 command_of usual (Svg system paving settings limit view) = draws
 command_of usual (Sample circles) = samples
 command_of usual (Least system settings search) = seeks
@@ -634,15 +679,15 @@ command_of usual (Campaign system settings effort rounds) = keeps
 
 abbrev usual_of : (name : Text) (rows : List Row) (q : Request) → IsAskedBy name rows q → Form
 usual_of name rows (Run system settings effort out) h = h.0.0
-usual_of name rows (Audit system paving settings limit) h = h.0.0
+usual_of name rows (Audit system paving settings limit workers) h = h.0.0
 usual_of name rows q h = Plain
 
 named_so : (name : Text) (rows : List Row) (q : Request) → (h : IsAskedBy name rows q) → name ≡ name_of (command_of (usual_of name rows q h) q)
 named_so name rows (Check system) h = h.0
 named_so name rows (Run system settings effort out) h = h.0.1.0
-named_so name rows (Resume system pavings settings effort out) h = h.0
+named_so name rows (Resume system pavings settings effort share out) h = h.0
 named_so name rows (Merge system pavings settings limit out) h = h.0
-named_so name rows (Audit system paving settings limit) h = h.0.1.0
+named_so name rows (Audit system paving settings limit workers) h = h.0.1.0
 named_so name rows (Svg system paving settings limit view) h = h.0
 named_so name rows (Sample circles) h = h.0
 named_so name rows (Least system settings search) h = h.0
@@ -668,11 +713,15 @@ ask_alike words q r h k = asked_alike (subcommand_of paver_app words) q r h.1 k.
 values_are_good : (name : Text) (rows : List Row) (q : Request) → (h : IsAskedBy name rows q) → HasBadValueFor (command_of (usual_of name rows q h) q) rows → ⊥
 values_are_good name rows (Check system) h b = b
 values_are_good name rows (Run system settings effort out) h b = work_is_good h.0.0 rows settings effort h.0.1.1 h.2 b
-values_are_good name rows (Resume system pavings settings effort out) h (inl b) = pavings_are_few rows pavings.items h.2 b
-values_are_good name rows (Resume system pavings settings effort out) h (inr b) = work_is_good Plain rows settings effort h.3 h.4 b
+values_are_good name rows (Resume system pavings settings effort share out) h (inl b) = pavings_are_few rows pavings.items h.2 b
+values_are_good name rows (Resume system pavings settings effort share out) h (inr (inl b)) = settings_are_good Plain rows settings h.3 b
+values_are_good name rows (Resume system pavings settings effort share out) h (inr (inr (inl b))) = effort_is_good rows effort h.4 b
+values_are_good name rows (Resume system pavings settings effort share out) h (inr (inr (inr b))) = b effort.order h.4.order share h.5
 values_are_good name rows (Merge system pavings settings limit out) h (inl b) = pavings_are_few rows pavings.items h.2 b
 values_are_good name rows (Merge system pavings settings limit out) h (inr b) = join_is_good Plain rows settings limit h.3 h.4 b
-values_are_good name rows (Audit system paving settings limit) h b = join_is_good h.0.0 rows settings limit h.0.1.1 h.3 b
+values_are_good name rows (Audit system paving settings limit workers) h (inl b) = settings_are_good h.0.0 rows settings h.0.1.1 b
+values_are_good name rows (Audit system paving settings limit workers) h (inr (inl none)) = none limit h.3
+values_are_good name rows (Audit system paving settings limit workers) h (inr (inr none)) = none workers.count h.4
 values_are_good name rows (Svg system paving settings limit view) h (inl b) = b view.at.items h.5.at
 values_are_good name rows (Svg system paving settings limit view) h (inr b) = join_is_good Plain rows settings limit h.3 h.4 b
 values_are_good name rows (Sample circles) h b = circles_are_good rows circles h.1 b

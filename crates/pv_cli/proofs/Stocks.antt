@@ -6,6 +6,7 @@ use Rattle.pv_tree.specs.Trees.{Tree}
 use Rattle.pv_slope.specs.Methods.{Method, settle_by, identity_of}
 use Rattle.pv_keep.specs.Keeping.{Kept, untold, absent, holds}
 use Rattle.pv_keep.specs.Campaigns.{IsOpened, IsLeft}
+use Rattle.pv_scope.specs.declared.order.Order.{Order}
 use Rattle.pv_rounds.specs.Holding.{RefusesHold}
 use Rattle.pv_rounds.specs.declared.campaign.HoldRefused.{HoldRefused}
 use Rattle.pv_rounds.specs.declared.campaign.HoldRefused.TheVariants.{Memory, Failed, OtherIdentity, TooMany, BadRow, TreeLimit}
@@ -53,24 +54,24 @@ all_rows name u v here others other = by (same_or_other other name)
 
 -- ---- Where a command is refused before its work begins
 
-refused_rows : (rule : Method) (limit boxes count : ℕ) (name : Bor (List ℕ)) (k0 k1 : Kept) (refused : HoldRefused)
-    → RefusesHold limit (settle_by rule) rule.parts.depth (search_box rule) (identity_of rule) boxes count k0 k1 refused → IsEarly (status_of (campaign_refusal name refused)) → RowsStay k0 k1
-refused_rows rule limit boxes count name k0 k1 Memory h early = absurd early
-refused_rows rule limit boxes count name k0 k1 Failed h early = absurd early
-refused_rows rule limit boxes count name k0 k1 (OtherIdentity found) h early = left_stays k0 k1 (identity_of rule) h.1
-refused_rows rule limit boxes count name k0 k1 TooMany h early = left_stays k0 k1 (identity_of rule) h.1
-refused_rows rule limit boxes count name k0 k1 (BadRow n) h early = left_stays k0 k1 (identity_of rule) h.1
-refused_rows rule limit boxes count name k0 k1 (TreeLimit n) h early = opened_stays limit k0 k1 (identity_of rule) (search_box rule) h.opening h.opened
+refused_rows : (rule : Method) (limit : ℕ) (order : Order) (boxes count : ℕ) (name : Bor (List ℕ)) (k0 k1 : Kept) (refused : HoldRefused)
+    → RefusesHold limit (settle_by rule) rule.parts.depth (search_box rule) order (identity_of rule) boxes count k0 k1 refused → IsEarly (status_of (campaign_refusal name refused)) → RowsStay k0 k1
+refused_rows rule limit order boxes count name k0 k1 Memory h early = absurd early
+refused_rows rule limit order boxes count name k0 k1 Failed h early = absurd early
+refused_rows rule limit order boxes count name k0 k1 (OtherIdentity found) h early = left_stays k0 k1 (identity_of rule) h.1
+refused_rows rule limit order boxes count name k0 k1 TooMany h early = left_stays k0 k1 (identity_of rule) h.1
+refused_rows rule limit order boxes count name k0 k1 (BadRow n) h early = left_stays k0 k1 (identity_of rule) h.1
+refused_rows rule limit order boxes count name k0 k1 (TreeLimit n) h early = opened_stays limit k0 k1 (identity_of rule) (search_box rule) h.opening h.opened
 
-rounds_rows : (rule : Method) (u v : Stock) (limit boxes : ℕ) (rounds : Rounds) (r : Refusal) → IsEarly (status_of r) → RefusesRounds rule u v limit boxes rounds r
+rounds_rows : (rule : Method) (u v : Stock) (limit : ℕ) (order : Order) (boxes : ℕ) (rounds : Rounds) (r : Refusal) → IsEarly (status_of r) → RefusesRounds rule u v limit order boxes rounds r
     → RowsStay (u.kept rounds.name.now) (v.kept rounds.name.now)
-rounds_rows rule u v limit boxes rounds r early h =
-    refused_rows rule limit boxes rounds.count rounds.name (u.kept rounds.name.now) (v.kept rounds.name.now) h.refused h.because
+rounds_rows rule u v limit order boxes rounds r early h =
+    refused_rows rule limit order boxes rounds.count rounds.name (u.kept rounds.name.now) (v.kept rounds.name.now) h.refused h.because
     (subst (λ (x : Refusal). IsEarly (status_of x)) h.is early)
 
 pub early_rows : (before after : Files) (u v : Stock) (q : Request) (r : Refusal) → IsEarly (status_of r) → RefusesWork before after u v q r → LeavesStock (campaign_of q) u v
     → AllRowsStay u v
 early_rows before after u v (Campaign system settings effort rounds) r early (inl h) kept = same_rows u v h.1
 early_rows before after u v (Campaign system settings effort rounds) r early (inr h) kept =
-    all_rows rounds.name.now u v (rounds_rows h.rule u v effort.limit effort.boxes rounds r early h.refused) kept
+    all_rows rounds.name.now u v (rounds_rows h.rule u v effort.limit effort.order effort.boxes rounds r early h.refused) kept
 early_rows before after u v q r early h kept = same_rows u v kept

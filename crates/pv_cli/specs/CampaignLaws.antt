@@ -3,6 +3,7 @@ use Rattle.std.specs.Prelude.{◌≡◌, ◌≢◌, ◌⊎◌, ℕ, List, Some, 
 use Rattle.clap.specs.Words.{Text}
 use Rattle.pv_slope.specs.Methods.{Method, settle_by, identity_of}
 use Rattle.pv_io.specs.Outside.{Rose}
+use Rattle.pv_scope.specs.declared.order.Order.{Order}
 use Rattle.pv_rounds.specs.Holding.{IsInterrupted}
 use Rattle.pv_cli.specs.Requests.{Asks, campaign_of}
 use Rattle.pv_cli.specs.Systems.{Files, HasRule, search_box}
@@ -17,22 +18,22 @@ use Rattle.pv_cli.specs.declared.status.Status.TheVariants.{KeeperFault, WantOfM
 
 -- A campaign was not opened, and all rows stay; or so many of its rounds were saved, and the rows that are kept are those
 -- of the full tree, or of a stage of the opening with exactly so many budgets more settled nodes.
-pub record HasInterrupted (before : Files) (u v : Stock) (system : Text) (s : Settings) (limit boxes : ℕ) (rounds : Rounds) : Type 0 where
+pub record HasInterrupted (before : Files) (u v : Stock) (system : Text) (s : Settings) (limit : ℕ) (order : Order) (boxes : ℕ) (rounds : Rounds) : Type 0 where
   pub rule : Method
   pub read : HasRule before system s rule
-  pub interrupted : IsInterrupted limit (settle_by rule) rule.parts.depth (search_box rule) (identity_of rule) boxes rounds.count (u.kept rounds.name.now) (v.kept rounds.name.now)
+  pub interrupted : IsInterrupted limit (settle_by rule) rule.parts.depth (search_box rule) order (identity_of rule) boxes rounds.count (u.kept rounds.name.now) (v.kept rounds.name.now)
 
 -- that is so of the campaign that is asked for
 abbrev pub IsInterruptedIn : Files → Stock → Stock → Request → Type 0
 IsInterruptedIn before u v (Check system) = ⊥
 IsInterruptedIn before u v (Run system settings effort out) = ⊥
-IsInterruptedIn before u v (Resume system pavings settings effort out) = ⊥
+IsInterruptedIn before u v (Resume system pavings settings effort share out) = ⊥
 IsInterruptedIn before u v (Merge system pavings settings limit out) = ⊥
-IsInterruptedIn before u v (Audit system paving settings limit) = ⊥
+IsInterruptedIn before u v (Audit system paving settings limit workers) = ⊥
 IsInterruptedIn before u v (Svg system paving settings limit view) = ⊥
 IsInterruptedIn before u v (Sample circles) = ⊥
 IsInterruptedIn before u v (Least system settings search) = ⊥
-IsInterruptedIn before u v (Campaign system settings effort rounds) = HasInterrupted before u v system.now settings effort.limit effort.boxes rounds
+IsInterruptedIn before u v (Campaign system settings effort rounds) = HasInterrupted before u v system.now settings effort.limit effort.order effort.boxes rounds
 
 -- the words ask for a campaign, which was interrupted
 pub record IsBrokenOff (words : List Text) (before after : Outside) : Type 0 where

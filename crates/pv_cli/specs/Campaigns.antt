@@ -6,6 +6,7 @@ use Rattle.pv_tree.specs.Trees.{Tree, opens, first}
 use Rattle.pv_slope.specs.Methods.{Method, settle_by, identity_of}
 use Rattle.pv_io.specs.Outside.{Rose}
 use Rattle.pv_keep.specs.Keeping.{Kept, untold, absent, holds}
+use Rattle.pv_scope.specs.declared.order.Order.{Order}
 use Rattle.pv_rounds.specs.Holding.{RefusesHold}
 use Rattle.pv_rounds.specs.declared.campaign.HoldRefused.{HoldRefused}
 use Rattle.pv_rounds.specs.declared.campaign.HoldRefused.TheVariants as hold
@@ -67,19 +68,19 @@ campaign_refusal name (hold.BadRow n) = Paving name (BadRow n)
 campaign_refusal name (hold.TreeLimit n) = TreeLimit n
 
 -- why some rounds by a rule are refused, and what that leaves of what is kept
-pub record RefusesRounds (rule : Method) (u v : Stock) (limit boxes : ℕ) (rounds : Rounds) (r : Refusal) : Type 0 where
+pub record RefusesRounds (rule : Method) (u v : Stock) (limit : ℕ) (order : Order) (boxes : ℕ) (rounds : Rounds) (r : Refusal) : Type 0 where
   pub refused : HoldRefused
-  pub because : RefusesHold limit (settle_by rule) rule.parts.depth (search_box rule) (identity_of rule) boxes rounds.count (u.kept rounds.name.now) (v.kept rounds.name.now) refused
+  pub because : RefusesHold limit (settle_by rule) rule.parts.depth (search_box rule) order (identity_of rule) boxes rounds.count (u.kept rounds.name.now) (v.kept rounds.name.now) refused
   pub rose : refused ≡ hold.Failed → Rose u.faults v.faults
   pub is : r ≡ campaign_refusal rounds.name refused
 
 -- the system is there, and the rounds are refused
-pub record HasNoCampaign (before : Files) (u v : Stock) (system : Text) (s : Settings) (limit boxes : ℕ) (rounds : Rounds) (r : Refusal) : Type 0 where
+pub record HasNoCampaign (before : Files) (u v : Stock) (system : Text) (s : Settings) (limit : ℕ) (order : Order) (boxes : ℕ) (rounds : Rounds) (r : Refusal) : Type 0 where
   pub rule : Method
   pub read : HasRule before system s rule
-  pub refused : RefusesRounds rule u v limit boxes rounds r
+  pub refused : RefusesRounds rule u v limit order boxes rounds r
 
 -- the first refusal of the system, of its settings and of the rounds
-abbrev pub RefusesCampaign : Files → Files → Stock → Stock → Text → Settings → ℕ → ℕ → Rounds → Refusal → Type 0
-RefusesCampaign before after u v system s limit boxes rounds r =
-    (RefusesRule before after system s r × IsSameStock u v) ⊎ HasNoCampaign before u v system s limit boxes rounds r
+abbrev pub RefusesCampaign : Files → Files → Stock → Stock → Text → Settings → ℕ → Order → ℕ → Rounds → Refusal → Type 0
+RefusesCampaign before after u v system s limit order boxes rounds r =
+    (RefusesRule before after system s r × IsSameStock u v) ⊎ HasNoCampaign before u v system s limit order boxes rounds r

@@ -51,7 +51,7 @@ with_settings a =
     with_option (codes "contract") (with_option (codes "bisect") (with_option (codes "depth") (with_option (codes "eps") a)))
 
 abbrev pub with_effort : App → App
-with_effort a = with_option (codes "boxes") (with_option (codes "workers") a)
+with_effort a = with_option (codes "order") (with_option (codes "boxes") (with_option (codes "workers") a))
 
 abbrev pub with_out : App → App
 with_out a = with_option (codes "out") a
@@ -69,13 +69,14 @@ abbrev pub run_app : Text → App
 run_app name = with_limit (with_out (with_effort (with_settings (system_app name))))
 
 abbrev pub resume_app : App
-resume_app = with_form (with_limit (with_out (with_effort (with_settings (pavings_app (codes "resume"))))))
+resume_app =
+    with_form (with_limit (with_option (codes "share") (with_out (with_effort (with_settings (pavings_app (codes "resume")))))))
 
 abbrev pub merge_app : App
 merge_app = with_form (with_limit (with_out (with_settings (pavings_app (codes "merge")))))
 
 abbrev pub audit_app : Text → App
-audit_app name = with_limit (with_settings (paving_app name))
+audit_app name = with_option (codes "workers") (with_limit (with_settings (paving_app name)))
 
 abbrev pub svg_app : App
 svg_app =

@@ -8,7 +8,7 @@ use Rattle.pv_cli.specs.Requests.{Asks, AreRefused, out_of, campaign_of}
 use Rattle.pv_cli.specs.Refusals.{status_of, line_of}
 use Rattle.pv_cli.specs.Systems.{Files, AreOnlyRead}
 use Rattle.pv_cli.specs.Campaigns.{Stock, IsSameStock, LeavesStock}
-use Rattle.pv_cli.specs.Products.{Product, paved, printed_of, HasStatus, ComesOf, RefusesWork}
+use Rattle.pv_cli.specs.Products.{Product, paved_as, printed_of, HasStatus, ComesOf, RefusesWork}
 use Rattle.pv_cli.specs.declared.request.Request.{Request}
 use Rattle.pv_cli.specs.declared.refusal.Refusal.{Refusal}
 use Rattle.pv_cli.specs.declared.refusal.Refusal.TheVariants.{Usage, NotStored, NotPrinted, Memory}
@@ -53,7 +53,7 @@ pub record IsStored (name : Text) (bytes : List ℕ) (before after : Files) : Ty
 
 -- a paving was stored as its version 2 text, where a file is asked for
 abbrev pub IsKept : Option Text → Product → Files → Files → Type 0
-IsKept (Some name) (paved identity b t) before after = IsStored name (file_text Two identity b t) before after
+IsKept (Some name) (paved_as identity b t done) before after = IsStored name (file_text Two identity b t) before after
 IsKept file p before after = AreOnlyRead before after
 
 -- the product was stored and printed

@@ -33,11 +33,16 @@ pub record HoldsPaving (before : Files) (limit : ℕ) (identity : List ℕ) (b :
 abbrev pub HasPaving : Files → ℕ → Method → List ℕ → Tree → Type 0
 HasPaving before limit rule name t = HoldsPaving before limit (identity_of rule) (search_box rule) name t
 
--- the file holds other bytes, of which this is said
-pub record HoldsOther (before : Files) (limit : ℕ) (name : List ℕ) (says : List ℕ → Type 0) : Type 0 where
+-- the bytes are the text of no paving of the box for the identity with at most so many settled nodes
+abbrev pub IsNoText : ℕ → List ℕ → List ℕ → List Bounds → Type 0
+IsNoText limit bytes identity b = (t : Tree) → IsPavingInFormat b t → settled_in t ≤ limit → IsTextOf bytes identity b t → ⊥
+
+-- the file holds other bytes than any such text, of which this is said
+pub record HoldsOther (before : Files) (limit : ℕ) (identity : List ℕ) (b : List Bounds) (name : List ℕ) (says : List ℕ → Type 0) : Type 0 where
   pub bytes : List ℕ
   pub fetched : IsWhole (before.content name) (length_limit limit) bytes
   pub other : says bytes
+  pub no_text : IsNoText limit bytes identity b
 
 pub record HoldsLong (before : Files) (limit : ℕ) (name : List ℕ) : Type 0 where
   pub bytes : List ℕ
@@ -46,9 +51,9 @@ pub record HoldsLong (before : Files) (limit : ℕ) (name : List ℕ) : Type 0 w
 -- what is wrong with the file of this name
 abbrev pub HasFileFault : Files → ℕ → List ℕ → List Bounds → List ℕ → FileFault → Type 0
 HasFileFault before limit identity b name TooLong = HoldsLong before limit name
-HasFileFault before limit identity b name WrongIdentity = HoldsOther before limit name (λ bytes. HasOtherIdentity bytes identity b)
-HasFileFault before limit identity b name (BadLine n) = HoldsOther before limit name (λ bytes. IsFirstBadLine limit n bytes identity b)
-HasFileFault before limit identity b name (TooManyNodes n) = HoldsOther before limit name (λ bytes. IsOneTooMany limit n bytes identity b)
+HasFileFault before limit identity b name WrongIdentity = HoldsOther before limit identity b name (λ bytes. HasOtherIdentity bytes identity b)
+HasFileFault before limit identity b name (BadLine n) = HoldsOther before limit identity b name (λ bytes. IsFirstBadLine limit n bytes identity b)
+HasFileFault before limit identity b name (TooManyNodes n) = HoldsOther before limit identity b name (λ bytes. IsOneTooMany limit n bytes identity b)
 HasFileFault before limit identity b name (BadRow n) = ⊥
 HasFileFault before limit identity b name TooManyRows = ⊥
 

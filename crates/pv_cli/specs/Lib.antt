@@ -20,5 +20,9 @@ pub mod Telling
 pub mod Resumed
 pub mod Audited
 pub mod Merges
+pub mod Shares
 pub mod StatusLaws
 pub mod CampaignLaws
+pub mod Headline
+pub mod Stored
+pub mod Complete

@@ -1,5 +1,5 @@
 -- What comes of a command's work.
-use Rattle.std.specs.Prelude.{if◌then◌else◌, ◌≡◌, ◌≢◌, ◌⊎◌, ◌<◌, ◌≤◌, ◌+◌, ◌*◌, ◌++◌, ◌∷◌, ℕ, pos, Bool, List, [], Option, Some, None, codes, decimal}
+use Rattle.std.specs.Prelude.{if◌then◌else◌, ◌≡◌, ◌⊎◌, ◌<◌, ◌≤◌, ◌+◌, ◌*◌, ◌++◌, ◌∷◌, ℕ, pos, Bool, true, false, List, [], Option, Some, None, codes, decimal}
 use Rattle.hex.specs.Hex.{encode_lower}
 use Rattle.sha2.specs.Sha256.{sha256}
 use Rattle.clap.specs.Words.{Text}
@@ -18,11 +18,15 @@ use Rattle.pv_tree.specs.Sets.{IsSound, Covers}
 use Rattle.pv_tree.specs.declared.outcome.Counts.{Counts}
 use Rattle.pv_join.specs.Audits.{IsFirstDifference, due_at}
 use Rattle.pv_file.specs.Lines.{lines_of, outcome_line}
+use Rattle.pv_file.specs.Readings.{IsPavingInFormat}
 use Rattle.pv_file.specs.Texts.{file_text}
 use Rattle.pv_file.specs.declared.version.Version.TheVariants.{One, Two}
 use Rattle.pv_cli.specs.Requests.{names_in}
 use Rattle.pv_cli.specs.Systems.{Files, HasSystem, IsRuleFor, HasRule, RefusesSystem, RefusesRule, search_box}
-use Rattle.pv_cli.specs.Pavings.{IsPaved, HoldInside, settled_in}
+use Rattle.pv_scope.specs.Orders.{IsInOrder}
+use Rattle.pv_scope.specs.declared.order.Order.{Order}
+use Rattle.pv_scope.specs.declared.share.Share.{Share}
+use Rattle.pv_cli.specs.Pavings.{IsPaved, IsSharePaved, HoldInside, settled_in}
 use Rattle.pv_svg.specs.Planes.{Plane}
 use Rattle.pv_svg.specs.Rectangles.{picture_of}
 use Rattle.pv_svg.specs.Texts.{picture_text}
@@ -45,11 +49,16 @@ use Rattle.pv_cli.specs.declared.refusal.Refusal.TheVariants.{Usage, Memory, Tre
 use Rattle.pv_cli.specs.declared.status.Status.{Status}
 use Rattle.pv_cli.specs.declared.status.Status.TheVariants.{Done, OpenLeft}
 
--- a text, one of a search or a campaign that was cut short, or a paving of a box for an identity
+-- a text, one of a search or a campaign that was cut short, or a paving of a box for an identity, and whether nothing is
+-- left of what was to be settled
 pub data Product : Type 0 where
   text : List ℕ → Product
   unfinished : List ℕ → Product
-  paved : List ℕ → List Bounds → Tree → Product
+  paved_as : List ℕ → List Bounds → Tree → Bool → Product
+
+-- a paving of which all leaves were to be settled
+abbrev pub paved : List ℕ → List Bounds → Tree → Product
+paved identity b t = paved_as identity b t (is_done t)
 
 unfoldable pub summary_of : Counts → List ℕ
 summary_of c =
@@ -60,22 +69,27 @@ summary_of c =
 abbrev pub printed_of : Option Text → Product → List ℕ
 printed_of out (text t) = t
 printed_of out (unfinished t) = t
-printed_of None (paved identity b t) = summary_of (counts_of t) ++ lines_of One b t
-printed_of (Some name) (paved identity b t) = summary_of (counts_of t)
+printed_of None (paved_as identity b t done) = summary_of (counts_of t) ++ lines_of One b t
+printed_of (Some name) (paved_as identity b t done) = summary_of (counts_of t)
 
--- the status with which the command ends that delivered it: 1 says that a leaf is open, or that a search or a campaign
--- was cut short
+-- 1 says that something is left, and 0 that nothing is
+abbrev pub status_by : Bool → Status
+status_by true = Done
+status_by false = OpenLeft
+
+-- the status with which the command ends that delivered it
 abbrev pub HasStatus : Product → Status → Type 0
 HasStatus (text t) s = s ≡ Done
 HasStatus (unfinished t) s = s ≡ OpenLeft
-HasStatus (paved identity b t) s = ((s ≡ Done) × (opens t ≡ [])) ⊎ ((s ≡ OpenLeft) × (opens t ≢ []))
+HasStatus (paved_as identity b t done) s = s ≡ status_by done
 
 -- ---- What is said of pavings
 
--- The paving is a stage of the open search box: so it covers the box, it is sound for the set that the program
--- speaks of, and without an open leaf it is the full tree. By the default program every constraint holds at each
--- rational point of each inner box.
+-- The paving, in numbers of the format, is a stage of the open search box: so it covers the box, it is sound for the
+-- set that the program speaks of, and without an open leaf it is the full tree. By the default program every constraint
+-- holds at each rational point of each inner box.
 pub record IsHonest (s : Settings) (rule : Method) (t : Tree) : Type 0 where
+  pub paving : IsPavingInFormat (search_box rule) t
   pub stage : IsStage (settle_by rule) rule.parts.depth (search_box rule) leaf t
   pub covers : Covers (search_box rule) t
   pub sound : IsSound (is_member rule) (search_box rule) t
@@ -95,26 +109,34 @@ pub record ComesOfCheck (before : Files) (system : Text) (p : Product) : Type 0 
   pub read : HasSystem before system parts
   pub is : p ≡ text (canonical_text parts)
 
--- `run` and `run-centered` give what the budget settles of the open search box
-pub record ComesOfRun (before : Files) (system : Text) (s : Settings) (budget : ℕ) (p : Product) : Type 0 where
+-- `run` and `run-centered` give what the budget settles of the open search box, in an order
+pub record ComesOfRun (before : Files) (system : Text) (s : Settings) (order : Order) (budget : ℕ) (p : Product) : Type 0 where
   pub rule : Method
   pub read : HasRule before system s rule
   pub tree : Tree
   pub run : IsPaved (settle_by rule) rule.parts.depth (search_box rule) leaf budget tree
+  pub ordered : IsInOrder order leaf tree
   pub honest : IsHonest s rule tree
   pub is : p ≡ paved (identity_of rule) (search_box rule) tree
 
--- `resume` gives what the budget settles of the join of the files
-pub record ComesOfResume (before : Files) (system : Text) (names : List Text) (s : Settings) (limit budget : ℕ) (p : Product) : Type 0 where
+-- What was settled of an opening by a rule, in an order or of a share, and whether nothing is left of it.
+abbrev pub IsSettledSo : Method → Tree → Order → ℕ → Option Share → Tree → Bool → Type 0
+IsSettledSo rule opening order budget None t done =
+    IsPaved (settle_by rule) rule.parts.depth (search_box rule) opening budget t × IsInOrder order opening t × (done ≡ is_done t)
+IsSettledSo rule opening order budget (Some share) t done = IsSharePaved (settle_by rule) rule.parts.depth (search_box rule) opening share budget t done
+
+-- `resume` gives what the budget settles of the join of the files, in an order or of a share
+pub record ComesOfResume (before : Files) (system : Text) (names : List Text) (s : Settings) (limit : ℕ) (order : Order) (budget : ℕ) (share : Option Share) (p : Product) : Type 0 where
   pub rule : Method
   pub trees : List Tree
   pub opening : Tree
   pub opened : HasOpening before system names s limit rule trees opening
   pub few : settled_in opening + budget ≤ limit
   pub tree : Tree
-  pub run : IsPaved (settle_by rule) rule.parts.depth (search_box rule) opening budget tree
+  pub done : Bool
+  pub run : IsSettledSo rule opening order budget share tree done
   pub honest : AreStages rule trees → IsHonest s rule tree
-  pub is : p ≡ paved (identity_of rule) (search_box rule) tree
+  pub is : p ≡ paved_as (identity_of rule) (search_box rule) tree done
 
 -- `merge` gives the join of the files
 pub record ComesOfMerge (before : Files) (system : Text) (names : List Text) (s : Settings) (limit : ℕ) (p : Product) : Type 0 where
@@ -198,38 +220,38 @@ LearnsHeld rule t =
     → IsStage (settle_by rule) rule.parts.depth (search_box rule) opening t → IsHonest s rule t
 
 -- The rounds settle their budgets of what is kept under the name, and the rows of what came of it are kept.
-abbrev pub HoldsRounds : Method → Stock → Stock → ℕ → ℕ → Rounds → Tree → Type 0
-HoldsRounds rule u v limit boxes rounds t =
-    IsHeld limit (settle_by rule) rule.parts.depth (search_box rule) (identity_of rule) (rounds.count * boxes) (u.kept rounds.name.now) (v.kept rounds.name.now) t
+abbrev pub HoldsRounds : Method → Stock → Stock → ℕ → Order → ℕ → Rounds → Tree → Type 0
+HoldsRounds rule u v limit order boxes rounds t =
+    IsHeld limit (settle_by rule) rule.parts.depth (search_box rule) order (identity_of rule) (rounds.count * boxes) (u.kept rounds.name.now) (v.kept rounds.name.now) t
 
 -- what rounds by a rule give
-pub record ComesOfRounds (rule : Method) (u v : Stock) (limit boxes : ℕ) (rounds : Rounds) (p : Product) : Type 0 where
+pub record ComesOfRounds (rule : Method) (u v : Stock) (limit : ℕ) (order : Order) (boxes : ℕ) (rounds : Rounds) (p : Product) : Type 0 where
   pub tree : Tree
-  pub held : HoldsRounds rule u v limit boxes rounds tree
+  pub held : HoldsRounds rule u v limit order boxes rounds tree
   pub learns : LearnsHeld rule tree
   pub is : p ≡ report_as (summary_of (counts_of tree)) (is_done tree)
 
 -- `campaign` reports on what its rounds settle of what is kept
-pub record ComesOfCampaign (before : Files) (u v : Stock) (system : Text) (s : Settings) (limit boxes : ℕ) (rounds : Rounds) (p : Product) : Type 0 where
+pub record ComesOfCampaign (before : Files) (u v : Stock) (system : Text) (s : Settings) (limit : ℕ) (order : Order) (boxes : ℕ) (rounds : Rounds) (p : Product) : Type 0 where
   pub rule : Method
   pub read : HasRule before system s rule
   pub tree : Tree
-  pub held : HoldsRounds rule u v limit boxes rounds tree
+  pub held : HoldsRounds rule u v limit order boxes rounds tree
   pub honest : IsStage (settle_by rule) rule.parts.depth (search_box rule) leaf held.opening → IsHonest s rule tree
   pub is : p ≡ report_as (summary_of (counts_of tree)) (is_done tree)
 
 -- what comes of a request, over these files and of what was kept before and is kept then
 abbrev pub ComesOf : Files → Stock → Stock → Request → Product → Type 0
 ComesOf before u v (Check system) p = ComesOfCheck before system.now p
-ComesOf before u v (Run system settings effort out) p = ComesOfRun before system.now settings effort.boxes p
-ComesOf before u v (Resume system pavings settings effort out) p =
-    ComesOfResume before system.now (names_in pavings.items) settings effort.limit effort.boxes p
+ComesOf before u v (Run system settings effort out) p = ComesOfRun before system.now settings effort.order effort.boxes p
+ComesOf before u v (Resume system pavings settings effort share out) p =
+    ComesOfResume before system.now (names_in pavings.items) settings effort.limit effort.order effort.boxes share p
 ComesOf before u v (Merge system pavings settings limit out) p = ComesOfMerge before system.now (names_in pavings.items) settings limit p
-ComesOf before u v (Audit system paving settings limit) p = ComesOfAudit before system.now paving.now settings limit p
+ComesOf before u v (Audit system paving settings limit workers) p = ComesOfAudit before system.now paving.now settings limit p
 ComesOf before u v (Svg system paving settings limit view) p = ComesOfSvg before system.now paving.now settings limit view p
 ComesOf before u v (Sample circles) p = ComesOfSample circles p
 ComesOf before u v (Least system settings search) p = ComesOfLeast before system.now settings search p
-ComesOf before u v (Campaign system settings effort rounds) p = ComesOfCampaign before u v system.now settings effort.limit effort.boxes rounds p
+ComesOf before u v (Campaign system settings effort rounds) p = ComesOfCampaign before u v system.now settings effort.limit effort.order effort.boxes rounds p
 
 -- ---- Why nothing comes of them
 
@@ -295,12 +317,12 @@ RefusesSample _ = ⊥
 abbrev pub RefusesWork : Files → Files → Stock → Stock → Request → Refusal → Type 0
 RefusesWork before after u v (Check system) r = RefusesSystem before after system.now r
 RefusesWork before after u v (Run system settings effort out) r = RefusesRule before after system.now settings r
-RefusesWork before after u v (Resume system pavings settings effort out) r =
+RefusesWork before after u v (Resume system pavings settings effort share out) r =
     RefusesJoined before after system.now (names_in pavings.items) settings effort.limit effort.boxes r
 RefusesWork before after u v (Merge system pavings settings limit out) r =
     RefusesJoined before after system.now (names_in pavings.items) settings limit 0 r
-RefusesWork before after u v (Audit system paving settings limit) r = RefusesAudit before after system.now paving.now settings limit r
+RefusesWork before after u v (Audit system paving settings limit workers) r = RefusesAudit before after system.now paving.now settings limit r
 RefusesWork before after u v (Svg system paving settings limit view) r = RefusesSvg before after system.now paving.now settings limit view r
 RefusesWork before after u v (Sample circles) r = RefusesSample r
 RefusesWork before after u v (Least system settings search) r = RefusesLeast before after system.now settings search.of.now r
-RefusesWork before after u v (Campaign system settings effort rounds) r = RefusesCampaign before after u v system.now settings effort.limit effort.boxes rounds r
+RefusesWork before after u v (Campaign system settings effort rounds) r = RefusesCampaign before after u v system.now settings effort.limit effort.order effort.boxes rounds r

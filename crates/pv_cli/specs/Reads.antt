@@ -1,12 +1,12 @@
 -- Pavings that were read, as the code holds them.
-use Rattle.std.specs.Prelude.{◌≡◌, ℕ, Bool, Some, List, [], ◌∷◌, map, length}
+use Rattle.std.specs.Prelude.{◌≡◌, ◌⊎◌, ◌++◌, ℕ, Bool, Some, List, length}
 use Rattle.pv_slope.specs.Methods.{Method, method_of, dims_of, identity_of}
 use Rattle.pv_interval.specs.Bounds.{Bounds}
-use Rattle.pv_tree.specs.Trees.{Tree, Seen, outcome_at}
+use Rattle.pv_tree.specs.Trees.{Tree, outcome_at}
 use Rattle.pv_tree.specs.declared.outcome.Outcome.{Outcome}
 use Rattle.pv_file.specs.Lines.{outcome_line}
 use Rattle.pv_cli.specs.Systems.{Files, search_box}
-use Rattle.pv_cli.specs.Files.{HasPaving, HasOpening}
+use Rattle.pv_cli.specs.Files.{HavePavings, IsJoinOf, RefusesJoin, RefusesPavings, HasOpening}
 use Rattle.pv_cli.specs.declared.request.Settings.{Settings}
 use Rattle.pv_cli.specs.declared.opening.Opening.{Opening}
 use Rattle.pv_cli.specs.declared.refusal.Refusal.{Refusal}
@@ -23,20 +23,26 @@ pub record IsKey (limit : ℕ) (hash : List ℕ) (b : List Bounds) (key : Key) :
 abbrev pub IsKeyOf : Method → ℕ → Key → Type 0
 IsKeyOf rule limit key = IsKey limit (identity_of rule) (search_box rule) key
 
-abbrev pub trees_of : List Seen → List Tree
-trees_of = map (λ p. p.tree)
+-- the files of these names hold pavings of the search box
+abbrev pub AreHeld : Files → ℕ → Method → List (List ℕ) → Type 0
+AreHeld before limit rule names = (ts : List Tree) × HavePavings before limit rule names ts
 
--- the files of these names hold these pavings of the search box
-abbrev pub AreRead : Files → ℕ → Method → List (List ℕ) → List Seen → Type 0
-AreRead before limit rule [] [] = Unit {0}
-AreRead before limit rule [] (p ∷ ps) = ⊥
-AreRead before limit rule (n ∷ ns) [] = ⊥
-AreRead before limit rule (n ∷ ns) (p ∷ ps) = (p.root ≡ search_box rule) × HasPaving before limit rule n p.tree × AreRead before limit rule ns ps
+-- the join of earlier trees and of the pavings in the files of these names
+pub record IsJoinOn (before : Files) (limit : ℕ) (rule : Method) (earlier : List Tree) (names : List (List ℕ)) (t : Tree) : Type 0 where
+  pub later : List Tree
+  pub held : HavePavings before limit rule names later
+  pub join : IsJoinOf (earlier ++ later) t
 
--- pavings over a box
-abbrev pub AreOver : List Bounds → List Seen → Type 0
-AreOver b [] = Unit {0}
-AreOver b (p ∷ ps) = (p.root ≡ b) × AreOver b ps
+-- earlier trees and the pavings in the files have no join
+pub record HasNoJoinOn (before : Files) (limit : ℕ) (rule : Method) (earlier : List Tree) (names : List (List ℕ)) (r : Refusal) : Type 0 where
+  pub later : List Tree
+  pub held : HavePavings before limit rule names later
+  pub refused : RefusesJoin (earlier ++ later) r
+
+-- why there is none: the first refusal of the files in order, and of the joins
+abbrev pub RefusesJoinOn : Files → Files → ℕ → Method → List Tree → List (List ℕ) → Refusal → Type 0
+RefusesJoinOn before after limit rule earlier names r =
+    RefusesPavings before after limit rule names r ⊎ HasNoJoinOn before limit rule earlier names r
 
 -- the line of the outcome at a path
 abbrev pub IsLineAt : Tree → List Bool → List ℕ → Type 0

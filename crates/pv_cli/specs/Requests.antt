@@ -13,8 +13,12 @@ use Rattle.pv_tokens.specs.Numbers.{IsRead}
 use Rattle.pv_cli.specs.Commands.{paver_app}
 use Rattle.pv_slope.specs.declared.form.Form.{Form}
 use Rattle.pv_slope.specs.declared.form.Form.TheVariants.{Plain, Centered}
+use Rattle.pv_scope.specs.declared.order.Order.{Order}
+use Rattle.pv_scope.specs.declared.order.Order.TheVariants.{Depth, Level}
+use Rattle.pv_scope.specs.declared.share.Share.{Share}
 use Rattle.pv_cli.specs.declared.request.Settings.{Settings}
 use Rattle.pv_cli.specs.declared.request.Effort.{Effort}
+use Rattle.pv_cli.specs.declared.request.Workers.{Workers}
 use Rattle.pv_cli.specs.declared.request.View.{View}
 use Rattle.pv_cli.specs.declared.request.Circles.{Circles}
 use Rattle.pv_cli.specs.declared.request.Search.{Search}
@@ -68,6 +72,24 @@ AreLevels [] (n ∷ ns) = ⊥
 AreLevels (t ∷ ts) [] = ⊥
 AreLevels (t ∷ ts) (n ∷ ns) = IsLevel t n × AreLevels ts ns
 
+-- the words between slashes
+abbrev pub words_by_slash : Text → List Text
+words_by_slash t = slice_split (λ c. c == 47) t
+
+-- two numbers with a slash between them, `number/of`: a share of the open leaves
+pub record IsShare (t : Text) (s : Share) : Type 0 where
+  pub number : Text
+  pub of : Text
+  pub words : words_by_slash t ≡ number ∷ of ∷ []
+  pub number_is : IsDigits number s.number
+  pub of_is : IsDigits of s.of
+  pub less : s.number < s.of
+  pub few : s.of ≤ 1000000
+
+abbrev pub order_name : Order → Text
+order_name Depth = codes "depth"
+order_name Level = codes "level"
+
 abbrev pub form_name : Form → Text
 form_name Plain = codes "plain"
 form_name Centered = codes "centered"
@@ -109,6 +131,9 @@ workers_text = value_of (codes "workers") (codes "4")
 abbrev pub boxes_text : List Row → Text
 boxes_text = value_of (codes "boxes") (codes "20000")
 
+abbrev pub order_text : List Row → Text
+order_text = value_of (codes "order") (codes "depth")
+
 -- the settings that the options give of a command which has a form by itself
 pub record AreSettings (usual : Form) (rows : List Row) (s : Settings) : Type 0 where
   pub eps : IsWidth (eps_text rows) s.eps
@@ -121,11 +146,32 @@ pub record AreSettings (usual : Form) (rows : List Row) (s : Settings) : Type 0 
 abbrev pub IsNodeLimit : List Row → ℕ → Type 0
 IsNodeLimit rows n = IsCount 100000 100000000 (limit_text rows) n
 
--- the threads, the budget and the limit that the options give
+-- the threads that the options give
+abbrev pub AreWorkers : List Row → Workers → Type 0
+AreWorkers rows w = IsCount 1 16 (workers_text rows) w.count
+
+-- the threads, the budget, the limit and the order that the options give
 pub record IsEffort (rows : List Row) (e : Effort) : Type 0 where
   pub limit : IsNodeLimit rows e.limit
   pub workers : IsCount 1 16 (workers_text rows) e.workers
   pub boxes : IsCount 1 e.limit (boxes_text rows) e.boxes
+  pub order : order_text rows ≡ order_name e.order
+
+-- The share that the text of `--share` gives, and none where it isn't given. A share has an order of its own, so another one
+-- is refused beside it.
+abbrev pub IsShareIn : Order → Option Text → Option Share → Type 0
+IsShareIn order None None = Unit {0}
+IsShareIn order None (Some s) = ⊥
+IsShareIn Depth (Some t) None = ⊥
+IsShareIn Depth (Some t) (Some s) = IsShare t s
+IsShareIn Level (Some t) share = ⊥
+
+-- the text of `--share` gives none, or is given beside an order
+abbrev pub HasNoShare : Order → Option Text → Type 0
+HasNoShare order text = (share : Option Share) → IsShareIn order text share → ⊥
+
+abbrev pub HasBadShare : List Row → Type 0
+HasBadShare rows = (order : Order) → order_text rows ≡ order_name order → HasNoShare order (first_of (codes "share") rows)
 
 -- the name of the system
 abbrev pub system_name : List Row → Text
@@ -200,15 +246,20 @@ pub data HasBadSetting (usual : Form) (rows : List Row) : Type 0 where
 abbrev pub HasBadLimit : List Row → Type 0
 HasBadLimit rows = (n : ℕ) → IsNodeLimit rows n → ⊥
 
+-- so is the number of threads
+abbrev pub HasBadWorkers : List Row → Type 0
+HasBadWorkers rows = (n : ℕ) → IsCount 1 16 (workers_text rows) n → ⊥
+
 -- so is the budget, which the limit bounds
 abbrev pub HasBadBoxes : List Row → Type 0
 HasBadBoxes rows = (n : ℕ) → IsCount 1 (limit_value rows) (boxes_text rows) n → ⊥
 
--- so is the limit, the number of threads, or the budget
+-- so is the limit, the number of threads, the budget, or the order
 pub data HasBadEffort (rows : List Row) : Type 0 where
   bad_limit : HasBadLimit rows → HasBadEffort rows
-  bad_workers : ((n : ℕ) → IsCount 1 16 (workers_text rows) n → ⊥) → HasBadEffort rows
+  bad_workers : HasBadWorkers rows → HasBadEffort rows
   bad_boxes : HasBadBoxes rows → HasBadEffort rows
+  bad_order : ((o : Order) → order_text rows ≡ order_name o → ⊥) → HasBadEffort rows
 
 -- so is the limit or the budget of a search
 abbrev pub HasBadBudget : List Row → Type 0
@@ -263,9 +314,9 @@ name_of keeps = codes "campaign"
 abbrev pub HasBadValueFor : Command → List Row → Type 0
 HasBadValueFor checks rows = ⊥
 HasBadValueFor (runs usual) rows = HasBadSetting usual rows ⊎ HasBadEffort rows
-HasBadValueFor resumes rows = HasManyPavings rows ⊎ (HasBadSetting Plain rows ⊎ HasBadEffort rows)
+HasBadValueFor resumes rows = HasManyPavings rows ⊎ (HasBadSetting Plain rows ⊎ (HasBadEffort rows ⊎ HasBadShare rows))
 HasBadValueFor merges rows = HasManyPavings rows ⊎ (HasBadSetting Plain rows ⊎ HasBadLimit rows)
-HasBadValueFor (audits usual) rows = HasBadSetting usual rows ⊎ HasBadLimit rows
+HasBadValueFor (audits usual) rows = HasBadSetting usual rows ⊎ (HasBadLimit rows ⊎ HasBadWorkers rows)
 HasBadValueFor draws rows = HasBadLevels rows ⊎ (HasBadSetting Plain rows ⊎ HasBadLimit rows)
 HasBadValueFor samples rows = HasBadCircles rows
 HasBadValueFor seeks rows = HasBadSetting Plain rows ⊎ HasBadBudget rows
@@ -286,15 +337,15 @@ abbrev pub IsAskedBy : Text → List Row → Request → Type 0
 IsAskedBy command rows (Check system) = (command ≡ codes "check") × (system.now ≡ system_name rows)
 IsAskedBy command rows (Run system settings effort out) =
     IsByForm run_name command rows settings × (system.now ≡ system_name rows) × IsEffort rows effort × IsOut rows out
-IsAskedBy command rows (Resume system pavings settings effort out) =
+IsAskedBy command rows (Resume system pavings settings effort share out) =
     (command ≡ codes "resume") × (system.now ≡ system_name rows) × ArePavings rows pavings.items × AreSettings Plain rows settings
-    × IsEffort rows effort × IsOut rows out
+    × IsEffort rows effort × IsShareIn effort.order (first_of (codes "share") rows) share × IsOut rows out
 IsAskedBy command rows (Merge system pavings settings limit out) =
     (command ≡ codes "merge") × (system.now ≡ system_name rows) × ArePavings rows pavings.items × AreSettings Plain rows settings
     × IsNodeLimit rows limit × IsOut rows out
-IsAskedBy command rows (Audit system paving settings limit) =
+IsAskedBy command rows (Audit system paving settings limit workers) =
     IsByForm audit_name command rows settings × (system.now ≡ system_name rows) × (paving.now ≡ value_of (codes "PAVING") [] rows)
-    × IsNodeLimit rows limit
+    × IsNodeLimit rows limit × AreWorkers rows workers
 IsAskedBy command rows (Svg system paving settings limit view) =
     (command ≡ codes "svg") × (system.now ≡ system_name rows) × (paving.now ≡ value_of (codes "PAVING") [] rows)
     × AreSettings Plain rows settings × IsNodeLimit rows limit × IsView rows view
@@ -324,9 +375,9 @@ AreRefused words = (fault_of paver_app words ≢ []) ⊎ HasBadValueIn (subcomma
 abbrev pub out_of : Request → Option Text
 out_of (Check system) = None
 out_of (Run system settings effort out) = option_map (λ name. name.now) out
-out_of (Resume system pavings settings effort out) = option_map (λ name. name.now) out
+out_of (Resume system pavings settings effort share out) = option_map (λ name. name.now) out
 out_of (Merge system pavings settings limit out) = option_map (λ name. name.now) out
-out_of (Audit system paving settings limit) = None
+out_of (Audit system paving settings limit workers) = None
 out_of (Svg system paving settings limit view) = None
 out_of (Sample circles) = None
 out_of (Least system settings search) = None
@@ -336,9 +387,9 @@ out_of (Campaign system settings effort rounds) = None
 abbrev pub campaign_of : Request → Option Text
 campaign_of (Check system) = None
 campaign_of (Run system settings effort out) = None
-campaign_of (Resume system pavings settings effort out) = None
+campaign_of (Resume system pavings settings effort share out) = None
 campaign_of (Merge system pavings settings limit out) = None
-campaign_of (Audit system paving settings limit) = None
+campaign_of (Audit system paving settings limit workers) = None
 campaign_of (Svg system paving settings limit view) = None
 campaign_of (Sample circles) = None
 campaign_of (Least system settings search) = None

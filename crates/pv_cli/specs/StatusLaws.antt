@@ -1,10 +1,14 @@
 -- What each status says, of what was asked for, of the files and of what was printed.
-use Rattle.std.specs.Prelude.{◌≡◌, ◌≢◌, ◌⊎◌, ◌+◌, ◌*◌, ℕ, List, [], Some, None}
+use Rattle.std.specs.Prelude.{◌≡◌, ◌≢◌, ◌⊎◌, ◌+◌, ◌*◌, ℕ, true, false, List, [], Option, Some, None}
 use Rattle.clap.specs.Words.{Text}
 use Rattle.pv_tree.specs.Trees.{Tree, leaf, opens, counts_of}
 use Rattle.pv_tree.specs.Stages.{IsStage}
 use Rattle.pv_slope.specs.Methods.{Method, settle_by, identity_of}
 use Rattle.pv_io.specs.Outside.{Rose}
+use Rattle.pv_scope.specs.Orders.{IsInOrder}
+use Rattle.pv_scope.specs.Settlings.{IsClosed, IsFullThere, LeavesOthers}
+use Rattle.pv_scope.specs.declared.order.Order.{Order}
+use Rattle.pv_scope.specs.declared.share.Share.{Share}
 use Rattle.pv_cli.specs.Requests.{names_in, out_of, Asks, AreRefused}
 use Rattle.pv_cli.specs.Refusals.{status_of, line_of}
 use Rattle.pv_cli.specs.Systems.{Files, HasRule, search_box}
@@ -14,7 +18,7 @@ use Rattle.pv_cli.specs.Leasts.{HasLeast, next_in, least_text}
 use Rattle.pv_keep.specs.Keeping.{Kept}
 use Rattle.pv_keep.specs.Campaigns.{IsOpened, IsSaved}
 use Rattle.pv_cli.specs.Campaigns.{Stock, IsSameStock, AllRowsStay}
-use Rattle.pv_cli.specs.Products.{Product, text, unfinished, paved, summary_of, IsHonest, AreStages, full_by, ComesOf, ComesOfCheck, ComesOfAudit, ComesOfSvg, ComesOfSample, RefusesWork}
+use Rattle.pv_cli.specs.Products.{Product, text, unfinished, paved, paved_as, summary_of, IsHonest, AreStages, full_by, ComesOf, ComesOfCheck, ComesOfAudit, ComesOfSvg, ComesOfSample, RefusesWork}
 use Rattle.pv_cli.specs.Ends.{Outside, AreUntouched, IsDelivered, IsCutOff, IsLost, IsTold, IsEnd}
 use Rattle.pv_cli.specs.declared.request.Settings.{Settings}
 use Rattle.pv_cli.specs.declared.request.Circles.{Circles}
@@ -29,7 +33,7 @@ use Rattle.pv_cli.specs.declared.refusal.Refusal.TheVariants as refusal
 use Rattle.pv_cli.specs.declared.status.Status.{Status}
 use Rattle.pv_cli.specs.declared.status.Status.TheVariants.{Done, OpenLeft, Usage, SystemRefused, PavingRefused, ReadFault, WriteFault, WantOfMemory, TreeLimit, Disagree, KeeperFault, NoFile}
 
--- ---- Status 0: no leaf is open
+-- ---- Status 0: no leaf is open, or none at or below a share
 
 -- the full tree of the open search box
 pub record IsFullRun (before : Files) (system : Text) (s : Settings) (p : Product) : Type 0 where
@@ -75,12 +79,33 @@ pub record IsFullCampaign (before : Files) (u v : Stock) (system : Text) (s : Se
   pub honest : IsStage (settle_by rule) rule.parts.depth (search_box rule) leaf opening → IsHonest s rule (full_by rule opening)
   pub is : p ≡ text (summary_of (counts_of (full_by rule opening)))
 
+-- The join of the files with a share of its leaves settled to the end: there it is the full tree, and all other leaves are as
+-- they were.
+pub record IsFullShare (before : Files) (system : Text) (names : List Text) (s : Settings) (limit : ℕ) (share : Share) (p : Product) : Type 0 where
+  pub rule : Method
+  pub trees : List Tree
+  pub opening : Tree
+  pub opened : HasOpening before system names s limit rule trees opening
+  pub tree : Tree
+  pub stage : IsStage (settle_by rule) rule.parts.depth (search_box rule) opening tree
+  pub others : LeavesOthers share.number share.of opening tree
+  pub closed : IsClosed share.number share.of opening tree
+  pub full : IsFullThere (settle_by rule) rule.parts.depth (search_box rule) share.number share.of opening tree
+  pub honest : AreStages rule trees → IsHonest s rule tree
+  pub is : p ≡ paved_as (identity_of rule) (search_box rule) tree true
+
+-- all leaves of the join, or a share of them
+abbrev pub IsWholeResume : Files → Text → List Text → Settings → ℕ → Option Share → Product → Type 0
+IsWholeResume before system names s limit None p = IsFullResume before system names s limit p
+IsWholeResume before system names s limit (Some share) p = IsFullShare before system names s limit share p
+
 abbrev pub IsWhole : Files → Stock → Stock → Request → Product → Type 0
 IsWhole before u v (Check system) p = ComesOfCheck before system.now p
 IsWhole before u v (Run system settings effort out) p = IsFullRun before system.now settings p
-IsWhole before u v (Resume system pavings settings effort out) p = IsFullResume before system.now (names_in pavings.items) settings effort.limit p
+IsWhole before u v (Resume system pavings settings effort share out) p =
+    IsWholeResume before system.now (names_in pavings.items) settings effort.limit share p
 IsWhole before u v (Merge system pavings settings limit out) p = IsClosedJoin before system.now (names_in pavings.items) settings limit p
-IsWhole before u v (Audit system paving settings limit) p = ComesOfAudit before system.now paving.now settings limit p
+IsWhole before u v (Audit system paving settings limit workers) p = ComesOfAudit before system.now paving.now settings limit p
 IsWhole before u v (Svg system paving settings limit view) p = ComesOfSvg before system.now paving.now settings limit view p
 IsWhole before u v (Sample circles) p = ComesOfSample circles p
 IsWhole before u v (Least system settings search) p = IsFinalLeast before system.now settings search p
@@ -98,7 +123,7 @@ pub record IsDelivery (says : Files → Stock → Stock → Request → Product 
 abbrev pub DoneIsWhole : Type 0
 DoneIsWhole = (words : List Text) (before after : Outside) → IsEnd words before after Done → IsDelivery IsWhole words before after
 
--- ---- Status 1: a leaf is open
+-- ---- Status 1: a leaf is open, or one at or below a share
 
 -- exactly the budget was settled of what the work began with, and that is not enough
 pub record IsCutShort (rule : Method) (opening : Tree) (budget : ℕ) (t : Tree) : Type 0 where
@@ -106,23 +131,45 @@ pub record IsCutShort (rule : Method) (opening : Tree) (budget : ℕ) (t : Tree)
   pub spent : settled_in t ≡ settled_in opening + budget
   pub short : FullFits (settle_by rule) rule.parts.depth (search_box rule) opening budget → ⊥
 
-pub record IsPartRun (before : Files) (system : Text) (s : Settings) (budget : ℕ) (p : Product) : Type 0 where
+pub record IsPartRun (before : Files) (system : Text) (s : Settings) (order : Order) (budget : ℕ) (p : Product) : Type 0 where
   pub rule : Method
   pub read : HasRule before system s rule
   pub tree : Tree
   pub part : IsCutShort rule leaf budget tree
+  pub ordered : IsInOrder order leaf tree
   pub honest : IsHonest s rule tree
   pub is : p ≡ paved (identity_of rule) (search_box rule) tree
 
-pub record IsPartResume (before : Files) (system : Text) (names : List Text) (s : Settings) (limit budget : ℕ) (p : Product) : Type 0 where
+pub record IsPartResume (before : Files) (system : Text) (names : List Text) (s : Settings) (limit : ℕ) (order : Order) (budget : ℕ) (p : Product) : Type 0 where
   pub rule : Method
   pub trees : List Tree
   pub opening : Tree
   pub opened : HasOpening before system names s limit rule trees opening
   pub tree : Tree
   pub part : IsCutShort rule opening budget tree
+  pub ordered : IsInOrder order opening tree
   pub honest : AreStages rule trees → IsHonest s rule tree
   pub is : p ≡ paved (identity_of rule) (search_box rule) tree
+
+-- The join of the files with exactly the budget settled of a share of its leaves, of which one is open at or below the share.
+-- All other leaves are as they were.
+pub record IsPartShare (before : Files) (system : Text) (names : List Text) (s : Settings) (limit budget : ℕ) (share : Share) (p : Product) : Type 0 where
+  pub rule : Method
+  pub trees : List Tree
+  pub opening : Tree
+  pub opened : HasOpening before system names s limit rule trees opening
+  pub tree : Tree
+  pub stage : IsStage (settle_by rule) rule.parts.depth (search_box rule) opening tree
+  pub others : LeavesOthers share.number share.of opening tree
+  pub open_left : IsClosed share.number share.of opening tree → ⊥
+  pub spent : settled_in tree ≡ settled_in opening + budget
+  pub honest : AreStages rule trees → IsHonest s rule tree
+  pub is : p ≡ paved_as (identity_of rule) (search_box rule) tree false
+
+-- all leaves of the join, or a share of them
+abbrev pub IsCutShortResume : Files → Text → List Text → Settings → ℕ → Order → ℕ → Option Share → Product → Type 0
+IsCutShortResume before system names s limit order budget None p = IsPartResume before system names s limit order budget p
+IsCutShortResume before system names s limit order budget (Some share) p = IsPartShare before system names s limit budget share p
 
 -- the join of the files, with an open leaf
 pub record IsOpenJoin (before : Files) (system : Text) (names : List Text) (s : Settings) (limit : ℕ) (p : Product) : Type 0 where
@@ -142,7 +189,7 @@ pub record IsPartLeast (before : Files) (system : Text) (s : Settings) (search :
   pub is : p ≡ unfinished (least_text least)
 
 -- Exactly the budgets of all rounds were settled of it, and that is not enough; the rows of what came of it are kept now.
-pub record IsPartCampaign (before : Files) (u v : Stock) (system : Text) (s : Settings) (limit boxes : ℕ) (rounds : Rounds) (p : Product) : Type 0 where
+pub record IsPartCampaign (before : Files) (u v : Stock) (system : Text) (s : Settings) (limit : ℕ) (order : Order) (boxes : ℕ) (rounds : Rounds) (p : Product) : Type 0 where
   pub rule : Method
   pub read : HasRule before system s rule
   pub opening : Tree
@@ -150,21 +197,22 @@ pub record IsPartCampaign (before : Files) (u v : Stock) (system : Text) (s : Se
   pub opened : IsOpened limit (u.kept rounds.name.now) middle (identity_of rule) (search_box rule) opening
   pub tree : Tree
   pub part : IsCutShort rule opening (rounds.count * boxes) tree
+  pub ordered : IsInOrder order opening tree
   pub kept : IsSaved middle (v.kept rounds.name.now) tree
   pub honest : IsStage (settle_by rule) rule.parts.depth (search_box rule) leaf opening → IsHonest s rule tree
   pub is : p ≡ unfinished (summary_of (counts_of tree))
 
 abbrev pub IsPart : Files → Stock → Stock → Request → Product → Type 0
 IsPart before u v (Check system) p = ⊥
-IsPart before u v (Run system settings effort out) p = IsPartRun before system.now settings effort.boxes p
-IsPart before u v (Resume system pavings settings effort out) p =
-    IsPartResume before system.now (names_in pavings.items) settings effort.limit effort.boxes p
+IsPart before u v (Run system settings effort out) p = IsPartRun before system.now settings effort.order effort.boxes p
+IsPart before u v (Resume system pavings settings effort share out) p =
+    IsCutShortResume before system.now (names_in pavings.items) settings effort.limit effort.order effort.boxes share p
 IsPart before u v (Merge system pavings settings limit out) p = IsOpenJoin before system.now (names_in pavings.items) settings limit p
-IsPart before u v (Audit system paving settings limit) p = ⊥
+IsPart before u v (Audit system paving settings limit workers) p = ⊥
 IsPart before u v (Svg system paving settings limit view) p = ⊥
 IsPart before u v (Sample circles) p = ⊥
 IsPart before u v (Least system settings search) p = IsPartLeast before system.now settings search p
-IsPart before u v (Campaign system settings effort rounds) p = IsPartCampaign before u v system.now settings effort.limit effort.boxes rounds p
+IsPart before u v (Campaign system settings effort rounds) p = IsPartCampaign before u v system.now settings effort.limit effort.order effort.boxes rounds p
 
 abbrev pub OpenLeftIsPart : Type 0
 OpenLeftIsPart = (words : List Text) (before after : Outside) → IsEnd words before after OpenLeft → IsDelivery IsPart words before after

@@ -14,8 +14,9 @@ use crate::honest::learn_honest;
 use crate::opening::line_at;
 use crate::pavings::{Key, paving_in};
 use crate::product::Product;
-use crate::request::Settings;
+use crate::request::{Settings, Workers};
 use crate::system::settler_in;
+use pv_audit::audit_by_workers;
 use pv_file::write_outcome;
 use pv_io::Folder;
 use pv_join::Audit;
@@ -23,15 +24,18 @@ use pv_num::Memory;
 use pv_slope::FormSettler;
 use pv_tree::{NodeLimit, Outcome, Path, Paving};
 use std::alloc::Global;
+use std::thread::Threads;
 
-/// Says that the paving in a file is a stage of the open search box of the system in another,.
-pub(crate) fn audit<'a, F: Folder>(
+/// Says that the paving in a file is a stage of the open search box of the system in another.
+pub(crate) fn audit<'a, F: Folder, R: Threads + Sync>(
+    rt: &R,
     alloc: Global,
     folder: &mut F,
     system: &'a str,
     name: &'a str,
     settings: &Settings<'a>,
     limit: NodeLimit,
+    workers: &Workers,
 ) -> Result<Product, Refusal<'a>>
     ensures read { AreOnlyRead
         (files (F.content folder.old) (F.fetch_faults folder.old) (F.store_faults folder.old))
@@ -55,14 +59,16 @@ pub(crate) fn audit<'a, F: Folder>(
         Ok(paving) => paving,
         Err(refusal) => return Err(refusal),
     };
-    audited(alloc, &settler, &paving)
+    audited(rt, alloc, &settler, &paving, workers)
 }
 
 // Says that a paving of the search box is a stage of the open one.
-fn audited<'a>(
+fn audited<'a, R: Threads + Sync>(
+    rt: &R,
     alloc: Global,
     settler: &FormSettler,
     paving: &Paving,
+    workers: &Workers,
 ) -> Result<Product, Refusal<'a>>
     requires root { paving.now.root ≡ search_box (method_of settler.now) }
     requires dims { length paving.now.root ≡ dims_of (method_of settler.now) }
@@ -71,7 +77,7 @@ fn audited<'a>(
     ensures other { IfErr result
         (IsFoundOther (method_of settler.now) paving.now.tree) }
 {
-    match pv_join::audit(alloc, settler, paving)? {
+    match audit_by_workers(rt, alloc, settler, paving, workers.count)? {
         Audit::Honest => {
             learn_honest(paving, settler);
             Ok(Product::Text(Vec::from_slice(alloc, b"honest\n")?))

@@ -8,7 +8,7 @@ ghost use Rattle.pv_cli.specs.Made.{made};
 ghost use Rattle.pv_tree.specs.Trees.{counts_of};
 
 use crate::honest::learn_honest;
-use crate::product::{Product, told};
+use crate::product::{Product, is_closed, told};
 use crate::request::{Effort, Rounds, Settings};
 use crate::summary::summary;
 use crate::system::settler_in;
@@ -48,14 +48,14 @@ pub(crate) fn campaign<'a, F: Folder, P: Keeper, G: Gate + Sync, R: Threads + Wa
         (files (F.content folder.old) (F.fetch_faults folder.old) (F.store_faults folder.old))
         (stock (P.kept keeper.old) (P.faults keeper.old))
         (stock (P.kept keeper.new) (P.faults keeper.new))
-        system.now settings.now effort.now.limit effort.now.boxes rounds.now (made p)) }
+        system.now settings.now effort.now.limit effort.now.order effort.now.boxes rounds.now (made p)) }
     ensures refused { IfErr result
         (RefusesCampaign
         (files (F.content folder.old) (F.fetch_faults folder.old) (F.store_faults folder.old))
         (files (F.content folder.new) (F.fetch_faults folder.new) (F.store_faults folder.new))
         (stock (P.kept keeper.old) (P.faults keeper.old))
         (stock (P.kept keeper.new) (P.faults keeper.new))
-        system.now settings.now effort.now.limit effort.now.boxes rounds.now) }
+        system.now settings.now effort.now.limit effort.now.order effort.now.boxes rounds.now) }
 {
     let settler = match settler_in(alloc, folder, system, settings) {
         Ok(settler) => settler,
@@ -80,13 +80,13 @@ fn gone_on<'a, P: Keeper, G: Gate + Sync, R: Threads + Wait + Sync>(
     ensures comes { IfOk result
         (λ p. ComesOfRounds (method_of settler.now)
         (stock (P.kept keeper.old) (P.faults keeper.old))
-        (stock (P.kept keeper.new) (P.faults keeper.new)) effort.now.limit effort.now.boxes
-        rounds.now (made p)) }
+        (stock (P.kept keeper.new) (P.faults keeper.new)) effort.now.limit effort.now.order
+        effort.now.boxes rounds.now (made p)) }
     ensures refused { IfErr result
         (RefusesRounds (method_of settler.now)
         (stock (P.kept keeper.old) (P.faults keeper.old))
-        (stock (P.kept keeper.new) (P.faults keeper.new)) effort.now.limit effort.now.boxes
-        rounds.now) }
+        (stock (P.kept keeper.new) (P.faults keeper.new)) effort.now.limit effort.now.order
+        effort.now.boxes rounds.now) }
 {
     let identity = settler.identity(alloc)?;
     let root = settler.search_box(alloc)?;
@@ -94,6 +94,7 @@ fn gone_on<'a, P: Keeper, G: Gate + Sync, R: Threads + Wait + Sync>(
         count: rounds.count,
         boxes: effort.boxes,
         workers: effort.workers,
+        order: effort.order,
         limit: effort.limit,
     };
     let held = hold(
@@ -124,7 +125,7 @@ fn reported(alloc: Global, settler: &FormSettler, campaign: &Campaign) -> Result
 {
     let paving = campaign.paving();
     learn_held(paving, settler);
-    let done = paving.first_open().is_none();
+    let done = is_closed(paving);
     Ok(told(summary(alloc, paving)?, done))
 }
 

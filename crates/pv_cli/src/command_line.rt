@@ -99,7 +99,7 @@ fn resume<'a>(alloc: Global) -> Result<Command<'a>, AllocError>
 {
     let command = with_settings(pavings(alloc, "resume")?, alloc)?;
     let command = with_option(with_effort(command, alloc)?, alloc, "out")?;
-    with_limit_and_form(command, alloc)
+    with_limit_and_form(with_option(command, alloc, "share")?, alloc)
 }
 
 fn merge<'a>(alloc: Global) -> Result<Command<'a>, AllocError>
@@ -114,7 +114,8 @@ fn audit<'a>(alloc: Global, name: &'a str) -> Result<Command<'a>, AllocError>
     ensures app { IfOk result (λ c. app_of c ≡ audit_app name.entry.now) }
     ensures local { IfOk result (λ c. (out-Command c).has_globals ≡ false) }
 {
-    with_option(with_settings(paving(alloc, name)?, alloc)?, alloc, "limit")
+    let command = with_settings(paving(alloc, name)?, alloc)?;
+    with_option(with_option(command, alloc, "limit")?, alloc, "workers")
 }
 
 fn svg<'a>(alloc: Global) -> Result<Command<'a>, AllocError>
@@ -203,7 +204,8 @@ fn with_effort<'a>(command: Command<'a>, alloc: Global) -> Result<Command<'a>, A
     ensures local { IfOk result (λ c. (out-Command c).has_globals ≡ false) }
 {
     let command = with_option(command, alloc, "workers")?;
-    with_option(command, alloc, "boxes")
+    let command = with_option(command, alloc, "boxes")?;
+    with_option(command, alloc, "order")
 }
 
 fn with_limit_and_form<'a>(command: Command<'a>, alloc: Global) -> Result<Command<'a>, AllocError>

@@ -1,13 +1,13 @@
 //! Stores and prints what comes of a command's work.
-ghost use Rattle.std.specs.Prelude.{◌≡◌, ◌≢◌, ◌⊎◌, ◌≤◌, ◌++◌, [], option_map, IfOk, IfErr, OnOk, length};
-ghost use Rattle.pv_tree.specs.Trees.{opens, counts_of};
+ghost use Rattle.std.specs.Prelude.{◌≡◌, ◌≤◌, ◌++◌, option_map, IfOk, IfErr, OnOk, length};
+ghost use Rattle.pv_tree.specs.Trees.{counts_of};
 ghost use Rattle.pv_io.specs.Outside.{appended};
 ghost use Rattle.pv_file.specs.Lines.{lines_of};
 ghost use Rattle.pv_file.specs.Texts.{file_text};
 ghost use Rattle.pv_svg.specs.Texts.{picture_text};
 ghost use Rattle.pv_file.specs.declared.version.Version.TheVariants as version;
 ghost use Rattle.pv_cli.specs.Systems.{files};
-ghost use Rattle.pv_cli.specs.Products.{summary_of, HasStatus};
+ghost use Rattle.pv_cli.specs.Products.{summary_of, status_by, HasStatus};
 ghost use Rattle.pv_cli.specs.Ends.{stream, IsDelivered, RefusesDelivery, IsStored};
 ghost use Rattle.pv_cli.specs.Printing.{RefusesStore, RefusesPrint};
 ghost use Rattle.pv_cli.specs.Made.{made};
@@ -64,26 +64,30 @@ pub(crate) fn deliver<'a, F: Folder, K: Sink, R: Threads + Sync>(
             print_picture(alloc, out, picture)?;
             Ok(Status::Done)
         }
-        (Product::Paved { paving, .. }, None) => {
+        (Product::Paved { paving, done, .. }, None) => {
             print_paving(rt, alloc, out, paving, workers)?;
-            Ok(status_of(paving))
+            Ok(status_when(*done))
         }
-        (Product::Paved { identity, paving }, Some(name)) => {
+        (
+            Product::Paved {
+                identity,
+                paving,
+                done,
+            },
+            Some(name),
+        ) => {
             store(rt, alloc, folder, name, *identity, paving, workers)?;
             print_summary(alloc, out, paving)?;
-            Ok(status_of(paving))
+            Ok(status_when(*done))
         }
     }
 }
 
-fn status_of(paving: &Paving) -> Status
-    ensures { ((result ≡ Status.Done) × (opens paving.now.tree ≡ []))
-        ⊎ ((result ≡ Status.OpenLeft) × (opens paving.now.tree ≢ [])) }
+// The status of work that is done, or was cut short.
+fn status_when(done: bool) -> Status
+    ensures { result ≡ status_by done }
 {
-    match paving.first_open() {
-        None => Status::Done,
-        Some(_) => Status::OpenLeft,
-    }
+    if done { Status::Done } else { Status::OpenLeft }
 }
 
 // Stores the text of a paving's file.

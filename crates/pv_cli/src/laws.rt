@@ -1,12 +1,16 @@
 //! What follows from how commands end, as contracts. Each holds by its contract alone, and the
 //! calls do nothing.
 ghost use Rattle.pv_cli.specs.Merges.{JoinAlike, MergesEndAlike, MergesAreTakenAlike};
+ghost use Rattle.pv_cli.specs.Shares.{SharesJoin, DoneSharesAreWhole};
 ghost use Rattle.pv_cli.specs.CampaignLaws.{
   KeeperFaultBreaksOff,
   MemoryKeepsRows,
   OtherNamesStay,
   OthersLeaveKeeper,
 };
+ghost use Rattle.pv_cli.specs.Headline.{CompletedAreAlike};
+ghost use Rattle.pv_cli.specs.Complete.{RightIsAnswered};
+ghost use Rattle.pv_cli.specs.Stored.{StoredIsWanted, WantedAreStages, WrittenIsWanted};
 ghost use Rattle.pv_cli.specs.StatusLaws.{
   DoneIsWhole,
   OpenLeftIsPart,
@@ -28,16 +32,52 @@ pub fn merges_alike()
     ensures taken { MergesAreTakenAlike }
 {}
 
-/// With status 0 no leaf is open: what was printed and stored is of the full tree. Of `least` no
-/// leaf is open in which the value may be as low as at the best point. Of `campaign` the rows of
-/// the full tree are kept.
+/// Calls for shares of one opening may be made by anyone, often, in any order and with budgets that
+/// end: what they make joins to a stage of the opening, in which each share is done that is done in
+/// one of them, and joins of such joins too. Where each share of a number of them has a done answer,
+/// the join is the full tree of the opening.
+pub fn shares_join()
+    ensures joins { SharesJoin }
+    ensures whole { DoneSharesAreWhole }
+{}
+
+/// Pavings of one system by the same settings are one paving once they are completed: two commands
+/// that end with status 0, here or on two machines, anew or from files that are stages, in any order,
+/// by any number of workers and with any budgets, deliver the same bytes.
+pub fn completed_alike()
+    ensures { CompletedAreAlike }
+{}
+
+/// What this program stored is what it wants of a file. A paving that `run`, `resume` or `merge`
+/// stored with status 0 or 1, anew or from stages, is read back for the same system and settings as
+/// that very stage of the search box, wherever it lies and with every limit that is no less; and
+/// files that are wanted are stages. So is all that was written by any chain of such commands.
+pub fn stored_is_wanted()
+    ensures stored { StoredIsWanted }
+    ensures stages { WantedAreStages }
+    ensures written { WrittenIsWanted }
+{}
+
+/// Nothing at fault means an answer. Where words ask for `check`, `run`, `run-centered` or `sample`,
+/// the text means a system and the settings give a rule, the status is 0 or 1; or there was no
+/// memory, or a read, a store or a write failed in this call.
+pub fn right_is_answered()
+    ensures { RightIsAnswered }
+{}
+
+/// With status 0 no leaf is open: what was printed and stored is of the full tree. Of a share none is
+/// open at or below it, and what stands there is that of the full tree. Of `least` no leaf is open in
+/// which the value may be as low as at the best point. Of `campaign` the rows of the full tree are
+/// kept.
 pub fn done()
     ensures { DoneIsWhole }
 {}
 
 /// With status 1 a leaf is open, and `run` and `resume` settled exactly their budget, which is not
-/// enough. Of `least` a leaf is open in which the value may be as low as at the best point.
-/// `campaign` settled and kept exactly the budgets of its rounds, which are not enough.
+/// enough; by levels, the lengths of open and of settled paths lie within a pass of each other. Of a
+/// share a leaf is open at or below it, and exactly the budget was settled. Of `least` a leaf is open
+/// in which the value may be as low as at the best point. `campaign` settled and kept exactly the
+/// budgets of its rounds, which are not enough.
 pub fn open_left()
     ensures { OpenLeftIsPart }
 {}

@@ -187,8 +187,11 @@ fn work<'a, F: Folder, P: Keeper, G: Gate + Sync, R: Threads + Wait + Sync>(
             pavings,
             settings,
             effort,
+            share,
             out: _,
-        } => resume(rt, alloc, folder, *system, pavings, settings, effort, gate),
+        } => resume(
+            rt, alloc, folder, *system, pavings, settings, effort, *share, gate,
+        ),
         Request::Merge {
             system,
             pavings,
@@ -201,7 +204,10 @@ fn work<'a, F: Folder, P: Keeper, G: Gate + Sync, R: Threads + Wait + Sync>(
             paving,
             settings,
             limit,
-        } => audit(alloc, folder, *system, *paving, settings, *limit),
+            workers,
+        } => audit(
+            rt, alloc, folder, *system, *paving, settings, *limit, workers,
+        ),
         Request::Svg {
             system,
             paving,

@@ -8,7 +8,7 @@ ghost use Rattle.pv_cli.specs.Made.{made};
 use crate::Refusal;
 use crate::honest::learn_honest;
 use crate::opening::{Opening, opening_in};
-use crate::product::Product;
+use crate::product::{self, Product};
 use crate::request::Settings;
 use pv_io::Folder;
 use pv_tree::NodeLimit;
@@ -47,5 +47,5 @@ pub(crate) fn merge<'a, F: Folder>(
     let Opening { settler, paving } = opening;
     learn_honest(&paving, &settler);
     let identity = settler.identity(alloc)?;
-    Ok(Product::Paved { identity, paving })
+    Ok(product::of_paving(identity, paving))
 }

@@ -1,18 +1,18 @@
 //! The join of the paving files of a system.
-ghost use Rattle.std.specs.Prelude.{◌≡◌, ◌++◌, ◌∷◌, List, map, IfOk, IfErr, IsSome, OnOk};
+ghost use Rattle.std.specs.Prelude.{◌≡◌, ◌++◌, [], ◌∷◌, ℕ, List, map, IfOk, IfErr, IsSome, OnOk};
 ghost use Rattle.pv_interval.specs.Bounds.{Bounds};
 ghost use Rattle.pv_tree.specs.Trees.{Tree, subtree, outcome_at};
 ghost use Rattle.pv_join.specs.Joins.{IsJoin, IsJoinRefusal};
 ghost use Rattle.pv_file.specs.Lines.{outcome_line};
 ghost use Rattle.pv_tree.specs.declared.outcome.Outcome.{Outcome};
-ghost use Rattle.pv_slope.specs.Methods.{method_of};
+ghost use Rattle.pv_slope.specs.Methods.{Method, method_of};
 ghost use Rattle.pv_cli.specs.Requests.{names_in};
 ghost use Rattle.pv_cli.specs.Systems.{files, AreOnlyRead, search_box};
 ghost use Rattle.pv_cli.specs.Files.{IsJoinOf, RefusesJoin, RefusesOpening};
-ghost use Rattle.pv_cli.specs.Reads.{trees_of, IsOpened, IsLineAt, IsDisagree, AreOver};
+ghost use Rattle.pv_cli.specs.Reads.{IsKeyOf, IsOpened, IsJoinOn, RefusesJoinOn, IsLineAt, IsDisagree};
 
 use crate::Refusal;
-use crate::pavings::{Key, pavings_in};
+use crate::pavings::{Key, check_pavings, paving_in};
 use crate::request::Settings;
 use crate::system::settler_in;
 use pv_box::IBox;
@@ -58,64 +58,105 @@ pub(crate) fn opening_in<'a, F: Folder>(
         Err(refusal) => return Err(refusal),
     };
     let key = Key::of(alloc, &settler, limit)?;
-    let pavings = match pavings_in(alloc, folder, &key, names) {
-        Ok(pavings) => pavings,
+    let root = settler.search_box(alloc)?;
+    let paving = match join_files(alloc, folder, &key, root, names) {
+        Ok(paving) => paving,
         Err(refusal) => return Err(refusal),
     };
-    let root = settler.search_box(alloc)?;
-    match join_all(alloc, root, pavings) {
-        Ok(paving) => Ok(Opening { settler, paving }),
-        Err(refusal) => Err(refusal),
-    }
+    Ok(Opening { settler, paving })
 }
 
-/// The join of pavings over a box.
-fn join_all<'a>(alloc: Global, root: IBox, pavings: Vec<Paving>) -> Result<Paving, Refusal<'a>>
-    requires { AreOver root pavings.items }
-    ensures root { IfOk result (λ p. p.root ≡ root) }
-    ensures join { IfOk result (λ p. IsJoinOf (trees_of pavings.items) p.tree) }
-    ensures refused { IfErr result (RefusesJoin (trees_of pavings.items)) }
-{
-    let mut rest = pavings;
-    if rest.is_empty() {
-        return Ok(Paving::open(alloc, root)?);
-    }
-    let first = rest.remove(0);
-    join_on(alloc, first, &rest)
-}
-
-// The join of a paving, which is the join of earlier ones, with further ones.
-fn join_on<'a>(alloc: Global, earlier: Paving, later: &[Paving]) -> Result<Paving, Refusal<'a>>
-    requires { AreOver earlier.root later.now }
-    ensures root { IfOk result (λ p. p.root ≡ earlier.root) }
+/// The join of the files of these names, which hold pavings over a box. Of the files no more is held
+/// at a time than the join of those that were read, and the next one.
+fn join_files<'a, F: Folder>(
+    alloc: Global,
+    folder: &mut F,
+    key: &Key,
+    root: IBox,
+    names: &[&'a str],
+) -> Result<Paving, Refusal<'a>>
+    requires { root ≡ key.now.root }
+    ensures read { AreOnlyRead
+        (files (F.content folder.old) (F.fetch_faults folder.old) (F.store_faults folder.old))
+        (files (F.content folder.new) (F.fetch_faults folder.new) (F.store_faults folder.new)) }
+    ensures root { IfOk result (λ p. p.root ≡ key.now.root) }
     ensures join { IfOk result
-        (λ p. (ts : List Tree) → IsJoinOf ts earlier.tree
-        → IsJoinOf (ts ++ trees_of later.now) p.tree) }
+        (λ p. (rule : Method) (limit : ℕ) → IsKeyOf rule limit key.now
+        → IsJoinOn (files (F.content folder.old) (F.fetch_faults folder.old)
+        (F.store_faults folder.old)) limit rule [] (names_in names.now) p.tree) }
     ensures refused { IfErr result
-        (λ r. (ts : List Tree) → IsJoinOf ts earlier.tree
-        → RefusesJoin (ts ++ trees_of later.now) r) }
+        (λ r. (rule : Method) (limit : ℕ) → IsKeyOf rule limit key.now
+        → RefusesJoinOn
+        (files (F.content folder.old) (F.fetch_faults folder.old) (F.store_faults folder.old))
+        (files (F.content folder.new) (F.fetch_faults folder.new) (F.store_faults folder.new))
+        limit rule [] (names_in names.now) r) }
 {
-    let Some((next, later)) = later.split_first() else {
+    let Some((name, rest)) = names.split_first() else {
+        return Ok(Paving::open(alloc, root)?);
+    };
+    let first = match paving_in(alloc, folder, key, *name) {
+        Ok(first) => first,
+        Err(refusal) => return Err(refusal),
+    };
+    join_on(alloc, folder, key, first, rest)
+}
+
+// The join of a paving, which is the join of the files so far, with the files of further names. Where one
+// disagrees, the files after it are still read: a fault of theirs is told first.
+fn join_on<'a, F: Folder>(
+    alloc: Global,
+    folder: &mut F,
+    key: &Key,
+    earlier: Paving,
+    names: &[&'a str],
+) -> Result<Paving, Refusal<'a>>
+    requires { earlier.root ≡ key.now.root }
+    ensures read { AreOnlyRead
+        (files (F.content folder.old) (F.fetch_faults folder.old) (F.store_faults folder.old))
+        (files (F.content folder.new) (F.fetch_faults folder.new) (F.store_faults folder.new)) }
+    ensures root { IfOk result (λ p. p.root ≡ key.now.root) }
+    ensures join { IfOk result
+        (λ p. (rule : Method) (limit : ℕ) (ts : List Tree) → IsKeyOf rule limit key.now
+        → IsJoinOf ts earlier.tree
+        → IsJoinOn (files (F.content folder.old) (F.fetch_faults folder.old)
+        (F.store_faults folder.old)) limit rule ts (names_in names.now) p.tree) }
+    ensures refused { IfErr result
+        (λ r. (rule : Method) (limit : ℕ) (ts : List Tree) → IsKeyOf rule limit key.now
+        → IsJoinOf ts earlier.tree
+        → RefusesJoinOn
+        (files (F.content folder.old) (F.fetch_faults folder.old) (F.store_faults folder.old))
+        (files (F.content folder.new) (F.fetch_faults folder.new) (F.store_faults folder.new))
+        limit rule ts (names_in names.now) r) }
+{
+    let Some((name, rest)) = names.split_first() else {
         return Ok(earlier);
     };
-    match join_two(alloc, &earlier, next) {
-        Ok(joined) => join_on(alloc, joined, later),
-        Err(refusal) => Err(refusal),
-    }
+    let next = match paving_in(alloc, folder, key, *name) {
+        Ok(next) => next,
+        Err(refusal) => return Err(refusal),
+    };
+    let joined = match join_two(alloc, earlier, next) {
+        Ok(joined) => joined,
+        Err(refusal) => match check_pavings(alloc, folder, key, rest) {
+            Ok(()) => return Err(refusal),
+            Err(fault) => return Err(fault),
+        },
+    };
+    join_on(alloc, folder, key, joined, rest)
 }
 
-// The join of a paving, which is the join of earlier ones, with another one.
-fn join_two<'a>(alloc: Global, earlier: &Paving, next: &Paving) -> Result<Paving, Refusal<'a>>
-    requires { next.now.root ≡ earlier.now.root }
-    ensures root { IfOk result (λ p. p.root ≡ earlier.now.root) }
-    ensures join { IfOk result (λ p. IsJoin earlier.now.tree next.now.tree p.tree) }
+// The join of a paving, which is the join of earlier ones, with another one. Both are let go.
+fn join_two<'a>(alloc: Global, earlier: Paving, next: Paving) -> Result<Paving, Refusal<'a>>
+    requires { next.root ≡ earlier.root }
+    ensures root { IfOk result (λ p. p.root ≡ earlier.root) }
+    ensures join { IfOk result (λ p. IsJoin earlier.tree next.tree p.tree) }
     ensures refused { IfErr result
-        (λ r. (ts us : List Tree) → IsJoinOf ts earlier.now.tree
-        → RefusesJoin (ts ++ next.now.tree ∷ us) r) }
+        (λ r. (ts us : List Tree) → IsJoinOf ts earlier.tree
+        → RefusesJoin (ts ++ next.tree ∷ us) r) }
 {
-    match join(alloc, earlier, next) {
+    match join(alloc, &earlier, &next) {
         Ok(joined) => Ok(joined),
-        Err(refused) => Err(no_join(alloc, earlier, next, refused)),
+        Err(refused) => Err(no_join(alloc, &earlier, &next, refused)),
     }
 }
 

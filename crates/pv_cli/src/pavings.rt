@@ -1,10 +1,10 @@
 //! Paving files of a system, read.
-ghost use Rattle.std.specs.Prelude.{◌≡◌, ◌≤◌, ◌∷◌, ℕ, List, map, length, IfOk, IfErr, OnOk};
+ghost use Rattle.std.specs.Prelude.{◌≡◌, ◌≤◌, ℕ, IfOk, IfErr, OnOk};
 ghost use Rattle.pv_slope.specs.Methods.{Method, method_of, identity_of};
 ghost use Rattle.pv_cli.specs.Requests.{names_in};
 ghost use Rattle.pv_cli.specs.Systems.{files, AreOnlyRead, search_box};
 ghost use Rattle.pv_cli.specs.Files.{HoldsPaving, RefusesFile, RefusesPavings};
-ghost use Rattle.pv_cli.specs.Reads.{trees_of, AreRead, IsKeyOf};
+ghost use Rattle.pv_cli.specs.Reads.{AreHeld, IsKeyOf};
 
 use crate::{FileFault, Refusal};
 use pv_box::IBox;
@@ -36,20 +36,19 @@ impl Key {
     }
 }
 
-/// The pavings in the files of these names, in order.
-pub(crate) fn pavings_in<'a, F: Folder>(
+/// Reads the files of these names in order, each of which holds a paving, and keeps none of them.
+pub(crate) fn check_pavings<'a, F: Folder>(
     alloc: Global,
     folder: &mut F,
     key: &Key,
     names: &[&'a str],
-) -> Result<Vec<Paving>, Refusal<'a>>
+) -> Result<(), Refusal<'a>>
     ensures read { AreOnlyRead
         (files (F.content folder.old) (F.fetch_faults folder.old) (F.store_faults folder.old))
         (files (F.content folder.new) (F.fetch_faults folder.new) (F.store_faults folder.new)) }
-    ensures pavings { IfOk result
-        (λ ps. (rule : Method) (limit : ℕ) → IsKeyOf rule limit key.now
-        → AreRead (files (F.content folder.old) (F.fetch_faults folder.old)
-        (F.store_faults folder.old)) limit rule (names_in names.now) ps.items) }
+    ensures held { OnOk result ((rule : Method) (limit : ℕ) → IsKeyOf rule limit key.now
+        → AreHeld (files (F.content folder.old) (F.fetch_faults folder.old)
+        (F.store_faults folder.old)) limit rule (names_in names.now)) }
     ensures refused { IfErr result
         (λ r. (rule : Method) (limit : ℕ) → IsKeyOf rule limit key.now
         → RefusesPavings
@@ -59,24 +58,13 @@ pub(crate) fn pavings_in<'a, F: Folder>(
         (names_in names.now) r) }
 {
     let Some((name, rest)) = names.split_first() else {
-        return Ok(Vec::new(alloc));
+        return Ok(());
     };
-    let paving = match paving_in(alloc, folder, key, *name) {
-        Ok(paving) => paving,
+    match paving_in(alloc, folder, key, *name) {
+        Ok(_paving) => {}
         Err(refusal) => return Err(refusal),
-    };
-    match pavings_in(alloc, folder, key, rest) {
-        Ok(pavings) => Ok(put_first(paving, pavings)?),
-        Err(refusal) => Err(refusal),
     }
-}
-
-fn put_first(paving: Paving, pavings: Vec<Paving>) -> Result<Vec<Paving>, Memory>
-    ensures { IfOk result (λ ps. ps.items ≡ paving ∷ pavings.items) }
-{
-    let mut all = pavings;
-    all.insert(0, paving)?;
-    Ok(all)
+    check_pavings(alloc, folder, key, rest)
 }
 
 /// The paving in the file of a name.

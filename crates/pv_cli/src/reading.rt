@@ -1,17 +1,20 @@
 //! From the words of a command to what they ask for.
-ghost use Rattle.std.specs.Prelude.{◌≡◌, ◌≢◌, ◌⊎◌, List, codes, map, option_map, MatchOption, MatchResult, string_bytes, IfOk, IfErr, unwrap_or};
-ghost use Rattle.clap.specs.Words.{all_of, subcommand_rows_of};
-ghost use Rattle.pv_cli.specs.Requests.{value_of, system_name, paving_names, names_in, AreSettings, IsEffort, ArePavings, IsOut, HasBadSetting, HasBadLimit, HasBadEffort, IsNodeLimit, IsView, AreGiven, AreCircles, HasManyPavings, HasBadLevels, HasBadCircles, IsSearch, HasBadBudget, IsRounds, HasBadRounds, HasBadValueFor, run_name, audit_name, runs, resumes, merges, audits, draws, samples, seeks, keeps, IsAskedBy, IsAsked, Asks};
+ghost use Rattle.std.specs.Prelude.{◌≡◌, ◌≢◌, ◌⊎◌, Some, List, codes, map, option_map, MatchOption, MatchResult, string_bytes, IfOk, IfErr, unwrap_or};
+ghost use Rattle.clap.specs.Words.{all_of, first_of, subcommand_rows_of};
+ghost use Rattle.pv_cli.specs.Requests.{value_of, system_name, paving_names, names_in, AreSettings, IsEffort, ArePavings, IsOut, HasBadSetting, HasBadLimit, HasBadEffort, HasBadWorkers, AreWorkers, IsNodeLimit, IsShareIn, HasNoShare, IsView, AreGiven, AreCircles, HasManyPavings, HasBadLevels, HasBadCircles, IsSearch, HasBadBudget, IsRounds, HasBadRounds, HasBadValueFor, run_name, audit_name, runs, resumes, merges, audits, draws, samples, seeks, keeps, IsAskedBy, IsAsked, Asks};
 ghost use Rattle.pv_cli.specs.Found.{rows_in, RefusesValues, RefusesCommand, RefusesFound};
 ghost use Rattle.pv_cli.specs.Ends.{RefusesWords};
 
 use crate::Refusal;
 use crate::command_line::paver;
-use crate::request::{Circles, Effort, Request, Rounds, Search, Settings, View};
-use crate::values::{bisector_of, count_of, form_of, levels_of, name_of_form, width_of};
+use crate::request::{Circles, Effort, Request, Rounds, Search, Settings, View, Workers};
+use crate::values::{
+    bisector_of, count_of, form_of, levels_of, name_of_form, order_of, share_of, width_of,
+};
 use clap::ArgMatches;
 use clap::error::ErrorKind;
 use pv_num::Num;
+use pv_scope::{Order, Share};
 use pv_slope::Form;
 use pv_tree::NodeLimit;
 use std::alloc::Global;
@@ -99,6 +102,7 @@ fn run_in<'a>(usual: Form, found: &ArgMatches<'a>) -> Result<Request<'a>, Refusa
     }
 }
 
+#[tactic(auto, using(crate::proofs::Slashes::bad_share))]
 fn resume_in<'a>(alloc: Global, found: &ArgMatches<'a>) -> Result<Request<'a>, Refusal<'a>>
     ensures { MatchResult result (IsAskedBy (codes "resume") (rows_in found.now))
         (RefusesValues (HasBadValueFor resumes (rows_in found.now))) }
@@ -111,15 +115,48 @@ fn resume_in<'a>(alloc: Global, found: &ArgMatches<'a>) -> Result<Request<'a>, R
         Some(settings) => settings,
         None => return Err(Refusal::Usage),
     };
-    match effort_in(found) {
-        Some(effort) => Ok(Request::Resume {
+    let effort = match effort_in(found) {
+        Some(effort) => effort,
+        None => return Err(Refusal::Usage),
+    };
+    match share_in(effort.order, found) {
+        Ok(share) => Ok(Request::Resume {
             system: text_in(found, "SYSTEM", ""),
             pavings,
             settings,
             effort,
+            share,
             out: out_in(found),
         }),
-        None => Err(Refusal::Usage),
+        Err(refusal) => Err(refusal),
+    }
+}
+
+// The share of the open leaves, where one is given. It is settled in its own order, so another one is
+// refused beside it.
+#[tactic(auto, using(crate::proofs::Rows::first_is))]
+fn share_in<'a>(order: Order, found: &ArgMatches<'a>) -> Result<Option<Share>, Refusal<'a>>
+    ensures { MatchResult result (IsShareIn order (first_of (codes "share") (rows_in found.now)))
+        (RefusesValues (HasNoShare order (first_of (codes "share") (rows_in found.now)))) }
+{
+    match found.get_str("share") {
+        Some(text) => share_by(order, text),
+        None => Ok(None),
+    }
+}
+
+// The share that a text gives, which is settled depth first.
+#[tactic(auto, using(crate::proofs::Slashes::none_in_depth, crate::proofs::Slashes::none_by_level))]
+fn share_by<'a>(order: Order, text: &str) -> Result<Option<Share>, Refusal<'a>>
+    ensures { MatchResult result (IsShareIn order (Some text.now))
+        (RefusesValues (HasNoShare order (Some text.now))) }
+{
+    match order {
+        Order::Depth => match share_of(text) {
+            Some(share) => Ok(Some(share)),
+            None => Err(Refusal::Usage),
+        },
+        Order::Level => Err(Refusal::Usage),
     }
 }
 
@@ -155,12 +192,17 @@ fn audit_in<'a>(usual: Form, found: &ArgMatches<'a>) -> Result<Request<'a>, Refu
         Some(settings) => settings,
         None => return Err(Refusal::Usage),
     };
-    match limit_in(found) {
-        Some(limit) => Ok(Request::Audit {
+    let limit = match limit_in(found) {
+        Some(limit) => limit,
+        None => return Err(Refusal::Usage),
+    };
+    match workers_in(found) {
+        Some(workers) => Ok(Request::Audit {
             system: text_in(found, "SYSTEM", ""),
             paving: text_in(found, "PAVING", ""),
             settings,
             limit,
+            workers,
         }),
         None => Err(Refusal::Usage),
     }
@@ -322,11 +364,21 @@ fn effort_in(found: &ArgMatches<'_>) -> Option<Effort>
     let limit = limit_in(found)?;
     let workers = count_of(text_in(found, "workers", "4"), 1, 16)? as u32;
     let boxes = count_of(text_in(found, "boxes", "20000"), 1, limit.nodes())?;
+    let order = order_of(text_in(found, "order", "depth"))?;
     Some(Effort {
         limit,
         workers,
+        order,
         boxes,
     })
+}
+
+fn workers_in(found: &ArgMatches<'_>) -> Option<Workers>
+    ensures { MatchOption result (HasBadWorkers (rows_in found.now))
+        (AreWorkers (rows_in found.now)) }
+{
+    let count = count_of(text_in(found, "workers", "4"), 1, 16)? as u32;
+    Some(Workers { count })
 }
 
 fn limit_in(found: &ArgMatches<'_>) -> Option<NodeLimit>

@@ -5,6 +5,7 @@ ghost use Rattle.pv_num.specs.Order.{le};
 
 use pv_box::Bisector;
 use pv_num::Num;
+use pv_scope::{Order, Share};
 use pv_slope::Form;
 use pv_tree::NodeLimit;
 
@@ -22,14 +23,23 @@ pub struct Settings<'a> {
     ghost depth_fits: { (1 ≤ depth) × (depth ≤ 200) },
 }
 
-/// How much is settled at most, within a limit on the whole tree, and by how many threads.
+/// How much is settled at most, within a limit on the whole tree, by how many threads and in which
+/// order.
 #[derive(Clone, Copy)]
 pub struct Effort {
     pub limit: NodeLimit,
     pub workers: u32,
+    pub order: Order,
     pub boxes: u64,
     ghost workers_fit: { (1 ≤ workers) × (workers ≤ 16) },
     ghost boxes_fit: { (1 ≤ boxes) × (boxes ≤ limit) },
+}
+
+/// By how many threads a paving is checked.
+#[derive(Clone, Copy)]
+pub struct Workers {
+    pub count: u32,
+    ghost count_fits: { (1 ≤ count) × (count ≤ 16) },
 }
 
 /// Which plane of a paving a picture shows.
@@ -86,12 +96,13 @@ pub enum Request<'a> {
         effort: Effort,
         out: Option<&'a str>,
     },
-    /// Go on from the join of paving files.
+    /// Go on from the join of paving files, with all open leaves or with a share of them.
     Resume {
         system: &'a str,
         pavings: Vec<&'a str>,
         settings: Settings<'a>,
         effort: Effort,
+        share: Option<Share>,
         out: Option<&'a str>,
     },
     /// Join paving files.
@@ -108,6 +119,7 @@ pub enum Request<'a> {
         paving: &'a str,
         settings: Settings<'a>,
         limit: NodeLimit,
+        workers: Workers,
     },
     /// Draw a plane of a paving file.
     Svg {

@@ -1,4 +1,4 @@
-//! `resume`: what a budget settles of the join of paving files.
+//! `resume`: what a budget settles of the join of paving files, or of a share of its open leaves.
 ghost use Rattle.std.specs.Prelude.{◌≡◌, ◌+◌, ◌<◌, ◌≤◌, IfOk, IfErr, length};
 ghost use Rattle.pv_slope.specs.Methods.{method_of, dims_of};
 ghost use Rattle.pv_cli.specs.Requests.{names_in};
@@ -6,24 +6,24 @@ ghost use Rattle.pv_cli.specs.Systems.{files, AreOnlyRead, search_box};
 ghost use Rattle.pv_cli.specs.Pavings.{settled_in};
 ghost use Rattle.pv_cli.specs.Products.{ComesOfResume, RefusesJoined};
 ghost use Rattle.pv_cli.specs.Made.{made};
-ghost use Rattle.pv_cli.specs.Resumed.{IsResumed, GivesResumed};
+ghost use Rattle.pv_cli.specs.Resumed.{IsResumed, IsShareResumed, GivesResumed};
 
 use crate::Refusal;
 use crate::honest::learn_honest;
 use crate::opening::{Opening, opening_in};
-use crate::product::Product;
+use crate::product::{self, Product};
 use crate::request::{Effort, Settings};
 use pv_io::Folder;
 use pv_num::Memory;
 use pv_pool::Gate;
+use pv_scope::{Share, Shared, pave_in_order, settle_share};
 use pv_slope::FormSettler;
 use pv_tree::Paving;
-use pv_workers::pave_knowing;
 use std::alloc::Global;
 use std::sync::Wait;
 use std::thread::Threads;
 
-/// What the budget settles of the join of the files of these names.
+/// What the budget settles of the join of the files of these names, or of a share of its open leaves.
 pub(crate) fn resume<'a, F: Folder, G: Gate + Sync, R: Threads + Wait + Sync>(
     rt: &R,
     alloc: Global,
@@ -32,6 +32,7 @@ pub(crate) fn resume<'a, F: Folder, G: Gate + Sync, R: Threads + Wait + Sync>(
     names: &[&'a str],
     settings: &Settings<'a>,
     effort: &Effort,
+    share: Option<Share>,
     gate: &G,
 ) -> Result<Product, Refusal<'a>>
     ensures read { AreOnlyRead
@@ -40,7 +41,8 @@ pub(crate) fn resume<'a, F: Folder, G: Gate + Sync, R: Threads + Wait + Sync>(
     ensures comes { IfOk result
         (λ p. ComesOfResume
         (files (F.content folder.old) (F.fetch_faults folder.old) (F.store_faults folder.old))
-        system.now (names_in names.now) settings.now effort.now.limit effort.now.boxes (made p)) }
+        system.now (names_in names.now) settings.now effort.now.limit effort.now.order
+        effort.now.boxes share (made p)) }
     ensures refused { IfErr result
         (RefusesJoined
         (files (F.content folder.old) (F.fetch_faults folder.old) (F.store_faults folder.old))
@@ -56,29 +58,44 @@ pub(crate) fn resume<'a, F: Folder, G: Gate + Sync, R: Threads + Wait + Sync>(
     if settled + effort.boxes > most {
         return Err(Refusal::TreeLimit { settled });
     }
-    Ok(resumed(rt, alloc, opening, effort, gate)?)
+    Ok(resumed(rt, alloc, opening, effort, share, gate)?)
 }
 
+// What the budget settles of an opening, or of a share of it.
 fn resumed<G: Gate + Sync, R: Threads + Wait + Sync>(
     rt: &R,
     alloc: Global,
     opening: Opening,
     effort: &Effort,
+    share: Option<Share>,
     gate: &G,
 ) -> Result<Product, Memory>
     requires root { opening.paving.root ≡ search_box (method_of opening.settler) }
     requires dims { length opening.paving.root ≡ dims_of (method_of opening.settler) }
     requires limit { settled_in opening.paving.tree + effort.now.boxes ≤ effort.now.limit }
     ensures { IfOk result
-        (λ p. GivesResumed (method_of opening.settler) opening.paving.tree effort.now.boxes
-        (made p)) }
+        (λ p. GivesResumed (method_of opening.settler) opening.paving.tree effort.now.order
+        effort.now.boxes share (made p)) }
 {
     let Opening { settler, paving } = opening;
     let identity = settler.identity(alloc)?;
-    let paving = go_on(rt, alloc, &settler, paving, effort, gate)?;
-    Ok(Product::Paved { identity, paving })
+    match share {
+        Some(share) => {
+            let part = go_on_with(alloc, &settler, paving, share, effort.boxes, gate)?;
+            Ok(Product::Paved {
+                identity,
+                paving: part.paving,
+                done: part.done,
+            })
+        }
+        None => {
+            let paving = go_on(rt, alloc, &settler, paving, effort, gate)?;
+            Ok(product::of_paving(identity, paving))
+        }
+    }
 }
 
+// Goes on with all open leaves.
 fn go_on<G: Gate + Sync, R: Threads + Wait + Sync>(
     rt: &R,
     alloc: Global,
@@ -92,18 +109,41 @@ fn go_on<G: Gate + Sync, R: Threads + Wait + Sync>(
     requires limit { settled_in opening.tree + effort.now.boxes ≤ effort.now.limit }
     ensures root { IfOk result (λ p. p.root ≡ search_box (method_of settler.now)) }
     ensures resumed { IfOk result
-        (λ p. IsResumed (method_of settler.now) opening.tree effort.now.boxes p.tree) }
+        (λ p. IsResumed (method_of settler.now) opening.tree effort.now.order effort.now.boxes
+        p.tree) }
 {
-    let paved = pave_knowing(
+    let paving = pave_in_order(
         rt,
         alloc,
         settler,
         opening,
+        effort.order,
         effort.boxes,
         effort.limit,
         effort.workers,
         gate,
     )?;
-    learn_honest(&paved.paving, settler);
-    Ok(paved.paving)
+    learn_honest(&paving, settler);
+    Ok(paving)
+}
+
+// Goes on with a share of the open leaves.
+fn go_on_with<G: Gate>(
+    alloc: Global,
+    settler: &FormSettler,
+    opening: Paving,
+    share: Share,
+    budget: u64,
+    gate: &G,
+) -> Result<Shared, Memory>
+    requires root { opening.root ≡ search_box (method_of settler.now) }
+    requires dims { length opening.root ≡ dims_of (method_of settler.now) }
+    ensures root { IfOk result (λ s. s.paving.root ≡ search_box (method_of settler.now)) }
+    ensures resumed { IfOk result
+        (λ s. IsShareResumed (method_of settler.now) opening.tree share budget s.paving.tree
+        s.done) }
+{
+    let shared = settle_share(alloc, settler, opening, share, budget, gate)?;
+    learn_honest(&shared.paving, settler);
+    Ok(shared)
 }

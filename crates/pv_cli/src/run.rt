@@ -1,6 +1,7 @@
 //! `run` and `run-centered`: a paving of the search box of a system.
 ghost use Rattle.std.specs.Prelude.{◌≡◌, IfOk, IfErr, length};
 ghost use Rattle.pv_tree.specs.Trees.{leaf};
+ghost use Rattle.pv_scope.specs.Orders.{IsInOrder};
 ghost use Rattle.pv_cli.specs.Systems.{files, AreOnlyRead, RefusesRule};
 ghost use Rattle.pv_cli.specs.Pavings.{IsPaved};
 ghost use Rattle.pv_cli.specs.Products.{ComesOfRun};
@@ -8,15 +9,15 @@ ghost use Rattle.pv_cli.specs.Made.{made};
 
 use crate::Refusal;
 use crate::honest::learn_honest;
-use crate::product::Product;
+use crate::product::{self, Product};
 use crate::request::{Effort, Settings};
 use crate::system::settler_in;
 use pv_box::IBox;
 use pv_io::Folder;
 use pv_num::Memory;
 use pv_pool::Gate;
+use pv_scope::pave_in_order;
 use pv_tree::{KnowingSettler, Paving};
-use pv_workers::pave_knowing;
 use std::alloc::Global;
 use std::sync::Wait;
 use std::thread::Threads;
@@ -37,7 +38,7 @@ pub(crate) fn run<'a, F: Folder, G: Gate + Sync, R: Threads + Wait + Sync>(
     ensures comes { IfOk result
         (λ p. ComesOfRun
         (files (F.content folder.old) (F.fetch_faults folder.old) (F.store_faults folder.old))
-        system.now settings.now effort.now.boxes (made p)) }
+        system.now settings.now effort.now.order effort.now.boxes (made p)) }
     ensures refused { IfErr result
         (RefusesRule (files (F.content folder.old) (F.fetch_faults folder.old)
         (F.store_faults folder.old))
@@ -52,7 +53,7 @@ pub(crate) fn run<'a, F: Folder, G: Gate + Sync, R: Threads + Wait + Sync>(
     let root = settler.search_box(alloc)?;
     let paving = paved(rt, alloc, &settler, root, effort, gate)?;
     learn_honest(&paving, &settler);
-    Ok(Product::Paved { identity, paving })
+    Ok(product::of_paving(identity, paving))
 }
 
 /// What the budget settles of an open box.
@@ -72,17 +73,18 @@ where
     ensures paved { IfOk result
         (λ p. IsPaved (S.settle_of settler.now) (S.depth_of settler.now) root leaf effort.now.boxes
         p.tree) }
+    ensures ordered { IfOk result (λ p. IsInOrder effort.now.order leaf p.tree) }
 {
     let opening = Paving::open(alloc, root)?;
-    let paved = pave_knowing(
+    pave_in_order(
         rt,
         alloc,
         settler,
         opening,
+        effort.order,
         effort.boxes,
         effort.limit,
         effort.workers,
         gate,
-    )?;
-    Ok(paved.paving)
+    )
 }

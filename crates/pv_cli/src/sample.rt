@@ -28,6 +28,7 @@ use pv_made::sample_system;
 use pv_num::{End, Memory, Num};
 use pv_parse::parse;
 use pv_pool::Gate;
+use pv_scope::Order;
 use pv_slope::{Form, FormSettler};
 use pv_tree::{NodeLimit, Paving};
 use sha2::{Digest, Sha256};
@@ -75,6 +76,7 @@ fn reported<G: Gate + Sync, R: Threads + Wait + Sync>(
     let effort = Effort {
         limit: NodeLimit::DEFAULT,
         workers: 4,
+        order: Order::Depth,
         boxes: 100_000,
     };
     let root = settler.search_box(alloc)?;

@@ -2,14 +2,17 @@
 ghost use Rattle.std.specs.Prelude.{◌≡◌, ◌≢◌, ◌<◌, ◌==◌, ℕ, List, pos, true, IsTrue, MatchOption, MatchResult, IfSome, IfErr, IfOk, OnOk, length, slice_index, ◌∷◌, []};
 ghost use Rattle.pv_num.specs.Extended.{Extended, Fin, PosInf};
 ghost use Rattle.pv_num.specs.Order.{le};
-ghost use Rattle.pv_cli.specs.Requests.{IsDigits, IsCount, IsWidth, IsLevel, AreLevels, words_between, bisector_name, form_name};
+ghost use Rattle.pv_cli.specs.Requests.{IsDigits, IsCount, IsWidth, IsLevel, AreLevels, IsShare, words_between, words_by_slash, bisector_name, form_name, order_name};
 ghost use Rattle.pv_slope.specs.declared.form.Form as declared;
+ghost use Rattle.pv_scope.specs.declared.order.Order as declared_order;
+ghost use Rattle.pv_scope.specs.declared.share.Share as declared_share;
 ghost use Rattle.pv_cli.specs.Found.{RefusesValues, EndsWithLevel};
 
 use crate::Refusal;
 use pv_box::Bisector;
 use pv_num::{End, Num};
 use pv_parse::read_number;
+use pv_scope::{Order, Share};
 use pv_slope::Form;
 use std::alloc::Global;
 
@@ -154,5 +157,41 @@ pub(crate) fn name_of_form(form: Form) -> &'static str
     match form {
         Form::Plain => "plain",
         Form::Centered => "centered",
+    }
+}
+
+/// The order of a name.
+pub(crate) fn order_of(text: &str) -> Option<Order>
+    ensures { MatchOption result ((o : declared_order.Order) → text.now ≡ order_name o → ⊥)
+        (λ o. text.now ≡ order_name o) }
+{
+    match text {
+        "depth" => Some(Order::Depth),
+        "level" => Some(Order::Level),
+        _ => None,
+    }
+}
+
+/// The share that two numbers with a slash between them give.
+pub(crate) fn share_of(text: &str) -> Option<Share>
+    ensures { MatchOption result ((s : declared_share.Share) → IsShare text.now s → ⊥)
+        (λ s. IsShare text.now s) }
+{
+    let (number, of) = around_slash(text)?;
+    let number = number_of(number)?;
+    let of = number_of(of)?;
+    Share::new(number, of)
+}
+
+// What stands before the only slash and behind it.
+fn around_slash(text: &str) -> Option<(&str, &str)>
+    ensures { MatchOption result
+        ((a b : List ℕ) → words_by_slash text.now ≡ a ∷ b ∷ [] → ⊥)
+        (λ r. words_by_slash text.now ≡ r.0.now ∷ r.1.now ∷ []) }
+{
+    let (number, of) = text.split_once('/')?;
+    match of.split_once('/') {
+        Some(_) => None,
+        None => Some((number, of)),
     }
 }

@@ -1,12 +1,10 @@
 -- What callers are told of a contraction and of the sure test, from what is left and from the answer.
-use Rattle.std.proofs.Common.{◌≡◌, ℕ, ◌++◌, List, [], ◌∷◌, length, subst, sym, ◌∙◌, arith, refl}
+use Rattle.std.proofs.Common.{◌≡◌, ℕ, List, length, subst, sym, ◌∙◌, arith, refl}
 use Rattle.std.specs.Prelude.{Bool, Option, Some, None, Result, Ok, Err, IfOk, IfSome, OnErr, IsTrue, ◌≤◌, ◌+◌}
 use Rattle.pv_interval.specs.Bounds.{Bounds}
 use Rattle.pv_box.specs.Boxes.{IsBox, IsWithin}
 use Rattle.pv_box.specs.Members.{PointInSome}
-use Rattle.pv_hc4.specs.Members.{AreOver}
 use Rattle.pv_hc4.specs.Graphs.{sides_of}
-use Rattle.pv_hc4.specs.Revise.{Sides}
 use Rattle.pv_ctc.specs.GraphLists.{GraphList}
 use Rattle.std.proofs.lemmas.List.{length-map}
 use Rattle.pv_ctc.specs.Contracting.{sides_in, contract_of}

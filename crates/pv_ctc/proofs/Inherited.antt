@@ -1,12 +1,11 @@
 -- A program that is sure on a box is sure on each part of it.
-use Rattle.std.proofs.Common.{◌≡◌, ℕ, zero, suc, ◌+◌, ◌≤◌, List, [], ◌∷◌, length, refl, ap, sym, ◌∙◌, arith}
-use Rattle.std.specs.Prelude.{IsTrue, Bool, true, false, ◌&&◌, nat_le}
+use Rattle.std.proofs.Common.{◌≡◌, ℕ, ◌≤◌, List, [], ◌∷◌, length, refl, arith}
+use Rattle.std.specs.Prelude.{Bool, true, false, nat_le}
 use Rattle.std.proofs.lemmas.Bool.Decides.{nat_tests}
 use Rattle.pv_interval.specs.Bounds.{Bounds}
 use Rattle.pv_box.specs.Boxes.{IsBox}
 use Rattle.pv_hc4.specs.Revise.{Sides}
-use Rattle.pv_hc4.specs.Members.{AreWithin, AreOver}
-use Rattle.pv_hc4.specs.Totality.{sure_of}
+use Rattle.pv_hc4.specs.Members.{AreWithin}
 use Rattle.pv_hc4.proofs.Inherited.{sure-inherited}
 use Rattle.pv_ctc.specs.Contracting.{side_at}
 use Rattle.pv_ctc.specs.Members.{AllOver}

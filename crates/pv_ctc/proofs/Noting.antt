@@ -1,6 +1,6 @@
 -- What is known stays true.
-use Rattle.std.proofs.Common.{◌≡◌, ◌≢◌, ◌⊎◌, inl, inr, ℕ, zero, suc, ◌+◌, ◌<◌, ◌≤◌, List, [], ◌∷◌, length, refl, ap, sym, ◌∙◌, subst, arith, get_or, eqb-true}
-use Rattle.std.specs.Prelude.{Result, Ok, Err, IfOk, OnErr, Option, Some, None, Bool, true, false, not, ◌&&◌, ◌||◌, nat_eq, map}
+use Rattle.std.proofs.Common.{◌≡◌, ◌⊎◌, inl, inr, ℕ, zero, suc, ◌+◌, ◌<◌, ◌≤◌, List, [], ◌∷◌, length, refl, ap, sym, ◌∙◌, subst, arith, get_or, eqb-true}
+use Rattle.std.specs.Prelude.{Result, Ok, Err, IfOk, OnErr, Option, Some, Bool, true, false, not, ◌&&◌, ◌||◌, nat_eq}
 use Rattle.std.proofs.lemmas.Bool.{cases_lt, cases_eq, true≢false}
 use Rattle.pv_interval.specs.Bounds.{Bounds}
 use Rattle.pv_box.specs.Boxes.{IsBox}
@@ -13,7 +13,7 @@ use Rattle.pv_hc4.specs.declared.judge.Judged.{Judged}
 use Rattle.pv_hc4.specs.MarkSets.{is_marked}
 use Rattle.pv_hc4.specs.Members.{AreWithin}
 use Rattle.pv_hc4.specs.Revise.{Sides, revised}
-use Rattle.pv_hc4.specs.Totality.{total_of, divides_well, decided, forward_sides, sure_of}
+use Rattle.pv_hc4.specs.Totality.{total_of, divides_well, decided, sure_of}
 use Rattle.pv_hc4.specs.declared.judge.Judged.TheVariants.{Sure, Kept, Changed}
 use Rattle.pv_hc4.specs.declared.marks.Marks.{Marks}
 use Rattle.pv_hc4.specs.declared.revised.Revised.{Revised}
@@ -27,7 +27,7 @@ use Rattle.pv_ctc.specs.Facts.{IsClean, Knows, IsPartAt, IsNoted}
 use Rattle.pv_ctc.specs.Members.{AllOver}
 use Rattle.pv_ctc.specs.Steps.{IsStep, IsSoFar}
 use Rattle.pv_ctc.specs.Uses.{has_place, has_variable}
-use Rattle.pv_ctc.specs.Users.{no_marks, has_user, AreUsers}
+use Rattle.pv_ctc.specs.Users.{no_marks, AreUsers}
 use Rattle.pv_ctc.specs.declared.known.Known.{Known}
 use Rattle.pv_ctc.proofs.Locality.{forward_same, or_first, or_second, stays}
 use Rattle.pv_ctc.proofs.Marking.{beyond}

@@ -51,6 +51,11 @@ rose_all n old new e = record { by = n; few = omega arith; is = e }
 pub rose_fewer : (m n : ℕ) (old new : Option ℕ) → m ≤ n → RoseAtMost m old new → RoseAtMost n old new
 rose_fewer m n old new l r = record { by = r.by; few = let f = r.few in omega (arith, f, l); is = r.is }
 
+-- where nothing is told
+pub untold : (o : Option ℕ) (n : ℕ) → o ≡ None → o ≡ raised o n
+untold None n e = refl
+untold (Some m) n e = absurd (cc)
+
 pub for_err : {A E P : Type 0} (r : Result A E) → P → OnErr r P
 for_err (Ok a) p = tt
 for_err (Err e) p = p

@@ -1,44 +1,35 @@
 //! What counts the revisions of a contraction.
 
-ghost use Rattle.std.specs.Prelude.{◌≡◌, ℕ, Option, Some, None, length, IfOk, OnErr};
-ghost use Rattle.pv_hc4.specs.Revise.{revised};
-ghost use Rattle.pv_hc4.specs.Graphs.{sides_of, IsAnswer};
+ghost use Rattle.std.specs.Prelude.{◌≡◌, ℕ, Option, Some, None, IsFalse};
 ghost use Rattle.pv_ctc.specs.Counters.{raised};
 
-use pv_box::IBox;
-use pv_hc4::{Graph, Revised, Scratch, Steps};
-use pv_num::Memory;
+use pv_hc4::Steps;
 use std::sync::ledger::Ledger;
 
-/// What the revisions of a contraction go through.
+/// What counts the revisions of a contraction.
 pub trait Counter {
-    /// How many went through it, where it tells.
+    /// How many were counted, where it tells.
     ghost told: { Self → Option ℕ };
 
-    /// One revision, as `Graph::revise_in`; it counts also where there was no memory.
-    fn revise(
-        &mut self,
-        graph: &Graph,
-        scratch: &mut Scratch,
-        bx: &mut IBox,
-    ) -> Result<Revised, Memory>
-        requires { length bx.old ≡ graph.now.dims }
-        ensures answer { IfOk result (λ r.
-            IsAnswer (revised (sides_of graph.now) bx.old) r bx.old bx.new) }
-        ensures unchanged { OnErr result (bx.new ≡ bx.old) }
-        ensures counted { told self.new ≡ raised (told self.old) 1 };
+    /// Whether every revision that a contraction needs is made and counted. Else what is known of
+    /// the constraints may stand for it.
+    fn counts(&self) -> bool
+        ensures { IsFalse result → told self.now ≡ None };
+
+    /// One revision more; it counts also where there is no memory for it.
+    fn tick(&mut self)
+        ensures { told self.new ≡ raised (told self.old) 1 };
 }
 
 impl<L: Ledger> Counter for Steps<L> {
     ghost told = { λ s. Some s };
 
-    fn revise(
-        &mut self,
-        graph: &Graph,
-        scratch: &mut Scratch,
-        bx: &mut IBox,
-    ) -> Result<Revised, Memory> {
-        graph.revise_counted_in(scratch, bx, self)
+    fn counts(&self) -> bool {
+        true
+    }
+
+    fn tick(&mut self) {
+        Steps::tick(self)
     }
 }
 
@@ -49,12 +40,9 @@ pub(crate) struct Uncounted;
 impl Counter for Uncounted {
     ghost told = { λ _. None };
 
-    fn revise(
-        &mut self,
-        graph: &Graph,
-        scratch: &mut Scratch,
-        bx: &mut IBox,
-    ) -> Result<Revised, Memory> {
-        graph.revise_in(scratch, bx)
+    fn counts(&self) -> bool {
+        false
     }
+
+    fn tick(&mut self) {}
 }

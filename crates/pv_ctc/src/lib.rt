@@ -9,7 +9,6 @@ mod counter;
 mod graphs;
 mod hulls;
 mod knowing;
-mod knowing_sure;
 mod known;
 pub mod laws;
 pub mod program;

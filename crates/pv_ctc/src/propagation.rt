@@ -1,4 +1,4 @@
-//! Revisions by single constraints, and by all of them.
+//! Revisions that are counted, by single constraints and by all of them.
 
 ghost use Rattle.std.specs.Prelude.{◌≡◌, ◌⊎◌, ◌↔◌, ℕ, ◌<◌, ◌≤◌, Option, List, length, take, IfOk, OnOk, OnErr, IsFalse, ◌&&◌, false, true, slice_index_or, []};
 ghost use Rattle.pv_hc4.specs.Revise.{revised};
@@ -18,7 +18,7 @@ use pv_hc4::{Revised, Scratch};
 use pv_interval::Interval;
 use pv_num::Memory;
 
-// One revision.
+// One revision, which is counted.
 pub(crate) fn revise<C: Counter>(
     graphs: &Graphs,
     i: usize,
@@ -33,7 +33,8 @@ pub(crate) fn revise<C: Counter>(
         IsStep (revised (side_at (sides_in graphs.now) i) bx.old) r bx.old bx.new) }
     ensures counted { C.told counter.new ≡ raised (C.told counter.old) 1 }
 {
-    counter.revise(&graphs.graphs[i], scratch, bx)
+    counter.tick();
+    graphs.graphs[i].revise_in(scratch, bx)
 }
 
 // All constraints in order, repeated until a turn changes nothing.

@@ -61,7 +61,7 @@ side_self (Some o) = refl
 pub join_self : (t : Tree) → IsJoin t t t
 join_self t = record { agree = λ p o u e f. let w : Some o ≡ Some u = sym e ∙ f in cc; takes = λ p. side_self (outcome_at t p) }
 
-outcome_leaf : (p : List Bool) → outcome_at leaf p ≡ None
+pub outcome_leaf : (p : List Bool) → outcome_at leaf p ≡ None
 outcome_leaf [] = refl
 outcome_leaf (b ∷ p) = refl
 
@@ -182,7 +182,7 @@ depth_there t p removed (Cut to v a) e f h = cc
 depth_there t p (inner x) (Cut to v a) e f h = cc
 depth_there t p (small x) (Cut to v a) e f h = cc
 
-top_fits : (b : List Bounds) (s : Tree) (o : Outcome) → Paves b s → top s ≡ Some o → Fits b o
+pub top_fits : (b : List Bounds) (s : Tree) (o : Outcome) → Paves b s → top s ≡ Some o → Fits b o
 top_fits b leaf o h e = cc
 top_fits b removed o h e = let w : Removed ≡ o = cc in subst (Fits b) w tt
 top_fits b (inner to) o h e = let w : Inner to ≡ o = cc in subst (Fits b) w h.1

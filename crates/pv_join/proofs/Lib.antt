@@ -3,3 +3,4 @@ pub mod JoinFacts
 pub mod Overlays
 pub mod AuditFacts
 pub mod JoinLaws
+pub mod Meetings

@@ -37,7 +37,7 @@ none_before_root : (q : List Bool) → IsTrue (precedes q []) → ⊥
 none_before_root [] h = let w : false ≡ true = h in cc
 none_before_root (b ∷ q) h = let w : false ≡ true = h in cc
 
-root_first : (s t : Tree) (u o : Outcome) → top s ≡ Some u → top t ≡ Some o → u ≢ o → IsFirstDisagreement s t []
+pub root_first : (s t : Tree) (u o : Outcome) → top s ≡ Some u → top t ≡ Some o → u ≢ o → IsFirstDisagreement s t []
 root_first s t u o e f n = record {
   here = record { left = u; right = o; left_is = e; right_is = f; differ = n };
   before = λ q h d. none_before_root q h;
@@ -157,7 +157,7 @@ ready_high past over old mid p m x = record {
 }
 
 -- a join below a node that was open is the other side
-part_of_leaf : (to : List Bounds) (v : ℕ) (a : Extended) (l r m n x y : Tree) → l ≡ leaf → r ≡ leaf → IsJoin l m x → IsJoin r n y → IsJoin leaf (cut to v a m n) (cut to v a x y)
+pub part_of_leaf : (to : List Bounds) (v : ℕ) (a : Extended) (l r m n x y : Tree) → l ≡ leaf → r ≡ leaf → IsJoin l m x → IsJoin r n y → IsJoin leaf (cut to v a m n) (cut to v a x y)
 part_of_leaf to v a l r m n x y e f h k =
     let low : m ≡ x = join_unique leaf m m x (join_leaf_left m) (subst (λ (z : Tree). IsJoin z m x) e h) in
     let high : n ≡ y = join_unique leaf n n y (join_leaf_left n) (subst (λ (z : Tree). IsJoin z n y) f k) in
@@ -181,7 +181,7 @@ overlaid_cut old mid past new over p m x h s t hs ht =
     }
 
 -- disagreements below
-leaf_agrees : (t : Tree) (p : List Bool) → DisagreeAt leaf t p → ⊥
+pub leaf_agrees : (t : Tree) (p : List Bool) → DisagreeAt leaf t p → ⊥
 leaf_agrees t [] d = let w : None ≡ Some d.left = d.left_is in cc
 leaf_agrees t (b ∷ p) d = let w : None ≡ Some d.left = d.left_is in cc
 
@@ -195,13 +195,13 @@ high_before to v a l r m n x p j h [] k d = let w : Some d.left ≡ Some d.right
 high_before to v a l r m n x p j h (false ∷ q) k d = d.differ (j.agree q d.left d.right d.left_is d.right_is)
 high_before to v a l r m n x p j h (true ∷ q) k d = h q k (record { left = d.left; right = d.right; left_is = d.left_is; right_is = d.right_is; differ = d.differ })
 
-first_low : (to : List Bounds) (v : ℕ) (a : Extended) (l r m n : Tree) (p : List Bool) → IsFirstDisagreement l m p → IsFirstDisagreement (cut to v a l r) (cut to v a m n) (false ∷ p)
+pub first_low : (to : List Bounds) (v : ℕ) (a : Extended) (l r m n : Tree) (p : List Bool) → IsFirstDisagreement l m p → IsFirstDisagreement (cut to v a l r) (cut to v a m n) (false ∷ p)
 first_low to v a l r m n p h = record {
   here = record { left = h.here.left; right = h.here.right; left_is = h.here.left_is; right_is = h.here.right_is; differ = h.here.differ };
   before = low_before to v a l r m n p h.before;
 }
 
-first_high : (to : List Bounds) (v : ℕ) (a : Extended) (l r m n x : Tree) (p : List Bool) → IsJoin l m x → IsFirstDisagreement r n p → IsFirstDisagreement (cut to v a l r) (cut to v a m n) (true ∷ p)
+pub first_high : (to : List Bounds) (v : ℕ) (a : Extended) (l r m n x : Tree) (p : List Bool) → IsJoin l m x → IsFirstDisagreement r n p → IsFirstDisagreement (cut to v a l r) (cut to v a m n) (true ∷ p)
 first_high to v a l r m n x p j h = record {
   here = record { left = h.here.left; right = h.here.right; left_is = h.here.left_is; right_is = h.here.right_is; differ = h.here.differ };
   before = high_before to v a l r m n x p j h.before;

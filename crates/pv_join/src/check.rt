@@ -57,7 +57,7 @@ fn shows(walk: &Walk<'_>, shape: Shape, outcome: &Outcome, scratch: &mut IBox) -
 
 /// The settler's outcome for the node just visited, which has this shape, where the node is settled
 /// otherwise.
-fn differing<S: Settler>(
+pub fn differing<S: Settler>(
     alloc: Global,
     settler: &S,
     walk: &Walk<'_>,

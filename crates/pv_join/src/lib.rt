@@ -2,12 +2,14 @@
 #![tactic(auto)]
 
 mod check;
+mod meeting;
 mod merge;
 mod outcomes;
 #[cfg(test)]
 mod tests;
 mod verdict;
 
-pub use check::audit;
+pub use check::{audit, differing};
 pub use merge::{JoinRefused, join, overlay};
+pub use outcomes::blank;
 pub use verdict::Audit;

@@ -3,9 +3,10 @@ ghost use Rattle.std.specs.Prelude.{◌≡◌, IfErr, IfOk, OnOk, IsSome, length
 ghost use Rattle.pv_tree.specs.Trees.{Tree, subtree, outcome_at, box_of, Fits, HasDepth};
 ghost use Rattle.pv_join.specs.Joins.{IsJoin, IsOverlaid, IsRefusal, IsReady, IsSettledAs, IsMismatch, IsJoinRefusal, HasJoinLaws, AreNoStages, is_a_cut};
 
-use crate::outcomes::{outcome_of, same_outcome};
+use crate::meeting::{lay, one_of, outcome_from, step_past};
+use crate::outcomes::{blank, outcome_of, same_outcome};
 use pv_num::Memory;
-use pv_tree::{Outcome, Path, Paving};
+use pv_tree::{Growth, Outcome, Path, Paving, Walk};
 use std::alloc::Global;
 
 /// Why two pavings have no join.
@@ -98,7 +99,8 @@ pub fn overlay(
     overlay(alloc, into, over, path.high())
 }
 
-/// The join of two pavings over one box: at each path the settled side.
+/// The join of two pavings over one box: at each path the settled side. It takes time for the nodes
+/// of both.
 pub fn join(alloc: Global, a: &Paving, b: &Paving) -> Result<Paving, JoinRefused>
     requires { a.now.root ≡ b.now.root }
     ensures root { IfOk result (λ p. p.root ≡ a.now.root) }
@@ -107,9 +109,24 @@ pub fn join(alloc: Global, a: &Paving, b: &Paving) -> Result<Paving, JoinRefused
     ensures laws { IfOk result (λ p. HasJoinLaws a.now.tree b.now.tree p.tree) }
     ensures no_stages { IfErr result (λ e. AreNoStages a.now.tree b.now.tree e) }
 {
-    let mut into = a.clone_of(alloc)?;
-    match overlay(alloc, &mut into, b, Path::root()) {
-        Ok(()) => Ok(into),
-        Err(refusal) => Err(refusal),
+    let mut root = blank(alloc, a.dims())?;
+    a.box_at(Path::root(), &mut root);
+    let mut scratch = root.clone_of(alloc)?;
+    let mut joined = Growth::open(alloc, root)?;
+    let mut left = Walk::of(alloc, a)?;
+    let mut right = Walk::of(alloc, b)?;
+    let mut left_seen = left.next();
+    let mut right_seen = right.next();
+    while let Some(path) = joined.next_leaf() {
+        let mine = outcome_from(alloc, &left, &left_seen, path, &mut scratch)?;
+        let theirs = outcome_from(alloc, &right, &right_seen, path, &mut scratch)?;
+        let outcome = match one_of(mine, theirs, path) {
+            Ok(outcome) => outcome,
+            Err(refused) => return Err(refused),
+        };
+        lay(&mut joined, outcome)?;
+        left_seen = step_past(&mut left, left_seen, path);
+        right_seen = step_past(&mut right, right_seen, path);
     }
+    Ok(joined.finish())
 }

@@ -9,7 +9,7 @@ use pv_tree::{Outcome, Path, Paving, Shape};
 use std::alloc::Global;
 
 /// A box of `places` places.
-pub(crate) fn blank(alloc: Global, places: u8) -> Result<IBox, Memory>
+pub fn blank(alloc: Global, places: u8) -> Result<IBox, Memory>
     requires some { 0 < places }
     requires few { places ≤ 12 }
     ensures { IfOk result (λ b. length b ≡ places) }

@@ -5,7 +5,7 @@ mod Shuffles
 mod Placing
 mod Leaves
 mod Making
-mod SideBySide
+mod Fresh
 mod Opening
 mod Rounding
 mod Reopened

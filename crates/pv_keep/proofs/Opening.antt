@@ -1,9 +1,11 @@
 -- What an opening found and left, from what its calls found and left.
-use Rattle.std.specs.Prelude.{Result, Ok, Err}
+use Rattle.std.specs.Prelude.{Result, Ok, Err, Option, Some, None}
 use Rattle.pv_tree.specs.Stages.{Grows}
 use Rattle.pv_tree.specs.Trees.{removed, inner, small, cut}
-use Rattle.pv_join.specs.Joins.{IsJoin}
+use Rattle.pv_join.specs.Joins.{IsJoin, settled_side}
 use Rattle.pv_join.proofs.JoinFacts.{side_left}
+use Rattle.pv_tree.specs.Trees.{outcome_at}
+use Rattle.pv_tree.specs.declared.outcome.Outcome.{Outcome}
 use Rattle.std.proofs.Common.{◌≡◌, Bool, true, false, length-append, ℕ, ◌+◌, ◌<◌, ◌≤◌, List, [], ◌∷◌, ◌++◌, length, refl, sym, ◌∙◌, ap, subst, inl, inr, arith}
 use Rattle.pv_interval.specs.Bounds.{Bounds}
 use Rattle.pv_io.specs.Outside.{Rose}
@@ -101,6 +103,17 @@ saved_now (holds identity kept) k1 t u rows h s e =
 
 pub joined_grows : (a b t : Tree) → IsJoin a b t → Grows a t
 joined_grows a b t j = λ p o e. j.takes p ∙ side_left _ _ o e
+
+side : (s t : Tree) (p : List Bool) (o : Option Outcome) → Grows s t → outcome_at s p ≡ o → outcome_at t p ≡ settled_side o (outcome_at t p)
+side s t p None h e = refl
+side s t p (Some o) h e = h p o e
+
+agree : (s t : Tree) → Grows s t → (p : List Bool) (o u : Outcome) → outcome_at s p ≡ Some o → outcome_at t p ≡ Some u → o ≡ u
+agree s t h p o u e f = let same : Some o ≡ Some u = sym (h p o e) ∙ f in cc
+
+-- what a tree grew to is its join with it
+pub grown_join : (s t : Tree) → Grows s t → IsJoin s t t
+grown_join s t h = record { agree = agree s t h; takes = λ p. side s t p (outcome_at s p) h refl }
 
 abbrev error_or : {T E : Type 0} → E → Result T E → E
 error_or d (Ok t) = d

@@ -4,7 +4,7 @@ pub mod Shelves
 pub mod Refusing
 pub mod Rebuilding
 pub mod Campaigns
-pub mod Beside
+pub mod Below
 pub mod Rounds
 pub mod Reopening
 pub mod Holdings

@@ -178,6 +178,51 @@ impl Campaign {
         Ok(count)
     }
 
+    /// Takes a paving that the campaign's grew to in its place, which is the join of the two, keeps the
+    /// rows of the nodes that are settled in it and were open, and answers their number. It takes time for these nodes and for
+    /// the leaves that were open, and none for what was settled. After a refusal the campaign and the
+    /// kept rows are as before.
+    #[tactic(auto, using(crate::proofs::Opening::grown_join))]
+    pub fn save_grown<P: Keeper>(
+        &mut self,
+        alloc: Global,
+        keeper: &mut P,
+        grown: Paving,
+    ) -> Result<u64, SaveRefused>
+        requires root { grown.root ≡ self.old.root }
+        requires grows { Grows self.old.tree grown.tree }
+        requires few { settled_count grown.tree ≤ self.old.limit }
+        requires begun { IsSome (P.begun keeper.old) }
+        requires kept { (name : List ℕ) → P.begun keeper.old ≡ Some name
+            → KeepsTree (P.kept keeper.old name) self.old.tree }
+        ensures root { self.new.root ≡ self.old.root }
+        ensures limit { self.new.limit ≡ self.old.limit }
+        ensures taken { OnOk result (self.new.tree ≡ grown.tree) }
+        ensures joined { OnOk result (IsJoin self.old.tree grown.tree self.new.tree) }
+        ensures count { IfOk result (λ n. settled_count self.new.tree ≡
+            settled_count self.old.tree + n) }
+        ensures unchanged { OnErr result (self.new ≡ self.old) }
+        ensures saved { (name : List ℕ) → P.begun keeper.old ≡ Some name
+            → OnOk result (IsSaved (P.kept keeper.old name) (P.kept keeper.new name) self.new.tree) }
+        ensures kept { (name : List ℕ) → P.begun keeper.old ≡ Some name
+            → KeepsTree (P.kept keeper.new name) self.new.tree }
+        ensures kept_on { (name : List ℕ) → P.begun keeper.old ≡ Some name
+            → OnErr result (P.kept keeper.new name ≡ P.kept keeper.old name) }
+        ensures others { (name other : List ℕ) → P.begun keeper.old ≡ Some name
+            → other ≢ name → P.kept keeper.new other ≡ P.kept keeper.old other }
+        ensures begun { P.begun keeper.new ≡ P.begun keeper.old }
+        ensures cause { IsErrOf result SaveRefused.Failed
+            → Rose (P.faults keeper.old) (P.faults keeper.new) }
+        ensures counts_on { P.faults keeper.old ≤ P.faults keeper.new }
+    {
+        let count = match keep_new(alloc, keeper, &self.paving, &grown) {
+            Ok(count) => count,
+            Err(refused) => return Err(refused),
+        };
+        self.paving = grown;
+        Ok(count)
+    }
+
     #[tactic(auto, using(crate::proofs::Opening::joined_grows))]
     fn join_with(&self, alloc: Global, stage: &Paving) -> Result<Paving, SaveRefused>
         requires root { stage.now.root ≡ self.now.root }

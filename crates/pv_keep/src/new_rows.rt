@@ -1,12 +1,11 @@
 //! The rows of nodes that a round settled.
-ghost use Rattle.std.specs.Prelude.{◌≡◌, ◌+◌, ◌^◌, ◌<◌, ◌≤◌, ◌++◌, [], IfOk, IfSome, IsSome, OnOk, Some, length, drop};
-ghost use Rattle.pv_tree.specs.Trees.{top, to_at, shape_of};
-ghost use Rattle.pv_tree.specs.Pieces.{IsPiece};
+ghost use Rattle.std.specs.Prelude.{◌≡◌, ◌<◌, ◌≤◌, ◌++◌, IfOk, IfSome, IsSome, OnOk, Some, length, drop};
+ghost use Rattle.pv_tree.specs.Trees.{outcome_at, subtree, to_at, shape_of};
 ghost use Rattle.pv_tree.specs.Stages.{Grows};
 ghost use Rattle.pv_file.specs.Lines.{outcome_line};
 ghost use Rattle.pv_file.specs.Readings.{HaveNumberEnds};
 ghost use Rattle.pv_keep.specs.Rows.{IsShuffle, rows_of, row_of};
-ghost use Rattle.pv_keep.specs.Beside.{Passes, with_kids};
+ghost use Rattle.pv_keep.specs.Below.{is_a_cut, rows_at};
 
 use crate::line::Line;
 use crate::row::{Row, Rows};
@@ -15,75 +14,66 @@ use pv_file::write_outcome;
 use pv_interval::Interval;
 use pv_num::Memory;
 use pv_num::laws::is_number;
-use pv_tree::{Outcome, Paving, Shape, Walk};
+use pv_tree::{Outcome, Path, Paving, Shape};
 use std::alloc::Global;
 
-/// The rows of the nodes that are settled in a paving and were open in an earlier stage of it. Both
-/// are walked over once, side by side.
+/// The rows of the nodes that are settled in a paving and were open in an earlier stage of it. It
+/// takes time for these nodes and for the earlier stage's open leaves, and none for what was settled.
 pub(crate) fn new_rows(alloc: Global, earlier: &Paving, later: &Paving) -> Result<Rows, Memory>
     requires { Grows earlier.now.tree later.now.tree }
     ensures { IfOk result (λ rows.
         IsShuffle (rows_of earlier.now.tree) rows (rows_of later.now.tree)) }
 {
-    let dims = later.dims();
-    let _counts = later.counts();
     let mut rows = Rows::new(alloc);
-    let mut old = Walk::of(alloc, earlier)?;
-    let mut new = Walk::of(alloc, later)?;
-    // So many nodes to come of the later paving stand below open leaves of the earlier one.
-    let mut below = 0u64;
-    while let Some(shape) = new.next() {
-        if pass_old(&mut old, below) {
-            below = with_children(&shape, below.saturating_sub(1));
-            push_settled(alloc, &new, shape, dims, &mut rows)?;
-        }
+    let mut open = earlier.first_open();
+    while let Some(path) = open {
+        push_below(alloc, later, path, &mut rows)?;
+        open = earlier.next_open(path);
     }
     Ok(rows)
 }
 
-// Goes on in the earlier paving, unless the later one's node stands below an open leaf of it.
-// Whether that node was open.
-fn pass_old(old: &mut Walk<'_>, below: u64) -> bool
-    ensures { Passes below old.old old.new result }
+// Appends the rows of the settled nodes at and below a path, in preorder.
+fn push_below(alloc: Global, paving: &Paving, path: Path, rows: &mut Rows) -> Result<(), Memory>
+    ensures { OnOk result (rows.new ≡ rows.old ++ rows_at paving.now.tree path) }
 {
-    if below > 0 {
-        return true;
+    let _places = paving.dims();
+    let shape = paving.shape_at(path);
+    let goes_on = is_cut(&shape);
+    push_settled(alloc, paving, path, shape, rows)?;
+    if !goes_on {
+        return Ok(());
     }
-    matches!(old.next(), Some(Shape::OpenLeaf))
+    push_below(alloc, paving, path.low(), rows)?;
+    push_below(alloc, paving, path.high(), rows)
 }
 
-// So many nodes, and the children of one.
-fn with_children(shape: &Shape, count: u64) -> u64
-    requires { count + 2 < 2 ^ 64 }
-    ensures { result ≡ with_kids shape.now count }
+fn is_cut(shape: &Shape) -> bool
+    ensures { result ≡ is_a_cut shape.now }
 {
     match shape {
-        Shape::Cut { .. } => count + 2,
-        Shape::Absent | Shape::OpenLeaf | Shape::Removed | Shape::Inner | Shape::Small => count,
+        Shape::Cut { .. } => true,
+        Shape::Absent | Shape::OpenLeaf | Shape::Removed | Shape::Inner | Shape::Small => false,
     }
 }
 
-// Appends the row of the node just visited, if it is settled.
+// Appends the row of the node at a path, if it is settled.
 fn push_settled(
     alloc: Global,
-    walk: &Walk<'_>,
+    paving: &Paving,
+    path: Path,
     shape: Shape,
-    dims: u8,
     rows: &mut Rows,
 ) -> Result<(), Memory>
-    requires shape { shape ≡ shape_of (Some walk.now.here.tree) }
-    requires piece { IsPiece walk.now.root walk.now.tree walk.now.here }
-    requires dims { dims ≡ length walk.now.root }
-    requires some { 0 < dims }
-    requires few { dims ≤ 12 }
+    requires { shape ≡ shape_of (subtree paving.now.tree path) }
     ensures { OnOk result (rows.new ≡
-        rows.old ++ row_of walk.now.here.path (top walk.now.here.tree)) }
+        rows.old ++ row_of path (outcome_at paving.now.tree path)) }
 {
-    let Some(outcome) = outcome_here(alloc, walk, shape, dims)? else {
+    let Some(outcome) = outcome_there(alloc, paving, path, shape)? else {
         return Ok(());
     };
     let row = Row {
-        path: walk.path(),
+        path,
         line: line_of(alloc, &outcome)?,
     };
     match rows.push(row) {
@@ -104,52 +94,50 @@ fn line_of(alloc: Global, outcome: &Outcome) -> Result<Line, Memory>
     }
 }
 
-// The outcome of the node just visited, which has this shape. None where it is open.
-fn outcome_here(
+// The outcome of the node at a path, which has this shape. None where it is open or not there.
+fn outcome_there(
     alloc: Global,
-    walk: &Walk<'_>,
+    paving: &Paving,
+    path: Path,
     shape: Shape,
-    dims: u8,
 ) -> Result<Option<Outcome>, Memory>
-    requires shape { shape ≡ shape_of (Some walk.now.here.tree) }
-    requires piece { IsPiece walk.now.root walk.now.tree walk.now.here }
-    requires dims { dims ≡ length walk.now.root }
-    requires some { 0 < dims }
-    requires few { dims ≤ 12 }
-    ensures top { IfOk result (λ found. found ≡ top walk.now.here.tree) }
+    requires { shape ≡ shape_of (subtree paving.now.tree path) }
+    ensures outcome { IfOk result (λ found. found ≡ outcome_at paving.now.tree path) }
     ensures short { IfOk result (λ found. IfSome found (λ o. length (outcome_line o) ≤ 660)) }
 {
+    let dims = paving.dims();
     match shape {
-        Shape::Absent | Shape::OpenLeaf => Ok(None),
+        Shape::Absent => Ok(None),
+        Shape::OpenLeaf => Ok(None),
         Shape::Removed => Ok(Some(Outcome::Removed)),
         Shape::Inner => {
-            let to = kept_here(alloc, walk, dims)?;
+            let to = kept_there(alloc, paving, path, dims)?;
             Ok(Some(Outcome::Inner { to }))
         }
         Shape::Small => {
-            let to = kept_here(alloc, walk, dims)?;
+            let to = kept_there(alloc, paving, path, dims)?;
             Ok(Some(Outcome::Small { to }))
         }
         Shape::Cut { var, at } => {
-            let to = kept_here(alloc, walk, dims)?;
+            let to = kept_there(alloc, paving, path, dims)?;
             is_number(at);
             Ok(Some(Outcome::Cut { to, var, at }))
         }
     }
 }
 
-// What the node just visited kept of its box.
-fn kept_here(alloc: Global, walk: &Walk<'_>, dims: u8) -> Result<IBox, Memory>
-    requires there { IsSome (to_at walk.now.here.tree []) }
-    requires dims { dims ≡ length walk.now.root }
+// What the node at a path kept of its box.
+fn kept_there(alloc: Global, paving: &Paving, path: Path, dims: u8) -> Result<IBox, Memory>
+    requires there { IsSome (to_at paving.now.tree path) }
+    requires dims { dims ≡ length paving.now.root }
     requires some { 0 < dims }
     requires few { dims ≤ 12 }
-    ensures is { IfOk result (λ to. to_at walk.now.here.tree [] ≡ Some to) }
+    ensures is { IfOk result (λ to. to_at paving.now.tree path ≡ Some to) }
     ensures few { IfOk result (λ to. length to ≤ 12) }
     ensures numbers { IfOk result (λ to. HaveNumberEnds to) }
 {
     let mut to = IBox::new(vec![in alloc; Interval::ALL; dims as usize]?);
-    walk.write_to(&mut to);
+    paving.to_at(path, &mut to);
     learn_numbers(&to, 0);
     Ok(to)
 }

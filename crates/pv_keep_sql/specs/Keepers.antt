@@ -5,6 +5,8 @@ use Rattle.pv_keep.specs.declared.keeper.BeginRefused.{BeginRefused}
 use Rattle.pv_keep.specs.declared.keeper.BeginRefused.TheVariants.{Failed, Memory, OtherIdentity}
 use Rattle.pv_keep_sql.specs.declared.database.Entered.{Entered}
 use Rattle.pv_keep_sql.specs.declared.database.Entered.TheVariants.{Same, Other}
+use Rattle.pv_keep_sql.specs.declared.database.Standing.{Standing}
+use Rattle.pv_keep_sql.specs.declared.database.Standing.TheVariants as standing
 use Rattle.pv_keep_sql.specs.declared.database.Extent.{Extent}
 use Rattle.pv_keep_sql.specs.declared.database.Extent.TheVariants.{Whole, OneTooMany}
 use Rattle.pv_keep_sql.specs.declared.connection_keeper.ConnectionKeeper.{ConnectionKeeper}
@@ -14,6 +16,13 @@ use Rattle.pv_keep_sql.specs.declared.file_keeper.FileKeeper.{FileKeeper}
 abbrev pub IsOther : List ℕ → Entered → Type 0
 IsOther identity Same = Unit {0}
 IsOther identity (Other kept) = kept ≢ identity
+
+-- a database that has another identity is told with that one
+abbrev pub StandsBeside : List ℕ → Standing → Type 0
+StandsBeside identity standing.New = Unit {0}
+StandsBeside identity standing.Bare = Unit {0}
+StandsBeside identity standing.Same = Unit {0}
+StandsBeside identity (standing.Other kept) = kept ≢ identity
 
 abbrev pub IsOtherThan : List ℕ → BeginRefused → Type 0
 IsOtherThan identity Failed = Unit {0}

@@ -1,26 +1,21 @@
 //! The statements that keep a campaign in a database.
 ghost use Rattle.std.specs.Prelude.{◌≡◌, ◌≢◌, ◌+◌, ◌≤◌, ◌<◌, [], length, IfOk, OnOk, MatchOption};
-ghost use Rattle.pv_keep_sql.specs.Keepers.{IsOther, IsRead};
+ghost use Rattle.pv_keep_sql.specs.Keepers.{IsOther, IsRead, StandsBeside};
 
 use crate::faults::Refused;
 use crate::kept_path::{path_of, push_digits};
+use crate::listing::{HEAD, Listed, NODE, read_list};
 use pv_keep::{Line, Row, Rows};
 use sqlite::types::ValueRef;
 use sqlite::{Alter, Connection, Statement, Transaction, params};
 use std::alloc::Global;
 
-const OBJECTS: &str = "SELECT count(*) FROM sqlite_master";
-
-const OWN_TABLES: &str =
-    "SELECT count(*) FROM sqlite_master WHERE type = 'table' AND name IN ('head', 'node')";
-
-const MAKE_TABLES: &str = "CREATE TABLE IF NOT EXISTS head (
-    id INTEGER PRIMARY KEY CHECK (id = 1), identity BLOB NOT NULL) STRICT;
-CREATE TABLE IF NOT EXISTS node (path TEXT PRIMARY KEY NOT NULL, line TEXT NOT NULL) STRICT";
-
 const IDENTITY: &str = "SELECT identity FROM head WHERE id = 1";
 
 const SET_IDENTITY: &str = "INSERT INTO head (id, identity) VALUES (1, ?1)";
+
+/// The key of a row, if there is one.
+const SOME_ROW: &str = "SELECT path FROM node LIMIT 1";
 
 const ROWS: &str = "SELECT path, line FROM node ORDER BY path";
 
@@ -64,8 +59,21 @@ pub(crate) enum Extent {
     OneTooMany,
 }
 
+/// How a database stands to an identity before anything is written to it.
+#[derive(Clone, Copy)]
+pub(crate) enum Standing {
+    /// It lists nothing.
+    New,
+    /// It has the two tables, no identity and no row.
+    Bare,
+    /// It has this identity.
+    Same,
+    /// It has another one, which is `kept`.
+    Other { kept: [u8; 32] },
+}
+
 /// Sees to it that a database has the two tables and an identity. Where the identity is another
-/// one, or the database is refused, it stays as it was.
+/// one, or the database is refused, nothing was written.
 pub(crate) fn enter<S: Alter>(
     alloc: Global,
     connection: &mut Connection<S>,
@@ -76,45 +84,90 @@ pub(crate) fn enter<S: Alter>(
     if !connection.is_autocommit() {
         return Err(Refused::Failed);
     }
-    let mut change = connection.transaction();
-    let made = make_tables(&mut change)?;
-    let Some(kept) = kept_identity(alloc, &mut change)? else {
-        set_identity(&mut change, identity)?;
-        change.commit()?;
-        return Ok(Entered::Same);
-    };
-    let entered = entered_as(identity, &kept)?;
-    if made && matches!(entered, Entered::Same) {
-        change.commit()?;
+    match look(alloc, connection, identity)? {
+        Standing::New => make(connection, identity)?,
+        Standing::Bare => sign(connection, identity)?,
+        Standing::Same => {}
+        Standing::Other { kept } => return Ok(Entered::Other { kept }),
     }
-    Ok(entered)
+    Ok(Entered::Same)
 }
 
-// Makes the tables that are absent, and says whether one was. A database of another program is
-// refused: it has tables, and neither of these two.
-fn make_tables<S: Alter>(change: &mut Transaction<'_, S>) -> Result<bool, Refused> {
-    let own = count(change, OWN_TABLES)?;
-    if own == 0 && count(change, OBJECTS)? > 0 {
+/// How a database stands to an identity. One that lists anything but a campaign's tables is refused
+/// before a table of it is read, and so is one that has rows and no identity. Nothing is written.
+pub(crate) fn look<S: Alter>(
+    alloc: Global,
+    connection: &mut Connection<S>,
+    identity: &[u8; 32],
+) -> Result<Standing, Refused>
+    ensures { IfOk result (StandsBeside identity.now) }
+{
+    match read_list(connection)? {
+        Listed::Nothing => Ok(Standing::New),
+        Listed::Own => own_standing(alloc, connection, identity),
+        Listed::Other => Err(Refused::Failed),
+    }
+}
+
+fn own_standing<S: Alter>(
+    alloc: Global,
+    connection: &mut Connection<S>,
+    identity: &[u8; 32],
+) -> Result<Standing, Refused>
+    ensures { IfOk result (StandsBeside identity.now) }
+{
+    match kept_identity(alloc, connection)? {
+        Some(kept) => compared(identity, &kept),
+        None => unsigned(connection),
+    }
+}
+
+// Rows with no identity are nobody's, and so they are refused.
+fn unsigned<S: Alter>(connection: &mut Connection<S>) -> Result<Standing, Refused>
+    ensures { IfOk result (λ found. found ≡ Standing.Bare) }
+{
+    if has_row(connection)? {
+        Err(Refused::Failed)
+    } else {
+        Ok(Standing::Bare)
+    }
+}
+
+fn has_row<S: Alter>(connection: &mut Connection<S>) -> Result<bool, Refused> {
+    let mut found = connection.query(SOME_ROW, &[])?;
+    Ok(found.next()?.is_some())
+}
+
+// Makes the two tables and the identity in one transaction.
+fn make<S: Alter>(connection: &mut Connection<S>, identity: &[u8; 32]) -> Result<(), Refused> {
+    if !connection.is_autocommit() {
         return Err(Refused::Failed);
     }
-    if own < 2 {
-        change.execute_batch(MAKE_TABLES)?;
-    }
-    change.prepare(ROWS)?;
-    Ok(own < 2)
+    let mut change = connection.transaction();
+    change.execute_batch(HEAD)?;
+    change.execute_batch(NODE)?;
+    set_identity(&mut change, identity)?;
+    change.commit()?;
+    Ok(())
 }
 
-fn count<S: Alter>(change: &mut Transaction<'_, S>, sql: &str) -> Result<i64, Refused> {
-    let row = change.query_row(sql, &[])?;
-    Ok(row.get(0)?)
+// Gives the tables an identity.
+fn sign<S: Alter>(connection: &mut Connection<S>, identity: &[u8; 32]) -> Result<(), Refused> {
+    if !connection.is_autocommit() {
+        return Err(Refused::Failed);
+    }
+    let mut change = connection.transaction();
+    set_identity(&mut change, identity)?;
+    change.commit()?;
+    Ok(())
 }
 
 // The identity that is kept, if there is one.
 fn kept_identity<S: Alter>(
     alloc: Global,
-    change: &mut Transaction<'_, S>,
+    connection: &mut Connection<S>,
 ) -> Result<Option<Vec<u8>>, Refused> {
-    let mut found = change.query(IDENTITY, &[])?;
+    let mut found = connection.query(IDENTITY, &[])?;
     let Some(row) = found.next()? else {
         return Ok(None);
     };
@@ -134,16 +187,16 @@ fn set_identity<S: Alter>(
 
 // How a kept identity stands to the one that is asked for. One that is not 32 bytes long is
 // refused.
-fn entered_as(identity: &[u8; 32], kept: &[u8]) -> Result<Entered, Refused>
-    ensures { IfOk result (IsOther identity.now) }
+fn compared(identity: &[u8; 32], kept: &[u8]) -> Result<Standing, Refused>
+    ensures { IfOk result (StandsBeside identity.now) }
 {
     let Some(kept) = digest_of(kept) else {
         return Err(Refused::Failed);
     };
     if kept == *identity {
-        Ok(Entered::Same)
+        Ok(Standing::Same)
     } else {
-        Ok(Entered::Other { kept })
+        Ok(Standing::Other { kept })
     }
 }
 

@@ -12,6 +12,8 @@ mod database;
 mod faults;
 mod file_keeper;
 mod kept_path;
+mod listing;
+mod place;
 #[cfg(test)]
 mod tests;
 

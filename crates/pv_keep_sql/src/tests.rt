@@ -14,12 +14,41 @@ const IDENTITY: [u8; 32] = [7; 32];
 const OTHER: [u8; 32] = [8; 32];
 
 /// Tables as the keepers make them, with the identity of these tests.
-const TABLES: &str = "CREATE TABLE head (id INTEGER PRIMARY KEY, identity BLOB NOT NULL) STRICT;
+const TABLES: &str = "CREATE TABLE head (
+    id INTEGER PRIMARY KEY CHECK (id = 1), identity BLOB NOT NULL) STRICT;
 CREATE TABLE node (path TEXT PRIMARY KEY NOT NULL, line TEXT NOT NULL) STRICT;
 INSERT INTO head VALUES (1, x'0707070707070707070707070707070707070707070707070707070707070707')";
 
 /// All that is no index.
 const OBJECTS: &str = "SELECT count(*) FROM sqlite_master WHERE type <> 'index'";
+
+/// Tables as earlier versions made them.
+const EARLIER: &str = "CREATE TABLE IF NOT EXISTS head (
+    id INTEGER PRIMARY KEY CHECK (id = 1), identity BLOB NOT NULL) STRICT;
+CREATE TABLE IF NOT EXISTS node (path TEXT PRIMARY KEY NOT NULL, line TEXT NOT NULL) STRICT";
+
+/// What makes a campaign's tables those of somebody else, and how many objects are then listed that
+/// are no index.
+const STRANGE: [(&str, i64); 9] = [
+    ("CREATE TABLE users (id INTEGER PRIMARY KEY)", 3),
+    ("CREATE VIEW one AS SELECT 1", 3),
+    ("CREATE INDEX lines ON node (line)", 2),
+    ("CREATE UNIQUE INDEX lines ON node (line)", 2),
+    ("DROP TABLE head", 1),
+    ("DROP TABLE node", 1),
+    (
+        "DROP TABLE head; CREATE TABLE head (id INTEGER PRIMARY KEY, identity BLOB) STRICT",
+        2,
+    ),
+    (
+        "DROP TABLE node; CREATE TABLE node (path TEXT PRIMARY KEY NOT NULL, line TEXT NOT NULL)",
+        2,
+    ),
+    (
+        "DROP TABLE head; CREATE VIEW head AS WITH RECURSIVE c(n) AS (SELECT 1 UNION ALL SELECT n + 1 FROM c) SELECT 1 AS id, x'00' AS identity FROM c WHERE n < 0",
+        2,
+    ),
+];
 
 /// What was answered to a load, and the rows that it left, a line each: the digits, a space and the
 /// line.
@@ -329,8 +358,9 @@ fn an_identity_has_32_bytes(rt: HostRuntime) -> Result<(), Fail> {
     let other = BeginRefused::OtherIdentity { kept: [0; 32] };
     assert_eq!(rt; begun_over(alloc, 32)?, Err(other));
     let mut keeper = keeper_of(alloc, "DELETE FROM head")?;
-    assert_eq!(rt; begin(&mut keeper, "k", IDENTITY), Ok(()));
-    assert_eq!(rt; begin(&mut keeper, "k", IDENTITY), Ok(()));
+    assert_eq!(rt; begin(&mut keeper, "k", OTHER), Ok(()));
+    let other = BeginRefused::OtherIdentity { kept: OTHER };
+    assert_eq!(rt; begin(&mut keeper, "k", IDENTITY), Err(other));
     Ok(())
 }
 
@@ -353,6 +383,51 @@ fn a_database_of_another_program_stays_as_it_was(rt: HostRuntime) -> Result<(), 
         let mut connection = keeper.into_connection();
         assert_eq!(rt; number(&mut connection, OBJECTS)?, 1, "of {sql}");
     }
+    Ok(())
+}
+
+#[test]
+fn a_database_with_more_or_other_tables_stays_as_it_was(rt: HostRuntime) -> Result<(), Fail> {
+    let alloc = rt.alloc();
+    for (sql, objects) in STRANGE {
+        let mut keeper = keeper_of(alloc, sql)?;
+        assert_eq!(rt;
+            begin(&mut keeper, "k", IDENTITY),
+            Err(BeginRefused::Failed),
+            "with {sql}"
+        );
+        let mut connection = keeper.into_connection();
+        assert_eq!(rt; number(&mut connection, OBJECTS)?, objects, "with {sql}");
+    }
+    Ok(())
+}
+
+#[test]
+fn rows_with_no_identity_are_nobodys(rt: HostRuntime) -> Result<(), Fail> {
+    let alloc = rt.alloc();
+    let mut keeper = keeper_of(alloc, "INSERT INTO node VALUES ('', 'X'); DELETE FROM head")?;
+    for identity in [IDENTITY, OTHER] {
+        assert_eq!(rt;
+            begin(&mut keeper, "k", identity),
+            Err(BeginRefused::Failed)
+        );
+    }
+    let mut connection = keeper.into_connection();
+    let heads = "SELECT count(*) FROM head";
+    assert_eq!(rt; number(&mut connection, heads)?, 0);
+    Ok(())
+}
+
+#[test]
+fn tables_of_earlier_versions_are_gone_on_with(rt: HostRuntime) -> Result<(), Fail> {
+    let alloc = rt.alloc();
+    let mut keeper = keeper_over(alloc, EARLIER)?;
+    assert_eq!(rt; save(&mut keeper, &both_halves(alloc)?)?, Ok(()));
+    let wanted = "0 X\n1 S 1:-1 1:0\n";
+    assert_eq!(rt;
+        load(alloc, &mut keeper, 9)?.text.as_slice(),
+        wanted.as_bytes()
+    );
     Ok(())
 }
 

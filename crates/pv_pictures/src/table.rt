@@ -91,7 +91,7 @@ pub(crate) static AXES: [Case; 10] = [
         x: 0,
         y: 1,
         at: &[],
-        rectangles: "<rect x=\"0\" y=\"1000\" width=\"0\" height=\"0\" fill=\"#fdd835\"/>\n",
+        rectangles: "<rect x=\"0\" y=\"999\" width=\"1\" height=\"1\" fill=\"#fdd835\"/>\n",
     },
     Case {
         root: &[
@@ -102,7 +102,7 @@ pub(crate) static AXES: [Case; 10] = [
         x: 0,
         y: 1,
         at: &[],
-        rectangles: "<rect x=\"0\" y=\"0\" width=\"0\" height=\"1000\" fill=\"#ffffff\"/>\n",
+        rectangles: "<rect x=\"0\" y=\"0\" width=\"1000\" height=\"1000\" fill=\"#ffffff\"/>\n",
     },
     Case {
         root: &[
@@ -113,7 +113,7 @@ pub(crate) static AXES: [Case; 10] = [
         x: 0,
         y: 1,
         at: &[],
-        rectangles: "<rect x=\"0\" y=\"1\" width=\"1000\" height=\"999\" fill=\"#cfd8dc\"/>\n<rect x=\"714\" y=\"1\" width=\"190\" height=\"999\" fill=\"#cfd8dc\"/>\n<rect x=\"904\" y=\"1\" width=\"96\" height=\"999\" fill=\"#cfd8dc\"/>\n<rect x=\"904\" y=\"143\" width=\"64\" height=\"286\" fill=\"#cfd8dc\"/>\n<rect x=\"904\" y=\"347\" width=\"43\" height=\"41\" fill=\"#ffffff\"/>\n<rect x=\"947\" y=\"347\" width=\"21\" height=\"41\" fill=\"#ffffff\"/>\n<rect x=\"968\" y=\"143\" width=\"32\" height=\"286\" fill=\"#ffffff\"/>\n",
+        rectangles: "<rect x=\"0\" y=\"0\" width=\"1000\" height=\"1000\" fill=\"#cfd8dc\"/>\n<rect x=\"715\" y=\"0\" width=\"189\" height=\"1000\" fill=\"#cfd8dc\"/>\n<rect x=\"905\" y=\"0\" width=\"95\" height=\"1000\" fill=\"#cfd8dc\"/>\n<rect x=\"905\" y=\"143\" width=\"63\" height=\"285\" fill=\"#cfd8dc\"/>\n<rect x=\"904\" y=\"346\" width=\"44\" height=\"42\" fill=\"#ffffff\"/>\n<rect x=\"947\" y=\"346\" width=\"22\" height=\"42\" fill=\"#ffffff\"/>\n<rect x=\"968\" y=\"142\" width=\"32\" height=\"287\" fill=\"#ffffff\"/>\n",
     },
     Case {
         root: &[
@@ -124,7 +124,7 @@ pub(crate) static AXES: [Case; 10] = [
         x: 1,
         y: 0,
         at: &[],
-        rectangles: "<rect x=\"0\" y=\"0\" width=\"999\" height=\"1000\" fill=\"#cfd8dc\"/>\n<rect x=\"285\" y=\"810\" width=\"714\" height=\"190\" fill=\"#cfd8dc\"/>\n<rect x=\"285\" y=\"715\" width=\"714\" height=\"95\" fill=\"#cfd8dc\"/>\n<rect x=\"489\" y=\"768\" width=\"306\" height=\"42\" fill=\"#cfd8dc\"/>\n<rect x=\"533\" y=\"782\" width=\"262\" height=\"28\" fill=\"#ffffff\"/>\n<rect x=\"533\" y=\"768\" width=\"262\" height=\"14\" fill=\"#43a047\"/>\n<rect x=\"489\" y=\"747\" width=\"306\" height=\"21\" fill=\"#cfd8dc\"/>\n<rect x=\"489\" y=\"715\" width=\"306\" height=\"32\" fill=\"#cfd8dc\"/>\n<rect x=\"489\" y=\"733\" width=\"306\" height=\"14\" fill=\"#fdd835\"/>\n",
+        rectangles: "<rect x=\"0\" y=\"0\" width=\"1000\" height=\"1000\" fill=\"#cfd8dc\"/>\n<rect x=\"286\" y=\"810\" width=\"714\" height=\"190\" fill=\"#cfd8dc\"/>\n<rect x=\"286\" y=\"715\" width=\"714\" height=\"94\" fill=\"#cfd8dc\"/>\n<rect x=\"490\" y=\"768\" width=\"305\" height=\"41\" fill=\"#cfd8dc\"/>\n<rect x=\"533\" y=\"781\" width=\"263\" height=\"29\" fill=\"#ffffff\"/>\n<rect x=\"534\" y=\"768\" width=\"261\" height=\"13\" fill=\"#43a047\"/>\n<rect x=\"490\" y=\"747\" width=\"305\" height=\"20\" fill=\"#cfd8dc\"/>\n<rect x=\"490\" y=\"715\" width=\"305\" height=\"31\" fill=\"#cfd8dc\"/>\n<rect x=\"489\" y=\"732\" width=\"307\" height=\"15\" fill=\"#fdd835\"/>\n",
     },
     Case {
         root: &[((1, -1), (1, -1)), ((-3, 0), (5, 0))],
@@ -132,7 +132,7 @@ pub(crate) static AXES: [Case; 10] = [
         x: 0,
         y: 1,
         at: &[],
-        rectangles: "<rect x=\"0\" y=\"0\" width=\"0\" height=\"1000\" fill=\"#cfd8dc\"/>\n<rect x=\"0\" y=\"143\" width=\"0\" height=\"286\" fill=\"#ffffff\"/>\n<rect x=\"0\" y=\"48\" width=\"0\" height=\"95\" fill=\"#fdd835\"/>\n<rect x=\"0\" y=\"0\" width=\"0\" height=\"48\" fill=\"#ffffff\"/>\n",
+        rectangles: "<rect x=\"0\" y=\"0\" width=\"1\" height=\"1000\" fill=\"#cfd8dc\"/>\n<rect x=\"0\" y=\"142\" width=\"1\" height=\"287\" fill=\"#ffffff\"/>\n<rect x=\"0\" y=\"47\" width=\"1\" height=\"96\" fill=\"#fdd835\"/>\n<rect x=\"0\" y=\"0\" width=\"1\" height=\"48\" fill=\"#ffffff\"/>\n",
     },
     Case {
         root: &[((1, -1), (1, -1)), ((-3, 0), (5, 0))],
@@ -140,7 +140,7 @@ pub(crate) static AXES: [Case; 10] = [
         x: 1,
         y: 0,
         at: &[],
-        rectangles: "<rect x=\"0\" y=\"1000\" width=\"666\" height=\"0\" fill=\"#cfd8dc\"/>\n<rect x=\"666\" y=\"1000\" width=\"222\" height=\"0\" fill=\"#cfd8dc\"/>\n<rect x=\"888\" y=\"1000\" width=\"74\" height=\"0\" fill=\"#fdd835\"/>\n<rect x=\"962\" y=\"1000\" width=\"25\" height=\"0\" fill=\"#ffffff\"/>\n<rect x=\"987\" y=\"1000\" width=\"13\" height=\"0\" fill=\"#ffffff\"/>\n",
+        rectangles: "<rect x=\"0\" y=\"999\" width=\"666\" height=\"1\" fill=\"#cfd8dc\"/>\n<rect x=\"667\" y=\"999\" width=\"221\" height=\"1\" fill=\"#cfd8dc\"/>\n<rect x=\"888\" y=\"999\" width=\"75\" height=\"1\" fill=\"#fdd835\"/>\n<rect x=\"962\" y=\"999\" width=\"26\" height=\"1\" fill=\"#ffffff\"/>\n<rect x=\"987\" y=\"999\" width=\"13\" height=\"1\" fill=\"#ffffff\"/>\n",
     },
     Case {
         root: &[((-125, 3), (-5, 1)), ((-7, 0), (-1, -10))],
@@ -148,7 +148,7 @@ pub(crate) static AXES: [Case; 10] = [
         x: 0,
         y: 1,
         at: &[],
-        rectangles: "<rect x=\"0\" y=\"0\" width=\"666\" height=\"1000\" fill=\"#cfd8dc\"/>\n<rect x=\"0\" y=\"715\" width=\"666\" height=\"285\" fill=\"#fdd835\"/>\n<rect x=\"666\" y=\"0\" width=\"334\" height=\"1000\" fill=\"#cfd8dc\"/>\n<rect x=\"952\" y=\"334\" width=\"48\" height=\"666\" fill=\"#ffffff\"/>\n<rect x=\"952\" y=\"112\" width=\"48\" height=\"222\" fill=\"#cfd8dc\"/>\n<rect x=\"965\" y=\"186\" width=\"7\" height=\"148\" fill=\"#fdd835\"/>\n<rect x=\"965\" y=\"112\" width=\"7\" height=\"74\" fill=\"#cfd8dc\"/>\n<rect x=\"967\" y=\"112\" width=\"2\" height=\"74\" fill=\"#fdd835\"/>\n<rect x=\"952\" y=\"0\" width=\"48\" height=\"112\" fill=\"#ffffff\"/>\n",
+        rectangles: "<rect x=\"0\" y=\"0\" width=\"666\" height=\"1000\" fill=\"#cfd8dc\"/>\n<rect x=\"0\" y=\"714\" width=\"667\" height=\"286\" fill=\"#fdd835\"/>\n<rect x=\"667\" y=\"0\" width=\"333\" height=\"1000\" fill=\"#cfd8dc\"/>\n<rect x=\"952\" y=\"333\" width=\"48\" height=\"667\" fill=\"#ffffff\"/>\n<rect x=\"953\" y=\"112\" width=\"47\" height=\"221\" fill=\"#cfd8dc\"/>\n<rect x=\"965\" y=\"185\" width=\"8\" height=\"149\" fill=\"#fdd835\"/>\n<rect x=\"966\" y=\"112\" width=\"6\" height=\"73\" fill=\"#cfd8dc\"/>\n<rect x=\"967\" y=\"111\" width=\"3\" height=\"75\" fill=\"#fdd835\"/>\n<rect x=\"952\" y=\"0\" width=\"48\" height=\"112\" fill=\"#ffffff\"/>\n",
     },
     Case {
         root: &[
@@ -159,7 +159,7 @@ pub(crate) static AXES: [Case; 10] = [
         x: 0,
         y: 1,
         at: &[],
-        rectangles: "<rect x=\"0\" y=\"556\" width=\"0\" height=\"444\" fill=\"#cfd8dc\"/>\n<rect x=\"0\" y=\"556\" width=\"0\" height=\"444\" fill=\"#fdd835\"/>\n<rect x=\"0\" y=\"334\" width=\"0\" height=\"222\" fill=\"#cfd8dc\"/>\n<rect x=\"0\" y=\"0\" width=\"0\" height=\"334\" fill=\"#cfd8dc\"/>\n<rect x=\"0\" y=\"96\" width=\"0\" height=\"47\" fill=\"#fdd835\"/>\n",
+        rectangles: "<rect x=\"0\" y=\"556\" width=\"1000\" height=\"444\" fill=\"#cfd8dc\"/>\n<rect x=\"0\" y=\"555\" width=\"1000\" height=\"445\" fill=\"#fdd835\"/>\n<rect x=\"0\" y=\"334\" width=\"1000\" height=\"221\" fill=\"#cfd8dc\"/>\n<rect x=\"0\" y=\"0\" width=\"1000\" height=\"333\" fill=\"#cfd8dc\"/>\n<rect x=\"0\" y=\"95\" width=\"1000\" height=\"48\" fill=\"#fdd835\"/>\n",
     },
     Case {
         root: &[
@@ -170,7 +170,7 @@ pub(crate) static AXES: [Case; 10] = [
         x: 1,
         y: 0,
         at: &[],
-        rectangles: "<rect x=\"0\" y=\"1000\" width=\"1000\" height=\"0\" fill=\"#cfd8dc\"/>\n<rect x=\"0\" y=\"1000\" width=\"1000\" height=\"0\" fill=\"#cfd8dc\"/>\n<rect x=\"0\" y=\"1000\" width=\"285\" height=\"0\" fill=\"#ffffff\"/>\n<rect x=\"285\" y=\"1000\" width=\"143\" height=\"0\" fill=\"#cfd8dc\"/>\n<rect x=\"0\" y=\"1000\" width=\"428\" height=\"0\" fill=\"#cfd8dc\"/>\n<rect x=\"0\" y=\"1000\" width=\"428\" height=\"0\" fill=\"#fdd835\"/>\n<rect x=\"0\" y=\"1000\" width=\"1000\" height=\"0\" fill=\"#ffffff\"/>\n",
+        rectangles: "<rect x=\"0\" y=\"0\" width=\"1000\" height=\"1000\" fill=\"#cfd8dc\"/>\n<rect x=\"0\" y=\"0\" width=\"286\" height=\"1000\" fill=\"#ffffff\"/>\n<rect x=\"0\" y=\"0\" width=\"429\" height=\"1000\" fill=\"#fdd835\"/>\n<rect x=\"0\" y=\"0\" width=\"1000\" height=\"1000\" fill=\"#ffffff\"/>\n",
     },
     Case {
         root: &[((-1, -512), (1, -512)), ((1, -512), (1, -509))],
@@ -178,7 +178,7 @@ pub(crate) static AXES: [Case; 10] = [
         x: 0,
         y: 1,
         at: &[],
-        rectangles: "<rect x=\"0\" y=\"715\" width=\"500\" height=\"285\" fill=\"#ffffff\"/>\n<rect x=\"0\" y=\"429\" width=\"500\" height=\"286\" fill=\"#cfd8dc\"/>\n<rect x=\"0\" y=\"572\" width=\"500\" height=\"0\" fill=\"#43a047\"/>\n<rect x=\"0\" y=\"143\" width=\"500\" height=\"286\" fill=\"#ffffff\"/>\n<rect x=\"0\" y=\"0\" width=\"500\" height=\"143\" fill=\"#cfd8dc\"/>\n<rect x=\"0\" y=\"143\" width=\"0\" height=\"0\" fill=\"#fdd835\"/>\n<rect x=\"500\" y=\"0\" width=\"500\" height=\"1000\" fill=\"#ffffff\"/>\n",
+        rectangles: "<rect x=\"0\" y=\"714\" width=\"500\" height=\"286\" fill=\"#ffffff\"/>\n<rect x=\"0\" y=\"429\" width=\"500\" height=\"285\" fill=\"#cfd8dc\"/>\n<rect x=\"0\" y=\"142\" width=\"500\" height=\"287\" fill=\"#ffffff\"/>\n<rect x=\"0\" y=\"0\" width=\"500\" height=\"142\" fill=\"#cfd8dc\"/>\n<rect x=\"0\" y=\"142\" width=\"1\" height=\"1\" fill=\"#fdd835\"/>\n<rect x=\"500\" y=\"0\" width=\"500\" height=\"1000\" fill=\"#ffffff\"/>\n",
     },
 ];
 
@@ -189,7 +189,7 @@ pub(crate) static SLICES: [Case; 7] = [
         x: 0,
         y: 1,
         at: &[(888710326467777877, -58)],
-        rectangles: "<rect x=\"0\" y=\"0\" width=\"1000\" height=\"1000\" fill=\"#cfd8dc\"/>\n<rect x=\"142\" y=\"334\" width=\"429\" height=\"666\" fill=\"#cfd8dc\"/>\n<rect x=\"142\" y=\"0\" width=\"429\" height=\"334\" fill=\"#cfd8dc\"/>\n<rect x=\"142\" y=\"96\" width=\"429\" height=\"238\" fill=\"#cfd8dc\"/>\n<rect x=\"204\" y=\"96\" width=\"204\" height=\"238\" fill=\"#cfd8dc\"/>\n<rect x=\"408\" y=\"96\" width=\"102\" height=\"238\" fill=\"#cfd8dc\"/>\n<rect x=\"422\" y=\"175\" width=\"15\" height=\"159\" fill=\"#ffffff\"/>\n<rect x=\"422\" y=\"96\" width=\"15\" height=\"79\" fill=\"#cfd8dc\"/>\n<rect x=\"426\" y=\"96\" width=\"9\" height=\"79\" fill=\"#43a047\"/>\n<rect x=\"142\" y=\"96\" width=\"429\" height=\"238\" fill=\"#ffffff\"/>\n",
+        rectangles: "<rect x=\"0\" y=\"0\" width=\"1000\" height=\"1000\" fill=\"#cfd8dc\"/>\n<rect x=\"143\" y=\"334\" width=\"428\" height=\"666\" fill=\"#cfd8dc\"/>\n<rect x=\"143\" y=\"0\" width=\"428\" height=\"333\" fill=\"#cfd8dc\"/>\n<rect x=\"143\" y=\"96\" width=\"428\" height=\"237\" fill=\"#cfd8dc\"/>\n<rect x=\"205\" y=\"96\" width=\"203\" height=\"237\" fill=\"#cfd8dc\"/>\n<rect x=\"409\" y=\"96\" width=\"101\" height=\"237\" fill=\"#cfd8dc\"/>\n<rect x=\"422\" y=\"174\" width=\"16\" height=\"160\" fill=\"#ffffff\"/>\n<rect x=\"423\" y=\"96\" width=\"14\" height=\"78\" fill=\"#cfd8dc\"/>\n<rect x=\"427\" y=\"96\" width=\"8\" height=\"78\" fill=\"#43a047\"/>\n<rect x=\"142\" y=\"95\" width=\"430\" height=\"239\" fill=\"#ffffff\"/>\n",
     },
     Case {
         root: &[((0, 0), (1, 0)), ((-1, 0), (1, 0)), ((-3, -2), (5, 0))],
@@ -197,7 +197,7 @@ pub(crate) static SLICES: [Case; 7] = [
         x: 2,
         y: 0,
         at: &[(1537228672809129301, -62)],
-        rectangles: "<rect x=\"0\" y=\"0\" width=\"1000\" height=\"1000\" fill=\"#cfd8dc\"/>\n<rect x=\"571\" y=\"334\" width=\"143\" height=\"666\" fill=\"#ffffff\"/>\n<rect x=\"571\" y=\"0\" width=\"143\" height=\"334\" fill=\"#cfd8dc\"/>\n<rect x=\"571\" y=\"0\" width=\"102\" height=\"334\" fill=\"#cfd8dc\"/>\n<rect x=\"586\" y=\"48\" width=\"87\" height=\"143\" fill=\"#43a047\"/>\n<rect x=\"571\" y=\"0\" width=\"102\" height=\"334\" fill=\"#cfd8dc\"/>\n",
+        rectangles: "<rect x=\"0\" y=\"0\" width=\"1000\" height=\"1000\" fill=\"#cfd8dc\"/>\n<rect x=\"571\" y=\"333\" width=\"144\" height=\"667\" fill=\"#ffffff\"/>\n<rect x=\"572\" y=\"0\" width=\"142\" height=\"333\" fill=\"#cfd8dc\"/>\n<rect x=\"572\" y=\"0\" width=\"101\" height=\"333\" fill=\"#cfd8dc\"/>\n<rect x=\"587\" y=\"48\" width=\"86\" height=\"142\" fill=\"#43a047\"/>\n<rect x=\"572\" y=\"0\" width=\"101\" height=\"333\" fill=\"#cfd8dc\"/>\n",
     },
     Case {
         root: &[((0, 0), (1, 0)), ((-1, 0), (1, 0)), ((-3, -2), (5, 0))],
@@ -205,7 +205,7 @@ pub(crate) static SLICES: [Case; 7] = [
         x: 1,
         y: 2,
         at: &[(4430923463121358121, -63)],
-        rectangles: "<rect x=\"0\" y=\"334\" width=\"1000\" height=\"666\" fill=\"#ffffff\"/>\n<rect x=\"0\" y=\"0\" width=\"1000\" height=\"334\" fill=\"#ffffff\"/>\n<rect x=\"0\" y=\"0\" width=\"1000\" height=\"334\" fill=\"#fdd835\"/>\n",
+        rectangles: "<rect x=\"0\" y=\"333\" width=\"1000\" height=\"667\" fill=\"#ffffff\"/>\n<rect x=\"0\" y=\"0\" width=\"1000\" height=\"334\" fill=\"#ffffff\"/>\n<rect x=\"0\" y=\"0\" width=\"1000\" height=\"334\" fill=\"#fdd835\"/>\n",
     },
     Case {
         root: &[((0, 0), (1, 0)), ((-1, 0), (1, 0)), ((-3, -2), (5, 0))],
@@ -213,7 +213,7 @@ pub(crate) static SLICES: [Case; 7] = [
         x: 2,
         y: 1,
         at: &[(1537228672809129301, -61)],
-        rectangles: "<rect x=\"0\" y=\"334\" width=\"1000\" height=\"666\" fill=\"#ffffff\"/>\n<rect x=\"0\" y=\"0\" width=\"1000\" height=\"334\" fill=\"#cfd8dc\"/>\n<rect x=\"428\" y=\"0\" width=\"143\" height=\"96\" fill=\"#cfd8dc\"/>\n<rect x=\"428\" y=\"0\" width=\"143\" height=\"96\" fill=\"#cfd8dc\"/>\n<rect x=\"428\" y=\"0\" width=\"143\" height=\"28\" fill=\"#fdd835\"/>\n",
+        rectangles: "<rect x=\"0\" y=\"333\" width=\"1000\" height=\"667\" fill=\"#ffffff\"/>\n<rect x=\"0\" y=\"0\" width=\"1000\" height=\"333\" fill=\"#cfd8dc\"/>\n<rect x=\"429\" y=\"0\" width=\"142\" height=\"95\" fill=\"#cfd8dc\"/>\n<rect x=\"429\" y=\"0\" width=\"142\" height=\"95\" fill=\"#cfd8dc\"/>\n<rect x=\"428\" y=\"0\" width=\"144\" height=\"28\" fill=\"#fdd835\"/>\n",
     },
     Case {
         root: &[
@@ -277,7 +277,7 @@ pub(crate) static SLICES: [Case; 7] = [
             (-9, 0),
             (3499940281842214033, -58),
         ],
-        rectangles: "<rect x=\"0\" y=\"0\" width=\"1000\" height=\"1000\" fill=\"#cfd8dc\"/>\n<rect x=\"0\" y=\"858\" width=\"1000\" height=\"142\" fill=\"#fdd835\"/>\n<rect x=\"0\" y=\"0\" width=\"1000\" height=\"1000\" fill=\"#cfd8dc\"/>\n",
+        rectangles: "<rect x=\"0\" y=\"0\" width=\"1000\" height=\"1000\" fill=\"#cfd8dc\"/>\n<rect x=\"0\" y=\"857\" width=\"1000\" height=\"143\" fill=\"#fdd835\"/>\n<rect x=\"0\" y=\"0\" width=\"1000\" height=\"1000\" fill=\"#cfd8dc\"/>\n",
     },
     Case {
         root: &[

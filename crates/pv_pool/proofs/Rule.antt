@@ -3,7 +3,7 @@ use Rattle.std.proofs.Common.{◌≡◌, ℕ, zero, suc, ◌+◌, ◌-◌, ◌<�
 use Rattle.std.proofs.lemmas.List.Sums.{sum_by-cons, sum_by-append}
 use mathlib.Core.Option.{some, some-ne-none, some-injective}
 use lib.ListN.{get_elem?}
-use Rattle.crossbeam_deque.specs.Tasks.{Pushes, Takes, Pops, Finds, Forks, Merges}
+use Rattle.crossbeam_deque.specs.Tasks.{Pushes, Takes, Pops, Finds, FindsFew, Forks, Merges}
 use Rattle.crossbeam_deque.proofs.Lists.{at_set, at_snoc}
 use Rattle.pv_pool.specs.declared.deque.Hand.{Hand}
 use Rattle.pv_pool.specs.Hands.{SameBag, hand, parts_of, pushed_of, taken_of, IdleIsEmpty, Balanced}
@@ -92,6 +92,15 @@ module _ {J : Type 0} where
       let law = whole_law [] views port v b at whole h in
       let none : sum_by h [] ≡ 0 = refl in
       omega arith
+
+  -- where one job is left at most, it has taken all but one of those that it pushed
+  pub empties_but_one : (most port : ℕ) (v : Hand J) → most ≤ 1 → FindsFew Balanced most port v (v.parts ≡ 16 → length v.pushed ≤ length v.taken + 1)
+  empties_but_one most port v few items views short b at whole =
+      let law = whole_law items views port v b at whole (λ _. 1) in
+      let p = ones v.pushed in
+      let t = ones v.taken in
+      let i = ones items in
+      omega (arith, few, short)
 
   pub forks : (port : ℕ) (v : Hand J) → 1 < v.parts → Forks Balanced port v (hand (v.parts - 1) v.pushed v.taken) (hand 1 [] [])
   forks port v two_parts items views b at =

@@ -1,11 +1,11 @@
 -- What stays of the thieves of a worker while they steal.
-use Rattle.std.proofs.Common.{◌≡◌, ℕ, zero, suc, ◌+◌, ◌<◌, ◌≢◌, List, [], ◌∷◌, length, get_or, set, refl, sym, ap, ◌∙◌, subst, sum_by, length-set, get_or-set_same, get_or-set_other, arith}
+use Rattle.std.proofs.Common.{◌≡◌, ℕ, zero, suc, ◌+◌, ◌<◌, ◌≤◌, ◌≢◌, List, [], ◌∷◌, length, get_or, set, refl, sym, ap, ◌∙◌, subst, sum_by, length-set, get_or-set_same, get_or-set_other, arith}
 use Rattle.std.proofs.lemmas.List.Sums.{sum_by-set}
 use mathlib.Core.Logic.{dite}
 use native.Mathlib.Decide.{ℕ_discrete}
 use Rattle.pv_pool.specs.declared.deque.Hand.{Hand}
 use Rattle.pv_pool.specs.declared.deque.Thief.{Thief}
-use Rattle.pv_pool.specs.Benches.{reach, stolen_by, MaySteal, SameThief, SameThieves}
+use Rattle.pv_pool.specs.Benches.{reach, stolen_by, HasTried, MaySteal, SameThief, SameThieves}
 
 module _ {J : Type 0} where
   pub thief_refl : (t : Thief J) → SameThief t t
@@ -46,3 +46,24 @@ module _ {J : Type 0} where
       let s = sum_by-set stolen_by ts i t t within in
       let m = more t in
       omega arith
+
+  -- the first so many of them tried in vain, and the others are as they were
+  pub record TriedSo (done : ℕ) (olds news : List (Thief J)) : Type 0 where
+    pub tried : (i : ℕ) (d : Thief J) → i < done → HasTried (get_or olds i d) (get_or news i d)
+    pub rest : (i : ℕ) (d : Thief J) → done ≤ i → get_or news i d ≡ get_or olds i d
+
+  pub none_tried : (ts : List (Thief J)) → TriedSo 0 ts ts
+  none_tried ts = record { tried = λ i d l. absurd (omega (arith, l)); rest = λ i d _. refl }
+
+  -- one more tried
+  pub one_tried : (xs ys : List (Thief J)) (i : ℕ) (t : Thief J) → TriedSo i xs ys → i < length ys → ((d : Thief J) → HasTried (get_or ys i d) t)
+      → TriedSo (i + 1) xs (set ys i t)
+  one_tried xs ys i t so within now = record {
+    tried = λ j d k. dite (ℕ_discrete j i)
+        (λ (e : j ≡ i).
+        subst (λ n. HasTried (get_or xs n d) (get_or (set ys i t) n d)) (sym e)
+        (subst (λ (x : Thief J). HasTried (get_or xs i d) x) (sym (get_or-set_same ys i t d within))
+        (subst (λ (x : Thief J). HasTried x t) (so.rest i d (omega arith)) (now d))))
+        (λ (n : j ≢ i). subst (λ (x : Thief J). HasTried (get_or xs j d) x) (sym (get_or-set_other ys i j t d n)) (so.tried j d (omega (arith, k, n))));
+    rest = λ j d k. let n : j ≢ i = λ (e : j ≡ i). omega (arith, e, k) in get_or-set_other ys i j t d n ∙ so.rest j d (omega (arith, k));
+  }

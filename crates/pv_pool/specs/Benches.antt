@@ -1,7 +1,7 @@
 -- What one worker works with, and what changes while it works.
 use Rattle.std.specs.Prelude.{◌≡◌, ℕ, ◌+◌, ◌*◌, ◌^◌, ◌<◌, ◌≤◌, ◌⊎◌, List, [], length, get_or}
 use Rattle.std.specs.List.{sum_by}
-use Rattle.crossbeam_deque.specs.Handles.{view, worker_deque, worker_view, stealer_deque}
+use Rattle.crossbeam_deque.specs.Handles.{view, taken, worker_deque, worker_view, stealer_deque}
 use Rattle.pv_pool.specs.declared.deque.Hand.{Hand}
 use Rattle.pv_pool.specs.declared.deque.Owner.{Owner}
 use Rattle.pv_pool.specs.declared.deque.Thief.{Thief}
@@ -23,6 +23,14 @@ module _ {J : Type 0} where
   -- each pass may steal
   abbrev pub MaySteal : List (Thief J) → Type 0
   MaySteal ts = (i : ℕ) (d : Thief J) → i < length ts → 0 < (reach (get_or ts i d)).parts
+
+  -- a try to steal that took nothing: another took a job meanwhile, or there was one at most, as the pass that has all parts knows
+  abbrev pub HasTried : Thief J → Thief J → Type 0
+  HasTried old new = (taken old.pass < taken new.pass) ⊎ ((reach old).parts ≡ 16 → length (reach old).pushed ≤ length (reach old).taken + 1)
+
+  -- each of them tried
+  abbrev pub HaveTried : List (Thief J) → List (Thief J) → Type 0
+  HaveTried olds news = (i : ℕ) (d : Thief J) → i < length olds → HasTried (get_or olds i d) (get_or news i d)
 
   -- a thief of the same deque, whose pass took some more
   pub record SameThief (old new : Thief J) : Type 0 where

@@ -1,7 +1,7 @@
 //! What one worker works with.
-ghost use Rattle.std.specs.Prelude.{◌≡◌, ◌≢◌, ℕ, ◌+◌, ◌<◌, ◌≤◌, [], ◌∷◌, ◌++◌, length, get_or, option_to_list, sum_by, IfOk, OnOk};
+ghost use Rattle.std.specs.Prelude.{◌≡◌, ◌≢◌, ℕ, ◌+◌, ◌<◌, ◌≤◌, [], ◌∷◌, ◌++◌, length, get_or, option_to_list, sum_by, IfNone, IfOk, OnOk};
 ghost use Rattle.pv_pool.specs.Hands.{hand};
-ghost use Rattle.pv_pool.specs.Benches.{own, reach, stolen_by, MaySteal, SameThieves};
+ghost use Rattle.pv_pool.specs.Benches.{own, reach, stolen_by, HaveTried, MaySteal, SameThieves};
 ghost use Rattle.pv_pool.specs.Links.{Links, IsFresh, IsApart, AreApart, AreReady};
 
 use crate::deque::{Owner, Thief};
@@ -132,12 +132,13 @@ fn place<J: Drop>(benches: &mut [Bench<J>], other: usize, thief: Thief<J>) -> Re
     Ok(())
 }
 
-/// Tries each thief once, until one takes a job.
+/// Tries each thief once, until one takes a job. None where each of them tried in vain.
 pub fn steal_once_round<J: Drop>(thieves: &mut [Thief<J>]) -> Option<J>
     requires { MaySteal thieves.old }
     ensures same { SameThieves thieves.old thieves.new }
     ensures stolen { sum_by stolen_by thieves.new ≡
         sum_by stolen_by thieves.old + length (option_to_list result) }
+    ensures tried { IfNone result (HaveTried thieves.old thieves.new) }
 {
     for i in 0..thieves.len() {
         if let Some(job) = thieves[i].steal() {

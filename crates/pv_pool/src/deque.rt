@@ -1,7 +1,7 @@
 //! The deques of the pool under their rule: each job that is pushed on a deque is taken once, or
 //! is left there.
-ghost use Rattle.std.specs.Prelude.{◌≡◌, ℕ, ◌+◌, ◌-◌, ◌<◌, [], ◌∷◌, ◌++◌, ◌≤◌, length, IfOk, IfSome, MatchOption, MatchResult};
-ghost use Rattle.crossbeam_deque.specs.Handles.{view, IsPassOf, worker_deque, worker_view, worker_flavor, stealer_deque};
+ghost use Rattle.std.specs.Prelude.{◌≡◌, ℕ, ◌+◌, ◌-◌, ◌<◌, [], ◌∷◌, ◌++◌, ◌≤◌, ◌⊎◌, length, IfOk, IfSome, IfNone, MatchOption, MatchResult};
+ghost use Rattle.crossbeam_deque.specs.Handles.{view, taken, IsPassOf, worker_deque, worker_view, worker_flavor, stealer_deque};
 ghost use Rattle.pv_pool.specs.Hands.{SameBag, hand};
 
 use crossbeam_deque::protocol::{Join, Outcome, Protocol, Split};
@@ -65,14 +65,17 @@ impl<J> Outcome<J, Hand<J>> for Pushing {
     ghost then = { λ v xs w. w ≡ hand v.parts (v.pushed ++ xs) v.taken };
 }
 
-/// A steal.
+/// A steal. Where it finds no job, a pass that has all parts took all that was pushed but one at
+/// most, which the deque's own worker may be about to pop.
 pub struct Stealing;
 
 impl<J> Outcome<J, Hand<J>> for Stealing {
-    ghost use Rattle.std.specs.Prelude.{◌≡◌, ◌++◌};
+    ghost use Rattle.std.specs.Prelude.{◌≡◌, ◌+◌, ◌++◌, ◌≤◌, length};
     ghost use Rattle.pv_pool.specs.Hands.{hand};
 
     ghost then = { λ v xs w. w ≡ hand v.parts v.pushed (v.taken ++ xs) };
+
+    ghost empty = { λ v. v.parts ≡ 16 → length v.pushed ≤ length v.taken + 1 };
 }
 
 /// A pop. Where its pass has all parts, it took no more than was pushed, and all of it where it
@@ -183,7 +186,8 @@ pub struct Thief<J: Drop> {
 }
 
 impl<J: Drop> Thief<J> {
-    /// Tries once to take the first job.
+    /// Tries once to take the first job. None where another took it meanwhile, or where no job was
+    /// found.
     pub fn steal(&mut self) -> Option<J>
         requires { 0 < (view self.old.pass).parts }
         ensures number { self.new.deque ≡ self.old.deque }
@@ -192,6 +196,9 @@ impl<J: Drop> Thief<J> {
             (view self.new.pass ≡ view self.old.pass)
             (λ x. view self.new.pass ≡ hand (view self.old.pass).parts
             (view self.old.pass).pushed ((view self.old.pass).taken ++ x ∷ [])) }
+        ensures none { IfNone result ((taken self.old.pass < taken self.new.pass)
+            ⊎ ((view self.old.pass).parts ≡ 16 → length (view self.old.pass).pushed ≤
+            length (view self.old.pass).taken + 1)) }
     {
         match self.stealer.steal_as::<Stealing>(&mut self.pass) {
             Steal::Success(job) => Some(job),

@@ -7,8 +7,7 @@ use pv_box::IBox;
 use pv_cases::{Ends, domains, is_left};
 use pv_ctc::{Counter, Graphs, Program};
 use pv_expr::System;
-use pv_hc4::{Graph, Revised, Scratch, Steps};
-use pv_num::Memory;
+use pv_hc4::Steps;
 use pv_parse::parse;
 use std::alloc::Global;
 use std::marker::Brand;
@@ -34,14 +33,12 @@ struct Tally {
 impl Counter for Tally {
     ghost told = { λ _. None };
 
-    fn revise(
-        &mut self,
-        graph: &Graph,
-        scratch: &mut Scratch,
-        bx: &mut IBox,
-    ) -> Result<Revised, Memory> {
+    fn counts(&self) -> bool {
+        true
+    }
+
+    fn tick(&mut self) {
         self.count = self.count.wrapping_add(1);
-        graph.revise_in(scratch, bx)
     }
 }
 

@@ -1,11 +1,10 @@
 -- Budgets that are spent one after another.
 use Rattle.std.proofs.Common.{◌≡◌, ◌⊎◌, inl, inr, ℕ, suc, ◌+◌, ◌≤◌, Bool, List, [], ◌∷◌, length, refl, sym, ◌∙◌, ap, subst, arith}
-use Rattle.std.specs.Prelude.{Option, Some, None, ◌≢◌}
+use Rattle.std.specs.Prelude.{◌≢◌}
 use Rattle.pv_interval.specs.Bounds.{Bounds}
 use Rattle.pv_interval.specs.Points.{Point}
 use Rattle.pv_box.specs.Boxes.{IsBox, lower_half, upper_half}
-use Rattle.pv_tree.specs.Trees.{Tree, leaf, removed, inner, small, cut, opens, outcome_at, IsPaving, Paves}
-use Rattle.pv_tree.specs.declared.outcome.Outcome.{Outcome}
+use Rattle.pv_tree.specs.Trees.{Tree, leaf, removed, inner, small, cut, opens, IsPaving, Paves}
 use Rattle.pv_tree.specs.Stages.{Rule, full_of, Grows, IsStage}
 use Rattle.pv_tree.specs.Sets.{Covers}
 use Rattle.pv_tree.specs.Laws.{IsLawful}
@@ -14,11 +13,10 @@ use Rattle.pv_tree.proofs.Earlier.{stage_on}
 use Rattle.pv_workers.proofs.Budgets.{fits_of, spent_of}
 use Rattle.pv_board.specs.Rules.{settled_in}
 use Rattle.pv_workers.specs.Pavings.{IsSpent, IsPaved, FullFits}
-use Rattle.pv_join.specs.Joins.{IsJoin, settled_side}
-use Rattle.pv_join.proofs.JoinFacts.{join_unique}
 use Rattle.pv_keep.specs.Keeping.{Kept, untold, absent, holds}
 use Rattle.pv_keep.specs.Campaigns.{KeepsTree, IsSaved}
 use Rattle.pv_rounds.specs.Going.{AddUp}
+use Rattle.pv_rounds.proofs.Ordered.{ordered_on}
 
 -- ---- A stage of what it begins with
 
@@ -99,6 +97,7 @@ module _ (rule : Rule) (depth dims : ℕ) (inside : Point → Type 0) (laws : Is
   add_up = record {
     stages = λ earlier opening t paves s z. stage_on rule depth dims inside laws b earlier opening t box over paves s z;
     paved = λ opening middle t spent budget paves p some q. paved_on opening middle t spent budget paves p some q;
+    ordered = λ order opening middle t stage first second. ordered_on order opening middle t stage.grown first second;
   }
 
 -- where no leaf is open a greater budget does no more
@@ -108,22 +107,6 @@ enough rule depth b opening t budget more less none p =
     let fits : FullFits rule depth b opening budget = p.fits.0 none in
     let wider : FullFits rule depth b opening more = omega arith in
     record { paving = p.paving; covers = p.covers; stage = p.stage; fits = (λ _. wider, λ _. none); full = p.full; spent = λ some. absurd (some none) }
-
--- ---- A stage as a join
-
-side : (s t : Tree) (p : List Bool) (o : Option Outcome) → Grows s t → outcome_at s p ≡ o → outcome_at t p ≡ settled_side o (outcome_at t p)
-side s t p None h e = refl
-side s t p (Some o) h e = h p o e
-
-agree : (s t : Tree) → Grows s t → (p : List Bool) (o u : Outcome) → outcome_at s p ≡ Some o → outcome_at t p ≡ Some u → o ≡ u
-agree s t h p o u e f = let same : Some o ≡ Some u = sym (h p o e) ∙ f in cc
-
--- what a tree grew to is its join with it
-grown_join : (s t : Tree) → Grows s t → IsJoin s t t
-grown_join s t h = record { agree = agree s t h; takes = λ p. side s t p (outcome_at s p) h refl }
-
-pub join_is : (s t u : Tree) → Grows s t → IsJoin s t u → u ≡ t
-join_is s t u h j = join_unique s t u t j (grown_join s t h)
 
 -- ---- What is kept of a name
 

@@ -4,6 +4,7 @@ use Rattle.pv_interval.specs.Bounds.{Bounds}
 use Rattle.pv_tree.specs.Trees.{Tree}
 use Rattle.pv_tree.specs.Stages.{Rule}
 use Rattle.pv_board.specs.Rules.{settled_in}
+use Rattle.pv_scope.specs.declared.order.Order.{Order}
 use Rattle.pv_keep.specs.Keeping.{Kept, HasOther}
 use Rattle.pv_keep.specs.Campaigns.{IsOpened, IsLeft, HasTooMany, HasBadRow}
 use Rattle.pv_keep.specs.declared.refusal.CampaignRefused.{CampaignRefused}
@@ -15,20 +16,20 @@ use Rattle.pv_rounds.specs.declared.campaign.HoldRefused.TheVariants.{Memory, Fa
 use Rattle.pv_rounds.specs.Going.{HasGoneOn, HasStopped}
 
 -- A campaign was opened, a budget was settled of the opening within the limit, and the rows of what came of it are kept.
-pub record IsHeld (limit : ℕ) (rule : Rule) (depth : ℕ) (b : List Bounds) (identity : List ℕ) (budget : ℕ) (before after : Kept) (t : Tree) : Type 0 where
+pub record IsHeld (limit : ℕ) (rule : Rule) (depth : ℕ) (b : List Bounds) (order : Order) (identity : List ℕ) (budget : ℕ) (before after : Kept) (t : Tree) : Type 0 where
   pub opening : Tree
   pub middle : Kept
   pub opened : IsOpened limit before middle identity b opening
   pub few : settled_in opening + budget ≤ limit
-  pub gone : HasGoneOn rule depth b opening budget middle after t
+  pub gone : HasGoneOn rule depth b order opening budget middle after t
 
 -- A campaign was opened that all its rounds keep within the limit, and so many of them at most were saved.
-pub record IsBroken (limit : ℕ) (rule : Rule) (depth : ℕ) (b : List Bounds) (identity : List ℕ) (boxes count : ℕ) (before after : Kept) : Type 0 where
+pub record IsBroken (limit : ℕ) (rule : Rule) (depth : ℕ) (b : List Bounds) (order : Order) (identity : List ℕ) (boxes count : ℕ) (before after : Kept) : Type 0 where
   pub opening : Tree
   pub middle : Kept
   pub opened : IsOpened limit before middle identity b opening
   pub few : settled_in opening + count * boxes ≤ limit
-  pub stopped : HasStopped rule depth b opening boxes count middle after
+  pub stopped : HasStopped rule depth b order opening boxes count middle after
 
 -- An opening has so many settled nodes, and with the budget more than the limit.
 pub record IsOver (limit : ℕ) (b : List Bounds) (identity : List ℕ) (budget : ℕ) (before after : Kept) (n : ℕ) : Type 0 where
@@ -47,18 +48,18 @@ RefusesOpening limit b identity budget before after (BadRow n) = HasBadRow limit
 RefusesOpening limit b identity budget before after (TreeLimit n) = IsOver limit b identity budget before after n
 
 -- the opening failed and left all rows, or a round behind it did
-abbrev pub IsInterrupted : ℕ → Rule → ℕ → List Bounds → List ℕ → ℕ → ℕ → Kept → Kept → Type 0
-IsInterrupted limit rule depth b identity boxes count before after =
-    IsLeft before after identity ⊎ IsBroken limit rule depth b identity boxes count before after
+abbrev pub IsInterrupted : ℕ → Rule → ℕ → List Bounds → Order → List ℕ → ℕ → ℕ → Kept → Kept → Type 0
+IsInterrupted limit rule depth b order identity boxes count before after =
+    IsLeft before after identity ⊎ IsBroken limit rule depth b order identity boxes count before after
 
 -- why a campaign doesn't come to the end of its rounds, and what that leaves
-abbrev pub RefusesHold : ℕ → Rule → ℕ → List Bounds → List ℕ → ℕ → ℕ → Kept → Kept → HoldRefused → Type 0
-RefusesHold limit rule depth b identity boxes count before after Memory = IsInterrupted limit rule depth b identity boxes count before after
-RefusesHold limit rule depth b identity boxes count before after Failed = IsInterrupted limit rule depth b identity boxes count before after
-RefusesHold limit rule depth b identity boxes count before after (OtherIdentity found) = HasOther before identity found × IsLeft before after identity
-RefusesHold limit rule depth b identity boxes count before after TooMany = HasTooMany limit before identity × IsLeft before after identity
-RefusesHold limit rule depth b identity boxes count before after (BadRow n) = HasBadRow limit before identity b n × IsLeft before after identity
-RefusesHold limit rule depth b identity boxes count before after (TreeLimit n) = IsOver limit b identity (count * boxes) before after n
+abbrev pub RefusesHold : ℕ → Rule → ℕ → List Bounds → Order → List ℕ → ℕ → ℕ → Kept → Kept → HoldRefused → Type 0
+RefusesHold limit rule depth b order identity boxes count before after Memory = IsInterrupted limit rule depth b order identity boxes count before after
+RefusesHold limit rule depth b order identity boxes count before after Failed = IsInterrupted limit rule depth b order identity boxes count before after
+RefusesHold limit rule depth b order identity boxes count before after (OtherIdentity found) = HasOther before identity found × IsLeft before after identity
+RefusesHold limit rule depth b order identity boxes count before after TooMany = HasTooMany limit before identity × IsLeft before after identity
+RefusesHold limit rule depth b order identity boxes count before after (BadRow n) = HasBadRow limit before identity b n × IsLeft before after identity
+RefusesHold limit rule depth b order identity boxes count before after (TreeLimit n) = IsOver limit b identity (count * boxes) before after n
 
 -- ---- What becomes of the refusals of an opening and of a round
 

@@ -86,11 +86,13 @@ where
     requires dims { length root ≡ S.dims settler.now }
     ensures root { IfOk result (λ c. c.root ≡ root) }
     ensures held { IfOk result (λ c.
-        IsHeld plan.now.limit (S.settle_of settler.now) (S.depth_of settler.now) root identity
+        IsHeld plan.now.limit (S.settle_of settler.now) (S.depth_of settler.now) root plan.now.order
+        identity
         (plan.now.count * plan.now.boxes)
         (P.kept keeper.old name.now) (P.kept keeper.new name.now) c.tree) }
     ensures refused { IfErr result
-        (RefusesHold plan.now.limit (S.settle_of settler.now) (S.depth_of settler.now) root identity
+        (RefusesHold plan.now.limit (S.settle_of settler.now) (S.depth_of settler.now) root
+        plan.now.order identity
         plan.now.boxes plan.now.count
         (P.kept keeper.old name.now) (P.kept keeper.new name.now)) }
     ensures others { (other : List ℕ)

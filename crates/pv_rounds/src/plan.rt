@@ -1,6 +1,7 @@
 //! What is asked of a campaign's rounds.
 ghost use Rattle.std.specs.Prelude.{◌≡◌, ◌*◌, ◌≤◌, ◌^◌};
 
+use pv_scope::Order;
 use pv_tree::NodeLimit;
 
 /// How many rounds there are at most, and what each may do.
@@ -10,6 +11,8 @@ pub struct Plan {
     /// How many nodes a round settles at most.
     pub boxes: u64,
     pub workers: u32,
+    /// In which order a round settles what is kept.
+    pub order: Order,
     /// The most settled nodes that the tree may have.
     pub limit: NodeLimit,
     ghost boxes_fit: { (1 ≤ boxes) × (boxes ≤ limit) },

@@ -3,26 +3,30 @@ ghost use Rattle.std.specs.Prelude.{◌≡◌, ◌≢◌, ◌+◌, ◌*◌, ◌�
 ghost use Rattle.pv_io.specs.Outside.{Rose};
 ghost use Rattle.pv_board.specs.Rules.{settled_in};
 ghost use Rattle.pv_workers.specs.Pavings.{IsPaved};
+ghost use Rattle.pv_scope.specs.Orders.{IsInOrder};
 ghost use Rattle.pv_keep.specs.Campaigns.{KeepsTree, IsSaved};
+ghost use Rattle.pv_scope.specs.declared.order.Order as declared;
 ghost use Rattle.pv_rounds.specs.Going.{AddUp, HasGoneOn, HasStopped};
 
 use crate::plan::Plan;
 use pv_keep::{Campaign, Keeper, SaveRefused};
 use pv_num::Memory;
 use pv_pool::Gate;
+use pv_scope::pave_in_order;
 use pv_tree::{KnowingSettler, Paving, Settler};
-use pv_workers::pave_knowing;
 use std::alloc::Global;
 use std::sync::Wait;
 use std::thread::Threads;
 
-/// Does nothing. A paving of which nothing more is settled has spent the budget 0. Stages of stages
-/// are stages, and budgets that are spent one after another add up.
+/// Does nothing. A paving of which nothing more is settled has spent the budget 0, in each order. Stages of stages
+/// are stages, budgets that are spent one after another add up, and what is settled in an order by
+/// several budgets is settled in that order.
 pub fn learn_rounds<S: Settler>(paving: &Paving, settler: &S)
     requires { length paving.now.root ≡ S.dims settler.now }
     ensures none { IsPaved (S.settle_of settler.now)
         (S.depth_of settler.now) paving.now.root paving.now.tree 0 paving.now.tree }
     ensures further { AddUp (S.settle_of settler.now) (S.depth_of settler.now) paving.now.root }
+    ensures unordered { (order : declared.Order) → IsInOrder order paving.now.tree paving.now.tree }
 {
     let _places = paving.dims();
     let _depth = settler.depth();
@@ -57,11 +61,11 @@ where
     ensures limit { campaign.new.limit ≡ campaign.old.limit }
     ensures gone { (name : List ℕ) → P.begun keeper.old ≡ Some name → OnOk result
         (HasGoneOn (S.settle_of settler.now) (S.depth_of settler.now) campaign.old.root
-        campaign.old.tree (plan.now.count * plan.now.boxes) (P.kept keeper.old name)
+        plan.now.order campaign.old.tree (plan.now.count * plan.now.boxes) (P.kept keeper.old name)
         (P.kept keeper.new name) campaign.new.tree) }
     ensures stopped { (name : List ℕ) → P.begun keeper.old ≡ Some name → OnErr result
         (HasStopped (S.settle_of settler.now) (S.depth_of settler.now) campaign.old.root
-        campaign.old.tree plan.now.boxes plan.now.count (P.kept keeper.old name)
+        plan.now.order campaign.old.tree plan.now.boxes plan.now.count (P.kept keeper.old name)
         (P.kept keeper.new name)) }
     ensures cause { IsErrOf result SaveRefused.Failed
         → Rose (P.faults keeper.old) (P.faults keeper.new) }
@@ -106,6 +110,8 @@ where
     ensures paved { OnOk result
         (IsPaved (S.settle_of settler.now) (S.depth_of settler.now)
         campaign.old.root campaign.old.tree plan.now.boxes campaign.new.tree) }
+    ensures ordered { OnOk result
+        (IsInOrder plan.now.order campaign.old.tree campaign.new.tree) }
     ensures saved { (name : List ℕ) → P.begun keeper.old ≡ Some name
         → OnOk result
         (IsSaved (P.kept keeper.old name) (P.kept keeper.new name) campaign.new.tree) }
@@ -122,13 +128,13 @@ where
     ensures counts_on { P.faults keeper.old ≤ P.faults keeper.new }
 {
     let stage = stage_of(rt, alloc, settler, campaign.paving(), plan, gate)?;
-    match campaign.save_round(alloc, keeper, &stage) {
+    match campaign.save_grown(alloc, keeper, stage) {
         Ok(_) => Ok(()),
         Err(refused) => Err(refused),
     }
 }
 
-// What the budget settles of a paving.
+// What the budget settles of a paving, in the plan's order.
 fn stage_of<S: KnowingSettler + Sync, G: Gate + Sync, R: Threads + Wait + Sync>(
     rt: &R,
     alloc: Global,
@@ -146,18 +152,19 @@ where
     ensures paved { IfOk result
         (λ p. IsPaved (S.settle_of settler.now) (S.depth_of settler.now)
         opening.now.root opening.now.tree plan.now.boxes p.tree) }
+    ensures ordered { IfOk result (λ p. IsInOrder plan.now.order opening.now.tree p.tree) }
 {
     let opening = opening.clone_of(alloc)?;
     let (budget, limit) = (plan.boxes, plan.limit);
-    let paved = pave_knowing(
+    pave_in_order(
         rt,
         alloc,
         settler,
         opening,
+        plan.order,
         budget,
         limit,
         plan.workers,
         gate,
-    )?;
-    Ok(paved.paving)
+    )
 }

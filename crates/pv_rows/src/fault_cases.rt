@@ -10,7 +10,7 @@ use crate::steps::USAGE;
 /// fails.
 pub(crate) type Case = (&'static str, Comes, &'static [&'static str]);
 
-pub(crate) const CASES: [Case; 36] = [
+pub(crate) const CASES: [Case; 37] = [
     (
         "check s",
         Prints(0, "vars 1\nx 0:0 1:0\nctrs 1\n>= (/ 1/1 v0) 0/1\n"),
@@ -117,6 +117,16 @@ pub(crate) const CASES: [Case; 36] = [
         "merge s B F --eps 0.25",
         Tells(9, "disagree 0: C 0 1:-2 0:0 1:-1 | I 0:0 1:-1\n"),
         &["read fault: s\n", "read fault: B\n", "read fault: F\n"],
+    ),
+    (
+        "merge s B F A --eps 0.25",
+        Tells(9, "disagree 0: C 0 1:-2 0:0 1:-1 | I 0:0 1:-1\n"),
+        &[
+            "read fault: s\n",
+            "read fault: B\n",
+            "read fault: F\n",
+            "read fault: A\n",
+        ],
     ),
     (
         "audit s A --eps 0.25",

@@ -28,6 +28,9 @@ const FILE_B: &str =
 const FILE_F: &str =
     "paving 1\nidentity be80eb05bcbc91b70b7ad422c002b378eff58622ab1c9a053f3fcbdf6852f81a\nC 0 1:-1 0:0 1:0\nI 0:0 1:-1\nO\n";
 
+const FILE_G: &str =
+    "paving 1\nidentity be80eb05bcbc91b70b7ad422c002b378eff58622ab1c9a053f3fcbdf6852f81a\nC 0 1:-1 0:0 1:0\nO\nS 1:-1 1:0\n";
+
 const ONE_LINE_MORE: &str =
     "paving 1\nidentity be80eb05bcbc91b70b7ad422c002b378eff58622ab1c9a053f3fcbdf6852f81a\nC 0 1:-1 0:0 1:0\nC 0 1:-2 0:0 1:-1\nS 0:0 1:-2\nI 1:-2 1:-1\nI 1:-1 1:0\nO\n";
 
@@ -57,11 +60,12 @@ pub(crate) const SQUARE: &str = "Variables x in [0,2], y in [0,2]; Constraints x
 const LEFT: &str =
     "paving 2\nidentity b0b09d61d9bebc71e63ae8395df214f28293e9685df30a870190c3bf95a2a52b\nI = 1:0 = =\n";
 
-pub(crate) const FILES: [(&str, &str); 17] = [
+pub(crate) const FILES: [(&str, &str); 18] = [
     ("s", SYSTEM),
     ("A", FILE_A),
     ("B", FILE_B),
     ("F", FILE_F),
+    ("G", FILE_G),
     ("old", WHOLE_1),
     ("more", ONE_LINE_MORE),
     ("spelled", OTHER_SPELLING),
@@ -171,7 +175,7 @@ fn joins_of_files(rt: HostRuntime) -> Result<(), Fail> {
     follow(&rt, rt.alloc(), &FILES, &[], &MERGES)
 }
 
-const REFUSED: [Step; 8] = [
+const REFUSED: [Step; 12] = [
     (
         "audit s F --eps 0.25",
         Tells(9, "differs 0: I 0:0 1:-1 | C 0 1:-2 0:0 1:-1\n"),
@@ -194,6 +198,22 @@ const REFUSED: [Step; 8] = [
     (
         "merge s A F b --eps 0.25",
         Tells(4, "paving b: bad line 5\n"),
+    ),
+    (
+        "merge s A F B left --eps 0.25",
+        Tells(4, "paving left: wrong identity\n"),
+    ),
+    (
+        "merge s A F B --eps 0.25",
+        Tells(9, "disagree 0: C 0 1:-2 0:0 1:-1 | I 0:0 1:-1\n"),
+    ),
+    (
+        "merge s A F G --eps 0.25",
+        Tells(9, "disagree 0: C 0 1:-2 0:0 1:-1 | I 0:0 1:-1\n"),
+    ),
+    (
+        "merge s A G F --eps 0.25",
+        Tells(9, "disagree 1: I 1:-1 1:0 | S 1:-1 1:0\n"),
     ),
 ];
 

@@ -31,6 +31,8 @@ mod samples;
 #[cfg(test)]
 mod settings;
 #[cfg(test)]
+mod shares;
+#[cfg(test)]
 mod steps;
 #[cfg(test)]
 mod table;

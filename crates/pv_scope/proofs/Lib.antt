@@ -6,3 +6,4 @@ pub mod Under
 pub mod Settled
 pub mod Whole
 pub mod Passes
+pub mod Joins

@@ -133,11 +133,11 @@ keep_in : (b : Bool) (p q : Path) (ps : List Path) → IsIn q (if b then p ∷ p
 keep_in true p q ps h = h
 keep_in false p q ps h = inr h
 
-keep_head : (b : Bool) (p : Path) (ps : List Path) → b ≡ true → IsIn p (if b then p ∷ ps else ps)
+pub keep_head : (b : Bool) (p : Path) (ps : List Path) → b ≡ true → IsIn p (if b then p ∷ ps else ps)
 keep_head true p ps e = inl refl
 keep_head false p ps e = cc
 
-keep_tail : (b : Bool) (p q : Path) (ps : List Path) → IsIn q ps → IsIn q (if b then p ∷ ps else ps)
+pub keep_tail : (b : Bool) (p q : Path) (ps : List Path) → IsIn q ps → IsIn q (if b then p ∷ ps else ps)
 keep_tail true p q ps h = inr h
 keep_tail false p q ps h = h
 

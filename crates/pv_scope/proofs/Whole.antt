@@ -11,7 +11,7 @@ use Rattle.pv_scope.specs.Settlings.{IsClosed, IsFullThere}
 use Rattle.pv_scope.proofs.Replaced.{subtree_below}
 use Rattle.pv_scope.proofs.Lists.{in_open, picked_in, none_open}
 
-there_whole : (t f : Tree) (p : List Bool) (s : Tree) → Grows t f → subtree t p ≡ Some s → opens s ≡ [] → subtree f p ≡ Some s
+pub there_whole : (t f : Tree) (p : List Bool) (s : Tree) → Grows t f → subtree t p ≡ Some s → opens s ≡ [] → subtree f p ≡ Some s
 there_whole t f [] s g e n = let w : t ≡ s = cc in ap (λ (x : Tree). Some x) (sym (grown_whole s f (subst (λ (x : Tree). Grows x f) w g) n))
 there_whole (cut x v a l r) f (false ∷ p) s g e n =
     let c : IsCut f x v a = top_cut f x v a (g [] (Cut x v a) refl) in
@@ -26,7 +26,7 @@ there_whole removed f (b ∷ p) s g e n = cc
 there_whole (inner x) f (b ∷ p) s g e n = cc
 there_whole (small x) f (b ∷ p) s g e n = cc
 
-none_some : (o : Option Tree) → o ≡ None → IsSome o → ⊥
+pub none_some : (o : Option Tree) → o ≡ None → IsSome o → ⊥
 none_some None e h = cc
 none_some (Some s) e h = cc
 

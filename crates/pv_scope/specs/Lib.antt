@@ -2,3 +2,4 @@ pub mod Scopes
 pub mod Facts
 pub mod Parts
 pub mod Settlings
+pub mod Orders

@@ -1,8 +1,9 @@
 //! Settling an opening's shallow leaves first.
-ghost use Rattle.std.specs.Prelude.{◌≡◌, ◌⊎◌, ◌+◌, ◌*◌, ◌≤◌, [], true, false, length, IfOk, OnOk};
+ghost use Rattle.std.specs.Prelude.{◌≡◌, ◌⊎◌, ◌+◌, ◌*◌, ◌≤◌, ℕ, [], true, false, length, IfOk, OnOk};
 ghost use Rattle.pv_tree.specs.Trees.{Tree, Paves, opens};
 ghost use Rattle.pv_tree.specs.Stages.{IsStage};
 ghost use Rattle.pv_board.specs.Rules.{settled_in};
+ghost use Rattle.pv_workers.specs.Pavings.{IsPaved};
 ghost use Rattle.pv_scope.specs.Settlings.{IsLevel, IsPass, IsSpent};
 
 use crate::kit::Kit;
@@ -11,7 +12,7 @@ use crate::scope::Scope;
 use crate::settling::settle_scope;
 use pv_num::Memory;
 use pv_pool::Gate;
-use pv_tree::{KnowingSettler, Paving};
+use pv_tree::{KnowingSettler, Paving, Settler};
 use std::alloc::Global;
 
 /// Each pass goes so many levels further down than the one before it.
@@ -39,6 +40,52 @@ pub struct Levelled {
 ///
 /// Want of memory.
 pub fn settle_levels<S: KnowingSettler, G: Gate>(
+    alloc: Global,
+    settler: &S,
+    opening: Paving,
+    budget: u64,
+    gate: &G,
+) -> Result<Levelled, Memory>
+    requires dims { length opening.root ≡ S.dims settler.now }
+    ensures root { IfOk result (λ s. s.paving.root ≡ opening.root) }
+    ensures stages { IfOk result (λ s. (earlier : Tree) → Paves opening.root earlier →
+        IsStage (S.settle_of settler.now)
+        (S.depth_of settler.now) opening.root earlier opening.tree →
+        IsStage (S.settle_of settler.now)
+        (S.depth_of settler.now) opening.root earlier s.paving.tree) }
+    ensures stage { IfOk result (λ s. IsStage (S.settle_of settler.now)
+        (S.depth_of settler.now) opening.root opening.tree s.paving.tree) }
+    ensures settled { IfOk result (λ s.
+        settled_in s.paving.tree ≡ settled_in opening.tree + s.settled) }
+    ensures spent { IfOk result (λ s. IsSpent budget opening.tree s.paving.tree) }
+    ensures paved { IfOk result (λ s.
+        IsPaved (S.settle_of settler.now)
+        (S.depth_of settler.now) opening.root opening.tree budget s.paving.tree) }
+    ensures level { IfOk result (λ s. IsLevel opening.tree s.paving.tree s.pass) }
+{
+    let _places = opening.dims();
+    let levelled = by_passes(alloc, settler, opening, budget, gate)?;
+    learn_spent(&levelled.paving, settler);
+    Ok(levelled)
+}
+
+// Does nothing. A stage of an opening that spent a budget, or has no open leaf, is whole exactly
+// where the budget is enough for that.
+fn learn_spent<S: Settler>(paving: &Paving, settler: &S)
+    requires { length paving.now.root ≡ S.dims settler.now }
+    ensures { (opening : Tree) (budget : ℕ) → Paves paving.now.root opening →
+        IsStage (S.settle_of settler.now)
+        (S.depth_of settler.now) paving.now.root opening paving.now.tree →
+        IsSpent budget opening paving.now.tree →
+        IsPaved (S.settle_of settler.now)
+        (S.depth_of settler.now) paving.now.root opening budget paving.now.tree }
+{
+    let _places = paving.dims();
+    let _depth = settler.depth();
+}
+
+// Settles pass by pass.
+fn by_passes<S: KnowingSettler, G: Gate>(
     alloc: Global,
     settler: &S,
     opening: Paving,

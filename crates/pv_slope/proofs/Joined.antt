@@ -132,9 +132,6 @@ greatest_second f g h =
 by_order : {P : Type 0} (f g : Fraction) → (AtMost f g → P) → (AtMost g f → P) → P
 by_order f g p q = by_lt_z (f.top *ℤ pos g.under) (g.top *ℤ pos f.under) (λ h. p (omega (arith, ints))) (λ h. q h)
 
-same_turned : (f g : Fraction) → Same f g → Same g f
-same_turned f g e = sym e
-
 up : (a b : ℤ) → b ≤ℤ a → pos 0 ≤ℤ (a -ℤ b)
 up a b h = omega (arith, ints)
 

@@ -1,6 +1,6 @@
 -- Numbers of intervals of slopes that lead from one value of a term to another, and how operations combine them.
 use Rattle.std.proofs.Common.{◌≡◌, ℕ, zero, suc, ◌*◌, ◌<◌, [], ◌∷◌, refl, ap, sym, ◌∙◌, subst, arith}
-use Rattle.std.specs.Prelude.{ℤ, pos, negsuc, ◌+ℤ◌, ◌-ℤ◌, ◌*ℤ◌, Option, Some}
+use Rattle.std.specs.Prelude.{ℤ, pos, negsuc, ◌+ℤ◌, ◌-ℤ◌, ◌*ℤ◌, Some}
 use Rattle.std.proofs.lemmas.Int.{ints}
 use lib.IntN.{neg_ℤ}
 use Rattle.pv_interval.specs.Bounds.{Bounds}
@@ -155,9 +155,6 @@ inverse_parts (negsuc r) d f h e = record {
 
 pub inverse_of : (f g h : Fraction) → over f g ≡ Some h → IsInverse g
 inverse_of f g h e = inverse_parts g.top g.under f h e
-
-in_some : (f g : Fraction) (o : Option Bounds) (x : Bounds) → o ≡ Some x → LiesInSome f.top f.under o → LiesIn f x
-in_some f g o x e l = subst (LiesInSome f.top f.under) e l
 
 spread : (c t m o s x y : ℤ) → (x *ℤ o -ℤ ((c *ℤ t) *ℤ y) *ℤ m) *ℤ s ≡ x *ℤ (o *ℤ s) +ℤ y *ℤ neg_ℤ (((c *ℤ t) *ℤ m) *ℤ s)
 spread c t m o s x y =

@@ -14,3 +14,5 @@ pub mod Ranging
 pub mod Tallying
 pub mod Matched
 pub mod Weighing
+pub mod Zeros
+pub mod Firsts

@@ -1,10 +1,10 @@
 -- Tests of the parts of a program, and how many of them hold.
-use Rattle.std.proofs.Common.{◌≡◌, ℕ, suc, ◌+◌, ◌-◌, ◌<◌, ◌≤◌, List, ◌∷◌, length, ap, sym, ◌∙◌, subst, arith, get_or, drop, add-one, Vec, Global}
+use Rattle.std.proofs.Common.{◌≡◌, ℕ, suc, ◌+◌, ◌-◌, ◌<◌, List, ◌∷◌, length, ap, sym, ◌∙◌, arith, get_or, drop, add-one, Vec, Global}
 use Rattle.std.specs.Prelude.{Bool, nat_le, nat_lt}
 use Rattle.std.proofs.Math.Seq.{drop-cons}
 use Rattle.std.proofs.lemmas.Bool.Decides.{nat_tests}
 use Rattle.pv_ctc.specs.declared.program.Program.{Program, Compose, Union, QInter}
-use Rattle.pv_ctc.specs.Plans.{plan_of, plans_of, plan_count, IsFor}
+use Rattle.pv_ctc.specs.Plans.{plan_of, plans_of, plan_count}
 use Rattle.pv_ctc.specs.Sureness.{all_true, count_true}
 use Rattle.pv_ctc.proofs.Rows.{count_plans}
 use Rattle.pv_ctc.proofs.Sizes.{vec_plans}
@@ -38,10 +38,6 @@ qinter_none ts n p v xs e f =
     ap (λ q. none_by ts (plan_of q)) e ∙ ap (λ ps. nat_lt (plan_count ps - n) (count_true (none_by_each ts ps))) (vec_plans v xs f)
     ∙ ap (λ m. nat_lt (m - n) (count_true (none_by_each ts (plans_of xs)))) (count_plans xs)
     ∙ lt_is (length xs - n) (count_true (none_by_each ts (plans_of xs)))
-
-pub qinter_few : (count n : ℕ) (p : Program) (v : Vec Program Global) (xs : List Program) → p ≡ QInter n v → xs ≡ v.items → IsFor count (plan_of p) → n ≤ length xs
-qinter_few count n p v xs e f h =
-    let g = subst (λ q. IsFor count (plan_of q)) e h in subst (λ m. n ≤ m) (ap plan_count (vec_plans v xs f) ∙ count_plans xs) g.1
 
 pub compose_sure : (ts : List Bool) (p : Program) (v : Vec Program Global) (xs : List Program) → p ≡ Compose v → xs ≡ v.items → sure_by ts (plan_of p) ≡ all_true (sure_by_each ts (plans_of xs))
 compose_sure ts p v xs e f = ap (λ q. sure_by ts (plan_of q)) e ∙ ap (λ ps. all_true (sure_by_each ts ps)) (vec_plans v xs f)

@@ -1,12 +1,13 @@
 //! Settling a box with what is known of its constraints.
 
-ghost use Rattle.std.specs.Prelude.{◌≡◌, ◌<◌, length, IfOk, OnOk};
+ghost use Rattle.std.specs.Prelude.{◌≡◌, ◌<◌, length, IfOk, IsFalse, OnOk};
 ghost use Rattle.pv_ctc.specs.Contracting.{sides_in, side_at};
 ghost use Rattle.pv_ctc.specs.Facts.{Knows};
+ghost use Rattle.pv_ctc.specs.Plans.{plan_of};
 ghost use Rattle.pv_tree.specs.KnownHalves.{HoldsOfHalves};
 ghost use Rattle.pv_settle.specs.Rules.{dims_of};
 ghost use Rattle.pv_settle.specs.Settlers.{rule_of};
-ghost use Rattle.pv_slope.specs.Programs.{none_tests, sure_tests};
+ghost use Rattle.pv_slope.specs.Programs.{program_none, sure_tests};
 ghost use Rattle.pv_slope.specs.Settling.{settle_centered, settle_left};
 ghost use Rattle.pv_slope.specs.Tests.{centered_none, counts_as_sure};
 
@@ -78,15 +79,7 @@ impl CenteredSettler {
     {
         self.settler.learn();
         let mut known = known;
-        self.judge_all(
-            &mut room.scratch,
-            &mut room.columns,
-            &mut room.none,
-            &mut room.sure,
-            &to,
-            &mut known,
-        )?;
-        if has_none(self.settler.program(), &room.none) {
+        if self.judge_all(room, &to, &mut known)? {
             return Ok(Settled {
                 outcome: Outcome::Removed,
                 known,
@@ -101,33 +94,32 @@ impl CenteredSettler {
         Ok(self.settler.settle_unsure(to, known, depth_left, path_len))
     }
 
-    // Tells of each constraint whether it holds at no point of a box, and whether at each.
-    fn judge_all(
-        &self,
-        scratch: &mut Scratch,
-        columns: &mut Columns,
-        none: &mut Vec<bool>,
-        sure: &mut Vec<bool>,
-        to: &IBox,
-        known: &mut Known,
-    ) -> Result<(), Memory>
+    // Whether no point of a box is in the program's set; where some may be, `sure` tells afterwards
+    // of each constraint whether it holds at each point. It ends at the first constraint that
+    // leaves the program nothing.
+    fn judge_all(&self, room: &mut Room, to: &IBox, known: &mut Known) -> Result<bool, Memory>
         requires dims { length to.now ≡ dims_of (rule_of self.now.settler) }
         requires known { Knows (sides_in (rule_of self.now.settler).graphs) known.old to.now }
-        ensures none { OnOk result (none.new.items ≡
-            none_tests (sides_in (rule_of self.now.settler).graphs) to.now) }
-        ensures sure { OnOk result (sure.new.items ≡
+        ensures none { IfOk result (λ t. t ≡
+            program_none (sides_in (rule_of self.now.settler).graphs)
+            (plan_of (rule_of self.now.settler).program) to.now) }
+        ensures sure { IfOk result (λ t. IsFalse t → room.new.sure.items ≡
             sure_tests (sides_in (rule_of self.now.settler).graphs) to.now) }
         ensures known { OnOk result
             (Knows (sides_in (rule_of self.now.settler).graphs) known.new to.now) }
     {
-        none.clear();
-        sure.clear();
+        let program = self.settler.program();
+        room.none.clear();
+        room.sure.clear();
         for i in 0..self.slopes.len() {
-            let verdict = self.judge(i, scratch, columns, to, known)?;
-            none.push(verdict.none)?;
-            sure.push(verdict.sure)?;
+            let verdict = self.judge(i, &mut room.scratch, &mut room.columns, to, known)?;
+            room.none.push(verdict.none)?;
+            room.sure.push(verdict.sure)?;
+            if has_none(program, &room.none) {
+                return Ok(true);
+            }
         }
-        Ok(())
+        Ok(has_none(program, &room.none))
     }
 
     // What is found of constraint `i`; nothing is worked out where it is sure by its sides.

@@ -1,15 +1,16 @@
 //! The slopes of all nodes, one variable after another, and the linear form.
 
-ghost use Rattle.std.specs.Prelude.{◌≡◌, ◌<◌, ◌≤◌, ◌-◌, true, length};
+ghost use Rattle.std.specs.Prelude.{◌≡◌, ◌<◌, ◌≤◌, ◌-◌, ◌&&◌, true, length};
+ghost use Rattle.pv_interval.specs.Tables.{product_of};
 ghost use Rattle.pv_hc4.specs.Nodes.{AreOrdered, ReadsBelow, FitsNode, IsPower, terms, term_at};
 ghost use Rattle.pv_hc4.specs.Graphs.{AreValues};
 ghost use Rattle.pv_slope.specs.Centres.{at_centre};
-ghost use Rattle.pv_slope.specs.Centered.{has_finite_ends, linear_of};
+ghost use Rattle.pv_slope.specs.Centered.{is_finite, has_finite_ends, from_centre as from_centre_of, linear_of};
 ghost use Rattle.pv_slope.specs.Flat.{AreOf, AreFactors, node_factor, node_slope};
 ghost use Rattle.pv_slope.specs.SlopeTable.{slope_of};
 
 use crate::centre::from_centre;
-use crate::rows::{binary_factor, binary_slope, one, unary_factor, unary_slope, zero};
+use crate::rows::{binary_factor, binary_slope, is_zero, one, unary_factor, unary_slope, zero};
 use pv_box::IBox;
 use pv_hc4::Node;
 use pv_hc4::forward::place;
@@ -94,6 +95,18 @@ pub(crate) fn slope_all(
     }
 }
 
+// A slope times its variable's distance from the centre.
+#[tactic(auto, using(crate::proofs::Zeros::zero_times))]
+fn moved(slope: Interval, x: Interval) -> Interval
+    requires { (is_finite x.lo && is_finite x.hi) ≡ true }
+    ensures { result ≡ product_of slope (from_centre_of x) }
+{
+    if is_zero(slope) {
+        return zero();
+    }
+    slope.mul(from_centre(x))
+}
+
 // The interval at the centre, and each slope times its variable's distance from there.
 pub(crate) fn linear(
     nodes: &[Node],
@@ -116,7 +129,7 @@ pub(crate) fn linear(
     let mut sum = centres[root];
     for i in 0..bx.dims() {
         slope_all(nodes, i, values, centres, factors, bx, slopes);
-        sum = sum.add(slopes[root].mul(from_centre(place(bx, i))));
+        sum = sum.add(moved(slopes[root], place(bx, i)));
     }
     sum
 }

@@ -1,7 +1,7 @@
 //! The rows of the table of slopes: the slope of an operation from the intervals and slopes of its
 //! parts.
 
-ghost use Rattle.std.specs.Prelude.{◌≡◌, ◌≤◌, ◌-◌};
+ghost use Rattle.std.specs.Prelude.{◌≡◌, ◌↔◌, ◌≤◌, ◌-◌, IsTrue};
 ghost use Rattle.pv_hc4.specs.Nodes.{IsPower};
 ghost use Rattle.pv_slope.specs.Flat.{unary_factor as unary_factor_of, binary_factor as binary_factor_of, unary_slope_by, binary_slope_by};
 ghost use Rattle.pv_slope.specs.SlopeTable.{zero_slope, one_slope, either_slope, power_term as power_term_of, power_factor as power_factor_of, absolute_slope as absolute_slope_of, least_slope as least_slope_of, greatest_slope as greatest_slope_of, quotient_slope as quotient_slope_of};
@@ -18,6 +18,13 @@ pub(crate) fn zero() -> Interval
         Some(x) => x,
         None => unreachable!(),
     }
+}
+
+/// Whether an interval is [0,0].
+pub(crate) fn is_zero(x: Interval) -> bool
+    ensures { IsTrue result ↔ (x ≡ zero_slope) }
+{
+    x.lo() == Num::ZERO && x.hi() == Num::ZERO
 }
 
 /// [1,1].
@@ -92,10 +99,15 @@ fn absolute_slope(f: Interval, s: Interval) -> Interval
     either_sign().mul(s)
 }
 
-/// The slope of an operation on a part with the forward interval `f` and the slope `s`.
+/// The slope of an operation on a part with the forward interval `f` and the slope `s`. It is
+/// [0,0] where the part's is.
+#[tactic(auto, using(crate::proofs::Zeros::unary_zero))]
 pub(crate) fn unary_slope(op: UnaryOp, factor: Interval, f: Interval, s: Interval) -> Interval
     ensures { result ≡ unary_slope_by op factor f s }
 {
+    if is_zero(s) {
+        return zero();
+    }
     match op {
         UnaryOp::Neg => s.neg(),
         UnaryOp::Abs => absolute_slope(f, s),
@@ -135,7 +147,9 @@ fn quotient_slope(by: Interval, g: Interval, s: Interval, t: Interval) -> Interv
 }
 
 /// The slope of an operation on two parts with the forward intervals `f` and `g` and the slopes `s`
-/// and `t`; `d` is the second part's interval at the centre.
+/// and `t`; `d` is the second part's interval at the centre. It is [0,0] where both parts' are, but
+/// for a quotient, whose divisor may be [0,0].
+#[tactic(auto, using(crate::proofs::Zeros::binary_zero))]
 pub(crate) fn binary_slope(
     op: BinaryOp,
     factor: Interval,
@@ -148,10 +162,11 @@ pub(crate) fn binary_slope(
     ensures { result ≡ binary_slope_by op factor f g d s t }
 {
     match op {
+        BinaryOp::Div => quotient_slope(factor, g, s, t),
+        _ if is_zero(s) && is_zero(t) => zero(),
         BinaryOp::Add => s.add(t),
         BinaryOp::Sub => s.sub(t),
         BinaryOp::Mul => f.mul(t).add(d.mul(s)),
-        BinaryOp::Div => quotient_slope(factor, g, s, t),
         BinaryOp::Min => least_slope(f, g, s, t),
         BinaryOp::Max => greatest_slope(f, g, s, t),
     }

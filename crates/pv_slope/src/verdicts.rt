@@ -1,9 +1,9 @@
 //! From what is found of the constraints on a box to what holds of a contractor program's set.
 
 ghost use Rattle.std.specs.Prelude.{◌≡◌, ◌≤◌, ◌+◌, ◌-◌, length, nat_le};
-ghost use Rattle.pv_ctc.specs.Plans.{plan_of, plans_of, IsFor, AreFor};
+ghost use Rattle.pv_ctc.specs.Plans.{plan_of, plans_of};
 ghost use Rattle.pv_ctc.specs.Sureness.{all_true, count_true};
-ghost use Rattle.pv_slope.specs.Programs.{none_by, none_by_each, sure_by, sure_by_each};
+ghost use Rattle.pv_slope.specs.Programs.{test_at, none_by, none_by_each, sure_by, sure_by_each};
 
 use pv_ctc::Program;
 
@@ -29,14 +29,23 @@ fn some_hold(tests: &[bool]) -> bool
     false
 }
 
-/// Whether no point of a box is in the program's set, where the tests say so of each constraint.
+fn holds(tests: &[bool], i: u32) -> bool
+    ensures { result ≡ test_at tests.now i }
+{
+    match tests.get(i as usize) {
+        Some(test) => *test,
+        None => false,
+    }
+}
+
+/// Whether no point of a box is in the program's set, where the tests say so of each constraint. A
+/// constraint that has no test yet may hold at some point.
 #[cycle(emptiness)]
 pub(crate) fn has_none(program: &Program, tests: &[bool]) -> bool
-    requires { IsFor (length tests.now) (plan_of program.now) }
     ensures { result ≡ none_by tests.now (plan_of program.now) }
 {
     match program {
-        Program::Hc4(i) => tests[*i as usize],
+        Program::Hc4(i) => holds(tests, *i),
         Program::Compose(parts) => so_many_have_none(1, parts, tests),
         Program::Union(parts) => all_have_none(parts, tests),
         Program::QInter(q, parts) => more_have_none(*q, parts, tests),
@@ -47,7 +56,6 @@ pub(crate) fn has_none(program: &Program, tests: &[bool]) -> bool
 
 #[cycle(emptiness)]
 fn all_have_none(parts: &[Program], tests: &[bool]) -> bool
-    requires { AreFor (length tests.now) (plans_of parts.now) }
     ensures { result ≡ all_true (none_by_each tests.now (plans_of parts.now)) }
 {
     for part in parts {
@@ -61,19 +69,15 @@ fn all_have_none(parts: &[Program], tests: &[bool]) -> bool
 // Whether the parts that hold at no point are so many that fewer than q are left.
 #[cycle(emptiness)]
 fn more_have_none(q: u32, parts: &[Program], tests: &[bool]) -> bool
-    requires some { 1 ≤ q }
-    requires few { q ≤ length parts.now }
-    requires programs { AreFor (length tests.now) (plans_of parts.now) }
     ensures { result ≡
         nat_le (length parts.now - q + 1)
         (count_true (none_by_each tests.now (plans_of parts.now))) }
 {
-    so_many_have_none(parts.len() - q as usize + 1, parts, tests)
+    so_many_have_none(parts.len().saturating_sub(q as usize) + 1, parts, tests)
 }
 
 #[cycle(emptiness)]
 fn so_many_have_none(wanted: usize, parts: &[Program], tests: &[bool]) -> bool
-    requires { AreFor (length tests.now) (plans_of parts.now) }
     ensures { result ≡
         nat_le wanted (count_true (none_by_each tests.now (plans_of parts.now))) }
 {
@@ -92,11 +96,10 @@ fn so_many_have_none(wanted: usize, parts: &[Program], tests: &[bool]) -> bool
 /// Whether each point of a box is in the program's set, where the tests say so of each constraint.
 #[cycle(fullness)]
 pub(crate) fn is_sure(program: &Program, tests: &[bool]) -> bool
-    requires { IsFor (length tests.now) (plan_of program.now) }
     ensures { result ≡ sure_by tests.now (plan_of program.now) }
 {
     match program {
-        Program::Hc4(i) => tests[*i as usize],
+        Program::Hc4(i) => holds(tests, *i),
         Program::Compose(parts) => all_are_sure(parts, tests),
         Program::Union(parts) => so_many_are_sure(1, parts, tests),
         Program::QInter(q, parts) => so_many_are_sure(*q, parts, tests),
@@ -107,7 +110,6 @@ pub(crate) fn is_sure(program: &Program, tests: &[bool]) -> bool
 
 #[cycle(fullness)]
 fn all_are_sure(parts: &[Program], tests: &[bool]) -> bool
-    requires { AreFor (length tests.now) (plans_of parts.now) }
     ensures { result ≡ all_true (sure_by_each tests.now (plans_of parts.now)) }
 {
     for part in parts {
@@ -121,7 +123,6 @@ fn all_are_sure(parts: &[Program], tests: &[bool]) -> bool
 // Whether at least q of the parts are sure.
 #[cycle(fullness)]
 fn so_many_are_sure(q: u32, parts: &[Program], tests: &[bool]) -> bool
-    requires { AreFor (length tests.now) (plans_of parts.now) }
     ensures { result ≡ nat_le q (count_true (sure_by_each tests.now (plans_of parts.now))) }
 {
     let mut missing = q;

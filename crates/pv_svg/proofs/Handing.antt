@@ -1,27 +1,11 @@
 -- The lines of rectangles.
-use Rattle.std.proofs.Common.{◌≡◌, ℕ, suc, ◌+◌, ◌-◌, ◌<◌, ◌≤◌, List, [], ◌++◌, length, drop, get_or, refl, sym, ◌∙◌, ap, append_assoc, append-nil, add-one}
+use Rattle.std.proofs.Common.{◌≡◌, ℕ, suc, ◌+◌, ◌<◌, ◌≤◌, List, [], ◌++◌, length, drop, get_or, sym, ◌∙◌, ap, append_assoc, append-nil, add-one}
 use Rattle.std.proofs.Math.Seq.{drop-cons}
 use Rattle.std.proofs.lemmas.List.{drop_all}
 use Rattle.pv_io.proofs.Fronts.{line_held}
-use Rattle.pv_num.specs.Extended.{Extended}
-use Rattle.pv_interval.specs.Bounds.{Bounds}
-use Rattle.pv_svg.specs.Pixels.{pixel_of}
-use Rattle.pv_svg.specs.Texts.{foot_text, element_text, rectangle_text, rectangles_text}
+use Rattle.pv_svg.specs.Texts.{foot_text, rectangle_text, rectangles_text}
 use Rattle.pv_svg.specs.Rectangles.{Drawn}
 use Rattle.pv_svg.specs.declared.rectangle.Rectangle.{Rectangle}
-
--- ---- The line of a rectangle
-
-pub text_is : (x y : Bounds) (r : Rectangle) (xl xh yl yh : Extended) (a b c d : ℕ) → xl ≡ r.x.lo → xh ≡ r.x.hi → yl ≡ r.y.lo → yh ≡ r.y.hi
-    → a ≡ pixel_of x xl → b ≡ pixel_of x xh → c ≡ pixel_of y yl → d ≡ pixel_of y yh
-    → element_text a (1000 - d) (b - a) (d - c) r.class ≡ rectangle_text x y r
-unfolding rectangle_text
-text_is x y r xl xh yl yh a b c d exl exh eyl eyh ea eb ec ed =
-    let left : a ≡ pixel_of x r.x.lo = ea ∙ ap (pixel_of x) exl in
-    let right : b ≡ pixel_of x r.x.hi = eb ∙ ap (pixel_of x) exh in
-    let bottom : c ≡ pixel_of y r.y.lo = ec ∙ ap (pixel_of y) eyl in
-    let top : d ≡ pixel_of y r.y.hi = ed ∙ ap (pixel_of y) eyh in
-    λ i. element_text (left i) (1000 - top i) (right i - left i) (top i - bottom i) r.class
 
 -- ---- The lines to come
 

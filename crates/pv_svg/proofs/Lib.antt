@@ -1,8 +1,11 @@
+mod Ends
 mod Shares
 mod Axes
+mod Sides
 mod Meetings
 mod Showing
 mod Handing
 mod Painting
 mod Places
 mod Sounds
+mod Screens

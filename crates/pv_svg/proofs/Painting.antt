@@ -1,8 +1,8 @@
 -- Paint on lists of rectangles.
-use Rattle.std.proofs.Common.{◌≡◌, IsTrue, Bool, true, false, cond, Option, Some, None, List, [], ◌∷◌, ◌++◌, refl, sym, ◌∙◌, ap}
-use Rattle.std.proofs.lemmas.Bool.{true≢false, cond-true, cond-false}
+use Rattle.std.proofs.Common.{◌≡◌, IsTrue, Bool, true, false, cond, Option, Some, None, List, [], ◌∷◌, ◌++◌, refl, sym, ◌∙◌, ap, subst}
+use Rattle.std.proofs.lemmas.Bool.{true≢false, cond-true, cond-false, cond_both}
 use Rattle.std.proofs.lemmas.List.Elements.{All-nil, All-cons, All-head, All-tail}
-use Rattle.pv_svg.specs.Paints.{Spot, contains, over, paint_of, NoneContains, IsLast, PaintIsLast, LastIsPaint, BareIsUnpainted, IsOffEdges}
+use Rattle.pv_svg.specs.Paints.{Spot, contains, over, last_class, paint_of, NoneContains, IsLast, PaintIsLast, LastIsPaint, BareIsUnpainted, IsOffEdges}
 use Rattle.pv_svg.specs.declared.rectangle.Class.{Class}
 use Rattle.pv_svg.specs.declared.rectangle.Rectangle.{Rectangle}
 
@@ -78,20 +78,35 @@ over-none : (a : Option Class) → over a None ≡ a
 over-none None = refl
 over-none (Some x) = refl
 
-pub paint-append : (spot : Spot) (xs ys : List Rectangle) → paint_of spot (xs ++ ys) ≡ over (paint_of spot ys) (paint_of spot xs)
-paint-append spot [] ys = sym (over-none (paint_of spot ys))
-paint-append spot (x ∷ xs) ys =
-    ap (λ o. over o (cond (contains x spot) (Some x.class) None)) (paint-append spot xs ys)
-    ∙ over_assoc (paint_of spot ys) (paint_of spot xs) (cond (contains x spot) (Some x.class) None)
+pub last-append : (of_some : Rectangle → Bool) (xs ys : List Rectangle) → last_class of_some (xs ++ ys) ≡ over (last_class of_some ys) (last_class of_some xs)
+last-append of_some [] ys = sym (over-none (last_class of_some ys))
+last-append of_some (x ∷ xs) ys =
+    ap (λ o. over o (cond (of_some x) (Some x.class) None)) (last-append of_some xs ys)
+    ∙ over_assoc (last_class of_some ys) (last_class of_some xs) (cond (of_some x) (Some x.class) None)
 
-pub none_parts : (spot : Spot) (xs ys : List Rectangle) → paint_of spot (xs ++ ys) ≡ None → (paint_of spot xs ≡ None) × (paint_of spot ys ≡ None)
-none_parts spot xs ys e =
-    let parts = over_none (paint_of spot ys) (paint_of spot xs) (sym (paint-append spot xs ys) ∙ e) in
+pub none_parts : (of_some : Rectangle → Bool) (xs ys : List Rectangle) → last_class of_some (xs ++ ys) ≡ None
+    → (last_class of_some xs ≡ None) × (last_class of_some ys ≡ None)
+none_parts of_some xs ys e =
+    let parts = over_none (last_class of_some ys) (last_class of_some xs) (sym (last-append of_some xs ys) ∙ e) in
     (parts.1, parts.0)
 
 pub off_parts : (spot : Spot) (xs ys : List Rectangle) → IsOffEdges spot (xs ++ ys) → IsOffEdges spot xs × IsOffEdges spot ys
 off_parts spot [] ys h = (tt, h)
 off_parts spot (x ∷ xs) ys h = let rest = off_parts spot xs ys h.1 in ((h.0, rest.0), rest.1)
 
-pub not_bare : (spot : Spot) (r : Rectangle) → contains r spot ≡ true → paint_of spot (r ∷ []) ≡ None → ⊥
-not_bare spot r i e = true≢false (sym i ∙ lone_none (contains r spot) r.class e)
+pub not_bare : (of_some : Rectangle → Bool) (r : Rectangle) → of_some r ≡ true → last_class of_some (r ∷ []) ≡ None → ⊥
+not_bare of_some r i e = true≢false (sym i ∙ lone_none (of_some r) r.class e)
+
+-- ---- What the last class has
+
+has_over : (P : Option Class → Type 0) (later before : Option Class) → P later → (later ≡ None → P before) → P (over later before)
+has_over P None before h k = k refl
+has_over P (Some c) before h k = h
+
+-- of two parts the later one decides, where it has some
+pub has_both : (P : Option Class → Type 0) (of_some : Rectangle → Bool) (xs ys : List Rectangle) → P (last_class of_some ys)
+    → (last_class of_some ys ≡ None → P (last_class of_some xs)) → P (last_class of_some (xs ++ ys))
+has_both P of_some xs ys h k = subst P (sym (last-append of_some xs ys)) (has_over P (last_class of_some ys) (last_class of_some xs) h k)
+
+pub has_lone : (P : Option Class → Type 0) (of_some : Rectangle → Bool) (r : Rectangle) → P None → (of_some r ≡ true → P (Some r.class)) → P (last_class of_some (r ∷ []))
+has_lone P of_some r none h = cond_both (of_some r) (Some r.class) None P h (λ e. none)

@@ -1,18 +1,15 @@
--- The steps to a pixel on whole numbers: the share of an axis lies between 0 and 1, and grows with the number.
-use Rattle.std.proofs.Common.{◌≡◌, ◌⊎◌, inl, inr, ℕ, ◌+◌, ◌*◌, ◌/◌, ◌%◌, ◌<◌, ◌≤◌, IsTrue, Option, Some, None, arith, refl, sym, ◌∙◌, ap, subst, pos}
-use Rattle.std.proofs.lemmas.Nat.{le-div, div-add-mod', div_below}
+-- The steps to a pixel on whole numbers: none gives too much.
+use Rattle.std.proofs.Common.{◌≡◌, ◌⊎◌, inl, inr, ℕ, ◌+◌, ◌*◌, ◌/◌, ◌%◌, ◌<◌, ◌≤◌, Option, Some, None, arith, refl, ◌∙◌, ap, subst, pos}
+use Rattle.std.proofs.lemmas.Nat.{div-add-mod', div_below}
 use Rattle.std.proofs.Math.Nat.{mul-le-mul, le_of_mul-le-mul_right}
 use Rattle.pv_num.specs.Extended.{Extended, Fin, PosInf}
 use Rattle.pv_num.specs.Grid.{unit}
-use Rattle.pv_num.specs.Order.{le}
 use Rattle.pv_num.specs.Rounding.{rounded, at_least_plus, IsDown, IsUp}
 use Rattle.pv_num.specs.Arithmetic.{div_of, mul_of}
 use Rattle.pv_num.specs.declared.num.End.TheVariants.{Down, Up}
-use Rattle.pv_num.proofs.Orders.{le-Fin, le-refl}
-use Rattle.pv_num.proofs.Signs.{pos_le, le_pos}
+use Rattle.pv_num.proofs.Signs.{le_pos}
 use Rattle.pv_num.proofs.Scales.{unit_pos}
 use Rattle.pv_num.proofs.Rounding.{rounded-is}
-use Rattle.pv_num.proofs.Monotone.{rounded-monotone}
 use Rattle.pv_svg.specs.Pixels.{thousand}
 
 -- n / b rounded down
@@ -45,20 +42,20 @@ share_nat p q = div_of Down (rounded Down (pos p) 1) (rounded Up (pos q) 1)
 
 pub record IsShare (p q s : ℕ) : Type 0 where
   pub is : share_nat p q ≡ Fin (pos s)
-  pub few : s ≤ unit
+  pub low : s * q ≤ p * unit
 
-at_most : (a w s : ℕ) → a ≤ w → 0 < w → s * w ≤ a * unit → s ≤ unit
-at_most a w s l p h =
-    let m : a * unit ≤ w * unit = mul-le-mul l (omega arith) in
-    let e : w * unit ≡ unit * w = grind arith in
-    let n : s * w ≤ unit * w = omega (arith, m, e, h) in
-    le_of_mul-le-mul_right n p
+-- a quotient of less over more is less
+less_share : (a p w q s : ℕ) → a ≤ p → q ≤ w → s * w ≤ a * unit → s * q ≤ p * unit
+less_share a p w q s l m h =
+    let more : s * q ≤ s * w = mul-le-mul (omega arith) m in
+    let less : a * unit ≤ p * unit = mul-le-mul l (omega arith) in
+    omega (arith, more, less, h)
 
-pub share_there : (p q : ℕ) → p ≤ q → 0 < q → (s : ℕ) × IsShare p q s
-share_there p q l z =
+pub share_there : (p q : ℕ) → 0 < q → (s : ℕ) × IsShare p q s
+share_there p q z =
     let a = down_nat p 1 (omega arith) in
     elim (up_cases q 1) [
-      | inl e ↦ (0, record { is = ap (λ x. div_of Down x (rounded Up (pos q) 1)) a.1.is ∙ ap (λ x. div_of Down (Fin (pos a.0)) x) e; few = omega arith })
+      | inl e ↦ (0, record { is = ap (λ x. div_of Down x (rounded Up (pos q) 1)) a.1.is ∙ ap (λ x. div_of Down (Fin (pos a.0)) x) e; low = omega arith })
       | inr k ↦
           let w : q ≤ k.0 * 1 = up_above q 1 k.0 (omega arith) k.1 in
           let below : a.0 * 1 ≤ p = a.1.below in
@@ -66,35 +63,9 @@ share_there p q l z =
             s.0,
             record {
               is = ap (λ x. div_of Down x (rounded Up (pos q) 1)) a.1.is ∙ ap (λ x. div_of Down (Fin (pos a.0)) x) k.1 ∙ s.1.is;
-              few = at_most a.0 k.0 s.0 (omega arith) (omega arith) s.1.below;
+              low = less_share a.0 p k.0 q s.0 (omega arith) (omega arith) s.1.below;
             },
           )
-    ]
-
-pos_order : (x y : Extended) (a b : ℕ) → x ≡ Fin (pos a) → y ≡ Fin (pos b) → IsTrue (le x y) → a ≤ b
-pos_order x y a b e f h = le_pos a b (le-Fin (pos a) (pos b) (subst (λ (v : Extended). IsTrue (le (Fin (pos a)) v)) f (subst (λ (u : Extended). IsTrue (le u y)) e h)))
-
-down_grows : (n m b r s : ℕ) → 0 < b → n ≤ m → rounded Down (pos n) b ≡ Fin (pos r) → rounded Down (pos m) b ≡ Fin (pos s) → r ≤ s
-down_grows n m b r s p l e f = pos_order (rounded Down (pos n) b) (rounded Down (pos m) b) r s e f (rounded-monotone Down (pos n) (pos m) b p (pos_le n m l))
-
-same_nat : (x : Extended) (a b : ℕ) → x ≡ Fin (pos a) → x ≡ Fin (pos b) → a ≤ b
-same_nat x a b e f = pos_order x x a b e f (le-refl x)
-
-pub share_grows : (p p' q s s' : ℕ) → p ≤ p' → 0 < q → IsShare p q s → IsShare p' q s' → s ≤ s'
-share_grows p p' q s s' l z h h' =
-    let a = down_nat p 1 (omega arith) in
-    let a' = down_nat p' 1 (omega arith) in
-    let grows : a.0 ≤ a'.0 = down_grows p p' 1 a.0 a'.0 (omega arith) l a.1.is a'.1.is in
-    elim (up_cases q 1) [
-      | inl e ↦
-          same_nat (Fin (pos 0)) s s'
-          (sym (ap (λ x. div_of Down x (rounded Up (pos q) 1)) a.1.is ∙ ap (λ x. div_of Down (Fin (pos a.0)) x) e) ∙ h.is)
-          (sym (ap (λ x. div_of Down x (rounded Up (pos q) 1)) a'.1.is ∙ ap (λ x. div_of Down (Fin (pos a'.0)) x) e) ∙ h'.is)
-      | inr k ↦
-          let w : q ≤ k.0 * 1 = up_above q 1 k.0 (omega arith) k.1 in
-          down_grows (a.0 * unit) (a'.0 * unit) k.0 s s' (omega arith) (mul-le-mul grows (omega arith))
-          (sym (ap (λ x. div_of Down x (rounded Up (pos q) 1)) a.1.is ∙ ap (λ x. div_of Down (Fin (pos a.0)) x) k.1) ∙ h.is)
-          (sym (ap (λ x. div_of Down x (rounded Up (pos q) 1)) a'.1.is ∙ ap (λ x. div_of Down (Fin (pos a'.0)) x) k.1) ∙ h'.is)
     ]
 
 -- 1000 times that share.
@@ -103,28 +74,33 @@ scaled_nat p q = mul_of Down (share_nat p q) thousand
 
 pub record IsScaled (p q t : ℕ) : Type 0 where
   pub is : scaled_nat p q ≡ Fin (pos t)
-  pub few : t ≤ 1000 * unit
+  pub low : t * q ≤ 1000 * p * unit
 
-thousandfold : (s t : ℕ) → s ≤ unit → t * unit ≤ s * (1000 * unit) → t ≤ 1000 * unit
-thousandfold s t l h =
-    let m : s * (1000 * unit) ≤ unit * (1000 * unit) = mul-le-mul l (omega arith) in
-    let e : unit * (1000 * unit) ≡ (1000 * unit) * unit = grind arith in
-    let n : t * unit ≤ (1000 * unit) * unit = omega (arith, m, e, h) in
+thousandfold : (s t : ℕ) → t * unit ≤ s * (1000 * unit) → t ≤ 1000 * s
+thousandfold s t h =
+    let e : s * (1000 * unit) ≡ 1000 * s * unit = grind arith in
+    let n : t * unit ≤ 1000 * s * unit = omega (arith, e, h) in
     le_of_mul-le-mul_right n unit_pos
 
-pub scaled_there : (p q : ℕ) → p ≤ q → 0 < q → (t : ℕ) × IsScaled p q t
-scaled_there p q l z =
-    let s = share_there p q l z in
-    let t = down_nat (s.0 * (1000 * unit)) unit unit_pos in
-    (t.0, record { is = ap (λ x. mul_of Down x thousand) s.1.is ∙ t.1.is; few = thousandfold s.0 t.0 s.1.few t.1.below })
+less_scaled : (p q s t : ℕ) → s * q ≤ p * unit → t ≤ 1000 * s → t * q ≤ 1000 * p * unit
+less_scaled p q s t h l =
+    let m : t * q ≤ 1000 * s * q = mul-le-mul l (omega arith) in
+    let e : 1000 * s * q ≡ 1000 * (s * q) = grind arith in
+    let f : 1000 * p * unit ≡ 1000 * (p * unit) = grind arith in
+    omega (arith, m, e, f, h)
 
-pub scaled_grows : (p p' q t t' : ℕ) → p ≤ p' → p' ≤ q → 0 < q → IsScaled p q t → IsScaled p' q t' → t ≤ t'
-scaled_grows p p' q t t' l m z h h' =
-    let s = share_there p q (omega arith) z in
-    let s' = share_there p' q m z in
-    let grows : s.0 ≤ s'.0 = share_grows p p' q s.0 s'.0 l z s.1 s'.1 in
-    down_grows (s.0 * (1000 * unit)) (s'.0 * (1000 * unit)) unit t t' unit_pos (mul-le-mul grows (omega arith))
-    (sym (ap (λ x. mul_of Down x thousand) s.1.is) ∙ h.is) (sym (ap (λ x. mul_of Down x thousand) s'.1.is) ∙ h'.is)
+pub scaled_there : (p q : ℕ) → 0 < q → (t : ℕ) × IsScaled p q t
+scaled_there p q z =
+    let s = share_there p q z in
+    let t = down_nat (s.0 * (1000 * unit)) unit unit_pos in
+    (t.0, record { is = ap (λ x. mul_of Down x thousand) s.1.is ∙ t.1.is; low = less_scaled p q s.0 t.0 s.1.low (thousandfold s.0 t.0 t.1.below) })
+
+pub scaled_few : (p q t : ℕ) → p ≤ q → 0 < q → t * q ≤ 1000 * p * unit → t ≤ 1000 * unit
+scaled_few p q t l z h =
+    let m : 1000 * p * unit ≤ 1000 * q * unit = mul-le-mul (omega (arith, l)) (omega arith) in
+    let e : 1000 * q * unit ≡ 1000 * unit * q = grind arith in
+    let n : t * q ≤ 1000 * unit * q = omega (arith, m, e, h) in
+    le_of_mul-le-mul_right n z
 
 -- Whole parts.
 pub part_few : (t : ℕ) → t ≤ 1000 * unit → t / unit ≤ 1000
@@ -134,7 +110,11 @@ part_few t l =
     let n : t / unit < 1001 = div_below t unit 1001 u m in
     omega arith
 
-pub part_grows : (t t' : ℕ) → t ≤ t' → t / unit ≤ t' / unit
-part_grows t t' l =
+pub part_low : (p q t : ℕ) → t * q ≤ 1000 * p * unit → (t / unit) * q ≤ 1000 * p
+part_low p q t h =
     let e : t / unit * unit + t % unit ≡ t = div-add-mod' t unit in
-    le-div (t / unit) t' unit unit_pos (omega (arith, e))
+    let k : t / unit * unit ≤ t = omega (arith, e) in
+    let m : t / unit * unit * q ≤ t * q = mul-le-mul k (omega arith) in
+    let f : t / unit * unit * q ≡ t / unit * q * unit = grind arith in
+    let n : t / unit * q * unit ≤ 1000 * p * unit = omega (arith, m, f, h) in
+    le_of_mul-le-mul_right n unit_pos

@@ -33,7 +33,7 @@ less_or Greater h = absurd (true≢false (sym h))
 lt_le : (a b : Extended) → IsTrue (lt a b) → IsTrue (le a b)
 lt_le a b h = less_or (order_of a b) h
 
-between_ends : (a : Extended) (x : Bounds) → IsBetween a x → IsTrue (le x.lo a) × IsTrue (le a x.hi)
+pub between_ends : (a : Extended) (x : Bounds) → IsBetween a x → IsTrue (le x.lo a) × IsTrue (le a x.hi)
 between_ends NegInf x h = absurd h
 between_ends (Fin n) x h = (lt_le x.lo (Fin n) h.0, lt_le (Fin n) x.hi h.1)
 between_ends PosInf x h = absurd h

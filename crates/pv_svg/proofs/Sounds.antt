@@ -1,10 +1,6 @@
 -- The picture of a sound paving is sound.
-use Rattle.std.proofs.Common.{◌≡◌, inl, inr, ℕ, ◌<◌, true, cond, Option, Some, None, List, [], ◌∷◌, ◌++◌, length, refl, sym, ◌∙◌, ap, subst, arith}
-use Rattle.std.specs.Ordering.{eq_by_cmp}
-use Rattle.std.proofs.lemmas.Int.{ints}
+use Rattle.std.proofs.Common.{◌≡◌, inl, inr, ℕ, ◌<◌, Bool, true, cond, Some, None, List, [], ◌∷◌, ◌++◌, length, refl, sym, ◌∙◌, subst, arith}
 use Rattle.std.proofs.lemmas.Bool.{and_parts, cond-true, cond-false, cond_both, cases_Bool}
-use Rattle.pv_num.specs.Extended.{Extended, NegInf, Fin, PosInf}
-use Rattle.pv_num.specs.Order.{order_of}
 use Rattle.pv_interval.specs.Bounds.{Bounds}
 use Rattle.pv_interval.specs.Points.{Point, Lies}
 use Rattle.pv_box.specs.Boxes.{IsWithin, PointIn, lower_half, upper_half}
@@ -14,43 +10,19 @@ use Rattle.pv_tree.specs.Sets.{IsSound, LosesNone}
 use Rattle.pv_tree.proofs.Wholes.{within_length}
 use Rattle.pv_svg.specs.Planes.{Plane, IsPlane, place, meets}
 use Rattle.pv_svg.specs.Rectangles.{rectangle_of, same_bounds, fills, cast_off, kept, rectangles_of}
-use Rattle.pv_svg.specs.Paints.{Spot, contains, over, paint_of, IsPointOf, spot_of, IsOffEdges, Says, PicturesAreSound}
+use Rattle.pv_svg.specs.Paints.{Spot, contains, paint_of, IsPointOf, spot_of, IsOffEdges, Says, PicturesAreSound}
 use Rattle.pv_svg.specs.declared.rectangle.Class.{Class}
 use Rattle.pv_svg.specs.declared.rectangle.Class.TheVariants.{Removed, Inner, Small, OpenLeaf}
 use Rattle.pv_svg.specs.declared.rectangle.Rectangle.{Rectangle}
-use Rattle.pv_svg.proofs.Painting.{paint-append, none_parts, off_parts, not_bare}
+use Rattle.pv_svg.proofs.Ends.{same_place}
+use Rattle.pv_svg.proofs.Painting.{none_parts, off_parts, not_bare, has_both, has_lone}
 use Rattle.pv_svg.proofs.Places.{contained, point_met, point_on, point_in}
 use Rattle.pv_svg.proofs.Showing.{low_child, high_child}
 
 -- ---- What says what
 
-says_over : (inside : Point → Type 0) (p : Point) (later before : Option Class) → Says later inside p → (later ≡ None → Says before inside p) → Says (over later before) inside p
-says_over inside p None before h k = k refl
-says_over inside p (Some c) before h k = h
-
-says_both : (inside : Point → Type 0) (p : Point) (spot : Spot) (xs ys : List Rectangle) → Says (paint_of spot ys) inside p
-    → (paint_of spot ys ≡ None → Says (paint_of spot xs) inside p) → Says (paint_of spot (xs ++ ys)) inside p
-says_both inside p spot xs ys h k =
-    subst (λ o. Says o inside p) (sym (paint-append spot xs ys)) (says_over inside p (paint_of spot ys) (paint_of spot xs) h k)
-
 says_lone : (inside : Point → Type 0) (p : Point) (spot : Spot) (r : Rectangle) → (contains r spot ≡ true → Says (Some r.class) inside p) → Says (paint_of spot (r ∷ [])) inside p
-says_lone inside p spot r h = cond_both (contains r spot) (Some r.class) None (λ o. Says o inside p) h (λ e. tt)
-
-same_end : (a b : Extended) → eq_by_cmp order_of a b ≡ true → a ≡ b
-same_end NegInf NegInf h = refl
-same_end NegInf (Fin b) h = cc
-same_end NegInf PosInf h = cc
-same_end (Fin a) NegInf h = cc
-same_end (Fin a) (Fin b) h = ap Fin (grind (arith, ints))
-same_end (Fin a) PosInf h = cc
-same_end PosInf NegInf h = cc
-same_end PosInf (Fin b) h = cc
-same_end PosInf PosInf h = refl
-
-same_place : (a b : Bounds) → same_bounds a b ≡ true → a ≡ b
-same_place a b e =
-    let parts = and_parts (eq_by_cmp order_of a.lo b.lo) (eq_by_cmp order_of a.hi b.hi) e in
-    λ i. record { lo = same_end a.lo b.lo parts.0 i; hi = same_end a.hi b.hi parts.1 i }
+says_lone inside p spot r h = has_lone (λ o. Says o inside p) (λ r. contains r spot) r tt h
 
 pub record IsFilled (plane : Plane) (to b : List Bounds) : Type 0 where
   pub met : meets plane to ≡ true
@@ -69,6 +41,9 @@ module _ (plane : Plane) (p : Point) (places : ℕ) (of_plane : IsPlane plane pl
   abbrev spot : Spot
   spot = spot_of plane p
 
+  abbrev here : Rectangle → Bool
+  here r = contains r spot
+
   abbrev IsOff : List Rectangle → Type 0
   IsOff rs = IsOffEdges spot rs
 
@@ -86,7 +61,7 @@ module _ (plane : Plane) (p : Point) (places : ℕ) (of_plane : IsPlane plane pl
 
   -- a box in which the point lies is painted
   box_painted : (b : List Bounds) (class : Class) → PointIn p b → IsOff (rectangle_of plane b class ∷ []) → Bare (rectangle_of plane b class ∷ []) → ⊥
-  box_painted b class h off bare = not_bare spot (rectangle_of plane b class) (off.0 (on_x b h) (on_y b h)) bare
+  box_painted b class h off bare = not_bare here (rectangle_of plane b class) (off.0 (on_x b h) (on_y b h)) bare
 
   in_box : (b : List Bounds) (class : Class) → length b ≡ places → meets plane b ≡ true → contains (rectangle_of plane b class) spot ≡ true → PointIn p b
   in_box b class e m h = let l = contained (rectangle_of plane b class) spot on.some h in point_in plane p b (on_box b e) m l.0 l.1
@@ -119,7 +94,7 @@ module _ (plane : Plane) (p : Point) (places : ℕ) (of_plane : IsPlane plane pl
       → Bare (cast_off plane b to ++ kept plane to class) → ⊥
   leaf_painted b to class e h off bare =
       let offs = off_parts spot (cast_off plane b to) (kept plane to class) off in
-      let bares = none_parts spot (cast_off plane b to) (kept plane to class) bare in
+      let bares = none_parts here (cast_off plane b to) (kept plane to class) bare in
       kept_painted to class (cast_in b to e h offs.0 bares.0) offs.1 bares.1
 
   painted : (b : List Bounds) (t : Tree) → length b ≡ places → Paves b t → PointIn p b → IsOff (rectangles_of plane b t) → Bare (rectangles_of plane b t) → ⊥
@@ -138,9 +113,9 @@ module _ (plane : Plane) (p : Point) (places : ℕ) (of_plane : IsPlane plane pl
       let high = rectangles_of plane (upper_half to var at) r in
       let whole = seen_list b (cast_off plane b to ++ (low ++ high)) h in
       let offs = off_parts spot (cast_off plane b to) (low ++ high) (subst IsOff whole off) in
-      let bares = none_parts spot (cast_off plane b to) (low ++ high) (subst Bare whole bare) in
+      let bares = none_parts here (cast_off plane b to) (low ++ high) (subst Bare whole bare) in
       let offs2 = off_parts spot low high offs.1 in
-      let bares2 = none_parts spot low high bares.1 in
+      let bares2 = none_parts here low high bares.1 in
       elim (halves-cover to var at p (cast_in b to (half_length to b e v.1) h offs.0 bares.0)) [
         | inl i ↦ painted (lower_half to var at) l (half_length (lower_half to var at) b e (low_child b to var at l r v)) v.3 i offs2.0 bares2.0
         | inr i ↦ painted (upper_half to var at) r (half_length (upper_half to var at) b e (high_child b to var at l r v)) v.4 i offs2.1 bares2.1
@@ -171,7 +146,7 @@ module _ (plane : Plane) (p : Point) (places : ℕ) (of_plane : IsPlane plane pl
         → IsOff (cast_off plane b to ++ kept plane to class) → Right (cast_off plane b to ++ kept plane to class)
     leaf_right b to class e w lost f m off =
         let offs = off_parts spot (cast_off plane b to) (kept plane to class) off in
-        says_both inside p spot (cast_off plane b to) (kept plane to class) (kept_right to class (half_length to b e w) f)
+        has_both (λ o. Says o inside p) here (cast_off plane b to) (kept plane to class) (kept_right to class (half_length to b e w) f)
         (λ bare. cast_right b to e m lost (λ h. kept_painted to class h offs.1 bare))
 
     right : (b : List Bounds) (t : Tree) → length b ≡ places → Paves b t → IsSound inside b t → IsOff (rectangles_of plane b t) → Right (rectangles_of plane b t)
@@ -190,10 +165,10 @@ module _ (plane : Plane) (p : Point) (places : ℕ) (of_plane : IsPlane plane pl
         where_seen b (cast_off plane b to ++ (low ++ high)) off (λ m o.
         let offs = off_parts spot (cast_off plane b to) (low ++ high) o in
         let parts = off_parts spot low high offs.1 in
-        says_both inside p spot (cast_off plane b to) (low ++ high)
-        (says_both inside p spot low high (right (upper_half to var at) r high_places v.4 s.2 parts.1) (λ bare. right (lower_half to var at) l low_places v.3 s.1 parts.0))
+        has_both (λ o. Says o inside p) here (cast_off plane b to) (low ++ high)
+        (has_both (λ o. Says o inside p) here low high (right (upper_half to var at) r high_places v.4 s.2 parts.1) (λ bare. right (lower_half to var at) l low_places v.3 s.1 parts.0))
         (λ bare.
-        let bares = none_parts spot low high bare in
+        let bares = none_parts here low high bare in
         cast_right b to e m s.0 (λ h. elim (halves-cover to var at p h) [
           | inl i ↦ painted (lower_half to var at) l low_places v.3 i parts.0 bares.0
           | inr i ↦ painted (upper_half to var at) r high_places v.4 i parts.1 bares.1

@@ -4,3 +4,4 @@ pub mod Rectangles
 pub mod Texts
 pub mod Pieces
 pub mod Paints
+pub mod Shows

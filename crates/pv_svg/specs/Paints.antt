@@ -43,10 +43,14 @@ abbrev pub over : Option Class → Option Class → Option Class
 over (Some later) before = Some later
 over None before = before
 
+-- The class of the last rectangle of some.
+abbrev pub last_class : (Rectangle → Bool) → List Rectangle → Option Class
+last_class of_some [] = None
+last_class of_some (r ∷ rs) = over (last_class of_some rs) (if of_some r then Some r.class else None)
+
 -- The paint at a place: the class of the last rectangle that contains it strictly.
 abbrev pub paint_of : Spot → List Rectangle → Option Class
-paint_of spot [] = None
-paint_of spot (r ∷ rs) = over (paint_of spot rs) (if contains r spot then Some r.class else None)
+paint_of spot rs = last_class (λ r. contains r spot) rs
 
 -- The same in words.
 abbrev pub NoneContains : Spot → List Rectangle → Type 0

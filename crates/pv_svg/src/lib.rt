@@ -13,6 +13,7 @@ mod plane;
 mod rectangle;
 mod refusal;
 mod shown;
+mod side;
 mod slicing;
 #[cfg(test)]
 mod tests;

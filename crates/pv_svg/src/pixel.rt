@@ -1,7 +1,6 @@
 //! Where numbers lie on an axis of 1000 pixels.
-ghost use Rattle.std.specs.Prelude.{◌≡◌, ◌≤◌, IsTrue};
-ghost use Rattle.pv_interval.specs.Tables.{holds};
-ghost use Rattle.pv_svg.specs.Pixels.{IsFinite, pixel_of, thousand};
+ghost use Rattle.std.specs.Prelude.{◌≡◌, ◌≤◌};
+ghost use Rattle.pv_svg.specs.Pixels.{IsOn, lower_pixel as lower_pixel_of, upper_pixel as upper_pixel_of, thousand};
 
 use pv_interval::Interval;
 use pv_num::{End, Num};
@@ -9,23 +8,31 @@ use pv_num::{End, Num};
 /// The number of pixels of each axis.
 pub(crate) const PIXELS: u64 = 1000;
 
-/// The pixel, from 0 to 1000, of a number that lies on a finite axis. All of an axis without length
-/// is pixel 0.
+/// How many pixels, counted from the lower end of a finite axis with a length, end at or below a
+/// number that lies on it.
 ///
 /// It is the whole part of 1000 times the share of the axis that lies below the number, with each
-/// step rounded so that the pixel is never too high.
-pub(crate) fn pixel(axis: &Interval, v: Num) -> u64
-    requires finite { IsFinite axis.now }
-    requires on { IsTrue (holds axis.now v) }
-    ensures pixel { result ≡ pixel_of axis.now v }
+/// step rounded so that it is never too high. At the axis's upper end it is 1000.
+pub(crate) fn lower_pixel(axis: &Interval, v: Num) -> u64
+    requires { IsOn axis.now v }
+    ensures pixel { result ≡ lower_pixel_of axis.now v }
     ensures few { result ≤ 1000 }
 {
-    let lo = axis.lo();
-    if lo == axis.hi() {
-        return 0;
+    if v == axis.hi() {
+        return PIXELS;
     }
-    let share = v.sub(lo, End::Down).div(axis.width(), End::Down);
+    let share = v.sub(axis.lo(), End::Down).div(axis.width(), End::Down);
     share.mul(one_thousand(), End::Down).floor(PIXELS)
+}
+
+/// How many pixels, counted from the lower end, begin below a number: all but those that are
+/// counted from the upper end down. It is never too low, and at the axis's lower end it is 0.
+pub(crate) fn upper_pixel(axis: &Interval, v: Num) -> u64
+    requires { IsOn axis.now v }
+    ensures pixel { result ≡ upper_pixel_of axis.now v }
+    ensures few { result ≤ 1000 }
+{
+    PIXELS - lower_pixel(&axis.neg(), v.neg())
 }
 
 fn one_thousand() -> Num

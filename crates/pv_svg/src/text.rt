@@ -1,11 +1,12 @@
 //! The lines of a picture's text.
-ghost use Rattle.std.specs.Prelude.{◌≡◌, ◌++◌, OnOk, decimal};
+ghost use Rattle.std.specs.Prelude.{◌≡◌, ◌≤◌, ◌++◌, OnOk, decimal};
 ghost use Rattle.pv_svg.specs.Pixels.{IsFinite};
 ghost use Rattle.pv_svg.specs.Rectangles.{IsOnAxes};
-ghost use Rattle.pv_svg.specs.Texts.{fill_text, element_text, rectangle_text};
+ghost use Rattle.pv_svg.specs.Texts.{fill_text, element_text, pixels_text, rectangle_text};
 
-use crate::pixel::{PIXELS, pixel};
+use crate::pixel::PIXELS;
 use crate::rectangle::{Class, Rectangle};
+use crate::side::Side;
 use itoa::Buffer;
 use pv_interval::Interval;
 use pv_num::Memory;
@@ -20,7 +21,7 @@ pub(crate) const FOOT: &[u8] = b"</svg>\n";
 /// No line is longer.
 pub(crate) const LONGEST_LINE: usize = 100;
 
-/// Appends the line of a rectangle of a picture with these axes.
+/// Appends the line of a rectangle of a picture with these axes; nothing where it has no pixel.
 pub(crate) fn push_rectangle(
     x: &Interval,
     y: &Interval,
@@ -33,16 +34,25 @@ pub(crate) fn push_rectangle(
     ensures { OnOk result (out.new.items ≡
         out.old.items ++ rectangle_text x.now y.now rectangle.now) }
 {
-    let left = pixel(x, rectangle.x.lo());
-    let right = pixel(x, rectangle.x.hi());
-    let bottom = pixel(y, rectangle.y.lo());
-    let top = pixel(y, rectangle.y.hi());
+    let across = Side::of(rectangle.class, x, rectangle.x);
+    let up = Side::of(rectangle.class, y, rectangle.y);
+    push_pixels(across, up, rectangle.class, out)
+}
+
+// Appends the element of a rectangle's pixels, where there are some.
+fn push_pixels(across: Side, up: Side, class: Class, out: &mut Vec<u8>) -> Result<(), Memory>
+    requires few { up.past ≤ 1000 }
+    ensures { OnOk result (out.new.items ≡ out.old.items ++ pixels_text across up class) }
+{
+    if across.is_empty() || up.is_empty() {
+        return Ok(());
+    }
     push_element(
-        left,
-        PIXELS - top,
-        right - left,
-        top - bottom,
-        rectangle.class,
+        across.first,
+        PIXELS - up.past,
+        across.past - across.first,
+        up.past - up.first,
+        class,
         out,
     )
 }

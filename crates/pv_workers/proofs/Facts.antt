@@ -1,6 +1,6 @@
 -- What is known of a stage's leaves, and of the tickets that are given for them.
-use Rattle.std.proofs.Common.{◌≡◌, ℕ, zero, suc, Bool, true, false, Some, List, [], ◌∷◌, ◌++◌, refl, sym, ap, ◌∙◌, subst}
-use Rattle.std.specs.Prelude.{IsSome, IsTrue, map, take, reverse}
+use Rattle.std.proofs.Common.{◌≡◌, ℕ, zero, suc, Bool, true, false, Some, List, [], ◌∷◌, ◌++◌, ◌≤◌, length, refl, sym, ap, ◌∙◌, subst, arith}
+use Rattle.std.specs.Prelude.{IsSome, map, take, reverse}
 use Rattle.std.proofs.lemmas.List.{reverse-append}
 use Rattle.pv_num.specs.Extended.{Extended}
 use Rattle.pv_interval.specs.Bounds.{Bounds}
@@ -14,7 +14,9 @@ use Rattle.pv_tree.specs.declared.outcome.Outcome.TheVariants.{Removed, Inner, S
 use Rattle.pv_tree.proofs.KnownLeaves.{next_holes, next_root}
 use Rattle.pv_board.specs.declared.mark.Mark.{Mark}
 use Rattle.pv_board.specs.Events.{fresh}
-use Rattle.pv_board.specs.Children.{AreFirst}
+use Rattle.pv_board.specs.Children.{AreHandedOut}
+use Rattle.pv_board.specs.declared.ticket.Handed.{Handed}
+use Rattle.pv_board.specs.declared.ticket.Handed.TheVariants.{Taken, Stale, Short}
 use Rattle.pv_board.proofs.Fulls.{grows_box}
 use Rattle.pv_workers.specs.Leaves.{paths_of}
 use Rattle.pv_workers.specs.Facts.{AreFacts, AreLaid, HaveBoxes, paths}
@@ -91,6 +93,12 @@ module _ {K : Type 0} (knows : K → List Bounds → Type 0) where
   laid_facts b full (hole ∷ holes) [] h known = absurd known
   laid_facts b full (hole ∷ holes) (k ∷ ks) h known = (subst (knows k) h.0 known.0, laid_facts b full holes ks h.1 known.1)
 
+  -- there are no more leaves than facts
+  pub few_facts : (box : List Bool → List Bounds) (ps : List (List Bool)) (ks : List K) → AreFacts knows box ps ks → length ps ≤ length ks
+  few_facts box [] ks h = omega arith
+  few_facts box (p ∷ ps) [] h = absurd h
+  few_facts box (p ∷ ps) (k ∷ ks) h = let r = few_facts box ps ks h.1 in omega (arith, r)
+
   -- what is known of the open leaves of a stage that was grown
   pub stage_facts : (rule : Rule) (depth k : ℕ) (g : Growing) (b : List Bounds) (t : Tree) (ks : List K) → t ≡ g.tree → g.root ≡ b → AreLaid (full_of rule depth g.root leaf k) g → AreKnown knows ks g.holes
       → AreFacts knows (box_of b (full_of rule depth b leaf k)) (opens t) ks
@@ -123,13 +131,12 @@ module _ {K : Type 0} (knows : K → List Bounds → Type 0) (root : List Bounds
       (subst (knows k) same h.0, first_facts p b f is e n qs ks h.1)
 
   -- what is known of a stage's leaves is known of their tickets
-  pub handed_facts : (p : List Bool) (b : List Bounds) (f s : Tree) (marks : List Mark) (ks : List K) (so : Bool) → b ≡ box_of root full p → (IsTrue so → AreFirst p s marks) → (so ≡ false → marks ≡ [])
-      → (IsTrue so → subtree full p ≡ Some f) → AreFacts knows (box_of b f) (opens s) ks → AreFacts knows (box_of root full) (paths marks) ks
-  handed_facts p b f s marks ks true is first stale there h =
-      let w = first refl in
-      subst (λ (ms : List Mark). AreFacts knows (box_of root full) (paths ms) ks) (sym w.are) (first_facts p b f is (there refl) w.count (opens s) ks h)
-  handed_facts p b f s marks ks false is first stale there h =
-      subst (λ (ms : List Mark). AreFacts knows (box_of root full) (paths ms) ks) (sym (stale refl)) tt
+  pub handed_facts : (p : List Bool) (b : List Bounds) (f s : Tree) (marks : List Mark) (ks : List K) (r : Handed) → b ≡ box_of root full p → AreHandedOut p s marks r
+      → (r ≡ Taken → subtree full p ≡ Some f) → AreFacts knows (box_of b f) (opens s) ks → AreFacts knows (box_of root full) (paths marks) ks
+  handed_facts p b f s marks ks Taken is first there h =
+      subst (λ (ms : List Mark). AreFacts knows (box_of root full) (paths ms) ks) (sym first.are) (first_facts p b f is (there refl) first.count (opens s) ks h)
+  handed_facts p b f s marks ks Stale is none there h = subst (λ (ms : List Mark). AreFacts knows (box_of root full) (paths ms) ks) (sym none) tt
+  handed_facts p b f s marks ks Short is none there h = subst (λ (ms : List Mark). AreFacts knows (box_of root full) (paths ms) ks) (sym none) tt
 
 module _ {K : Type 0} (holds : K → List Bounds → Type 0) (box : List Bool → List Bounds) where
   -- the first paths of a list have facts too

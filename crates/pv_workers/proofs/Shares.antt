@@ -1,5 +1,5 @@
 -- A budget that is spent in parts.
-use Rattle.std.proofs.Common.{◌≡◌, ◌⊎◌, inl, inr, ℕ, ◌+◌, ◌-◌, ◌≤◌, [], arith}
+use Rattle.std.proofs.Common.{◌≡◌, inl, inr, ℕ, ◌+◌, ◌-◌, ◌≤◌, [], arith}
 use Rattle.pv_tree.specs.Trees.{Tree, opens}
 use Rattle.pv_board.specs.Rules.{settled_in}
 use Rattle.pv_workers.specs.Pavings.{IsSpent}

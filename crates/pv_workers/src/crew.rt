@@ -22,8 +22,12 @@ use std::sync::Wait;
 // A leaf whose path has this number of steps or more is settled together with nodes below it.
 const STAGED_FROM: u32 = 4;
 
-// The most nodes that are settled beyond the first.
+// So many units beyond the first are asked for before a stage. Units for further nodes are taken
+// once they were settled.
 const MOST_GRANT: u64 = 15;
+
+// The most nodes of a stage.
+const MOST_STAGE: u64 = 1024;
 
 /// What the workers share: the board, the settler and the gate.
 #[derive(Drop)]
@@ -32,6 +36,7 @@ pub(crate) struct Crew<'a, N: Naming, S: KnowingSettler, G: Gate> {
     pub(crate) shared: &'a Shared<N>,
     pub(crate) ruled: &'a Ruled<'a, N, S>,
     pub(crate) gate: &'a G,
+    pub(crate) workers: u32,
 }
 
 impl<'a, N: Naming + Send + Sync, S: KnowingSettler + Sync, G: Gate> Work for Crew<'a, N, S, G>
@@ -59,15 +64,15 @@ where
         let told = &mut account.told;
         let kit = &mut account.kit;
         let want = wanted(&parts.ticket);
-        if !self
+        let Some(left) = self
             .shared
             .prepare(rt, &mut parts.ticket, want, &mut kit.scratch)
-        {
+        else {
             self.shared.give_back(rt, parts.ticket, told);
             return;
-        }
+        };
         if is_staged(&parts.ticket) {
-            self.settle_stage(rt, worker, parts, kit, told, children);
+            self.settle_stage(rt, worker, parts, left, kit, told, children);
         } else {
             self.settle(rt, worker, parts, &kit.scratch, told, children);
         }
@@ -130,13 +135,14 @@ impl<'a, N: Naming, S: KnowingSettler, G: Gate> Crew<'a, N, S, G> {
         }
     }
 
-    // Settles some nodes from the leaf of a ticket on, whose box is in the kit, with a grant for
-    // all but the first. The tasks of the stage's open leaves become `children`.
+    // Settles some nodes from the leaf of a ticket on, whose box is in the kit. The tasks of the
+    // stage's open leaves become `children`.
     fn settle_stage<R: Wait>(
         &self,
         rt: &R,
         worker: u64,
         parts: Parts<'a, N, S>,
+        left: u64,
         kit: &mut Kit<S>,
         told: &mut Told<N>,
         children: &mut Batch<Task<'a, N, S>>,
@@ -161,11 +167,23 @@ impl<'a, N: Naming, S: KnowingSettler, G: Gate> Crew<'a, N, S, G> {
             known,
         } = parts;
         let path = ticket.path();
-        let most = 1 + ticket.grant();
-        match stage_at(self.alloc, ruled, self.gate, worker, path, known, most, kit) {
+        let most = most_of(ticket.grant(), left, self.workers);
+        match stage_at(
+            self.alloc,
+            ruled,
+            self.shared,
+            self.gate,
+            worker,
+            path,
+            known,
+            most,
+            kit,
+        ) {
             Ok(stage) => {
                 let tickets = &mut kit.tickets;
-                self.shared.settle_stage(rt, ticket, &stage, told, tickets);
+                let leaves = kit.leaves.as_slice();
+                self.shared
+                    .settle_stage(rt, ticket, &stage, leaves, told, tickets);
                 let _count = tickets.len();
                 hand_out(ruled, tickets, &mut kit.facts, children);
             }
@@ -177,6 +195,16 @@ impl<'a, N: Naming, S: KnowingSettler, G: Gate> Crew<'a, N, S, G> {
 // Whether the leaf of a ticket is settled together with nodes below it.
 fn is_staged(ticket: &Ticket) -> bool {
     ticket.path().len() >= STAGED_FROM
+}
+
+// How many nodes a stage may have whose ticket has this grant, where so many units are left.
+fn most_of(grant: u64, left: u64, workers: u32) -> u64
+    requires { grant ≤ 15 }
+    ensures some { 1 ≤ result }
+    ensures few { result ≤ 4096 }
+{
+    let share = left / 4 / u64::from(workers.max(1));
+    share.min(MOST_STAGE).max(1 + grant)
 }
 
 // How many units more are wanted for a ticket.

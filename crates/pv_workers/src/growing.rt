@@ -37,7 +37,7 @@ pub(crate) fn grow<S: KnowingSettler, G: Gate>(
         (S.depth_of settler.now) opening.now.root opening.now.tree p.paving.tree) }
     ensures paved { IfOk result (λ p. IsSpent budget opening.now.tree p.paving.tree) }
     ensures spent { IfOk result (λ p.
-        settled_in p.paving.tree ≤ settled_in opening.now.tree + 16 * p.spent) }
+        settled_in p.paving.tree ≡ settled_in opening.now.tree + p.spent) }
 {
     let places = opening.dims();
     let mut kit = Kit::of(alloc, settler, places)?;

@@ -5,7 +5,7 @@ use pv_board::Ticket;
 use pv_box::IBox;
 use pv_interval::Interval;
 use pv_num::Memory;
-use pv_tree::{Batch, KnowingSettler};
+use pv_tree::{Batch, KnowingSettler, Path};
 use std::alloc::Global;
 
 /// What a worker keeps from one settling to the next, so that settling takes no memory but for the
@@ -17,6 +17,8 @@ pub(crate) struct Kit<S: KnowingSettler> {
     pub(crate) room: S::Room,
     /// What is known of the leaves of a stage.
     pub(crate) facts: Vec<S::Known>,
+    /// The paths of a stage's open leaves.
+    pub(crate) leaves: Vec<Path>,
     /// The tickets of a stage's leaves.
     pub(crate) tickets: Batch<Ticket>,
 }
@@ -34,6 +36,7 @@ impl<S: KnowingSettler> Kit<S> {
             scratch: blank(alloc, places)?,
             room: settler.room(alloc),
             facts: Vec::new(alloc),
+            leaves: Vec::new(alloc),
             tickets: Batch::new(alloc)?,
         })
     }

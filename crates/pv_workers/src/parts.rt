@@ -44,6 +44,8 @@ where
     ensures paved { IfOk result (λ p. IsSpent budget opening.tree p.paving.tree) }
     ensures spent { IfOk result (λ p.
         settled_in p.paving.tree ≤ settled_in opening.tree + 16 * p.spent) }
+    ensures least { IfOk result (λ p.
+        settled_in opening.tree + p.spent ≤ settled_in p.paving.tree) }
 {
     let _places = opening.dims();
     let _most = limit.nodes();
@@ -109,7 +111,7 @@ where
     requires limit { settled_in before.paving.tree + part ≤ limit }
     requires one { 1 ≤ workers }
     requires sixteen { workers ≤ 16 }
-    requires low { before.spent + 2 ^ 76 < 2 ^ 128 }
+    requires low { before.spent + 2 ^ 84 < 2 ^ 128 }
     ensures root { IfOk result (λ p. p.paving.root ≡ before.paving.root) }
     ensures stage { IfOk result (λ p.
         IsStage (S.settle_of settler.now)
@@ -117,7 +119,9 @@ where
     ensures paved { IfOk result (λ p. IsSpent part before.paving.tree p.paving.tree) }
     ensures spent { IfOk result (λ p. settled_in p.paving.tree + 16 * before.spent ≤
         settled_in before.paving.tree + 16 * p.spent) }
-    ensures low { IfOk result (λ p. p.spent ≤ before.spent + 2 ^ 76) }
+    ensures least { IfOk result (λ p. settled_in before.paving.tree + p.spent ≤
+        settled_in p.paving.tree + before.spent) }
+    ensures low { IfOk result (λ p. p.spent ≤ before.spent + 2 ^ 84) }
 {
     let Paved { paving, spent } = before;
     let next = by_crew(rt, alloc, settler, paving, part, limit, workers, gate)?;

@@ -28,7 +28,8 @@ use std::thread::Threads;
 #[derive(Drop)]
 pub struct Paved {
     pub paving: Paving,
-    /// How many tickets were handed in for it, those of the caller's own settlings included.
+    /// How many tickets it took, the caller's own settlings included. A ticket by which more than 16
+    /// nodes were settled counts as one for each 16 of them, and one that settled none doesn't count.
     pub spent: u128,
 }
 
@@ -70,6 +71,8 @@ pub fn pave<S: Settler + Sync, G: Gate + Sync, R: Threads + Wait + Sync>(
         (S.depth_of settler.now) opening.root opening.tree budget p.paving.tree) }
     ensures spent { IfOk result (λ p.
         settled_in p.paving.tree ≤ settled_in opening.tree + 16 * p.spent) }
+    ensures least { IfOk result (λ p.
+        settled_in opening.tree + p.spent ≤ settled_in p.paving.tree) }
 {
     let _places = opening.dims();
     let lent = Forgetful {
@@ -119,6 +122,8 @@ where
         (S.depth_of settler.now) opening.root opening.tree budget p.paving.tree) }
     ensures spent { IfOk result (λ p.
         settled_in p.paving.tree ≤ settled_in opening.tree + 16 * p.spent) }
+    ensures least { IfOk result (λ p.
+        settled_in opening.tree + p.spent ≤ settled_in p.paving.tree) }
 {
     let _places = opening.dims();
     let paved = settled_by(rt, alloc, settler, opening, budget, limit, workers, gate)?;
@@ -153,6 +158,8 @@ where
     ensures paved { IfOk result (λ p. IsSpent budget opening.tree p.paving.tree) }
     ensures spent { IfOk result (λ p.
         settled_in p.paving.tree ≤ settled_in opening.tree + 16 * p.spent) }
+    ensures least { IfOk result (λ p.
+        settled_in opening.tree + p.spent ≤ settled_in p.paving.tree) }
 {
     if workers == 1 && is_leaf(&opening) {
         return grow(alloc, settler, &opening, budget, gate);
@@ -187,7 +194,9 @@ where
     ensures paved { IfOk result (λ p. IsSpent budget opening.tree p.paving.tree) }
     ensures spent { IfOk result (λ p.
         settled_in p.paving.tree ≤ settled_in opening.tree + 16 * p.spent) }
-    ensures low { IfOk result (λ p. p.spent < 2 ^ 76) }
+    ensures least { IfOk result (λ p.
+        settled_in opening.tree + p.spent ≤ settled_in p.paving.tree) }
+    ensures low { IfOk result (λ p. p.spent < 2 ^ 84) }
 {
     let _places = opening.dims();
     pave_named::<Brand, S, G, R>(
@@ -275,7 +284,8 @@ where
     ensures paved { IfOk result (λ p. IsSpent N.budget N.opening p.paving.tree) }
     ensures spent { IfOk result (λ p.
         settled_in p.paving.tree ≤ settled_in N.opening + 16 * p.spent) }
-    ensures low { IfOk result (λ p. p.spent < 2 ^ 76) }
+    ensures least { IfOk result (λ p. settled_in N.opening + p.spent ≤ settled_in p.paving.tree) }
+    ensures low { IfOk result (λ p. p.spent < 2 ^ 84) }
 {
     let places = opening.dims();
     let ruled: Ruled<N, S> = Ruled::of(settler);
@@ -319,7 +329,7 @@ fn opened<N: Naming>(
     }
 }
 
-// Lets the workers settle, and answers how many tickets they handed in.
+// Lets the workers settle, and answers how many lots of up to 16 nodes they settled.
 fn worked<
     N: Naming + Send + Sync,
     S: KnowingSettler + Sync,
@@ -349,7 +359,8 @@ where
     requires endings { (endings.name ≡ N.endings) × (endings.parts ≡ 32) }
     ensures settled { IfOk result (λ r. settled_in r.0.tree ≡ settled_in N.opening + r.0.used) }
     ensures few { IfOk result (λ r. r.0.used ≤ 16 * r.1) }
-    ensures low { IfOk result (λ r. r.1 < 2 ^ 75) }
+    ensures least { IfOk result (λ r. r.1 ≤ r.0.used) }
+    ensures low { IfOk result (λ r. r.1 < 2 ^ 83) }
 {
     let (shared, told) = Shared::new(board, settlings, endings);
     let accounts = split(alloc, ruled.settler, told, workers, places)?;
@@ -358,12 +369,13 @@ where
         shared: &shared,
         ruled,
         gate,
+        workers,
     };
     let Ok(accounts) = run_workers(rt, alloc, &crew, accounts) else {
         return Err(Memory);
     };
     let told = joined(accounts);
     let _settled = told.settled();
-    let spent = told.spent();
+    let spent = told.lots();
     Ok((shared.into_board(told), spent))
 }

@@ -1,24 +1,32 @@
 //! Stages of a leaf's box, which a worker settles on its own.
-ghost use Rattle.std.specs.Prelude.{◌≡◌, ◌+◌, ◌≤◌, length, reverse, IfOk, OnOk};
-ghost use Rattle.pv_tree.specs.Trees.{leaf, opens, box_of};
+ghost use Rattle.std.specs.Prelude.{◌≡◌, ◌+◌, ◌<◌, ◌≤◌, Bool, false, Some, List, length, vec_len, reverse, IfOk, OnOk};
+ghost use Rattle.pv_tree.specs.Trees.{leaf, opens, box_of, subtree};
 ghost use Rattle.pv_tree.specs.Stages.{full_of};
 ghost use Rattle.pv_tree.specs.Holes.{IsNext};
 ghost use Rattle.pv_tree.specs.KnownLeaves.{AreKnown};
+ghost use Rattle.pv_board.specs.Events.{leaves_at};
 ghost use Rattle.pv_board.specs.Rules.{IsStageBelow, settled_in};
 ghost use Rattle.pv_workers.specs.Facts.{AreFacts, AreLaid};
-ghost use Rattle.pv_workers.specs.Leaves.{with_handed};
+ghost use Rattle.pv_workers.specs.Leaves.{AreOpen, with_handed};
 
 use crate::kit::Kit;
 use crate::ruled::Ruled;
-use pv_board::Naming;
+use pv_board::{Naming, Shared};
 use pv_num::Memory;
 use pv_pool::Gate;
 use pv_tree::{Growth, KnowingSettler, Outcome, Path, Paving, Settled};
 use std::alloc::Global;
 
+/// A stage has at most so many open leaves: a batch takes the tickets of so many.
+const MOST_LEAVES: usize = 17;
+
+/// From so many nodes on a stage is ended where another worker has nothing to do.
+const SHARED_FROM: u64 = 32;
+
 /// Settles up to `most` nodes of the box in `kit.scratch`, which is that of a leaf at a path, each
-/// time the first open leaf. What is known of a box is handed to its halves. What is known of the
-/// stage's open leaves is left in `kit.facts`, that of the first one last.
+/// time the first open leaf; fewer where another worker has nothing to do. What is known of a box is
+/// handed to its halves. The paths of the stage's open leaves from the root of all are left in
+/// `kit.leaves`, and what is known of them in `kit.facts`, that of the first one last.
 ///
 /// # Errors
 ///
@@ -26,6 +34,7 @@ use std::alloc::Global;
 pub(crate) fn stage_at<N: Naming, S: KnowingSettler, G: Gate>(
     alloc: Global,
     ruled: &Ruled<N, S>,
+    shared: &Shared<N>,
     gate: &G,
     worker: u64,
     at: Path,
@@ -41,6 +50,8 @@ pub(crate) fn stage_at<N: Naming, S: KnowingSettler, G: Gate>(
         IsStageBelow N.rule N.depth kit.old.scratch (length at) p.tree) }
     ensures some { IfOk result (λ p. 1 ≤ settled_in p.tree) }
     ensures few { IfOk result (λ p. settled_in p.tree ≤ most) }
+    ensures leaves { IfOk result (λ p. kit.new.leaves.items ≡ leaves_at at p.tree) }
+    ensures few_leaves { IfOk result (λ _. vec_len kit.new.leaves ≤ 17) }
     ensures facts { IfOk result (λ p. AreFacts (S.knows ruled.now.settler.now)
         (box_of kit.old.scratch (full_of N.rule N.depth kit.old.scratch leaf (length at)))
         (opens p.tree) (reverse kit.new.facts.items)) }
@@ -49,6 +60,7 @@ pub(crate) fn stage_at<N: Naming, S: KnowingSettler, G: Gate>(
 {
     let mut stage = Growth::open(alloc, kit.scratch.clone_of(alloc)?)?;
     let _places = stage.dims();
+    let _steps = at.len();
     kit.facts.clear();
     kit.facts.push(known)?;
     settle_next(
@@ -61,13 +73,85 @@ pub(crate) fn stage_at<N: Naming, S: KnowingSettler, G: Gate>(
         &mut stage,
         kit,
     )?;
-    for _settled in 1..most {
-        let Some(path) = stage.next_leaf() else {
-            return Ok(stage.finish());
-        };
-        settle_next(alloc, ruled, gate, worker, at, path, &mut stage, kit)?;
-    }
+    grow_on(
+        alloc, ruled, shared, gate, worker, at, most, &mut stage, kit,
+    )?;
+    list_leaves(&mut stage, at, &mut kit.leaves)?;
     Ok(stage.finish())
+}
+
+// Settles further leaves of a stage of one node.
+fn grow_on<N: Naming, S: KnowingSettler, G: Gate>(
+    alloc: Global,
+    ruled: &Ruled<N, S>,
+    shared: &Shared<N>,
+    gate: &G,
+    worker: u64,
+    at: Path,
+    most: u64,
+    stage: &mut Growth,
+    kit: &mut Kit<S>,
+) -> Result<(), Memory>
+    requires some { 1 ≤ most }
+    requires one { settled_in stage.old.tree ≡ 1 }
+    requires dims { length stage.old.root ≡ N.dims }
+    requires stage { IsStageBelow N.rule N.depth stage.old.root (length at) stage.old.tree }
+    requires facts { AreKnown (S.knows ruled.now.settler.now)
+        (reverse kit.old.facts.items) stage.old.holes }
+    requires few_facts { vec_len kit.old.facts ≤ 17 }
+    requires laid { AreLaid
+        (full_of N.rule N.depth stage.old.root leaf (length at)) stage.old }
+    requires places { length kit.old.scratch ≡ N.dims }
+    ensures root { stage.new.root ≡ stage.old.root }
+    ensures stage { OnOk result (IsStageBelow N.rule N.depth stage.new.root
+        (length at) stage.new.tree) }
+    ensures some { OnOk result (1 ≤ settled_in stage.new.tree) }
+    ensures few { OnOk result (settled_in stage.new.tree ≤ most) }
+    ensures facts { OnOk result (AreKnown (S.knows ruled.now.settler.now)
+        (reverse kit.new.facts.items) stage.new.holes) }
+    ensures few_facts { OnOk result (vec_len kit.new.facts ≤ 17) }
+    ensures laid { OnOk result (AreLaid
+        (full_of N.rule N.depth stage.new.root leaf (length at)) stage.new) }
+    ensures places { length kit.new.scratch ≡ N.dims }
+    ensures tickets { kit.new.tickets ≡ kit.old.tickets }
+{
+    for settled in 1..most {
+        if is_long(settled, kit.facts.len(), shared) {
+            return Ok(());
+        }
+        let Some(path) = stage.next_leaf() else {
+            return Ok(());
+        };
+        settle_next(alloc, ruled, gate, worker, at, path, stage, kit)?;
+    }
+    Ok(())
+}
+
+// Whether a stage of so many nodes and open leaves is to end.
+fn is_long<N: Naming>(settled: u64, leaves: usize, shared: &Shared<N>) -> bool
+    ensures { result ≡ false → leaves < 17 }
+{
+    if MOST_LEAVES <= leaves {
+        return true;
+    }
+    SHARED_FROM <= settled && shared.is_hungry()
+}
+
+// Lists the open leaves of a stage at a path, and passes them.
+fn list_leaves(stage: &mut Growth, at: Path, leaves: &mut Vec<Path>) -> Result<(), Memory>
+    requires open { AreOpen stage.old }
+    requires short { (p : List Bool) → subtree stage.old.tree p ≡ Some leaf →
+        length at + length p ≤ 200 }
+    ensures root { stage.new.root ≡ stage.old.root }
+    ensures tree { stage.new.tree ≡ stage.old.tree }
+    ensures leaves { OnOk result (leaves.new.items ≡ leaves_at at stage.old.tree) }
+{
+    leaves.clear();
+    while let Some(path) = stage.next_leaf() {
+        leaves.push(at.then(path))?;
+        stage.pass();
+    }
+    Ok(())
 }
 
 // Settles the next leaf of a stage, with the cuts that its whole path leaves.
@@ -97,6 +181,7 @@ fn settle_next<N: Naming, S: KnowingSettler, G: Gate>(
         (reverse kit.new.facts.items) stage.new.holes) }
     ensures laid { OnOk result (AreLaid
         (full_of N.rule N.depth stage.new.root leaf (length at)) stage.new) }
+    ensures few_facts { OnOk result (vec_len kit.new.facts ≤ vec_len kit.old.facts + 1) }
     ensures places { length kit.new.scratch ≡ N.dims }
     ensures tickets { kit.new.tickets ≡ kit.old.tickets }
 {
@@ -122,7 +207,9 @@ fn settle_next<N: Naming, S: KnowingSettler, G: Gate>(
 
 // Hands what is known to the halves of a cut.
 fn hand_on<K: Copy + Drop>(facts: &mut Vec<K>, outcome: &Outcome, known: K) -> Result<(), Memory>
-    ensures { OnOk result (facts.new.items ≡ with_handed facts.old.items outcome.now known) }
+    ensures handed { OnOk result
+        (facts.new.items ≡ with_handed facts.old.items outcome.now known) }
+    ensures few { OnOk result (vec_len facts.new ≤ vec_len facts.old + 2) }
 {
     match outcome {
         Outcome::Cut { .. } => {

@@ -227,6 +227,6 @@ def translate(text):
                        "calls itself")
         return Translation(None, [deep], [])
     if found.text is not None and len(found.text) > MOST["bytes"]:
-        refusal = Refusal(1, f"a text of {len(found.text)} bytes once it is written out", f"at most {MOST['bytes']}")
-        return Translation(None, [refusal], found.notes)
+        long = Refusal(1, f"a text of {len(found.text)} bytes once it is written out", f"at most {MOST['bytes']}")
+        return Translation(None, [long], found.notes)
     return found

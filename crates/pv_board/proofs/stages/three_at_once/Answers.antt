@@ -4,8 +4,8 @@ use Rattle.pv_tree.specs.Stages.{IsStage, Grows, full_of}
 use Rattle.pv_join.specs.Audits.{IsVerdict}
 use Rattle.pv_board.proofs.stages.three_at_once.Goals as goal
 
-pub settle_stage-current-requires-clause-stage : goal.settle_stage-current-requires-clause-stage
-settle_stage-current-requires-clause-stage g c =
+pub settle_stage-handed-requires-clause-stage : goal.settle_stage-handed-requires-clause-stage
+settle_stage-handed-requires-clause-stage g c =
     let rule = g.S.Settler.settle_of c.args.settler.now in let depth = g.S.Settler.depth_of c.args.settler.now in
     let p = c.settle_first.new.paving in
     let stage : IsStage rule depth p.root leaf p.tree = subst (IsVerdict rule depth p.root p.tree) c.in-Honest.is c.in_ok-audit.ensures.verdict in

@@ -9,10 +9,10 @@ use Rattle.pv_cli.specs.Products.{text}
 use Rattle.pv_cli.proofs.audit.audited.Goals as goal
 
 pub returns-in_ok-from_slice-in-Honest-clause-honest : goal.returns-in_ok-from_slice-in-Honest-clause-honest
-returns-in_ok-from_slice-in-Honest-clause-honest c =
+returns-in_ok-from_slice-in-Honest-clause-honest g c =
     let s = c.args.settler.now in
     let t = c.args.paving.now.tree in
-    let verdict = subst (IsVerdict (settle_by (method_of s)) (method_of s).parts.depth c.args.paving.now.root t) c.in-Honest.is c.in_ok-audit.ensures.verdict in
+    let verdict = subst (IsVerdict (settle_by (method_of s)) (method_of s).parts.depth c.args.paving.now.root t) c.in-Honest.is c.in_ok-audit_by_workers.ensures.verdict in
     record {
       honest = λ system settings is. c.learn_honest.ensures.honest system settings is
           (subst (λ (b : List Bounds). IsStage (settle_by (method_of s)) (method_of s).parts.depth b leaf t) c.requires.root verdict);
@@ -20,7 +20,7 @@ returns-in_ok-from_slice-in-Honest-clause-honest c =
     }
 
 pub returns-in-DiffersAt-clause-other : goal.returns-in-DiffersAt-clause-other
-returns-in-DiffersAt-clause-other c =
+returns-in-DiffersAt-clause-other g c =
     let s = c.args.settler.now in
     let t = c.args.paving.now.tree in
     let path = c.in-DiffersAt.path in
@@ -29,6 +29,6 @@ returns-in-DiffersAt-clause-other c =
       path = path;
       due = due;
       verdict = subst (λ (b : List Bounds). IsVerdict (settle_by (method_of s)) (method_of s).parts.depth b t (DiffersAt path due)) c.requires.root
-          (subst (IsVerdict (settle_by (method_of s)) (method_of s).parts.depth c.args.paving.now.root t) c.in-DiffersAt.is c.in_ok-audit.ensures.verdict);
+          (subst (IsVerdict (settle_by (method_of s)) (method_of s).parts.depth c.args.paving.now.root t) c.in-DiffersAt.is c.in_ok-audit_by_workers.ensures.verdict);
       told = c.differs.ensures;
     })

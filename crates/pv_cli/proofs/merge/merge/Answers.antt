@@ -1,4 +1,4 @@
-use Rattle.std.proofs.Common.{◌≤◌, List, ℕ, rules, ap₂, subst}
+use Rattle.std.proofs.Common.{◌≤◌, ◌∙◌, List, ℕ, rules, ap₂, subst}
 use Rattle.pv_interval.specs.Bounds.{Bounds}
 use Rattle.pv_tree.specs.Trees.{IsPaving}
 use Rattle.pv_slope.specs.Methods.{method_of}
@@ -38,5 +38,5 @@ returns-clause-comes g c =
       few = few;
       paving = subst (λ (b : List Bounds). IsPaving b t) o.root c.learn_honest.ensures.paving;
       honest = λ stages. c.learn_honest.ensures.honest o.opening.read.system c.args.settings.now o.opening.read.is (join_stage _ _ _ o.trees t o.opening.join stages);
-      is = ap₂ (λ (i : List ℕ) (b : List Bounds). paved i b t) c.in_ok-identity.ensures o.root;
+      is = c.of_paving.ensures ∙ ap₂ (λ (i : List ℕ) (b : List Bounds). paved i b t) c.in_ok-identity.ensures o.root;
     }

@@ -36,7 +36,8 @@ returns-clause-comes g c =
       opened = o.opening;
       few = few;
       tree = done.tree;
-      run = done.resumed.run;
-      honest = λ stages. done.resumed.honest o.opening.read.system c.args.settings.now o.opening.read.is (join_stage _ _ _ o.trees first o.opening.join stages);
+      done = done.done;
+      run = done.run;
+      honest = λ stages. done.honest o.opening.read.system c.args.settings.now o.opening.read.is (join_stage _ _ _ o.trees first o.opening.join stages);
       is = done.is;
     }

@@ -18,6 +18,7 @@ returns-clause-comes g c =
       read = read;
       tree = t;
       run = run;
+      ordered = c.in_ok-paving.ensures.ordered;
       honest = c.learn_honest.ensures.honest read.system c.args.settings.now read.is run.stage;
-      is = ap₂ (λ (i : List ℕ) (b : List Bounds). paved i b t) c.in_ok-identity.ensures (c.in_ok-paving.ensures.root ∙ box);
+      is = c.of_paving.ensures ∙ ap₂ (λ (i : List ℕ) (b : List Bounds). paved i b t) c.in_ok-identity.ensures (c.in_ok-paving.ensures.root ∙ box);
     }

@@ -1,5 +1,4 @@
 use Rattle.std.proofs.Common.{length, sym, ◌∙◌, ◌<◌, arith}
-use Rattle.std.specs.Prelude.{map}
 use Rattle.std.proofs.lemmas.List.{length-map}
 use Rattle.pv_hc4.specs.Graphs.{sides_of}
 use Rattle.pv_hc4.specs.Revise.{revised}

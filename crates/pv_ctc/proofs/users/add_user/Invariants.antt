@@ -1,4 +1,4 @@
-use Rattle.std.proofs.Common.{◌≡◌, ℕ, ◌<◌, ◌≤◌, length}
+use Rattle.std.proofs.Common.{◌≡◌, ℕ, ◌<◌, ◌≤◌}
 use Rattle.pv_ctc.specs.Users.{has_user}
 use Rattle.pv_ctc.proofs.Using.{AddedAt}
 use Rattle.pv_ctc.proofs.users.add_user.Given as goal

@@ -1,4 +1,4 @@
-use Rattle.std.proofs.Common.{◌≡◌, ◌<◌, length, refl, arith, get_or, []}
+use Rattle.std.proofs.Common.{refl, arith, get_or, []}
 use Rattle.pv_ctc.proofs.Using.{more_turned, left_turned, none_turned}
 use Rattle.pv_ctc.proofs.users.users_of.Goals as goal
 

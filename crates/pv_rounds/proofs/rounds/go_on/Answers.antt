@@ -33,6 +33,7 @@ loop-preserved g c =
       root = c.in-Ok.ensures.root ∙ c.loop.invariant.root;
       limit = c.in-Ok.ensures.limit ∙ c.loop.invariant.limit;
       run = subst (λ (n : ℕ). IsPaved settle depth b opening n t) sum both;
+      ordered = up.ordered c.args.plan.now.order opening middle t step.stage c.loop.invariant.ordered c.in-Ok.ensures.ordered;
       begun = c.in-Ok.ensures.begun ∙ c.loop.invariant.begun;
       kept = λ name begun. c.in-Ok.ensures.kept name (c.loop.invariant.begun ∙ begun);
       saved = λ name begun. saved_on _ _ _ middle t (c.loop.invariant.saved name begun) (c.in-Ok.ensures.saved name (c.loop.invariant.begun ∙ begun));

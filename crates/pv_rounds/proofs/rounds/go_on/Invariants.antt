@@ -1,6 +1,7 @@
 use Rattle.std.proofs.Common.{◌≡◌, ◌*◌, ◌≤◌, ℕ, List, Some}
 use Rattle.std.specs.Prelude.{◌≢◌}
 use Rattle.pv_workers.specs.Pavings.{IsPaved}
+use Rattle.pv_scope.specs.Orders.{IsInOrder}
 use Rattle.pv_keep.specs.Campaigns.{KeepsTree, IsSaved}
 use Rattle.pv_rounds.proofs.rounds.go_on.Given as goal
 
@@ -9,6 +10,7 @@ invariant-loop g l = record {
   root : l.campaign.root ≡ l.fn.campaign.root;
   limit : l.campaign.limit ≡ l.fn.campaign.limit;
   run : IsPaved (g.S.Settler.settle_of l.settler) (g.S.Settler.depth_of l.settler) l.fn.campaign.root l.fn.campaign.tree (l.counter * l.plan.boxes) l.campaign.tree;
+  ordered : IsInOrder l.plan.order l.fn.campaign.tree l.campaign.tree;
   begun : g.P.Keeper.begun l.keeper ≡ g.P.Keeper.begun l.fn.keeper;
   kept : (name : List ℕ) → g.P.Keeper.begun l.fn.keeper ≡ Some name → KeepsTree (g.P.Keeper.kept l.keeper name) l.campaign.tree;
   saved : (name : List ℕ) → g.P.Keeper.begun l.fn.keeper ≡ Some name → IsSaved (g.P.Keeper.kept l.fn.keeper name) (g.P.Keeper.kept l.keeper name) l.campaign.tree;

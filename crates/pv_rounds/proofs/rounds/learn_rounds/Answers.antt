@@ -1,5 +1,6 @@
 use Rattle.pv_tree.specs.Laws.{IsLawful}
 use Rattle.pv_rounds.proofs.Spending.{no_budget, add_up}
+use Rattle.pv_rounds.proofs.Ordered.{in_order}
 use Rattle.pv_rounds.proofs.rounds.learn_rounds.Goals as goal
 
 pub returns-clause-none : goal.returns-clause-none
@@ -18,3 +19,6 @@ returns-clause-further g c =
     let dims = g.S.Settler.dims s in let inside = g.S.Settler.inside s in
     let laws : IsLawful rule depth dims inside = record { deep = (m.depth_fits s).1; fits = m.fits s; keeps_box = m.keeps_box s; ends = m.ends s; sound = m.sound s } in
     add_up rule depth dims inside laws c.args.paving.now.root c.dims-places.ensures.paving.box c.requires
+
+pub returns-clause-unordered : goal.returns-clause-unordered
+returns-clause-unordered g c = λ order. in_order order c.args.paving.now.tree

@@ -1,4 +1,4 @@
-use Rattle.std.proofs.Common.{◌≡◌, ◌∙◌, ◌+◌, ◌-◌, ◌*◌, ◌≤◌, refl, sym, subst, arith}
+use Rattle.std.proofs.Common.{◌≡◌, ◌∙◌, refl, sym, subst, arith}
 use Rattle.pv_interval.specs.Bounds.{Bounds}
 use Rattle.std.specs.Prelude.{List}
 use Rattle.pv_tree.specs.Trees.{Paves}
@@ -18,6 +18,7 @@ loop-round-init g c =
       some = c.requires.some;
       few = omega arith;
       spent = omega arith;
+      least = omega arith;
       low = omega arith;
     }
 
@@ -28,7 +29,7 @@ loop-round-preserved g c =
     let m = c.loop-round.paved.paving.tree in let t = c.in_ok-next.next.paving.tree in
     let h = c.loop-round.invariant in let n = c.in_ok-next.ensures in let part = c.part_of-part.ensures in
     let same : c.in_ok-next.next.paving.root ≡ b = n.root ∙ h.root in
-    let z = c.if-left-eq0.false in let f = part.few in let k = part.some in let w = h.few in let u = h.spent in let v = n.spent in let l = h.low in let x = n.low in
+    let z = c.if-left-eq0.false in let f = part.few in let k = part.some in let w = h.few in let u = h.spent in let v = n.spent in let l = h.low in let x = n.low in let e = h.least in let d = n.least in
     record {
       root = same;
       stage = subst (λ (y : List Bounds). IsStage rule depth y o t) same
@@ -39,6 +40,7 @@ loop-round-preserved g c =
       some = omega (arith, z);
       few = omega (arith, w, f, k);
       spent = omega (arith, u, v);
+      least = omega (arith, e, d);
       low = omega (arith, l, x);
     }
 

@@ -11,5 +11,6 @@ invariant-loop-round g l = record {
   some : 1 ≤ l.left;
   few : l.left + l._round ≤ l.fn.budget;
   spent : settled_in l.paved.paving.tree ≤ settled_in l.fn.opening.tree + 16 * l.paved.spent;
-  low : l.paved.spent ≤ 75557863725914323419136 * l._round;
+  least : settled_in l.fn.opening.tree + l.paved.spent ≤ settled_in l.paved.paving.tree;
+  low : l.paved.spent ≤ 19342813113834066795298816 * l._round;
 }

@@ -1,5 +1,5 @@
 use Rattle.pv_ctc.specs.Contracting.{sides_in}
-use Rattle.pv_ctc.proofs.Noting.{known_part, known_same}
+use Rattle.pv_ctc.proofs.Noting.{known_part}
 use Rattle.pv_ctc.proofs.known.Known.behind.Goals as goal
 
 pub returns-in-Changed : goal.returns-in-Changed

@@ -8,7 +8,7 @@ use Rattle.pv_slope.proofs.settler.CenteredSettler.judge_all.Given as goal
 abbrev pub invariant-loop-i : goal.invariant-loop-i
 invariant-loop-i l = record {
   end : l.i-end ≡ length (sides_in (rule_of l.self.settler).graphs);
-  none : l.none.items ≡ take l.i (none_tests (sides_in (rule_of l.self.settler).graphs) l.to);
-  sure : l.sure.items ≡ take l.i (sure_tests (sides_in (rule_of l.self.settler).graphs) l.to);
+  none : l.room.none.items ≡ take l.i (none_tests (sides_in (rule_of l.self.settler).graphs) l.to);
+  sure : l.room.sure.items ≡ take l.i (sure_tests (sides_in (rule_of l.self.settler).graphs) l.to);
   known : Knows (sides_in (rule_of l.self.settler).graphs) l.known l.to;
 }

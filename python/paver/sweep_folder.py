@@ -1,0 +1,186 @@
+"""The folder of a sweep: its manifest, the records of its tasks, and its first stage."""
+from __future__ import annotations
+
+import hashlib
+import json
+import os
+import time
+from pathlib import Path
+from typing import Any, Dict, List, Mapping, Optional, Tuple
+
+from . import beside, identity, program, sweep_task
+from .canonical import System
+from .errors import FolderRefused, PavingRefused
+from .options import KEPT_SETTINGS, words_of
+from .sweep_plan import Record
+from .sweep_task import REMEDY
+from .version import VERSION
+
+MANIFEST = "manifest.json"
+PLACES = ("shares", "records")
+LEVELS = 4  # by which each pass of `--order level` goes deeper than the one before it
+
+
+def changed(line: str, name: Path) -> PavingRefused:
+    """The exception on a file that isn't what its task stored."""
+    return PavingRefused(4, line, name=str(name), cause="changed", row=None)
+
+
+def refused(name: Path, sentence: str, cause: str) -> FolderRefused:
+    """The exception on a folder, or on a file in it."""
+    return FolderRefused(None, f"{name}: {sentence}", name=str(name), cause=cause)
+
+
+def settled_words(settings: Mapping[str, Any]) -> List[str]:
+    """The options of complete settings, as each call of a sweep has them."""
+    return program.option_words(settings, KEPT_SETTINGS)
+
+
+class Folder:
+    """A sweep's folder. `manifest` is what its file holds: it is written anew by renaming, never changed in place."""
+
+    def __init__(self, path: Path) -> None:
+        self.path = path.absolute()
+        self.manifest: Record = {}
+        self.saved = 0.0
+
+    @property
+    def system(self) -> Path:
+        """The system's text as the sweep began with it."""
+        return self.path / "system.mbx"
+
+    @property
+    def whole(self) -> Path:
+        """Where the one paving is in the end."""
+        return self.path / "whole.paving"
+
+    def read(self) -> bool:
+        """Whether there is a sweep; its manifest is then read. FolderRefused where it can't be."""
+        target = self.path / MANIFEST
+        if not target.exists():
+            return False
+        try:
+            found = json.loads(target.read_text(encoding="utf-8"))
+        except (OSError, ValueError) as fault:
+            raise refused(target, f"it can't be read: {fault}", "unreadable") from fault
+        if not isinstance(found, dict) or found.get("kind") != "sweep":
+            raise refused(target, "it is no manifest of a sweep", "no sweep")
+        self.manifest = found
+        return True
+
+    def save(self, at_least: float = 0.0) -> None:
+        """Writes the manifest, unless it was written fewer seconds ago."""
+        if time.monotonic() - self.saved < at_least:
+            return
+        made = self.path / f".{MANIFEST}.{os.getpid()}"
+        with open(made, "w", encoding="utf-8") as file:
+            file.write(json.dumps(self.manifest, indent=1) + "\n")
+            file.flush()
+            os.fsync(file.fileno())
+        os.replace(made, self.path / MANIFEST)
+        self.saved = time.monotonic()
+
+    def begin(self, system: str, known: System, settings: Mapping[str, str], source: bytes) -> None:
+        """Makes the folder with the system's text and a manifest. FolderRefused where it has something else in it."""
+        self.path.mkdir(parents=True, exist_ok=True)
+        if any(self.path.iterdir()):
+            raise refused(self.path, f"it has no {MANIFEST} and isn't empty: name another folder", "no sweep")
+        for place in PLACES:
+            (self.path / place).mkdir()
+        self.system.write_bytes(source)
+        self.manifest = {"written_by": beside.WRITER, "kind": "sweep", "version": VERSION, "system": system,
+                         "system_sha256": hashlib.sha256(source).hexdigest(),
+                         "canonical_sha256": hashlib.sha256(known.text.encode()).hexdigest(), "settings": dict(settings),
+                         "identity": identity.identity_of(known, settings), "tasks": {}, "lost": {}, "seconds": 0.0}
+        self.save()
+
+    def need_same(self, known: System, given: Mapping[str, Any]) -> Dict[str, str]:
+        """The sweep's settings. FolderRefused where the system, or one of the given settings, is another."""
+        if hashlib.sha256(known.text.encode()).hexdigest() != self.manifest["canonical_sha256"]:
+            raise refused(self.path, f"it is of another system: that of {self.manifest['system']}", "another system")
+        kept: Dict[str, str] = self.manifest["settings"]
+        for key, word in words_of(given).items():
+            changed = {**kept, key: word}
+            if identity.settings_text(changed) != identity.settings_text(kept):
+                raise refused(self.path, f"its {key} is {kept[key]}, and {word} is given", f"another {key}")
+        return kept
+
+    def record(self, name: str) -> Optional[Record]:
+        """What the last task of a name wrote; None where it wrote nothing yet."""
+        return beside.content_of(self.path / "records" / f"{name}.json") or None
+
+    def forget(self, name: str) -> None:
+        """Takes a task's record away, before it is done again."""
+        (self.path / "records" / f"{name}.json").unlink(missing_ok=True)
+
+    def is_stored(self, record: Record) -> bool:
+        """Whether the file of an answer's record is there. PavingRefused where its length is another."""
+        if "out" not in record:
+            return False
+        path = self.path / record["out"]
+        try:
+            length = path.stat().st_size
+        except OSError:
+            return False
+        if length != record["bytes"]:
+            raise changed(f"paving {path}: {length} bytes, and its task stored {record['bytes']}: {REMEDY}", path)
+        return True
+
+    def need_stored(self, record: Record) -> None:
+        """PavingRefused where the file of a record isn't what its task stored."""
+        path = self.path / record["out"]
+        try:
+            sweep_task.need_stored(str(path), record["sha256"])
+        except sweep_task.Fault as fault:
+            raise changed(fault.line, path) from fault
+
+    def known(self, name: str) -> Optional[Record]:
+        """The record of a part whose answer is there; None where it has none or its file is lost."""
+        for found in (self.manifest["tasks"].get(name), self.record(name)):
+            if found is not None and self.is_stored(found):
+                return dict(found)
+        return None
+
+    def tidy(self) -> None:
+        """Takes away what tasks and calls that were killed left half written."""
+        for path in [*self.path.glob(f".{MANIFEST}.*"), *(path for place in PLACES for path in (self.path / place).glob(".*"))]:
+            path.unlink(missing_ok=True)
+
+
+def first_stage(folder: Folder, path: str, wanted: int, limit: int) -> Record:
+    """Makes the first stage on the spot, shallow leaves first, until so many leaves are open or none is, and gives its record.
+    Leaves that are shallower than the others are settled too, so that all are alike in size."""
+    out, clock = str(folder.path / "first.paving"), time.monotonic()
+    words = [*settled_words(folder.manifest["settings"]), f"--limit={limit}", "--workers=1", "--order=level", f"--out={out}"]
+    system = str(folder.system)
+    status, counts = called([path, "run", *words, "--boxes=1", "--", system])
+    while status == 1 and counts["settled"] < limit:
+        depths = [len(leaf) for leaf in sweep_task.open_paths(out)]
+        shallow = sum(depth < level_above(max(depths)) for depth in depths)
+        if shallow == 0 and len(depths) >= wanted:
+            break
+        boxes = min(shallow or len(depths), limit - counts["settled"])
+        status, counts = called([path, "resume", *words, f"--boxes={boxes}", "--", system, out])
+    return {"name": "first", "out": "first.paving", "sha256": sweep_task.digest_of(out), "bytes": os.path.getsize(out),
+            "counts": counts, "wanted": wanted, "seconds": round(time.monotonic() - clock, 3)}
+
+
+def level_above(depth: int) -> int:
+    """The depth to which the program settles all leaves before it goes deeper."""
+    return -(-depth // LEVELS) * LEVELS
+
+
+def called(words: List[str]) -> Tuple[int, Dict[str, int]]:
+    """The status and the counts of a call of the program that stores its paving."""
+    try:
+        return sweep_task.called(words)
+    except sweep_task.Fault as fault:
+        raise program.fault_of(fault.status, fault.line) from fault
+
+
+def weights_of(opening: Path, shares: int) -> List[float]:
+    """How much of the search box each share of an opening has, by the depths of its leaves."""
+    found = [0.0] * shares
+    for number, path in enumerate(sweep_task.open_paths(str(opening))):
+        found[number % shares] += 0.5 ** len(path)
+    return found
