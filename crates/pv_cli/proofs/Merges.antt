@@ -173,7 +173,7 @@ read_rules before system x y r q told same h k =
 
 -- ---- One file
 
-same_whole : (c : Content) (limit : ℕ) (x y : List ℕ) → c ≢ untold → IsWhole c limit x → IsWhole c limit y → x ≡ y
+pub same_whole : (c : Content) (limit : ℕ) (x y : List ℕ) → c ≢ untold → IsWhole c limit x → IsWhole c limit y → x ≡ y
 same_whole untold limit x y told h k = absurd (told refl)
 same_whole absent limit x y told h k = absurd h
 same_whole (holds whole) limit x y told h k = h.0 ∙ sym k.0

@@ -15,8 +15,8 @@ use Rattle.pv_tree.specs.Trees.{Tree, leaf, opens}
 use Rattle.pv_tree.specs.Stages.{Rule, IsStage}
 use Rattle.pv_scope.specs.declared.order.Order.{Order}
 use Rattle.pv_scope.specs.declared.share.Share.{Share}
-use Rattle.pv_io.specs.Outside.{Content, untold, absent, holds, stored, IsWhole}
-use Rattle.pv_file.specs.Readings.{IsPavingInFormat}
+use Rattle.pv_io.specs.Outside.{Content, untold, absent, holds, stored, IsWhole, IsTooLong}
+use Rattle.pv_file.specs.Readings.{IsPavingInFormat, IsTextOf}
 use Rattle.pv_file.specs.Texts.{IsDigest, file_text}
 use Rattle.pv_file.specs.Lengths.{length_limit}
 use Rattle.pv_file.specs.declared.version.Version.TheVariants.{Two}
@@ -25,20 +25,23 @@ use Rattle.pv_cli.specs.Commands.{paver_app}
 use Rattle.pv_cli.specs.Requests.{IsAsked, Asks, names_in, out_of}
 use Rattle.pv_cli.specs.Systems.{Files, HasRule, search_box}
 use Rattle.pv_cli.specs.Pavings.{IsPaved, settled_in}
-use Rattle.pv_cli.specs.Files.{HasPaving, HavePavings}
+use Rattle.pv_cli.specs.Files.{HasPaving, HavePavings, HoldsPaving, HoldsOther, HasFileFault}
 use Rattle.pv_cli.specs.Campaigns.{Stock, is_done}
 use Rattle.pv_cli.specs.Products.{Product, paved_as, IsHonest, AreStages, IsSettledSo, ComesOf, ComesOfRun, ComesOfResume, ComesOfMerge}
 use Rattle.pv_cli.specs.Ends.{Outside, IsStored, IsKept, IsDone, IsEnd, Tells}
 use Rattle.pv_cli.specs.Merges.{IsNamed, AreSameSettings}
 use Rattle.pv_cli.specs.Headline.{FilesAreStages}
-use Rattle.pv_cli.specs.Stored.{Paves, sources_of, IsToStore, IsWanted, IsAnswer, StoredIsWanted, WantedAreStages, IsWritten, written, WrittenIsWanted}
+use Rattle.pv_cli.specs.Stored.{Paves, sources_of, IsToStore, IsWanted, IsAnswer, StoredIsWanted, WantedAreStages, WantedIsTaken, IsWritten, written, WrittenIsWanted}
 use Rattle.pv_cli.specs.declared.request.Settings.{Settings}
 use Rattle.pv_cli.specs.declared.request.Effort.{Effort}
 use Rattle.pv_cli.specs.declared.request.Request.{Request}
 use Rattle.pv_cli.specs.declared.request.Request.TheVariants.{Check, Run, Resume, Merge, Audit, Svg, Sample, Least, Campaign}
+use Rattle.pv_cli.specs.declared.refusal.FileFault.{FileFault}
+use Rattle.pv_cli.specs.declared.refusal.FileFault.TheVariants.{TooLong, WrongIdentity, BadLine, TooManyNodes, BadRow, TooManyRows}
+use Rattle.pv_cli.specs.declared.refusal.Refusal.TheVariants.{Paving}
 use Rattle.pv_cli.specs.declared.status.Status.{Status}
 use Rattle.pv_cli.specs.declared.status.Status.TheVariants.{Done, OpenLeft}
-use Rattle.pv_cli.proofs.Merges.{same_text}
+use Rattle.pv_cli.proofs.Merges.{same_text, same_whole}
 use Rattle.pv_cli.proofs.StatusLaws.{not_told}
 use Rattle.pv_cli.proofs.Headline.{AreOneRule, read_one_rule}
 
@@ -248,6 +251,30 @@ all_stages f system s limit most rule read (n ∷ names) (t ∷ ts) h wanted =
 
 pub wanted_are_stages : WantedAreStages
 wanted_are_stages f system names s limit most wanted = λ rule ts joined h. all_stages f system s limit most rule h.read names ts h.held wanted
+
+whole_or_long : (c : Content) (limit : ℕ) (bytes more : List ℕ) → c ≢ untold → IsWhole c limit bytes → IsTooLong c limit more → ⊥
+whole_or_long untold limit bytes more told whole long = told refl
+whole_or_long absent limit bytes more told whole long = whole
+whole_or_long (holds all) limit bytes more told whole long = let short = whole.1 in let over = long.1 in omega (arith, short, over)
+
+module _ (f : Files) (limit : ℕ) (identity : List ℕ) (b : List Bounds) (name : Text) (t : Tree) (told : f.content name ≢ untold) (h : HoldsPaving f limit identity b name t) where
+  no_other : (says : List ℕ → Type 0) → HoldsOther f limit identity b name says → ⊥
+  no_other says o =
+      let same : h.bytes ≡ o.bytes = same_whole (f.content name) (length_limit limit) h.bytes o.bytes told h.fetched o.fetched in
+      o.no_text t h.paving h.few (subst (λ (bytes : List ℕ). IsTextOf bytes identity b t) same h.text)
+
+  no_fault : (fault : FileFault) → HasFileFault f limit identity b name fault → ⊥
+  no_fault TooLong l = whole_or_long (f.content name) (length_limit limit) h.bytes l.bytes told h.fetched l.long
+  no_fault WrongIdentity o = no_other _ o
+  no_fault (BadLine n) o = no_other _ o
+  no_fault (TooManyNodes n) o = no_other _ o
+  no_fault (BadRow n) o = o
+  no_fault TooManyRows o = o
+
+pub wanted_is_taken : WantedIsTaken
+wanted_is_taken f after system file s limit most rule (Paving n fault) wanted more read told h =
+    absurd (no_fault f most (identity_of rule) (search_box rule) file wanted.tree told (wanted.read rule most more read) fault h.1)
+wanted_is_taken f after system file s limit most rule r wanted more read told h = h
 
 -- ---- A chain of commands
 

@@ -8,14 +8,15 @@ use Rattle.pv_tree.specs.Trees.{Tree, leaf}
 use Rattle.pv_tree.specs.Stages.{IsStage}
 use Rattle.pv_io.specs.Outside.{Content, untold}
 use Rattle.pv_cli.specs.Requests.{Asks, names_in, out_of}
-use Rattle.pv_cli.specs.Systems.{Files, HasRule, search_box}
-use Rattle.pv_cli.specs.Files.{HasPaving}
+use Rattle.pv_cli.specs.Systems.{Files, RefusesFetch, HasRule, search_box}
+use Rattle.pv_cli.specs.Files.{HasPaving, RefusesPaving}
 use Rattle.pv_cli.specs.Ends.{Outside, IsEnd}
 use Rattle.pv_cli.specs.Merges.{IsNamed, AreSameSettings, AreTold}
 use Rattle.pv_cli.specs.Headline.{FilesAreStages}
 use Rattle.pv_cli.specs.declared.request.Settings.{Settings}
 use Rattle.pv_cli.specs.declared.request.Request.{Request}
 use Rattle.pv_cli.specs.declared.request.Request.TheVariants.{Check, Run, Resume, Merge, Audit, Svg, Sample, Least, Campaign}
+use Rattle.pv_cli.specs.declared.refusal.Refusal.{Refusal}
 use Rattle.pv_cli.specs.declared.status.Status.{Status}
 use Rattle.pv_cli.specs.declared.status.Status.TheVariants.{Done, OpenLeft}
 
@@ -76,6 +77,14 @@ abbrev pub WantedAreStages : Type 0
 WantedAreStages =
     (f : Files) (system : Text) (names : List Text) (s : Settings) (limit most : ℕ)
     → ((name : Text) → IsNamed name names → IsWanted f system s limit name) → FilesAreStages f system names s most
+
+-- Nothing is found wrong in a file that is wanted: where a tree may have as many settled nodes or more, a command that refuses
+-- it could not read it.
+abbrev pub WantedIsTaken : Type 0
+WantedIsTaken =
+    (f after : Files) (system file : Text) (s : Settings) (limit most : ℕ) (rule : Method) (r : Refusal)
+    → IsWanted f system s limit file → limit ≤ most → HasRule f system s rule → f.content file ≢ untold
+    → RefusesPaving f after most rule file r → RefusesFetch f after file r
 
 -- ---- A chain of commands
 

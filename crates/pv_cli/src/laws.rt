@@ -10,7 +10,12 @@ ghost use Rattle.pv_cli.specs.CampaignLaws.{
 };
 ghost use Rattle.pv_cli.specs.Headline.{CompletedAreAlike};
 ghost use Rattle.pv_cli.specs.Complete.{RightIsAnswered};
-ghost use Rattle.pv_cli.specs.Stored.{StoredIsWanted, WantedAreStages, WrittenIsWanted};
+ghost use Rattle.pv_cli.specs.Stored.{
+  StoredIsWanted,
+  WantedAreStages,
+  WantedIsTaken,
+  WrittenIsWanted,
+};
 ghost use Rattle.pv_cli.specs.StatusLaws.{
   DoneIsWhole,
   OpenLeftIsPart,
@@ -50,11 +55,13 @@ pub fn completed_alike()
 
 /// What this program stored is what it wants of a file. A paving that `run`, `resume` or `merge`
 /// stored with status 0 or 1, anew or from stages, is read back for the same system and settings as
-/// that very stage of the search box, wherever it lies and with every limit that is no less; and
-/// files that are wanted are stages. So is all that was written by any chain of such commands.
+/// that very stage of the search box, wherever it lies and with every limit that is no less; files
+/// that are wanted are stages, and nothing is found wrong in one: it is refused only where it could
+/// not be read. So is all that was written by any chain of such commands.
 pub fn stored_is_wanted()
     ensures stored { StoredIsWanted }
     ensures stages { WantedAreStages }
+    ensures taken { WantedIsTaken }
     ensures written { WrittenIsWanted }
 {}
 
