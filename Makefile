@@ -2,6 +2,7 @@
 # make          proves and builds the program on JOBS processors, all that there are, and leaves it as ./paver
 # make demo     the same; paves an example and leaves its picture as demo/ring.svg
 # make test     the whole test command: the gate and the end-to-end tests
+# make layout   tells in a minute which files the gate would refuse for their layout alone
 # make fuzz     COUNT made texts, words and files each, a tenth as many systems and databases, and each allocation of each command refused in turn
 # make pictures draws each example into docs/pictures, and writes docs/GALLERY.md
 # make bench    measures beside a lean Rust program, where there is a rustc
@@ -50,6 +51,9 @@ pictures: paver
 	python3 -m tests.generators.gallery
 	python3 -m tests.generators.view_picture ./paver
 
+layout:
+	build/layout.sh
+
 fuzz: paver
 	for name in fuzz_reader fuzz_words fuzz_files; do COUNT=$(COUNT) python3 -m tests.runners.$$name || exit; done
 	for name in fuzz_systems fuzz_databases; do COUNT=$$(($(COUNT) / 10)) python3 -m tests.runners.$$name || exit; done
@@ -75,4 +79,4 @@ uninstall:
 clean:
 	rm -rf paver demo dist crates/*/out
 
-.PHONY: all try demo test pictures fuzz bench dist install uninstall clean
+.PHONY: all try demo test layout pictures fuzz bench dist install uninstall clean

@@ -19,6 +19,7 @@ import socket
 import subprocess
 import sys
 import time
+from concurrent.futures import ThreadPoolExecutor
 from types import FrameType
 from typing import Any, Dict, Iterator, List, Optional, Tuple
 
@@ -143,15 +144,29 @@ def join(task: Dict[str, Any], folder: str, own: str) -> Dict[str, Any]:
     return {"status": status, "counts": counts, "new": 0}
 
 
+def need_inputs(task: Dict[str, Any], folder: str) -> None:
+    """Fault where one of a task's files isn't what its task stored."""
+    for name, digest in task["inputs"]:
+        need_stored(os.path.join(folder, name), digest)
+
+
+def answered(task: Dict[str, Any], folder: str, own: str) -> Dict[str, Any]:
+    """Does a task by the program, while its files are looked through: what isn't whole is told before what the program says."""
+    with ThreadPoolExecutor(1) as beside:
+        looked = beside.submit(need_inputs, task, folder)
+        try:
+            return (settle if task["kind"] == "share" else join)(task, folder, own)
+        finally:
+            looked.result()
+
+
 def performed(task: Dict[str, Any], folder: str) -> Dict[str, Any]:
     """Does a task, and gives its record."""
     began, clock = time.time(), time.monotonic()
-    for name, digest in task["inputs"]:
-        need_stored(os.path.join(folder, name), digest)
     out = os.path.join(folder, task["out"])
     own = os.path.join(os.path.dirname(out), f".{os.path.basename(out)}.{socket.gethostname()}-{os.getpid()}")
     try:
-        found = (settle if task["kind"] == "share" else join)(task, folder, own)
+        found = answered(task, folder, own)
         found.update(out=task["out"], sha256=digest_of(own), bytes=os.path.getsize(own))
         os.replace(own, out)
     finally:

@@ -7,6 +7,7 @@ The count of the ring's nodes is that of a plain paver outside this repository.
 from __future__ import annotations
 
 import os
+import resource
 import subprocess
 import tempfile
 from pathlib import Path
@@ -18,6 +19,7 @@ TEXT = b"Variables x in [-3, 3], y in [-3, 3]; Constraints x^2 + y^2 >= 1; x^2 +
 EPS = ["--eps", "0.0001"]
 LARGE = ["--limit", "1000000"]
 NODES = 886_217
+STEP = 24 << 20  # bytes of address space
 USAGE = b"usage: paver COMMAND SYSTEM [OPTIONS] [PAVING..]\n"
 
 
@@ -79,6 +81,36 @@ class Sizes(FolderTest):
             two, eight = (self.most_memory(*words, *["whole"] * count, *EPS, *LARGE, "--out", "joined") for count in (2, 8))
             self.assertLessEqual(eight, two * 1.1, f"{words}: {two} and {eight} KiB")
             self.is_whole("joined")
+
+    def starved(self, words, target, right):
+        """Calls with address space in steps until the answer stands: before that each wants memory, and leaves its target as it
+        was, which then has the bytes of a file."""
+        known, wanted, status = (self.path / right).read_bytes(), 0, 7
+        while status == 7:
+            before = (self.path / target).read_bytes() if (self.path / target).exists() else None
+            space = 2 * STEP + wanted * STEP
+            done = self.call(*words, preexec_fn=lambda space=space: resource.setrlimit(resource.RLIMIT_AS, (space, space)))
+            status = done.returncode
+            if status == 7:
+                wanted += 1
+                self.assertEqual((done.stdout, done.stderr), (b"", b"want of memory\n"), (words, space))
+                after = (self.path / target).read_bytes() if (self.path / target).exists() else None
+                self.assertEqual(after, before, (words, space))
+                self.assertEqual([*self.path.glob("*paver*")], [], (words, space))
+        self.assertEqual((status, done.stdout, done.stderr), (0, self.summary, b""), words)
+        self.assertEqual((self.path / target).read_bytes(), known, words)
+        self.assertGreater(wanted, 1, f"{words}: memory was never wanted")
+
+    def test_little_memory(self) -> None:
+        """Want of memory at each size of the tree: nothing is lost, and nothing is half stored."""
+        large = [*EPS, *LARGE]
+        for workers in ("1", "4"):
+            run_words = ["run", RING, *large, "--boxes", "1000000", "--workers", workers, "--out", f"new{workers}"]
+            self.starved(run_words, f"new{workers}", "whole")
+        self.wants(["run", RING, *large, "--boxes", "800000", "--out", "over"], 1)
+        self.starved(["resume", RING, "over", *large, "--boxes", "200000", "--out", "over"], "over", "whole")
+        self.wants(["run", RING, *large, "--boxes", "800000", "--out", "part"], 1)
+        self.starved(["merge", RING, "part", "whole", *large, "--out", "part"], "part", "whole")
 
     def test_audited_and_drawn(self) -> None:
         self.wants(["audit", RING, "whole", *EPS, *LARGE], 0, b"honest\n")
