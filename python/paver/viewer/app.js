@@ -35,7 +35,8 @@ const isWithin = (tree, end, bound, side) => (side ? -1 : 1) * tree.compare(end,
 class App {
   constructor(about, trees) {
     const dims = about.names.length;
-    Object.assign(this, { about, trees, x: 0, y: Math.min(1, dims - 1), layout: "one", frame: 0, panes: [], pinned: null });
+    Object.assign(this, { about, trees, x: 0, y: Math.min(1, dims - 1), layout: "one", frame: 0, panes: [] });
+    Object.assign(this, { pinned: null, pointed: null, before: null });
     this.constraints = constraintsOf(about.canonical);
     this.mode = dims > 3 ? "projection" : "slice";
     this.levels = about.names.map((_, k) => coordinate(this.middle(k)));
@@ -111,7 +112,7 @@ class App {
     const { counts } = this.about.pavings[frame];
     element("frame").value = frame;
     element("shown").textContent = `${frame + 1} of ${this.trees.length}: ${counts.settled} settled, ${counts.open} open`;
-    if (this.pinned) this.pinned = null;
+    Object.assign(this, { pinned: null, pointed: null, before: null });
     this.redraw();
   }
 
@@ -197,6 +198,7 @@ class App {
       names: { x: names[this.x], y: names.length > 1 ? names[this.y] : "" },
       edges: element("edges").checked,
       pinned: this.pinned,
+      pointed: this.pointed,
       legend: this.layout === "over" ? [...legend, ...LEGENDS.over] : legend,
     };
   }
@@ -243,12 +245,23 @@ class App {
     }
     const facts = boxFacts(this.about, tree, found, this.constraints, this.palette);
     if (seen) facts.unshift(overFacts(seen));
-    if (isPinned && !found.isMargin) facts.push(nearFacts(tree, found, this.palette, (leaf) => this.pin(tree, leaf)));
+    if (isPinned && this.before) facts.splice(1, 0, backFacts(this.before, () => this.pin(tree, this.before)));
+    if (isPinned && !found.isMargin) {
+      facts.push(nearFacts(tree, this.about.names, found, this.palette, this.nearDoes(tree, found)));
+    }
     host.replaceChildren(...facts);
   }
 
-  pin(tree, found, seen = null) {
-    this.pinned = found ? { tree, found } : null;
+  // What a neighbour's line does: a click goes there, and the way back stays; pointing at it frames it.
+  nearDoes(tree, found) {
+    return {
+      choose: (leaf) => this.pin(tree, leaf, null, found),
+      point: (leaf) => { this.pointed = leaf && { tree, found: leaf }; this.ask(); },
+    };
+  }
+
+  pin(tree, found, seen = null, before = null) {
+    Object.assign(this, { pinned: found ? { tree, found } : null, pointed: null, before });
     this.showBox(tree, { found, seen }, Boolean(found));
     this.ask();
   }

@@ -67,6 +67,8 @@ function undecidedBy(tree, constraints, texts, part) {
 function boxFacts(about, tree, found, constraints, palette) {
   const part = partOf(found), facts = [heading(found, palette), made("p")];
   facts[1].append(found.isMargin ? "of the node at path " : "path ", made("code", pathText(found.path)));
+  facts[1].title = "From the whole box on: 0 is the low half of a cut, 1 the high half";
+  facts.push(made("p", "Ends in decimal, rounded outward, and below them exactly: m:e is m·2^e.", "faint"));
   if (found.isMargin) facts.push(made("p", "The node's box:", "faint"));
   facts.push(...places(tree, about.names, found.isMargin ? found.box : part));
   if (found.isMargin) {
@@ -77,20 +79,41 @@ function boxFacts(about, tree, found, constraints, palette) {
   return facts;
 }
 
-function nearFacts(tree, found, palette, choose) {
+// A neighbour in two lines: its kind's colour and path, and its ends in decimal, rounded outward; exact ones on demand.
+function nearLine(tree, names, leaf, palette, { choose, point }) {
+  const button = made("button"), part = partOf(leaf), name = made("span", shortPath(leaf.path));
+  button.type = "button";
+  button.title = `${kindText(leaf)}\n${exactEnds(tree, names, part)}`;
+  name.prepend(chip(CLASS_OF_KIND[leaf.kind], palette));
+  const about = (number, up) => tree.decimal(number, up, NEAR_DIGITS);
+  const ends = (k) => `[${about(part[2 * k], false)}, ${about(part[2 * k + 1], true)}]`;
+  button.append(name, ...names.map((of, k) => made("span", `${of} ${ends(k)}`)));
+  button.addEventListener("click", () => choose(leaf));
+  for (const kind of ["pointerenter", "focus"]) button.addEventListener(kind, () => point(leaf));
+  for (const kind of ["pointerleave", "blur"]) button.addEventListener(kind, () => point(null));
+  return button;
+}
+
+const NEAR_DIGITS = 6;
+
+const exactEnds = (tree, names, part) => names.map((name, k) =>
+  `${name} ${tree.spelling(part[2 * k])} ${tree.spelling(part[2 * k + 1])}`).join("\n");
+
+function nearFacts(tree, names, found, palette, does) {
   const { near, isAll } = neighbours(tree, found), block = made("div"), list = made("div", null, "near");
-  block.append(made("p", `${isAll ? near.length : `the first ${near.length}`} leaves touch this box` +
-    " (what was cut off on the way is removed, and is not listed):", "faint"));
-  for (const leaf of near) {
-    const button = made("button", null);
-    button.type = "button";
-    button.title = kindText(leaf);
-    button.append(chip(CLASS_OF_KIND[leaf.kind], palette), made("span", shortPath(leaf.path)));
-    button.addEventListener("click", () => choose(leaf));
-    list.append(button);
-  }
+  block.append(made("p", `${isAll ? near.length : `The first ${near.length}`} leaves touch this box; point at one to see it ` +
+    "framed, click to go there. What was cut off on the way is removed, and is not listed.", "faint"));
+  list.append(...near.map((leaf) => nearLine(tree, names, leaf, palette, does)));
   block.append(list);
   return block;
+}
+
+// The way back to the box that was kept before.
+function backFacts(before, back) {
+  const button = made("button", `back to ${shortPath(before.path)}`);
+  button.type = "button";
+  button.addEventListener("click", back);
+  return button;
 }
 
 const shortPath = (path) => (path.length > 14 ? `…${path.slice(-13)}` : pathText(path));
@@ -115,6 +138,7 @@ function pavingFacts(paving) {
   table.append(row("settled", String(counts.settled)), ...["cut", "removed", "inner", "small", "open"].map((kind) =>
     row(kind, String(counts[kind]))));
   table.append(...Object.keys(volumes).map((kind) => row(`volume ${kind}`, volumes[kind] + percent(kind))));
+  table.title = "The counts are of nodes; the volume that is removed has what was cut off on the way to kept boxes, too.";
   table.append(...Object.entries(settings).map(([name, value]) => row(`--${name}`, value, true)));
   table.append(row("made by", paving.command), row("identity", paving.identity || "none: printed text", true));
   block.append(made("h2", paving.name), table);

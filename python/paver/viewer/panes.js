@@ -74,7 +74,8 @@ class Pane {
     context.clip();
     if (how.edges) this.drawOutlines(context, axes, levels, how.palette);
     this.drawCircles(context, how.palette);
-    if (how.pinned) this.drawPinned(context, axes, how);
+    if (how.pinned) this.drawFrame(context, axes, how.pinned, how.palette, []);
+    if (how.pointed) this.drawFrame(context, axes, how.pointed, how.palette, [5, 3]);
     context.restore();
     drawAxes(context, marksOfPane(axes, this), width, height, ratio, how);
   }
@@ -114,9 +115,10 @@ class Pane {
     }
   }
 
-  drawPinned(context, axes, { pinned, palette }) {
-    if (!this.layers.some((layer) => layer.tree === pinned.tree)) return;
-    const part = partOf(pinned.found), { tree } = pinned, place = (axis, side) => part[2 * axis.variable + side];
+  // The frame of a box that is kept, or of a neighbour that is pointed at, with dashes.
+  drawFrame(context, axes, { tree, found }, palette, dashes) {
+    if (!this.layers.some((layer) => layer.tree === tree)) return;
+    const part = partOf(found), place = (axis, side) => part[2 * axis.variable + side];
     const at = (axis, side) => axis.pixel(tree.high[place(axis, side)], tree.low[place(axis, side)]);
     const limit = (value, most) => Math.max(-20, Math.min(most + 20, value));
     const [x0, x1] = [at(axes.x, 0), at(axes.x, 1)].map((value) => limit(value, this.width));
@@ -124,7 +126,9 @@ class Pane {
     const grown = Math.max(0, 7 - Math.max(x1 - x0, y1 - y0)) / 2 * this.ratio;
     context.strokeStyle = palette.pin;
     context.lineWidth = 2 * this.ratio;
+    context.setLineDash(dashes.map((length) => length * this.ratio));
     context.strokeRect(x0 - grown, y0 - grown, x1 - x0 + 2 * grown, y1 - y0 + 2 * grown);
+    context.setLineDash([]);
   }
 }
 
