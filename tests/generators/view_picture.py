@@ -24,7 +24,7 @@ def main():
     if find_browser() is None:
         print("there is no chromium: the picture stays as it is")
         return
-    browser = Browser(1100, 660)
+    browser = Browser(1100, 860)
     try:
         browser.open(PAGE)
         for step in STEPS:

@@ -372,11 +372,12 @@ class Page(unittest.TestCase):
             self.assertEqual(given, wanted, (words, given, wanted))
 
     def test_way_to_neighbours_and_back(self) -> None:
-        """A kept box lists its neighbours with their ends; pointing at one frames it, a click goes there, and there is a way back."""
+        """A kept box lists its neighbours with their ends; pointing at one frames it, a click goes there, and one leads back."""
         browser = self.open("ring")
         browser.value("paverView.search('1.2, 0.3')")
         self.assertEqual(browser.value("paverView.pinned.found.path"), "11100")
-        lines = browser.value("[...document.querySelectorAll('.near button')].map((line) => line.innerText.split(/\\s*\\n\\s*/))")
+        rows, buttons = (f"[...document.querySelectorAll('{place} button')]" for place in (".near", "#box"))
+        lines = browser.value(f"{rows}.map((row) => row.innerText.split(/\\s*\\n\\s*/))")
         self.assertEqual(len(lines), 13)
         self.assertIn(["10110", "x [1, 1.5]", "y [-0.866026, 0]"], lines)
         first = "document.querySelector('.near button')"
@@ -384,10 +385,9 @@ class Page(unittest.TestCase):
         self.assertEqual(browser.value("paverView.pointed.found.path"), lines[0][0])
         browser.value(f"{first}.click()")
         self.assertEqual(browser.value("[paverView.pinned.found.path, paverView.pointed]"), [lines[0][0], None])
-        browser.value("[...document.querySelectorAll('#box button')].find((one) => one.innerText === 'back to 11100').click()")
+        browser.value(f"{buttons}.find((one) => one.innerText === 'back to 11100').click()")
         self.assertEqual(browser.value("paverView.pinned.found.path"), "11100")
-        self.assertEqual(browser.value("[...document.querySelectorAll('#box button')].filter((one) => one.innerText.startsWith('back'))"
-                                       ".length"), 0)
+        self.assertEqual(browser.value(f"{buttons}.filter((one) => one.innerText.startsWith('back')).length"), 0)
 
     def test_search(self) -> None:
         """A point is found by its numbers, in each spelling; what is no point is said."""
