@@ -219,20 +219,28 @@ def millions(folder):
         print(f"{title:28} {int(printed.split()[1]):8} nodes, {'; '.join(parts)}", flush=True)
 
 
+def used_by(words):
+    """The settled nodes of a run, its processor seconds and its greatest memory in bytes."""
+    with subprocess.Popen([*map(str, words)], stdout=subprocess.PIPE) as run:
+        settled = int(run.stdout.read().split()[1])
+        _, _, used = os.wait4(run.pid, 0)
+    return settled, used.ru_utime + used.ru_stime, used.ru_maxrss * 1024
+
+
 def sizes(folder):
-    """Seconds, microseconds a node, and bytes a node of memory and file, by one worker that stores. Up to some 100,000 nodes
-    the memory told is this script's own, of which a child begins as a copy."""
+    """Seconds, microseconds a node without the program's start, and bytes a node of memory and file, by one worker that
+    stores: the means of up to 20 runs. Up to some 100,000 nodes the memory told is this script's own, of which a child begins
+    as a copy."""
     for title in SIZES:
-        eps = dict(MILLIONS)[title] and "1e-9"
-        for nodes in (10_000, 100_000, 1_000_000, 10_000_000):
-            out = Path(folder) / "paving"
+        eps, start = dict(MILLIONS)[title] and "1e-9", 0.0
+        for nodes in (1, 10_000, 100_000, 1_000_000, 10_000_000):
+            out, turns = Path(folder) / "paving", max(1, min(20, 1_000_000 // nodes))
             words = [TOP / "paver", "run", *of_size(folder, title, eps, nodes), "--workers", 1, "--out", out]
-            with subprocess.Popen([*map(str, words)], stdout=subprocess.PIPE) as run:
-                settled = int(run.stdout.read().split()[1])
-                _, _, used = os.wait4(run.pid, 0)
-            spent = used.ru_utime + used.ru_stime
-            print(f"{title:28} {settled:9} nodes {spent:8.2f} s {spent / settled * 1e6:6.2f} us and "
-                  f"{used.ru_maxrss * 1024 / settled:5.0f} bytes a node, file {out.stat().st_size / settled:5.1f}", flush=True)
+            runs = [used_by(words) for _ in range(turns)]
+            settled, spent = runs[0][0], sum(run[1] for run in runs) / turns
+            start = start or spent
+            print(f"{title:28} {settled:9} nodes {spent:8.3f} s {(spent - start) / settled * 1e6:6.2f} us and "
+                  f"{runs[0][2] / settled:5.0f} bytes a node, file {out.stat().st_size / settled:5.1f}", flush=True)
 
 
 def printing(folder):
