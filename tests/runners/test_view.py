@@ -379,12 +379,12 @@ class Page(unittest.TestCase):
         rows, buttons = (f"[...document.querySelectorAll('{place} button')]" for place in (".near", "#box"))
         lines = browser.value(f"{rows}.map((row) => row.innerText.split(/\\s*\\n\\s*/))")
         self.assertEqual(len(lines), 13)
-        self.assertIn(["10110", "x [1, 1.5]", "y [-0.866026, 0]"], lines)
-        first = "document.querySelector('.near button')"
+        self.assertIn(["inner 10110", "x [1, 1.5]", "y [-0.866026, 0]"], lines)
+        first, path = "document.querySelector('.near button')", lines[0][0].split(" ")[1]
         browser.value(f"{first}.dispatchEvent(new PointerEvent('pointerenter'))")
-        self.assertEqual(browser.value("paverView.pointed.found.path"), lines[0][0])
+        self.assertEqual(browser.value("paverView.pointed.found.path"), path)
         browser.value(f"{first}.click()")
-        self.assertEqual(browser.value("[paverView.pinned.found.path, paverView.pointed]"), [lines[0][0], None])
+        self.assertEqual(browser.value("[paverView.pinned.found.path, paverView.pointed]"), [path, None])
         browser.value(f"{buttons}.find((one) => one.innerText === 'back to 11100').click()")
         self.assertEqual(browser.value("paverView.pinned.found.path"), "11100")
         self.assertEqual(browser.value(f"{buttons}.filter((one) => one.innerText.startsWith('back')).length"), 0)

@@ -79,9 +79,9 @@ function boxFacts(about, tree, found, constraints, palette) {
   return facts;
 }
 
-// A neighbour in two lines: its kind's colour and path, and its ends in decimal, rounded outward; exact ones on demand.
+// A neighbour in two lines: its kind and path, and its ends in decimal, rounded outward; exact ones on demand.
 function nearLine(tree, names, leaf, palette, { choose, point }) {
-  const button = made("button"), part = partOf(leaf), name = made("span", shortPath(leaf.path));
+  const button = made("button"), part = partOf(leaf), name = made("span", `${leaf.kind} ${shortPath(leaf.path)}`);
   button.type = "button";
   button.title = `${kindText(leaf)}\n${exactEnds(tree, names, part)}`;
   name.prepend(chip(CLASS_OF_KIND[leaf.kind], palette));
