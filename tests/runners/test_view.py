@@ -159,7 +159,7 @@ class Page(unittest.TestCase):
         self.assertEqual(seen, wanted, seen)
         self.assertTrue(all(url.startswith("file:") for url in browser.requests), browser.requests)
         self.assertEqual(len(browser.requests), 1, browser.requests)
-        self.assertEqual(browser.value("document.getElementById('legend').children.length"), 4)
+        self.assertEqual(browser.value("document.getElementById('legend').children.length"), 3)
 
     def test_looks(self) -> None:
         """In the dark, on a fine screen and in a frame of a notebook the colours are right, too."""
@@ -190,6 +190,7 @@ class Page(unittest.TestCase):
         window = Window(self.browser)
         around = [(column + k, row) for k in range(8)]
         self.assertEqual(set(window.classes(around)), {"open"})
+        self.assertEqual(self.browser.value("document.getElementById('legend').children.length"), 4)
         colours = self.browser.value(f"(() => {{ const p = paverView.panes[0], d = new Uint32Array(p.image.data.buffer); "
                                      f"return {[list(place) for place in around]}.map(([c, r]) => d[r * p.width + c]); }})()")
         self.assertEqual(len(set(colours)), 2, colours)
@@ -420,7 +421,8 @@ class Page(unittest.TestCase):
         text = browser.downloaded("ring.svg").decode()
         top = xml.etree.ElementTree.fromstring(text)
         words = [one.text for one in top.iter("{http://www.w3.org/2000/svg}text")]
-        self.assertLessEqual({"x", "y", "inner", "removed", "undecided", "open", "−2", "0"}, set(words), words)
+        self.assertLessEqual({"x", "y", "inner", "removed", "undecided", "−2", "0"}, set(words), words)
+        self.assertNotIn("open", words)
         cells = {one.get("class"): rectangles_of(one.get("d")) for one in top.iter("{http://www.w3.org/2000/svg}path")
                  if one.get("class")}
         window, scene, chance = Window(browser), Scene(paving), random.Random(6)

@@ -191,15 +191,22 @@ class App {
     requestAnimationFrame(() => this.draw());
   }
 
+  // What the colours mean; of open leaves nothing is said where no paving has one.
+  legend() {
+    const lines = LEGENDS[this.shownLevels() ? "slice" : "projection"];
+    const all = this.layout === "over" ? [...lines, ...LEGENDS.over] : lines;
+    return this.about.pavings.some(({ counts }) => counts.open) ? all : all.filter(([name]) => name !== "open");
+  }
+
   how() {
-    const { names } = this.about, legend = LEGENDS[this.shownLevels() ? "slice" : "projection"];
+    const { names } = this.about;
     return {
       palette: this.palette,
       names: { x: names[this.x], y: names.length > 1 ? names[this.y] : "" },
       edges: element("edges").checked,
       pinned: this.pinned,
       pointed: this.pointed,
-      legend: this.layout === "over" ? [...legend, ...LEGENDS.over] : legend,
+      legend: this.legend(),
     };
   }
 
