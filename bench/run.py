@@ -12,6 +12,7 @@
     python3 bench/run.py workers            how much faster 2, 3, 4 and 16 workers are than one, on fifteen runs
     python3 bench/run.py millions           the same of 2, 4 and 16 workers on runs of about a million nodes, beside what the
                                             machine gives to runs of one worker side by side
+    python3 bench/run.py small              the same of 4 workers on runs of 1,000 to 30,000 nodes
     python3 bench/run.py sizes              seconds and memory of runs from 10,000 nodes to 10,000,000
     python3 bench/run.py tickets            what the pool's jobs and the board's tickets cost
     python3 bench/run.py trees              milliseconds for settling, counting, copying, joining and auditing a large tree
@@ -219,6 +220,18 @@ def millions(folder):
         print(f"{title:28} {int(printed.split()[1]):8} nodes, {'; '.join(parts)}", flush=True)
 
 
+def small(folder):
+    """How many times as fast as one worker 4 are where there is little to do: the best of twenty runs each, in turn."""
+    for title, eps in MILLIONS:
+        parts = []
+        for nodes in (1000, 3000, 10_000, 30_000):
+            words = [TOP / "paver", "run", *of_size(folder, title, eps, nodes), "--out", Path(folder) / "paving", "--workers"]
+            turns = [[by_clock([*words, count], 1)[0] for count in (1, 4)] for _ in range(20)]
+            one, four = (min(turn[k] for turn in turns) for k in (0, 1))
+            parts.append(f"{nodes}: {one * 1000:.1f} ms x{one / four:.2f}")
+        print(f"{title:28} {', '.join(parts)}", flush=True)
+
+
 def used_by(words):
     """The settled nodes of a run, its processor seconds and its greatest memory in bytes."""
     with subprocess.Popen([*map(str, words)], stdout=subprocess.PIPE) as run:
@@ -335,7 +348,7 @@ def tickets(_):
 def main():
     parts = {"numbers": numbers, "calls": calls, "paving": paving, "printing": printing, "growth": growth, "files": files,
              "workers": workers, "campaigns": campaigns,
-             "tickets": tickets, "trees": trees, "millions": millions, "sizes": sizes}
+             "tickets": tickets, "trees": trees, "millions": millions, "small": small, "sizes": sizes}
     with tempfile.TemporaryDirectory() as folder:
         for part in sys.argv[1:] or parts:
             parts[part](folder)
