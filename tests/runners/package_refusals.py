@@ -29,6 +29,10 @@ PLAIN = [  # texts at which none of these sentences would be right
     "Variables x in [0,4]; Constraints x <= 1; x <= 1 +; end", "Variables x in [0,4]; Constraints f(x, 1) <= 1; end",
     "Variables x in [0,4]; Constraints x <= 1, x >= 0; end", "Variables x in [0,4]; Constraints x * / 2 <= 1; end",
 ]
+TAKEN = [  # words that the program takes, wherever the limit stands
+    ["run", "S", "--boxes", "200000", "--limit", "200000", "--eps", "1"],
+    ["run", "S", "--limit", "200000", "--boxes", "200000", "--eps", "1"],
+]
 HINTS = ("is written", "begins with a digit")
 WORDS = [  # of each command words that the program refuses, and a part of the sentence
     (["run", "S", "--width", "1"], "`--width` is no option of run: run takes --eps,"),
@@ -36,11 +40,16 @@ WORDS = [  # of each command words that the program refuses, and a part of the s
     (["run", "S", "T"], "`run` takes one SYSTEM: 2 names are given."),
     (["run"], "`run` takes one SYSTEM: 0 names are given."),
     (["run", "S", "--workers", "17"], "a whole number from 1 to 16"),
-    (["run", "S", "--boxes=100001"], "a whole number from 1 to 100000"),
+    (["run", "S", "--boxes=100001"], "a whole number from 1 to 100000 is expected; for more give `--limit 100001`, too."),
+    (["run", "S", "--boxes", "0"], "a whole number from 1 to 100000 is expected."),
+    (["run", "S", "--boxes", "100000001"], "a whole number from 1 to 100000 is expected."),
+    (["run", "S", "--boxes", "200001", "--limit", "200000"], "a whole number from 1 to 200000"),
     (["run", "S", "--eps", "1", "--eps", "2"], "`--eps` is given twice."),
     (["run", "S", "--limit", "99999"], "a whole number from 100000 to 100000000"),
     (["run", "S", "--form", "center"], "`plain` or `centered` is expected"),
-    (["run", "S", "--eps", "1e-40"], "`--eps 1e-40`"),
+    (["run", "S", "--eps", "1e-40"], "an unsigned number as 0.5 or 1e-3 is expected, of at most 37 digits"),
+    (["run", "S", "--eps", "1e37"], "an unsigned number as 0.5 or 1e-3 is expected, of at most 37 digits"),
+    (["run", "S", "--eps", ".5e-1"], "an unsigned number as 0.5 or 1e-3 is expected: write `0.5e-1`."),
     (["run", "S", "--bisect"], "`--bisect` needs a value."),
     (["run", "S", "-e", "1"], "`-e` is no option of run"),
     (["check", "S", "--eps", "1"], "check takes none"),
@@ -113,6 +122,10 @@ class Refusals(PackageTest):
                 status, out, err = command("explain", *words)
                 self.assertEqual((status, err), (2, ""), (words, out))
                 self.assertIn(phrase, out, (words, out))
+            for words in TAKEN:
+                words = [str(system) if word == "S" else word for word in words]
+                self.assertEqual(paver.program.call(words)[0], 0, words)
+                self.assertEqual(command("explain", *words)[0], 0, words)
             status, out, err = command("explain", "audit", system, other)
             self.assertEqual((status, err), (2, ""), out)
             self.assertIn("it is this system's with --eps 2", out, out)
