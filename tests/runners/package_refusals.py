@@ -1,13 +1,19 @@
 """Checks of what the package says where the program refuses: options of every command, and forms of other languages."""
 from __future__ import annotations
 
+import doctest
+import re
+import shlex
 import tempfile
+from fractions import Fraction
 from pathlib import Path
 
 import paver
 from paver import options
-from tests.runners.package_test import PackageTest, command, example
-from tests.runners.running import main
+from tests.reference import minibex
+from tests.reference import paver as plain
+from tests.runners.package_test import PackageTest, at, command, example
+from tests.runners.running import TOP, main
 
 TEXTS = [  # what is written, the place of the caret, and what is said
     ("Variables x in [0,4]; Constraints 0 <= x <= 1; end", 41, "`a <= e; e <= b`"),
@@ -132,6 +138,46 @@ class Refusals(PackageTest):
             status, out, err = command("explain", "audit", system, other, "--eps", "2")
             self.assertEqual((status, err), (0, ""), out)
             self.assertIn("it is taken", out, out)
+
+    def test_questions_of_gallery(self) -> None:
+        """Each command of the gallery's last part says what stands below it, and each call has its answer."""
+        text = (TOP / "docs" / "GALLERY.md").read_text().split("\n## Questions on an answer\n")[1]
+        with tempfile.TemporaryDirectory() as folder, at(folder):
+            (Path(folder) / "examples").symlink_to(TOP / "examples")
+            for name, system in re.findall(r"^`(\w+\.mbx)` has `(.*)`\.$", text, re.M):
+                Path(name).write_text(system)
+            shown = re.findall(r"^\$ (.*)\n((?:(?!\$ |```).*\n)*)", text, re.M)
+            self.assertEqual(len(shown), 8, shown)
+            for line, said in shown:
+                with self.subTest(line):
+                    wanted = "(.*\n)*".join([re.escape(part) for part in said.split("..\n")])
+                    self.assertRegex(self.said_by(shlex.split(line)), re.compile(rf"\A{wanted}\Z"))
+            calls = doctest.DocTestParser().get_doctest("\n".join(re.findall("^(?:>>> |[({T]).*$", text, re.M)) + "\n", {},
+                                                        "calls", "GALLERY.md", 0)
+            self.assertEqual(tuple(doctest.DocTestRunner(verbose=False).run(calls)), (0, 6))
+
+    def said_by(self, words: list[str]) -> str:
+        """All that a shown command prints."""
+        if words[0] == "paver":
+            return "".join(paver.program.call(words[1:])[1:])
+        return "".join(command(*words[3:])[1:])
+
+    def test_undecided_of_ring(self) -> None:
+        """What the gallery says of the ring's constraints, from the plain paver's small boxes: on each the squares add up to
+        the least at the point that is nearest to the origin, and to the most at a corner."""
+        _, lines = plain.pave(plain.Settler(minibex.read(example("ring").read_text())))
+        undecided = [0, 0]
+        for words in (line.split(" ")[1:] for line in lines if line[0] == "S"):
+            ends = [Fraction(mantissa) * Fraction(2) ** int(exponent) for mantissa, exponent in (w.split(":") for w in words)]
+            pairs = list(zip(ends[::2], ends[1::2]))
+            least = sum(min(low * low, high * high) for low, high in pairs if not low <= 0 <= high)
+            most = sum(max(low * low, high * high) for low, high in pairs)
+            undecided[0] += least < 1 <= most
+            undecided[1] += least <= 4 < most
+        text = (TOP / "docs" / "GALLERY.md").read_text()
+        self.assertIn(f"  constraint 0 on {undecided[0]}, on {undecided[0]} alone: x^2 + y^2 >= 1\n", text)
+        self.assertIn(f"  constraint 1 on {undecided[1]}, on {undecided[1]} alone: x^2 + y^2 <= 4\n", text)
+        self.assertIn(f"looking at all {sum(undecided)} small and open boxes", text)
 
     def test_table_of_options(self) -> None:
         """The package's table of options is the program's: each is taken where the table has it, and refused elsewhere."""
