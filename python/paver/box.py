@@ -7,7 +7,7 @@ from decimal import Decimal
 from fractions import Fraction
 from typing import Any, Dict, Iterable, Iterator, List, Optional, Sequence, Tuple, Union
 
-from .numbers import INFINITE, SCALE, exact, exact_of_grid, float_of, grid, width
+from .numbers import INFINITE, SCALE, counted, exact, exact_of_grid, float_of, grid, width
 from .tree import Ends, Table, columns_of_ends
 
 Exact = Union[Fraction, float]
@@ -151,8 +151,8 @@ class Cluster:
         return len(self.boxes)
 
     def __repr__(self) -> str:
-        counted = "1 box" if len(self.boxes) == 1 else f"{len(self.boxes)} boxes"
-        return f"<cluster of {counted} in {' x '.join(f'[{float(a):.6g}, {float(b):.6g}]' for a, b in self.hull)}>"
+        boxes = counted(len(self.boxes), "box", "boxes")
+        return f"<cluster of {boxes} in {' x '.join(f'[{float(a):.6g}, {float(b):.6g}]' for a, b in self.hull)}>"
 
 
 def hull_of(boxes: Iterable[Box]) -> Optional[Tuple[Pair, ...]]:

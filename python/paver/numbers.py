@@ -187,6 +187,11 @@ def wide(value: Exact) -> str:
     return "over 1e308" if shown == math.inf != value else f"{shown:.6g}"
 
 
+def counted(count: int, noun: str, more: Optional[str] = None) -> str:
+    """A number of things in words, as `1 variable`; more is the noun of several where it isn't the noun with an s."""
+    return f"{count} {noun if count == 1 else more or noun + 's'}"
+
+
 def printable(text: str) -> str:
     """A text without signs that steer a terminal: in their place stands the sign for what can't be shown."""
     return "".join([c if c.isprintable() or c in "\n\t" else "\ufffd" for c in text])
