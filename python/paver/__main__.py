@@ -12,7 +12,7 @@ from .cover import KEPT
 from .ibex import translate
 from .identity import UNSAID
 from .kept import is_database
-from .numbers import as_float, printable
+from .numbers import as_float, counted, printable
 from .options import COMMANDS, KEPT_SETTINGS
 from .paving import Paving
 from .picture import svg
@@ -64,12 +64,13 @@ def roots(arguments):
         paving, warnings = paving_of(argparse.Namespace(**{**vars(arguments), "system": path, **options}), limits_of)
     found = find_roots(system, paving)
     for root in found:
-        count = "1 box" if root.boxes == 1 else f"{root.boxes} boxes"
+        count = counted(root.boxes, "box", "boxes")
         print(f"{root.verdict}: {count}" + (f" ({root.remark})" if root.remark else ""))
         for name, (low, high) in zip(system.names, root.box):
             print(f"  {name} in [{as_float(low, False)!r}, {as_float(high, True)!r}]")
     counts = {verdict: sum(root.verdict == verdict for root in found) for verdict in (ONE, "none", "undecided")}
-    print(f"{counts[ONE]} roots, {counts['none']} clusters without one, {counts['undecided']} undecided; {TESTED}.")
+    print(f"{counted(counts[ONE], 'root')}, {counted(counts['none'], 'cluster')} without one, {counts['undecided']} undecided; "
+          f"{TESTED}.")
     print(claim_of_roots(by))
     report(warnings)
     return 1 if counts["undecided"] or paving.counts()["open"] else 0

@@ -5,10 +5,10 @@ import math
 import numbers as abstract
 from decimal import Decimal
 from fractions import Fraction
-from typing import Any, Iterable, Iterator, List, Optional, Sequence, Tuple, Union
+from typing import Any, Dict, Iterable, Iterator, List, Optional, Sequence, Tuple, Union
 
-from .numbers import INFINITE, SCALE, exact, exact_of_grid, float_of, grid, width
-from .tree import Ends, Table
+from .numbers import INFINITE, SCALE, counted, exact, exact_of_grid, float_of, grid, width
+from .tree import Ends, Table, columns_of_ends
 
 Exact = Union[Fraction, float]
 Number = Union[int, float, Fraction, Decimal, str]
@@ -151,19 +151,23 @@ class Cluster:
         return len(self.boxes)
 
     def __repr__(self) -> str:
-        counted = "1 box" if len(self.boxes) == 1 else f"{len(self.boxes)} boxes"
-        return f"<cluster of {counted} in {' x '.join(f'[{float(a):.6g}, {float(b):.6g}]' for a, b in self.hull)}>"
+        boxes = counted(len(self.boxes), "box", "boxes")
+        return f"<cluster of {boxes} in {' x '.join(f'[{float(a):.6g}, {float(b):.6g}]' for a, b in self.hull)}>"
 
 
 def hull_of(boxes: Iterable[Box]) -> Optional[Tuple[Pair, ...]]:
-    """The least box around some, as pairs of exact values; None where there are none."""
-    lows: Optional[List[int]] = None
-    highs: List[int] = []
+    """The least box around some, as pairs of exact values; None where there are none. Boxes of one table of numbers are
+    compared by the places of their ends there."""
+    groups: Dict[int, Tuple[Table, List[Ends]]] = {}
+    found: List[Sequence[str]] = []
     for box in boxes:
-        ends = [grid(word) for word in box.words]
-        if lows is None:
-            lows, highs = ends[::2], ends[1::2]
+        if box._table is None:
+            found.append(box.words)
         else:
-            lows = [min(pair) for pair in zip(lows, ends[::2])]
-            highs = [max(pair) for pair in zip(highs, ends[1::2])]
-    return None if lows is None else tuple((exact_of_grid(a), exact_of_grid(b)) for a, b in zip(lows, highs))
+            groups.setdefault(id(box._table), (box._table, []))[1].append(box._ends)
+    for table, group in groups.values():
+        columns = enumerate(columns_of_ends(group))
+        found.append([table.words[max(column) if k % 2 else min(column)] for k, column in columns])
+    columns_of_grids = [[grid(word) for word in column] for column in zip(*found)]
+    pairs = zip(columns_of_grids[::2], columns_of_grids[1::2])
+    return tuple((exact_of_grid(min(lows)), exact_of_grid(max(highs))) for lows, highs in pairs) if found else None

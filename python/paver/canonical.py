@@ -9,7 +9,7 @@ import re
 from fractions import Fraction
 from typing import Any, List, Optional, Sequence, Tuple
 
-from .numbers import decimal
+from .numbers import counted, decimal
 
 Steps = List[Tuple[Any, ...]]
 
@@ -63,8 +63,7 @@ class System:
         return identity_of(self, {"eps": eps, "depth": depth, "bisect": bisect, "contract": contract, "form": form})
 
     def __repr__(self) -> str:
-        constraints = "1 constraint" if len(self.constraints) == 1 else f"{len(self.constraints)} constraints"
-        return f"<system in {', '.join(self.names)}: {constraints}>"
+        return f"<system in {', '.join(self.names)}: {counted(len(self.constraints), 'constraint')}>"
 
 
 def read_constraint(line: str) -> Constraint:

@@ -6,7 +6,7 @@ from fractions import Fraction
 from typing import TYPE_CHECKING, Dict, List, Optional, Sequence, Tuple
 
 from .box import Box, Cluster, Exact
-from .tree import Ends, Tree
+from .tree import Ends, Tree, without_collection
 
 if TYPE_CHECKING:
     from .cover import Cover
@@ -57,16 +57,26 @@ class Forest:
         first, second = self.ends[low], self.ends[high]
         if first is None or second is None:
             return first or second
+        if len(first) == 4:
+            (a, b, c, d), (e, f, g, h) = first, second
+            return a if a < e else e, b if b > f else f, c if c < g else g, d if d > h else h
         pairs = enumerate(zip(first, second))
         return tuple([(a if a < b else b) if k % 2 == 0 else (a if a > b else b) for k, (a, b) in pairs])
 
     def head(self, leaf: int) -> int:
         """The leaf that stands for a leaf's group."""
         parent = self.parent
-        while parent[leaf] != leaf:
-            parent[leaf] = parent[parent[leaf]]
-            leaf = parent[leaf]
+        above = parent[leaf]
+        while above != leaf:
+            parent[leaf] = leaf = parent[above]
+            above = parent[leaf]
         return leaf
+
+    def are_one(self, first: int, second: int) -> bool:
+        """Whether two leaves, or MIXED, are known to be of one group."""
+        if first == MIXED or second == MIXED:
+            return False
+        return self.parent[first] == self.parent[second] or self.head(first) == self.head(second)
 
     def join(self, first: int, second: int) -> None:
         """Makes one group of two."""
@@ -94,10 +104,7 @@ class Forest:
         """A leaf for all of two halves, or MIXED."""
         if self.ends[low] is None or self.ends[high] is None:
             return self.one[high if self.ends[low] is None else low]
-        first, second = self.one[low], self.one[high]
-        if first == MIXED or second == MIXED or self.head(first) != self.head(second):
-            return MIXED
-        return first
+        return self.one[low] if self.are_one(self.one[low], self.one[high]) else MIXED
 
     def touch(self, first: int, second: int) -> None:
         """Joins the leaves of two parts that touch; pairs of parts are taken apart from the larger one on."""
@@ -106,9 +113,7 @@ class Forest:
         while pairs:
             a, b = pairs.pop()
             left, right = ends[a], ends[b]
-            if left is None or right is None or apart(left, right, gap):
-                continue
-            if one[a] != MIXED and one[b] != MIXED and self.head(one[a]) == self.head(one[b]):
+            if left is None or right is None or apart(left, right, gap) or self.are_one(one[a], one[b]):
                 continue
             in_a, in_b = halves[a], halves[b]
             if in_a is None and in_b is None:
@@ -122,6 +127,9 @@ class Forest:
 
 def apart(first: Ends, second: Ends, gap: int) -> bool:
     """Whether two boxes are further apart than the gap in some place."""
+    if len(first) == 4:  # the usual case, without a loop
+        (a, b, c, d), (e, f, g, h) = first, second
+        return a - f > gap or e - b > gap or c - h > gap or g - d > gap
     for k in range(0, len(first), 2):
         if first[k] - second[k + 1] > gap or second[k] - first[k + 1] > gap:
             return True
@@ -130,6 +138,9 @@ def apart(first: Ends, second: Ends, gap: int) -> bool:
 
 def size(ends: Ends) -> int:
     """The widest place of ends."""
+    if len(ends) == 4:
+        a, b, c, d = ends
+        return b - a if b - a > d - c else d - c
     return max([ends[k + 1] - ends[k] for k in range(0, len(ends), 2)])
 
 
@@ -143,15 +154,16 @@ def clusters_of(cover: Cover, gap: Exact, kinds: Sequence[str]) -> List[Cluster]
     trees = [paving.tree for paving in cover.roots()]
     if any(paving.root is None and "O" in paving.tree.kinds[:1] for paving in cover.roots()):
         raise ValueError("this needs the search box: give root= or system=")
-    forest = Forest(trees, "".join(LETTERS[kind] for kind in kinds), gap)
-    forest.grow()
-    found: Dict[int, List[Box]] = {}
-    first = 0
-    for tree in trees:
-        for k, kind in enumerate(tree.kinds, first):
-            if kind != "C" and forest.ends[k] is not None:
-                ends = tree.cover_of(k - first)
-                assert ends is not None
-                found.setdefault(forest.head(k), []).append(Box.of(NAMED[kind], tree.table, ends, cover.names))
-        first += len(tree.kinds)
-    return [Cluster(boxes) for boxes in found.values()]
+    with without_collection():
+        forest = Forest(trees, "".join(LETTERS[kind] for kind in kinds), gap)
+        forest.grow()
+        found: Dict[int, List[Box]] = {}
+        first = 0
+        for tree in trees:
+            for k, kind in enumerate(tree.kinds, first):
+                if kind != "C" and forest.ends[k] is not None:
+                    ends = tree.cover_of(k - first)
+                    assert ends is not None
+                    found.setdefault(forest.head(k), []).append(Box.of(NAMED[kind], tree.table, ends, cover.names))
+            first += len(tree.kinds)
+        return [Cluster(boxes) for boxes in found.values()]

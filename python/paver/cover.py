@@ -4,13 +4,13 @@ from __future__ import annotations
 import math
 from collections import namedtuple
 from fractions import Fraction
-from itertools import chain, islice
+from itertools import islice
 from typing import (
     TYPE_CHECKING, Any, Dict, Iterable, Iterator, List, Mapping, Optional, Protocol, Sequence, Set, TextIO, Tuple, Union)
 
 from .box import Box, Cluster, Exact, Number, exact_number, hull_of
 from .numbers import INFINITE, as_float, wide
-from .tree import Ends, Leaves, Tree
+from .tree import Ends, Leaves, Tree, columns_of_ends
 
 if TYPE_CHECKING:
     from .paving import Paving
@@ -379,13 +379,6 @@ def volume_sum(values: Sequence[int], boxes: Sequence[Ends], dims: int) -> int:
     return sum([math.prod([values[ends[k + 1]] - values[ends[k]] for k in places]) for ends in boxes])
 
 
-def columns_of(boxes: Sequence[Ends]) -> List[List[int]]:
-    """The first ends of all boxes, the second ones, and so on."""
-    ends = list(chain.from_iterable(boxes))
-    count = len(boxes[0]) if boxes else 0
-    return [ends[k::count] for k in range(count)]
-
-
 def hull_in(paving: Cover, wanted: Sequence[str]) -> Optional[Pairs]:
     """The hull of some classes of one paving."""
     if "removed" in wanted:
@@ -393,7 +386,7 @@ def hull_in(paving: Cover, wanted: Sequence[str]) -> Optional[Pairs]:
     boxes = [ends for kind in wanted for ends in paving.tree.ends_of(LETTERS[kind]) if ends is not None]
     if not boxes:
         return None
-    exact, columns = paving.tree.table.exact, columns_of(boxes)
+    exact, columns = paving.tree.table.exact, columns_of_ends(boxes)
     return tuple((exact(min(columns[k])), exact(max(columns[k + 1]))) for k in range(0, len(columns), 2))
 
 

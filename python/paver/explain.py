@@ -11,7 +11,7 @@ from .canonical import System
 from .errors import ContractRefused, ObjectiveRefused, SystemRefused
 from .hints import hint_at
 from .ibex.refusals import INSTEAD
-from .numbers import printable
+from .numbers import counted, printable
 from .options import COMMANDS, KEPT_SETTINGS, SETTINGS, Words, faults, file_faults
 
 CAUSES = {
@@ -64,11 +64,6 @@ def caret(text: str, byte: int) -> str:
     line = (text[start:] if end < 0 else text[start:end]).rstrip("\r")[:2 * MOST_SHOWN]
     before = "".join("\t" if c == "\t" else " " for c in shown(text[start:byte]))
     return f"    {shown(line)}\n    {before}^"
-
-
-def counted(count: int, noun: str) -> str:
-    """A number of things in words, as `1 variable`."""
-    return f"{count} {noun}{'' if count == 1 else 's'}"
 
 
 def alternatives(phrases: Sequence[str]) -> str:

@@ -194,8 +194,8 @@ def is_strange(name: str) -> Optional[str]:
 
 
 def is_own(kind: str, name: str, text: Optional[str]) -> bool:
-    """Whether a database of a campaign lists this: a table by the text that the program gives it, or its index. Earlier versions
-    wrote IF NOT EXISTS."""
+    """Whether a database of a campaign lists this: a table by the text that the program gives it, or its index. Earlier
+    versions wrote IF NOT EXISTS."""
     if kind == "table" and name in TEXTS and text is not None:
         return text.replace("CREATE TABLE IF NOT EXISTS ", "CREATE TABLE ", 1) == TEXTS[name]
     return (kind, name, text) == KEYS

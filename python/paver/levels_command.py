@@ -11,7 +11,7 @@ from fractions import Fraction
 from . import errors, explain
 from .levels import BOXES, ENDINGS, Levels, least_by_levels
 from .levels_kept import Proof
-from .numbers import as_float, decimal
+from .numbers import as_float, counted, decimal
 
 ALONE = ("within", "try_points", "keep", "seconds")  # options that belong to --levels
 FIXED = ("eps", "depth", "bisect")  # options that levels choose by themselves
@@ -64,10 +64,8 @@ def lines_of(found: Levels, of: str) -> Iterator[str]:
     for name, value in zip(found.names, found.point or ()):
         yield f"  {name} = {exactly(value)}"
     yield from (f"{name} bound by {told(proof, of)}" for name, proof in sorted(found.proofs.items()))
-    if found.gap < math.inf:
-        yield f"gap {exactly(found.gap)} after {found.calls} calls: {ENDINGS.get(found.ended, found.ended)}"
-    else:
-        yield f"after {found.calls} calls: {ENDINGS.get(found.ended, found.ended)}"
+    gap = f"gap {exactly(found.gap)} " if found.gap < math.inf else ""
+    yield f"{gap}after {counted(found.calls, 'call')}: {ENDINGS.get(found.ended, found.ended)}"
 
 
 def exactly(value: Fraction | float) -> str:
@@ -77,16 +75,15 @@ def exactly(value: Fraction | float) -> str:
 
 
 def told(proof: Proof, of: str) -> str:
-    nodes = f"{proof.counts['settled']} node{'' if proof.counts['settled'] == 1 else 's'}"
     what = "the system" if proof.level is None else f"the system with `{of} <= {exactly(proof.level)}`"
     kept = "an inner box" if proof.counts["inner"] else "nothing kept"
-    return f"`{proof.command}` of {what}: {nodes}, {kept}"
+    return f"`{proof.command}` of {what}: {counted(proof.counts['settled'], 'node')}, {kept}"
 
 
 def progress(found: Levels) -> None:
     upper = "none" if found.upper is None else f"{as_float(found.upper, True):.9g}"
     lower = as_float(found.lower, False)
-    print(f"least value above {lower:.9g}, at most {upper}, {found.calls} calls", file=sys.stderr, flush=True)
+    print(f"least value above {lower:.9g}, at most {upper}, {counted(found.calls, 'call')}", file=sys.stderr, flush=True)
 
 
 def raise_interrupt(_number: int, _frame: object) -> None:

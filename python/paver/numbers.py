@@ -11,7 +11,8 @@ import re
 import sys
 from fractions import Fraction
 from functools import lru_cache
-from typing import Any, List, Optional, Sequence, Set, Tuple, Union
+from itertools import filterfalse
+from typing import Any, Callable, Collection, List, Optional, Tuple, Union
 
 Exact = Union[Fraction, float]  # a float where it is infinite
 SCALE = 512
@@ -22,7 +23,7 @@ MOST_EXPONENT, LARGE = 511, 450  # of a number in its shortest form; up to LARGE
 GREATEST = MOST_MANTISSA << (LARGE + SCALE)
 NUMBER = re.compile(r"(-?[1-9][0-9]{0,18}):(-?[1-9][0-9]{0,2}|0)\Z")
 # A line that is a number where its mantissa is not too large: odd, and with an exponent far from its ends.
-USUAL = re.compile(r"^((-?(?:[1-9][0-9]{0,17})?[13579]):(0|-?(?:[1-3][0-9]{2}|[1-9][0-9]?)))$", re.M)
+USUAL = re.compile(r"^-?(?:[1-9][0-9]{0,17})?[13579]:(?:0|-?(?:[1-3][0-9]{2}|[1-9][0-9]?))$", re.M)
 
 
 class NumberError(ValueError):
@@ -45,14 +46,14 @@ def parts(text: str) -> Tuple[int, int]:
     raise NumberError(f"{text!r} is no number of a paving")
 
 
-def parts_of(texts: Set[str]) -> Tuple[List[str], List[int], List[int]]:
+def parts_of(texts: Collection[str]) -> Tuple[List[str], List[int], List[int]]:
     """The texts that are numbers, their mantissas and their exponents. Most are looked at together."""
-    usual = USUAL.findall("\n".join(texts))
-    columns: List[Sequence[str]] = list(zip(*usual)) or [(), (), ()]
-    words, mantissas, exponents = list(columns[0]), list(map(int, columns[1])), list(map(int, columns[2]))
-    rest = texts.difference(words)
+    words: List[str] = USUAL.findall("\n".join(texts))
+    ends = "\n".join(words).replace(":", "\n").split("\n") if words else []
+    mantissas, exponents = list(map(int, ends[::2])), list(map(int, ends[1::2]))
+    rest = list(filterfalse(set(words).__contains__, texts))
     if mantissas and (min(mantissas) < -MOST_MANTISSA or max(mantissas) > MOST_MANTISSA):
-        rest, words, mantissas, exponents = texts, [], [], []
+        rest, words, mantissas, exponents = list(texts), [], [], []
     for text in rest:
         try:
             mantissa, exponent = parts(text)
@@ -97,17 +98,20 @@ def as_float(value: Exact, up: bool) -> float:
     except OverflowError:
         nearest = math.inf if value > 0 else -math.inf
     if not up and nearest > value:
-        return math.nextafter(nearest, -math.inf) if hasattr(math, "nextafter") else stepped(nearest, -1)
+        return nextafter(nearest, -math.inf)
     if up and nearest < value:
-        return math.nextafter(nearest, math.inf) if hasattr(math, "nextafter") else stepped(nearest, 1)
+        return nextafter(nearest, math.inf)
     return nearest
 
 
-def stepped(value: float, direction: int) -> float:
-    """A float beyond value by at least one step, for Pythons before 3.9, which have no math.nextafter."""
+def stepped(value: float, toward: float) -> float:
+    """A float beyond value by at least one step, toward an infinity, for Pythons before 3.9, which have no math.nextafter."""
     if math.isinf(value):
         return math.copysign(sys.float_info.max, value)
-    return value + direction * max(abs(value) * 2.0 ** -52, 5e-324)
+    return value + math.copysign(max(abs(value) * 2.0 ** -52, 5e-324), toward)
+
+
+nextafter: Callable[[float, float], float] = getattr(math, "nextafter", stepped)
 
 
 @lru_cache(maxsize=1 << 16)
@@ -181,6 +185,11 @@ def wide(value: Exact) -> str:
     """An exact value in few digits for people: it is not exact."""
     shown = as_float(value, True)
     return "over 1e308" if shown == math.inf != value else f"{shown:.6g}"
+
+
+def counted(count: int, noun: str, more: Optional[str] = None) -> str:
+    """A number of things in words, as `1 variable`; more is the noun of several where it isn't the noun with an s."""
+    return f"{count} {noun if count == 1 else more or noun + 's'}"
 
 
 def printable(text: str) -> str:

@@ -115,6 +115,11 @@ class Words:
         """The value of an option; None where it is not given."""
         return next((value for option, value, _ in self.options if option == name), None)
 
+    def most(self) -> int:
+        """The greatest budget, which `--limit` sets wherever it stands."""
+        limit = self.value("limit") or ""
+        return int(limit) if re.fullmatch("[0-9]{1,10}", limit, re.A) else MOST_BOXES
+
 
 def faults(command: str, words: Sequence[str]) -> List[str]:
     """Sentences on the words of a command of the program that are refused, by the same rules as the program's."""
@@ -125,19 +130,13 @@ def faults(command: str, words: Sequence[str]) -> List[str]:
         if name in seen:
             found.append(f"`--{name}` is given twice.")
         seen[name] = value
-        found += value_fault(name, value, joined, most(seen))
+        found += value_fault(name, value, joined, read.most())
     found += [f"`{command}` needs `--{name}`." for name in REQUIRED.get(command, ()) if name not in seen]
     if seen.get("x") is not None and seen.get("x") == seen.get("y"):
         found.append("`--x` and `--y` name one variable: a picture has two.")
     if seen.get("share") is not None and seen.get("order") == "level":
         found.append("`--share` and `--order level` exclude each other: a share is settled in its own order.")
     return found + file_faults(command, len(read.files))
-
-
-def most(seen: Mapping[str, Optional[str]]) -> int:
-    """The greatest budget under these options."""
-    limit = seen.get("limit") or ""
-    return int(limit) if re.fullmatch("[0-9]{1,10}", limit, re.A) else MOST_BOXES
 
 
 def unknown(command: str, word: str) -> str:
@@ -172,16 +171,31 @@ def value_fault(name: str, value: Optional[str], joined: bool = False, boxes: in
     if name in RANGES:
         low, high = RANGES[name] if name != "boxes" else (1, boxes)
         if not (value.isdigit() and value.isascii() and len(value) <= 10 and low <= int(value) <= high):
-            return [f"`--{name} {value}`: a whole number from {low} to {high} is expected."]
+            return [f"`--{name} {value}`: a whole number from {low} to {high} is expected{beyond(name, value)}."]
     if name in CHOICES and value not in CHOICES[name]:
         return [f"`--{name} {value}`: {' or '.join(f'`{word}`' for word in CHOICES[name])} is expected."]
     if name == "share" and not is_share(value):
         return [f"`--share {value}`: K/N is expected, K below N and N at most {MOST_SHARES}, as 0/4."]
     if name == "eps" and not is_number(value):
-        return [f"`--eps {value}`: an unsigned number as 0.5 or 1e-3 is expected."]
+        return [f"`--eps {value}`: an unsigned number as 0.5 or 1e-3 is expected{how_written(value)}."]
     if name == "at" and not all(is_number(part[1:] if part[:1] == "-" else part) for part in value.split(",")):
         return [f"`--at {value}`: numbers joined by commas are expected, one for each other variable, as 0.5,-1."]
     return []
+
+
+def beyond(name: str, value: str) -> str:
+    """What lets a greater budget through, behind the sentence that refuses it."""
+    is_greater = name == "boxes" and re.fullmatch("[1-9][0-9]{0,9}", value, re.A)
+    return f"; for more give `--limit {value}`, too" if is_greater and MOST_BOXES < int(value) <= MOST_LIMIT else ""
+
+
+def how_written(value: str) -> str:
+    """How a number is written that was refused as one, behind the sentence that refuses it."""
+    if re.fullmatch(NUMBER, value, re.A):
+        return ", of at most 37 digits, the last of them no less than 1e-36"
+    if re.fullmatch(r"\.[0-9]+([eE][+-]?[0-9]+)?", value, re.A):
+        return f": write `0{value}`"
+    return ""
 
 
 def is_share(text: str) -> bool:

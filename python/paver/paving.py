@@ -3,8 +3,9 @@ from __future__ import annotations
 
 import re
 from itertools import accumulate, repeat
+from operator import indexOf
 from pathlib import Path
-from typing import Any, BinaryIO, Dict, List, Mapping, Optional, Sequence, Tuple, Union
+from typing import Any, BinaryIO, Dict, Iterable, List, Mapping, Optional, Sequence, Tuple, Union
 
 from . import kept
 from .box import Box
@@ -118,23 +119,17 @@ class Paving(Cover):
         """Each line begins with a node's letter and has its number of words, and together they are one whole tree."""
         kinds = [line[:2] for line in self.lines]
         row = first_strange(self.lines, kinds, self.dims or 0)
+        ended = end_of_tree(kinds if row is None else kinds[:row])
+        if ended is not None and ended < (len(kinds) if row is None else row):
+            raise PavingError(self.first_row + ended, FOLLOW)
         if row is not None:
-            raise self._end_within(kinds[:row]) or PavingError(self.first_row + row, f"no node of {self.dims} variables")
-        fault = self._end_within(kinds)
-        if fault is not None:
-            raise fault
-        missing = 1 + sum(map(STEPS.__getitem__, kinds))
-        if missing:
+            raise PavingError(self.first_row + row, f"no node of {self.dims} variables")
+        if ended is None:
+            missing = 1 + sum(map(STEPS.__getitem__, kinds))
             raise PavingError(self.first_row + len(self.lines),
                               f"the tree is not whole: {missing} leaves are missing; was the text cut by `head`?")
         if self.summary is not None and self.summary != self.counts():
             raise PavingError(1, "the summary counts other lines than follow")
-
-    def _end_within(self, kinds: Sequence[str]) -> Optional[PavingError]:
-        """The error where the whole tree ends before these lines do."""
-        left = list(accumulate(map(STEPS.__getitem__, kinds), initial=1))
-        ended = left.index(0) if 0 in left else len(kinds)
-        return PavingError(self.first_row + ended, FOLLOW) if ended < len(kinds) else None
 
     def counts(self) -> Dict[str, int]:
         """How many nodes are settled, cut, removed, inner, small and open."""
@@ -178,6 +173,14 @@ class Paving(Cover):
 
     def __repr__(self) -> str:
         return f"<paving{in_words(self)}>"
+
+
+def end_of_tree(kinds: Iterable[str]) -> Optional[int]:
+    """How many of these lines, given by their first two bytes, are one whole tree; None where it isn't whole yet."""
+    try:
+        return indexOf(accumulate(map(STEPS.__getitem__, kinds), initial=1), 0)
+    except ValueError:
+        return None
 
 
 def first_strange(lines: Sequence[str], kinds: Sequence[str], dims: int) -> Optional[int]:

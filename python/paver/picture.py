@@ -8,7 +8,7 @@ from typing import TYPE_CHECKING, Dict, Iterable, Iterator, List, Mapping, Optio
 from .box import Number
 from .cover import KEPT, Name
 from .numbers import printable
-from .plots import FILL, Pair, axes_of, finite, finite_axes, grouped, projection, rectangles
+from .plots import FILL, Pair, Rectangle, axes_of, finite, finite_axes, grouped, projection, rectangles
 
 if TYPE_CHECKING:
     from .cover import Cover
@@ -64,8 +64,9 @@ def path_of(pairs: Iterable[Sequence[Pair]], frame: Frame) -> str:
 def path_of_union(pairs: Iterable[Sequence[Pair]], frame: Frame) -> str:
     """The union of rectangles as one path of fewer, whose ends are rounded to half a pixel; each has a width at least."""
     columns = [0] * (FINE * math.ceil(MARGIN + frame.sizes[0]) + FINE)  # of each the rows that are covered, a bit each
-    for (a, b), (c, d) in pairs:
-        first, end, top, bottom = (round(FINE * place) for place in (frame.x(a), frame.x(b), frame.y(d), frame.y(c)))
+    x, y = frame.x, frame.y
+    for first, end, top, bottom in {(round(FINE * x(a)), round(FINE * x(b)), round(FINE * y(d)), round(FINE * y(c)))
+                                    for (a, b), (c, d) in pairs}:
         rows = (1 << max(bottom, top + 1)) - (1 << top)
         for column in range(first, max(end, first + 1)):
             columns[column] |= rows
@@ -127,7 +128,7 @@ def svg(cover: Cover, x: Name = 0, y: Name = 1, at: Optional[Mapping[Name, Numbe
     return picture_of(cover, (x, y), shown, title, equal, near)
 
 
-def picture_of(cover: Cover, variables: Tuple[Name, Name], shown: Mapping[str, Sequence[Tuple[Pair, Pair]]],
+def picture_of(cover: Cover, variables: Tuple[Name, Name], shown: Mapping[str, Sequence[Rectangle]],
                title: Optional[str] = None, equal: bool = True, near: bool = False) -> str:
     """The text of a picture of rectangles, by class in the order in which they are painted."""
     frame = Frame(finite_axes(axes_of(cover, *variables, near)), equal)
@@ -141,7 +142,7 @@ def picture_of(cover: Cover, variables: Tuple[Name, Name], shown: Mapping[str, S
     lines.append(f'<path d="{outline}" fill="{FILL["removed"]}" stroke="none"/>')
     for kind, pairs in shown.items():
         outlines = path_of if len(pairs) <= MOST_OUTLINES else path_of_union
-        drawn = outlines((finite(pair, frame.axes) for pair in pairs), frame)
+        drawn = outlines(finite(pairs, frame.axes), frame)
         lines.append(f'<path d="{drawn}" fill="{FILL[kind]}" stroke="{EDGE}" stroke-width="0.4"/>')
     lines.append(f'<path d="{outline}" fill="none" stroke="#000"/>')
     names = [cover.name_of(cover.variable(k)) for k in variables]

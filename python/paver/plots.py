@@ -4,8 +4,9 @@ from __future__ import annotations
 from typing import TYPE_CHECKING, Any, Dict, Iterator, List, Mapping, Optional, Sequence, Tuple
 
 from .box import Box, Number, hull_of
-from .cover import KEPT, LETTERS, Name, kinds_of
+from .cover import KEPT, KINDS, LETTERS, Name, kept_ends, kinds_of
 from .numbers import as_float
+from .tree import without_collection
 
 if TYPE_CHECKING:
     from .cover import Cover
@@ -13,6 +14,7 @@ if TYPE_CHECKING:
 FILL = {"removed": "#cfd8dc", "inner": "#43a047", "small": "#fdd835", "open": "#ffffff"}
 PAINTED = ("removed", "open", "small", "inner")  # in this order: inner boxes lie on top
 Pair = Tuple[float, float]
+Rectangle = Tuple[Pair, Pair]
 Shown = Tuple[str, Pair, Pair]
 
 
@@ -40,8 +42,18 @@ def rectangles(cover: Cover, x: Name, y: Name, at: Optional[Mapping[Name, Number
         missing = ", ".join(cover.name_of(k) for k in sorted(others ^ set(values)))
         raise ValueError(f"a slice takes two variables and a value (at) for each other one, and no more: look at {missing}; "
                          "a projection takes two variables alone")
-    seen = cover.slice({k: value for k, value in values.items()}, kinds)
+    wanted = kinds_of(kinds) or KINDS
+    if not others and "removed" not in wanted:
+        return (shown for paving in cover.pieces() for shown in kept_rectangles(paving, wanted, first, second))
+    seen = cover.slice({k: value for k, value in values.items()}, wanted)
     return ((box.kind, floats[first], floats[second]) for box in seen for floats in [box.floats])
+
+
+def kept_rectangles(paving: Any, kinds: Sequence[str], x: int, y: int) -> Iterator[Shown]:
+    """The kept boxes of one paving in two variables, in order."""
+    lows, highs = paving.tree.table.floats(False), paving.tree.table.floats(True)
+    a, b, c, d = 2 * x, 2 * x + 1, 2 * y, 2 * y + 1
+    return ((kind, (lows[ends[a]], highs[ends[b]]), (lows[ends[c]], highs[ends[d]])) for kind, ends in kept_ends(paving, kinds))
 
 
 def projection(cover: Cover, x: Name, y: Name, kinds: Sequence[str] = KEPT) -> Iterator[Shown]:
@@ -77,9 +89,12 @@ def axes_of(cover: Cover, x: Name, y: Name, near: bool = False) -> Tuple[Pair, P
             (as_float(hull[second][0], False), as_float(hull[second][1], True)))
 
 
-def finite(rectangle: Sequence[Pair], axes: Sequence[Pair]) -> List[Pair]:
-    """A rectangle with its infinite ends moved to the edge of the picture."""
-    return [(max(low, axis[0]), min(high, axis[1])) for (low, high), axis in zip(rectangle, axes)]
+def finite(rectangles: Sequence[Rectangle], axes: Sequence[Pair]) -> Sequence[Rectangle]:
+    """Rectangles whose infinite ends are moved to the edge of the picture."""
+    (left, right), (bottom, top) = axes
+    if all(left <= a and b <= right and bottom <= c and d <= top for (a, b), (c, d) in rectangles):
+        return rectangles
+    return [((max(a, left), min(b, right)), (max(c, bottom), min(d, top))) for (a, b), (c, d) in rectangles]
 
 
 def drawing() -> Tuple[Any, Any, Any]:
@@ -100,9 +115,10 @@ def draw(cover: Cover, x: Name, y: Name, shown: Iterator[Shown], ax: Any, title:
     axes = finite_axes(axes_of(cover, x, y, near))
     groups = grouped(shown)
     ax = ax or pyplot.gca()
-    for kind, pairs in groups.items():
-        polygons = [((a, c), (b, c), (b, d), (a, d)) for (a, b), (c, d) in (finite(pair, axes) for pair in pairs)]
-        ax.add_collection(collection(polygons, facecolors=FILL[kind], edgecolors="#90a4ae", linewidths=0.3), autolim=False)
+    with without_collection():
+        for kind, pairs in groups.items():
+            style = {"facecolors": FILL[kind], "edgecolors": "#90a4ae", "linewidths": 0.3}
+            ax.add_collection(collection(corners_of(finite(pairs, axes)), **style), autolim=False)
     ax.set_facecolor(FILL["removed"])
     ax.set_xlim(*axes[0])
     ax.set_ylim(*axes[1])
@@ -117,6 +133,13 @@ def draw(cover: Cover, x: Name, y: Name, shown: Iterator[Shown], ax: Any, title:
     return ax
 
 
+def corners_of(rectangles: Sequence[Rectangle]) -> Any:
+    """The four corners of each rectangle as one array, of which matplotlib makes a path in a quarter of the time."""
+    import numpy
+    ends = numpy.array(rectangles, dtype=float)
+    return numpy.stack([ends[:, 0, [0, 1, 1, 0]], ends[:, 1, [0, 0, 1, 1]]], axis=2)
+
+
 def finite_axes(axes: Sequence[Pair]) -> List[Pair]:
     """Axes for a picture: an infinite end becomes ten beyond the other end or beyond 0."""
     low_high = []
@@ -127,11 +150,12 @@ def finite_axes(axes: Sequence[Pair]) -> List[Pair]:
     return low_high
 
 
-def grouped(shown: Iterator[Shown]) -> Dict[str, List[Tuple[Pair, Pair]]]:
+def grouped(shown: Iterator[Shown]) -> Dict[str, List[Rectangle]]:
     """The rectangles of each class, in the order in which the classes are painted."""
-    found: Dict[str, List[Tuple[Pair, Pair]]] = {kind: [] for kind in PAINTED}
-    for kind, *pair in shown:
-        found[kind].append((pair[0], pair[1]))
+    found: Dict[str, List[Rectangle]] = {kind: [] for kind in PAINTED}
+    with without_collection():
+        for kind, x, y in shown:
+            found[kind].append((x, y))
     return {kind: pairs for kind, pairs in found.items() if pairs}
 
 

@@ -4,6 +4,7 @@ from __future__ import annotations
 from typing import TYPE_CHECKING, Any, Iterator, List, Sequence
 
 from .cover import KINDS, kept_ends
+from .tree import columns_of_ends
 
 if TYPE_CHECKING:
     from .cover import Cover
@@ -23,10 +24,15 @@ def csv_rows(cover: Cover, kinds: Sequence[str], exactly: bool) -> Iterator[str]
                 pairs = box.exact if exactly else box.floats
                 yield ",".join([box.kind, *[str(end) if exactly else repr(end) for pair in pairs for end in pair]]) + "\n"
             continue
-        table = paving.tree.table
-        sides = [table.spelled(False), table.spelled(True)] * (cover.dims or 0)
-        for kind, ends in kept_ends(paving, kinds):
-            yield f"{kind},{','.join([side[end] for side, end in zip(sides, ends)])}\n"
+        yield from kept_rows(paving, kinds)
+
+
+def kept_rows(paving: Any, kinds: Sequence[str]) -> Iterator[str]:
+    """The lines of the kept boxes of one paving, whose numbers are spelled a column at a time."""
+    found, spelled = kept_ends(paving, kinds), paving.tree.table.spelled
+    columns = enumerate(columns_of_ends([ends for _, ends in found]))
+    words = [map(spelled(k % 2 == 1).__getitem__, column) for k, column in columns]
+    return map("{}\n".format, map(",".join, zip([kind for kind, _ in found], *words)))
 
 
 def numpy_of(cover: Cover, kinds: Sequence[str], exactly: bool) -> Any:

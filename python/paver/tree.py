@@ -11,11 +11,12 @@ from bisect import bisect_left, bisect_right
 from contextlib import contextmanager
 from fractions import Fraction
 from functools import cached_property
-from operator import eq, le
-from typing import Dict, Iterable, Iterator, List, Optional, Sequence, Set, Tuple, Union
+from itertools import chain, repeat
+from operator import eq, le, sub
+from typing import Collection, Dict, Iterable, Iterator, List, Optional, Sequence, Tuple, Union
 
 from .errors import PavingError
-from .numbers import INFINITE, parts_of
+from .numbers import INFINITE, nextafter, parts_of
 
 Ends = Tuple[int, ...]
 Waiting = Tuple[Ends, int, int]  # a node that is to come: its box, the number of the cut node above it, and the steps to it
@@ -41,7 +42,7 @@ def without_collection() -> Iterator[None]:
 class Table:
     """The distinct numbers of a paving in order: their texts, and their values times 2^shift as whole numbers."""
 
-    def __init__(self, words: Set[str]) -> None:
+    def __init__(self, words: Collection[str]) -> None:
         found, mantissas, exponents = parts_of(words)  # the line that has another word is refused
         shift = self.shift = max(0, -min(exponents, default=0))
         values = [mantissa << exponent + shift if -INFINITE < mantissa < INFINITE else mantissa
@@ -51,7 +52,6 @@ class Table:
         self.values: List[int] = list(map(values.__getitem__, order))
         self.rank: Dict[str, int] = dict(zip(self.words, range(len(self.words))))
         self._exact: Dict[int, Exact] = {}
-        self._floats: List[Optional[List[float]]] = [None, None]
         self._spelled: List[Optional[List[str]]] = [None, None]
 
     @property
@@ -70,10 +70,20 @@ class Table:
 
     def floats(self, up: bool) -> List[float]:
         """All numbers as floats that are rounded to one side."""
-        made = self._floats[up]
-        if made is None:
-            made = self._floats[up] = [float_near(value, self.shift, up) for value in self.values]
-        return made
+        return self._both_sides[up]
+
+    @cached_property
+    def _both_sides(self) -> Tuple[List[float], List[float]]:
+        """All numbers as floats that are rounded down, and up."""
+        try:
+            nearest = list(map(float, self.values))
+        except OverflowError:  # an infinite end, or more than a float holds before it is scaled
+            sides = [[float_near(value, self.shift, up) for value in self.values] for up in (False, True)]
+            return sides[0], sides[1]
+        beyond = list(map(sub, map(int, nearest), self.values))
+        near = list(map(math.ldexp, nearest, repeat(-self.shift)))
+        return ([nextafter(x, -math.inf) if far > 0 else x for x, far in zip(near, beyond)],
+                [nextafter(x, math.inf) if far < 0 else x for x, far in zip(near, beyond)])
 
     def spelled(self, up: bool) -> List[str]:
         """The texts of these floats."""
@@ -108,7 +118,7 @@ def float_near(value: int, shift: int, up: bool) -> float:
         value, shift = short + (1 if up and rest else 0), shift - extra
     found = float(value)
     if (found < value) if up else (found > value):
-        found = math.nextafter(found, math.inf if up else -math.inf)
+        found = nextafter(found, math.inf if up else -math.inf)
     return math.ldexp(found, -shift)
 
 
@@ -139,7 +149,7 @@ class Tree:
         waits then."""
         reader, k, last = LineReader(self.table, second, self.dims), 0, len(lines) - 1
         add_box, add_to, add_waiting, rank = self.boxes.append, self.tos.append, waiting.append, self.table.rank
-        same, numbers, high = reader.same if second else None, reader.numbers, self.high
+        same, numbers, high, variables = reader.same if second else None, reader.numbers, self.high, self.variables
         try:
             for k, (kind, line) in enumerate(zip(self.kinds, lines)):
                 add_box(box)
@@ -152,12 +162,9 @@ class Tree:
                     if depth == DEEPEST:
                         raise ValueError(f"a cut at a way of {DEEPEST} steps")
                     add_to(to)
-                    self.variables[k] = variable
-                    ends, depth = list(to), depth + 1  # type: ignore[arg-type]
-                    ends[place] = at
-                    add_waiting((tuple(ends), k, depth))
-                    ends[place], ends[place + 1] = to[place], at  # type: ignore[index]
-                    box = tuple(ends)
+                    variables[k], depth = variable, depth + 1
+                    box, upper = cut_at(to, place, at)  # type: ignore[arg-type]
+                    add_waiting((upper, k, depth))
                     continue
                 add_to(None if kind in "XO" else box if line[2:] == same else reader.ends(line[2:], box))
                 if waiting:
@@ -245,6 +252,21 @@ class Leaves(Tree):
         self.starts = range(len(leaves))
 
 
+def columns_of_ends(boxes: Sequence[Ends]) -> List[List[int]]:
+    """The first ends of all boxes, the second ones, and so on."""
+    ends = list(chain.from_iterable(boxes))
+    count = len(boxes[0]) if boxes else 0
+    return [ends[k::count] for k in range(count)]
+
+
+def cut_at(ends: Ends, place: int, at: int) -> Tuple[Ends, Ends]:
+    """The ends of the low and of the high half, where they are cut at a place."""
+    if len(ends) == 4:  # the usual case, without slices
+        a, b, c, d = ends
+        return ((a, b, c, at), (a, b, at, d)) if place else ((a, at, c, d), (at, b, c, d))
+    return (*ends[:place + 1], at, *ends[place + 2:]), (*ends[:place], at, *ends[place + 1:])
+
+
 def refused(row: int, fault: Exception) -> PavingError:
     """The error on a line whose reading ended so."""
     if isinstance(fault, KeyError):
@@ -252,11 +274,12 @@ def refused(row: int, fault: Exception) -> PavingError:
     return PavingError(row, str(fault))
 
 
-def words_of(lines: Sequence[str], more: Iterable[str]) -> Set[str]:
-    """The distinct words of lines, but for `=`."""
-    found = set(more)
+def words_of(lines: Sequence[str], more: Iterable[str]) -> Dict[str, None]:
+    """The distinct words of lines, but for `=`, in the order in which they come: so they lie in memory, and what goes over a
+    million of them takes a third less time than in a set's order."""
+    found = dict.fromkeys(more)
     for k in range(0, len(lines), CHUNK):
-        found.update(" ".join(lines[k:k + CHUNK]).replace(" =", "").split(" "))
+        found.update(dict.fromkeys(" ".join(lines[k:k + CHUNK]).replace(" =", "").split(" ")))
     return found
 
 

@@ -7,16 +7,18 @@ from __future__ import annotations
 
 import heapq
 import math
-from collections.abc import Iterator
+from collections.abc import Callable, Iterator
 from dataclasses import dataclass, field
 from fractions import Fraction
+from operator import itemgetter
 from time import monotonic
 
 from .canonical import System
-from .cover import Box
-from .numbers import INFINITE, wide, width
+from .cover import Box, kept_ends
+from .numbers import INFINITE, SCALE, wide
 from .paving import Parts, Paving
 from .ranges import decided
+from .tree import Ends, Table
 
 KINDS = ("small", "open")
 MOST, SECONDS, SHOWN = 1000, 2.0, 3
@@ -33,17 +35,34 @@ class Undecided:
     unbounded: int = 0
 
 
-def size_of(box: Box) -> int:
-    """A box's volume for a comparison, in grid forms; a place that is one point counts as narrow."""
-    widths = [width(*pair) for pair in box.grid]
-    return math.prod(max(1, min(w, INFINITE)) for w in widths)
+def sizes_of(table: Table) -> Callable[[tuple[str, Ends]], int]:
+    """What gives the volume of ends in a table for a comparison, in grid forms; a place that is one point counts as narrow."""
+    values, up = table.values, SCALE - table.shift
+
+    def size(leaf: tuple[str, Ends]) -> int:
+        ends = leaf[1]
+        widths = [values[ends[k + 1]] - values[ends[k]] for k in range(0, len(ends), 2)]
+        return math.prod([max(1, min(w << up, INFINITE)) for w in widths])
+
+    return size
+
+
+def greatest(paving: Paving | Parts, most: int) -> list[Box]:
+    """The small and open boxes of the greatest volumes, the greatest first and then in preorder."""
+    found: list[tuple[int, Box]] = []
+    for piece in paving.pieces():
+        size = sizes_of(piece.tree.table)
+        leaves = heapq.nlargest(most, kept_ends(piece, KINDS), key=size)
+        found += [(size(leaf), Box.of(leaf[0], piece.tree.table, leaf[1], paving.names)) for leaf in leaves]
+    return [box for _, box in heapq.nlargest(most, found, key=itemgetter(0))]
 
 
 def undecided(paving: Paving | Parts, system: System, most: int = MOST, seconds: float = SECONDS) -> Undecided:
-    """Looks at the greatest small and open boxes, until that many were looked at or the time is used up."""
+    """Looks at the greatest small and open boxes, until that many were looked at or the time for that is used up."""
     found = Undecided(sum(paving.counts()[kind] for kind in KINDS))
+    boxes = greatest(paving, most)
     until = monotonic() + seconds
-    for box in heapq.nlargest(most, paving.boxes(*KINDS), key=size_of):
+    for box in boxes:
         if monotonic() > until:
             break
         pairs = box.exact

@@ -58,6 +58,87 @@ ROBUST_HEAD = """
 `python3 -m paver robust SYSTEM --for-all p,q` asks for which values of the other variables all constraints hold, whatever p and q are in their domains ([ANSWERS.md](ANSWERS.md#for-all-values-of-some-variables)). Green is sure; grey is refuted, each box by one choice of p and q; yellow is neither. The answers are those that the plain paver's pavings come to.
 """
 
+ASKED = """
+## Questions on an answer
+
+What is asked of a paving once it is there, or of a call that was refused. `..` stands for lines that are left out here; what each says, and what it rests on, stands in [ANSWERS.md](ANSWERS.md#a-stored-paving).
+
+### What is undecided
+
+> Where is what is undecided, and by which constraints, so that I know what to widen, cut or scale?  
+
+```
+$ python3 -m paver summary examples/ring.mbx
+..
+undecided, looking at all 172 small and open boxes:
+  constraint 1 on 116, on 116 alone: x^2 + y^2 <= 4
+  constraint 0 on 56, on 56 alone: x^2 + y^2 >= 1
+..
+```
+
+### Scales
+
+> My variables have units of very different size: which scale would serve?  
+
+`pump.mbx` has `Variables speed in [0,4], flow in [0,40000]; Constraints speed^2 + flow <= 20000; end`.
+
+```
+$ python3 -m paver explain pump.mbx --scale
+..
+speed is 4 wide, 4 orders less than most: take speed in [0, 40000] and write speed*1e-4 in its place
+```
+
+### Points, volumes and the hull
+
+> In which part of the answer does a point lie, how great is it, and where does what is kept end?  
+
+```pycon
+>>> import math, paver
+>>> paving = paver.run("examples/ring.mbx", eps=0.0625).paving()
+>>> paving.where((1.5, 0)), paving.where(("0.3", "0.4")), paving.where((3, 0.5)), paving.where((4, 0))
+({'inner'}, {'removed'}, {'removed'}, {'outside'})
+>>> volumes = paving.volumes()
+>>> float(volumes["inner"]) < 3 * math.pi < float(volumes["inner"] + volumes["small"])
+True
+>>> paving.hull()
+((Fraction(-2, 1), Fraction(2, 1)), (Fraction(-2, 1), Fraction(2, 1)))
+```
+
+### An answer to another question
+
+> Is this file an answer to my system, with these settings? And what does a slice say where nothing was searched?  
+
+```
+$ paver run examples/ring.mbx --eps 0.25 --out ring.paving
+..
+$ python3 -m paver summary examples/ring.mbx ring.paving --eps 0.5
+paver: paving ring.paving: wrong identity: it is this system's with --eps 0.25, and the settings here are eps 0.5, depth 60, bisect largest, contract prop(8), form plain.
+$ python3 -m paver summary examples/two_discs.mbx ring.paving --eps 0.25
+paver: paving ring.paving: wrong identity: the file is of another system, or of other settings than eps 0.25, depth 60, bisect largest, contract prop(8), form plain; give those of its run.
+$ python3 -m paver plot examples/robust_pid.mbx --eps 0.5 --at kd=50 --picture slice.svg
+paver: kd = 50 lies outside the search box, whose ends are -2 and 4: of what is there nothing is said
+```
+
+### A refusal
+
+> Why is my text refused, or my call, and how is it written?  
+
+`between.mbx` has `Variables x in [0,4], y in [0,4]; Constraints 1 <= x + y <= 3; end`.
+
+```
+$ python3 -m paver explain between.mbx
+between.mbx, line 1, column 58: this can't stand here (Unexpected).
+    Variables x in [0,4], y in [0,4]; Constraints 1 <= x + y <= 3; end
+                                                             ^
+Expected here: an operator, `;` or `end`.
+A constraint has one relation: `a <= e <= b` is written `a <= e; e <= b`.
+..
+$ python3 -m paver explain run examples/ring.mbx --boxes 1000000
+..
+`--boxes 1000000`: a whole number from 1 to 100000 is expected; for more give `--limit 1000000`, too.
+```
+"""
+
 TITLES = {"pi_gains": "PI gains", "robust_pid": "Robust PID", "three_rpr": "3-RPR platform", "uncertain_pid": "Uncertain PID"}
 
 
@@ -198,7 +279,7 @@ def main():
     for name, searches in groupby(LEAST, key=lambda search: search[0]):
         text += least_entry(name, [words for _, words in searches], answers)
     text += levels_part() + ROBUST_HEAD + "".join(robust_entry(name, words, robust_answers()[name]) for name, words in ROBUST)
-    (TOP / "docs" / "GALLERY.md").write_text(text)
+    (TOP / "docs" / "GALLERY.md").write_text(text + ASKED)
 
 
 if __name__ == "__main__":

@@ -430,6 +430,37 @@ class Answers(PackageTest):
             self.assertEqual(status, 0)
             self.assertIn("as they stand", out)
 
+    def test_real_roots_are_kept(self) -> None:
+        """Drawn points of a circle, irrational as a rule, lie in kept boxes of its widened equation. Each is between two
+        rational points that are 2^-200 apart."""
+        paving, source = paver.run_text(widened(CIRCLE, "1e-9"), eps="0.01").paving(), random.Random(12)
+        self.assertGreater(paving.volumes()["removed"], 15)
+        for _ in range(DRAWS):
+            x = Fraction(source.randint(-1 << 30, 1 << 30), 1 << 30)
+            root = Fraction(math.isqrt(math.floor((1 - x * x) * (1 << 400))), 1 << 200) * source.choice((1, -1))
+            step = Fraction(source.choice((1, -1)), 1 << 200)
+            self.assertTrue((paving.where((x, root)) | paving.where((x, root + step))) & {"inner", "small"}, (x, root))
+
+    def check_stored(self, name, options):
+        """What a stored file says of drawn points is so: those of inner boxes are members, those of removed parts alone not."""
+        system, source = minibex.read(example(name).read_text()), random.Random(14)
+        counts = dict.fromkeys(("inner", "removed"), 0)
+        with tempfile.TemporaryDirectory() as folder:
+            path = Path(folder) / "p.paving"
+            paver.run(example(name), out=path, **options)
+            paving = paver.Paving.read(path, system=example(name))
+        for _ in range(DRAWS):
+            point = drawn(system.domains, source)
+            found = paving.where(point)
+            self.assertTrue(found <= {"inner", "small", "open", "removed"}, found)
+            if "inner" in found:
+                self.assertTrue(is_member(system, point), (found, point))
+            if found == {"removed"}:
+                self.assertFalse(is_member(system, point), point)
+            for kind in counts.keys() & found:
+                counts[kind] += 1
+        self.assertTrue(all(count > DRAWS // 100 for count in counts.values()), counts)
+
     def shown_by_draws(self, text, found, for_all, draws):
         """No drawn point of a sure box fails a constraint for any drawn values; of a refuted one each fails at its witness."""
         system, source = minibex.read(text), random.Random(17)
@@ -591,10 +622,10 @@ class Answers(PackageTest):
         self.assertEqual(len(found.boxes), min(200, found.total))
         self.assertEqual(found.total, sum(paving.counts()[k] for k in ("small", "open")))
         volumes = [box.volume for box, _ in found.boxes]
-        self.assertEqual(volumes, sorted(volumes, reverse=True))
+        self.assertEqual(volumes, sorted((box.volume for box in paving.boxes("small", "open")), reverse=True)[:200])
         self.assertTrue(all(numbers for _, numbers in found.boxes))
         settler = plain.Settler(plainly)
-        for _ in range(DRAWS // 20):
+        for _ in range(DRAWS // 5):
             box, undecided_there = source.choice(found.boxes)
             points = [drawn(box.exact, source) for _ in range(5)]
             for i, c in enumerate(plainly.constraints):
@@ -681,6 +712,11 @@ class Answers(PackageTest):
 
     def test_robust_command(self) -> None:
         self.each_row(((name, name, words) for name, words in ROBUST), self.check_robust_command)
+
+    def test_stored(self) -> None:
+        for name, options in (("two_discs", {"eps": "0.25"}), ("pi_gains", {"eps": "0.125"}), ("robust_pid", {"eps": "1"})):
+            with self.subTest(name):
+                self.check_stored(name, options)
 
     def test_undecided(self) -> None:
         for name, options in (("ring", {}), ("three_rpr", {"eps": "0.25"}), ("best_fit", {"eps": "0.05", "boxes": 3000})):

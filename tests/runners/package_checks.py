@@ -15,6 +15,7 @@ from typing import Any
 import paver
 from paver import kept as keeping, numbers, program
 from paver.advice import budget_warning
+from paver.tree import Table
 from tests.data.examples import EXAMPLES
 from tests.reference import numbers as plain
 from tests.runners.package_test import COMMANDS, PackageTest, example, options_of
@@ -92,6 +93,27 @@ class Calls(PackageTest):
         self.assertEqual(numbers.rounded(-Fraction(2) ** 600, True), "-" + top)
         for bad in ("1", "2:0", "01:0", "1:+1", "0:1", "-0:0", "oo", "1:-513", "1:00", " 1:0", "4611686018427387905:0"):
             self.assert_raised(numbers.NumberError, lambda bad=bad: numbers.grid(bad))
+
+    def test_floats_of_tables(self) -> None:
+        """The numbers of a paving stand in their order, each with the nearest floats on both sides, whatever else there is."""
+        source = random.Random(7)
+        for least, most, infinite in ((-60, 60, ""), (-512, 440, ""), (-60, 60, "-oo +oo")):
+            values: dict[str, Fraction | float] = {word: float(word.replace("oo", "inf")) for word in infinite.split()}
+            values["0:0"] = Fraction(0)
+            for _ in range(10_000):
+                mantissa = (source.getrandbits(source.randrange(1, 63)) | 1) * source.choice((1, -1))
+                exponent = source.randint(least, most)
+                values[f"{mantissa}:{exponent}"] = Fraction(mantissa) * Fraction(2) ** exponent
+            table = Table([*values, "I", "1", "2:0"])
+            self.assertEqual([values[word] for word in table.words], sorted(values.values()))
+            for word, low, high in zip(table.words, table.floats(False), table.floats(True)):
+                value = values[word]
+                self.assertTrue(low <= value <= high, word)
+                if low == high:
+                    self.assertEqual(low, value)
+                else:
+                    self.assertEqual(math.nextafter(low, math.inf), high)
+                    self.assertNotIn(value, (low, high))
 
     def test_minibex_numbers(self) -> None:
         for value, text in ((Fraction(1, 8), "0.125"), (Fraction(-5, 2), "-2.5"), (Fraction(7), "7"), (Fraction(1, 3), None),

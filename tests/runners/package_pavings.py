@@ -3,14 +3,17 @@ from __future__ import annotations
 
 import csv
 import io
+import math
 import random
 import re
 import xml.dom.minidom
 from fractions import Fraction
+from itertools import zip_longest
 from typing import Callable, Iterable
 
 import paver
 from paver import picture, plots
+from paver.cover import KEPT
 from tests.data.examples import EXAMPLES, settings_of
 from tests.reference import files, minibex
 from tests.reference.numbers import UNIT, spelling
@@ -266,6 +269,13 @@ class Pavings(PackageTest):
             wanted = [kind for kind, box in known.kept() if all(box[k][0] <= v <= box[k][1] for k, v in fixed.items())]
             found = [kind for kind, *_ in plots.rectangles(known.paving, x, y, at)]
             self.assertEqual([kind for kind in found if kind != "removed"], wanted)
+            kept = [(kind, *[box[names.index(name)] for name in (x, y)]) for kind, box in known.kept()
+                    if all(box[k][0] <= v <= box[k][1] for k, v in fixed.items())]
+            for rectangle, box in zip_longest(plots.rectangles(known.paving, x, y, at, KEPT), kept, fillvalue=()):
+                self.assertEqual(rectangle[0], box[0])
+                for (low, high), pair in zip(rectangle[1:], box[1:]):
+                    self.assertTrue(low <= pair[0] and pair[1] <= high, (rectangle, box))
+                    self.assertTrue(math.nextafter(low, math.inf) > pair[0] and math.nextafter(high, -math.inf) < pair[1])
         shadows = {(kind, box[0], box[1]) for kind, box in known.kept()}
         drawn = list(plots.projection(known.paving, names[0], names[1]))
         self.assertEqual(len(drawn), len(shadows))

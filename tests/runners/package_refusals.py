@@ -1,13 +1,19 @@
 """Checks of what the package says where the program refuses: options of every command, and forms of other languages."""
 from __future__ import annotations
 
+import doctest
+import re
+import shlex
 import tempfile
+from fractions import Fraction
 from pathlib import Path
 
 import paver
 from paver import options
-from tests.runners.package_test import PackageTest, command, example
-from tests.runners.running import main
+from tests.reference import minibex
+from tests.reference import paver as plain
+from tests.runners.package_test import PackageTest, at, command, example
+from tests.runners.running import TOP, main
 
 TEXTS = [  # what is written, the place of the caret, and what is said
     ("Variables x in [0,4]; Constraints 0 <= x <= 1; end", 41, "`a <= e; e <= b`"),
@@ -29,6 +35,10 @@ PLAIN = [  # texts at which none of these sentences would be right
     "Variables x in [0,4]; Constraints x <= 1; x <= 1 +; end", "Variables x in [0,4]; Constraints f(x, 1) <= 1; end",
     "Variables x in [0,4]; Constraints x <= 1, x >= 0; end", "Variables x in [0,4]; Constraints x * / 2 <= 1; end",
 ]
+TAKEN = [  # words that the program takes, wherever the limit stands
+    ["run", "S", "--boxes", "200000", "--limit", "200000", "--eps", "1"],
+    ["run", "S", "--limit", "200000", "--boxes", "200000", "--eps", "1"],
+]
 HINTS = ("is written", "begins with a digit")
 WORDS = [  # of each command words that the program refuses, and a part of the sentence
     (["run", "S", "--width", "1"], "`--width` is no option of run: run takes --eps,"),
@@ -36,11 +46,16 @@ WORDS = [  # of each command words that the program refuses, and a part of the s
     (["run", "S", "T"], "`run` takes one SYSTEM: 2 names are given."),
     (["run"], "`run` takes one SYSTEM: 0 names are given."),
     (["run", "S", "--workers", "17"], "a whole number from 1 to 16"),
-    (["run", "S", "--boxes=100001"], "a whole number from 1 to 100000"),
+    (["run", "S", "--boxes=100001"], "a whole number from 1 to 100000 is expected; for more give `--limit 100001`, too."),
+    (["run", "S", "--boxes", "0"], "a whole number from 1 to 100000 is expected."),
+    (["run", "S", "--boxes", "100000001"], "a whole number from 1 to 100000 is expected."),
+    (["run", "S", "--boxes", "200001", "--limit", "200000"], "a whole number from 1 to 200000"),
     (["run", "S", "--eps", "1", "--eps", "2"], "`--eps` is given twice."),
     (["run", "S", "--limit", "99999"], "a whole number from 100000 to 100000000"),
     (["run", "S", "--form", "center"], "`plain` or `centered` is expected"),
-    (["run", "S", "--eps", "1e-40"], "`--eps 1e-40`"),
+    (["run", "S", "--eps", "1e-40"], "an unsigned number as 0.5 or 1e-3 is expected, of at most 37 digits"),
+    (["run", "S", "--eps", "1e37"], "an unsigned number as 0.5 or 1e-3 is expected, of at most 37 digits"),
+    (["run", "S", "--eps", ".5e-1"], "an unsigned number as 0.5 or 1e-3 is expected: write `0.5e-1`."),
     (["run", "S", "--bisect"], "`--bisect` needs a value."),
     (["run", "S", "-e", "1"], "`-e` is no option of run"),
     (["check", "S", "--eps", "1"], "check takes none"),
@@ -113,12 +128,56 @@ class Refusals(PackageTest):
                 status, out, err = command("explain", *words)
                 self.assertEqual((status, err), (2, ""), (words, out))
                 self.assertIn(phrase, out, (words, out))
+            for words in TAKEN:
+                words = [str(system) if word == "S" else word for word in words]
+                self.assertEqual(paver.program.call(words)[0], 0, words)
+                self.assertEqual(command("explain", *words)[0], 0, words)
             status, out, err = command("explain", "audit", system, other)
             self.assertEqual((status, err), (2, ""), out)
             self.assertIn("it is this system's with --eps 2", out, out)
             status, out, err = command("explain", "audit", system, other, "--eps", "2")
             self.assertEqual((status, err), (0, ""), out)
             self.assertIn("it is taken", out, out)
+
+    def test_questions_of_gallery(self) -> None:
+        """Each command of the gallery's last part says what stands below it, and each call has its answer."""
+        text = (TOP / "docs" / "GALLERY.md").read_text().split("\n## Questions on an answer\n")[1]
+        with tempfile.TemporaryDirectory() as folder, at(folder):
+            (Path(folder) / "examples").symlink_to(TOP / "examples")
+            for name, system in re.findall(r"^`(\w+\.mbx)` has `(.*)`\.$", text, re.M):
+                Path(name).write_text(system)
+            shown = re.findall(r"^\$ (.*)\n((?:(?!\$ |```).*\n)*)", text, re.M)
+            self.assertEqual(len(shown), 8, shown)
+            for line, said in shown:
+                with self.subTest(line):
+                    wanted = "(.*\n)*".join([re.escape(part) for part in said.split("..\n")])
+                    self.assertRegex(self.said_by(shlex.split(line)), re.compile(rf"\A{wanted}\Z"))
+            calls = doctest.DocTestParser().get_doctest("\n".join(re.findall("^(?:>>> |[({T]).*$", text, re.M)) + "\n", {},
+                                                        "calls", "GALLERY.md", 0)
+            self.assertEqual(tuple(doctest.DocTestRunner(verbose=False).run(calls)), (0, 6))
+
+    def said_by(self, words: list[str]) -> str:
+        """All that a shown command prints."""
+        if words[0] == "paver":
+            return "".join(paver.program.call(words[1:])[1:])
+        return "".join(command(*words[3:])[1:])
+
+    def test_undecided_of_ring(self) -> None:
+        """What the gallery says of the ring's constraints, from the plain paver's small boxes: on each the squares add up to
+        the least at the point that is nearest to the origin, and to the most at a corner."""
+        _, lines = plain.pave(plain.Settler(minibex.read(example("ring").read_text())))
+        undecided = [0, 0]
+        for words in (line.split(" ")[1:] for line in lines if line[0] == "S"):
+            ends = [Fraction(mantissa) * Fraction(2) ** int(exponent) for mantissa, exponent in (w.split(":") for w in words)]
+            pairs = list(zip(ends[::2], ends[1::2]))
+            least = sum(min(low * low, high * high) for low, high in pairs if not low <= 0 <= high)
+            most = sum(max(low * low, high * high) for low, high in pairs)
+            undecided[0] += least < 1 <= most
+            undecided[1] += least <= 4 < most
+        text = (TOP / "docs" / "GALLERY.md").read_text()
+        self.assertIn(f"  constraint 0 on {undecided[0]}, on {undecided[0]} alone: x^2 + y^2 >= 1\n", text)
+        self.assertIn(f"  constraint 1 on {undecided[1]}, on {undecided[1]} alone: x^2 + y^2 <= 4\n", text)
+        self.assertIn(f"looking at all {sum(undecided)} small and open boxes", text)
 
     def test_table_of_options(self) -> None:
         """The package's table of options is the program's: each is taken where the table has it, and refused elsewhere."""

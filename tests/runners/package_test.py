@@ -3,10 +3,11 @@ from __future__ import annotations
 
 import contextlib
 import io
+import os
 import shutil
 import unittest
 from pathlib import Path
-from typing import Any, Callable
+from typing import Any, Callable, Iterator
 
 from paver import __main__ as commands
 from paver import program
@@ -29,6 +30,17 @@ def command(*words: Any) -> tuple[int, str, str]:
     with contextlib.redirect_stdout(out), contextlib.redirect_stderr(err):
         status = commands.main([str(word) for word in words])
     return status, out.getvalue(), err.getvalue()
+
+
+@contextlib.contextmanager
+def at(folder: str | Path) -> Iterator[None]:
+    """Works in a folder for a while."""
+    before = os.getcwd()
+    os.chdir(folder)
+    try:
+        yield
+    finally:
+        os.chdir(before)
 
 
 class PackageTest(unittest.TestCase):

@@ -17,8 +17,9 @@ from typing import Any
 
 import paver
 from paver import notebook, numbers
+from paver.box import hull_of
 from paver.cover import Cover
-from tests.runners.package_test import PackageTest, example
+from tests.runners.package_test import PackageTest, at, example
 from tests.runners.running import TOP, main
 
 TRIANGLE = "Variables x in [0,4], y in [0,4]; Constraints x + y <= 3; end"
@@ -112,19 +113,15 @@ class Users(PackageTest):
         names: dict[str, Any] = {}
         said: list[str] = []
         count = 0
-        before = os.getcwd()
         with tempfile.TemporaryDirectory() as folder:
             for name in ("examples", "README.md"):
                 (Path(folder) / name).symlink_to(TOP / name)
-            os.chdir(folder)
-            try:
+            with at(folder):
                 for number, block in enumerate(blocks):
                     test = doctest.DocTestParser().get_doctest(block, names, f"block {number}", "README.md", 0)
                     runner = doctest.DocTestRunner(verbose=False, optionflags=doctest.NORMALIZE_WHITESPACE)
                     count += runner.run(test, out=said.append, clear_globs=False).attempted
                     names = test.globs
-            finally:
-                os.chdir(before)
         self.assertFalse(said, "".join(said))
         self.assertGreater(count, 30, "".join(said))
 
@@ -151,6 +148,19 @@ class Users(PackageTest):
         self.assert_raised(ValueError, lambda: [box.centre for box in far.boxes()])
         widths = [box.width for box in paving.greatest(4)]
         self.assertEqual(widths, sorted((box.width for box in paving.small()), reverse=True)[:4])
+
+    def test_hull_of_any_boxes(self) -> None:
+        """The hull of boxes of several pavings, and of boxes that were made by their texts."""
+        source = random.Random(8)
+        pavings = [paver.run_text(TRIANGLE, eps=eps).paving() for eps in (0.5, 0.3)]
+        pool = [box for paving in pavings for box in paving.boxes()]
+        pool += [paver.Box(box.kind, box.words) for box in pool]
+        pool += list(paver.run_text("Variables x, y; Constraints x*y >= 1; end", depth=5).paving().boxes())
+        for _ in range(300):
+            boxes = source.sample(pool, source.randrange(1, 9))
+            wanted = tuple((min(box[k][0] for box in boxes), max(box[k][1] for box in boxes)) for k in range(2))
+            self.assertEqual(hull_of(iter(boxes)), wanted)
+        self.assertIsNone(hull_of([]))
 
     def test_points_against_boxes(self) -> None:
         """A descent finds the classes that a look at every box finds, on points on faces, inside and outside."""
@@ -251,12 +261,26 @@ class Users(PackageTest):
         for k in range(1000):
             paving.where((Fraction(k, 1000), Fraction(k, 997)))
         point = (clock() - begun) / 1000
+        begun = clock()
         volumes, hull, counts = paving.volumes(), paving.hull(), paving.counts()
+        asked = clock() - begun
+        begun, table = clock(), io.StringIO()
+        paving.write_csv(table)
+        written = clock() - begun
+        begun = clock()
+        picture = paver.svg(paving)
+        drawn = clock() - begun
         begun = clock()
         clusters = paving.clusters()
         grouped = clock() - begun
         print(f"a paving of {len(lines)} nodes: read in {read:.2f} s, its numbers in {passed:.2f} s, a point in "
-              f"{1000 * point:.3f} ms, clusters in {grouped:.1f} s")
+              f"{1000 * point:.3f} ms, volumes and hull in {asked:.2f} s, CSV in {written:.2f} s, a picture in {drawn:.2f} s, "
+              f"clusters in {grouped:.1f} s")
+        self.assertLess(asked, 4)
+        self.assertLess(written, 10)
+        self.assertLess(drawn, 20)
+        self.assertEqual(table.getvalue().count("\n"), 1 + counts["inner"] + counts["small"])
+        self.assertTrue(picture.endswith("</svg>\n"))
         self.assertLess(read, 4)
         self.assertLess(passed, 16)
         self.assertLess(point, 0.001)
