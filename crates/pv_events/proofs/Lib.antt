@@ -1,0 +1,5 @@
+pub mod Marked
+pub mod Keeping
+pub mod Absorbing
+pub mod Runs
+pub mod Wholes
