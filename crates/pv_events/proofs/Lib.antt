@@ -3,3 +3,4 @@ pub mod Keeping
 pub mod Absorbing
 pub mod Runs
 pub mod Wholes
+pub mod Answers

@@ -1,5 +1,6 @@
 //! What holds after every list of events, as contracts. Each holds by its contract alone, and the
 //! calls do nothing.
+ghost use Rattle.pv_events.specs.Answers.{AbsorptionsAreEvents, AnnouncementsAreEvents, DeskLooksAreEvents, ExtensionsAreEvents, LooksAreEvents, RecallsAreEvents, ReturnsAreEvents, RunsJoin, SettlingsAreEvents, StagesAreEvents, StopsAreEvents, TakesAreEvents};
 ghost use Rattle.pv_events.specs.Runs.{RunsAreRight, OpenedRunsAreRight, OverRunsAreWhole};
 
 /// After every list of events, in whatever order callers made them, a board is right: its paving is
@@ -16,4 +17,22 @@ pub fn runs()
 /// something is left.
 pub fn whole_runs()
     ensures { OverRunsAreWhole }
+{}
+
+/// What the clauses of the calls of a board, and of what lies under its lock, say of the board before
+/// and after makes each call one event or none, as the answer tells. So calls one after another, by
+/// whomever, are a list of events.
+pub fn calls_are_events()
+    ensures take { TakesAreEvents }
+    ensures look { LooksAreEvents }
+    ensures desk_look { DeskLooksAreEvents }
+    ensures settle { SettlingsAreEvents }
+    ensures settle_stage { StagesAreEvents }
+    ensures extend { ExtensionsAreEvents }
+    ensures give_back { ReturnsAreEvents }
+    ensures stop { StopsAreEvents }
+    ensures announce { AnnouncementsAreEvents }
+    ensures recall { RecallsAreEvents }
+    ensures absorb { AbsorptionsAreEvents }
+    ensures join { RunsJoin }
 {}
