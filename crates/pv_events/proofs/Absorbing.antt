@@ -72,8 +72,10 @@ module _ (rule : Rule) (depth : ℕ) (root : List Bounds) (opening : Tree) (budg
   is_now p = elim (apart_or (holds old.marks) p) [
     | inl a ↦ inl (k.is.tree.others p a)
     | inr b ↦
-      inr (ap (outcome_at new.tree) b.2 ∙ leaf_below new.tree b.0 b.1 (k.is.tree.issued b.0 b.3),
-        ap (outcome_at old.tree) b.2 ∙ leaf_below old.tree b.0 b.1 (h.are_open b.0 (held_marked old.marks b.0 b.3)))
+        inr (
+          ap (outcome_at new.tree) b.2 ∙ leaf_below new.tree b.0 b.1 (k.is.tree.issued b.0 b.3),
+          ap (outcome_at old.tree) b.2 ∙ leaf_below old.tree b.0 b.1 (h.are_open b.0 (held_marked old.marks b.0 b.3)),
+        )
   ]
 
   pub absorbed_grown : Grows old.tree new.tree

@@ -71,10 +71,10 @@ module _ (rule : Rule) (depth : ℕ) (root : List Bounds) (opening : Tree) (budg
         elim (meet t.path q) [
           | inl z ↦ omega (arith, m, f, z)
           | inr e ↦
-            let z : holds old.marks q ≡ 0 = ap (holds old.marks) (sym e) ∙ k.is_fresh in
-            let w = marked_holds old.marks q in let a = at_least t.path q 1 in
-            let o = open_once old.tree q (ap (subtree old.tree) (sym e) ∙ k.is_open) in
-            omega (arith, m, z, w, a, o)
+              let z : holds old.marks q ≡ 0 = ap (holds old.marks) (sym e) ∙ k.is_fresh in
+              let w = marked_holds old.marks q in let a = at_least t.path q 1 in
+              let o = open_once old.tree q (ap (subtree old.tree) (sym e) ∙ k.is_open) in
+              omega (arith, m, z, w, a, o)
         ]
 
     took_holds : (q : List Bool) → holds new.marks q ≤ 16
@@ -83,8 +83,8 @@ module _ (rule : Rule) (depth : ℕ) (root : List Bounds) (opening : Tree) (budg
         elim (meet t.path q) [
           | inl z ↦ let n = at_none t.path q (suc t.grant) z in omega (arith, m, f, n)
           | inr e ↦
-            let z : holds old.marks q ≡ 0 = ap (holds old.marks) (sym e) ∙ k.is_fresh in
-            let a = at_least t.path q (suc t.grant) in omega (arith, m, z, a, g)
+              let z : holds old.marks q ≡ 0 = ap (holds old.marks) (sym e) ∙ k.is_fresh in
+              let a = at_least t.path q (suc t.grant) in omega (arith, m, z, a, g)
         ]
 
     pub took_core : Is new
@@ -104,8 +104,8 @@ module _ (rule : Rule) (depth : ℕ) (root : List Bounds) (opening : Tree) (budg
         elim (meet t.path q) [
           | inl z ↦ let a = at_none t.path q (suc t.grant) z in let b = at_none t.path q (suc (t.grant + units)) z in omega (arith, m, f, a, b)
           | inr e ↦
-            let z : holds old.marks q ≡ suc t.grant = ap (holds old.marks) (sym e) ∙ current_held old t k.current in
-            let a = at_is t.path q (suc t.grant) e in let b = at_is t.path q (suc (t.grant + units)) e in omega (arith, m, z, a, b, few)
+              let z : holds old.marks q ≡ suc t.grant = ap (holds old.marks) (sym e) ∙ current_held old t k.current in
+              let a = at_is t.path q (suc t.grant) e in let b = at_is t.path q (suc (t.grant + units)) e in omega (arith, m, z, a, b, few)
         ]
 
     pub extended_core : Is new
@@ -170,10 +170,10 @@ module _ (rule : Rule) (depth : ℕ) (root : List Bounds) (opening : Tree) (budg
         elim (meet t.path q) [
           | inl z ↦ apart z (marked children q) refl
           | inr e ↦
-            let held : holds old.marks q ≡ suc t.grant = ap (holds old.marks) (sym e) ∙ current_held old t k.current in
-            let some = held_marked old.marks q (omega (arith, held)) in
-            let x = at_is t.path q 1 e in let y = at_is t.path q (suc t.grant) e in
-            omega (arith, a, b, c, f, once, held, some, x, y)
+              let held : holds old.marks q ≡ suc t.grant = ap (holds old.marks) (sym e) ∙ current_held old t k.current in
+              let some = held_marked old.marks q (omega (arith, held)) in
+              let x = at_is t.path q 1 e in let y = at_is t.path q (suc t.grant) e in
+              omega (arith, a, b, c, f, once, held, some, x, y)
         ]
       where
         apart : at t.path q 1 ≡ 0 → (n : ℕ) → marked children q ≡ n → holds new.marks q ≤ 16

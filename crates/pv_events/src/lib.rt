@@ -2,4 +2,5 @@
 //! and that each call of the board is one event or none.
 #![tactic(auto)]
 
+pub mod calls;
 pub mod laws;
