@@ -4,3 +4,4 @@ pub mod Absorbing
 pub mod Runs
 pub mod Wholes
 pub mod Answers
+pub mod Ends

@@ -14,7 +14,8 @@ use Rattle.pv_board.specs.Events.{free_units, may_issue, IsOver}
 use Rattle.pv_board.proofs.Paths.{at_self}
 use Rattle.pv_board.proofs.Growth.{once_open, grows_settled}
 use Rattle.pv_events.specs.Steps.{Event, took, extended, became, gave_back, halted, announced, recalled, absorbed, Step, Run, settles, absorbs, halts}
-use Rattle.pv_events.specs.Runs.{IsBegun, IsRightOf, IsWhole, OverRunsAreWhole}
+use Rattle.pv_join.specs.Joins.{Agree}
+use Rattle.pv_events.specs.Runs.{IsBegun, IsRightOf, IsWhole, OverRunsAreWhole, RunsAgree}
 use Rattle.pv_events.proofs.Runs.{opened_right}
 
 -- a tree that grew and has no more settled nodes is the tree
@@ -68,7 +69,7 @@ no_opens : (ps : List (List Bool)) → ((q : List Bool) → 0 < times q ps → �
 no_opens [] h = refl
 no_opens (p ∷ ps) h = absurd (h p (let s = at_self p 1 in omega (arith, s)))
 
-running : (stopped : Bool) (left : ℕ) → stopped ≡ false → 0 < left → 0 < free_units stopped left
+pub running : (stopped : Bool) (left : ℕ) → stopped ≡ false → 0 < left → 0 < free_units stopped left
 running stopped left e h = subst (λ (b : Bool). 0 < free_units b left) (sym e) h
 
 -- where something is left and nothing can be taken, no leaf is open
@@ -107,3 +108,12 @@ module _ (rule : Rule) (depth dims : ℕ) (root : List Bounds) (opening : Tree) 
 
 pub over_runs_are_whole : OverRunsAreWhole
 over_runs_are_whole rule depth dims root opening budget limit events old new o begun run goes over = over_whole rule depth dims root opening budget limit o events old new begun run goes over
+
+-- stages of one full tree agree
+both_within : (a b f : Tree) → Grows a f → Grows b f → Agree a b
+both_within a b f h k p o u e w = let x : Some o ≡ Some u = sym (h p o e) ∙ k p u w in cc
+
+pub runs_agree : RunsAgree
+runs_agree rule depth dims root opening budget limit budget' limit' xs ys a b c d o h k run run' =
+    let x = opened_right rule depth dims root opening budget limit o xs a b h run in let y = opened_right rule depth dims root opening budget' limit' o ys c d k run' in
+    both_within b.tree d.tree (full_of rule depth root opening 0) x.core.stage.grows y.core.stage.grows

@@ -3,6 +3,7 @@ use Rattle.std.specs.Prelude.{◌≡◌, ℕ, ◌+◌, ◌<◌, ◌≤◌, ◌�
 use Rattle.pv_interval.specs.Bounds.{Bounds}
 use Rattle.pv_tree.specs.Trees.{Tree}
 use Rattle.pv_tree.specs.Stages.{Rule, Grows, full_of}
+use Rattle.pv_join.specs.Joins.{Agree}
 use Rattle.pv_board.specs.Marks.{weigh}
 use Rattle.pv_board.specs.Rules.{settled_in}
 use Rattle.pv_board.specs.Core.{Core, IsCore, IsOpening}
@@ -54,3 +55,23 @@ OverRunsAreWhole =
     (rule : Rule) (depth dims : ℕ) (root : List Bounds) (opening : Tree) (budget limit : ℕ) (events : List Event) (old new : Core)
     → IsOpening rule depth dims root opening → IsBegun root opening budget limit old → Run rule depth root opening limit events old new
     → weigh halts events ≡ 0 → IsOver new → IsWhole rule depth root opening budget events new
+
+-- Two lists of events on one opening, wherever they end, settle no node differently.
+abbrev pub RunsAgree : Type 0
+RunsAgree =
+    (rule : Rule) (depth dims : ℕ) (root : List Bounds) (opening : Tree) (budget limit budget' limit' : ℕ) (xs ys : List Event) (a b c d : Core)
+    → IsOpening rule depth dims root opening → IsBegun root opening budget limit a → IsBegun root opening budget' limit' c
+    → Run rule depth root opening limit xs a b → Run rule depth root opening limit' ys c d → Agree b.tree d.tree
+
+-- Some events, none of which stops the board, lead to where nothing is issued and nothing can be taken.
+pub record CanEnd (rule : Rule) (depth : ℕ) (root : List Bounds) (opening : Tree) (limit : ℕ) (c : Core) : Type 0 where
+  pub events : List Event
+  pub last : Core
+  pub run : Run rule depth root opening limit events c last
+  pub goes : weigh halts events ≡ 0
+  pub over : IsOver last
+
+abbrev pub BoardsCanEnd : Type 0
+BoardsCanEnd =
+    (rule : Rule) (depth dims : ℕ) (root : List Bounds) (opening : Tree) (budget limit : ℕ) (c : Core)
+    → IsOpening rule depth dims root opening → IsBegun root opening budget limit c → CanEnd rule depth root opening limit c

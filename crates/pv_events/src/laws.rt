@@ -1,7 +1,7 @@
 //! What holds after every list of events, as contracts. Each holds by its contract alone, and the
 //! calls do nothing.
 ghost use Rattle.pv_events.specs.Answers.{AbsorptionsAreEvents, AnnouncementsAreEvents, DeskLooksAreEvents, ExtensionsAreEvents, LooksAreEvents, RecallsAreEvents, ReturnsAreEvents, RunsJoin, SettlingsAreEvents, StagesAreEvents, StopsAreEvents, TakesAreEvents};
-ghost use Rattle.pv_events.specs.Runs.{RunsAreRight, OpenedRunsAreRight, OverRunsAreWhole};
+ghost use Rattle.pv_events.specs.Runs.{BoardsCanEnd, OpenedRunsAreRight, OverRunsAreWhole, RunsAgree, RunsAreRight};
 
 /// After every list of events, in whatever order callers made them, a board is right: its paving is
 /// a stage of the opening, the issued paths are distinct open leaves of it, and used, issued,
@@ -14,9 +14,12 @@ pub fn runs()
 
 /// Where nothing is issued and nothing can be taken, and nobody stopped the board, its paving is the
 /// full tree exactly where the budget is enough for it, beside what was absorbed. It is so where
-/// something is left.
+/// something is left. Each board can come to such an end, and two lists of events never settle a node
+/// differently.
 pub fn whole_runs()
-    ensures { OverRunsAreWhole }
+    ensures whole { OverRunsAreWhole }
+    ensures can_end { BoardsCanEnd }
+    ensures agree { RunsAgree }
 {}
 
 /// What the clauses of the calls of a board, and of what lies under its lock, say of the board before
