@@ -51,6 +51,7 @@ settlings_are_events rule depth dims root opening limit old new t o true childre
     let step : IsSettled rule depth root opening old new t (settled o) children = record {
       current = sym current;
       due = outcome_due rule depth dims root opening (box_of root (full_of rule depth root opening 0) t.path) (length t.path) o h due;
+      some = omega (arith, one);
       enough = omega (arith, one);
       is = is refl;
     } in
@@ -58,16 +59,17 @@ settlings_are_events rule depth dims root opening limit old new t o true childre
 settlings_are_events rule depth dims root opening limit old new t o false children h due current is stale = (stale refl).0
 
 pub stages_are_events : StagesAreEvents
-stages_are_events rule depth root opening limit old new t b s children handed.Taken at_root due h =
+stages_are_events rule depth root opening limit old new t b s children handed.Taken at_root due some h =
     let step : IsSettled rule depth root opening old new t s children = record {
       current = h.0;
       due = subst (λ (x : List Bounds). IsStageBelow rule depth x (length t.path) s) at_root due;
+      some = some;
       enough = h.1;
       is = h.2;
     } in
     (new, step, refl)
-stages_are_events rule depth root opening limit old new t b s children handed.Stale at_root due h = h.1
-stages_are_events rule depth root opening limit old new t b s children handed.Short at_root due h =
+stages_are_events rule depth root opening limit old new t b s children handed.Stale at_root due some h = h.1
+stages_are_events rule depth root opening limit old new t b s children handed.Short at_root due some h =
     let step : IsGiven old new t = record { current = h.0; is = h.2 } in (new, step, refl)
 
 -- what is granted is no more than what was wanted

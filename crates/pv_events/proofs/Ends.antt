@@ -87,6 +87,7 @@ module _ (rule : Rule) (depth dims : ℕ) (root : List Bounds) (opening : Tree) 
             let z : holds ms p ≡ 0 = ap (λ (xs : List Mark). holds xs p) none in
             let s = at_self p 1 in omega (arith, h, z, s));
         due = outcome_due rule depth dims root opening (box_of root (full_of rule depth root opening 0) p) (length p) (rule (box_of root (full_of rule depth root opening 0) p) (depth - length p) (length p)) o refl;
+        some = omega (arith, one);
         enough = omega (arith, one);
         is = record {
           tree = refl;

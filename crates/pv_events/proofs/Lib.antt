@@ -5,3 +5,4 @@ pub mod Runs
 pub mod Wholes
 pub mod Answers
 pub mod Ends
+pub mod Once

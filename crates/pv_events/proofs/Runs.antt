@@ -20,7 +20,7 @@ module _ (rule : Rule) (depth dims : ℕ) (root : List Bounds) (opening : Tree) 
   Is c = IsCore rule depth root opening budget limit c
 
   -- what one event keeps and counts
-  record IsKept (n m : ℕ) (old new : Core) : Type 0 where
+  pub record IsKept (n m : ℕ) (old new : Core) : Type 0 where
     pub core : Is new
     pub grown : Grows old.tree new.tree
     pub used : new.used ≡ old.used + n
@@ -35,7 +35,7 @@ module _ (rule : Rule) (depth dims : ℕ) (root : List Bounds) (opening : Tree) 
     settled = let e = ap settled_in t in omega (arith, e);
   }
 
-  step_kept : (e : Event) (old new : Core) → Is old → Step rule depth root opening limit e old new → IsKept (settles e) (absorbs e) old new
+  pub step_kept : (e : Event) (old new : Core) → Is old → Step rule depth root opening limit e old new → IsKept (settles e) (absorbs e) old new
   step_kept (took t) old new h k =
       same_tree old new (took_core rule depth root opening budget limit old new t h k) (ap (λ (c : Core). c.tree) k.rest) (ap (λ (c : Core). c.used) k.rest)
   step_kept (extended t units) old new h k =

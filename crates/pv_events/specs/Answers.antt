@@ -10,7 +10,7 @@ use Rattle.pv_board.specs.declared.ticket.Look.TheVariants as look
 use Rattle.pv_board.specs.declared.ticket.Handed.{Handed}
 use Rattle.pv_board.specs.declared.ticket.Handed.TheVariants as handed
 use Rattle.pv_board.specs.declared.absorbing.AbsorbRefused.{AbsorbRefused}
-use Rattle.pv_board.specs.Rules.{IsStageBelow}
+use Rattle.pv_board.specs.Rules.{IsStageBelow, settled_in}
 use Rattle.pv_board.specs.Core.{Core, IsCore, IsOpening}
 use Rattle.pv_board.specs.Events.{is_current, may_issue, next_step, IsTake, IsExtend, IsSettling, IsHandedIn, IsGiveBack, IsRecall, IsLook}
 use Rattle.pv_board.specs.Absorbing.{IsAbsorbed}
@@ -69,11 +69,11 @@ SettlingsAreEvents =
     → fresh ≡ is_current old t → (IsTrue fresh → IsSettling old new t (settled o) children) → (fresh ≡ false → (new ≡ old) × (children ≡ []))
     → Run rule depth root opening limit (one_where fresh (became t (settled o) children)) old new
 
--- The stage is one of the box of the ticket's path.
+-- The stage is one of the box of the ticket's path, and has a settled node.
 abbrev pub StagesAreEvents : Type 0
 StagesAreEvents =
     (rule : Rule) (depth : ℕ) (root : List Bounds) (opening : Tree) (limit : ℕ) (old new : Core) (t : Mark) (b : List Bounds) (s : Tree) (children : List Mark) (answer : Handed)
-    → b ≡ box_of root (full_of rule depth root opening 0) t.path → IsStageBelow rule depth b (length t.path) s
+    → b ≡ box_of root (full_of rule depth root opening 0) t.path → IsStageBelow rule depth b (length t.path) s → 1 ≤ settled_in s
     → IsHandedIn old new t s children answer → Run rule depth root opening limit (handing_in t s children answer) old new
 
 abbrev pub ExtensionsAreEvents : Type 0

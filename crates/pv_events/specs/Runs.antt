@@ -1,7 +1,7 @@
 -- What holds after every list of events, in whatever order they come.
-use Rattle.std.specs.Prelude.{◌≡◌, ℕ, ◌+◌, ◌<◌, ◌≤◌, ◌↔◌, false, List}
+use Rattle.std.specs.Prelude.{◌≡◌, ◌≢◌, ℕ, ◌+◌, ◌<◌, ◌≤◌, ◌↔◌, Bool, None, List}
 use Rattle.pv_interval.specs.Bounds.{Bounds}
-use Rattle.pv_tree.specs.Trees.{Tree}
+use Rattle.pv_tree.specs.Trees.{Tree, outcome_at}
 use Rattle.pv_tree.specs.Stages.{Rule, Grows, full_of}
 use Rattle.pv_join.specs.Joins.{Agree}
 use Rattle.pv_board.specs.Marks.{weigh}
@@ -9,7 +9,7 @@ use Rattle.pv_board.specs.Rules.{settled_in}
 use Rattle.pv_board.specs.Core.{Core, IsCore, IsOpening}
 use Rattle.pv_board.specs.Events.{IsOver}
 use Rattle.pv_board.specs.Openings.{IsOpened}
-use Rattle.pv_events.specs.Steps.{Event, Run, settles, absorbs, halts}
+use Rattle.pv_events.specs.Steps.{Event, Run, settles, settles_at, absorbs, halts}
 
 -- What holds of every board holds at the end; what was settled stays; used is what the events settled; and the tree has grown by that and by what they
 -- absorbed.
@@ -25,6 +25,13 @@ RunsAreRight =
     (rule : Rule) (depth dims : ℕ) (root : List Bounds) (opening : Tree) (budget limit : ℕ) (events : List Event) (old new : Core)
     → IsOpening rule depth dims root opening → IsCore rule depth root opening budget limit old → Run rule depth root opening limit events old new
     → IsRight rule depth root opening budget limit events old new
+
+-- No leaf is settled twice, whoever has tickets for it, and none that was settled before.
+abbrev pub SettledOnce : Type 0
+SettledOnce =
+    (rule : Rule) (depth dims : ℕ) (root : List Bounds) (opening : Tree) (budget limit : ℕ) (events : List Event) (old new : Core) (p : List Bool)
+    → IsOpening rule depth dims root opening → IsCore rule depth root opening budget limit old → Run rule depth root opening limit events old new
+    → (weigh (settles_at p) events ≤ 1) × (outcome_at old.tree p ≢ None → weigh (settles_at p) events ≡ 0)
 
 -- A board was opened within its limit, with room for its budget.
 pub record IsBegun (root : List Bounds) (opening : Tree) (budget limit : ℕ) (c : Core) : Type 0 where

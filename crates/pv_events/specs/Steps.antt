@@ -4,7 +4,7 @@ use Rattle.pv_interval.specs.Bounds.{Bounds}
 use Rattle.pv_tree.specs.Trees.{Tree, box_of}
 use Rattle.pv_tree.specs.Stages.{Rule, IsStage, full_of}
 use Rattle.pv_board.specs.declared.mark.Mark.{Mark}
-use Rattle.pv_board.specs.Marks.{issued, granted}
+use Rattle.pv_board.specs.Marks.{at, issued, granted}
 use Rattle.pv_board.specs.Rules.{IsStageBelow, settled_in}
 use Rattle.pv_board.specs.Core.{Core}
 use Rattle.pv_board.specs.Events.{is_current, next_step, IsTake, IsExtend, IsSettling, IsGiveBack, IsRecall}
@@ -38,10 +38,11 @@ pub record IsExtended (old new : Core) (t : Mark) (units : ℕ) : Type 0 where
   pub few : t.grant + units ≤ 15
   pub is : IsExtend old new t (raised t units) units
 
--- A ticket is current, and its leaf becomes a stage of it by the rule. The units of the ticket and the board are enough.
+-- A ticket is current, and its leaf is settled: it becomes a stage of it by the rule. The units of the ticket and the board are enough.
 pub record IsSettled (rule : Rule) (depth : ℕ) (root : List Bounds) (opening : Tree) (old new : Core) (t : Mark) (s : Tree) (children : List Mark) : Type 0 where
   pub current : IsTrue (is_current old t)
   pub due : IsStageBelow rule depth (box_of root (full_of rule depth root opening 0) t.path) (length t.path) s
+  pub some : 1 ≤ settled_in s
   pub enough : settled_in s ≤ old.left + 1 + t.grant
   pub is : IsSettling old new t s children
 
@@ -104,3 +105,14 @@ halts halted = 1
 halts announced = 0
 halts recalled = 0
 halts (absorbed stage added) = 0
+
+-- One where an event settles the leaf at a path.
+abbrev pub settles_at : List Bool → Event → ℕ
+settles_at p (took t) = 0
+settles_at p (extended t units) = 0
+settles_at p (became t s children) = at t.path p 1
+settles_at p (gave_back t) = 0
+settles_at p halted = 0
+settles_at p announced = 0
+settles_at p recalled = 0
+settles_at p (absorbed stage added) = 0

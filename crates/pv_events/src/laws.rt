@@ -1,14 +1,35 @@
 //! What holds after every list of events, as contracts. Each holds by its contract alone, and the
 //! calls do nothing.
-ghost use Rattle.pv_events.specs.Answers.{AbsorptionsAreEvents, AnnouncementsAreEvents, DeskLooksAreEvents, ExtensionsAreEvents, LooksAreEvents, RecallsAreEvents, ReturnsAreEvents, RunsJoin, SettlingsAreEvents, StagesAreEvents, StopsAreEvents, TakesAreEvents};
-ghost use Rattle.pv_events.specs.Runs.{BoardsCanEnd, OpenedRunsAreRight, OverRunsAreWhole, RunsAgree, RunsAreRight};
+ghost use Rattle.pv_events.specs.Answers.{
+  AbsorptionsAreEvents,
+  AnnouncementsAreEvents,
+  DeskLooksAreEvents,
+  ExtensionsAreEvents,
+  LooksAreEvents,
+  RecallsAreEvents,
+  ReturnsAreEvents,
+  RunsJoin,
+  SettlingsAreEvents,
+  StagesAreEvents,
+  StopsAreEvents,
+  TakesAreEvents,
+};
+ghost use Rattle.pv_events.specs.Runs.{
+  BoardsCanEnd,
+  OpenedRunsAreRight,
+  OverRunsAreWhole,
+  RunsAgree,
+  RunsAreRight,
+  SettledOnce,
+};
 
 /// After every list of events, in whatever order callers made them, a board is right: its paving is
 /// a stage of the opening, the issued paths are distinct open leaves of it, and used, issued,
 /// granted and left are the budget together. Used is what was settled by tickets, and the paving has
-/// grown by that and by what was absorbed.
+/// grown by that and by what was absorbed. No leaf is settled twice.
 pub fn runs()
     ensures right { RunsAreRight }
+    ensures once { SettledOnce }
     ensures opened { OpenedRunsAreRight }
 {}
 
