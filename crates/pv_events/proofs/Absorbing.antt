@@ -1,17 +1,14 @@
 -- What absorbing a stage does to a board.
-use Rattle.std.proofs.Common.{◌≡◌, ◌⊎◌, ℕ, zero, suc, ◌+◌, ◌<◌, ◌≤◌, Bool, true, false, Option, Some, None, List, [], ◌∷◌, ◌++◌, refl, sym, ◌∙◌, ap, arith, subst, inl, inr}
+use Rattle.std.proofs.Common.{◌≡◌, ◌⊎◌, ℕ, zero, suc, ◌<◌, ◌≤◌, Bool, true, false, Some, None, List, [], ◌∷◌, ◌++◌, refl, sym, ◌∙◌, ap, arith, inl, inr}
 use Rattle.pv_interval.specs.Bounds.{Bounds}
 use Rattle.pv_tree.specs.Trees.{Tree, leaf, removed, inner, small, cut, subtree, outcome_at, opens}
-use Rattle.pv_tree.specs.Stages.{Rule, IsStage, Grows, full_of}
-use Rattle.pv_tree.specs.declared.outcome.Outcome.{Outcome}
+use Rattle.pv_tree.specs.Stages.{Rule, Grows, full_of}
 use Rattle.pv_tree.proofs.StageLaws.{grows_on}
 use Rattle.pv_join.specs.Joins.{settled_side}
 use Rattle.pv_join.proofs.JoinFacts.{side_some, side_left}
 use Rattle.pv_board.specs.declared.mark.Mark.{Mark}
 use Rattle.pv_board.specs.Marks.{times, holds, marked, issued, granted}
-use Rattle.pv_board.specs.Rules.{settled_in}
 use Rattle.pv_board.specs.Core.{Core, IsCore}
-use Rattle.pv_board.specs.Absorbing.{IsApart}
 use Rattle.pv_board.proofs.Growth.{open_once}
 use Rattle.pv_board.proofs.Marked.{marked_holds}
 use Rattle.pv_events.specs.Steps.{IsTakenIn}

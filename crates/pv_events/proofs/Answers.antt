@@ -1,24 +1,21 @@
 -- The clauses of a board's calls make each of them one event or none.
-use Rattle.std.proofs.Common.{◌≡◌, ℕ, zero, suc, ◌+◌, ◌-◌, ◌<◌, ◌≤◌, min, Bool, true, false, IsTrue, Option, Some, None, Result, Ok, Err, List, [], ◌∷◌, ◌++◌, length, refl, sym, ◌∙◌, ap, arith, subst}
+use Rattle.std.proofs.Common.{◌≡◌, ℕ, ◌+◌, ◌-◌, ◌≤◌, min, Bool, true, false, Some, None, Ok, Err, List, [], ◌∷◌, length, refl, sym, ◌∙◌, ap, arith, subst}
 use Rattle.std.specs.Prelude.{if◌then◌else◌}
 use Rattle.pv_interval.specs.Bounds.{Bounds}
 use Rattle.pv_tree.specs.Trees.{Tree, leaf, settled, box_of}
-use Rattle.pv_tree.specs.Stages.{Rule, Grows, full_of}
+use Rattle.pv_tree.specs.Stages.{Rule, full_of}
 use Rattle.pv_tree.specs.declared.outcome.Outcome.{Outcome}
 use Rattle.pv_tree.proofs.TreeFacts.{settled_one}
 use Rattle.pv_tree.proofs.StageLaws.{settled_grows}
 use Rattle.pv_board.specs.declared.mark.Mark.{Mark}
-use Rattle.pv_board.specs.declared.ticket.Look.{Look}
 use Rattle.pv_board.specs.declared.ticket.Look.TheVariants as look
-use Rattle.pv_board.specs.declared.ticket.Handed.{Handed}
 use Rattle.pv_board.specs.declared.ticket.Handed.TheVariants as handed
-use Rattle.pv_board.specs.declared.absorbing.AbsorbRefused.{AbsorbRefused}
-use Rattle.pv_board.specs.Rules.{IsStageBelow, settled_in}
-use Rattle.pv_board.specs.Core.{Core, IsCore, IsOpening}
-use Rattle.pv_board.specs.Events.{is_current, may_issue, IsExtend, IsSettling, IsGiveBack}
+use Rattle.pv_board.specs.Rules.{IsStageBelow}
+use Rattle.pv_board.specs.Core.{Core, IsOpening}
+use Rattle.pv_board.specs.Events.{is_current, may_issue, IsExtend}
 use Rattle.pv_board.proofs.Fulls.{top_leaf}
-use Rattle.pv_events.specs.Steps.{Event, extended, became, gave_back, raised, IsExtended, IsSettled, IsGiven, IsTakenIn, Run}
-use Rattle.pv_events.specs.Answers.{one_where, RunsJoin, TakesAreEvents, LooksAreEvents, DeskLooksAreEvents, SettlingsAreEvents, StagesAreEvents, ExtensionsAreEvents, ReturnsAreEvents, StopsAreEvents, AnnouncementsAreEvents, RecallsAreEvents, AbsorptionsAreEvents}
+use Rattle.pv_events.specs.Steps.{extended, gave_back, raised, IsExtended, IsSettled, IsGivenBack, Run}
+use Rattle.pv_events.specs.Answers.{one_where, RunsJoin, TakesAreEvents, LooksAreEvents, DeskLooksAreEvents, SettlingsAreEvents, StagesAreEvents, ExtensionsAreEvents, GivingsBackAreEvents, StopsAreEvents, AnnouncementsAreEvents, RecallsAreEvents, AbsorptionsAreEvents}
 
 pub runs_join : RunsJoin
 runs_join rule depth root opening limit [] ys old mid new h k = subst (λ (c : Core). Run rule depth root opening limit ys c new) h k
@@ -70,7 +67,7 @@ stages_are_events rule depth root opening limit old new t b s children handed.Ta
     (new, step, refl)
 stages_are_events rule depth root opening limit old new t b s children handed.Stale at_root due some h = h.1
 stages_are_events rule depth root opening limit old new t b s children handed.Short at_root due some h =
-    let step : IsGiven old new t = record { current = h.0; is = h.2 } in (new, step, refl)
+    let step : IsGivenBack old new t = record { current = h.0; is = h.2 } in (new, step, refl)
 
 -- what is granted is no more than what was wanted
 within : (b : Bool) (want may units : ℕ) → b ≡ true → units ≡ (if b then min want may else 0) → units ≤ want
@@ -93,8 +90,8 @@ extensions_are_events rule depth root opening limit old new t u want units few c
     go true e = (new, extension old new t u want units few count e (is e), refl)
     go false e = (stale e).0
 
-pub returns_are_events : ReturnsAreEvents
-returns_are_events rule depth root opening limit old new t is stale = go (is_current old t) refl
+pub givings_back_are_events : GivingsBackAreEvents
+givings_back_are_events rule depth root opening limit old new t is stale = go (is_current old t) refl
   where
     go : (b : Bool) → is_current old t ≡ b → Run rule depth root opening limit (one_where b (gave_back t)) old new
     go true e = (new, record { current = e; is = is e }, refl)

@@ -1,21 +1,20 @@
 -- Each board that was opened can come to an end.
-use Rattle.std.proofs.Common.{◌≡◌, ◌⊎◌, ℕ, zero, suc, ◌+◌, ◌-◌, ◌%◌, ◌^◌, ◌<◌, ◌≤◌, Bool, true, false, IsTrue, Some, List, [], ◌∷◌, ◌++◌, map, take, length, refl, sym, ◌∙◌, ap, arith, subst, inl, inr}
+use Rattle.std.proofs.Common.{◌≡◌, ℕ, zero, suc, ◌+◌, ◌-◌, ◌%◌, ◌^◌, ◌<◌, ◌≤◌, Bool, true, false, Some, List, [], ◌∷◌, ◌++◌, map, take, length, refl, ap, arith, inl, inr}
 use Rattle.std.specs.Prelude.{nat_eq}
 use Rattle.std.proofs.lemmas.Bool.Decides.{eqb_tells}
 use Rattle.pv_interval.specs.Bounds.{Bounds}
 use Rattle.pv_tree.specs.Trees.{Tree, leaf, subtree, graft, settled, opens, box_of}
 use Rattle.pv_tree.specs.Stages.{Rule, full_of}
-use Rattle.pv_tree.specs.declared.outcome.Outcome.{Outcome}
 use Rattle.pv_tree.proofs.TreeFacts.{settled_one}
 use Rattle.pv_board.specs.declared.mark.Mark.{Mark}
-use Rattle.pv_board.specs.Marks.{weigh, at, times, holds, issued, granted}
+use Rattle.pv_board.specs.Marks.{weigh, times, holds, issued, granted}
 use Rattle.pv_board.specs.Rules.{settled_in}
 use Rattle.pv_board.specs.Core.{Core, IsOpening, IsCore}
-use Rattle.pv_board.specs.Events.{is_current, free_units, may_issue, fresh, leaves_at, left_over, next_step, IsOver, IsTake, IsRecall}
+use Rattle.pv_board.specs.Events.{free_units, fresh, leaves_at, left_over, next_step, IsOver, IsTake, IsRecall}
 use Rattle.pv_board.proofs.Paths.{at_self, weigh-append}
 use Rattle.pv_board.proofs.Growth.{once_open, open_once}
-use Rattle.pv_events.specs.Steps.{Event, took, became, recalled, IsSettled, Run, halts}
-use Rattle.pv_events.specs.Runs.{CanEnd, IsBegun, BoardsCanEnd}
+use Rattle.pv_events.specs.Steps.{took, became, recalled, IsSettled}
+use Rattle.pv_events.specs.Runs.{CanEnd, BoardsCanEnd}
 use Rattle.pv_events.proofs.Answers.{outcome_due}
 use Rattle.pv_events.proofs.Keeping.{took_core, recalled_core, became_core}
 use Rattle.pv_events.proofs.Runs.{begun_core}

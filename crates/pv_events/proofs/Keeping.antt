@@ -1,12 +1,12 @@
 -- What holds of every board holds after an event.
-use Rattle.std.proofs.Common.{◌≡◌, ◌⊎◌, ℕ, zero, suc, ◌+◌, ◌-◌, ◌<◌, ◌≤◌, Bool, true, IsTrue, Some, List, [], ◌∷◌, ◌++◌, length, refl, sym, ◌∙◌, ap, arith, subst, inl, inr}
+use Rattle.std.proofs.Common.{◌≡◌, ℕ, zero, suc, ◌+◌, ◌≤◌, Bool, IsTrue, Some, List, length, refl, sym, ◌∙◌, ap, arith, subst, inl, inr}
 use Rattle.std.specs.Prelude.{IsSome}
 use Rattle.pv_interval.specs.Bounds.{Bounds}
-use Rattle.pv_tree.specs.Trees.{Tree, leaf, subtree, graft, opens, box_of}
+use Rattle.pv_tree.specs.Trees.{Tree, leaf, subtree, graft, opens}
 use Rattle.pv_tree.specs.Stages.{Rule, IsStage, Grows, full_of}
 use Rattle.pv_tree.proofs.StageLaws.{graft_grows}
 use Rattle.pv_board.specs.declared.mark.Mark.{Mark}
-use Rattle.pv_board.specs.Marks.{weigh, at, times, holds, marked, issued, granted}
+use Rattle.pv_board.specs.Marks.{at, times, holds, marked, issued, granted}
 use Rattle.pv_board.specs.Rules.{settled_in}
 use Rattle.pv_board.specs.Core.{Core, IsOpening, IsCore}
 use Rattle.pv_board.specs.Events.{is_current, free_units, left_over, IsTake, IsGiveBack, IsRecall}
@@ -15,7 +15,7 @@ use Rattle.pv_board.proofs.Growth.{graft_opens, once_most, once_open, open_once}
 use Rattle.pv_board.proofs.Fulls.{grows_box, graft_stage}
 use Rattle.pv_board.proofs.Marked.{unmarked, marked_holds}
 use Rattle.pv_board.proofs.Settling.{is_equal, graft_settled}
-use Rattle.pv_events.specs.Steps.{raised, IsExtended, IsSettled, IsGiven}
+use Rattle.pv_events.specs.Steps.{IsExtended, IsSettled}
 use Rattle.pv_events.proofs.Marked.{meet, at_is, held_marked, children_marked, children_hold, children_granted, children_issued}
 
 module _ (rule : Rule) (depth : ℕ) (root : List Bounds) (opening : Tree) (budget limit : ℕ) where
@@ -115,8 +115,8 @@ module _ (rule : Rule) (depth : ℕ) (root : List Bounds) (opening : Tree) (budg
         extended_marked extended_holds (omega (arith, a, b, l))
 
   -- a leaf was given back
-  pub given_core : (old new : Core) (t : Mark) → Is old → IsGiveBack old new t → Is new
-  given_core old new t h k =
+  pub given_back_core : (old new : Core) (t : Mark) → Is old → IsGiveBack old new t → Is new
+  given_back_core old new t h k =
       let a = k.marks (λ (m : Mark). 1) in let b = k.marks (λ (m : Mark). m.grant) in let l = k.left in
       marks_core old new h (ap (λ (c : Core). c.root) k.rest) (ap (λ (c : Core). c.tree) k.rest) (ap (λ (c : Core). c.used) k.rest) (ap (λ (c : Core). c.spare) k.rest)
       (λ q. let m = k.marks (λ (m : Mark). at m.path q 1) in let f = few_marked old q h in omega (arith, m, f))

@@ -1,10 +1,10 @@
 -- What an event does to the marks of issued paths.
-use Rattle.std.proofs.Common.{◌≡◌, ◌⊎◌, ℕ, zero, suc, ◌+◌, ◌<◌, ◌≤◌, Bool, Some, List, [], ◌∷◌, ◌++◌, map, take, length, refl, sym, ◌∙◌, ap, arith, inl, inr}
-use Rattle.pv_tree.specs.Trees.{Tree, leaf, subtree, graft, opens}
+use Rattle.std.proofs.Common.{◌≡◌, ◌⊎◌, ℕ, zero, suc, ◌<◌, ◌≤◌, Bool, List, [], ◌∷◌, ◌++◌, map, take, length, refl, sym, ◌∙◌, ap, arith, inl, inr}
+use Rattle.pv_tree.specs.Trees.{Tree, opens}
 use Rattle.pv_board.specs.declared.mark.Mark.{Mark}
-use Rattle.pv_board.specs.Marks.{weigh, at, times, holds, marked, issued, granted}
+use Rattle.pv_board.specs.Marks.{weigh, at, holds, marked, issued, granted}
 use Rattle.pv_board.specs.Events.{fresh, leaves_at}
-use Rattle.pv_board.proofs.Paths.{at_self, at_none, at_same, weigh-map, weigh-ones}
+use Rattle.pv_board.proofs.Paths.{at_self, at_same, weigh-map, weigh-ones}
 use Rattle.pv_board.proofs.Marked.{unmarked}
 
 -- two paths are apart or the same

@@ -1,18 +1,17 @@
 -- What holds after every list of events.
-use Rattle.std.proofs.Common.{◌≡◌, ◌⊎◌, ℕ, zero, suc, ◌+◌, ◌<◌, ◌≤◌, Bool, true, false, Some, List, [], ◌∷◌, refl, sym, ◌∙◌, ap, arith, subst, inl, inr}
+use Rattle.std.proofs.Common.{◌≡◌, ℕ, ◌+◌, List, [], ◌∷◌, sym, ap, arith, subst}
 use Rattle.pv_interval.specs.Bounds.{Bounds}
 use Rattle.pv_tree.specs.Trees.{Tree}
-use Rattle.pv_tree.specs.Stages.{Rule, IsStage, Grows, full_of}
+use Rattle.pv_tree.specs.Stages.{Rule, IsStage, Grows}
 use Rattle.pv_tree.proofs.StageLaws.{grows_self, grows_on}
 use Rattle.pv_board.specs.declared.mark.Mark.{Mark}
-use Rattle.pv_board.specs.Marks.{weigh, holds, marked, issued, granted}
+use Rattle.pv_board.specs.Marks.{holds, marked, issued, granted}
 use Rattle.pv_board.specs.Rules.{settled_in}
 use Rattle.pv_board.specs.Core.{Core, IsOpening, IsCore}
-use Rattle.pv_board.specs.Openings.{IsOpened}
 use Rattle.pv_board.proofs.Fulls.{full_grows}
-use Rattle.pv_events.specs.Steps.{Event, took, extended, became, gave_back, halted, announced, recalled, absorbed, Step, Run, settles, absorbs, halts}
+use Rattle.pv_events.specs.Steps.{Event, took, extended, became, gave_back, halted, announced, recalled, absorbed, Step, Run, settles, absorbs}
 use Rattle.pv_events.specs.Runs.{IsRight, RunsAreRight, IsBegun, IsRightOf, OpenedRunsAreRight}
-use Rattle.pv_events.proofs.Keeping.{took_core, extended_core, given_core, recalled_core, became_core, became_grown, became_settled}
+use Rattle.pv_events.proofs.Keeping.{took_core, extended_core, given_back_core, recalled_core, became_core, became_grown, became_settled}
 use Rattle.pv_events.proofs.Absorbing.{absorbed_core, absorbed_grown}
 
 module _ (rule : Rule) (depth dims : ℕ) (root : List Bounds) (opening : Tree) (budget limit : ℕ) (o : IsOpening rule depth dims root opening) where
@@ -49,7 +48,7 @@ module _ (rule : Rule) (depth dims : ℕ) (root : List Bounds) (opening : Tree) 
         settled = omega (arith, e);
       }
   step_kept (gave_back t) old new h k =
-      same_tree old new (given_core rule depth root opening budget limit old new t h k.is) (ap (λ (c : Core). c.tree) k.is.rest) (ap (λ (c : Core). c.used) k.is.rest)
+      same_tree old new (given_back_core rule depth root opening budget limit old new t h k.is) (ap (λ (c : Core). c.tree) k.is.rest) (ap (λ (c : Core). c.used) k.is.rest)
   step_kept halted old new h k =
       same_tree old new
       (subst Is (sym k) (record { root_is = h.root_is; stage = h.stage; distinct = h.distinct; are_open = h.are_open; grants = h.grants; conserved = h.conserved; settled = h.settled; few = h.few; room = h.room }))

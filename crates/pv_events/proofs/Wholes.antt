@@ -1,19 +1,18 @@
 -- Where nothing can be taken the tree is the full tree, if the budget is enough.
-use Rattle.std.proofs.Common.{◌≡◌, ◌⊎◌, ℕ, zero, suc, ◌+◌, ◌<◌, ◌≤◌, Bool, true, false, Some, List, [], ◌∷◌, ◌++◌, refl, sym, ◌∙◌, ap, arith, subst, inl, inr}
-use Rattle.pv_num.specs.Extended.{Extended}
+use Rattle.std.proofs.Common.{◌≡◌, ℕ, zero, suc, ◌+◌, ◌<◌, ◌≤◌, Bool, false, Some, List, [], ◌∷◌, refl, sym, ◌∙◌, ap, arith, subst}
 use Rattle.pv_interval.specs.Bounds.{Bounds}
-use Rattle.pv_tree.specs.Trees.{Tree, leaf, removed, inner, small, cut, subtree, opens}
+use Rattle.pv_tree.specs.Trees.{Tree, leaf, removed, inner, small, cut, opens}
 use Rattle.pv_tree.specs.Stages.{Rule, Grows, full_of}
 use Rattle.pv_tree.specs.declared.outcome.Outcome.TheVariants.{Removed, Inner, Small, Cut}
 use Rattle.pv_tree.proofs.StageLaws.{IsCut, top_removed, top_inner, top_small, top_cut, grows_low, grows_high, grown_whole}
 use Rattle.pv_board.specs.declared.mark.Mark.{Mark}
-use Rattle.pv_board.specs.Marks.{weigh, at, times, holds, issued, granted}
+use Rattle.pv_board.specs.Marks.{weigh, times, holds, issued, granted}
 use Rattle.pv_board.specs.Rules.{settled_in}
-use Rattle.pv_board.specs.Core.{Core, IsOpening, IsCore}
-use Rattle.pv_board.specs.Events.{free_units, may_issue, IsOver}
+use Rattle.pv_board.specs.Core.{Core, IsOpening}
+use Rattle.pv_board.specs.Events.{free_units, IsOver}
 use Rattle.pv_board.proofs.Paths.{at_self}
 use Rattle.pv_board.proofs.Growth.{once_open, grows_settled}
-use Rattle.pv_events.specs.Steps.{Event, took, extended, became, gave_back, halted, announced, recalled, absorbed, Step, Run, settles, absorbs, halts}
+use Rattle.pv_events.specs.Steps.{Event, took, extended, became, gave_back, halted, announced, recalled, absorbed, Step, Run, absorbs, halts}
 use Rattle.pv_join.specs.Joins.{Agree}
 use Rattle.pv_events.specs.Runs.{IsBegun, IsRightOf, IsWhole, OverRunsAreWhole, RunsAgree}
 use Rattle.pv_events.proofs.Runs.{opened_right}

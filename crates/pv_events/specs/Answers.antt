@@ -83,8 +83,8 @@ ExtensionsAreEvents =
     → (IsTrue (is_current old t) → IsExtend old new t u units) → (is_current old t ≡ false → (new ≡ old) × (u ≡ t))
     → Run rule depth root opening limit (one_where (is_current old t) (extended t units)) old new
 
-abbrev pub ReturnsAreEvents : Type 0
-ReturnsAreEvents =
+abbrev pub GivingsBackAreEvents : Type 0
+GivingsBackAreEvents =
     (rule : Rule) (depth : ℕ) (root : List Bounds) (opening : Tree) (limit : ℕ) (old new : Core) (t : Mark)
     → (IsTrue (is_current old t) → IsGiveBack old new t) → (is_current old t ≡ false → new ≡ old)
     → Run rule depth root opening limit (one_where (is_current old t) (gave_back t)) old new

@@ -47,7 +47,7 @@ pub record IsSettled (rule : Rule) (depth : ℕ) (root : List Bounds) (opening :
   pub is : IsSettling old new t s children
 
 -- A ticket is current, and its leaf is no longer issued.
-pub record IsGiven (old new : Core) (t : Mark) : Type 0 where
+pub record IsGivenBack (old new : Core) (t : Mark) : Type 0 where
   pub current : IsTrue (is_current old t)
   pub is : IsGiveBack old new t
 
@@ -62,7 +62,7 @@ abbrev pub Step : Rule → ℕ → List Bounds → Tree → ℕ → Event → Co
 Step rule depth root opening limit (took t) old new = IsTake old new t
 Step rule depth root opening limit (extended t units) old new = IsExtended old new t units
 Step rule depth root opening limit (became t s children) old new = IsSettled rule depth root opening old new t s children
-Step rule depth root opening limit (gave_back t) old new = IsGiven old new t
+Step rule depth root opening limit (gave_back t) old new = IsGivenBack old new t
 Step rule depth root opening limit halted old new = new ≡ record old { stopped = true }
 Step rule depth root opening limit announced old new = new ≡ record old { steps = next_step old.steps }
 Step rule depth root opening limit recalled old new = IsRecall old new

@@ -7,7 +7,7 @@ ghost use Rattle.pv_events.specs.Answers.{
   ExtensionsAreEvents,
   LooksAreEvents,
   RecallsAreEvents,
-  ReturnsAreEvents,
+  GivingsBackAreEvents,
   RunsJoin,
   SettlingsAreEvents,
   StagesAreEvents,
@@ -53,7 +53,7 @@ pub fn calls_are_events()
     ensures settle { SettlingsAreEvents }
     ensures settle_stage { StagesAreEvents }
     ensures extend { ExtensionsAreEvents }
-    ensures give_back { ReturnsAreEvents }
+    ensures give_back { GivingsBackAreEvents }
     ensures stop { StopsAreEvents }
     ensures announce { AnnouncementsAreEvents }
     ensures recall { RecallsAreEvents }
