@@ -82,7 +82,7 @@ fn hands_over<R: Threads + Wait + Clock + Sync>(rt: &R, alloc: Global) -> Option
 }
 
 fn lets_all_work<R: Threads + Wait + Clock + Sync>(rt: &R, alloc: Global) -> Option<bool> {
-    let gate = Pace::new(rt, Duration::from_micros(400));
+    let gate = Pace::new(rt, 4, Duration::from_millis(10));
     let paved = pave(
         rt,
         alloc,

@@ -131,7 +131,7 @@ impl Sight for AllWork {
 
 fn lets_all_work<R: Threads + Wait + Clock + Sync>(rt: &R, alloc: Global) -> Option<bool> {
     let mut folder = prepared(rt, alloc, LATE, &[])?;
-    let gate = Pace::new(rt, Duration::from_micros(400));
+    let gate = Pace::new(rt, 4, Duration::from_millis(10));
     let part = call(rt, alloc, PART, &mut folder, &gate).ok()?;
     Some(gate.workers() == 4 && part.is(1, PART_PRINTS))
 }
