@@ -77,19 +77,22 @@ impl<'a, C: Clock> Gate for Meeting<'a, C> {
     }
 }
 
-/// A gate that counts the settlings of each worker, and at which each 16th takes some time more.
+/// A gate that counts the settlings of each worker. Each 16th takes some time more, until `many`
+/// workers settled something.
 #[derive(Drop)]
 pub struct Pace<'a, C> {
     clock: &'a C,
+    many: u64,
     time: Duration,
     settled: [AtomicU64; PLACES],
 }
 
 impl<'a, C: Clock> Pace<'a, C> {
     /// Nothing was settled yet.
-    pub fn new(clock: &'a C, time: Duration) -> Self {
+    pub fn new(clock: &'a C, many: u64, time: Duration) -> Self {
         Pace {
             clock,
+            many,
             time,
             settled: std::array::from_fn(|_| AtomicU64::new(0)),
         }
@@ -108,7 +111,7 @@ impl<'a, C: Clock> Pace<'a, C> {
 
 impl<'a, C: Clock> Gate for Pace<'a, C> {
     fn enter(&self, worker: u64, _path: Path) {
-        if count_at(&self.settled, worker) % 16 == 15 {
+        if count_at(&self.settled, worker) % 16 == 15 && self.workers() < self.many {
             thread::sleep(self.clock, self.time);
         }
     }

@@ -1,4 +1,5 @@
-//! What workers do at once: gates that see it, and pavings by four workers that go through them.
+//! What workers do at once: gates that see it, how often it is seen, and pavings by four workers that
+//! go through the gates.
 #![tactic(auto)]
 
 mod gates;
@@ -6,7 +7,9 @@ mod gates;
 mod pavings;
 #[cfg(test)]
 mod scenes;
+mod sights;
 #[cfg(test)]
 mod tests;
 
 pub use gates::{Meeting, Pace};
+pub use sights::{Sight, seen, seen_by_sixteen};

@@ -1,12 +1,12 @@
 //! What is to be seen of four workers, whatever the machine does beside them.
 use crate::gates::{Meeting, Pace};
 use crate::pavings::{Poor, late_strips, square, strips, thin};
+use crate::sights::Sight;
 use pv_pool::NoGate;
 use pv_tree::{Forgetful, NodeLimit, Paving};
 use pv_workers::{pave, pave_knowing};
 use std::alloc::Global;
 use std::sync::Wait;
-use std::thread;
 use std::thread::Threads;
 use std::time::{Clock, Duration};
 
@@ -26,10 +26,9 @@ pub(crate) enum Scene {
     Ended,
 }
 
-impl Scene {
-    // Whether it is seen in one paving.
-    fn is_seen<R: Threads + Wait + Clock + Sync>(self, rt: &R, alloc: Global) -> bool {
-        let seen = match self {
+impl Sight for Scene {
+    fn is_seen<R: Threads + Wait + Clock + Sync>(&self, rt: &R, alloc: Global) -> bool {
+        let seen = match *self {
             Scene::AllAtOnce => settles_at_once(rt, alloc),
             Scene::AllGoOn => goes_on_at_once(rt, alloc),
             Scene::HandedOver => hands_over(rt, alloc),
@@ -37,39 +36,6 @@ impl Scene {
             Scene::Ended => ends(rt, alloc),
         };
         seen == Some(true)
-    }
-
-    /// In how many of some pavings, one after the other, it is seen.
-    pub(crate) fn seen<R: Threads + Wait + Clock + Sync>(
-        self,
-        rt: &R,
-        alloc: Global,
-        pavings: u32,
-    ) -> u32 {
-        let mut seen = 0u32;
-        for _ in 0..pavings {
-            if !self.is_seen(rt, alloc) {
-                return seen;
-            }
-            seen = seen.saturating_add(1);
-        }
-        seen
-    }
-
-    /// The same of 16 times as many, 16 at a time.
-    pub(crate) fn seen_by_sixteen<R: Threads + Wait + Clock + Sync>(
-        self,
-        rt: &R,
-        alloc: Global,
-        pavings: u32,
-    ) -> u32 {
-        let one = |_: usize| self.seen(rt, alloc, pavings);
-        let Ok(counts) = thread::map_indices(rt, alloc, 16, &one) else {
-            return 0;
-        };
-        counts
-            .iter()
-            .fold(0u32, |sum, count| sum.saturating_add(*count))
     }
 }
 
@@ -116,7 +82,7 @@ fn hands_over<R: Threads + Wait + Clock + Sync>(rt: &R, alloc: Global) -> Option
 }
 
 fn lets_all_work<R: Threads + Wait + Clock + Sync>(rt: &R, alloc: Global) -> Option<bool> {
-    let gate = Pace::new(rt, Duration::from_micros(400));
+    let gate = Pace::new(rt, 4, Duration::from_millis(10));
     let paved = pave(
         rt,
         alloc,
