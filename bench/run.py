@@ -242,18 +242,20 @@ def used_by(words):
 
 def sizes(folder):
     """Seconds, microseconds a node without the program's start, and bytes a node of memory and file, by one worker that
-    stores: the means of up to 20 runs. Up to some 100,000 nodes the memory told is this script's own, of which a child begins
-    as a copy."""
+    stores: the least of some runs, the sizes in turn, since a machine may change its speed. Up to some 100,000 nodes the
+    memory told is this script's own, of which a child begins as a copy."""
+    turns_of = {1: 20, 10_000: 20, 100_000: 10, 1_000_000: 4, 10_000_000: 1}
     for title in SIZES:
-        eps, start = dict(MILLIONS)[title] and "1e-9", 0.0
-        for nodes in (1, 10_000, 100_000, 1_000_000, 10_000_000):
-            out, turns = Path(folder) / "paving", max(1, min(20, 1_000_000 // nodes))
-            words = [TOP / "paver", "run", *of_size(folder, title, eps, nodes), "--workers", 1, "--out", out]
-            runs = [used_by(words) for _ in range(turns)]
-            settled, spent = runs[0][0], sum(run[1] for run in runs) / turns
-            start = start or spent
+        eps, out = dict(MILLIONS)[title] and "1e-9", Path(folder) / "paving"
+        runs = {nodes: [] for nodes in turns_of}
+        for turn in range(max(turns_of.values())):
+            for nodes in (nodes for nodes, turns in turns_of.items() if turn < turns):
+                words = [TOP / "paver", "run", *of_size(folder, title, eps, nodes), "--workers", 1, "--out", out]
+                runs[nodes].append((*used_by(words), out.stat().st_size))
+        start = min(spent for _, spent, _, _ in runs[1])
+        for settled, spent, memory, stored in (min(some, key=lambda run: run[1]) for some in runs.values()):
             print(f"{title:28} {settled:9} nodes {spent:8.3f} s {(spent - start) / settled * 1e6:6.2f} us and "
-                  f"{runs[0][2] / settled:5.0f} bytes a node, file {out.stat().st_size / settled:5.1f}", flush=True)
+                  f"{memory / settled:5.0f} bytes a node, file {stored / settled:5.1f}", flush=True)
 
 
 def printing(folder):
