@@ -3,13 +3,13 @@
 #![tactic(auto)]
 
 mod gates;
+mod often;
 #[cfg(test)]
 mod pavings;
 #[cfg(test)]
 mod scenes;
-mod sights;
 #[cfg(test)]
 mod tests;
 
 pub use gates::{Meeting, Pace};
-pub use sights::{Sight, seen, seen_by_sixteen};
+pub use often::{seen, seen_by_sixteen};

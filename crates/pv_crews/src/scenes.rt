@@ -1,7 +1,6 @@
 //! What is to be seen of four workers, whatever the machine does beside them.
 use crate::gates::{Meeting, Pace};
 use crate::pavings::{Poor, late_strips, square, strips, thin};
-use crate::sights::Sight;
 use pv_pool::NoGate;
 use pv_tree::{Forgetful, NodeLimit, Paving};
 use pv_workers::{pave, pave_knowing};
@@ -26,9 +25,10 @@ pub(crate) enum Scene {
     Ended,
 }
 
-impl Sight for Scene {
-    fn is_seen<R: Threads + Wait + Clock + Sync>(&self, rt: &R, alloc: Global) -> bool {
-        let seen = match *self {
+impl Scene {
+    /// Whether it is seen in one paving.
+    pub(crate) fn is_seen<R: Threads + Wait + Clock + Sync>(self, rt: &R, alloc: Global) -> bool {
+        let seen = match self {
             Scene::AllAtOnce => settles_at_once(rt, alloc),
             Scene::AllGoOn => goes_on_at_once(rt, alloc),
             Scene::HandedOver => hands_over(rt, alloc),

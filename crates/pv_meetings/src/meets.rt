@@ -1,7 +1,7 @@
 //! Commands by four workers, and what is to be seen of them.
 use crate::calls::{call, folder_with, stored};
 use pv_cli::NoGate;
-use pv_crews::{Meeting, Pace, Sight};
+use pv_crews::{Meeting, Pace};
 use pv_io::MemFolder;
 use std::alloc::Global;
 use std::sync::Wait;
@@ -99,13 +99,12 @@ pub(crate) const RESUME_LATE: Meet = Meet {
     ..RUN_LATE
 };
 
-impl Sight for Meet {
-    fn is_seen<R: Threads + Wait + Clock + Sync>(&self, rt: &R, alloc: Global) -> bool {
+impl Meet {
+    /// Whether four workers meet, and do as one.
+    pub(crate) fn is_seen<R: Threads + Wait + Clock + Sync>(&self, rt: &R, alloc: Global) -> bool {
         self.meets(rt, alloc) == Some(true)
     }
-}
 
-impl Meet {
     fn meets<R: Threads + Wait + Clock + Sync>(&self, rt: &R, alloc: Global) -> Option<bool> {
         let mut folder = prepared(rt, alloc, self.system, self.before)?;
         let gate = Meeting::new(rt, 4, self.from, self.free);
@@ -115,18 +114,13 @@ impl Meet {
     }
 }
 
-/// All four settle something of a tree of 10,000 nodes.
-#[derive(Clone, Copy)]
-pub(crate) struct AllWork;
-
 const PART: &str = "paver run s --eps 0.015625 --boxes 10000 --workers 4 --out part";
 
 const PART_PRINTS: &str = "settled 10000 ";
 
-impl Sight for AllWork {
-    fn is_seen<R: Threads + Wait + Clock + Sync>(&self, rt: &R, alloc: Global) -> bool {
-        lets_all_work(rt, alloc) == Some(true)
-    }
+/// Whether each of four workers settles something of a tree of 10,000 nodes.
+pub(crate) fn all_work<R: Threads + Wait + Clock + Sync>(rt: &R, alloc: Global) -> bool {
+    lets_all_work(rt, alloc) == Some(true)
 }
 
 fn lets_all_work<R: Threads + Wait + Clock + Sync>(rt: &R, alloc: Global) -> Option<bool> {

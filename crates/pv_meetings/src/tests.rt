@@ -1,65 +1,75 @@
 //! Each is seen in 50 commands one after the other, and in 64 commands of which 16 go at a time.
-use crate::meets::{AllWork, RESUME, RESUME_LATE, RUN, RUN_LATE, goes_on_as_by_one};
+use crate::meets::{RESUME, RESUME_LATE, RUN, RUN_LATE, all_work, goes_on_as_by_one};
 use pv_crews::{seen, seen_by_sixteen};
 use std::test::Fail;
 
 #[test]
 fn four_workers_of_a_run_settle_at_once(rt: HostRuntime) -> Result<(), Fail> {
-    assert_eq!(rt; seen(&RUN, &rt, rt.alloc(), 50), 50);
+    let is_seen = || RUN.is_seen(&rt, rt.alloc());
+    assert_eq!(rt; seen(50, &is_seen), 50);
     Ok(())
 }
 
 #[test]
 fn they_settle_at_once_beside_others(rt: HostRuntime) -> Result<(), Fail> {
-    assert_eq!(rt; seen_by_sixteen(&RUN, &rt, rt.alloc(), 4), 64);
+    let is_seen = || RUN.is_seen(&rt, rt.alloc());
+    assert_eq!(rt; seen_by_sixteen(&rt, rt.alloc(), 4, &is_seen), 64);
     Ok(())
 }
 
 #[test]
 fn four_workers_of_a_resume_settle_at_once(rt: HostRuntime) -> Result<(), Fail> {
-    assert_eq!(rt; seen(&RESUME, &rt, rt.alloc(), 50), 50);
+    let is_seen = || RESUME.is_seen(&rt, rt.alloc());
+    assert_eq!(rt; seen(50, &is_seen), 50);
     Ok(())
 }
 
 #[test]
 fn they_go_on_at_once_beside_others(rt: HostRuntime) -> Result<(), Fail> {
-    assert_eq!(rt; seen_by_sixteen(&RESUME, &rt, rt.alloc(), 4), 64);
+    let is_seen = || RESUME.is_seen(&rt, rt.alloc());
+    assert_eq!(rt; seen_by_sixteen(&rt, rt.alloc(), 4, &is_seen), 64);
     Ok(())
 }
 
 #[test]
 fn a_run_hands_jobs_over(rt: HostRuntime) -> Result<(), Fail> {
-    assert_eq!(rt; seen(&RUN_LATE, &rt, rt.alloc(), 50), 50);
+    let is_seen = || RUN_LATE.is_seen(&rt, rt.alloc());
+    assert_eq!(rt; seen(50, &is_seen), 50);
     Ok(())
 }
 
 #[test]
 fn a_run_hands_jobs_over_beside_others(rt: HostRuntime) -> Result<(), Fail> {
-    assert_eq!(rt; seen_by_sixteen(&RUN_LATE, &rt, rt.alloc(), 4), 64);
+    let is_seen = || RUN_LATE.is_seen(&rt, rt.alloc());
+    assert_eq!(rt; seen_by_sixteen(&rt, rt.alloc(), 4, &is_seen), 64);
     Ok(())
 }
 
 #[test]
 fn a_resume_hands_jobs_over(rt: HostRuntime) -> Result<(), Fail> {
-    assert_eq!(rt; seen(&RESUME_LATE, &rt, rt.alloc(), 50), 50);
+    let is_seen = || RESUME_LATE.is_seen(&rt, rt.alloc());
+    assert_eq!(rt; seen(50, &is_seen), 50);
     Ok(())
 }
 
 #[test]
 fn a_resume_hands_jobs_over_beside_others(rt: HostRuntime) -> Result<(), Fail> {
-    assert_eq!(rt; seen_by_sixteen(&RESUME_LATE, &rt, rt.alloc(), 4), 64);
+    let is_seen = || RESUME_LATE.is_seen(&rt, rt.alloc());
+    assert_eq!(rt; seen_by_sixteen(&rt, rt.alloc(), 4, &is_seen), 64);
     Ok(())
 }
 
 #[test]
 fn all_of_four_settle_something_of_a_run(rt: HostRuntime) -> Result<(), Fail> {
-    assert_eq!(rt; seen(&AllWork, &rt, rt.alloc(), 50), 50);
+    let is_seen = || all_work(&rt, rt.alloc());
+    assert_eq!(rt; seen(50, &is_seen), 50);
     Ok(())
 }
 
 #[test]
 fn all_of_four_settle_something_beside_others(rt: HostRuntime) -> Result<(), Fail> {
-    assert_eq!(rt; seen_by_sixteen(&AllWork, &rt, rt.alloc(), 4), 64);
+    let is_seen = || all_work(&rt, rt.alloc());
+    assert_eq!(rt; seen_by_sixteen(&rt, rt.alloc(), 4, &is_seen), 64);
     Ok(())
 }
 
