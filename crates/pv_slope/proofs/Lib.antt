@@ -16,5 +16,3 @@ pub mod Matched
 pub mod Weighing
 pub mod Zeros
 pub mod Firsts
-pub mod Numbers
-pub mod Still

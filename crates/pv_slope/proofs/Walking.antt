@@ -118,7 +118,7 @@ pub slope_then : (b : List Bounds) (j : ℕ) (ns : List Node) (vs cs fs ss : Lis
     → n ≡ get_or ns i e → factor ≡ get_or fs i factor → x ≡ node_slope j factor vs cs ss n → slope_of b j (term_at (terms ns) i) ≡ x
 slope_then b j ns vs cs fs ss d i n e factor x o v c f h done n_is factor_is x_is =
     let node_is : n ≡ node_at ns i = n_is ∙ node_default ns i e h in
-    let in_fs : i < length fs = let g = f.within in omega arith in
+    let in_fs : i < length fs = let g = f.same in omega arith in
     let step = term_step ns i h (o.reads i h) in
     let by : factor ≡ node_factor vs cs (node_at ns i) = read_at fs i factor in_fs factor_is ∙ sym (f.each i h) in
     let w = values_of b ns vs v in

@@ -1,5 +1,5 @@
 -- An expression as a list of nodes, and what one pass over them leaves.
-use Rattle.std.specs.Prelude.{◌≡◌, ℕ, zero, suc, ◌<◌, ◌≤◌, List, length, nat_eq, if◌then◌else◌}
+use Rattle.std.specs.Prelude.{◌≡◌, ℕ, zero, suc, ◌<◌, List, length, nat_eq, if◌then◌else◌}
 use Rattle.pv_interval.specs.Bounds.{Bounds, everything}
 use Rattle.pv_interval.specs.Tables as table
 use Rattle.pv_expr.specs.declared.constraint.Relation.{Relation}
@@ -69,7 +69,7 @@ node_factor vs cs (One o a) = unary_factor o (at vs a) (at cs a)
 node_factor vs cs (Two o a c) = binary_factor o (at cs a) (at cs c)
 
 pub record AreFactors (vs cs : List Bounds) (ns : List Node) (fs : List Bounds) : Type 0 where
-  pub within : length ns ≤ length fs
+  pub same : length fs ≡ length ns
   pub each : (k : ℕ) → k < length ns → node_factor vs cs (node_at ns k) ≡ at fs k
 
 abbrev pub unary_slope_by : UnaryOp → Bounds → Bounds → Bounds → Bounds

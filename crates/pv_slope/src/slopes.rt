@@ -1,11 +1,11 @@
 //! The slopes of a constraint.
 
-ghost use Rattle.std.specs.Prelude.{◌≡◌, ◌↔◌, ◌≤◌, length, IfOk, OnOk, None};
+ghost use Rattle.std.specs.Prelude.{◌≡◌, ◌↔◌, ◌<◌, length, IfOk, OnOk, None, true};
 ghost use Rattle.pv_expr.specs.Systems.{IsOver};
 ghost use Rattle.pv_expr.specs.Terms.{term_of};
 ghost use Rattle.pv_hc4.specs.Forward.{forward_of};
 ghost use Rattle.pv_hc4.specs.Graphs.{sides_named, AreValues, AreReady};
-ghost use Rattle.pv_hc4.specs.Nodes.{terms, term_at};
+ghost use Rattle.pv_hc4.specs.Nodes.{AreOrdered, terms, term_at};
 ghost use Rattle.pv_hc4.specs.Chain.{at};
 ghost use Rattle.pv_hc4.specs.Totality.{total_of};
 ghost use Rattle.pv_slope.specs.Centered.{centered_of, centered_from, slope_where, gap_of, Encloses};
@@ -114,7 +114,6 @@ impl Slopes {
             &mut columns.values,
             &mut columns.centres,
             &mut columns.factors,
-            &mut columns.moving,
             &mut columns.slopes,
         ))
     }
@@ -144,45 +143,22 @@ impl Slopes {
             &mut columns.values,
             &mut columns.centres,
             &mut columns.factors,
-            &mut columns.moving,
             &mut columns.slopes,
         ))
     }
 }
 
-// Gives the first two columns the constants' intervals, and the others a place for each node.
+// Gives each column the constants' intervals.
 fn fill_columns(columns: &mut Columns, ready: &[Interval]) -> Result<(), Memory>
     ensures values { OnOk result (columns.new.values.items ≡ ready.now) }
     ensures centres { OnOk result (columns.new.centres.items ≡ ready.now) }
-    ensures factors { OnOk result (length ready.now ≤ length columns.new.factors.items) }
-    ensures moving { OnOk result (length ready.now ≤ length columns.new.moving.items) }
-    ensures slopes { OnOk result (length ready.now ≤ length columns.new.slopes.items) }
+    ensures factors { OnOk result (columns.new.factors.items ≡ ready.now) }
+    ensures slopes { OnOk result (columns.new.slopes.items ≡ ready.now) }
 {
     fill(&mut columns.values, ready)?;
     fill(&mut columns.centres, ready)?;
-    lengthen(&mut columns.factors, ready.len())?;
-    lengthen_flags(&mut columns.moving, ready.len())?;
-    lengthen(&mut columns.slopes, ready.len())
-}
-
-// Makes room for so many intervals, whatever they are.
-fn lengthen(column: &mut Vec<Interval>, count: usize) -> Result<(), Memory>
-    ensures { OnOk result (count ≤ length column.new.items) }
-{
-    for _ in column.len()..count {
-        column.push(Interval::ALL)?;
-    }
-    Ok(())
-}
-
-// The same for flags.
-fn lengthen_flags(column: &mut Vec<bool>, count: usize) -> Result<(), Memory>
-    ensures { OnOk result (count ≤ length column.new.items) }
-{
-    for _ in column.len()..count {
-        column.push(false)?;
-    }
-    Ok(())
+    fill(&mut columns.factors, ready)?;
+    fill(&mut columns.slopes, ready)
 }
 
 // Whether no divisor's interval contains 0 in the expression of node `root`.
@@ -195,8 +171,7 @@ fn root_is_total(nodes: &[Node], root: usize, values: &[Interval], bx: &IBox) ->
 }
 
 // The centered form of node `root` from its forward interval. At the entry the columns have the
-// constants' intervals, or a place for each node.
-#[tactic(auto, using(crate::proofs::Still::all_total))]
+// constants' intervals.
 fn centered(
     nodes: &[Node],
     root: usize,
@@ -205,16 +180,15 @@ fn centered(
     values: &[Interval],
     centres: &mut [Interval],
     factors: &mut [Interval],
-    moving: &mut [bool],
     slopes: &mut [Interval],
 ) -> Option<Interval>
-    requires flat { IsFlat nodes.now root (length bx.now) }
+    requires ordered { AreOrdered nodes.now (length bx.now) }
+    requires root { root < length nodes.now }
     requires total { total ≡ total_of bx.now (term_at (terms nodes.now) root) }
     requires valued { AreValues bx.now nodes.now values.now }
     requires centres { AreReady nodes.now centres.old }
-    requires factors { length nodes.now ≤ length factors.old }
-    requires moving { length nodes.now ≤ length moving.old }
-    requires slopes { length nodes.now ≤ length slopes.old }
+    requires factors { AreReady nodes.now factors.old }
+    requires slopes { AreReady nodes.now slopes.old }
     ensures { result ≡ centered_from bx.now (term_at (terms nodes.now) root)
         (at values.now root) }
 {
@@ -227,7 +201,7 @@ fn centered(
     }
     centre_all(nodes, bx, values, centres);
     factor_all(nodes, bx.dims(), values, centres, factors);
-    whole.meet(linear(nodes, root, values, centres, factors, bx, moving, slopes))
+    whole.meet(linear(nodes, root, values, centres, factors, bx, slopes))
 }
 
 // The range of node `root` on a box. At the entry the columns have the constants' intervals.
@@ -238,24 +212,20 @@ fn range_of(
     values: &mut [Interval],
     centres: &mut [Interval],
     factors: &mut [Interval],
-    moving: &mut [bool],
     slopes: &mut [Interval],
 ) -> Option<Ranged>
     requires flat { IsFlat nodes.now root (length bx.now) }
     requires values { AreReady nodes.now values.old }
     requires centres { AreReady nodes.now centres.old }
-    requires factors { length nodes.now ≤ length factors.old }
-    requires moving { length nodes.now ≤ length moving.old }
-    requires slopes { length nodes.now ≤ length slopes.old }
+    requires factors { AreReady nodes.now factors.old }
+    requires slopes { AreReady nodes.now slopes.old }
     ensures { result ≡ ranged_of bx.now (term_at (terms nodes.now) root) }
 {
     if !forward_all(nodes, bx, values) {
         return None;
     }
     let total = root_is_total(nodes, root, values, bx);
-    match centered(
-        nodes, root, bx, total, values, centres, factors, moving, slopes,
-    ) {
+    match centered(nodes, root, bx, total, values, centres, factors, slopes) {
         Some(interval) => Some(Ranged { interval, total }),
         None => None,
     }
@@ -263,7 +233,6 @@ fn range_of(
 
 // The slope of node `root` for variable `i`. At the entry the columns have the constants'
 // intervals.
-#[tactic(auto, using(crate::proofs::Still::all_total))]
 fn slope_at(
     nodes: &[Node],
     root: usize,
@@ -272,15 +241,13 @@ fn slope_at(
     values: &mut [Interval],
     centres: &mut [Interval],
     factors: &mut [Interval],
-    moving: &mut [bool],
     slopes: &mut [Interval],
 ) -> Option<Interval>
     requires flat { IsFlat nodes.now root (length bx.now) }
     requires values { AreReady nodes.now values.old }
     requires centres { AreReady nodes.now centres.old }
-    requires factors { length nodes.now ≤ length factors.old }
-    requires moving { length nodes.now ≤ length moving.old }
-    requires slopes { length nodes.now ≤ length slopes.old }
+    requires factors { AreReady nodes.now factors.old }
+    requires slopes { AreReady nodes.now slopes.old }
     ensures { result ≡ slope_where bx.now i (term_at (terms nodes.now) root) }
 {
     if !forward_all(nodes, bx, values) {
@@ -294,6 +261,6 @@ fn slope_at(
     }
     centre_all(nodes, bx, values, centres);
     factor_all(nodes, bx.dims(), values, centres, factors);
-    slope_all(nodes, i, values, centres, factors, bx, moving, slopes);
+    slope_all(nodes, i, values, centres, factors, bx, slopes);
     Some(slopes[root])
 }
