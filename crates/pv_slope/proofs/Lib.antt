@@ -18,3 +18,4 @@ pub mod Zeros
 pub mod Firsts
 pub mod Numbers
 pub mod Still
+pub mod Inside

@@ -1,15 +1,16 @@
 //! The slopes of all nodes, one variable after another, and the linear form.
 
-ghost use Rattle.std.specs.Prelude.{◌≡◌, ℕ, ◌<◌, ◌≤◌, ◌-◌, ◌&&◌, true, false, length};
+ghost use Rattle.std.specs.Prelude.{◌≡◌, ℕ, ◌<◌, ◌≤◌, ◌-◌, true, length, if◌then◌else◌};
 ghost use Rattle.pv_interval.specs.Tables.{product_of, sum_of};
-ghost use Rattle.pv_hc4.specs.Nodes.{AreOrdered, ReadsBelow, FitsNode, IsPower, terms, term_at};
+ghost use Rattle.pv_hc4.specs.Nodes.{AreOrdered, ReadsBelow, FitsNode, IsPower, node_at, terms, term_at};
+ghost use Rattle.pv_hc4.specs.Chain.{at as place_of};
 ghost use Rattle.pv_hc4.specs.Graphs.{AreValues};
 ghost use Rattle.pv_hc4.specs.Pass.{node_divides_well};
 ghost use Rattle.pv_hc4.specs.Totality.{total_of};
 ghost use Rattle.pv_slope.specs.Centres.{at_centre};
-ghost use Rattle.pv_slope.specs.Centered.{is_finite, has_finite_ends, from_centre as from_centre_of, linear_of};
-ghost use Rattle.pv_slope.specs.Flat.{AreOf, AreFactors, node_factor, node_slope};
-ghost use Rattle.pv_slope.specs.Moving.{AreSlopes, ArePartsStill, HasDivisor, node_moves};
+ghost use Rattle.pv_slope.specs.Centered.{has_finite_ends, from_centre as from_centre_of, linear_of};
+ghost use Rattle.pv_slope.specs.Flat.{AreOf, AreFactors, node_factor};
+ghost use Rattle.pv_slope.specs.Moving.{AreSlopes, HasDivisor, is_place, moving_slope, node_moves, seen};
 ghost use Rattle.pv_slope.specs.SlopeTable.{zero_slope};
 
 use crate::centre::from_centre;
@@ -46,7 +47,7 @@ pub(crate) fn factor_all(
     requires ordered { AreOrdered nodes.now dims }
     requires dims { dims ≤ 12 }
     requires values { length values.now ≡ length nodes.now }
-    requires centres { length centres.now ≡ length nodes.now }
+    requires centres { length nodes.now ≤ length centres.now }
     requires factors { length nodes.now ≤ length factors.old }
     ensures { AreFactors values.now centres.now nodes.now factors.new }
 {
@@ -79,12 +80,12 @@ fn learn_divisor(node: Node, values: &[Interval])
     }
 }
 
-// The slope of a node for variable `i` over those of earlier nodes. It is [0,0] where the variable
-// doesn't stand in the node's term, which `moving` tells of earlier nodes and `moves` of this one.
+// The slope of a node that moves with variable `i` over those of earlier nodes, of which `moving`
+// tells whether they move. Nothing is read of those that don't.
+#[tactic(auto, using(crate::proofs::Still::other_moves))]
 fn slope(
     node: Node,
     i: u8,
-    moves: bool,
     factor: Interval,
     values: &[Interval],
     centres: &[Interval],
@@ -95,16 +96,10 @@ fn slope(
     requires centres { ReadsBelow (length centres.now) node }
     requires moving { ReadsBelow (length moving.now) node }
     requires slopes { ReadsBelow (length slopes.now) node }
-    requires moves { moves ≡ node_moves i moving.now node }
-    requires still { ArePartsStill moving.now slopes.now node }
-    requires divides { node_divides_well values.now node ≡ true }
-    ensures value { result ≡ node_slope i factor values.now centres.now slopes.now node }
-    ensures still { moves ≡ false → result ≡ zero_slope }
+    requires moves { node_moves i moving.now node ≡ true }
+    ensures { result ≡
+        moving_slope i factor values.now centres.now moving.now slopes.now node }
 {
-    if !moves {
-        learn_divisor(node, values);
-        return zero();
-    }
     match node {
         Node::Constant { .. } => zero(),
         Node::Place(_) => one(),
@@ -123,7 +118,46 @@ fn slope(
     }
 }
 
-// Gives each node its slope for variable `i`, and whether the variable stands in its term.
+// Gives one more node its slope for variable `i`, if it moves.
+#[tactic(auto, using(crate::proofs::Still::seen_other, crate::proofs::Still::flag_other))]
+fn step(
+    nodes: &[Node],
+    at: usize,
+    i: u8,
+    values: &[Interval],
+    centres: &[Interval],
+    factors: &[Interval],
+    bx: &IBox,
+    moving: &mut [bool],
+    slopes: &mut [Interval],
+)
+    requires node { at < length nodes.now }
+    requires ordered { AreOrdered nodes.now (length bx.now) }
+    requires values { length nodes.now ≤ length values.now }
+    requires centres { length nodes.now ≤ length centres.now }
+    requires factors { length nodes.now ≤ length factors.now }
+    requires moving { length nodes.now ≤ length moving.old }
+    requires slopes { length nodes.now ≤ length slopes.old }
+    requires divides { node_divides_well values.now (node_at nodes.now at) ≡ true }
+    ensures moving_in { length nodes.now ≤ length moving.new }
+    ensures slopes_in { length nodes.now ≤ length slopes.new }
+    ensures earlier { (k : ℕ) → k < at →
+        seen moving.new slopes.new k ≡ seen moving.old slopes.old k }
+    ensures here { seen moving.new slopes.new at ≡
+        moving_slope i (place_of factors.now at) values.now centres.now moving.old slopes.old
+        (node_at nodes.now at) }
+{
+    let node = nodes[at];
+    if !has_variable(node, i, moving) {
+        learn_divisor(node, values);
+        moving[at] = false;
+        return;
+    }
+    slopes[at] = slope(node, i, factors[at], values, centres, moving, slopes);
+    moving[at] = true;
+}
+
+// Gives each node that moves its slope for variable `i`, and tells of each whether it moves.
 pub(crate) fn slope_all(
     nodes: &[Node],
     i: u8,
@@ -135,7 +169,8 @@ pub(crate) fn slope_all(
     slopes: &mut [Interval],
 )
     requires ordered { AreOrdered nodes.now (length bx.now) }
-    requires total { (k : ℕ) → k < length nodes.now → total_of bx.now (term_at (terms nodes.now) k) ≡ true }
+    requires total { (k : ℕ) → k < length nodes.now →
+        total_of bx.now (term_at (terms nodes.now) k) ≡ true }
     requires valued { AreValues bx.now nodes.now values.now }
     requires centred { AreOf (at_centre bx.now) nodes.now centres.now }
     requires factors { AreFactors values.now centres.now nodes.now factors.now }
@@ -144,26 +179,68 @@ pub(crate) fn slope_all(
     ensures slopes { AreSlopes bx.now i nodes.now moving.new slopes.new }
 {
     for at in 0..nodes.len() {
-        let node = nodes[at];
-        let moves = has_variable(node, i, moving);
-        slopes[at] = slope(node, i, moves, factors[at], values, centres, moving, slopes);
-        moving[at] = moves;
+        step(nodes, at, i, values, centres, factors, bx, moving, slopes);
     }
 }
 
-// A sum and a slope times its variable's distance from the centre. The slope is [0,0] unless it
-// moves.
+fn reads_place(node: Node, i: u8) -> bool
+    ensures { result ≡ is_place i node }
+{
+    match node {
+        Node::Place(j) => i == j,
+        _ => false,
+    }
+}
+
+// How far variable `i` may be from its centre. The node of the variable has the centre.
+fn distance(nodes: &[Node], i: u8, values: &[Interval], centres: &[Interval], bx: &IBox) -> Interval
+    requires place { i < length bx.now }
+    requires finite { has_finite_ends bx.now ≡ true }
+    requires ordered { AreOrdered nodes.now (length bx.now) }
+    requires valued { AreValues bx.now nodes.now values.now }
+    requires centred { AreOf (at_centre bx.now) nodes.now centres.now }
+    ensures { result ≡ from_centre_of (place_of bx.now i) }
+{
+    for at in 0..nodes.len() {
+        if reads_place(nodes[at], i) {
+            return values[at].sub(centres[at]);
+        }
+    }
+    from_centre(place(bx, i))
+}
+
+// The slope, where the node moves.
+pub(crate) fn seen_slope(moves: bool, slope: Interval) -> Interval
+    ensures { result ≡ (if moves then slope else zero_slope) }
+{
+    if moves { slope } else { zero() }
+}
+
+// A sum and variable `i`'s slope times its distance from the centre, where the root moves.
 #[tactic(auto, using(crate::proofs::Numbers::add_still))]
-fn added(sum: Interval, moves: bool, slope: Interval, x: Interval) -> Interval
-    requires finite { (is_finite x.lo && is_finite x.hi) ≡ true }
-    requires still { moves ≡ false → slope ≡ zero_slope }
-    ensures { result ≡ sum_of sum (product_of slope (from_centre_of x)) }
+fn added(
+    sum: Interval,
+    moves: bool,
+    slope: Interval,
+    nodes: &[Node],
+    i: u8,
+    values: &[Interval],
+    centres: &[Interval],
+    bx: &IBox,
+) -> Interval
+    requires place { i < length bx.now }
+    requires finite { has_finite_ends bx.now ≡ true }
+    requires ordered { AreOrdered nodes.now (length bx.now) }
+    requires valued { AreValues bx.now nodes.now values.now }
+    requires centred { AreOf (at_centre bx.now) nodes.now centres.now }
+    ensures { result ≡ sum_of sum
+        (product_of (if moves then slope else zero_slope) (from_centre_of (place_of bx.now i))) }
 {
     if !moves {
         learn(sum);
         return sum;
     }
-    sum.add(slope.mul(from_centre(x)))
+    sum.add(slope.mul(distance(nodes, i, values, centres, bx)))
 }
 
 // The interval at the centre, and each slope times its variable's distance from there.
@@ -180,7 +257,8 @@ pub(crate) fn linear(
     requires ordered { AreOrdered nodes.now (length bx.now) }
     requires root { root < length nodes.now }
     requires finite { has_finite_ends bx.now ≡ true }
-    requires total { (k : ℕ) → k < length nodes.now → total_of bx.now (term_at (terms nodes.now) k) ≡ true }
+    requires total { (k : ℕ) → k < length nodes.now →
+        total_of bx.now (term_at (terms nodes.now) k) ≡ true }
     requires valued { AreValues bx.now nodes.now values.now }
     requires centred { AreOf (at_centre bx.now) nodes.now centres.now }
     requires factors { AreFactors values.now centres.now nodes.now factors.now }
@@ -191,7 +269,16 @@ pub(crate) fn linear(
     let mut sum = centres[root];
     for i in 0..bx.dims() {
         slope_all(nodes, i, values, centres, factors, bx, moving, slopes);
-        sum = added(sum, moving[root], slopes[root], place(bx, i));
+        sum = added(
+            sum,
+            moving[root],
+            slopes[root],
+            nodes,
+            i,
+            values,
+            centres,
+            bx,
+        );
     }
     sum
 }

@@ -8,13 +8,13 @@ ghost use Rattle.pv_hc4.specs.Graphs.{sides_named, AreValues, AreReady};
 ghost use Rattle.pv_hc4.specs.Nodes.{terms, term_at};
 ghost use Rattle.pv_hc4.specs.Chain.{at};
 ghost use Rattle.pv_hc4.specs.Totality.{total_of};
-ghost use Rattle.pv_slope.specs.Centered.{centered_of, centered_from, slope_where, gap_of, Encloses};
+ghost use Rattle.pv_slope.specs.Centered.{centered_of, centered_from, slope_where, gap_of, has_finite_ends as have_finite_ends, Encloses};
 ghost use Rattle.pv_slope.specs.Flat.{term_in, IsFlat};
 ghost use Rattle.pv_slope.specs.Ranges.{ranged_of};
 
 use crate::centre::{centre_all, has_finite_ends};
 use crate::columns::Columns;
-use crate::passes::{factor_all, linear, slope_all};
+use crate::passes::{factor_all, linear, seen_slope, slope_all};
 use pv_box::IBox;
 use pv_expr::{Constraint, Relation};
 use pv_hc4::builder::Builder;
@@ -89,7 +89,7 @@ impl Slopes {
     {
         self.learn();
         let _dims = bx.dims();
-        let found = self.range_in(&mut Columns::new(alloc), bx)?;
+        let found = self.range_in(&mut Columns::new(alloc), bx, has_finite_ends(bx))?;
         match found {
             Some(ranged) => Ok(Some(ranged.interval)),
             None => Ok(None),
@@ -127,13 +127,15 @@ impl Slopes {
         let _ = &self.nodes;
     }
 
-    // As `range`, with room that is kept.
+    // As `range`, with room that is kept; `finite` says that no end of the box is infinite.
     pub(crate) fn range_in(
         &self,
         columns: &mut Columns,
         bx: &IBox,
+        finite: bool,
     ) -> Result<Option<Ranged>, Memory>
-        requires { length bx.now ≡ self.now.dims }
+        requires dims { length bx.now ≡ self.now.dims }
+        requires finite { finite ≡ have_finite_ends bx.now }
         ensures { IfOk result (λ r. r ≡ ranged_of bx.now (term_in self.now)) }
     {
         fill_columns(columns, &self.ready)?;
@@ -141,6 +143,7 @@ impl Slopes {
             &self.nodes,
             self.root,
             bx,
+            finite,
             &mut columns.values,
             &mut columns.centres,
             &mut columns.factors,
@@ -150,16 +153,16 @@ impl Slopes {
     }
 }
 
-// Gives the first two columns the constants' intervals, and the others a place for each node.
+// Gives the first column the constants' intervals, and the others a place for each node.
 fn fill_columns(columns: &mut Columns, ready: &[Interval]) -> Result<(), Memory>
     ensures values { OnOk result (columns.new.values.items ≡ ready.now) }
-    ensures centres { OnOk result (columns.new.centres.items ≡ ready.now) }
+    ensures centres { OnOk result (length ready.now ≤ length columns.new.centres.items) }
     ensures factors { OnOk result (length ready.now ≤ length columns.new.factors.items) }
     ensures moving { OnOk result (length ready.now ≤ length columns.new.moving.items) }
     ensures slopes { OnOk result (length ready.now ≤ length columns.new.slopes.items) }
 {
     fill(&mut columns.values, ready)?;
-    fill(&mut columns.centres, ready)?;
+    lengthen(&mut columns.centres, ready.len())?;
     lengthen(&mut columns.factors, ready.len())?;
     lengthen_flags(&mut columns.moving, ready.len())?;
     lengthen(&mut columns.slopes, ready.len())
@@ -194,13 +197,14 @@ fn root_is_total(nodes: &[Node], root: usize, values: &[Interval], bx: &IBox) ->
     is_total(nodes, values, bx)
 }
 
-// The centered form of node `root` from its forward interval. At the entry the columns have the
-// constants' intervals, or a place for each node.
+// The centered form of node `root` from its forward interval. At the entry the columns have a
+// place for each node.
 #[tactic(auto, using(crate::proofs::Still::all_total))]
 fn centered(
     nodes: &[Node],
     root: usize,
     bx: &IBox,
+    finite: bool,
     total: bool,
     values: &[Interval],
     centres: &mut [Interval],
@@ -209,9 +213,10 @@ fn centered(
     slopes: &mut [Interval],
 ) -> Option<Interval>
     requires flat { IsFlat nodes.now root (length bx.now) }
+    requires finite { finite ≡ have_finite_ends bx.now }
     requires total { total ≡ total_of bx.now (term_at (terms nodes.now) root) }
     requires valued { AreValues bx.now nodes.now values.now }
-    requires centres { AreReady nodes.now centres.old }
+    requires centres { length nodes.now ≤ length centres.old }
     requires factors { length nodes.now ≤ length factors.old }
     requires moving { length nodes.now ≤ length moving.old }
     requires slopes { length nodes.now ≤ length slopes.old }
@@ -219,7 +224,7 @@ fn centered(
         (at values.now root) }
 {
     let whole = values[root];
-    if !has_finite_ends(bx) {
+    if !finite {
         return Some(whole);
     }
     if !total {
@@ -230,20 +235,23 @@ fn centered(
     whole.meet(linear(nodes, root, values, centres, factors, bx, moving, slopes))
 }
 
-// The range of node `root` on a box. At the entry the columns have the constants' intervals.
+// The range of node `root` on a box. At the entry the first column has the constants' intervals, and
+// the others a place for each node.
 fn range_of(
     nodes: &[Node],
     root: usize,
     bx: &IBox,
+    finite: bool,
     values: &mut [Interval],
     centres: &mut [Interval],
     factors: &mut [Interval],
     moving: &mut [bool],
     slopes: &mut [Interval],
 ) -> Option<Ranged>
+    requires finite { finite ≡ have_finite_ends bx.now }
     requires flat { IsFlat nodes.now root (length bx.now) }
     requires values { AreReady nodes.now values.old }
-    requires centres { AreReady nodes.now centres.old }
+    requires centres { length nodes.now ≤ length centres.old }
     requires factors { length nodes.now ≤ length factors.old }
     requires moving { length nodes.now ≤ length moving.old }
     requires slopes { length nodes.now ≤ length slopes.old }
@@ -254,15 +262,15 @@ fn range_of(
     }
     let total = root_is_total(nodes, root, values, bx);
     match centered(
-        nodes, root, bx, total, values, centres, factors, moving, slopes,
+        nodes, root, bx, finite, total, values, centres, factors, moving, slopes,
     ) {
         Some(interval) => Some(Ranged { interval, total }),
         None => None,
     }
 }
 
-// The slope of node `root` for variable `i`. At the entry the columns have the constants'
-// intervals.
+// The slope of node `root` for variable `i`. At the entry the first column has the constants'
+// intervals, and the others a place for each node.
 #[tactic(auto, using(crate::proofs::Still::all_total))]
 fn slope_at(
     nodes: &[Node],
@@ -277,7 +285,7 @@ fn slope_at(
 ) -> Option<Interval>
     requires flat { IsFlat nodes.now root (length bx.now) }
     requires values { AreReady nodes.now values.old }
-    requires centres { AreReady nodes.now centres.old }
+    requires centres { length nodes.now ≤ length centres.old }
     requires factors { length nodes.now ≤ length factors.old }
     requires moving { length nodes.now ≤ length moving.old }
     requires slopes { length nodes.now ≤ length slopes.old }
@@ -295,5 +303,5 @@ fn slope_at(
     centre_all(nodes, bx, values, centres);
     factor_all(nodes, bx.dims(), values, centres, factors);
     slope_all(nodes, i, values, centres, factors, bx, moving, slopes);
-    Some(slopes[root])
+    Some(seen_slope(moving[root], slopes[root]))
 }
