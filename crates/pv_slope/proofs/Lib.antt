@@ -16,3 +16,6 @@ pub mod Matched
 pub mod Weighing
 pub mod Zeros
 pub mod Firsts
+pub mod Numbers
+pub mod Still
+pub mod Inside

@@ -1,7 +1,7 @@
 -- Passes over the nodes of an expression: what each leaves is the expression's, node by node.
-use Rattle.std.proofs.Common.{◌≡◌, ◌≢◌, ℕ, zero, suc, ◌+◌, ◌<◌, List, length, refl, ap, sym, ◌∙◌, subst, arith, get_or, below_more}
+use Rattle.std.proofs.Common.{◌≡◌, ◌≢◌, ℕ, zero, suc, ◌+◌, ◌<◌, List, length, refl, ap, sym, ◌∙◌, arith, get_or, below_more}
 use Rattle.std.proofs.lemmas.List.{get_or_read, get_or-set_same, get_or-set_other}
-use Rattle.std.specs.Prelude.{slice_set}
+use Rattle.std.specs.Prelude.{Bool, slice_set}
 use Rattle.pv_interval.specs.Bounds.{Bounds, everything}
 use Rattle.pv_expr.specs.Terms.{Term}
 use Rattle.pv_hc4.specs.declared.node.UnaryOp.{UnaryOp}
@@ -12,12 +12,13 @@ use Rattle.pv_hc4.specs.declared.node.Node.{Node}
 use Rattle.pv_hc4.specs.declared.node.Node.TheVariants.{Constant, Place, One, Two}
 use Rattle.pv_hc4.specs.Chain.{at}
 use Rattle.pv_hc4.specs.Forward.{unary_of, binary_of}
-use Rattle.pv_hc4.specs.Graphs.{AreValues, IsReady}
+use Rattle.pv_hc4.specs.Graphs.{AreValues}
 use Rattle.pv_hc4.specs.Nodes.{AreOrdered, ReadsBelow, node_at, node_term, terms, term_at, unary_named, binary_named}
 use Rattle.pv_hc4.proofs.Growth.{term_step}
 use Rattle.pv_hc4.proofs.Passing.{node_default}
 use Rattle.pv_slope.specs.Centres.{known, met_with, on_box, at_centre}
-use Rattle.pv_slope.specs.Flat.{AreOf, AreFactors, node_centre, node_factor, node_slope, unary_factor, binary_factor, unary_slope_by, binary_slope_by}
+use Rattle.pv_slope.specs.Flat.{AreOf, AreFactors, node_centre, node_factor, unary_factor, binary_factor, unary_slope_by, binary_slope_by}
+use Rattle.pv_slope.specs.Moving.{seen, moving_slope}
 use Rattle.pv_slope.specs.SlopeTable.{unary_slope, binary_slope, slope_of}
 
 -- one more node's interval
@@ -30,7 +31,7 @@ more_of f ns xs i x h done here =
     (here ∙ sym (get_or-set_same xs i x everything h))
 
 pub values_of : (b : List Bounds) (ns : List Node) (vs : List Bounds) → AreValues b ns vs → AreOf (on_box b) ns vs
-values_of b ns vs h = record { same = h.same; each = λ k l. ap known (h.each k l) }
+values_of b ns vs h = record { within = let g = h.same in omega (arith, g); each = λ k l. ap known (h.each k l) }
 
 -- what a loop read of a list
 pub read_at : (xs : List Bounds) (i : ℕ) (x : Bounds) → i < length xs → x ≡ get_or xs i x → x ≡ at xs i
@@ -38,37 +39,28 @@ read_at xs i x h e = get_or_read xs i x h e everything
 
 -- ---- the centre
 
-centre_here : (b : List Bounds) (ts : List Term) (cs : List Bounds) (i : ℕ) (whole own : Bounds) (n : Node) → ReadsBelow i n
-    → ((k : ℕ) → k < i → at_centre b (term_at ts k) ≡ at cs k) → whole ≡ on_box b (node_term ts n) → IsReady n own
-    → node_centre b cs whole own n ≡ at_centre b (node_term ts n)
-centre_here b ts cs i whole own (Constant p q) r h w e = e
-centre_here b ts cs i whole own (Place j) r h w e = refl
-centre_here b ts cs i whole own (One o a) r h w e =
+centre_here : (b : List Bounds) (ts : List Term) (cs : List Bounds) (i : ℕ) (whole : Bounds) (n : Node) → ReadsBelow i n
+    → ((k : ℕ) → k < i → at_centre b (term_at ts k) ≡ at cs k) → whole ≡ on_box b (node_term ts n)
+    → node_centre b cs whole n ≡ at_centre b (node_term ts n)
+centre_here b ts cs i whole (Constant p q) r h w = w
+centre_here b ts cs i whole (Place j) r h w = refl
+centre_here b ts cs i whole (One o a) r h w =
     ap (λ x. met_with (unary_of (unary_named o) x) whole) (sym (h a r)) ∙ ap (met_with (unary_of (unary_named o) (at_centre b (term_at ts a)))) w
-centre_here b ts cs i whole own (Two o a c) r h w e =
+centre_here b ts cs i whole (Two o a c) r h w =
     ap (λ x. met_with (known (binary_of (binary_named o) x (at cs c))) whole) (sym (h a r.0))
     ∙ ap (λ x. met_with (known (binary_of (binary_named o) (at_centre b (term_at ts a)) x)) whole) (sym (h c r.1))
     ∙ ap (met_with (known (binary_of (binary_named o) (at_centre b (term_at ts a)) (at_centre b (term_at ts c))))) w
 
-pub centre_then : (b : List Bounds) (ns : List Node) (vs cs : List Bounds) (d i : ℕ) (n e : Node) (whole own x : Bounds) → AreOrdered ns d → AreValues b ns vs
-    → i < length ns → length cs ≡ length ns → ((k : ℕ) → k < i → at_centre b (term_at (terms ns) k) ≡ at cs k)
-    → ((k : ℕ) → k < length ns → i < k + 1 → IsReady (node_at ns k) (at cs k))
-    → n ≡ get_or ns i e → whole ≡ get_or vs i whole → own ≡ get_or cs i own → x ≡ node_centre b cs whole own n → at_centre b (term_at (terms ns) i) ≡ x
-centre_then b ns vs cs d i n e whole own x o v h same done ready n_is whole_is own_is x_is =
+pub centre_then : (b : List Bounds) (ns : List Node) (vs cs : List Bounds) (d i : ℕ) (n e : Node) (whole x : Bounds) → AreOrdered ns d → AreValues b ns vs
+    → i < length ns → ((k : ℕ) → k < i → at_centre b (term_at (terms ns) k) ≡ at cs k)
+    → n ≡ get_or ns i e → whole ≡ get_or vs i whole → x ≡ node_centre b cs whole n → at_centre b (term_at (terms ns) i) ≡ x
+centre_then b ns vs cs d i n e whole x o v h done n_is whole_is x_is =
     let node_is : n ≡ node_at ns i = n_is ∙ node_default ns i e h in
     let in_vs : i < length vs = let g = v.same in omega arith in
-    let in_cs : i < length cs = omega arith in
     let step = term_step ns i h (o.reads i h) in
-    let good : IsReady (node_at ns i) own = subst (IsReady (node_at ns i)) (sym (read_at cs i own in_cs own_is)) (ready i h (omega arith)) in
     let w : whole ≡ on_box b (node_term (terms ns) (node_at ns i)) = read_at vs i whole in_vs whole_is ∙ sym ((values_of b ns vs v).each i h) ∙ ap (on_box b) step in
-    ap (at_centre b) step ∙ sym (centre_here b (terms ns) cs i whole own (node_at ns i) (o.reads i h) done w good)
-    ∙ sym (ap (node_centre b cs whole own) node_is) ∙ sym x_is
-
-pub still_ready : (ns : List Node) (cs : List Bounds) (i : ℕ) (x : Bounds) → ((k : ℕ) → k < length ns → i < k + 1 → IsReady (node_at ns k) (at cs k))
-    → (k : ℕ) → k < length ns → i + 1 < k + 1 → IsReady (node_at ns k) (at (slice_set cs i x) k)
-still_ready ns cs i x ready k h l =
-    let ne : k ≢ i = omega arith in
-    subst (IsReady (node_at ns k)) (sym (get_or-set_other cs i k x everything ne)) (ready k h (omega arith))
+    ap (at_centre b) step ∙ sym (centre_here b (terms ns) cs i whole (node_at ns i) (o.reads i h) done w)
+    ∙ sym (ap (node_centre b cs whole) node_is) ∙ sym x_is
 
 -- ---- the slopes
 
@@ -97,32 +89,38 @@ binary_same o f g c d s t p q r u v w e h k l m n =
     ∙ ap (λ x. binary_slope (binary_named o) f g x u v w) k ∙ ap (λ x. binary_slope (binary_named o) f g c x v w) l
     ∙ ap (λ x. binary_slope (binary_named o) f g c d x w) m ∙ ap (binary_slope (binary_named o) f g c d s) n)
 
-slope_here : (b : List Bounds) (j : ℕ) (ts : List Term) (vs cs ss : List Bounds) (i : ℕ) (n : Node) → ReadsBelow i n
+slope_here : (b : List Bounds) (j : ℕ) (ts : List Term) (vs cs : List Bounds) (ms : List Bool) (ss : List Bounds) (i : ℕ) (n : Node) → ReadsBelow i n
     → ((k : ℕ) → k < i → on_box b (term_at ts k) ≡ at vs k) → ((k : ℕ) → k < i → at_centre b (term_at ts k) ≡ at cs k)
-    → ((k : ℕ) → k < i → slope_of b j (term_at ts k) ≡ at ss k)
-    → node_slope j (node_factor vs cs n) vs cs ss n ≡ slope_of b j (node_term ts n)
-slope_here b j ts vs cs ss i (Constant p q) r v c s = refl
-slope_here b j ts vs cs ss i (Place m) r v c s = refl
-slope_here b j ts vs cs ss i (One o a) r v c s =
-    unary_row o (at vs a) (at cs a) (at ss a)
-    ∙ unary_same o (at vs a) (at cs a) (at ss a) (on_box b (term_at ts a)) (at_centre b (term_at ts a)) (slope_of b j (term_at ts a)) (v a r) (c a r) (s a r)
-slope_here b j ts vs cs ss i (Two o a e) r v c s =
-    binary_row o (at vs a) (at vs e) (at cs a) (at cs e) (at ss a) (at ss e)
-    ∙ binary_same o (at vs a) (at vs e) (at cs a) (at cs e) (at ss a) (at ss e)
+    → ((k : ℕ) → k < i → slope_of b j (term_at ts k) ≡ seen ms ss k)
+    → moving_slope j (node_factor vs cs n) vs cs ms ss n ≡ slope_of b j (node_term ts n)
+slope_here b j ts vs cs ms ss i (Constant p q) r v c s = refl
+slope_here b j ts vs cs ms ss i (Place m) r v c s = refl
+slope_here b j ts vs cs ms ss i (One o a) r v c s =
+    unary_row o (at vs a) (at cs a) (seen ms ss a)
+    ∙ unary_same o (at vs a) (at cs a) (seen ms ss a) (on_box b (term_at ts a)) (at_centre b (term_at ts a)) (slope_of b j (term_at ts a)) (v a r) (c a r) (s a r)
+slope_here b j ts vs cs ms ss i (Two o a e) r v c s =
+    binary_row o (at vs a) (at vs e) (at cs a) (at cs e) (seen ms ss a) (seen ms ss e)
+    ∙ binary_same o (at vs a) (at vs e) (at cs a) (at cs e) (seen ms ss a) (seen ms ss e)
     (on_box b (term_at ts a)) (on_box b (term_at ts e)) (at_centre b (term_at ts a)) (at_centre b (term_at ts e)) (slope_of b j (term_at ts a)) (slope_of b j (term_at ts e))
     (v a r.0) (v e r.1) (c a r.0) (c e r.1) (s a r.0) (s e r.1)
 
-pub slope_then : (b : List Bounds) (j : ℕ) (ns : List Node) (vs cs fs ss : List Bounds) (d i : ℕ) (n e : Node) (factor x : Bounds) → AreOrdered ns d
+slope_then : (b : List Bounds) (j : ℕ) (ns : List Node) (vs cs fs : List Bounds) (ms : List Bool) (ss : List Bounds) (d i : ℕ) → AreOrdered ns d
     → AreValues b ns vs → AreOf (at_centre b) ns cs → AreFactors vs cs ns fs → i < length ns
-    → ((k : ℕ) → k < i → slope_of b j (term_at (terms ns) k) ≡ at ss k)
-    → n ≡ get_or ns i e → factor ≡ get_or fs i factor → x ≡ node_slope j factor vs cs ss n → slope_of b j (term_at (terms ns) i) ≡ x
-slope_then b j ns vs cs fs ss d i n e factor x o v c f h done n_is factor_is x_is =
-    let node_is : n ≡ node_at ns i = n_is ∙ node_default ns i e h in
-    let in_fs : i < length fs = let g = f.same in omega arith in
+    → ((k : ℕ) → k < i → slope_of b j (term_at (terms ns) k) ≡ seen ms ss k)
+    → slope_of b j (term_at (terms ns) i) ≡ moving_slope j (at fs i) vs cs ms ss (node_at ns i)
+slope_then b j ns vs cs fs ms ss d i o v c f h done =
     let step = term_step ns i h (o.reads i h) in
-    let by : factor ≡ node_factor vs cs (node_at ns i) = read_at fs i factor in_fs factor_is ∙ sym (f.each i h) in
     let w = values_of b ns vs v in
     ap (slope_of b j) step
-    ∙ sym (slope_here b j (terms ns) vs cs ss i (node_at ns i) (o.reads i h) (λ k l. w.each k (omega arith)) (λ k l. c.each k (omega arith)) done)
-    ∙ sym (ap (λ z. node_slope j z vs cs ss (node_at ns i)) by)
-    ∙ sym (ap (node_slope j factor vs cs ss) node_is) ∙ sym x_is
+    ∙ sym (slope_here b j (terms ns) vs cs ms ss i (node_at ns i) (o.reads i h) (λ k l. w.each k (omega arith)) (λ k l. c.each k (omega arith)) done)
+    ∙ ap (λ z. moving_slope j z vs cs ms ss (node_at ns i)) (f.each i h)
+
+-- one more node's slope, in lists in which the earlier ones' are still seen
+pub slopes_more : (b : List Bounds) (j : ℕ) (ns : List Node) (vs cs fs : List Bounds) (ms : List Bool) (ss : List Bounds) (ms' : List Bool) (ss' : List Bounds) (d i : ℕ)
+    → AreOrdered ns d → AreValues b ns vs → AreOf (at_centre b) ns cs → AreFactors vs cs ns fs → i < length ns
+    → ((k : ℕ) → k < i → slope_of b j (term_at (terms ns) k) ≡ seen ms ss k) → ((k : ℕ) → k < i → seen ms' ss' k ≡ seen ms ss k)
+    → seen ms' ss' i ≡ moving_slope j (at fs i) vs cs ms ss (node_at ns i)
+    → (k : ℕ) → k < i + 1 → slope_of b j (term_at (terms ns) k) ≡ seen ms' ss' k
+slopes_more b j ns vs cs fs ms ss ms' ss' d i o v c f h done earlier here =
+    below_more (λ k. slope_of b j (term_at (terms ns) k) ≡ seen ms' ss' k) i (λ k l. done k l ∙ sym (earlier k l))
+    (slope_then b j ns vs cs fs ms ss d i o v c f h done ∙ sym here)

@@ -1,6 +1,7 @@
 -- An expression as a list of nodes, and what one pass over them leaves.
-use Rattle.std.specs.Prelude.{◌≡◌, ℕ, zero, suc, ◌<◌, List, length, nat_eq, if◌then◌else◌}
+use Rattle.std.specs.Prelude.{◌≡◌, ℕ, zero, suc, ◌<◌, ◌≤◌, List, length, Some}
 use Rattle.pv_interval.specs.Bounds.{Bounds, everything}
+use Rattle.pv_interval.specs.Subsets.{IsSubset}
 use Rattle.pv_interval.specs.Tables as table
 use Rattle.pv_expr.specs.declared.constraint.Relation.{Relation}
 use Rattle.pv_expr.specs.Systems.{IsOver}
@@ -16,7 +17,7 @@ use Rattle.pv_hc4.specs.Chain.{at}
 use Rattle.pv_hc4.specs.Forward.{unary_of, binary_of}
 use Rattle.pv_hc4.specs.Nodes.{AreOrdered, terms, term_at, node_at, unary_named, binary_named}
 use Rattle.pv_slope.specs.Centres.{centre_of, known, met_with}
-use Rattle.pv_slope.specs.SlopeTable.{zero_slope, one_slope, absolute_slope, power_factor, quotient_slope, least_slope, greatest_slope}
+use Rattle.pv_slope.specs.SlopeTable.{zero_slope, absolute_slope, power_factor, quotient_slope, least_slope, greatest_slope}
 
 -- slopes as their callers see them: the nodes of left - right, and the number of its own node
 pub record Parts : Type 0 where
@@ -38,15 +39,29 @@ pub record IsFlat (ns : List Node) (root d : ℕ) : Type 0 where
 
 -- each of the intervals is f of its node's term
 pub record AreOf (f : Term → Bounds) (ns : List Node) (xs : List Bounds) : Type 0 where
-  pub same : length xs ≡ length ns
+  pub within : length ns ≤ length xs
   pub each : (k : ℕ) → k < length ns → f (term_at (terms ns) k) ≡ at xs k
 
--- a node's interval at the centre of the box b over those of earlier nodes; whole is its forward interval, own a constant's
-abbrev pub node_centre : List Bounds → List Bounds → Bounds → Bounds → Node → Bounds
-node_centre b cs whole own (Constant p q) = own
-node_centre b cs whole own (Place i) = table.exactly (centre_of (at b i))
-node_centre b cs whole own (One o a) = met_with (unary_of (unary_named o) (at cs a)) whole
-node_centre b cs whole own (Two o a c) = met_with (known (binary_of (binary_named o) (at cs a) (at cs c))) whole
+-- a node's interval at the centre of the box b over those of earlier nodes; whole is its forward interval
+abbrev pub node_centre : List Bounds → List Bounds → Bounds → Node → Bounds
+node_centre b cs whole (Constant p q) = whole
+node_centre b cs whole (Place i) = table.exactly (centre_of (at b i))
+node_centre b cs whole (One o a) = met_with (unary_of (unary_named o) (at cs a)) whole
+node_centre b cs whole (Two o a c) = met_with (known (binary_of (binary_named o) (at cs a) (at cs c))) whole
+
+-- a node's forward interval w over those of earlier nodes
+abbrev pub IsWholeOf : List Bounds → List Bounds → Bounds → Node → Type 0
+IsWholeOf b vs w (Constant p q) = Unit {0}
+IsWholeOf b vs w (Place i) = w ≡ at b i
+IsWholeOf b vs w (One o a) = w ≡ unary_of (unary_named o) (at vs a)
+IsWholeOf b vs w (Two o a c) = binary_of (binary_named o) (at vs a) (at vs c) ≡ Some w
+
+-- the intervals at the centre of the nodes that a node reads lie in their forward intervals
+abbrev pub ArePartsInside : List Bounds → List Bounds → Node → Type 0
+ArePartsInside vs cs (Constant p q) = Unit {0}
+ArePartsInside vs cs (Place i) = Unit {0}
+ArePartsInside vs cs (One o a) = IsSubset (at cs a) (at vs a)
+ArePartsInside vs cs (Two o a c) = IsSubset (at cs a) (at vs a) × IsSubset (at cs c) (at vs c)
 
 abbrev pub unary_factor : UnaryOp → Bounds → Bounds → Bounds
 unary_factor Neg f c = everything
@@ -69,7 +84,7 @@ node_factor vs cs (One o a) = unary_factor o (at vs a) (at cs a)
 node_factor vs cs (Two o a c) = binary_factor o (at cs a) (at cs c)
 
 pub record AreFactors (vs cs : List Bounds) (ns : List Node) (fs : List Bounds) : Type 0 where
-  pub same : length fs ≡ length ns
+  pub within : length ns ≤ length fs
   pub each : (k : ℕ) → k < length ns → node_factor vs cs (node_at ns k) ≡ at fs k
 
 abbrev pub unary_slope_by : UnaryOp → Bounds → Bounds → Bounds → Bounds
@@ -85,10 +100,3 @@ binary_slope_by Mul by f g d s t = table.sum_of (table.product_of f t) (table.pr
 binary_slope_by Div by f g d s t = quotient_slope by g s t
 binary_slope_by Min by f g d s t = least_slope f g s t
 binary_slope_by Max by f g d s t = greatest_slope f g s t
-
--- a node's slope for variable i over those of earlier nodes
-abbrev pub node_slope : ℕ → Bounds → List Bounds → List Bounds → List Bounds → Node → Bounds
-node_slope i by vs cs ss (Constant p q) = zero_slope
-node_slope i by vs cs ss (Place j) = if nat_eq i j then one_slope else zero_slope
-node_slope i by vs cs ss (One o a) = unary_slope_by o by (at vs a) (at ss a)
-node_slope i by vs cs ss (Two o a c) = binary_slope_by o by (at vs a) (at vs c) (at cs c) (at ss a) (at ss c)

@@ -4,6 +4,7 @@ pub mod Excluding
 pub mod Flat
 pub mod Laws
 pub mod Matching
+pub mod Moving
 pub mod Programs
 pub mod Props
 pub mod Ranges

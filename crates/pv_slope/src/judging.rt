@@ -2,7 +2,7 @@
 
 ghost use Rattle.std.specs.Prelude.{◌≡◌, ◌&&◌, length, IfOk};
 ghost use Rattle.pv_hc4.specs.Totality.{total_of};
-ghost use Rattle.pv_slope.specs.Centered.{centered_of};
+ghost use Rattle.pv_slope.specs.Centered.{centered_of, has_finite_ends};
 ghost use Rattle.pv_slope.specs.Flat.{term_in};
 ghost use Rattle.pv_slope.specs.Tests.{none_stands as none_stands_so, all_stand as all_stand_so, none_in, all_in};
 
@@ -53,16 +53,23 @@ fn both(a: bool, b: bool) -> bool
 }
 
 impl Slopes {
-    // What the centered form says of the constraint on a box.
-    pub(crate) fn judge_in(&self, columns: &mut Columns, bx: &IBox) -> Result<Verdict, Memory>
-        requires { length bx.now ≡ self.now.dims }
+    // What the centered form says of the constraint on a box; `finite` says that no end of it is
+    // infinite.
+    pub(crate) fn judge_in(
+        &self,
+        columns: &mut Columns,
+        bx: &IBox,
+        finite: bool,
+    ) -> Result<Verdict, Memory>
+        requires dims { length bx.now ≡ self.now.dims }
+        requires finite { finite ≡ has_finite_ends bx.now }
         ensures none { IfOk result (λ v. v.none ≡
             none_in self.now.relation (centered_of bx.now (term_in self.now))) }
         ensures sure { IfOk result (λ v. v.sure ≡
             (total_of bx.now (term_in self.now) &&
             all_in self.now.relation (centered_of bx.now (term_in self.now)))) }
     {
-        match self.range_in(columns, bx)? {
+        match self.range_in(columns, bx, finite)? {
             Some(found) => Ok(Verdict {
                 none: none_stands(self.relation, found.interval),
                 sure: both(found.total, all_stand(self.relation, found.interval)),

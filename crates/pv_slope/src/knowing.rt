@@ -7,10 +7,12 @@ ghost use Rattle.pv_ctc.specs.Plans.{plan_of};
 ghost use Rattle.pv_tree.specs.KnownHalves.{HoldsOfHalves};
 ghost use Rattle.pv_settle.specs.Rules.{dims_of};
 ghost use Rattle.pv_settle.specs.Settlers.{rule_of};
+ghost use Rattle.pv_slope.specs.Centered.{has_finite_ends as have_finite_ends};
 ghost use Rattle.pv_slope.specs.Programs.{program_none, sure_tests};
 ghost use Rattle.pv_slope.specs.Settling.{settle_centered, settle_left};
 ghost use Rattle.pv_slope.specs.Tests.{centered_none, counts_as_sure};
 
+use crate::centre::has_finite_ends;
 use crate::columns::Columns;
 use crate::judging::Verdict;
 use crate::room::Room;
@@ -109,10 +111,11 @@ impl CenteredSettler {
             (Knows (sides_in (rule_of self.now.settler).graphs) known.new to.now) }
     {
         let program = self.settler.program();
+        let finite = has_finite_ends(to);
         room.none.clear();
         room.sure.clear();
         for i in 0..self.slopes.len() {
-            let verdict = self.judge(i, &mut room.scratch, &mut room.columns, to, known)?;
+            let verdict = self.judge(i, &mut room.scratch, &mut room.columns, to, finite, known)?;
             room.none.push(verdict.none)?;
             room.sure.push(verdict.sure)?;
             if has_none(program, &room.none) {
@@ -122,15 +125,18 @@ impl CenteredSettler {
         Ok(has_none(program, &room.none))
     }
 
-    // What is found of constraint `i`; nothing is worked out where it is sure by its sides.
+    // What is found of constraint `i` on a box, of which `finite` says that no end is infinite.
+    // Nothing is worked out where the constraint is sure by its sides.
     fn judge(
         &self,
         i: usize,
         scratch: &mut Scratch,
         columns: &mut Columns,
         to: &IBox,
+        finite: bool,
         known: &mut Known,
     ) -> Result<Verdict, Memory>
+        requires finite { finite ≡ have_finite_ends to.now }
         requires constraint { i < length (sides_in (rule_of self.now.settler).graphs) }
         requires dims { length to.now ≡ dims_of (rule_of self.now.settler) }
         requires known { Knows (sides_in (rule_of self.now.settler).graphs) known.old to.now }
@@ -151,7 +157,7 @@ impl CenteredSettler {
                 sure: true,
             });
         }
-        self.slopes[i].judge_in(columns, to)
+        self.slopes[i].judge_in(columns, to, finite)
     }
 }
 

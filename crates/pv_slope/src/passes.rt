@@ -1,16 +1,23 @@
 //! The slopes of all nodes, one variable after another, and the linear form.
 
-ghost use Rattle.std.specs.Prelude.{◌≡◌, ◌<◌, ◌≤◌, ◌-◌, ◌&&◌, true, length};
-ghost use Rattle.pv_interval.specs.Tables.{product_of};
-ghost use Rattle.pv_hc4.specs.Nodes.{AreOrdered, ReadsBelow, FitsNode, IsPower, terms, term_at};
+ghost use Rattle.std.specs.Prelude.{◌≡◌, ℕ, ◌<◌, ◌≤◌, ◌-◌, true, length, if◌then◌else◌};
+ghost use Rattle.pv_interval.specs.Tables.{product_of, sum_of};
+ghost use Rattle.pv_hc4.specs.Nodes.{AreOrdered, ReadsBelow, FitsNode, IsPower, node_at, terms, term_at};
+ghost use Rattle.pv_hc4.specs.Chain.{at as place_of};
 ghost use Rattle.pv_hc4.specs.Graphs.{AreValues};
+ghost use Rattle.pv_hc4.specs.Pass.{node_divides_well};
+ghost use Rattle.pv_hc4.specs.Totality.{total_of};
 ghost use Rattle.pv_slope.specs.Centres.{at_centre};
-ghost use Rattle.pv_slope.specs.Centered.{is_finite, has_finite_ends, from_centre as from_centre_of, linear_of};
-ghost use Rattle.pv_slope.specs.Flat.{AreOf, AreFactors, node_factor, node_slope};
-ghost use Rattle.pv_slope.specs.SlopeTable.{slope_of};
+ghost use Rattle.pv_slope.specs.Centered.{has_finite_ends, from_centre as from_centre_of, linear_of};
+ghost use Rattle.pv_slope.specs.Flat.{AreOf, AreFactors, node_factor};
+ghost use Rattle.pv_slope.specs.Moving.{AreSlopes, HasDivisor, is_place, moving_slope, node_moves, seen};
+ghost use Rattle.pv_slope.specs.SlopeTable.{zero_slope};
 
 use crate::centre::from_centre;
-use crate::rows::{binary_factor, binary_slope, is_zero, one, unary_factor, unary_slope, zero};
+use crate::rows::{
+    binary_factor, binary_slope, first_slope, learn, one, second_slope, unary_factor, unary_slope,
+    zero,
+};
 use pv_box::IBox;
 use pv_hc4::Node;
 use pv_hc4::forward::place;
@@ -40,8 +47,8 @@ pub(crate) fn factor_all(
     requires ordered { AreOrdered nodes.now dims }
     requires dims { dims ≤ 12 }
     requires values { length values.now ≡ length nodes.now }
-    requires centres { length centres.now ≡ length nodes.now }
-    requires factors { length factors.old ≡ length nodes.now }
+    requires centres { length nodes.now ≤ length centres.now }
+    requires factors { length nodes.now ≤ length factors.old }
     ensures { AreFactors values.now centres.now nodes.now factors.new }
 {
     for at in 0..nodes.len() {
@@ -49,31 +56,108 @@ pub(crate) fn factor_all(
     }
 }
 
-// The slope of a node for variable `i` over those of earlier nodes.
+// Whether variable `i` stands in the term of a node, where that is told of earlier nodes.
+fn has_variable(node: Node, i: u8, moving: &[bool]) -> bool
+    requires { ReadsBelow (length moving.now) node }
+    ensures { result ≡ node_moves i moving.now node }
+{
+    match node {
+        Node::Constant { .. } => false,
+        Node::Place(j) => i == j,
+        Node::One(_, a) => moving[a],
+        Node::Two(_, a, b) => moving[a] || moving[b],
+    }
+}
+
+// The divisor of a quotient is an interval. It holds by its contract alone; the call does nothing.
+fn learn_divisor(node: Node, values: &[Interval])
+    requires { ReadsBelow (length values.now) node }
+    ensures { HasDivisor values.now node }
+{
+    match node {
+        Node::Two(_, _, b) => learn(values[b]),
+        _ => {}
+    }
+}
+
+// The slope of a node that moves with variable `i` over those of earlier nodes, of which `moving`
+// tells whether they move. Nothing is read of those that don't.
+#[tactic(auto, using(crate::proofs::Still::other_moves))]
 fn slope(
     node: Node,
     i: u8,
     factor: Interval,
     values: &[Interval],
     centres: &[Interval],
+    moving: &[bool],
     slopes: &[Interval],
 ) -> Interval
     requires values { ReadsBelow (length values.now) node }
     requires centres { ReadsBelow (length centres.now) node }
+    requires moving { ReadsBelow (length moving.now) node }
     requires slopes { ReadsBelow (length slopes.now) node }
-    ensures { result ≡ node_slope i factor values.now centres.now slopes.now node }
+    requires moves { node_moves i moving.now node ≡ true }
+    ensures { result ≡
+        moving_slope i factor values.now centres.now moving.now slopes.now node }
 {
     match node {
         Node::Constant { .. } => zero(),
-        Node::Place(j) => { if i == j { one() } else { zero() } }
+        Node::Place(_) => one(),
         Node::One(op, a) => unary_slope(op, factor, values[a], slopes[a]),
-        Node::Two(op, a, b) => binary_slope(
-            op, factor, values[a], values[b], centres[b], slopes[a], slopes[b],
-        ),
+        Node::Two(op, a, b) => {
+            if !moving[a] {
+                return second_slope(op, factor, values[a], values[b], centres[b], slopes[b]);
+            }
+            if !moving[b] {
+                return first_slope(op, factor, values[a], values[b], centres[b], slopes[a]);
+            }
+            binary_slope(
+                op, factor, values[a], values[b], centres[b], slopes[a], slopes[b],
+            )
+        }
     }
 }
 
-// Gives each node its slope for variable `i`.
+// Gives one more node its slope for variable `i`, if it moves.
+#[tactic(auto, using(crate::proofs::Still::seen_other, crate::proofs::Still::flag_other))]
+fn step(
+    nodes: &[Node],
+    at: usize,
+    i: u8,
+    values: &[Interval],
+    centres: &[Interval],
+    factors: &[Interval],
+    bx: &IBox,
+    moving: &mut [bool],
+    slopes: &mut [Interval],
+)
+    requires node { at < length nodes.now }
+    requires ordered { AreOrdered nodes.now (length bx.now) }
+    requires values { length nodes.now ≤ length values.now }
+    requires centres { length nodes.now ≤ length centres.now }
+    requires factors { length nodes.now ≤ length factors.now }
+    requires moving { length nodes.now ≤ length moving.old }
+    requires slopes { length nodes.now ≤ length slopes.old }
+    requires divides { node_divides_well values.now (node_at nodes.now at) ≡ true }
+    ensures moving_in { length nodes.now ≤ length moving.new }
+    ensures slopes_in { length nodes.now ≤ length slopes.new }
+    ensures earlier { (k : ℕ) → k < at →
+        seen moving.new slopes.new k ≡ seen moving.old slopes.old k }
+    ensures here { seen moving.new slopes.new at ≡
+        moving_slope i (place_of factors.now at) values.now centres.now moving.old slopes.old
+        (node_at nodes.now at) }
+{
+    let node = nodes[at];
+    if !has_variable(node, i, moving) {
+        learn_divisor(node, values);
+        moving[at] = false;
+        return;
+    }
+    slopes[at] = slope(node, i, factors[at], values, centres, moving, slopes);
+    moving[at] = true;
+}
+
+// Gives each node that moves its slope for variable `i`, and tells of each whether it moves.
 pub(crate) fn slope_all(
     nodes: &[Node],
     i: u8,
@@ -81,30 +165,82 @@ pub(crate) fn slope_all(
     centres: &[Interval],
     factors: &[Interval],
     bx: &IBox,
+    moving: &mut [bool],
     slopes: &mut [Interval],
 )
     requires ordered { AreOrdered nodes.now (length bx.now) }
+    requires total { (k : ℕ) → k < length nodes.now →
+        total_of bx.now (term_at (terms nodes.now) k) ≡ true }
     requires valued { AreValues bx.now nodes.now values.now }
     requires centred { AreOf (at_centre bx.now) nodes.now centres.now }
     requires factors { AreFactors values.now centres.now nodes.now factors.now }
-    requires slopes { length slopes.old ≡ length nodes.now }
-    ensures { AreOf (slope_of bx.now i) nodes.now slopes.new }
+    requires moving { length nodes.now ≤ length moving.old }
+    requires slopes { length nodes.now ≤ length slopes.old }
+    ensures slopes { AreSlopes bx.now i nodes.now moving.new slopes.new }
 {
     for at in 0..nodes.len() {
-        slopes[at] = slope(nodes[at], i, factors[at], values, centres, slopes);
+        step(nodes, at, i, values, centres, factors, bx, moving, slopes);
     }
 }
 
-// A slope times its variable's distance from the centre.
-#[tactic(auto, using(crate::proofs::Zeros::zero_times))]
-fn moved(slope: Interval, x: Interval) -> Interval
-    requires { (is_finite x.lo && is_finite x.hi) ≡ true }
-    ensures { result ≡ product_of slope (from_centre_of x) }
+fn reads_place(node: Node, i: u8) -> bool
+    ensures { result ≡ is_place i node }
 {
-    if is_zero(slope) {
-        return zero();
+    match node {
+        Node::Place(j) => i == j,
+        _ => false,
     }
-    slope.mul(from_centre(x))
+}
+
+// How far variable `i` may be from its centre. The node of the variable has the centre.
+fn distance(nodes: &[Node], i: u8, values: &[Interval], centres: &[Interval], bx: &IBox) -> Interval
+    requires place { i < length bx.now }
+    requires finite { has_finite_ends bx.now ≡ true }
+    requires ordered { AreOrdered nodes.now (length bx.now) }
+    requires valued { AreValues bx.now nodes.now values.now }
+    requires centred { AreOf (at_centre bx.now) nodes.now centres.now }
+    ensures { result ≡ from_centre_of (place_of bx.now i) }
+{
+    for at in 0..nodes.len() {
+        if reads_place(nodes[at], i) {
+            return values[at].sub(centres[at]);
+        }
+    }
+    from_centre(place(bx, i))
+}
+
+// The slope, where the node moves.
+pub(crate) fn seen_slope(moves: bool, slope: Interval) -> Interval
+    ensures { result ≡ (if moves then slope else zero_slope) }
+{
+    if moves { slope } else { zero() }
+}
+
+// A sum and variable `i`'s slope times its distance from the centre, where the root moves.
+#[tactic(auto, using(crate::proofs::Numbers::add_still))]
+fn added(
+    sum: Interval,
+    moves: bool,
+    slope: Interval,
+    nodes: &[Node],
+    i: u8,
+    values: &[Interval],
+    centres: &[Interval],
+    bx: &IBox,
+) -> Interval
+    requires place { i < length bx.now }
+    requires finite { has_finite_ends bx.now ≡ true }
+    requires ordered { AreOrdered nodes.now (length bx.now) }
+    requires valued { AreValues bx.now nodes.now values.now }
+    requires centred { AreOf (at_centre bx.now) nodes.now centres.now }
+    ensures { result ≡ sum_of sum
+        (product_of (if moves then slope else zero_slope) (from_centre_of (place_of bx.now i))) }
+{
+    if !moves {
+        learn(sum);
+        return sum;
+    }
+    sum.add(slope.mul(distance(nodes, i, values, centres, bx)))
 }
 
 // The interval at the centre, and each slope times its variable's distance from there.
@@ -115,21 +251,34 @@ pub(crate) fn linear(
     centres: &[Interval],
     factors: &[Interval],
     bx: &IBox,
+    moving: &mut [bool],
     slopes: &mut [Interval],
 ) -> Interval
     requires ordered { AreOrdered nodes.now (length bx.now) }
     requires root { root < length nodes.now }
     requires finite { has_finite_ends bx.now ≡ true }
+    requires total { (k : ℕ) → k < length nodes.now →
+        total_of bx.now (term_at (terms nodes.now) k) ≡ true }
     requires valued { AreValues bx.now nodes.now values.now }
     requires centred { AreOf (at_centre bx.now) nodes.now centres.now }
     requires factors { AreFactors values.now centres.now nodes.now factors.now }
-    requires slopes { length slopes.old ≡ length nodes.now }
+    requires moving { length nodes.now ≤ length moving.old }
+    requires slopes { length nodes.now ≤ length slopes.old }
     ensures { result ≡ linear_of bx.now (term_at (terms nodes.now) root) (length bx.now) }
 {
     let mut sum = centres[root];
     for i in 0..bx.dims() {
-        slope_all(nodes, i, values, centres, factors, bx, slopes);
-        sum = sum.add(moved(slopes[root], place(bx, i)));
+        slope_all(nodes, i, values, centres, factors, bx, moving, slopes);
+        sum = added(
+            sum,
+            moving[root],
+            slopes[root],
+            nodes,
+            i,
+            values,
+            centres,
+            bx,
+        );
     }
     sum
 }

@@ -1,7 +1,10 @@
 //! The rows of the table of slopes: the slope of an operation from the intervals and slopes of its
 //! parts.
 
-ghost use Rattle.std.specs.Prelude.{◌≡◌, ◌↔◌, ◌≤◌, ◌-◌, IsTrue};
+ghost use Rattle.std.specs.Prelude.{◌≡◌, ◌≤◌, ◌-◌};
+ghost use Rattle.pv_num.specs.Parts.{IsNumber};
+ghost use Rattle.pv_interval.specs.Bounds.{IsInterval};
+ghost use Rattle.pv_interval.specs.Tables.{power_of};
 ghost use Rattle.pv_hc4.specs.Nodes.{IsPower};
 ghost use Rattle.pv_slope.specs.Flat.{unary_factor as unary_factor_of, binary_factor as binary_factor_of, unary_slope_by, binary_slope_by};
 ghost use Rattle.pv_slope.specs.SlopeTable.{zero_slope, one_slope, either_slope, power_term as power_term_of, power_factor as power_factor_of, absolute_slope as absolute_slope_of, least_slope as least_slope_of, greatest_slope as greatest_slope_of, quotient_slope as quotient_slope_of};
@@ -9,6 +12,7 @@ ghost use Rattle.pv_slope.specs.SlopeTable.{zero_slope, one_slope, either_slope,
 use pv_hc4::{BinaryOp, UnaryOp};
 use pv_interval::Interval;
 use pv_num::Num;
+use pv_num::laws::is_number;
 
 /// [0,0].
 pub(crate) fn zero() -> Interval
@@ -18,13 +22,6 @@ pub(crate) fn zero() -> Interval
         Some(x) => x,
         None => unreachable!(),
     }
-}
-
-/// Whether an interval is [0,0].
-pub(crate) fn is_zero(x: Interval) -> bool
-    ensures { IsTrue result ↔ (x ≡ zero_slope) }
-{
-    x.lo() == Num::ZERO && x.hi() == Num::ZERO
 }
 
 /// [1,1].
@@ -41,13 +38,47 @@ fn either_sign() -> Interval
     one().neg().hull(one())
 }
 
-// f^k c^(n-k).
+/// An interval's ends are numbers of the format, in their order. It holds by its contract alone; the
+/// call does nothing.
+pub(crate) fn learn(x: Interval)
+    ensures lo { IsNumber x.lo }
+    ensures hi { IsNumber x.hi }
+    ensures interval { IsInterval x }
+{
+    is_number(x.lo());
+    is_number(x.hi());
+}
+
+// A power; the first is the interval itself, with no work.
+#[tactic(auto, using(crate::proofs::Numbers::first_power))]
+fn raised(x: Interval, n: u8) -> Interval
+    requires { n ≤ 32 }
+    ensures { result ≡ power_of x n }
+{
+    if n == 1 {
+        return x;
+    }
+    x.pow(n)
+}
+
+// f^k c^(n-k). A factor with the exponent 0 is 1, and takes no product.
+#[tactic(auto, using(crate::proofs::Numbers::first_term, crate::proofs::Numbers::last_term))]
 fn power_term(f: Interval, c: Interval, n: u8, k: u8) -> Interval
     requires n { n ≤ 32 }
     requires k { k ≤ n }
     ensures { result ≡ power_term_of f c n k }
 {
-    f.pow(k).mul(c.pow(n - k))
+    if k == 0 {
+        let power = raised(c, n);
+        learn(power);
+        return power;
+    }
+    if k == n {
+        let power = raised(f, n);
+        learn(power);
+        return power;
+    }
+    raised(f, k).mul(raised(c, n - k))
 }
 
 // What the slopes of f are multiplied by to be those of f^n: f^(n-1) + f^(n-2) c + .. + c^(n-1).
@@ -99,15 +130,10 @@ fn absolute_slope(f: Interval, s: Interval) -> Interval
     either_sign().mul(s)
 }
 
-/// The slope of an operation on a part with the forward interval `f` and the slope `s`. It is
-/// [0,0] where the part's is.
-#[tactic(auto, using(crate::proofs::Zeros::unary_zero))]
+/// The slope of an operation on a part with the forward interval `f` and the slope `s`.
 pub(crate) fn unary_slope(op: UnaryOp, factor: Interval, f: Interval, s: Interval) -> Interval
     ensures { result ≡ unary_slope_by op factor f s }
 {
-    if is_zero(s) {
-        return zero();
-    }
     match op {
         UnaryOp::Neg => s.neg(),
         UnaryOp::Abs => absolute_slope(f, s),
@@ -147,9 +173,7 @@ fn quotient_slope(by: Interval, g: Interval, s: Interval, t: Interval) -> Interv
 }
 
 /// The slope of an operation on two parts with the forward intervals `f` and `g` and the slopes `s`
-/// and `t`; `d` is the second part's interval at the centre. It is [0,0] where both parts' are, but
-/// for a quotient, whose divisor may be [0,0].
-#[tactic(auto, using(crate::proofs::Zeros::binary_zero))]
+/// and `t`; `d` is the second part's interval at the centre.
 pub(crate) fn binary_slope(
     op: BinaryOp,
     factor: Interval,
@@ -163,11 +187,68 @@ pub(crate) fn binary_slope(
 {
     match op {
         BinaryOp::Div => quotient_slope(factor, g, s, t),
-        _ if is_zero(s) && is_zero(t) => zero(),
         BinaryOp::Add => s.add(t),
         BinaryOp::Sub => s.sub(t),
         BinaryOp::Mul => f.mul(t).add(d.mul(s)),
         BinaryOp::Min => least_slope(f, g, s, t),
         BinaryOp::Max => greatest_slope(f, g, s, t),
+    }
+}
+
+/// The same where the second part's slope is [0,0].
+#[tactic(auto, using(crate::proofs::Numbers::add_nought, crate::proofs::Numbers::take_nought, crate::proofs::Numbers::first_product, crate::proofs::Numbers::first_quotient))]
+pub(crate) fn first_slope(
+    op: BinaryOp,
+    factor: Interval,
+    f: Interval,
+    g: Interval,
+    d: Interval,
+    s: Interval,
+) -> Interval
+    ensures { result ≡ binary_slope_by op factor f g d s zero_slope }
+{
+    learn(s);
+    match op {
+        BinaryOp::Add => s,
+        BinaryOp::Sub => s,
+        BinaryOp::Mul => {
+            let product = d.mul(s);
+            learn(product);
+            product
+        }
+        BinaryOp::Div => s.quotient(g).unwrap_or(Interval::ALL),
+        BinaryOp::Min => least_slope(f, g, s, zero()),
+        BinaryOp::Max => greatest_slope(f, g, s, zero()),
+    }
+}
+
+/// The same where the first part's slope is [0,0].
+#[tactic(auto, using(crate::proofs::Numbers::nought_add, crate::proofs::Numbers::nought_take, crate::proofs::Numbers::second_product, crate::proofs::Numbers::second_quotient))]
+pub(crate) fn second_slope(
+    op: BinaryOp,
+    factor: Interval,
+    f: Interval,
+    g: Interval,
+    d: Interval,
+    t: Interval,
+) -> Interval
+    ensures { result ≡ binary_slope_by op factor f g d zero_slope t }
+{
+    learn(t);
+    match op {
+        BinaryOp::Add => t,
+        BinaryOp::Sub => t.neg(),
+        BinaryOp::Mul => {
+            let product = f.mul(t);
+            learn(product);
+            product
+        }
+        BinaryOp::Div => {
+            let product = factor.mul(t);
+            learn(product);
+            product.neg().quotient(g).unwrap_or(Interval::ALL)
+        }
+        BinaryOp::Min => least_slope(f, g, zero(), t),
+        BinaryOp::Max => greatest_slope(f, g, zero(), t),
     }
 }

@@ -1,20 +1,20 @@
 //! The slopes of a constraint.
 
-ghost use Rattle.std.specs.Prelude.{◌≡◌, ◌↔◌, ◌<◌, length, IfOk, OnOk, None, true};
+ghost use Rattle.std.specs.Prelude.{◌≡◌, ◌↔◌, ◌≤◌, length, IfOk, OnOk, None};
 ghost use Rattle.pv_expr.specs.Systems.{IsOver};
 ghost use Rattle.pv_expr.specs.Terms.{term_of};
 ghost use Rattle.pv_hc4.specs.Forward.{forward_of};
 ghost use Rattle.pv_hc4.specs.Graphs.{sides_named, AreValues, AreReady};
-ghost use Rattle.pv_hc4.specs.Nodes.{AreOrdered, terms, term_at};
+ghost use Rattle.pv_hc4.specs.Nodes.{terms, term_at};
 ghost use Rattle.pv_hc4.specs.Chain.{at};
 ghost use Rattle.pv_hc4.specs.Totality.{total_of};
-ghost use Rattle.pv_slope.specs.Centered.{centered_of, centered_from, slope_where, gap_of, Encloses};
+ghost use Rattle.pv_slope.specs.Centered.{centered_of, centered_from, slope_where, gap_of, has_finite_ends as have_finite_ends, Encloses};
 ghost use Rattle.pv_slope.specs.Flat.{term_in, IsFlat};
 ghost use Rattle.pv_slope.specs.Ranges.{ranged_of};
 
 use crate::centre::{centre_all, has_finite_ends};
 use crate::columns::Columns;
-use crate::passes::{factor_all, linear, slope_all};
+use crate::passes::{factor_all, linear, seen_slope, slope_all};
 use pv_box::IBox;
 use pv_expr::{Constraint, Relation};
 use pv_hc4::builder::Builder;
@@ -89,7 +89,7 @@ impl Slopes {
     {
         self.learn();
         let _dims = bx.dims();
-        let found = self.range_in(&mut Columns::new(alloc), bx)?;
+        let found = self.range_in(&mut Columns::new(alloc), bx, has_finite_ends(bx))?;
         match found {
             Some(ranged) => Ok(Some(ranged.interval)),
             None => Ok(None),
@@ -114,6 +114,7 @@ impl Slopes {
             &mut columns.values,
             &mut columns.centres,
             &mut columns.factors,
+            &mut columns.moving,
             &mut columns.slopes,
         ))
     }
@@ -126,13 +127,15 @@ impl Slopes {
         let _ = &self.nodes;
     }
 
-    // As `range`, with room that is kept.
+    // As `range`, with room that is kept; `finite` says that no end of the box is infinite.
     pub(crate) fn range_in(
         &self,
         columns: &mut Columns,
         bx: &IBox,
+        finite: bool,
     ) -> Result<Option<Ranged>, Memory>
-        requires { length bx.now ≡ self.now.dims }
+        requires dims { length bx.now ≡ self.now.dims }
+        requires finite { finite ≡ have_finite_ends bx.now }
         ensures { IfOk result (λ r. r ≡ ranged_of bx.now (term_in self.now)) }
     {
         fill_columns(columns, &self.ready)?;
@@ -140,25 +143,49 @@ impl Slopes {
             &self.nodes,
             self.root,
             bx,
+            finite,
             &mut columns.values,
             &mut columns.centres,
             &mut columns.factors,
+            &mut columns.moving,
             &mut columns.slopes,
         ))
     }
 }
 
-// Gives each column the constants' intervals.
+// Gives the first column the constants' intervals, and the others a place for each node.
 fn fill_columns(columns: &mut Columns, ready: &[Interval]) -> Result<(), Memory>
     ensures values { OnOk result (columns.new.values.items ≡ ready.now) }
-    ensures centres { OnOk result (columns.new.centres.items ≡ ready.now) }
-    ensures factors { OnOk result (columns.new.factors.items ≡ ready.now) }
-    ensures slopes { OnOk result (columns.new.slopes.items ≡ ready.now) }
+    ensures centres { OnOk result (length ready.now ≤ length columns.new.centres.items) }
+    ensures factors { OnOk result (length ready.now ≤ length columns.new.factors.items) }
+    ensures moving { OnOk result (length ready.now ≤ length columns.new.moving.items) }
+    ensures slopes { OnOk result (length ready.now ≤ length columns.new.slopes.items) }
 {
     fill(&mut columns.values, ready)?;
-    fill(&mut columns.centres, ready)?;
-    fill(&mut columns.factors, ready)?;
-    fill(&mut columns.slopes, ready)
+    lengthen(&mut columns.centres, ready.len())?;
+    lengthen(&mut columns.factors, ready.len())?;
+    lengthen_flags(&mut columns.moving, ready.len())?;
+    lengthen(&mut columns.slopes, ready.len())
+}
+
+// Makes room for so many intervals, whatever they are.
+fn lengthen(column: &mut Vec<Interval>, count: usize) -> Result<(), Memory>
+    ensures { OnOk result (count ≤ length column.new.items) }
+{
+    for _ in column.len()..count {
+        column.push(Interval::ALL)?;
+    }
+    Ok(())
+}
+
+// The same for flags.
+fn lengthen_flags(column: &mut Vec<bool>, count: usize) -> Result<(), Memory>
+    ensures { OnOk result (count ≤ length column.new.items) }
+{
+    for _ in column.len()..count {
+        column.push(false)?;
+    }
+    Ok(())
 }
 
 // Whether no divisor's interval contains 0 in the expression of node `root`.
@@ -170,30 +197,34 @@ fn root_is_total(nodes: &[Node], root: usize, values: &[Interval], bx: &IBox) ->
     is_total(nodes, values, bx)
 }
 
-// The centered form of node `root` from its forward interval. At the entry the columns have the
-// constants' intervals.
+// The centered form of node `root` from its forward interval. At the entry the columns have a
+// place for each node.
+#[tactic(auto, using(crate::proofs::Still::all_total))]
 fn centered(
     nodes: &[Node],
     root: usize,
     bx: &IBox,
+    finite: bool,
     total: bool,
     values: &[Interval],
     centres: &mut [Interval],
     factors: &mut [Interval],
+    moving: &mut [bool],
     slopes: &mut [Interval],
 ) -> Option<Interval>
-    requires ordered { AreOrdered nodes.now (length bx.now) }
-    requires root { root < length nodes.now }
+    requires flat { IsFlat nodes.now root (length bx.now) }
+    requires finite { finite ≡ have_finite_ends bx.now }
     requires total { total ≡ total_of bx.now (term_at (terms nodes.now) root) }
     requires valued { AreValues bx.now nodes.now values.now }
-    requires centres { AreReady nodes.now centres.old }
-    requires factors { AreReady nodes.now factors.old }
-    requires slopes { AreReady nodes.now slopes.old }
+    requires centres { length nodes.now ≤ length centres.old }
+    requires factors { length nodes.now ≤ length factors.old }
+    requires moving { length nodes.now ≤ length moving.old }
+    requires slopes { length nodes.now ≤ length slopes.old }
     ensures { result ≡ centered_from bx.now (term_at (terms nodes.now) root)
         (at values.now root) }
 {
     let whole = values[root];
-    if !has_finite_ends(bx) {
+    if !finite {
         return Some(whole);
     }
     if !total {
@@ -201,38 +232,46 @@ fn centered(
     }
     centre_all(nodes, bx, values, centres);
     factor_all(nodes, bx.dims(), values, centres, factors);
-    whole.meet(linear(nodes, root, values, centres, factors, bx, slopes))
+    whole.meet(linear(nodes, root, values, centres, factors, bx, moving, slopes))
 }
 
-// The range of node `root` on a box. At the entry the columns have the constants' intervals.
+// The range of node `root` on a box. At the entry the first column has the constants' intervals, and
+// the others a place for each node.
 fn range_of(
     nodes: &[Node],
     root: usize,
     bx: &IBox,
+    finite: bool,
     values: &mut [Interval],
     centres: &mut [Interval],
     factors: &mut [Interval],
+    moving: &mut [bool],
     slopes: &mut [Interval],
 ) -> Option<Ranged>
+    requires finite { finite ≡ have_finite_ends bx.now }
     requires flat { IsFlat nodes.now root (length bx.now) }
     requires values { AreReady nodes.now values.old }
-    requires centres { AreReady nodes.now centres.old }
-    requires factors { AreReady nodes.now factors.old }
-    requires slopes { AreReady nodes.now slopes.old }
+    requires centres { length nodes.now ≤ length centres.old }
+    requires factors { length nodes.now ≤ length factors.old }
+    requires moving { length nodes.now ≤ length moving.old }
+    requires slopes { length nodes.now ≤ length slopes.old }
     ensures { result ≡ ranged_of bx.now (term_at (terms nodes.now) root) }
 {
     if !forward_all(nodes, bx, values) {
         return None;
     }
     let total = root_is_total(nodes, root, values, bx);
-    match centered(nodes, root, bx, total, values, centres, factors, slopes) {
+    match centered(
+        nodes, root, bx, finite, total, values, centres, factors, moving, slopes,
+    ) {
         Some(interval) => Some(Ranged { interval, total }),
         None => None,
     }
 }
 
-// The slope of node `root` for variable `i`. At the entry the columns have the constants'
-// intervals.
+// The slope of node `root` for variable `i`. At the entry the first column has the constants'
+// intervals, and the others a place for each node.
+#[tactic(auto, using(crate::proofs::Still::all_total))]
 fn slope_at(
     nodes: &[Node],
     root: usize,
@@ -241,13 +280,15 @@ fn slope_at(
     values: &mut [Interval],
     centres: &mut [Interval],
     factors: &mut [Interval],
+    moving: &mut [bool],
     slopes: &mut [Interval],
 ) -> Option<Interval>
     requires flat { IsFlat nodes.now root (length bx.now) }
     requires values { AreReady nodes.now values.old }
-    requires centres { AreReady nodes.now centres.old }
-    requires factors { AreReady nodes.now factors.old }
-    requires slopes { AreReady nodes.now slopes.old }
+    requires centres { length nodes.now ≤ length centres.old }
+    requires factors { length nodes.now ≤ length factors.old }
+    requires moving { length nodes.now ≤ length moving.old }
+    requires slopes { length nodes.now ≤ length slopes.old }
     ensures { result ≡ slope_where bx.now i (term_at (terms nodes.now) root) }
 {
     if !forward_all(nodes, bx, values) {
@@ -261,6 +302,6 @@ fn slope_at(
     }
     centre_all(nodes, bx, values, centres);
     factor_all(nodes, bx.dims(), values, centres, factors);
-    slope_all(nodes, i, values, centres, factors, bx, slopes);
-    Some(slopes[root])
+    slope_all(nodes, i, values, centres, factors, bx, moving, slopes);
+    Some(seen_slope(moving[root], slopes[root]))
 }

@@ -5,7 +5,7 @@ use Rattle.pv_slope.specs.Centered.{is_finite}
 use Rattle.pv_slope.proofs.Rounds.{finite_at}
 use Rattle.pv_slope.proofs.centre.value.Goals as goal
 
-pub centre-requires : goal.centre-requires
-centre-requires c =
+pub place_centre-requires : goal.place_centre-requires
+place_centre-requires c =
     subst (λ x. (is_finite x.lo && is_finite x.hi) ≡ true) (sym c.place.ensures)
     (finite_at c.args.bx.now c.in-Place.i c.requires.finite (subst (FitsNode (length c.args.bx.now)) c.in-Place.is c.requires.fits))

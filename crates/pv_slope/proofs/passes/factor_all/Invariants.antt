@@ -1,4 +1,4 @@
-use Rattle.std.proofs.Common.{◌≡◌, ℕ, ◌<◌, length}
+use Rattle.std.proofs.Common.{◌≡◌, ℕ, ◌<◌, ◌≤◌, length}
 use Rattle.pv_hc4.specs.Chain.{at}
 use Rattle.pv_hc4.specs.Nodes.{node_at}
 use Rattle.pv_slope.specs.Flat.{node_factor}
@@ -6,6 +6,6 @@ use Rattle.pv_slope.proofs.passes.factor_all.Given as goal
 
 abbrev pub invariant-loop-at : goal.invariant-loop-at
 invariant-loop-at l = record {
-  same : length l.factors ≡ length l.nodes;
+  within : length l.nodes ≤ length l.factors;
   done : (k : ℕ) → k < l.at → node_factor l.values l.centres (node_at l.nodes k) ≡ at l.factors k;
 }

@@ -1,4 +1,4 @@
-use Rattle.std.proofs.Common.{◌≡◌, length}
+use Rattle.std.proofs.Common.{◌≡◌, ◌≤◌, length}
 use Rattle.pv_hc4.specs.Nodes.{terms, term_at}
 use Rattle.pv_slope.specs.Centered.{linear_of}
 use Rattle.pv_slope.proofs.passes.linear.Given as goal
@@ -6,6 +6,7 @@ use Rattle.pv_slope.proofs.passes.linear.Given as goal
 abbrev pub invariant-loop-i : goal.invariant-loop-i
 invariant-loop-i l = record {
   end : l.i-end ≡ length l.bx;
-  same : length l.slopes ≡ length l.nodes;
+  moving_in : length l.nodes ≤ length l.moving;
+  slopes_in : length l.nodes ≤ length l.slopes;
   sum : l.sum ≡ linear_of l.bx (term_at (terms l.nodes) l.root) l.i;
 }

@@ -16,8 +16,8 @@ index-requires c =
     let same : length c.args.self.now.slopes.items ≡ vec_len c.args.self.now.slopes = search rules in
     subst (λ n. c.args.i < n) (sym (match_length (dims_of r) c.args.self.now.slopes.items (sides_in r.graphs) c.args.self.now.slopes_fit) ∙ same) c.requires.constraint
 
-pub judge_in-requires : goal.judge_in-requires
-judge_in-requires c =
+pub judge_in-requires-clause-dims : goal.judge_in-requires-clause-dims
+judge_in-requires-clause-dims c =
     let r = rule_of c.args.self.now.settler in
     c.requires.dims ∙ sym (match_read (dims_of r) c.args.self.now.slopes.items (sides_in r.graphs) c.args.i c.index.result.now c.args.self.now.slopes_fit c.requires.constraint c.index.ensures).dims
 
