@@ -14,8 +14,9 @@ use std::sync::Wait;
 use std::thread::Threads;
 
 // A board makes room for its whole budget at once, so a large budget is spent in parts: a part has
-// as many settlings as the paving has settled nodes, and at least so many.
-const LEAST_PART: u64 = 100_000;
+// as many settlings as the paving has settled nodes, and at least so many. Between two parts one
+// thread goes through the whole tree.
+const LEAST_PART: u64 = 1_000_000;
 
 /// Settles by crews, each on a board of its own for a part of the budget.
 pub(crate) fn by_parts<S: KnowingSettler + Sync, G: Gate + Sync, R: Threads + Wait + Sync>(
