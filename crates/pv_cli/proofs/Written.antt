@@ -12,8 +12,8 @@ use Rattle.pv_cli.specs.declared.refusal.Refusal.{Refusal}
 use Rattle.pv_cli.specs.declared.refusal.Refusal.TheVariants.{Usage, System, Contract, Objective, NoFile, ReadFault, Paving, NotStored, KeeperFault, NotPrinted, Memory, TreeLimit, Disagree, Differs}
 use Rattle.pv_cli.specs.declared.status.Status.{Status}
 use Rattle.pv_cli.specs.declared.status.Status.TheVariants.{WantOfMemory}
-use Rattle.pv_io.specs.declared.sink.WriteRefused.{WriteRefused}
-use Rattle.pv_io.specs.declared.sink.WriteRefused.TheVariants as write
+use Rattle.pv_io.specs.declared.refused.IoRefused.{IoRefused}
+use Rattle.pv_io.specs.declared.refused.IoRefused.TheVariants as write
 
 pub appended-nil : (told : Option (List ℕ)) → told ≡ appended told []
 appended-nil None = refl
@@ -26,7 +26,7 @@ pub front_of_whole : (before after : Option (List ℕ)) (line : List ℕ) → af
 front_of_whole before after line whole =
     (length line, whole ∙ ap (λ (l : List ℕ). appended before l) (sym (take_all (length line) line (omega arith))))
 
-pub front_of_any : {T : Type 0} (r : Result T WriteRefused) (before after : Option (List ℕ)) (line : List ℕ)
+pub front_of_any : {T : Type 0} (r : Result T IoRefused) (before after : Option (List ℕ)) (line : List ℕ)
     → OnOk r (after ≡ appended before line) → (IsErrOf r write.Failed → AppendsFront before after line) → (IsErrOf r write.Memory → after ≡ before)
     → AppendsFront before after line
 front_of_any (Ok done) before after line whole front same = front_of_whole before after line whole

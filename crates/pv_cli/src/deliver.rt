@@ -15,8 +15,7 @@ ghost use Rattle.pv_cli.specs.Made.{made};
 use crate::product::Product;
 use crate::summary::summary;
 use crate::{Refusal, Status};
-use pv_file::FileWriteRefused;
-use pv_io::{Folder, PlainSink, Sink, StoreRefused, WriteRefused};
+use pv_io::{FileWriteRefused, Folder, IoRefused, PlainSink, Sink};
 use pv_lines::{write_by, write_lines_by};
 use pv_num::Memory;
 use pv_svg::Picture;
@@ -131,8 +130,8 @@ fn keep<'a, F: Folder>(folder: &mut F, name: &'a str, bytes: &[u8]) -> Result<()
 {
     match folder.store(name, bytes) {
         Ok(()) => Ok(()),
-        Err(StoreRefused::Failed) => Err(Refusal::NotStored { name }),
-        Err(StoreRefused::Memory) => Err(Refusal::Memory),
+        Err(IoRefused::Failed) => Err(Refusal::NotStored { name }),
+        Err(IoRefused::Memory) => Err(Refusal::Memory),
     }
 }
 
@@ -178,8 +177,8 @@ fn print_picture<'a, K: Sink>(
 {
     match picture.write(alloc, out) {
         Ok(()) => Ok(()),
-        Err(pv_svg::FileWriteRefused::WriteFailed) => Err(Refusal::NotPrinted),
-        Err(pv_svg::FileWriteRefused::Memory) => Err(Refusal::Memory),
+        Err(FileWriteRefused::WriteFailed) => Err(Refusal::NotPrinted),
+        Err(FileWriteRefused::Memory) => Err(Refusal::Memory),
     }
 }
 
@@ -209,7 +208,7 @@ fn print<'a, K: Sink>(out: &mut K, text: &[u8]) -> Result<(), Refusal<'a>>
 {
     match out.write(text) {
         Ok(()) => Ok(()),
-        Err(WriteRefused::Failed) => Err(Refusal::NotPrinted),
-        Err(WriteRefused::Memory) => Err(Refusal::Memory),
+        Err(IoRefused::Failed) => Err(Refusal::NotPrinted),
+        Err(IoRefused::Memory) => Err(Refusal::Memory),
     }
 }

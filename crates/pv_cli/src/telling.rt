@@ -6,7 +6,7 @@ ghost use Rattle.pv_cli.specs.Ends.{stream, Tells};
 ghost use Rattle.pv_cli.specs.Telling.{refusal_for, TellsLine};
 
 use crate::{Refusal, Status};
-use pv_io::{Sink, WriteRefused};
+use pv_io::{IoRefused, Sink};
 use std::alloc::Global;
 
 /// Why the words of a command line can't be read.
@@ -51,8 +51,8 @@ fn tell_line<E: Sink>(err: &mut E, line: &[u8], status: Status) -> Status
         (stream (E.written err.new) (E.faults err.new)) }
 {
     match err.write(line) {
-        Err(WriteRefused::Memory) => Status::WantOfMemory,
-        Ok(()) | Err(WriteRefused::Failed) => status,
+        Err(IoRefused::Memory) => Status::WantOfMemory,
+        Ok(()) | Err(IoRefused::Failed) => status,
     }
 }
 

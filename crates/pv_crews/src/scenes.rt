@@ -52,7 +52,8 @@ fn settles_at_once<R: Threads + Wait + Clock + Sync>(rt: &R, alloc: Global) -> O
 }
 
 fn goes_on_at_once<R: Threads + Wait + Clock + Sync>(rt: &R, alloc: Global) -> Option<bool> {
-    let settler = Forgetful { settler: strips(9) };
+    let strips = strips(9);
+    let settler = Forgetful { settler: &strips };
     let limit = NodeLimit::by_default();
     let opening = square(alloc).ok()?;
     let begun = pave_knowing(rt, alloc, &settler, opening, 100, limit, 1, &NoGate).ok()?;

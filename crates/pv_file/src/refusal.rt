@@ -1,18 +1,9 @@
-//! Why a paving file isn't written or read.
+//! Why a paving file isn't read.
 ghost use Rattle.std.specs.Prelude.{◌≡◌};
 
 use pv_num::Memory;
 use pv_tree::PutRefused;
 use std::alloc::{AllocError, AllocFailed};
-
-/// Why a paving wasn't written whole. A first part of its text may have been taken then.
-#[derive(Clone, Copy, Debug, PartialEq, Eq)]
-pub enum FileWriteRefused {
-    /// There was no memory.
-    Memory,
-    /// The outside failed.
-    WriteFailed,
-}
 
 /// Why bytes are no paving file for an identity and a root box.
 #[derive(Clone, Copy, Debug, PartialEq, Eq)]
@@ -25,26 +16,6 @@ pub enum FileRefused {
     TooManyNodes { line: u64 },
     /// There was no memory.
     Memory,
-}
-
-impl From<Memory> for FileWriteRefused {
-    ghost use Rattle.pv_file.specs.declared.refusal.FileWriteRefused.TheVariants.{Memory};
-
-    ghost from_gives = { λ _ e. e ≡ Memory };
-
-    fn from(_: Memory) -> Self {
-        FileWriteRefused::Memory
-    }
-}
-
-impl From<AllocError> for FileWriteRefused {
-    ghost use Rattle.pv_file.specs.declared.refusal.FileWriteRefused.TheVariants.{Memory};
-
-    ghost from_gives = { λ _ e. e ≡ Memory };
-
-    fn from(_: AllocError) -> Self {
-        FileWriteRefused::Memory
-    }
 }
 
 impl From<Memory> for FileRefused {

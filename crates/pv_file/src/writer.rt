@@ -1,6 +1,6 @@
 //! A paving's text, handed to a sink in pieces.
 ghost use Rattle.std.specs.Prelude.{◌≡◌, ◌+◌, ◌≤◌, ◌++◌, ◌∷◌, [], Some, OnOk, OnErr, IsErrOf, IsTrue, length};
-ghost use Rattle.pv_io.specs.Outside.{Rose, appended, AppendsFront, HandsOver};
+ghost use Rattle.pv_io.specs.Outside.{Rose, appended, AppendsFront};
 ghost use Rattle.pv_tree.specs.Trees.{shape_of, to_at};
 ghost use Rattle.pv_tree.specs.Pieces.{IsPiece};
 ghost use Rattle.pv_file.specs.Lines.{lines_of, top_line};
@@ -9,16 +9,12 @@ ghost use Rattle.pv_file.specs.Texts.{file_text, header_text};
 
 use crate::header::push_header;
 use crate::lines::{keeps, push_shape, scratch_box};
-use crate::refusal::FileWriteRefused;
 use crate::version::Version;
 use pv_box::IBox;
-use pv_io::{Sink, WriteRefused};
+use pv_io::{FileWriteRefused, PIECE, Sink, hand_over, hand_over_piece};
 use pv_num::Memory;
 use pv_tree::{Paving, Shape, Walk};
 use std::alloc::Global;
-
-// A piece is handed over once it is so long.
-const PIECE: usize = 65_536;
 
 // No line is longer, that of an open leaf included.
 const LONGEST_LINE: usize = 700;
@@ -63,7 +59,7 @@ pub fn write_header<K: Sink>(
 {
     let mut held = Vec::new(alloc);
     push_header(version, identity, &mut held)?;
-    hand_over(&mut held, sink)
+    hand_over(&held, sink)
 }
 
 /// Hands the version 1 lines of a paving's nodes to a sink, each with its line feed.
@@ -108,7 +104,7 @@ fn write_nodes<K: Sink>(
         push_visited(&walk, shape, version, &mut bx, &mut to, &mut held)?;
         hand_over_piece(&mut held, sink)?;
     }
-    hand_over(&mut held, sink)
+    hand_over(&held, sink)
 }
 
 // Appends the line of the node that a walk has just visited.
@@ -150,41 +146,5 @@ fn write_boxes(walk: &Walk<'_>, shape: &Shape, bx: &mut IBox, to: &mut IBox)
     if keeps(shape) {
         walk.write_box(bx);
         walk.write_to(to);
-    }
-}
-
-// Hands over the bytes that are held, once they are a piece.
-fn hand_over_piece<K: Sink>(held: &mut Vec<u8>, sink: &mut K) -> Result<(), FileWriteRefused>
-    ensures part { OnOk result
-        (HandsOver (K.written sink.old) (K.written sink.new) held.old.items held.new.items) }
-    ensures front { OnErr result
-        (AppendsFront (K.written sink.old) (K.written sink.new) held.old.items) }
-    ensures cause { IsErrOf result FileWriteRefused.WriteFailed
-        → Rose (K.faults sink.old) (K.faults sink.new) }
-    ensures counts_on { K.faults sink.old ≤ K.faults sink.new }
-{
-    if held.len() < PIECE {
-        return Ok(());
-    }
-    hand_over(held, sink)
-}
-
-fn hand_over<K: Sink>(held: &mut Vec<u8>, sink: &mut K) -> Result<(), FileWriteRefused>
-    ensures whole { OnOk result
-        (K.written sink.new ≡ appended (K.written sink.old) held.old.items) }
-    ensures empty { OnOk result (held.new.items ≡ []) }
-    ensures front { OnErr result
-        (AppendsFront (K.written sink.old) (K.written sink.new) held.old.items) }
-    ensures cause { IsErrOf result FileWriteRefused.WriteFailed
-        → Rose (K.faults sink.old) (K.faults sink.new) }
-    ensures counts_on { K.faults sink.old ≤ K.faults sink.new }
-{
-    match sink.write(held) {
-        Ok(()) => {
-            held.clear();
-            Ok(())
-        }
-        Err(WriteRefused::Failed) => Err(FileWriteRefused::WriteFailed),
-        Err(WriteRefused::Memory) => Err(FileWriteRefused::Memory),
     }
 }

@@ -2,6 +2,7 @@
 ghost use Rattle.std.specs.Prelude.{◌≡◌, ◌≢◌, ℕ, ◌≤◌, List, [], OnOk, IsErrOf, IsTrue};
 ghost use Rattle.pv_io.specs.Outside.{Rose, Content, IsWhole, IsTooLong, MayBeAbsent, IsOldOrNew, untold, stored};
 
+use crate::refused::IoRefused;
 use std::alloc::{AllocError, AllocFailed};
 
 /// Why a folder didn't hand out the content of a name.
@@ -27,25 +28,9 @@ impl From<AllocError> for FetchRefused {
     }
 }
 
-/// Why a folder didn't keep bytes under a name.
-#[derive(Clone, Copy, Debug, PartialEq, Eq)]
-pub enum StoreRefused {
-    /// The outside failed. The name has its old content or the new one then, whole, where the folder
-    /// tells it.
-    Failed,
-    /// There was no memory, and nothing was changed.
-    Memory,
-}
-
-impl From<AllocError> for StoreRefused {
-    ghost use Rattle.pv_io.specs.declared.folder.StoreRefused.TheVariants.{Memory};
-
-    ghost from_gives = { λ _ e. e ≡ Memory };
-
-    fn from(_: AllocError) -> Self {
-        StoreRefused::Memory
-    }
-}
+/// Why a folder didn't keep bytes under a name. Where the outside failed, the name has its old content
+/// or the new one, whole, where the folder tells it.
+pub type StoreRefused = IoRefused;
 
 /// Named files.
 pub trait Folder {
@@ -80,16 +65,16 @@ pub trait Folder {
         ensures no_store_fault { store_faults self.new ≡ store_faults self.old };
 
     /// Makes the bytes the content of a name.
-    fn store(&mut self, name: &str, bytes: &[u8]) -> Result<(), StoreRefused>
+    fn store(&mut self, name: &str, bytes: &[u8]) -> Result<(), IoRefused>
         ensures whole { OnOk result (content self.new name.now ≡
             stored (content self.old name.now) bytes.now) }
-        ensures cause { IsErrOf result StoreRefused.Failed
+        ensures cause { IsErrOf result IoRefused.Failed
             → Rose (store_faults self.old) (store_faults self.new) }
-        ensures old_or_new { IsErrOf result StoreRefused.Failed
+        ensures old_or_new { IsErrOf result IoRefused.Failed
             → IsOldOrNew (content self.old name.now) (content self.new name.now) bytes.now }
-        ensures unchanged { IsErrOf result StoreRefused.Memory
+        ensures unchanged { IsErrOf result IoRefused.Memory
             → content self.new name.now ≡ content self.old name.now }
-        ensures no_fault { IsErrOf result StoreRefused.Memory
+        ensures no_fault { IsErrOf result IoRefused.Memory
             → store_faults self.new ≡ store_faults self.old }
         ensures others { (other : List ℕ)
             → other ≢ name.now → content self.new other ≡ content self.old other }

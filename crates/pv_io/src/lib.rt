@@ -6,12 +6,14 @@
 #![tactic(auto)]
 
 mod folder;
+mod handing_over;
 mod mem_folder;
 mod mem_sink;
 mod plain_folder;
 mod plain_sink;
 mod real_folder;
 mod real_sink;
+mod refused;
 mod replaced;
 mod script;
 mod sink;
@@ -19,11 +21,13 @@ mod sink;
 mod tests;
 
 pub use folder::{FetchRefused, Folder, StoreRefused};
+pub use handing_over::{FileWriteRefused, PIECE, hand_over, hand_over_held, hand_over_piece};
 pub use mem_folder::MemFolder;
 pub use mem_sink::MemSink;
 pub use plain_folder::PlainFolder;
 pub use plain_sink::PlainSink;
 pub use real_folder::{RealFolder, read_up_to};
 pub use real_sink::{RealSink, takes_all};
+pub use refused::IoRefused;
 pub use script::Script;
 pub use sink::{Sink, WriteRefused};

@@ -6,7 +6,7 @@ ghost use Rattle.pv_io.specs.Scripted.{content_of};
 ghost use Rattle.pv_io.specs.Shelf.{kept_in, turns_of, fetch_faults_of, store_faults_of};
 
 use crate::script::Script;
-use crate::{FetchRefused, Folder, PlainFolder, StoreRefused};
+use crate::{FetchRefused, Folder, IoRefused, PlainFolder};
 use std::alloc::Global;
 use std::collections::BTreeMap;
 
@@ -80,16 +80,16 @@ impl Folder for MemFolder {
         answer
     }
 
-    fn store(&mut self, name: &str, bytes: &[u8]) -> Result<(), StoreRefused>
+    fn store(&mut self, name: &str, bytes: &[u8]) -> Result<(), IoRefused>
         ensures whole { OnOk result (kept_in self.new name.now ≡
             stored (kept_in self.old name.now) bytes.now) }
-        ensures cause { IsErrOf result StoreRefused.Failed
+        ensures cause { IsErrOf result IoRefused.Failed
             → Rose (store_faults_of self.old) (store_faults_of self.new) }
-        ensures old_or_new { IsErrOf result StoreRefused.Failed
+        ensures old_or_new { IsErrOf result IoRefused.Failed
             → IsOldOrNew (kept_in self.old name.now) (kept_in self.new name.now) bytes.now }
-        ensures unchanged { IsErrOf result StoreRefused.Memory
+        ensures unchanged { IsErrOf result IoRefused.Memory
             → kept_in self.new name.now ≡ kept_in self.old name.now }
-        ensures no_fault { IsErrOf result StoreRefused.Memory
+        ensures no_fault { IsErrOf result IoRefused.Memory
             → store_faults_of self.new ≡ store_faults_of self.old }
         ensures others { (other : List ℕ)
             → other ≢ name.now → kept_in self.new other ≡ kept_in self.old other }
@@ -97,7 +97,7 @@ impl Folder for MemFolder {
         ensures no_fetch_fault { fetch_faults_of self.new ≡ fetch_faults_of self.old }
 
         // Beyond what every folder says: which calls fail, and what is counted.
-        ensures fails { IsErrOf result StoreRefused.Failed
+        ensures fails { IsErrOf result IoRefused.Failed
             ↔ Contains (turns_of self.old).failing (turns_of self.old).next }
         ensures turns { turns_of self.new ≡ turns_after_store result (turns_of self.old) }
         ensures faults { store_faults_of self.new ≡
@@ -106,7 +106,7 @@ impl Folder for MemFolder {
         if self.script.fails() {
             self.script.advance();
             self.store_faults = self.store_faults.saturating_add(1);
-            return Err(StoreRefused::Failed);
+            return Err(IoRefused::Failed);
         }
         self.plain.store(name, bytes)?;
         self.script.advance();

@@ -4,7 +4,7 @@ ghost use Rattle.pv_io.specs.Outside.{Rose, appended, AppendsFront};
 ghost use Rattle.pv_io.specs.Answers.{spool_after};
 
 use crate::script::Script;
-use crate::{PlainSink, Sink, WriteRefused};
+use crate::{IoRefused, PlainSink, Sink};
 use std::alloc::Global;
 use std::marker::Model;
 
@@ -50,8 +50,8 @@ impl Sink for MemSink {
 
     ghost faults = { λ s. s.faults };
 
-    fn write(&mut self, bytes: &[u8]) -> Result<(), WriteRefused>
-        ensures fails { IsErrOf result WriteRefused.Failed
+    fn write(&mut self, bytes: &[u8]) -> Result<(), IoRefused>
+        ensures fails { IsErrOf result IoRefused.Failed
             ↔ Contains self.old.turns.failing self.old.turns.next }
         ensures counts_on { self.old.faults ≤ self.new.faults }
         ensures state { self.new ≡ spool_after result bytes.now self.old }
@@ -59,7 +59,7 @@ impl Sink for MemSink {
         if self.script.fails() {
             self.script.advance();
             self.faults = self.faults.saturating_add(1);
-            return Err(WriteRefused::Failed);
+            return Err(IoRefused::Failed);
         }
         self.plain.write(bytes)?;
         self.script.advance();

@@ -4,7 +4,7 @@ ghost use Rattle.pv_io.specs.Outside.{Content, IsWhole, IsTooLong, MayBeAbsent, 
 ghost use Rattle.pv_io.specs.Scripted.{content_of};
 ghost use Rattle.pv_io.specs.Shelf.{kept};
 
-use crate::{FetchRefused, Folder, StoreRefused};
+use crate::{FetchRefused, Folder, IoRefused};
 use std::alloc::{AllocError, Global};
 use std::collections::BTreeMap;
 
@@ -72,7 +72,7 @@ impl Folder for PlainFolder {
         }
     }
 
-    fn store(&mut self, name: &str, bytes: &[u8]) -> Result<(), StoreRefused> {
+    fn store(&mut self, name: &str, bytes: &[u8]) -> Result<(), IoRefused> {
         put(self.alloc, &mut self.files, name, bytes)?;
         Ok(())
     }

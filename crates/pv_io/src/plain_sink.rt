@@ -1,7 +1,7 @@
 //! A sink in memory that never fails.
 ghost use Rattle.std.specs.Prelude.{◌≡◌, [], ℕ, List, Some};
 
-use crate::{Sink, WriteRefused};
+use crate::{IoRefused, Sink};
 use std::alloc::Global;
 use std::marker::Model;
 
@@ -40,7 +40,7 @@ impl Sink for PlainSink {
 
     ghost faults = { λ _. 0 };
 
-    fn write(&mut self, bytes: &[u8]) -> Result<(), WriteRefused> {
+    fn write(&mut self, bytes: &[u8]) -> Result<(), IoRefused> {
         self.bytes.extend_from_slice(bytes)?;
         Ok(())
     }

@@ -5,7 +5,7 @@ ghost use Rattle.pv_io.specs.Outside.{untold};
 ghost use Rattle.pv_io.specs.Real.{TakesIn, real_fetch_faults, real_store_faults};
 
 use crate::replaced::{is_one_file, store_whole};
-use crate::{FetchRefused, Folder, StoreRefused};
+use crate::{FetchRefused, Folder, IoRefused};
 use std::fs;
 use std::fs::File;
 use std::io::{ErrorKind, Read};
@@ -68,9 +68,9 @@ impl Folder for RealFolder<'_> {
         answer
     }
 
-    fn store(&mut self, name: &str, bytes: &[u8]) -> Result<(), StoreRefused> {
+    fn store(&mut self, name: &str, bytes: &[u8]) -> Result<(), IoRefused> {
         let answer = store_whole(self.rt, name, bytes);
-        if answer == Err(StoreRefused::Failed) {
+        if answer == Err(IoRefused::Failed) {
             self.store_faults = self.store_faults.saturating_add(1);
         }
         answer

@@ -4,7 +4,7 @@ ghost use Rattle.std.specs.Io.KnownBytes.{Appends};
 ghost use Rattle.pv_io.specs.Outside.{Rose};
 ghost use Rattle.pv_io.specs.Real.{AppendsSome, sink_faults, writer_of};
 
-use crate::{Sink, WriteRefused};
+use crate::{IoRefused, Sink};
 use std::io::{ErrorKind, Write};
 
 /// A sink over a writer of the machine. It tells nothing of what was written.
@@ -29,17 +29,17 @@ impl<W: Write> Sink for RealSink<W> {
 
     ghost faults = { sink_faults };
 
-    fn write(&mut self, bytes: &[u8]) -> Result<(), WriteRefused>
-        ensures cause { IsErrOf result WriteRefused.Failed
+    fn write(&mut self, bytes: &[u8]) -> Result<(), IoRefused>
+        ensures cause { IsErrOf result IoRefused.Failed
             → Rose (sink_faults self.old) (sink_faults self.new) }
-        ensures no_fault { IsErrOf result WriteRefused.Memory
+        ensures no_fault { IsErrOf result IoRefused.Memory
             → sink_faults self.new ≡ sink_faults self.old }
         ensures counts_on { sink_faults self.old ≤ sink_faults self.new }
 
         // Beyond what every sink says: what went to the writer, where the writer tells it.
         ensures taken { OnOk result
             (Appends (W.contents (writer_of self.old)) (W.contents (writer_of self.new)) bytes.now) }
-        ensures taken_front { IsErrOf result WriteRefused.Failed
+        ensures taken_front { IsErrOf result IoRefused.Failed
             → AppendsSome (W.contents (writer_of self.old)) (W.contents (writer_of self.new))
             bytes.now }
     {
@@ -47,7 +47,7 @@ impl<W: Write> Sink for RealSink<W> {
             return Ok(());
         }
         self.faults = self.faults.saturating_add(1);
-        Err(WriteRefused::Failed)
+        Err(IoRefused::Failed)
     }
 }
 

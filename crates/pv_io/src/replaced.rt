@@ -4,7 +4,7 @@
 //! target's name. A target that is no regular file, or whose folder takes no new file or no new
 //! name, is written in place.
 
-use crate::StoreRefused;
+use crate::IoRefused;
 use crate::real_sink::takes_all;
 use std::fs::{File, Metadata, OpenOptions, Permissions};
 use std::io::ErrorKind;
@@ -27,7 +27,7 @@ const MOST_TRIES: u32 = 1000;
 const USUAL_MODE: u32 = 0o666;
 
 /// Makes the bytes the content of a name. Want of memory is told before anything is changed.
-pub(crate) fn store_whole(rt: &HostRuntime, name: &str, bytes: &[u8]) -> Result<(), StoreRefused> {
+pub(crate) fn store_whole(rt: &HostRuntime, name: &str, bytes: &[u8]) -> Result<(), IoRefused> {
     match replaces(rt, name, bytes) {
         Ok(true) => Ok(()),
         Ok(false) => store_in_place(rt, name, bytes),
@@ -35,7 +35,7 @@ pub(crate) fn store_whole(rt: &HostRuntime, name: &str, bytes: &[u8]) -> Result<
     }
 }
 
-fn store_in_place(rt: &HostRuntime, name: &str, bytes: &[u8]) -> Result<(), StoreRefused> {
+fn store_in_place(rt: &HostRuntime, name: &str, bytes: &[u8]) -> Result<(), IoRefused> {
     let written = match File::create(rt, name) {
         Ok(file) => fills(file, bytes),
         Err(_) => false,
@@ -43,13 +43,13 @@ fn store_in_place(rt: &HostRuntime, name: &str, bytes: &[u8]) -> Result<(), Stor
     if written {
         Ok(())
     } else {
-        Err(StoreRefused::Failed)
+        Err(IoRefused::Failed)
     }
 }
 
 // Puts the bytes into a file beside the target and gives it the target's name. False where the
 // target has to be written in place; nothing is changed then.
-fn replaces(rt: &HostRuntime, name: &str, bytes: &[u8]) -> Result<bool, StoreRefused> {
+fn replaces(rt: &HostRuntime, name: &str, bytes: &[u8]) -> Result<bool, IoRefused> {
     let found = place_of(rt, name).map_err(|e| refusal(&e))?;
     let Some(place) = found else {
         return Ok(false);
@@ -63,26 +63,26 @@ fn replaces(rt: &HostRuntime, name: &str, bytes: &[u8]) -> Result<bool, StoreRef
     let ready = gets_access(rt, &file, &path, &place.old) && fills(file, bytes);
     if !ready {
         remove(rt, &path);
-        return Err(StoreRefused::Failed);
+        return Err(IoRefused::Failed);
     }
     match rename(rt, &path, &place.target) {
         Ok(()) if is_synced(&folder) => Ok(true),
-        Ok(()) => Err(StoreRefused::Failed),
+        Ok(()) => Err(IoRefused::Failed),
         Err(error) => {
             remove(rt, &path);
             if bars_names(error.kind()) {
                 Ok(false)
             } else {
-                Err(StoreRefused::Failed)
+                Err(IoRefused::Failed)
             }
         }
     }
 }
 
-fn refusal(error: &io::Error) -> StoreRefused {
+fn refusal(error: &io::Error) -> IoRefused {
     match error.kind() {
-        ErrorKind::OutOfMemory => StoreRefused::Memory,
-        _ => StoreRefused::Failed,
+        ErrorKind::OutOfMemory => IoRefused::Memory,
+        _ => IoRefused::Failed,
     }
 }
 

@@ -2,26 +2,10 @@
 ghost use Rattle.std.specs.Prelude.{◌≡◌, ℕ, ◌≤◌, List, Option, OnOk, IsErrOf};
 ghost use Rattle.pv_io.specs.Outside.{Rose, appended, AppendsFront};
 
-use std::alloc::{AllocError, AllocFailed};
+use crate::refused::IoRefused;
 
-/// Why a sink didn't take a piece.
-#[derive(Clone, Copy, Debug, PartialEq, Eq)]
-pub enum WriteRefused {
-    /// The outside failed. A first part of the piece may have been taken.
-    Failed,
-    /// There was no memory, and nothing was taken.
-    Memory,
-}
-
-impl From<AllocError> for WriteRefused {
-    ghost use Rattle.pv_io.specs.declared.sink.WriteRefused.TheVariants.{Memory};
-
-    ghost from_gives = { λ _ e. e ≡ Memory };
-
-    fn from(_: AllocError) -> Self {
-        WriteRefused::Memory
-    }
-}
+/// Why a sink didn't take a piece. Where the outside failed, a first part of it may have been taken.
+pub type WriteRefused = IoRefused;
 
 /// What takes bytes, one piece after another.
 pub trait Sink {
@@ -32,14 +16,14 @@ pub trait Sink {
     ghost faults: { Self → ℕ };
 
     /// Takes the whole piece, or says why not.
-    fn write(&mut self, bytes: &[u8]) -> Result<(), WriteRefused>
+    fn write(&mut self, bytes: &[u8]) -> Result<(), IoRefused>
         ensures whole { OnOk result (written self.new ≡ appended (written self.old) bytes.now) }
-        ensures front { IsErrOf result WriteRefused.Failed
+        ensures front { IsErrOf result IoRefused.Failed
             → AppendsFront (written self.old) (written self.new) bytes.now }
-        ensures cause { IsErrOf result WriteRefused.Failed
+        ensures cause { IsErrOf result IoRefused.Failed
             → Rose (faults self.old) (faults self.new) }
-        ensures unchanged { IsErrOf result WriteRefused.Memory
+        ensures unchanged { IsErrOf result IoRefused.Memory
             → written self.new ≡ written self.old }
-        ensures no_fault { IsErrOf result WriteRefused.Memory → faults self.new ≡ faults self.old }
+        ensures no_fault { IsErrOf result IoRefused.Memory → faults self.new ≡ faults self.old }
         ensures counts_on { faults self.old ≤ faults self.new };
 }

@@ -19,7 +19,7 @@ fn one_file(alloc: Global, name: &str, bytes: &[u8]) -> Result<BTreeMap<String, 
 fn a_sink_in_memory_fails_by_its_list(rt: HostRuntime) -> Result<(), Fail> {
     let alloc = rt.alloc();
     let mut sink = MemSink::new(alloc, vec![in alloc; 1]?);
-    let want = [Ok(()), Err(WriteRefused::Failed), Ok(())];
+    let want = [Ok(()), Err(IoRefused::Failed), Ok(())];
     for (piece, want) in PIECES.iter().zip(want) {
         assert_eq!(rt; sink.write(piece.as_bytes()), want, "{piece}");
     }
@@ -50,7 +50,7 @@ fn a_folder_in_memory_fails_by_its_list(rt: HostRuntime) -> Result<(), Fail> {
         assert_eq!(rt; into.as_slice(), bytes);
     }
     assert_eq!(rt; folder.store("t", b"xy"), Ok(()));
-    assert_eq!(rt; folder.store("t", b"z"), Err(StoreRefused::Failed));
+    assert_eq!(rt; folder.store("t", b"z"), Err(IoRefused::Failed));
     let mut into = Vec::new(alloc);
     assert_eq!(rt; folder.fetch("t", 9, &mut into), Ok(()));
     assert_eq!(rt; into.as_slice(), b"xy".as_slice());
@@ -98,7 +98,7 @@ fn a_real_sink_goes_on_until_all_is_taken(rt: HostRuntime) -> Result<(), Fail> {
     let mut sink = RealSink::new(&mut slow);
     assert_eq!(rt; sink.write(b"abcde"), Ok(()));
     assert_eq!(rt; sink.write(b""), Ok(()));
-    assert_eq!(rt; sink.write(b"fgh"), Err(WriteRefused::Failed));
+    assert_eq!(rt; sink.write(b"fgh"), Err(IoRefused::Failed));
     assert_eq!(rt; slow.taken.as_slice(), b"abcdefg".as_slice());
     Ok(())
 }
@@ -113,7 +113,7 @@ fn a_real_folder_reads_what_it_stored(rt: HostRuntime) -> Result<(), Fail> {
     assert_eq!(rt; folder.store(name, b"abc"), Ok(()));
     assert_eq!(rt;
         folder.store("pv_io_test_dir", b"abc"),
-        Err(StoreRefused::Failed)
+        Err(IoRefused::Failed)
     );
     let fetches: [(&str, u64, Result<(), FetchRefused>, &[u8]); 5] = [
         (name, 3, Ok(()), b"abc"),
@@ -201,7 +201,7 @@ fn a_store_replaces_the_file_at_the_end_of_links(rt: HostRuntime) -> Result<(), 
     assert_eq!(rt; held(&rt, "pv_io_test_links/far/none")?.as_str(), "made");
     assert_eq!(rt;
         folder.store("pv_io_test_links/round", b"lost"),
-        Err(StoreRefused::Failed)
+        Err(IoRefused::Failed)
     );
     assert_eq!(rt; names_in(&rt, "pv_io_test_links")?, 5);
     assert_eq!(rt; names_in(&rt, "pv_io_test_links/far")?, 2);

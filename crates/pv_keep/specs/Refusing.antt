@@ -3,12 +3,8 @@ use Rattle.pv_keep.specs.declared.keeper.BeginRefused.{BeginRefused}
 use Rattle.pv_keep.specs.declared.keeper.BeginRefused.TheVariants as begin
 use Rattle.pv_keep.specs.declared.keeper.LoadRefused.{LoadRefused}
 use Rattle.pv_keep.specs.declared.keeper.LoadRefused.TheVariants as load
-use Rattle.pv_keep.specs.declared.keeper.KeepRefused.{KeepRefused}
-use Rattle.pv_keep.specs.declared.keeper.KeepRefused.TheVariants as keep
 use Rattle.pv_keep.specs.declared.refusal.CampaignRefused.{CampaignRefused}
 use Rattle.pv_keep.specs.declared.refusal.CampaignRefused.TheVariants as opening
-use Rattle.pv_keep.specs.declared.refusal.SaveRefused.{SaveRefused}
-use Rattle.pv_keep.specs.declared.refusal.SaveRefused.TheVariants as saving
 
 abbrev pub opening_after_begin : BeginRefused → CampaignRefused
 opening_after_begin begin.Failed = opening.Failed
@@ -19,7 +15,3 @@ abbrev pub opening_after_load : LoadRefused → CampaignRefused
 opening_after_load load.Failed = opening.Failed
 opening_after_load load.Memory = opening.Memory
 opening_after_load load.TooMany = opening.TooMany
-
-abbrev pub saving_after_keep : KeepRefused → SaveRefused
-saving_after_keep keep.Failed = saving.Failed
-saving_after_keep keep.Memory = saving.Memory

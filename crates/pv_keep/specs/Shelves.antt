@@ -10,8 +10,8 @@ use Rattle.pv_keep.specs.declared.keeper.BeginRefused.{BeginRefused}
 use Rattle.pv_keep.specs.declared.keeper.BeginRefused.TheVariants as begin
 use Rattle.pv_keep.specs.declared.keeper.LoadRefused.{LoadRefused}
 use Rattle.pv_keep.specs.declared.keeper.LoadRefused.TheVariants as load
-use Rattle.pv_keep.specs.declared.keeper.KeepRefused.{KeepRefused}
-use Rattle.pv_keep.specs.declared.keeper.KeepRefused.TheVariants as keep
+use Rattle.pv_io.specs.declared.refused.IoRefused.{IoRefused}
+use Rattle.pv_io.specs.declared.refused.IoRefused.TheVariants as keep
 use Rattle.pv_keep.specs.declared.mem_keeper.Shelf.{Shelf}
 use Rattle.pv_keep.specs.declared.mem_keeper.MemKeeper.{MemKeeper}
 use Rattle.pv_keep.specs.Keeping.{Kept, absent, holds}
@@ -68,12 +68,12 @@ faults_after_load (Err load.Failed) count = one_more count
 faults_after_load (Err load.Memory) count = count
 faults_after_load (Err load.TooMany) count = count
 
-abbrev pub turns_after_save : {T : Type 0} → Result T KeepRefused → Turns → Turns
+abbrev pub turns_after_save : {T : Type 0} → Result T IoRefused → Turns → Turns
 turns_after_save (Ok done) turns = advanced turns
 turns_after_save (Err keep.Failed) turns = advanced turns
 turns_after_save (Err keep.Memory) turns = turns
 
-abbrev pub faults_after_save : {T : Type 0} → Result T KeepRefused → ℕ → ℕ
+abbrev pub faults_after_save : {T : Type 0} → Result T IoRefused → ℕ → ℕ
 faults_after_save (Ok done) count = count
 faults_after_save (Err keep.Failed) count = one_more count
 faults_after_save (Err keep.Memory) count = count

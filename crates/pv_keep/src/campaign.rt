@@ -12,9 +12,10 @@ ghost use Rattle.pv_keep.specs.Campaigns.{IsOpened, IsLeft, HasTooMany, HasBadRo
 use crate::keeper::Keeper;
 use crate::new_rows::new_rows;
 use crate::rebuild::rebuild;
-use crate::refusal::{CampaignRefused, SaveRefused};
+use crate::refusal::CampaignRefused;
 use crate::row::Rows;
 use pv_box::IBox;
+use pv_io::IoRefused;
 use pv_join::{JoinRefused, join};
 use pv_tree::{NodeLimit, Paving};
 use std::alloc::Global;
@@ -135,7 +136,7 @@ impl Campaign {
         alloc: Global,
         keeper: &mut P,
         stage: &Paving,
-    ) -> Result<u64, SaveRefused>
+    ) -> Result<u64, IoRefused>
         requires root { stage.now.root ≡ self.old.root }
         requires stages { AreStages self.old.root self.old.tree stage.now.tree }
         requires few { (t : Tree) → IsJoin self.old.tree stage.now.tree t →
@@ -162,7 +163,7 @@ impl Campaign {
         ensures others { (name other : List ℕ) → P.begun keeper.old ≡ Some name
             → other ≢ name → P.kept keeper.new other ≡ P.kept keeper.old other }
         ensures begun { P.begun keeper.new ≡ P.begun keeper.old }
-        ensures cause { IsErrOf result SaveRefused.Failed
+        ensures cause { IsErrOf result IoRefused.Failed
             → Rose (P.faults keeper.old) (P.faults keeper.new) }
         ensures counts_on { P.faults keeper.old ≤ P.faults keeper.new }
     {
@@ -188,7 +189,7 @@ impl Campaign {
         alloc: Global,
         keeper: &mut P,
         grown: Paving,
-    ) -> Result<u64, SaveRefused>
+    ) -> Result<u64, IoRefused>
         requires root { grown.root ≡ self.old.root }
         requires grows { Grows self.old.tree grown.tree }
         requires few { settled_count grown.tree ≤ self.old.limit }
@@ -211,7 +212,7 @@ impl Campaign {
         ensures others { (name other : List ℕ) → P.begun keeper.old ≡ Some name
             → other ≢ name → P.kept keeper.new other ≡ P.kept keeper.old other }
         ensures begun { P.begun keeper.new ≡ P.begun keeper.old }
-        ensures cause { IsErrOf result SaveRefused.Failed
+        ensures cause { IsErrOf result IoRefused.Failed
             → Rose (P.faults keeper.old) (P.faults keeper.new) }
         ensures counts_on { P.faults keeper.old ≤ P.faults keeper.new }
     {
@@ -224,7 +225,7 @@ impl Campaign {
     }
 
     #[tactic(auto, using(crate::proofs::Opening::joined_grows))]
-    fn join_with(&self, alloc: Global, stage: &Paving) -> Result<Paving, SaveRefused>
+    fn join_with(&self, alloc: Global, stage: &Paving) -> Result<Paving, IoRefused>
         requires root { stage.now.root ≡ self.now.root }
         requires stages { AreStages self.now.root self.now.tree stage.now.tree }
         ensures root { IfOk result (λ p. p.root ≡ self.now.root) }
@@ -234,11 +235,11 @@ impl Campaign {
             → IsStage rule depth self.now.root opening self.now.tree
             → IsStage rule depth self.now.root opening stage.now.tree
             → IfOk result (λ p. IsStage rule depth self.now.root opening p.tree) }
-        ensures not_failed { result ≢ Err SaveRefused.Failed }
+        ensures not_failed { result ≢ Err IoRefused.Failed }
     {
         match join(alloc, &self.paving, stage) {
             Ok(joined) => Ok(joined),
-            Err(JoinRefused::Memory) => Err(SaveRefused::Memory),
+            Err(JoinRefused::Memory) => Err(IoRefused::Memory),
             Err(JoinRefused::Disagree { .. }) => unreachable!(),
         }
     }
@@ -251,7 +252,7 @@ fn keep_new<P: Keeper>(
     keeper: &mut P,
     earlier: &Paving,
     later: &Paving,
-) -> Result<u64, SaveRefused>
+) -> Result<u64, IoRefused>
     requires grows { Grows earlier.now.tree later.now.tree }
     requires begun { IsSome (P.begun keeper.old) }
     requires kept { (name : List ℕ) → P.begun keeper.old ≡ Some name
@@ -267,11 +268,13 @@ fn keep_new<P: Keeper>(
     ensures others { (name other : List ℕ) → P.begun keeper.old ≡ Some name
         → other ≢ name → P.kept keeper.new other ≡ P.kept keeper.old other }
     ensures begun { P.begun keeper.new ≡ P.begun keeper.old }
-    ensures cause { IsErrOf result SaveRefused.Failed
+    ensures cause { IsErrOf result IoRefused.Failed
         → Rose (P.faults keeper.old) (P.faults keeper.new) }
     ensures counts_on { P.faults keeper.old ≤ P.faults keeper.new }
 {
     let rows = new_rows(alloc, earlier, later)?;
-    keeper.save(&rows)?;
-    Ok(rows.len())
+    match keeper.save(&rows) {
+        Ok(()) => Ok(rows.len()),
+        Err(refused) => Err(refused),
+    }
 }

@@ -5,6 +5,7 @@ ghost use Rattle.pv_keep.specs.Rows.{AreDistinct};
 ghost use Rattle.pv_keep.specs.Keeping.{Kept, IsBegun, HasOther, MayBeThere, IsOrdered, AreAll, AreTooMany, MayBeNew, with_rows};
 
 use crate::row::{RowRefused, Rows};
+use pv_io::IoRefused;
 use pv_num::Memory;
 use std::alloc::{AllocError, AllocFailed};
 
@@ -31,13 +32,7 @@ pub enum LoadRefused {
 }
 
 /// Why rows weren't kept.
-#[derive(Clone, Copy, Debug, PartialEq, Eq)]
-pub enum KeepRefused {
-    /// The outside failed.
-    Failed,
-    /// There was no memory.
-    Memory,
-}
+pub type KeepRefused = IoRefused;
 
 impl From<AllocError> for BeginRefused {
     ghost use Rattle.pv_keep.specs.declared.keeper.BeginRefused.TheVariants.{Memory};
@@ -66,16 +61,6 @@ impl From<RowRefused> for LoadRefused {
 
     fn from(_: RowRefused) -> Self {
         LoadRefused::Memory
-    }
-}
-
-impl From<Memory> for KeepRefused {
-    ghost use Rattle.pv_keep.specs.declared.keeper.KeepRefused.TheVariants.{Memory};
-
-    ghost from_gives = { λ _ e. e ≡ Memory };
-
-    fn from(_: Memory) -> Self {
-        KeepRefused::Memory
     }
 }
 
@@ -131,7 +116,7 @@ pub trait Keeper {
         ensures counts_on { faults self.old ≤ faults self.new };
 
     /// Keeps further rows of the name that is begun. After a refusal all rows are as before.
-    fn save(&mut self, rows: &Rows) -> Result<(), KeepRefused>
+    fn save(&mut self, rows: &Rows) -> Result<(), IoRefused>
         requires begun { IsSome (begun self.old) }
         requires there { (name : List ℕ) → begun self.old ≡ Some name →
             MayBeThere (kept self.old name) }
@@ -145,8 +130,8 @@ pub trait Keeper {
         ensures others { (name other : List ℕ) → begun self.old ≡ Some name
             → other ≢ name → kept self.new other ≡ kept self.old other }
         ensures begun { begun self.new ≡ begun self.old }
-        ensures cause { IsErrOf result KeepRefused.Failed →
+        ensures cause { IsErrOf result IoRefused.Failed →
             Rose (faults self.old) (faults self.new) }
-        ensures no_fault { IsErrOf result KeepRefused.Memory → faults self.new ≡ faults self.old }
+        ensures no_fault { IsErrOf result IoRefused.Memory → faults self.new ≡ faults self.old }
         ensures counts_on { faults self.old ≤ faults self.new };
 }

@@ -6,10 +6,10 @@ ghost use Rattle.pv_keep.specs.Rows.{AreDistinct};
 ghost use Rattle.pv_keep.specs.Keeping.{absent, holds, IsBegun, HasOther, MayBeThere, IsOrdered, AreAll, AreTooMany, MayBeNew, with_rows};
 ghost use Rattle.pv_keep.specs.Shelves.{content_of, kept_in, begun_in, name_of, turns_of, faults_of, turns_after_begin, faults_after_begin, turns_after_load, faults_after_load, turns_after_save, faults_after_save};
 
-use crate::keeper::{BeginRefused, KeepRefused, Keeper, LoadRefused};
+use crate::keeper::{BeginRefused, Keeper, LoadRefused};
 use crate::kept_rows::KeptRows;
 use crate::row::Rows;
-use pv_io::Script;
+use pv_io::{IoRefused, Script};
 use pv_num::Memory;
 use std::alloc::{AllocError, Global};
 use std::collections::BTreeMap;
@@ -253,7 +253,7 @@ impl Keeper for MemKeeper {
         answer
     }
 
-    fn save(&mut self, rows: &Rows) -> Result<(), KeepRefused>
+    fn save(&mut self, rows: &Rows) -> Result<(), IoRefused>
         requires begun { IsSome (begun_in self.old) }
         requires there { (name : List ℕ) → begun_in self.old ≡ Some name →
             MayBeThere (kept_in self.old name) }
@@ -267,21 +267,21 @@ impl Keeper for MemKeeper {
         ensures others { (name other : List ℕ) → begun_in self.old ≡ Some name
             → other ≢ name → kept_in self.new other ≡ kept_in self.old other }
         ensures begun { begun_in self.new ≡ begun_in self.old }
-        ensures cause { IsErrOf result KeepRefused.Failed →
+        ensures cause { IsErrOf result IoRefused.Failed →
             Rose (faults_of self.old) (faults_of self.new) }
-        ensures no_fault { IsErrOf result KeepRefused.Memory → faults_of self.new ≡
+        ensures no_fault { IsErrOf result IoRefused.Memory → faults_of self.new ≡
             faults_of self.old }
         ensures counts_on { faults_of self.old ≤ faults_of self.new }
 
         // Beyond what every keeper says: which calls fail, and what is counted.
-        ensures fails { IsErrOf result KeepRefused.Failed
+        ensures fails { IsErrOf result IoRefused.Failed
             ↔ Contains (turns_of self.old).failing (turns_of self.old).next }
         ensures turns { turns_of self.new ≡ turns_after_save result (turns_of self.old) }
         ensures faults { faults_of self.new ≡ faults_after_save result (faults_of self.old) }
     {
         if self.script.fails() {
             self.fail();
-            return Err(KeepRefused::Failed);
+            return Err(IoRefused::Failed);
         }
         let Some(name) = &self.begun else {
             unreachable!()

@@ -1,8 +1,9 @@
 //! Why a campaign isn't opened, or a round not saved.
 ghost use Rattle.std.specs.Prelude.{◌≡◌};
 
-use crate::keeper::{BeginRefused, KeepRefused, LoadRefused};
+use crate::keeper::{BeginRefused, LoadRefused};
 use crate::row::RowRefused;
+use pv_io::IoRefused;
 use pv_num::Memory;
 use pv_tree::PutRefused;
 use std::alloc::{AllocError, AllocFailed};
@@ -23,13 +24,7 @@ pub enum CampaignRefused {
 }
 
 /// Why a round wasn't saved. The campaign and the kept rows are as before then.
-#[derive(Clone, Copy, Debug, PartialEq, Eq)]
-pub enum SaveRefused {
-    /// There was no memory.
-    Memory,
-    /// The keeper failed.
-    Failed,
-}
+pub type SaveRefused = IoRefused;
 
 impl From<BeginRefused> for CampaignRefused {
     ghost use Rattle.pv_keep.specs.Refusing.{opening_after_begin};
@@ -76,28 +71,5 @@ impl From<PutRefused> for CampaignRefused {
 
     fn from(_: PutRefused) -> Self {
         CampaignRefused::Memory
-    }
-}
-
-impl From<Memory> for SaveRefused {
-    ghost use Rattle.pv_keep.specs.declared.refusal.SaveRefused.TheVariants.{Memory};
-
-    ghost from_gives = { λ _ e. e ≡ Memory };
-
-    fn from(_: Memory) -> Self {
-        SaveRefused::Memory
-    }
-}
-
-impl From<KeepRefused> for SaveRefused {
-    ghost use Rattle.pv_keep.specs.Refusing.{saving_after_keep};
-
-    ghost from_gives = { λ k e. e ≡ saving_after_keep k };
-
-    fn from(refused: KeepRefused) -> Self {
-        match refused {
-            KeepRefused::Failed => SaveRefused::Failed,
-            KeepRefused::Memory => SaveRefused::Memory,
-        }
     }
 }

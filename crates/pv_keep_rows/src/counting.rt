@@ -2,7 +2,8 @@
 ghost use Rattle.pv_keep.specs.Keeping.{untold};
 ghost use Rattle.pv_keep_sql.specs.Keepers.{begun_in, faults_in};
 
-use pv_keep::{BeginRefused, KeepRefused, Keeper, LoadRefused, Rows};
+use pv_io::IoRefused;
+use pv_keep::{BeginRefused, Keeper, LoadRefused, Rows};
 use pv_keep_sql::ConnectionKeeper;
 use sqlite::{Alter, Connection};
 
@@ -48,7 +49,7 @@ impl<S: Alter> Keeper for Counting<S> {
         self.inner.load(limit, into)
     }
 
-    fn save(&mut self, rows: &Rows) -> Result<(), KeepRefused> {
+    fn save(&mut self, rows: &Rows) -> Result<(), IoRefused> {
         let answer = self.inner.save(rows);
         if answer.is_ok() {
             self.saves = self.saves.saturating_add(1);

@@ -5,8 +5,8 @@ use Rattle.pv_keep.specs.declared.keeper.BeginRefused.{BeginRefused}
 use Rattle.pv_keep.specs.declared.keeper.BeginRefused.TheVariants as begin
 use Rattle.pv_keep.specs.declared.keeper.LoadRefused.{LoadRefused}
 use Rattle.pv_keep.specs.declared.keeper.LoadRefused.TheVariants as load
-use Rattle.pv_keep.specs.declared.keeper.KeepRefused.{KeepRefused}
-use Rattle.pv_keep.specs.declared.keeper.KeepRefused.TheVariants as keep
+use Rattle.pv_io.specs.declared.refused.IoRefused.{IoRefused}
+use Rattle.pv_io.specs.declared.refused.IoRefused.TheVariants as keep
 use Rattle.pv_keep_sql.specs.declared.faults.Refused.{Refused}
 use Rattle.pv_keep_sql.specs.declared.faults.Refused.TheVariants.{Failed, Memory}
 
@@ -23,6 +23,6 @@ abbrev pub load_refusal : Refused → LoadRefused
 load_refusal Failed = load.Failed
 load_refusal Memory = load.Memory
 
-abbrev pub keep_refusal : Refused → KeepRefused
+abbrev pub keep_refusal : Refused → IoRefused
 keep_refusal Failed = keep.Failed
 keep_refusal Memory = keep.Memory

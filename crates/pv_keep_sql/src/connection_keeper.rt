@@ -6,7 +6,8 @@ ghost use Rattle.pv_keep_sql.specs.Keepers.{begun_in, faults_in};
 
 use crate::database::{Entered, Extent, enter, read_rows, write_rows};
 use crate::faults::{Refused, counted};
-use pv_keep::{BeginRefused, KeepRefused, Keeper, LoadRefused, Rows};
+use pv_io::IoRefused;
+use pv_keep::{BeginRefused, Keeper, LoadRefused, Rows};
 use sqlite::{Alter, Connection};
 use std::alloc::Global;
 
@@ -121,7 +122,7 @@ impl<S: Alter> Keeper for ConnectionKeeper<S> {
         }
     }
 
-    fn save(&mut self, rows: &Rows) -> Result<(), KeepRefused> {
+    fn save(&mut self, rows: &Rows) -> Result<(), IoRefused> {
         match write_rows(self.alloc, &mut self.connection, rows) {
             Ok(()) => Ok(()),
             Err(refused) => Err(self.refuse(refused).into()),

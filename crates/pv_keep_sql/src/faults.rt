@@ -1,7 +1,8 @@
 //! Why a database gives no answer, and how often.
 ghost use Rattle.pv_keep_sql.specs.Counting.{IsCounted};
 
-use pv_keep::{BeginRefused, KeepRefused, LoadRefused, RowRefused};
+use pv_io::IoRefused;
+use pv_keep::{BeginRefused, LoadRefused, RowRefused};
 use pv_num::Memory;
 use sqlite::{Error, ErrorCode};
 use std::alloc::AllocError;
@@ -70,7 +71,7 @@ impl From<Refused> for LoadRefused {
     }
 }
 
-impl From<Refused> for KeepRefused {
+impl From<Refused> for IoRefused {
     ghost use Rattle.std.specs.Prelude.{◌≡◌};
     ghost use Rattle.pv_keep_sql.specs.Counting.{keep_refusal};
 
@@ -78,8 +79,8 @@ impl From<Refused> for KeepRefused {
 
     fn from(refused: Refused) -> Self {
         match refused {
-            Refused::Failed => KeepRefused::Failed,
-            Refused::Memory => KeepRefused::Memory,
+            Refused::Failed => IoRefused::Failed,
+            Refused::Memory => IoRefused::Memory,
         }
     }
 }

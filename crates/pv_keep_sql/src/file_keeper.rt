@@ -7,7 +7,8 @@ use crate::ConnectionKeeper;
 use crate::database::{Standing, look};
 use crate::faults::{Refused, counted};
 use crate::place::{Before, MOST_TRIES, Place, has_log};
-use pv_keep::{BeginRefused, KeepRefused, Keeper, LoadRefused, Rows};
+use pv_io::IoRefused;
+use pv_keep::{BeginRefused, Keeper, LoadRefused, Rows};
 use sqlite::{Connection, File, FileStore, Files, Options, Unknown};
 use sqlite_std_file::OpenError;
 use std::hash::{BuildHasher, RandomState};
@@ -167,9 +168,9 @@ fn is_kept(rt: &HostRuntime, place: &Option<Place>) -> bool {
 }
 
 // What a save came to, where its files may have been taken away or replaced meanwhile.
-fn judged(answer: Result<(), KeepRefused>, is_kept: bool) -> Result<(), KeepRefused> {
+fn judged(answer: Result<(), IoRefused>, is_kept: bool) -> Result<(), IoRefused> {
     if answer.is_ok() && !is_kept {
-        return Err(KeepRefused::Failed);
+        return Err(IoRefused::Failed);
     }
     answer
 }
@@ -209,13 +210,13 @@ impl Keeper for FileKeeper<'_> {
         answer
     }
 
-    fn save(&mut self, rows: &Rows) -> Result<(), KeepRefused> {
+    fn save(&mut self, rows: &Rows) -> Result<(), IoRefused> {
         let Some(keeper) = &mut self.open else {
             unreachable!()
         };
         let answer = keeper.save(rows);
         let answer = judged(answer, is_kept(self.rt, &self.place));
-        if answer == Err(KeepRefused::Failed) {
+        if answer == Err(IoRefused::Failed) {
             self.faults = self.faults.saturating_add(1);
         }
         answer

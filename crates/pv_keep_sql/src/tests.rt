@@ -3,7 +3,8 @@ ghost use Rattle.std.specs.Prelude.{◌≡◌, ◌≢◌, IfOk};
 ghost use Rattle.pv_keep.specs.Rows.{AreDistinct};
 
 use super::*;
-use pv_keep::{BeginRefused, KeepRefused, Keeper, Line, LoadRefused, Row, Rows};
+use pv_io::IoRefused;
+use pv_keep::{BeginRefused, Keeper, Line, LoadRefused, Row, Rows};
 use pv_tree::Path;
 use sqlite::{Alter, Connection, Error, MemStore, params};
 use std::alloc::Global;
@@ -110,7 +111,7 @@ fn load<S: Alter>(
 fn save<S: Alter>(
     keeper: &mut ConnectionKeeper<S>,
     rows: &Rows,
-) -> Result<Result<(), KeepRefused>, Fail>
+) -> Result<Result<(), IoRefused>, Fail>
     requires { AreDistinct rows.now }
 {
     match keeper.begin("k", IDENTITY) {
@@ -254,7 +255,7 @@ fn a_refused_save_leaves_all_rows(rt: HostRuntime) -> Result<(), Fail> {
     let alloc = rt.alloc();
     let mut keeper = keeper_of(alloc, "INSERT INTO node VALUES ('0', 'I')")?;
     let both = both_halves(alloc)?;
-    assert_eq!(rt; save(&mut keeper, &both)?, Err(KeepRefused::Failed));
+    assert_eq!(rt; save(&mut keeper, &both)?, Err(IoRefused::Failed));
     assert_eq!(rt;
         load(alloc, &mut keeper, 9)?.text.as_slice(),
         "0 I\n".as_bytes()

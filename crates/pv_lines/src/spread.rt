@@ -5,8 +5,8 @@ ghost use Rattle.pv_tree.specs.Pieces.{root_piece};
 ghost use Rattle.pv_file.specs.Scribes.{Scribed};
 ghost use Rattle.pv_lines.specs.Turns.{AreSpread, HasTurned, HaveTexts, texts_of};
 
-use pv_file::{FileWriteRefused, Scribe, Version};
-use pv_io::{Sink, WriteRefused};
+use pv_file::{Scribe, Version};
+use pv_io::{FileWriteRefused, Sink, hand_over};
 use pv_num::Memory;
 use pv_tree::Paving;
 use std::alloc::Global;
@@ -87,18 +87,4 @@ pub(crate) fn hand_from<K: Sink>(
     let text = scribes[i].text()?;
     hand_over(text, sink)?;
     hand_from(scribes, i + 1, sink)
-}
-
-fn hand_over<K: Sink>(text: &[u8], sink: &mut K) -> Result<(), FileWriteRefused>
-    ensures whole { OnOk result (K.written sink.new ≡ appended (K.written sink.old) text.now) }
-    ensures front { OnErr result (AppendsFront (K.written sink.old) (K.written sink.new) text.now) }
-    ensures cause { IsErrOf result FileWriteRefused.WriteFailed
-        → Rose (K.faults sink.old) (K.faults sink.new) }
-    ensures counts_on { K.faults sink.old ≤ K.faults sink.new }
-{
-    match sink.write(text) {
-        Ok(()) => Ok(()),
-        Err(WriteRefused::Failed) => Err(FileWriteRefused::WriteFailed),
-        Err(WriteRefused::Memory) => Err(FileWriteRefused::Memory),
-    }
 }

@@ -3,7 +3,7 @@ ghost use Rattle.std.specs.Prelude.{◌≡◌};
 ghost use Rattle.pv_progress.specs.Clearings.{sink_of};
 
 use crate::progress::Progress;
-use pv_io::{Sink, WriteRefused};
+use pv_io::{IoRefused, Sink};
 
 /// A sink before each of whose pieces the line of a progress is wiped. What it takes is what the
 /// sink within takes.
@@ -29,7 +29,7 @@ impl<K: Sink + Drop> Sink for Clearing<'_, K> {
 
     ghost faults = { λ s. K.faults (sink_of s) };
 
-    fn write(&mut self, bytes: &[u8]) -> Result<(), WriteRefused> {
+    fn write(&mut self, bytes: &[u8]) -> Result<(), IoRefused> {
         self.progress.clear();
         self.sink.write(bytes)
     }

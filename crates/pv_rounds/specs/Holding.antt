@@ -9,8 +9,8 @@ use Rattle.pv_keep.specs.Keeping.{Kept, HasOther}
 use Rattle.pv_keep.specs.Campaigns.{IsOpened, IsLeft, HasTooMany, HasBadRow}
 use Rattle.pv_keep.specs.declared.refusal.CampaignRefused.{CampaignRefused}
 use Rattle.pv_keep.specs.declared.refusal.CampaignRefused.TheVariants as opening
-use Rattle.pv_keep.specs.declared.refusal.SaveRefused.{SaveRefused}
-use Rattle.pv_keep.specs.declared.refusal.SaveRefused.TheVariants as saving
+use Rattle.pv_io.specs.declared.refused.IoRefused.{IoRefused}
+use Rattle.pv_io.specs.declared.refused.IoRefused.TheVariants as saving
 use Rattle.pv_rounds.specs.declared.campaign.HoldRefused.{HoldRefused}
 use Rattle.pv_rounds.specs.declared.campaign.HoldRefused.TheVariants.{Memory, Failed, OtherIdentity, TooMany, BadRow, TreeLimit}
 use Rattle.pv_rounds.specs.Going.{HasGoneOn, HasStopped}
@@ -70,6 +70,6 @@ after_opening (opening.OtherIdentity kept) = OtherIdentity kept
 after_opening opening.TooMany = TooMany
 after_opening (opening.BadRow n) = BadRow n
 
-abbrev pub after_round : SaveRefused → HoldRefused
+abbrev pub after_round : IoRefused → HoldRefused
 after_round saving.Memory = Memory
 after_round saving.Failed = Failed

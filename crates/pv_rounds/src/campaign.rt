@@ -8,7 +8,8 @@ ghost use Rattle.pv_rounds.specs.Holding.{IsHeld, RefusesOpening, RefusesHold};
 use crate::plan::Plan;
 use crate::rounds::go_on;
 use pv_box::IBox;
-use pv_keep::{Campaign, CampaignRefused, Keeper, SaveRefused};
+use pv_io::IoRefused;
+use pv_keep::{Campaign, CampaignRefused, Keeper};
 use pv_pool::Gate;
 use pv_tree::{KnowingSettler, NodeLimit};
 use std::alloc::Global;
@@ -48,15 +49,15 @@ impl From<CampaignRefused> for HoldRefused {
     }
 }
 
-impl From<SaveRefused> for HoldRefused {
+impl From<IoRefused> for HoldRefused {
     ghost use Rattle.pv_rounds.specs.Holding.{after_round};
 
     ghost from_gives = { λ s e. e ≡ after_round s };
 
-    fn from(refused: SaveRefused) -> Self {
+    fn from(refused: IoRefused) -> Self {
         match refused {
-            SaveRefused::Memory => HoldRefused::Memory,
-            SaveRefused::Failed => HoldRefused::Failed,
+            IoRefused::Memory => HoldRefused::Memory,
+            IoRefused::Failed => HoldRefused::Failed,
         }
     }
 }

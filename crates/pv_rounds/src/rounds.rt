@@ -9,7 +9,8 @@ ghost use Rattle.pv_scope.specs.declared.order.Order as declared;
 ghost use Rattle.pv_rounds.specs.Going.{AddUp, HasGoneOn, HasStopped};
 
 use crate::plan::Plan;
-use pv_keep::{Campaign, Keeper, SaveRefused};
+use pv_io::IoRefused;
+use pv_keep::{Campaign, Keeper};
 use pv_num::Memory;
 use pv_pool::Gate;
 use pv_scope::pave_in_order;
@@ -47,7 +48,7 @@ pub fn go_on<P: Keeper, S: KnowingSettler + Sync, G: Gate + Sync, R: Threads + W
     keeper: &mut P,
     plan: &Plan,
     gate: &G,
-) -> Result<(), SaveRefused>
+) -> Result<(), IoRefused>
 where
     S::Room: Send,
     S::Known: Send,
@@ -67,7 +68,7 @@ where
         (HasStopped (S.settle_of settler.now) (S.depth_of settler.now) campaign.old.root
         plan.now.order campaign.old.tree plan.now.boxes plan.now.count (P.kept keeper.old name)
         (P.kept keeper.new name)) }
-    ensures cause { IsErrOf result SaveRefused.Failed
+    ensures cause { IsErrOf result IoRefused.Failed
         → Rose (P.faults keeper.old) (P.faults keeper.new) }
     ensures others { (name other : List ℕ) → P.begun keeper.old ≡ Some name
         → other ≢ name → P.kept keeper.new other ≡ P.kept keeper.old other }
@@ -95,7 +96,7 @@ fn round<P: Keeper, S: KnowingSettler + Sync, G: Gate + Sync, R: Threads + Wait 
     keeper: &mut P,
     plan: &Plan,
     gate: &G,
-) -> Result<(), SaveRefused>
+) -> Result<(), IoRefused>
 where
     S::Room: Send,
     S::Known: Send,
@@ -123,7 +124,7 @@ where
     ensures others { (name other : List ℕ) → P.begun keeper.old ≡ Some name
         → other ≢ name → P.kept keeper.new other ≡ P.kept keeper.old other }
     ensures begun { P.begun keeper.new ≡ P.begun keeper.old }
-    ensures cause { IsErrOf result SaveRefused.Failed
+    ensures cause { IsErrOf result IoRefused.Failed
         → Rose (P.faults keeper.old) (P.faults keeper.new) }
     ensures counts_on { P.faults keeper.old ≤ P.faults keeper.new }
 {

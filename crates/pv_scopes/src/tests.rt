@@ -29,12 +29,10 @@ fn square(alloc: Global) -> Result<Paving, Memory>
 
 // The points of a square from about 1/3 on. Four cuts make 16 strips, and 16 further ones come
 // nearer to the limit in each.
-fn third() -> Forgetful<Above>
-    ensures { result.settler.dims ≡ 2 }
+fn third() -> Above
+    ensures { result.dims ≡ 2 }
 {
-    Forgetful {
-        settler: Above::new(2, Num::fin(0x1555_5555, -30).unwrap_or(Num::ZERO), 4, 20),
-    }
+    Above::new(2, Num::fin(0x1555_5555, -30).unwrap_or(Num::ZERO), 4, 20)
 }
 
 // Whether a paving has these numbers of cuts and of removed, inner, small and open boxes.
@@ -50,7 +48,8 @@ fn has(paving: &Paving, cut: u64, removed: u64, inner: u64, small: u64, open_lea
 #[test]
 fn levels_end_with_the_full_tree(rt: HostRuntime) -> Result<(), Fail> {
     let alloc = rt.alloc();
-    let settler = third();
+    let third = third();
+    let settler = Forgetful { settler: &third };
     let whole = settle_levels(alloc, &settler, square(alloc)?, 543, &NoGate)?;
     assert!(rt; has(&whole.paving, 271, 128, 128, 16, 0));
     assert!(rt; whole.settled == 543);
@@ -61,7 +60,8 @@ fn levels_end_with_the_full_tree(rt: HostRuntime) -> Result<(), Fail> {
 #[test]
 fn levels_open_the_shallow_leaves_first(rt: HostRuntime) -> Result<(), Fail> {
     let alloc = rt.alloc();
-    let settler = third();
+    let third = third();
+    let settler = Forgetful { settler: &third };
     // The first pass makes 15 cuts, and leaves 16 strips open.
     let strips = settle_levels(alloc, &settler, square(alloc)?, 15, &NoGate)?;
     assert!(rt; has(&strips.paving, 15, 0, 0, 0, 16));
@@ -77,7 +77,8 @@ fn levels_open_the_shallow_leaves_first(rt: HostRuntime) -> Result<(), Fail> {
 #[test]
 fn shares_of_sixteen_strips(rt: HostRuntime) -> Result<(), Fail> {
     let alloc = rt.alloc();
-    let settler = third();
+    let third = third();
+    let settler = Forgetful { settler: &third };
     let strips = settle_levels(alloc, &settler, square(alloc)?, 15, &NoGate)?.paving;
     // Each strip has 16 cuts, 8 removed and 8 inner boxes and a small one.
     let Some(last) = Share::new(2, 3) else {

@@ -11,7 +11,6 @@ mod picture;
 mod pixel;
 mod plane;
 mod rectangle;
-mod refusal;
 mod shown;
 mod side;
 mod slicing;
@@ -20,6 +19,6 @@ mod tests;
 mod text;
 
 pub use picture::Picture;
+pub use pv_io::FileWriteRefused;
 pub use rectangle::Class;
-pub use refusal::FileWriteRefused;
 pub use slicing::slice;

@@ -1,18 +1,14 @@
 //! Pictures, and their text, handed to a sink in pieces.
 ghost use Rattle.std.specs.Prelude.{◌≡◌, ◌≤◌, [], OnOk, OnErr, IsErrOf};
-ghost use Rattle.pv_io.specs.Outside.{Rose, appended, AppendsFront, HandsOver};
+ghost use Rattle.pv_io.specs.Outside.{Rose, appended, AppendsFront};
 ghost use Rattle.pv_svg.specs.Texts.{picture_text};
 
 use crate::rectangle::Rectangle;
-use crate::refusal::FileWriteRefused;
 use crate::text::{FOOT, HEAD, LONGEST_LINE, push, push_rectangle};
 use pv_interval::Interval;
-use pv_io::{Sink, WriteRefused};
+use pv_io::{FileWriteRefused, PIECE, Sink, hand_over, hand_over_piece};
 use std::alloc::Global;
 use std::marker::Model;
-
-// A piece is handed over once it is so long.
-const PIECE: usize = 65_536;
 
 /// The picture of a slice of a paving: two finite axes, and rectangles that lie between their ends.
 #[derive(Drop)]
@@ -50,42 +46,6 @@ impl Picture {
             hand_over_piece(&mut held, sink)?;
         }
         push(&mut held, FOOT)?;
-        hand_over(&mut held, sink)
-    }
-}
-
-// Hands over the bytes that are held, once they are a piece.
-fn hand_over_piece<K: Sink>(held: &mut Vec<u8>, sink: &mut K) -> Result<(), FileWriteRefused>
-    ensures part { OnOk result (HandsOver (K.written sink.old)
-        (K.written sink.new) held.old.items held.new.items) }
-    ensures front { OnErr result
-        (AppendsFront (K.written sink.old) (K.written sink.new) held.old.items) }
-    ensures cause { IsErrOf result FileWriteRefused.WriteFailed →
-        Rose (K.faults sink.old) (K.faults sink.new) }
-    ensures counts_on { K.faults sink.old ≤ K.faults sink.new }
-{
-    if held.len() < PIECE {
-        return Ok(());
-    }
-    hand_over(held, sink)
-}
-
-fn hand_over<K: Sink>(held: &mut Vec<u8>, sink: &mut K) -> Result<(), FileWriteRefused>
-    ensures whole { OnOk result (K.written sink.new ≡
-        appended (K.written sink.old) held.old.items) }
-    ensures empty { OnOk result (held.new.items ≡ []) }
-    ensures front { OnErr result
-        (AppendsFront (K.written sink.old) (K.written sink.new) held.old.items) }
-    ensures cause { IsErrOf result FileWriteRefused.WriteFailed →
-        Rose (K.faults sink.old) (K.faults sink.new) }
-    ensures counts_on { K.faults sink.old ≤ K.faults sink.new }
-{
-    match sink.write(held) {
-        Ok(()) => {
-            held.clear();
-            Ok(())
-        }
-        Err(WriteRefused::Failed) => Err(FileWriteRefused::WriteFailed),
-        Err(WriteRefused::Memory) => Err(FileWriteRefused::Memory),
+        hand_over(&held, sink)
     }
 }

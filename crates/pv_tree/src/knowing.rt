@@ -58,20 +58,20 @@ pub trait KnowingSettler: Settler {
 #[derive(Clone, Copy)]
 pub struct Nothing;
 
-/// Makes any settler one that knows, and knows nothing.
+/// Makes any settler, which is lent to it, one that knows, and knows nothing.
 #[derive(Drop)]
-pub struct Forgetful<S> {
-    pub settler: S,
+pub struct Forgetful<'a, S> {
+    pub settler: &'a S,
 }
 
-impl<S: Settler> Settler for Forgetful<S> {
-    ghost dims = { λ s. S.dims s.settler };
+impl<'a, S: Settler> Settler for Forgetful<'a, S> {
+    ghost dims = { λ s. S.dims s.settler.now };
 
-    ghost depth_of = { λ s. S.depth_of s.settler };
+    ghost depth_of = { λ s. S.depth_of s.settler.now };
 
-    ghost settle_of = { λ s. S.settle_of s.settler };
+    ghost settle_of = { λ s. S.settle_of s.settler.now };
 
-    ghost inside = { λ s. S.inside s.settler };
+    ghost inside = { λ s. S.inside s.settler.now };
 
     fn depth(&self) -> u32 {
         self.settler.depth()
@@ -87,20 +87,20 @@ impl<S: Settler> Settler for Forgetful<S> {
         self.settler.settle(alloc, bx, depth_left, path_len)
     }
 
-    ghost dims_fit = { λ s. S.dims_fit s.settler };
+    ghost dims_fit = { λ s. S.dims_fit s.settler.now };
 
-    ghost depth_fits = { λ s. S.depth_fits s.settler };
+    ghost depth_fits = { λ s. S.depth_fits s.settler.now };
 
-    ghost fits = { λ s. S.fits s.settler };
+    ghost fits = { λ s. S.fits s.settler.now };
 
-    ghost keeps_box = { λ s. S.keeps_box s.settler };
+    ghost keeps_box = { λ s. S.keeps_box s.settler.now };
 
-    ghost ends = { λ s. S.ends s.settler };
+    ghost ends = { λ s. S.ends s.settler.now };
 
-    ghost sound = { λ s. S.sound s.settler };
+    ghost sound = { λ s. S.sound s.settler.now };
 }
 
-impl<S: Settler> KnowingSettler for Forgetful<S> {
+impl<'a, S: Settler> KnowingSettler for Forgetful<'a, S> {
     type Known = Nothing;
 
     type Room = Nothing;

@@ -6,7 +6,6 @@ mod account;
 mod crew;
 mod growing;
 mod kit;
-mod lent;
 mod parts;
 mod paving;
 mod rest;

@@ -10,7 +10,6 @@ use crate::account::{joined, split};
 use crate::crew::Crew;
 use crate::growing::grow;
 use crate::kit::blank;
-use crate::lent::Lent;
 use crate::parts::by_parts;
 use crate::rest::{close, settle_rest};
 use crate::ruled::Ruled;
@@ -75,11 +74,9 @@ pub fn pave<S: Settler + Sync, G: Gate + Sync, R: Threads + Wait + Sync>(
         settled_in opening.tree + p.spent ≤ settled_in p.paving.tree) }
 {
     let _places = opening.dims();
-    let lent = Forgetful {
-        settler: Lent { settler },
-    };
+    let forgetful = Forgetful { settler };
     let limit = NodeLimit::by_default();
-    let paved = by_crew(rt, alloc, &lent, opening, budget, limit, workers, gate)?;
+    let paved = by_crew(rt, alloc, &forgetful, opening, budget, limit, workers, gate)?;
     learn_paved(&paved.paving, settler);
     Ok(paved)
 }

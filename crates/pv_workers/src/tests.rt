@@ -172,9 +172,8 @@ fn fine_third() -> Above
 #[test]
 fn a_higher_limit_lets_a_tree_grow(rt: HostRuntime) -> Result<(), Fail> {
     let alloc = rt.alloc();
-    let settler = Forgetful {
-        settler: fine_third(),
-    };
+    let third = fine_third();
+    let settler = Forgetful { settler: &third };
     let Some(limit) = NodeLimit::new(100_002) else {
         return Ok(());
     };

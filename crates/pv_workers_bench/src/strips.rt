@@ -51,8 +51,8 @@ pub fn pave_strips<R: Threads + Wait + Sync>(
     if before > 1 {
         return Err(Memory);
     }
-    let lent = Forgetful { settler };
-    let paved = pave_knowing(rt, alloc, &lent, opening, budget, limit, workers, &NoGate)?;
+    let forgetful = Forgetful { settler: &settler };
+    let paved = pave_knowing(rt, alloc, &forgetful, opening, budget, limit, workers, &NoGate)?;
     Ok(Strips {
         nodes: paved.paving.counts().settled(),
         tickets: paved.spent,
