@@ -7,9 +7,8 @@ use Rattle.clap.specs.declared.error.Error.{Error}
 use Rattle.clap.specs.declared.error.kind.ErrorKind.{ErrorKind}
 use Rattle.clap.specs.declared.error.kind.ErrorKind.TheVariants.{OutOfMemory}
 use Rattle.pv_cli.specs.Commands.{paver_app}
-use Rattle.pv_cli.specs.Requests.{Command, name_of, IsAskedBy, IsAsked, Asks, HasBadValueFor, HasBadValue, HasBadValueIn, AreRefused}
+use Rattle.pv_cli.specs.Requests.{Command, name_of, IsAskedBy, IsAsked, Asks, HasBadValueFor, HasBadValue, HasBadValueIn, AreRefused, RefusesWords}
 use Rattle.pv_cli.specs.Found.{IsNoCommand, RefusesValues, RefusesCommand, RefusesFound}
-use Rattle.pv_cli.specs.Ends.{RefusesWords}
 use Rattle.pv_cli.specs.declared.request.Request.{Request}
 use Rattle.pv_cli.specs.declared.refusal.Refusal.{Refusal}
 use Rattle.pv_cli.specs.declared.refusal.Refusal.TheVariants.{Usage, System, Contract, Objective, NoFile, ReadFault, Paving, NotStored, KeeperFault, NotPrinted, Memory, TreeLimit, Disagree, Differs}

@@ -15,12 +15,12 @@ use Rattle.pv_ctc.specs.Refusals.{refused_at}
 use Rattle.pv_ctc.proofs.Spelled.{spelling_right}
 use Rattle.pv_slope.specs.Methods.{Method}
 use Rattle.pv_io.specs.Outside.{Content, Rose, untold, absent, holds, MayBeAbsent}
-use Rattle.pv_cli.specs.Requests.{Asks, out_of}
+use Rattle.pv_cli.specs.Requests.{Asks, out_of, RefusesWords}
 use Rattle.pv_cli.specs.Refusals.{status_of}
 use Rattle.pv_cli.specs.Systems.{Files, IsFetched, HasSystem, HasFault, HasRule, HasNoRule, RefusesSystem, RefusesRule}
 use Rattle.pv_cli.specs.Campaigns.{Stock}
 use Rattle.pv_cli.specs.Products.{Product, text, unfinished, paved_as, HasStatus, RefusesSample, RefusesWork}
-use Rattle.pv_cli.specs.Ends.{Outside, IsEnd, RefusesDelivery, RefusesWords, IsRefusedSo, in_words, in_request, Tells}
+use Rattle.pv_cli.specs.Ends.{Outside, IsEnd, RefusesDelivery, IsRefusedSo, in_words, in_request, Tells}
 use Rattle.pv_cli.specs.Merges.{AreTold}
 use Rattle.pv_cli.specs.Stored.{IsAnswer}
 use Rattle.pv_cli.specs.Complete.{IsRight, IsOutsideFault, no_memory, not_read, not_stored, not_printed, RightIsAnswered}

@@ -1,10 +1,10 @@
 -- What was read of a folder that was only read before.
 use Rattle.std.specs.Prelude.{Result, Err, MatchResult}
-use Rattle.std.proofs.Common.{◌≡◌, inl, inr, ℕ, ◌≤◌, List, [], ◌∷◌, refl, sym, ◌∙◌, subst, arith}
+use Rattle.std.proofs.Common.{◌≡◌, inl, inr, ℕ, ◌≤◌, List, [], ◌∷◌, refl, sym, subst}
 use Rattle.pv_slope.specs.Methods.{Method, identity_of}
 use Rattle.pv_interval.specs.Bounds.{Bounds}
 use Rattle.pv_tree.specs.Trees.{Tree}
-use Rattle.pv_io.specs.Outside.{Content, Rose, IsWhole, IsTooLong, MayBeAbsent}
+use Rattle.pv_io.specs.Outside.{Content, IsWhole, IsTooLong, MayBeAbsent}
 use Rattle.pv_cli.specs.Pavings.{settled_in}
 use Rattle.pv_cli.specs.Requests.{names_in}
 use Rattle.pv_cli.specs.Systems.{Files, AreOnlyRead, RefusesFetch, search_box}
@@ -15,22 +15,12 @@ use Rattle.pv_file.specs.declared.refusal.FileRefused.{FileRefused}
 use Rattle.pv_file.specs.declared.refusal.FileRefused.TheVariants as refused
 use Rattle.pv_file.specs.Lengths.{length_limit}
 use Rattle.pv_cli.specs.Reads.{IsKeyOf}
+use Rattle.pv_cli.proofs.OnlyRead.{rose_from}
 use Rattle.pv_cli.specs.declared.pavings.Key.{Key}
 use Rattle.pv_cli.specs.declared.refusal.FileFault.{FileFault}
 use Rattle.pv_cli.specs.declared.refusal.FileFault.TheVariants.{TooLong, WrongIdentity, BadLine, TooManyNodes, BadRow, TooManyRows}
 use Rattle.pv_cli.specs.declared.refusal.Refusal.{Refusal}
 use Rattle.pv_cli.specs.declared.refusal.Refusal.TheVariants.{Usage, System, Contract, Objective, NoFile, ReadFault, Paving, NotStored, KeeperFault, NotPrinted, Memory, TreeLimit, Disagree, Differs}
-
-pub only_read_on : (a b c : Files) → AreOnlyRead a b → AreOnlyRead b c → AreOnlyRead a c
-only_read_on a b c h k = record {
-  content = λ name. k.content name ∙ h.content name;
-  fetch_faults = let one = h.fetch_faults in let two = k.fetch_faults in omega arith;
-  store_faults = k.store_faults ∙ h.store_faults;
-}
-
-pub rose_from : (a b c : ℕ) → a ≤ b → Rose b c → Rose a c
-rose_from a b c h (inl more) = inl (omega arith)
-rose_from a b c h (inr end) = inr end
 
 module _ (a b : Files) (read : AreOnlyRead a b) (limit : ℕ) where
   other_before : (identity : List ℕ) (root : List Bounds) (name : List ℕ) (says : List ℕ → Type 0) → HoldsOther b limit identity root name says → HoldsOther a limit identity root name says

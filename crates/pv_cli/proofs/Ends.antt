@@ -4,17 +4,17 @@ use Rattle.std.specs.Prelude.{◌≢◌, Result, Ok, Err, IfOk, IfErr, OnOk, IsE
 use Rattle.std.proofs.lemmas.Bool.Decides.{eqb_tells}
 use Rattle.clap.specs.Words.{Text}
 use Rattle.pv_io.specs.Outside.{Content, Rose, appended, stored, AppendsFront}
-use Rattle.pv_cli.specs.Requests.{Asks, out_of, campaign_of}
+use Rattle.pv_cli.specs.Requests.{Asks, out_of, campaign_of, RefusesWords}
 use Rattle.pv_cli.specs.Campaigns.{Stock, IsSameStock, LeavesStock}
 use Rattle.pv_cli.specs.Systems.{Files, AreOnlyRead}
 use Rattle.pv_cli.specs.Printing.{RefusesPrint}
 use Rattle.pv_cli.specs.Products.{Product, text, unfinished, paved_as, HasStatus, ComesOf}
-use Rattle.pv_cli.specs.Ends.{Stream, Outside, AreUntouched, AreOthersKept, IsStored, IsKept, IsDelivered, IsCutOff, RefusesDelivery, IsAnswered, RefusesRequest, RefusesWords, in_words, in_request, Tells, IsEnd}
+use Rattle.pv_cli.specs.Ends.{Stream, Outside, AreUntouched, AreOthersKept, IsStored, IsKept, IsDelivered, IsCutOff, RefusesDelivery, IsAnswered, RefusesRequest, in_words, in_request, Tells, IsEnd}
 use Rattle.pv_cli.specs.declared.request.Request.{Request}
 use Rattle.pv_cli.specs.declared.refusal.Refusal.{Refusal}
 use Rattle.pv_cli.specs.declared.refusal.Refusal.TheVariants.{Usage, System, Contract, Objective, NoFile, ReadFault, Paving, NotStored, KeeperFault, NotPrinted, Memory, TreeLimit, Disagree, Differs}
 use Rattle.pv_cli.specs.declared.status.Status.{Status}
-use Rattle.pv_cli.proofs.Earlier.{only_read_on}
+use Rattle.pv_cli.proofs.OnlyRead.{only_read_on}
 
 pub same_files : (f : Files) → AreOnlyRead f f
 same_files f = record { content = λ name. refl; fetch_faults = omega arith; store_faults = refl }

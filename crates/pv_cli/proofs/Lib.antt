@@ -13,6 +13,7 @@ pub mod HonestStages
 pub mod Spelled
 pub mod Joined
 pub mod JoinedShares
+pub mod OnlyRead
 pub mod Earlier
 pub mod Openings
 pub mod Refused

@@ -32,14 +32,14 @@ use Rattle.pv_file.specs.Lengths.{length_limit}
 use Rattle.pv_file.specs.declared.version.Version.{Version}
 use Rattle.pv_file.specs.declared.version.Version.TheVariants.{One, Two}
 use Rattle.pv_file.proofs.Different.{texts-differ}
-use Rattle.pv_cli.specs.Requests.{Asks, names_in, out_of}
+use Rattle.pv_cli.specs.Requests.{Asks, names_in, out_of, RefusesWords}
 use Rattle.pv_cli.specs.Refusals.{status_of}
 use Rattle.pv_cli.specs.Systems.{Files, IsFetched, IsRuleFor, HasRule, search_box}
 use Rattle.pv_cli.specs.Pavings.{settled_in}
 use Rattle.pv_cli.specs.Files.{HasPaving, HavePavings, AllTrees, AnyTree, IsJoinOf, IsDisagreement}
 use Rattle.pv_cli.specs.Campaigns.{Stock}
 use Rattle.pv_cli.specs.Products.{Product, text, unfinished, paved, paved_as, HasStatus, ComesOf, ComesOfMerge, IsOverLimit, RefusesJoined, RefusesWork}
-use Rattle.pv_cli.specs.Ends.{Stream, Outside, IsKept, IsDelivered, IsAnswered, RefusesDelivery, RefusesWords, IsRefusedSo, in_words, in_request, Tells}
+use Rattle.pv_cli.specs.Ends.{Stream, Outside, IsKept, IsDelivered, IsAnswered, RefusesDelivery, IsRefusedSo, in_words, in_request, Tells}
 use Rattle.pv_cli.specs.Merges.{IsTree, AreSameTrees, JoinAlike, IsNamed, AreSameNames, AreSameSettings, AreSameMerge, AskForSameMerge, AreTold, EndAlike, MergesEndAlike, MergesAreTakenAlike}
 use Rattle.pv_cli.specs.declared.request.Settings.{Settings}
 use Rattle.pv_cli.specs.declared.request.Request.{Request}

@@ -1,12 +1,12 @@
 -- With which statuses `sample` ends, by the cases of how a command ends.
 use Rattle.std.proofs.Common.{◌≡◌, ◌⊎◌, inl, inr, List, Option, refl, sym, subst}
 use Rattle.clap.specs.Words.{Text}
-use Rattle.pv_cli.specs.Requests.{Asks, Command, samples}
+use Rattle.pv_cli.specs.Requests.{Asks, Command, samples, RefusesWords}
 use Rattle.pv_cli.specs.Refusals.{status_of}
 use Rattle.pv_cli.specs.Systems.{Files}
 use Rattle.pv_cli.specs.Campaigns.{Stock}
 use Rattle.pv_cli.specs.Products.{Product, ComesOf, HasStatus, RefusesSample, RefusesWork}
-use Rattle.pv_cli.specs.Ends.{Outside, Stream, IsRefusedSo, RefusesDelivery, RefusesWords, Tells, in_request, in_words}
+use Rattle.pv_cli.specs.Ends.{Outside, Stream, IsRefusedSo, RefusesDelivery, Tells, in_request, in_words}
 use Rattle.pv_cli.specs.StatusLaws.{SampleIsTaken}
 use Rattle.pv_cli.specs.declared.request.Request.{Request}
 use Rattle.pv_cli.specs.declared.request.Request.TheVariants.{Sample}

@@ -17,7 +17,8 @@ use Rattle.pv_tree.specs.Trees.{Tree, leaf}
 use Rattle.pv_tree.specs.Stages.{full_of}
 use Rattle.pv_slope.specs.Methods.{Method, method_of, settle_by}
 use Rattle.pv_slope.specs.declared.form.FormSettler.{FormSettler}
-use Rattle.pv_cli.specs.Systems.{IsFaultOf, IsRuleFor, RefusesSettings, refusal_of, search_box}
+use Rattle.pv_cli.specs.Systems.{IsFaultOf, IsRuleFor, RefusesSettings, search_box}
+use Rattle.pv_cli.specs.Refusals.{refusal_of}
 use Rattle.pv_cli.specs.Pavings.{IsPaved, settled_in}
 use Rattle.pv_cli.specs.Products.{AreForSamples, RefusesSample, text_of, full_by}
 use Rattle.pv_cli.proofs.Few.{few_of_sample}

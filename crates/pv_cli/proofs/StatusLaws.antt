@@ -10,7 +10,7 @@ use Rattle.pv_tree.specs.Trees.{Tree, leaf, opens, first, counts_of}
 use Rattle.pv_scope.specs.declared.order.Order.{Order}
 use Rattle.pv_slope.specs.Methods.{Method, identity_of}
 use Rattle.pv_cli.specs.Commands.{paver_app}
-use Rattle.pv_cli.specs.Requests.{names_in, out_of, paving_names, AreSettings, IsEffort, ArePavings, HasBadSetting, bad_eps, bad_depth, bad_bisector, HasBadEffort, bad_form, bad_limit, bad_workers, bad_boxes, bad_order, HasBadLimit, HasBadBoxes, HasBadBudget, IsCount, IsNodeLimit, IsSearch, boxes_text, HasManyPavings, AreCircles, HasBadCircles, bad_seed, bad_count, Command, checks, runs, resumes, merges, audits, draws, samples, seeks, keeps, name_of, HasBadValueFor, HasBadValue, IsAskedBy, IsAsked, Asks, HasBadValueIn, AreRefused}
+use Rattle.pv_cli.specs.Requests.{names_in, out_of, paving_names, AreSettings, IsEffort, ArePavings, HasBadSetting, bad_eps, bad_depth, bad_bisector, HasBadEffort, bad_form, bad_limit, bad_workers, bad_boxes, bad_order, HasBadLimit, HasBadBoxes, HasBadBudget, IsCount, IsNodeLimit, IsSearch, boxes_text, HasManyPavings, AreCircles, HasBadCircles, bad_seed, bad_count, Command, checks, runs, resumes, merges, audits, draws, samples, seeks, keeps, name_of, HasBadValueFor, HasBadValue, IsAskedBy, IsAsked, Asks, HasBadValueIn, AreRefused, RefusesWords}
 use Rattle.pv_cli.specs.Refusals.{status_of}
 use Rattle.pv_cli.specs.Systems.{Files, search_box}
 use Rattle.pv_cli.specs.Files.{RefusesPaving, RefusesPavings}
@@ -21,7 +21,7 @@ use Rattle.pv_rounds.specs.declared.campaign.HoldRefused.TheVariants as hold
 use Rattle.pv_cli.proofs.Stocks.{same_rows, early_rows}
 use Rattle.pv_keep.specs.Campaigns.{IsSaved}
 use Rattle.pv_cli.specs.Products.{Product, text, unfinished, paved, paved_as, status_by, HasStatus, IsHonest, full_by, report_as, ComesOf, ComesOfRun, ComesOfResume, ComesOfMerge, ComesOfLeast, ComesOfCampaign, summary_of, RefusesWork}
-use Rattle.pv_cli.specs.Ends.{Stream, Outside, AreUntouched, IsKept, RefusesDelivery, RefusesWords, IsRefusedSo, in_words, in_request, Tells}
+use Rattle.pv_cli.specs.Ends.{Stream, Outside, AreUntouched, IsKept, RefusesDelivery, IsRefusedSo, in_words, in_request, Tells}
 use Rattle.pv_cli.specs.StatusLaws.{IsFullRun, IsFullResume, IsWholeResume, IsClosedJoin, IsFinalLeast, IsFullCampaign, IsWhole, DoneIsWhole, IsPartRun, IsCutShortResume, IsOpenJoin, IsPartLeast, IsPartCampaign, IsPart, OpenLeftIsPart, IsEarly, IsCause, IsRefusedEarly, EarlyIsUntouched, IsUnstored, IsUnprinted, IsUnwritten, WriteFaultIsUnwritten, IsCutOffText, MemoryLeaves, OthersStay, AskingIsNotRefused, IsWordsRefused, RefusedWordsEnd, HaveBadText, UsageIsOfWords}
 use Rattle.pv_scope.specs.declared.share.Share.{Share}
 use Rattle.pv_slope.specs.declared.form.Form.{Form}

@@ -4,14 +4,14 @@ use Rattle.clap.specs.Words.{Text}
 use Rattle.pv_io.specs.Outside.{Rose, appended, stored, AppendsFront}
 use Rattle.pv_file.specs.Texts.{file_text}
 use Rattle.pv_file.specs.declared.version.Version.TheVariants.{Two}
-use Rattle.pv_cli.specs.Requests.{Asks, AreRefused, out_of, campaign_of}
+use Rattle.pv_cli.specs.Requests.{Asks, RefusesWords, out_of, campaign_of}
 use Rattle.pv_cli.specs.Refusals.{status_of, line_of}
 use Rattle.pv_cli.specs.Systems.{Files, AreOnlyRead}
 use Rattle.pv_cli.specs.Campaigns.{Stock, IsSameStock, LeavesStock}
 use Rattle.pv_cli.specs.Products.{Product, paved_as, printed_of, HasStatus, ComesOf, RefusesWork}
 use Rattle.pv_cli.specs.declared.request.Request.{Request}
 use Rattle.pv_cli.specs.declared.refusal.Refusal.{Refusal}
-use Rattle.pv_cli.specs.declared.refusal.Refusal.TheVariants.{Usage, NotStored, NotPrinted, Memory}
+use Rattle.pv_cli.specs.declared.refusal.Refusal.TheVariants.{NotStored, NotPrinted, Memory}
 use Rattle.pv_cli.specs.declared.status.Status.{Status}
 use Rattle.pv_cli.specs.declared.status.Status.TheVariants.{WantOfMemory}
 
@@ -105,12 +105,6 @@ RefusesRequest q before after u v out_before out_after r =
     ⊎ FailsToDeliver q before after u v out_before out_after r
 
 -- ---- The whole command
-
--- the words are refused, or what they ask for
-abbrev pub RefusesWords : List Text → Refusal → Type 0
-RefusesWords words Usage = AreRefused words
-RefusesWords words Memory = Unit {0}
-RefusesWords words _ = ⊥
 
 -- the words are refused, and all is as it was; or what they ask for is, and all that is kept stays but for its campaign
 pub data IsRefusedSo (words : List Text) (before after : Outside) (r : Refusal) : Type 0 where

@@ -1,6 +1,10 @@
 -- What ends a command early: its status, and its line on the standard error.
 use Rattle.std.specs.Prelude.{ℕ, Bool, List, [], ◌∷◌, ◌++◌, codes, decimal}
+use Rattle.pv_ctc.specs.declared.reading.ProgramRefused.{ProgramRefused}
+use Rattle.pv_ctc.specs.declared.reading.ProgramRefused.TheVariants as program
 use Rattle.pv_grammar.specs.Messages.{cause_name}
+use Rattle.pv_parse.specs.declared.refused.ParseRefused.{ParseRefused}
+use Rattle.pv_parse.specs.declared.refused.ParseRefused.TheVariants as parse
 use Rattle.pv_cli.specs.declared.status.Status.{Status}
 use Rattle.pv_cli.specs.declared.status.Status.TheVariants as status
 use Rattle.pv_cli.specs.declared.refusal.Refusal.{Refusal}
@@ -58,3 +62,13 @@ words_of (Differs path file due) = codes "differs " ++ apart_words path file.ite
 -- the line, with its line feed
 abbrev pub line_of : Refusal → List ℕ
 line_of refusal = words_of refusal ++ 10 ∷ []
+
+-- the refusal for a fault of a text
+abbrev pub refusal_of : ParseRefused → Refusal
+refusal_of parse.Memory = Memory
+refusal_of (parse.Fault byte line column cause) = System line column byte cause
+
+-- the refusal for a fault of a contractor program
+abbrev pub program_refusal_of : ProgramRefused → Refusal
+program_refusal_of program.Memory = Memory
+program_refusal_of (program.Bad byte) = Contract byte

@@ -25,6 +25,8 @@ use Rattle.pv_cli.specs.declared.request.Search.{Search}
 use Rattle.pv_cli.specs.declared.request.Rounds.{Rounds}
 use Rattle.pv_cli.specs.declared.request.Request.{Request}
 use Rattle.pv_cli.specs.declared.request.Request.TheVariants.{Check, Run, Resume, Merge, Audit, Svg, Sample, Least, Campaign}
+use Rattle.pv_cli.specs.declared.refusal.Refusal.{Refusal}
+use Rattle.pv_cli.specs.declared.refusal.Refusal.TheVariants.{Usage, Memory}
 
 -- one to ten digits, and the number that they write
 pub record IsDigits (t : Text) (n : ℕ) : Type 0 where
@@ -370,6 +372,12 @@ HasBadValueIn (Some p) = HasBadValue p.0 p.1
 -- clap refuses the words, or a value is bad
 abbrev pub AreRefused : List Text → Type 0
 AreRefused words = (fault_of paver_app words ≢ []) ⊎ HasBadValueIn (subcommand_of paver_app words)
+
+-- the words are refused, or memory was wanting
+abbrev pub RefusesWords : List Text → Refusal → Type 0
+RefusesWords words Usage = AreRefused words
+RefusesWords words Memory = Unit {0}
+RefusesWords words _ = ⊥
 
 -- the file that is asked for
 abbrev pub out_of : Request → Option Text

@@ -15,9 +15,6 @@ use Rattle.pv_parse.specs.Declarations.{IsMeaning}
 use Rattle.pv_parse.specs.Faults.{IsPlaced, IsRefusal, SaysTooLong}
 use Rattle.pv_parse.specs.declared.refused.ParseRefused.{ParseRefused}
 use Rattle.pv_parse.specs.declared.refused.ParseRefused.TheVariants.{Fault}
-use Rattle.pv_parse.specs.declared.refused.ParseRefused.TheVariants as parse
-use Rattle.pv_ctc.specs.declared.reading.ProgramRefused.{ProgramRefused}
-use Rattle.pv_ctc.specs.declared.reading.ProgramRefused.TheVariants as program
 use Rattle.pv_io.specs.Outside.{Rose, Content, untold, absent, holds, MayBeAbsent}
 use Rattle.pv_cli.specs.declared.request.Settings.{Settings}
 use Rattle.pv_cli.specs.declared.refusal.Refusal.{Refusal}
@@ -118,12 +115,3 @@ pub record HasNoRule (before : Files) (name : List ℕ) (s : Settings) (r : Refu
 abbrev pub RefusesRule : Files → Files → List ℕ → Settings → Refusal → Type 0
 RefusesRule before after name s (Contract byte) = HasNoRule before name s (Contract byte)
 RefusesRule before after name s r = RefusesSystem before after name r
-
--- the refusal for a fault of a text
-abbrev pub refusal_of : ParseRefused → Refusal
-refusal_of parse.Memory = Memory
-refusal_of (parse.Fault byte line column cause) = System line column byte cause
-
-abbrev pub program_refusal_of : ProgramRefused → Refusal
-program_refusal_of program.Memory = Memory
-program_refusal_of (program.Bad byte) = Contract byte

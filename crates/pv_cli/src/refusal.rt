@@ -5,8 +5,9 @@ ghost use Rattle.pv_cli.specs.Refusals.{status_of, words_of, line_of, fault_word
 
 use crate::Status;
 use crate::decimal::push_decimal;
+use pv_ctc::ProgramRefused;
 use pv_num::Memory;
-use pv_parse::Cause;
+use pv_parse::{Cause, ParseRefused};
 use pv_tree::Path;
 use std::alloc::{AllocError, AllocFailed, Global};
 
@@ -124,6 +125,42 @@ impl<'a> From<Memory> for Refusal<'a> {
 
     fn from(_: Memory) -> Self {
         Refusal::Memory
+    }
+}
+
+impl<'a> From<ParseRefused> for Refusal<'a> {
+    ghost use Rattle.pv_cli.specs.Refusals.{refusal_of};
+
+    ghost from_gives = { λ fault e. e ≡ refusal_of fault };
+
+    fn from(refused: ParseRefused) -> Self {
+        match refused {
+            ParseRefused::Memory => Refusal::Memory,
+            ParseRefused::Fault {
+                byte,
+                line,
+                column,
+                cause,
+            } => Refusal::System {
+                line,
+                column,
+                byte,
+                cause,
+            },
+        }
+    }
+}
+
+impl<'a> From<ProgramRefused> for Refusal<'a> {
+    ghost use Rattle.pv_cli.specs.Refusals.{program_refusal_of};
+
+    ghost from_gives = { λ fault e. e ≡ program_refusal_of fault };
+
+    fn from(refused: ProgramRefused) -> Self {
+        match refused {
+            ProgramRefused::Memory => Refusal::Memory,
+            ProgramRefused::Bad { byte } => Refusal::Contract { byte },
+        }
     }
 }
 

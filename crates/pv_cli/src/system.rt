@@ -7,51 +7,15 @@ ghost use Rattle.pv_cli.specs.Systems.{files, AreOnlyRead, IsFetched, HasSystem,
 
 use crate::Refusal;
 use crate::request::Settings;
-use pv_ctc::{Program, ProgramRefused};
+use pv_ctc::Program;
 use pv_expr::System;
 use pv_io::{FetchRefused, Folder};
-use pv_parse::{ParseRefused, parse};
+use pv_parse::parse;
 use pv_slope::FormSettler;
 use std::alloc::Global;
 
 /// The longest text of a system, in bytes.
 const SYSTEM_LIMIT: u64 = 65536;
-
-impl<'a> From<ParseRefused> for Refusal<'a> {
-    ghost use Rattle.pv_cli.specs.Systems.{refusal_of};
-
-    ghost from_gives = { λ fault e. e ≡ refusal_of fault };
-
-    fn from(refused: ParseRefused) -> Self {
-        match refused {
-            ParseRefused::Memory => Refusal::Memory,
-            ParseRefused::Fault {
-                byte,
-                line,
-                column,
-                cause,
-            } => Refusal::System {
-                line,
-                column,
-                byte,
-                cause,
-            },
-        }
-    }
-}
-
-impl<'a> From<ProgramRefused> for Refusal<'a> {
-    ghost use Rattle.pv_cli.specs.Systems.{program_refusal_of};
-
-    ghost from_gives = { λ fault e. e ≡ program_refusal_of fault };
-
-    fn from(refused: ProgramRefused) -> Self {
-        match refused {
-            ProgramRefused::Memory => Refusal::Memory,
-            ProgramRefused::Bad { byte } => Refusal::Contract { byte },
-        }
-    }
-}
 
 /// The settler of the system in a file, by the settings.
 pub(crate) fn settler_in<'a, F: Folder>(

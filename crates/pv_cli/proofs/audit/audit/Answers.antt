@@ -3,7 +3,8 @@ use Rattle.std.proofs.lemmas.Result.{IfOk-weaker, IfErr-weaker}
 use Rattle.pv_slope.specs.Methods.{method_of, identity_of}
 use Rattle.pv_cli.specs.Files.{HoldsPaving, RefusesFile}
 use Rattle.pv_cli.specs.Systems.{files, search_box}
-use Rattle.pv_cli.proofs.Earlier.{only_read_on, by_key, paving_before, refused_before}
+use Rattle.pv_cli.proofs.Earlier.{by_key, paving_before, refused_before}
+use Rattle.pv_cli.proofs.OnlyRead.{only_read_on}
 use Rattle.pv_cli.proofs.Refused.{audit_refused, found_other}
 use Rattle.pv_cli.proofs.audit.audit.Goals as goal
 

@@ -4,7 +4,7 @@ use Rattle.pv_tree.specs.Trees.{counts_of}
 use Rattle.pv_file.specs.Lines.{lines_of}
 use Rattle.pv_file.specs.declared.version.Version.TheVariants.{One}
 use Rattle.pv_cli.specs.Products.{summary_of}
-use Rattle.pv_cli.proofs.Earlier.{rose_from}
+use Rattle.pv_cli.proofs.OnlyRead.{rose_from}
 use Rattle.pv_cli.proofs.Ends.{passed}
 use Rattle.pv_cli.proofs.Written.{print_first, front_second}
 use Rattle.pv_cli.proofs.deliver.print_paving.Goals as goal

@@ -3,7 +3,8 @@ use Rattle.std.proofs.lemmas.List.{nil_from_length}
 use Rattle.std.proofs.lemmas.Option.{MatchOption-at_none}
 use Rattle.std.proofs.lemmas.Result.{IfOk-weaker, IfErr-weaker}
 use Rattle.pv_cli.specs.Systems.{files}
-use Rattle.pv_cli.proofs.Earlier.{only_read_on, first_held, first_refused}
+use Rattle.pv_cli.proofs.Earlier.{first_held, first_refused}
+use Rattle.pv_cli.proofs.OnlyRead.{only_read_on}
 use Rattle.pv_cli.proofs.Openings.{none_later, more_joined, more_no_join, apart}
 use Rattle.pv_cli.proofs.opening.+join_on.Goals as goal
 

@@ -6,7 +6,8 @@ use Rattle.pv_cli.specs.Systems.{files, search_box}
 use Rattle.pv_cli.specs.Files.{HoldsPaving, RefusesFile}
 use Rattle.pv_cli.specs.Products.{text}
 use Rattle.pv_cli.specs.Scenes.{plane_of}
-use Rattle.pv_cli.proofs.Earlier.{only_read_on, by_key, paving_before, refused_before}
+use Rattle.pv_cli.proofs.Earlier.{by_key, paving_before, refused_before}
+use Rattle.pv_cli.proofs.OnlyRead.{only_read_on}
 use Rattle.pv_cli.proofs.Drawn.{scene_refused, picture_refused}
 use Rattle.pv_cli.proofs.Planes.{svg_comes, dims_from}
 use Rattle.pv_cli.proofs.svg.svg.Goals as goal
