@@ -1,0 +1,6 @@
+//! The command `campaign`.
+#![tactic(auto)]
+
+mod campaign;
+
+pub use campaign::campaign;

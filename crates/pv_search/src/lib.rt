@@ -1,0 +1,6 @@
+//! The command `least`.
+#![tactic(auto)]
+
+mod least;
+
+pub use least::least;

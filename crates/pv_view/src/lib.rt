@@ -1,0 +1,6 @@
+//! The command `svg`.
+#![tactic(auto)]
+
+mod svg;
+
+pub use svg::svg;
