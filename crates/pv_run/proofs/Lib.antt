@@ -1,7 +1,2 @@
 pub mod Few
-pub mod MadeTokens
-pub mod MadeNumbers
-pub mod MadeTexts
-pub mod MadeTrees
-pub mod MadeSystems
 pub mod Sampled

@@ -22,7 +22,7 @@ use Rattle.pv_request.specs.Refusals.{refusal_of}
 use Rattle.pv_rule.specs.Pavings.{IsPaved, settled_in}
 use Rattle.pv_product.specs.Products.{AreForSamples, RefusesSample, text_of, full_by}
 use Rattle.pv_run.proofs.Few.{few_of_sample}
-use Rattle.pv_run.proofs.MadeSystems.{sample_sentence}
+use Rattle.pv_circles.proofs.MadeSystems.{sample_sentence}
 use Rattle.pv_run.specs.Samples.{IsMadeRule}
 use Rattle.pv_request.specs.declared.request.Circles.{Circles}
 use Rattle.pv_request.specs.declared.request.Settings.{Settings}

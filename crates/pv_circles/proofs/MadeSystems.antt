@@ -21,9 +21,9 @@ use Rattle.pv_parse.specs.Sentences.{IsTextOf, Spells, name_symbol}
 use Rattle.pv_parse.proofs.Outcomes.{reading_of}
 use Rattle.pv_parse.proofs.TreeTexts.{one_tree_of}
 use Rattle.pv_parse.proofs.Pieces.{IsPiece, Piece, StandsAlone, mark_piece, name_piece, named}
-use Rattle.pv_run.proofs.MadeNumbers.{IsWritten, decimal_written, number_piece, number_stands, numbered}
-use Rattle.pv_run.proofs.MadeTexts.{ReadAs, Part, fits, made_text, part, text_in}
-use Rattle.pv_run.proofs.MadeTrees.{centre_x, centre_y, circle, circles, circles_tree, constraints_within, exponent_of, good_domains, outside, radius_of, side, tree_within, whole}
+use Rattle.pv_circles.proofs.MadeNumbers.{IsWritten, decimal_written, number_piece, number_stands, numbered}
+use Rattle.pv_circles.proofs.MadeTexts.{ReadAs, Part, fits, made_text, part, text_in}
+use Rattle.pv_circles.proofs.MadeTrees.{centre_x, centre_y, circle, circles, circles_tree, constraints_within, exponent_of, good_domains, outside, radius_of, side, tree_within, whole}
 
 -- ---- Their tokens
 

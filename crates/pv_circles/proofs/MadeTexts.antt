@@ -14,7 +14,7 @@ use Rattle.pv_parse.specs.Meanings.{Names, learnt}
 use Rattle.pv_parse.specs.Sentences.{Spells, SpellsTo, StandsFor, bytes_of}
 use Rattle.pv_parse.proofs.Continued.{next_end}
 use Rattle.pv_parse.proofs.Pieces.{IsPiece, Piece, Placed}
-use Rattle.pv_run.proofs.MadeTokens.{ends_at, longest_word}
+use Rattle.pv_circles.proofs.MadeTokens.{ends_at, longest_word}
 
 -- a token, and the blanks behind it
 pub record Part : Type 0 where

@@ -15,7 +15,7 @@ use Rattle.pv_tokens.specs.Tokens.IsWord.{number}
 use Rattle.pv_tokens.proofs.Decimals.{narrow_decimal}
 use Rattle.pv_parse.specs.Sentences.{IsNumberSymbol, MayRaise}
 use Rattle.pv_parse.proofs.Pieces.{IsPiece, Piece}
-use Rattle.pv_run.proofs.MadeTrees.{exponent_of, whole}
+use Rattle.pv_circles.proofs.MadeTrees.{exponent_of, whole}
 
 -- the parts of a number that is digits alone
 abbrev ends_in : ℕ → Parts
