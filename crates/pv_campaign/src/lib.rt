@@ -1,6 +1,4 @@
 //! The command `campaign`.
 #![tactic(auto)]
 
-mod campaign;
-
-pub use campaign::campaign;
+pub mod campaign;

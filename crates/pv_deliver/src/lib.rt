@@ -1,8 +1,7 @@
 //! What comes of a command is stored and printed, and what ends one early is told.
 #![tactic(auto)]
 
-mod deliver;
+pub mod deliver;
 mod telling;
 
-pub use deliver::deliver;
 pub use telling::{Unread, tell, tell_unread};

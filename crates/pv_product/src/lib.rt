@@ -2,7 +2,6 @@
 #![tactic(auto)]
 
 mod product;
-mod summary;
+pub mod summary;
 
 pub use product::{Product, is_closed, of_paving, told};
-pub use summary::{push_counts, summary};

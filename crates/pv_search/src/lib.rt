@@ -1,6 +1,4 @@
 //! The command `least`.
 #![tactic(auto)]
 
-mod least;
-
-pub use least::least;
+pub mod least;

@@ -1,6 +1,4 @@
 //! The command `svg`.
 #![tactic(auto)]
 
-mod svg;
-
-pub use svg::svg;
+pub mod svg;
