@@ -1,8 +1,8 @@
 #!/usr/bin/env python3
 """Counts the definitions that a statement reaches: how much there is to read for whoever wants to know what it says.
 
-    python3 -m tests.definitions                         what `paver_main` promises, and each law of `pv_cli::laws`
-    python3 -m tests.definitions pv_cli.Ends.IsEnd       one definition, with the files and how much of each is reached
+    python3 -m tests.definitions                         what `paver_main` promises, and each law of `pv_laws`
+    python3 -m tests.definitions pv_product.Ends.IsEnd   one definition, with the files and how much of each is reached
 
 A definition is what specs/ of this repository defines, with its constructors and fields, or a type of the code that a
 definition names. What the kit brings (std, clap, sha2, hex) is apart.
@@ -15,7 +15,7 @@ from pathlib import Path
 from typing import Dict, Iterator, List, Optional, Set, Tuple
 
 CRATES = Path(__file__).resolve().parents[1] / "crates"
-PROMISE = ("pv_cli", "Ends", "IsEnd")
+PROMISE = ("pv_product", "Ends", "IsEnd")
 
 # a crate, a module of its specs/, and a name there
 Name = Tuple[str, str, str]
@@ -147,8 +147,8 @@ def told(reached: Set[Name]) -> str:
 
 
 def laws() -> List[Name]:
-    """The statements that the calls of `pv_cli::laws` have as clauses."""
-    text = (CRATES / "pv_cli" / "src" / "laws.rt").read_text()
+    """The statements that the calls of `pv_laws` have as clauses."""
+    text = (CRATES / "pv_laws" / "src" / "laws.rt").read_text()
     uses = re.findall(r"ghost use Rattle\.(\w+)\.specs\.(\w+)\.\{([^}]*)\}", text)
     return [(crate, module, name) for crate, module, names in uses for name in re.findall(r"\w+", names)]
 

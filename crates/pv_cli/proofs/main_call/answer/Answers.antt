@@ -1,5 +1,5 @@
-use Rattle.pv_cli.specs.Made.{made}
-use Rattle.pv_cli.proofs.Ends.{when_delivered, when_undelivered}
+use Rattle.pv_product.specs.Made.{made}
+use Rattle.pv_product.proofs.Ends.{when_delivered, when_undelivered}
 use Rattle.pv_cli.proofs.main_call.answer.Goals as goal
 
 pub returns-in-Ok-clause-answered : goal.returns-in-Ok-clause-answered

@@ -1,5 +1,5 @@
 use Rattle.std.proofs.Common.{refl}
-use Rattle.pv_cli.proofs.Ends.{same_files, words_refused, request_refused}
+use Rattle.pv_product.proofs.Ends.{same_files, words_refused, request_refused}
 use Rattle.pv_cli.proofs.main_call.paver_main.Goals as goal
 
 pub returns-in-Err : goal.returns-in-Err

@@ -1,0 +1,431 @@
+//! From the words of a command to what they ask for.
+ghost use Rattle.std.specs.Prelude.{◌≡◌, ◌≢◌, ◌⊎◌, Some, List, codes, map, option_map, MatchOption, MatchResult, string_bytes, IfOk, IfErr, unwrap_or};
+ghost use Rattle.clap.specs.Words.{all_of, first_of, subcommand_rows_of};
+ghost use Rattle.pv_request.specs.Requests.{value_of, system_name, paving_names, names_in, AreSettings, IsEffort, ArePavings, IsOut, HasBadSetting, HasBadLimit, HasBadEffort, HasBadWorkers, AreWorkers, IsNodeLimit, IsShareIn, HasNoShare, IsView, AreGiven, AreCircles, HasManyPavings, HasBadLevels, HasBadCircles, IsSearch, HasBadBudget, IsRounds, HasBadRounds, HasBadValueFor, run_name, audit_name, runs, resumes, merges, audits, draws, samples, seeks, keeps, IsAskedBy, IsAsked, Asks, RefusesWords};
+ghost use Rattle.pv_args.specs.Found.{rows_in, RefusesValues, RefusesCommand, RefusesFound};
+
+use crate::command_line::paver;
+use crate::values::{
+    bisector_of, count_of, form_of, levels_of, name_of_form, order_of, share_of, width_of,
+};
+use clap::ArgMatches;
+use clap::error::ErrorKind;
+use pv_num::Num;
+use pv_request::{Circles, Effort, Refusal, Request, Rounds, Search, Settings, View, Workers};
+use pv_scope::{Order, Share};
+use pv_slope::Form;
+use pv_tree::NodeLimit;
+use std::alloc::Global;
+
+/// Reads the words of a command, of which the first is the program's name.
+pub fn read<'a>(alloc: Global, words: &'a [String]) -> Result<Request<'a>, Refusal<'a>>
+    ensures { MatchResult result (Asks (map string_bytes words.entry.now))
+        (RefusesWords (map string_bytes words.entry.now)) }
+{
+    let matches = match paver(alloc)?.try_get_matches_from(words) {
+        Ok(matches) => matches,
+        Err(error) => return Err(refusal_by(error.kind())),
+    };
+    request_of(alloc, &matches)
+}
+
+fn refusal_by<'a>(kind: ErrorKind) -> Refusal<'a>
+    ensures { (result ≡ Refusal.Memory)
+        ⊎ ((result ≡ Refusal.Usage) × (kind ≢ ErrorKind.OutOfMemory)) }
+{
+    match kind {
+        ErrorKind::OutOfMemory => Refusal::Memory,
+        _ => Refusal::Usage,
+    }
+}
+
+fn request_of<'a>(alloc: Global, matches: &ArgMatches<'a>) -> Result<Request<'a>, Refusal<'a>>
+    ensures { MatchResult result (IsAsked (subcommand_rows_of matches.now))
+        (RefusesFound (subcommand_rows_of matches.now)) }
+{
+    match matches.subcommand() {
+        Some((command, found)) => command_in(alloc, command, found),
+        None => Err(Refusal::Usage),
+    }
+}
+
+fn command_in<'a>(
+    alloc: Global,
+    command: &str,
+    found: &ArgMatches<'a>,
+) -> Result<Request<'a>, Refusal<'a>>
+    ensures { MatchResult result (IsAskedBy command.now (rows_in found.now))
+        (RefusesCommand command.now (rows_in found.now)) }
+{
+    match command {
+        "check" => Ok(check_in(found)),
+        "run" => run_in(Form::Plain, found),
+        "resume" => resume_in(alloc, found),
+        "merge" => merge_in(alloc, found),
+        "audit" => audit_in(Form::Plain, found),
+        "svg" => svg_in(alloc, found),
+        "sample" => sample_in(found),
+        "run-centered" => run_in(Form::Centered, found),
+        "audit-centered" => audit_in(Form::Centered, found),
+        "least" => least_in(found),
+        "campaign" => campaign_in(found),
+        _ => Err(Refusal::Usage),
+    }
+}
+
+fn check_in<'a>(found: &ArgMatches<'a>) -> Request<'a>
+    ensures { IsAskedBy (codes "check") (rows_in found.now) result }
+{
+    Request::Check {
+        system: text_in(found, "SYSTEM", ""),
+    }
+}
+
+fn run_in<'a>(usual: Form, found: &ArgMatches<'a>) -> Result<Request<'a>, Refusal<'a>>
+    ensures { MatchResult result (IsAskedBy (run_name usual) (rows_in found.now))
+        (RefusesValues (HasBadValueFor (runs usual) (rows_in found.now))) }
+{
+    let settings = match settings_in(usual, found) {
+        Some(settings) => settings,
+        None => return Err(Refusal::Usage),
+    };
+    match effort_in(found) {
+        Some(effort) => Ok(Request::Run {
+            system: text_in(found, "SYSTEM", ""),
+            settings,
+            effort,
+            out: out_in(found),
+        }),
+        None => Err(Refusal::Usage),
+    }
+}
+
+#[tactic(auto, using(crate::proofs::Slashes::bad_share))]
+fn resume_in<'a>(alloc: Global, found: &ArgMatches<'a>) -> Result<Request<'a>, Refusal<'a>>
+    ensures { MatchResult result (IsAskedBy (codes "resume") (rows_in found.now))
+        (RefusesValues (HasBadValueFor resumes (rows_in found.now))) }
+{
+    let pavings = match pavings_in(alloc, found) {
+        Ok(pavings) => pavings,
+        Err(refusal) => return Err(refusal),
+    };
+    let settings = match settings_in(Form::Plain, found) {
+        Some(settings) => settings,
+        None => return Err(Refusal::Usage),
+    };
+    let effort = match effort_in(found) {
+        Some(effort) => effort,
+        None => return Err(Refusal::Usage),
+    };
+    match share_in(effort.order, found) {
+        Ok(share) => Ok(Request::Resume {
+            system: text_in(found, "SYSTEM", ""),
+            pavings,
+            settings,
+            effort,
+            share,
+            out: out_in(found),
+        }),
+        Err(refusal) => Err(refusal),
+    }
+}
+
+// The share of the open leaves, where one is given. It is settled in its own order, so another one is
+// refused beside it.
+#[tactic(auto, using(crate::proofs::Rows::first_is))]
+fn share_in<'a>(order: Order, found: &ArgMatches<'a>) -> Result<Option<Share>, Refusal<'a>>
+    ensures { MatchResult result (IsShareIn order (first_of (codes "share") (rows_in found.now)))
+        (RefusesValues (HasNoShare order (first_of (codes "share") (rows_in found.now)))) }
+{
+    match found.get_str("share") {
+        Some(text) => share_by(order, text),
+        None => Ok(None),
+    }
+}
+
+// The share that a text gives, which is settled depth first.
+#[tactic(auto, using(crate::proofs::Slashes::none_in_depth, crate::proofs::Slashes::none_by_level))]
+fn share_by<'a>(order: Order, text: &str) -> Result<Option<Share>, Refusal<'a>>
+    ensures { MatchResult result (IsShareIn order (Some text.now))
+        (RefusesValues (HasNoShare order (Some text.now))) }
+{
+    match order {
+        Order::Depth => match share_of(text) {
+            Some(share) => Ok(Some(share)),
+            None => Err(Refusal::Usage),
+        },
+        Order::Level => Err(Refusal::Usage),
+    }
+}
+
+fn merge_in<'a>(alloc: Global, found: &ArgMatches<'a>) -> Result<Request<'a>, Refusal<'a>>
+    ensures { MatchResult result (IsAskedBy (codes "merge") (rows_in found.now))
+        (RefusesValues (HasBadValueFor merges (rows_in found.now))) }
+{
+    let pavings = match pavings_in(alloc, found) {
+        Ok(pavings) => pavings,
+        Err(refusal) => return Err(refusal),
+    };
+    let settings = match settings_in(Form::Plain, found) {
+        Some(settings) => settings,
+        None => return Err(Refusal::Usage),
+    };
+    match limit_in(found) {
+        Some(limit) => Ok(Request::Merge {
+            system: text_in(found, "SYSTEM", ""),
+            pavings,
+            settings,
+            limit,
+            out: out_in(found),
+        }),
+        None => Err(Refusal::Usage),
+    }
+}
+
+fn audit_in<'a>(usual: Form, found: &ArgMatches<'a>) -> Result<Request<'a>, Refusal<'a>>
+    ensures { MatchResult result (IsAskedBy (audit_name usual) (rows_in found.now))
+        (RefusesValues (HasBadValueFor (audits usual) (rows_in found.now))) }
+{
+    let settings = match settings_in(usual, found) {
+        Some(settings) => settings,
+        None => return Err(Refusal::Usage),
+    };
+    let limit = match limit_in(found) {
+        Some(limit) => limit,
+        None => return Err(Refusal::Usage),
+    };
+    match workers_in(found) {
+        Some(workers) => Ok(Request::Audit {
+            system: text_in(found, "SYSTEM", ""),
+            paving: text_in(found, "PAVING", ""),
+            settings,
+            limit,
+            workers,
+        }),
+        None => Err(Refusal::Usage),
+    }
+}
+
+fn svg_in<'a>(alloc: Global, found: &ArgMatches<'a>) -> Result<Request<'a>, Refusal<'a>>
+    ensures { MatchResult result (IsAskedBy (codes "svg") (rows_in found.now))
+        (RefusesValues (HasBadValueFor draws (rows_in found.now))) }
+{
+    let view = match view_in(alloc, found) {
+        Ok(view) => view,
+        Err(refusal) => return Err(refusal),
+    };
+    let settings = match settings_in(Form::Plain, found) {
+        Some(settings) => settings,
+        None => return Err(Refusal::Usage),
+    };
+    match limit_in(found) {
+        Some(limit) => Ok(Request::Svg {
+            system: text_in(found, "SYSTEM", ""),
+            paving: text_in(found, "PAVING", ""),
+            settings,
+            limit,
+            view,
+        }),
+        None => Err(Refusal::Usage),
+    }
+}
+
+fn view_in<'a>(alloc: Global, found: &ArgMatches<'a>) -> Result<View<'a>, Refusal<'a>>
+    ensures { MatchResult result (IsView (rows_in found.now))
+        (RefusesValues (HasBadLevels (rows_in found.now))) }
+{
+    match levels_in(alloc, found) {
+        Ok(at) => Ok(View {
+            x: text_in(found, "x", ""),
+            y: text_in(found, "y", ""),
+            at,
+        }),
+        Err(refusal) => Err(refusal),
+    }
+}
+
+#[tactic(auto, using(crate::proofs::Rows::first_is))]
+fn levels_in<'a>(alloc: Global, found: &ArgMatches<'a>) -> Result<Vec<Num>, Refusal<'a>>
+    ensures { MatchResult result (λ at. AreGiven (rows_in found.now) at.items)
+        (RefusesValues (HasBadLevels (rows_in found.now))) }
+{
+    match found.get_str("at") {
+        Some(text) => levels_of(alloc, text),
+        None => Ok(Vec::new(alloc)),
+    }
+}
+
+fn sample_in<'a>(found: &ArgMatches<'a>) -> Result<Request<'a>, Refusal<'a>>
+    ensures { MatchResult result (IsAskedBy (codes "sample") (rows_in found.now))
+        (RefusesValues (HasBadValueFor samples (rows_in found.now))) }
+{
+    match circles_in(found) {
+        Some(circles) => Ok(Request::Sample { circles }),
+        None => Err(Refusal::Usage),
+    }
+}
+
+fn circles_in(found: &ArgMatches<'_>) -> Option<Circles>
+    ensures { MatchOption result (HasBadCircles (rows_in found.now))
+        (AreCircles (rows_in found.now)) }
+{
+    let seed = count_of(text_in(found, "seed", ""), 0, 2_147_483_647)? as u32;
+    let count = count_of(text_in(found, "count", ""), 1, 16)? as u32;
+    Some(Circles { seed, count })
+}
+
+fn least_in<'a>(found: &ArgMatches<'a>) -> Result<Request<'a>, Refusal<'a>>
+    ensures { MatchResult result (IsAskedBy (codes "least") (rows_in found.now))
+        (RefusesValues (HasBadValueFor seeks (rows_in found.now))) }
+{
+    let settings = match settings_in(Form::Plain, found) {
+        Some(settings) => settings,
+        None => return Err(Refusal::Usage),
+    };
+    match search_in(found) {
+        Some(search) => Ok(Request::Least {
+            system: text_in(found, "SYSTEM", ""),
+            settings,
+            search,
+        }),
+        None => Err(Refusal::Usage),
+    }
+}
+
+fn search_in<'a>(found: &ArgMatches<'a>) -> Option<Search<'a>>
+    ensures { MatchOption result (HasBadBudget (rows_in found.now)) (IsSearch (rows_in found.now)) }
+{
+    let limit = limit_in(found)?;
+    let boxes = count_of(text_in(found, "boxes", "20000"), 1, limit.nodes())?;
+    Some(Search {
+        of: text_in(found, "of", ""),
+        limit,
+        boxes,
+    })
+}
+
+fn campaign_in<'a>(found: &ArgMatches<'a>) -> Result<Request<'a>, Refusal<'a>>
+    ensures { MatchResult result (IsAskedBy (codes "campaign") (rows_in found.now))
+        (RefusesValues (HasBadValueFor keeps (rows_in found.now))) }
+{
+    let settings = match settings_in(Form::Plain, found) {
+        Some(settings) => settings,
+        None => return Err(Refusal::Usage),
+    };
+    let effort = match effort_in(found) {
+        Some(effort) => effort,
+        None => return Err(Refusal::Usage),
+    };
+    match rounds_in(found) {
+        Some(rounds) => Ok(Request::Campaign {
+            system: text_in(found, "SYSTEM", ""),
+            settings,
+            effort,
+            rounds,
+        }),
+        None => Err(Refusal::Usage),
+    }
+}
+
+fn rounds_in<'a>(found: &ArgMatches<'a>) -> Option<Rounds<'a>>
+    ensures { MatchOption result (HasBadRounds (rows_in found.now)) (IsRounds (rows_in found.now)) }
+{
+    let count = count_of(text_in(found, "rounds", "1"), 1, 100)? as u32;
+    Some(Rounds {
+        name: text_in(found, "keep", ""),
+        count,
+    })
+}
+
+// The settings for a command that has a form by itself.
+fn settings_in<'a>(usual: Form, found: &ArgMatches<'a>) -> Option<Settings<'a>>
+    ensures { MatchOption result (HasBadSetting usual (rows_in found.now))
+        (AreSettings usual (rows_in found.now)) }
+{
+    let eps = width_of(text_in(found, "eps", "0.125"))?;
+    let depth = count_of(text_in(found, "depth", "60"), 1, 200)? as u32;
+    let bisector = bisector_of(text_in(found, "bisect", "largest"))?;
+    let contract = text_in(found, "contract", "prop(8)");
+    let form = form_of(text_in(found, "form", name_of_form(usual)))?;
+    Some(Settings {
+        eps,
+        depth,
+        bisector,
+        contract,
+        form,
+    })
+}
+
+fn effort_in(found: &ArgMatches<'_>) -> Option<Effort>
+    ensures { MatchOption result (HasBadEffort (rows_in found.now)) (IsEffort (rows_in found.now)) }
+{
+    let limit = limit_in(found)?;
+    let workers = count_of(text_in(found, "workers", "4"), 1, 16)? as u32;
+    let boxes = count_of(text_in(found, "boxes", "20000"), 1, limit.nodes())?;
+    let order = order_of(text_in(found, "order", "depth"))?;
+    Some(Effort {
+        limit,
+        workers,
+        order,
+        boxes,
+    })
+}
+
+fn workers_in(found: &ArgMatches<'_>) -> Option<Workers>
+    ensures { MatchOption result (HasBadWorkers (rows_in found.now))
+        (AreWorkers (rows_in found.now)) }
+{
+    let count = count_of(text_in(found, "workers", "4"), 1, 16)? as u32;
+    Some(Workers { count })
+}
+
+fn limit_in(found: &ArgMatches<'_>) -> Option<NodeLimit>
+    ensures { MatchOption result (HasBadLimit (rows_in found.now))
+        (IsNodeLimit (rows_in found.now)) }
+{
+    NodeLimit::new(count_of(text_in(found, "limit", "100000"), 100_000, 100_000_000)?)
+}
+
+fn pavings_in<'a>(alloc: Global, found: &ArgMatches<'a>) -> Result<Vec<&'a str>, Refusal<'a>>
+    ensures { MatchResult result (λ names. ArePavings (rows_in found.now) names.items)
+        (RefusesValues (HasManyPavings (rows_in found.now))) }
+{
+    let names = match raw_names(alloc, found) {
+        Ok(names) => names,
+        Err(refusal) => return Err(refusal),
+    };
+    if names.len() <= 8 {
+        Ok(names)
+    } else {
+        Err(Refusal::Usage)
+    }
+}
+
+#[tactic(auto, using(crate::proofs::Rows::some_are, crate::proofs::Rows::none_are))]
+fn raw_names<'a>(alloc: Global, found: &ArgMatches<'a>) -> Result<Vec<&'a str>, Refusal<'a>>
+    ensures names { IfOk result (λ names. names_in names.items ≡ paving_names (rows_in found.now)) }
+    ensures refused { IfErr result (λ e. e ≡ Refusal.Memory) }
+{
+    match found.get_raw("PAVING") {
+        Some(names) => Ok(Vec::from_slice(alloc, names)?),
+        None => Ok(Vec::new(alloc)),
+    }
+}
+
+#[tactic(auto, using(crate::proofs::Rows::first_is))]
+fn out_in<'a>(found: &ArgMatches<'a>) -> Option<&'a str>
+    ensures { IsOut (rows_in found.now) result }
+{
+    found.get_str("out")
+}
+
+// The text of a word or an option, or what stands for one that is not given.
+#[tactic(auto, using(crate::proofs::Rows::first_is))]
+fn text_in<'a>(found: &ArgMatches<'a>, name: &str, default: &'a str) -> &'a str
+    ensures { result.now ≡ value_of name.now default.entry.now (rows_in found.now) }
+{
+    match found.get_str(name) {
+        Some(text) => text,
+        None => default,
+    }
+}

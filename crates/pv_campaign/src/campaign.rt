@@ -1,0 +1,162 @@
+//! `campaign`: a paving that is kept between rounds under a name.
+ghost use Rattle.std.specs.Prelude.{◌≡◌, ◌*◌, IfOk, IfErr, length};
+ghost use Rattle.pv_slope.specs.Methods.{method_of, dims_of};
+ghost use Rattle.pv_rule.specs.Systems.{files, AreOnlyRead, search_box};
+ghost use Rattle.pv_product.specs.Campaigns.{stock, AreOthersStocked, RefusesRounds, RefusesCampaign, campaign_refusal, is_done};
+ghost use Rattle.pv_product.specs.Products.{ComesOfCampaign, ComesOfRounds, LearnsHeld, report_as, summary_of};
+ghost use Rattle.pv_product.specs.Made.{made};
+ghost use Rattle.pv_tree.specs.Trees.{counts_of};
+
+use pv_honest::learn_honest;
+use pv_io::Folder;
+use pv_keep::{Campaign, Keeper};
+use pv_num::Memory;
+use pv_pool::Gate;
+use pv_product::summary::summary;
+use pv_product::{Product, is_closed, told};
+use pv_request::{Effort, FileFault, Refusal, Rounds, Settings};
+use pv_rounds::{HoldRefused, Plan, hold, learn_rounds};
+use pv_rule::settler_in;
+use pv_slope::FormSettler;
+use pv_tree::Paving;
+use std::alloc::Global;
+use std::sync::Wait;
+use std::thread::Threads;
+
+/// What some rounds make of the paving of the system in a file that is kept under a name. Each
+/// round settles what the budget allows, and is kept before the next begins.
+pub fn campaign<'a, F: Folder, P: Keeper, G: Gate + Sync, R: Threads + Wait + Sync>(
+    rt: &R,
+    alloc: Global,
+    folder: &mut F,
+    keeper: &mut P,
+    system: &'a str,
+    settings: &Settings<'a>,
+    effort: &Effort,
+    rounds: &Rounds<'a>,
+    gate: &G,
+) -> Result<Product, Refusal<'a>>
+    ensures read { AreOnlyRead
+        (files (F.content folder.old) (F.fetch_faults folder.old) (F.store_faults folder.old))
+        (files (F.content folder.new) (F.fetch_faults folder.new) (F.store_faults folder.new)) }
+    ensures stock { AreOthersStocked rounds.now.name.now
+        (stock (P.kept keeper.old) (P.faults keeper.old))
+        (stock (P.kept keeper.new) (P.faults keeper.new)) }
+    ensures comes { IfOk result
+        (λ p. ComesOfCampaign
+        (files (F.content folder.old) (F.fetch_faults folder.old) (F.store_faults folder.old))
+        (stock (P.kept keeper.old) (P.faults keeper.old))
+        (stock (P.kept keeper.new) (P.faults keeper.new))
+        system.now settings.now effort.now.limit effort.now.order effort.now.boxes rounds.now (made p)) }
+    ensures refused { IfErr result
+        (RefusesCampaign
+        (files (F.content folder.old) (F.fetch_faults folder.old) (F.store_faults folder.old))
+        (files (F.content folder.new) (F.fetch_faults folder.new) (F.store_faults folder.new))
+        (stock (P.kept keeper.old) (P.faults keeper.old))
+        (stock (P.kept keeper.new) (P.faults keeper.new))
+        system.now settings.now effort.now.limit effort.now.order effort.now.boxes rounds.now) }
+{
+    let settler = match settler_in(alloc, folder, system, settings) {
+        Ok(settler) => settler,
+        Err(refusal) => return Err(refusal),
+    };
+    gone_on(rt, alloc, &settler, keeper, effort, rounds, gate)
+}
+
+// What the rounds make of what is kept of a settler's paving.
+fn gone_on<'a, P: Keeper, G: Gate + Sync, R: Threads + Wait + Sync>(
+    rt: &R,
+    alloc: Global,
+    settler: &FormSettler,
+    keeper: &mut P,
+    effort: &Effort,
+    rounds: &Rounds<'a>,
+    gate: &G,
+) -> Result<Product, Refusal<'a>>
+    ensures stock { AreOthersStocked rounds.now.name.now
+        (stock (P.kept keeper.old) (P.faults keeper.old))
+        (stock (P.kept keeper.new) (P.faults keeper.new)) }
+    ensures comes { IfOk result
+        (λ p. ComesOfRounds (method_of settler.now)
+        (stock (P.kept keeper.old) (P.faults keeper.old))
+        (stock (P.kept keeper.new) (P.faults keeper.new)) effort.now.limit effort.now.order
+        effort.now.boxes rounds.now (made p)) }
+    ensures refused { IfErr result
+        (RefusesRounds (method_of settler.now)
+        (stock (P.kept keeper.old) (P.faults keeper.old))
+        (stock (P.kept keeper.new) (P.faults keeper.new)) effort.now.limit effort.now.order
+        effort.now.boxes rounds.now) }
+{
+    let identity = settler.identity(alloc)?;
+    let root = settler.search_box(alloc)?;
+    let plan = Plan {
+        count: rounds.count,
+        boxes: effort.boxes,
+        workers: effort.workers,
+        order: effort.order,
+        limit: effort.limit,
+    };
+    let held = hold(
+        rt,
+        alloc,
+        settler,
+        keeper,
+        rounds.name,
+        identity,
+        root,
+        &plan,
+        gate,
+    );
+    match held {
+        Ok(campaign) => Ok(reported(alloc, settler, &campaign)?),
+        Err(refused) => Err(refusal_by(rounds.name, refused)),
+    }
+}
+
+// The summary of a campaign, which was cut short unless no leaf is open.
+fn reported(alloc: Global, settler: &FormSettler, campaign: &Campaign) -> Result<Product, Memory>
+    requires root { campaign.now.root ≡ search_box (method_of settler.now) }
+    requires dims { length campaign.now.root ≡ dims_of (method_of settler.now) }
+    ensures report { IfOk result
+        (λ p. made p ≡ report_as (summary_of (counts_of campaign.now.tree))
+        (is_done campaign.now.tree)) }
+    ensures learns { LearnsHeld (method_of settler.now) campaign.now.tree }
+{
+    let paving = campaign.paving();
+    learn_held(paving, settler);
+    let done = is_closed(paving);
+    Ok(told(summary(alloc, paving)?, done))
+}
+
+// Does nothing. A paving of the search box that grew from a stage of the open one is honest.
+fn learn_held(paving: &Paving, settler: &FormSettler)
+    requires root { paving.now.root ≡ search_box (method_of settler.now) }
+    requires dims { length paving.now.root ≡ dims_of (method_of settler.now) }
+    ensures { LearnsHeld (method_of settler.now) paving.now.tree }
+{
+    learn_rounds(paving, settler);
+    learn_honest(paving, settler);
+}
+
+// The refusal for a campaign that doesn't come to the end of its rounds.
+fn refusal_by<'a>(name: &'a str, refused: HoldRefused) -> Refusal<'a>
+    ensures { result ≡ campaign_refusal name.entry refused }
+{
+    match refused {
+        HoldRefused::Memory => Refusal::Memory,
+        HoldRefused::Failed => Refusal::KeeperFault { name },
+        HoldRefused::OtherIdentity { .. } => Refusal::Paving {
+            name,
+            fault: FileFault::WrongIdentity,
+        },
+        HoldRefused::TooMany => Refusal::Paving {
+            name,
+            fault: FileFault::TooManyRows,
+        },
+        HoldRefused::BadRow { row } => Refusal::Paving {
+            name,
+            fault: FileFault::BadRow { row },
+        },
+        HoldRefused::TreeLimit { settled } => Refusal::TreeLimit { settled },
+    }
+}

@@ -1,0 +1,4 @@
+//! The command `campaign`.
+#![tactic(auto)]
+
+pub mod campaign;

@@ -1,0 +1,5 @@
+pub mod MadeTokens
+pub mod MadeNumbers
+pub mod MadeTexts
+pub mod MadeTrees
+pub mod MadeSystems

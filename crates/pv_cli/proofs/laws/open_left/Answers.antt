@@ -1,5 +1,0 @@
-use Rattle.pv_cli.proofs.StatusLaws.{open_left_is_part}
-use Rattle.pv_cli.proofs.laws.open_left.Goals as goal
-
-pub returns : goal.returns
-returns c = open_left_is_part

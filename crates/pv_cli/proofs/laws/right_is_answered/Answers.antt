@@ -1,5 +1,0 @@
-use Rattle.pv_cli.proofs.Complete.{right_is_answered}
-use Rattle.pv_cli.proofs.laws.right_is_answered.Goals as goal
-
-pub returns : goal.returns
-returns c = right_is_answered

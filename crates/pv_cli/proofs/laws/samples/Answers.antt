@@ -1,5 +1,0 @@
-use Rattle.pv_cli.proofs.SampleLaws.{sample_is_taken}
-use Rattle.pv_cli.proofs.laws.samples.Goals as goal
-
-pub returns : goal.returns
-returns c = sample_is_taken

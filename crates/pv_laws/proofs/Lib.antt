@@ -1,0 +1,9 @@
+pub mod JoinedShares
+pub mod Merges
+pub mod Stocks
+pub mod StatusLaws
+pub mod SampleLaws
+pub mod CampaignLaws
+pub mod Headline
+pub mod Stored
+pub mod Complete

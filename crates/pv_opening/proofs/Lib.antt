@@ -1,0 +1,3 @@
+pub mod Joined
+pub mod Earlier
+pub mod Openings

@@ -1,0 +1,4 @@
+//! The command `least`.
+#![tactic(auto)]
+
+pub mod least;

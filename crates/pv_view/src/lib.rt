@@ -1,0 +1,4 @@
+//! The command `svg`.
+#![tactic(auto)]
+
+pub mod svg;
