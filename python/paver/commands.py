@@ -58,8 +58,8 @@ COMMANDS: Dict[str, Command] = {
     "run": Command("SYSTEM", "paves", "pave a system", (*SETTINGS, "form", *BUDGET, "out")),
     "resume": Command("SYSTEM PAVING..", "goes on from the join of 1 to 8 stored pavings", "go on from stored pavings",
                       (*SETTINGS, "form", *BUDGET, "share", "out")),
-    "merge": Command("SYSTEM PAVING..", "joins 1 to 8 stored pavings; neither their order nor repeats change a byte, which is proved",
-                     "join stored pavings", (*SETTINGS, "form", "limit", "out")),
+    "merge": Command("SYSTEM PAVING..", "joins 1 to 8 stored pavings; neither their order nor repeats change a byte, "
+                     "which is proved", "join stored pavings", (*SETTINGS, "form", "limit", "out")),
     "audit": Command("SYSTEM PAVING", "computes each settled node again", "recompute every settled node of a stored paving",
                      (*SETTINGS, "form", "limit", "workers")),
     "svg": Command("SYSTEM PAVING", "draws a stored paving", "draw a plane of a stored paving",
@@ -71,7 +71,7 @@ COMMANDS: Dict[str, Command] = {
     "run-centered": Command("SYSTEM", "`run --form centered`", "pave a system by centered forms", (*SETTINGS, *BUDGET, "out")),
     "audit-centered": Command("SYSTEM PAVING", "`audit --form centered`", "recompute a stored paving by centered forms",
                               (*SETTINGS, "limit", "workers")),
-    "sample": Command("", "paves circles made from a seed, to check an installation: `./paver sample --seed 1 --count 2` ends with "
-                      "`file 11574911400edcb97140b9fc03ea80550a174694c79188ec132007be53af8654`", "pave a made system",
+    "sample": Command("", "paves circles made from a seed, to check an installation: `./paver sample --seed 1 --count 2` ends "
+                      "with `file 11574911400edcb97140b9fc03ea80550a174694c79188ec132007be53af8654`", "pave a made system",
                       ("seed", "count"), ("seed", "count")),
 }

@@ -254,7 +254,8 @@ class FuzzWords(FolderTest):
         command, work, more, places = source.choice([
             ("run", lambda: said.run(boxes, None, order), [*budget, f"--order={order}"], []),
             ("resume", lambda: said.resume(named, boxes, None, order), [*budget, f"--order={order}"], [paving]),
-            ("resume", lambda: said.resume(named, boxes, None, share=(number, of)), [*budget, f"--share={number}/{of}"], [paving]),
+            ("resume", lambda: said.resume(named, boxes, None, share=(number, of)), [*budget, f"--share={number}/{of}"],
+             [paving]),
             ("merge", lambda: said.merge(named, None), [], [paving]),
             ("audit", lambda: said.audit(*named[0]), [], [paving])])
         self.is_as(answer(work)[:3], [command, *source.sample(words + more, len(words + more)), "s", *places])

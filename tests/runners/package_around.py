@@ -1,4 +1,4 @@
-"""Checks of what lies around the program: README's commands, links of documents, the man page, completions, installing,
+"""Checks of what lies around the program: links of documents, the man page, completions, installing,
 and the package for pip."""
 from __future__ import annotations
 
@@ -12,6 +12,7 @@ import sys
 import tempfile
 import time
 from pathlib import Path
+from typing import Iterator
 
 import paver
 from paver.options import COMMANDS
@@ -54,7 +55,7 @@ def zsh_makes_of(typed):
     return line
 
 
-def commands_of(text):
+def commands_of(text: str) -> Iterator[tuple[str, list[str], list[str]]]:
     """Of each command that a document shows behind `$` its words, the status in its comment, and the lines shown below it."""
     for block in re.findall(r"^```\n(.*?)^```", text, re.M | re.S):
         found = []
@@ -234,21 +235,6 @@ class Around(PackageTest):
                            env={**os.environ, "PATH": f"{folder}:{os.environ['PATH']}"}, capture_output=True, check=False)
             self.assertIn("below/bad.mbx', 3, 6, 'this can''t stand here (Unexpected). Equality is written `=`",
                           result.read_text(), result.read_text())
-
-    def test_readme(self) -> None:
-        """README's commands end with the statuses that it tells, and print the lines that it shows."""
-        shown = [command for command in commands_of((TOP / "README.md").read_text()) if command[0].startswith("./paver ")]
-        self.assertGreater(len(shown), 10, shown)
-        with tempfile.TemporaryDirectory() as folder:
-            for name, to in (("paver", Path(os.environ["PAVER"])), ("examples", TOP / "examples")):
-                (Path(folder) / name).symlink_to(to)
-            for words, status, lines in shown:
-                if lines[:1] == ["^C"]:
-                    continue
-                done = subprocess.run(["bash", "-c", words], cwd=folder, capture_output=True, text=True, timeout=300,
-                                      check=False)
-                self.assertIn(status, ([], [str(done.returncode)]), (words, done.returncode))
-                self.assertTrue(not lines or done.stdout.splitlines() == lines, (words, done.stdout[:500]))
 
     def test_links(self) -> None:
         """Each link of a document goes to a file or a folder, and to a heading where it names one."""
