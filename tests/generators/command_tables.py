@@ -1,11 +1,14 @@
 """Writes what is made of the table of commands and options, python/paver/commands.py: README's table of commands, the synopsis
-of the manual page, and the completions of three shells.
+of the manual page (and its version, from python/paver/version.py), and the completions of three shells.
 
     python3 -m tests.generators.command_tables      or `make tables`
 """
 from __future__ import annotations
 
+import re
+
 from paver.commands import COMMANDS, OPTIONS, SETTINGS, Command, Option
+from paver.version import VERSION
 from tests.runners.running import TOP
 
 README, MANUAL = TOP / "README.md", TOP / "docs" / "paver.1"
@@ -53,6 +56,7 @@ def readme(text: str) -> str:
 
 
 def manual(text: str) -> str:
+    text = re.sub(r'^(\.TH PAVER .* "paver )[0-9.]+"', rf'\g<1>{VERSION}"', text, flags=re.M)
     return put_between(text, SYNOPSIS, ".br\n".join(synopsis(name, told) for name, told in COMMANDS.items()))
 
 

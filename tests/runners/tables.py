@@ -13,6 +13,7 @@ import re
 import subprocess
 
 import paver
+import wheel_of_package
 from paver import commands, options
 from paver.version import VERSION
 from tests.generators import command_tables
@@ -222,7 +223,7 @@ class Tables(FolderTest):
     def test_version(self) -> None:
         """One version, in python/paver/version.py; what else tells it agrees."""
         told = {"manual": re.search(r'^\.TH PAVER 1 "[0-9-]+" "paver ([0-9.]+)"', MANUAL),
-                "pyproject": re.search(r'^version = "([0-9.]+)"$', (TOP / "python" / "pyproject.toml").read_text(), re.M),
+                "the wheel": re.search(r"^Version: ([0-9.]+)$", wheel_of_package.METADATA, re.M),
                 "CHANGELOG": re.search(r"^## ([0-9.]+) ", (TOP / "CHANGELOG.md").read_text(), re.M)}
         for place, found in told.items():
             given = found and found.group(1)
