@@ -23,8 +23,7 @@ from tests.runners.running import PROGRAM, TOP, FolderTest, main
 TABLE = {command: set(names) for command, names in options.COMMANDS.items()}
 NAMES = sorted({name for names in options.COMMANDS.values() for name in names})
 VALUES = options.EXAMPLES
-CALLS = {"sample": paver.sample, "svg": paver.draw} | {
-    name: getattr(paver, name.replace("-", "_")) for name in options.COMMANDS if name not in ("sample", "svg")}
+OTHER_NAMES = {"svg": "draw"}  # of the calls of the package
 USAGE = 2
 README = (TOP / "README.md").read_text()
 MANUAL = (TOP / "docs" / "paver.1").read_text().replace("\\-", "-")
@@ -204,9 +203,11 @@ class Tables(FolderTest):
     def test_package(self) -> None:
         """The calls of the package take what their commands do, by the same names, and nothing of its own name besides."""
         for command, names in TABLE.items():
-            known = set(inspect.signature(CALLS[command]).parameters) & set(NAMES)
             with self.subTest(f"the call of {command}"):
-                self.assertEqual(known, names)
+                call = getattr(paver, OTHER_NAMES.get(command, command.replace("-", "_")))
+                self.assertEqual(set(inspect.signature(call).parameters) & set(NAMES), names)
+        with self.subTest("the call of run on a text"):
+            self.assertEqual(set(inspect.signature(paver.run_text).parameters) & set(NAMES), TABLE["run"])
 
     def test_lists_of_tests(self) -> None:
         """What other tests try: each command has a call, and each option of made words a value."""
