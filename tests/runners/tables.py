@@ -14,6 +14,7 @@ import subprocess
 
 import paver
 import wheel_of_package
+from paver import __main__ as package_commands
 from paver import commands, options
 from paver.version import VERSION
 from tests.generators import command_tables
@@ -206,6 +207,10 @@ class Tables(FolderTest):
             with self.subTest(f"the call of {command}"):
                 call = getattr(paver, OTHER_NAMES.get(command, command.replace("-", "_")))
                 self.assertEqual(set(inspect.signature(call).parameters) & set(NAMES), names)
+        shown = re.findall(r"^\| `([a-z-]+) (?:.*?, `([a-z]+) [A-Z]+`)?.*\|$", (TOP / "python" / "README.md").read_text(), re.M)
+        choices = next(action.choices for action in package_commands.parser()._actions if action.dest == "command")
+        with self.subTest("the commands of the package in its README"):
+            self.assertEqual({name for row in shown for name in row if name}, set(choices or ()))
         with self.subTest("the call of run on a text"):
             self.assertEqual(set(inspect.signature(paver.run_text).parameters) & set(NAMES), TABLE["run"])
 
