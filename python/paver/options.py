@@ -1,4 +1,4 @@
-"""The program's commands and options: which command takes which, and what values they take."""
+"""The words of the program's commands, by the table in commands.py: how options are spelled, and what is refused of them."""
 from __future__ import annotations
 
 import math
@@ -8,33 +8,21 @@ from decimal import Decimal
 from fractions import Fraction
 from typing import Any, Dict, List, Mapping, Optional, Sequence, Tuple
 
+from . import commands
+from .commands import BUDGET, MOST_BOXES, MOST_LIMIT, SETTINGS
 from .numbers import minibex
 
-SETTINGS = ("eps", "depth", "bisect", "contract")
 KEPT_SETTINGS = (*SETTINGS, "form")  # those that an identity holds
-OPTIONS = (*SETTINGS, "boxes", "workers", "order", "limit", "form")
-FILES = {"resume": "SYSTEM PAVING..", "merge": "SYSTEM PAVING..", "audit": "SYSTEM PAVING", "svg": "SYSTEM PAVING",
-         "audit-centered": "SYSTEM PAVING", "sample": ""}
-COMMANDS: Dict[str, Tuple[str, ...]] = {
-    "check": (),
-    "run": (*OPTIONS, "out"),
-    "resume": (*OPTIONS, "share", "out"),
-    "merge": (*SETTINGS, "limit", "form", "out"),
-    "audit": (*SETTINGS, "workers", "limit", "form"),
-    "svg": (*SETTINGS, "limit", "form", "x", "y", "at"),
-    "sample": ("seed", "count"),
-    "run-centered": (*SETTINGS, "boxes", "workers", "order", "limit", "out"),
-    "audit-centered": (*SETTINGS, "workers", "limit"),
-    "least": (*SETTINGS, "boxes", "limit", "of"),
-    "campaign": (*OPTIONS, "keep", "rounds"),
-}
-REQUIRED = {"svg": ("x", "y"), "sample": ("seed", "count"), "least": ("of",), "campaign": ("keep",)}
+OPTIONS = (*KEPT_SETTINGS, *BUDGET)
+FILES = {name: command.files for name, command in commands.COMMANDS.items()}
+COMMANDS = {name: command.options for name, command in commands.COMMANDS.items()}
+REQUIRED = {name: command.needs for name, command in commands.COMMANDS.items()}
 LATER = ("limit", "form", "order", "share", "out")  # which an older program does not have
-MOST_BOXES, MOST_LIMIT, MOST_SHARES = 100_000, 100_000_000, 1_000_000
-RANGES = {"depth": (1, 200), "boxes": (1, MOST_BOXES), "workers": (1, 16), "limit": (MOST_BOXES, MOST_LIMIT),
-          "seed": (0, 2 ** 31 - 1), "count": (1, 16), "rounds": (1, 100)}
-CHOICES = {"bisect": ("largest", "round"), "form": ("plain", "centered"), "order": ("depth", "level")}
-DEFAULTS = {"eps": "0.125", "depth": "60", "bisect": "largest", "contract": "prop(8)", "form": "plain"}
+MOST_SHARES = 1_000_000
+RANGES = {name: option.range for name, option in commands.OPTIONS.items() if option.range}
+CHOICES = {name: option.choices for name, option in commands.OPTIONS.items() if option.choices}
+DEFAULTS = {name: commands.OPTIONS[name].default or "" for name in KEPT_SETTINGS}
+EXAMPLES = {name: option.example or str((option.range or option.choices)[0]) for name, option in commands.OPTIONS.items()}
 NUMBER = r"[0-9]+(\.[0-9]*)?([eE][+-]?[0-9]+)?"
 
 
@@ -131,7 +119,7 @@ def faults(command: str, words: Sequence[str]) -> List[str]:
             found.append(f"`--{name}` is given twice.")
         seen[name] = value
         found += value_fault(name, value, joined, read.most())
-    found += [f"`{command}` needs `--{name}`." for name in REQUIRED.get(command, ()) if name not in seen]
+    found += [f"`{command}` needs `--{name}`." for name in REQUIRED[command] if name not in seen]
     if seen.get("x") is not None and seen.get("x") == seen.get("y"):
         found.append("`--x` and `--y` name one variable: a picture has two.")
     if seen.get("share") is not None and seen.get("order") == "level":
@@ -151,7 +139,7 @@ def unknown(command: str, word: str) -> str:
 
 def file_faults(command: str, count: int) -> List[str]:
     """The sentence on the names of files, where there are too few or too many."""
-    wanted = FILES.get(command, "SYSTEM")
+    wanted = FILES[command]
     least = len(wanted.split())
     greatest = 9 if wanted.endswith("..") else least
     if least <= count <= greatest:

@@ -16,7 +16,7 @@ from typing import Any, Dict, Iterable, Iterator, List, Mapping, NoReturn, Optio
 from . import beside, errors, identity, kept
 from .box import exact_number
 from .canonical import System
-from .options import COMMANDS, LATER, OPTIONS, SETTINGS, faults, number_text, spelled
+from .options import COMMANDS, EXAMPLES, FILES, LATER, OPTIONS, REQUIRED, SETTINGS, faults, number_text, spelled
 from .paving import Paving, in_words, read_summary
 
 PathName = Union[str, "os.PathLike[str]"]
@@ -185,19 +185,16 @@ def refuse_usage(fault: errors.PaverError, words: Sequence[str], program: Option
     raise fault
 
 
-HARMLESS = {"out": "none", "limit": "100000", "form": "plain", "order": "depth", "share": "0/1"}
-
-
 def has(command: str, program: Optional[str] = None) -> bool:
     """Whether the program has a command, or a command's option, as `run --out`: with it, a system that is not there is no
     file. A sample needs no system."""
     name, _, option = command.partition(" --")
     if name == "sample":
         return call(["sample", "--seed=1", "--count=1"], program)[0] == 0
-    words = [name, *([f"--{option}={HARMLESS[option]}"] if option else [])]
-    words += {"least": ["--of=1"], "campaign": ["--keep=none"], "svg": ["--x=x", "--y=y"]}.get(name, [])
-    pavings = ["none"] if name in ("resume", "merge", "audit", "audit-centered", "svg") else []
-    return call([*words, "--", "/no such folder/no such system", *pavings], program)[0] == 11
+    given = dict.fromkeys([*REQUIRED[name], *([option] if option else [])])
+    pavings = ["none"] * (len(FILES[name].split()) - 1)
+    words = [name, *(f"--{other}={EXAMPLES[other]}" for other in given), "--", "/no such folder/no such system", *pavings]
+    return call(words, program)[0] == 11
 
 
 def check(system: PathName, *, program: Optional[str] = None, timeout: Optional[float] = None) -> System:
@@ -317,11 +314,11 @@ def campaign(system: PathName, keep: PathName, *, rounds: Any = None, eps: Any =
 
 
 def audit(system: PathName, paving: PathName, *, eps: Any = None, depth: Any = None, bisect: Optional[str] = None,
-          contract: Optional[str] = None, limit: Any = None, form: Optional[str] = None, program: Optional[str] = None,
-          timeout: Optional[float] = None) -> bool:
+          contract: Optional[str] = None, limit: Any = None, form: Optional[str] = None, workers: Any = None,
+          program: Optional[str] = None, timeout: Optional[float] = None) -> bool:
     """Has every settled node of a stored paving recomputed. True where it is honest; Disagree where a node differs. Settings
     that aren't given are those that were kept beside the file."""
-    given = dict(eps=eps, depth=depth, bisect=bisect, contract=contract, limit=limit, form=form)
+    given = dict(eps=eps, depth=depth, bisect=bisect, contract=contract, limit=limit, form=form, workers=workers)
     settings = beside.with_kept([paving], given)
     if form is None and settings.get("form") == "centered":
         return honest("audit-centered", system, paving, {**settings, "form": None}, program, timeout)
@@ -329,10 +326,10 @@ def audit(system: PathName, paving: PathName, *, eps: Any = None, depth: Any = N
 
 
 def audit_centered(system: PathName, paving: PathName, *, eps: Any = None, depth: Any = None, bisect: Optional[str] = None,
-                   contract: Optional[str] = None, limit: Any = None, program: Optional[str] = None,
+                   contract: Optional[str] = None, limit: Any = None, workers: Any = None, program: Optional[str] = None,
                    timeout: Optional[float] = None) -> bool:
     """The same for a stored paving of run_centered."""
-    given = dict(eps=eps, depth=depth, bisect=bisect, contract=contract, limit=limit)
+    given = dict(eps=eps, depth=depth, bisect=bisect, contract=contract, limit=limit, workers=workers)
     return honest("audit-centered", system, paving, {**beside.with_kept([paving], given), "form": None}, program, timeout)
 
 

@@ -65,7 +65,7 @@ What is asked of a paving once it is there, or of a call that was refused. `..` 
 
 ### What is undecided
 
-> Where is what is undecided, and by which constraints, so that I know what to widen, cut or scale?  
+> Where is what is undecided, and by which constraints, so that I know what to widen, cut or scale?
 
 ```
 $ python3 -m paver summary examples/ring.mbx
@@ -78,7 +78,7 @@ undecided, looking at all 172 small and open boxes:
 
 ### Scales
 
-> My variables have units of very different size: which scale would serve?  
+> My variables have units of very different size: which scale would serve?
 
 `pump.mbx` has `Variables speed in [0,4], flow in [0,40000]; Constraints speed^2 + flow <= 20000; end`.
 
@@ -90,7 +90,7 @@ speed is 4 wide, 4 orders less than most: take speed in [0, 40000] and write spe
 
 ### Points, volumes and the hull
 
-> In which part of the answer does a point lie, how great is it, and where does what is kept end?  
+> In which part of the answer does a point lie, how great is it, and where does what is kept end?
 
 ```pycon
 >>> import math, paver
@@ -106,7 +106,7 @@ True
 
 ### An answer to another question
 
-> Is this file an answer to my system, with these settings? And what does a slice say where nothing was searched?  
+> Is this file an answer to my system, with these settings? And what does a slice say where nothing was searched?
 
 ```
 $ paver run examples/ring.mbx --eps 0.25 --out ring.paving
@@ -121,7 +121,7 @@ paver: kd = 50 lies outside the search box, whose ends are -2 and 4: of what is 
 
 ### A refusal
 
-> Why is my text refused, or my call, and how is it written?  
+> Why is my text refused, or my call, and how is it written?
 
 `between.mbx` has `Variables x in [0,4], y in [0,4]; Constraints 1 <= x + y <= 3; end`.
 

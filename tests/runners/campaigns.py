@@ -45,7 +45,8 @@ FOREIGN = {  # databases that no campaign made
     "head alone": HEAD,
     "node alone": NODE + "INSERT INTO node VALUES ('', 'X');",
     "loose": "CREATE TABLE node (path TEXT, line TEXT); INSERT INTO node VALUES ('', 'X');",
-    "third column": HEAD + "CREATE TABLE users (a); CREATE TABLE node (path TEXT PRIMARY KEY NOT NULL, line TEXT NOT NULL, n INT);",
+    "third column": HEAD + "CREATE TABLE users (a); "
+                    "CREATE TABLE node (path TEXT PRIMARY KEY NOT NULL, line TEXT NOT NULL, n INT);",
     "endless head": f"CREATE VIEW head AS {ENDLESS} 1 AS id, x'00' AS identity FROM c WHERE n<0; {NODE}",
     "endless node": f"{HEAD} CREATE VIEW node AS {ENDLESS} '' AS path, 'X' AS line FROM c WHERE n<0;",
     "cross join": f"{HEAD} CREATE VIEW node AS {ENDLESS} '' AS path, 'X' AS line FROM c, c AS d, c AS e;",

@@ -73,7 +73,7 @@ def stage(source, full):
     """The rows of some stage of the full tree."""
     kept, chance = set(), source.choice([0.3, 0.7, 0.9, 1])
     for path, line in full:
-        if (not path or path[:-1] in {p for p, l in kept if l[0] == "C"}) and source.random() < chance:
+        if (not path or path[:-1] in {cut for cut, said in kept if said[0] == "C"}) and source.random() < chance:
             kept.add((path, line))
     return sorted(kept)
 

@@ -13,6 +13,7 @@ import random
 import sys
 from fractions import Fraction
 
+from paver import commands
 from tests.data.cases import USAGE, system
 from tests.reference import least, minibex
 from tests.reference.commands import answer
@@ -70,22 +71,10 @@ class Programs:
             yield text if self.source.random() < 0.2 else self.broken(text)
 
 
-SETTINGS = ["eps", "depth", "bisect", "contract"]
-KEPT = [*SETTINGS, "form", "limit"]
-RUN = [*KEPT, "workers", "boxes", "order", "out"]
 # The least and the most paving files of a command, the options that it wants, and those that it may have.
-COMMANDS = {
-    "check": ((0, 0), [], []),
-    "run": ((0, 0), [], RUN),
-    "run-centered": ((0, 0), [], [name for name in RUN if name != "form"]),
-    "resume": ((1, 8), [], [*RUN, "share"]),
-    "merge": ((1, 8), [], [*KEPT, "out"]),
-    "audit": ((1, 1), [], [*KEPT, "workers"]),
-    "audit-centered": ((1, 1), [], [*SETTINGS, "limit", "workers"]),
-    "svg": ((1, 1), ["x", "y"], KEPT),
-    "least": ((0, 0), ["of"], [*SETTINGS, "boxes", "limit"]),
-    "campaign": ((0, 0), ["keep"], [*KEPT, "workers", "boxes", "order", "rounds"]),
-}
+PAVINGS = {"SYSTEM": (0, 0), "SYSTEM PAVING": (1, 1), "SYSTEM PAVING..": (1, 8)}
+COMMANDS = {name: (PAVINGS[told.files], [*told.needs], [option for option in told.options if option not in (*told.needs, "at")])
+            for name, told in commands.COMMANDS.items() if told.files}
 
 
 class Words:
@@ -265,7 +254,8 @@ class FuzzWords(FolderTest):
         command, work, more, places = source.choice([
             ("run", lambda: said.run(boxes, None, order), [*budget, f"--order={order}"], []),
             ("resume", lambda: said.resume(named, boxes, None, order), [*budget, f"--order={order}"], [paving]),
-            ("resume", lambda: said.resume(named, boxes, None, share=(number, of)), [*budget, f"--share={number}/{of}"], [paving]),
+            ("resume", lambda: said.resume(named, boxes, None, share=(number, of)), [*budget, f"--share={number}/{of}"],
+             [paving]),
             ("merge", lambda: said.merge(named, None), [], [paving]),
             ("audit", lambda: said.audit(*named[0]), [], [paving])])
         self.is_as(answer(work)[:3], [command, *source.sample(words + more, len(words + more)), "s", *places])

@@ -1,4 +1,4 @@
-"""Checks of what lies around the program: README's commands, links of documents, the man page, completions, installing,
+"""Checks of what lies around the program: links of documents, the man page, completions, installing,
 and the package for pip."""
 from __future__ import annotations
 
@@ -12,21 +12,14 @@ import sys
 import tempfile
 import time
 from pathlib import Path
+from typing import Iterator
 
 import paver
-from tests.runners.package_test import COMMANDS, PackageTest
+from paver.options import COMMANDS
+from tests.runners.package_test import PackageTest
 from tests.runners.running import TOP, main
 
-SETTINGS = ["eps", "depth", "bisect", "contract"]
-CENTERED_OPTIONS = [*SETTINGS, "boxes", "limit", "workers", "order", "out"]
-RUN_OPTIONS = [*CENTERED_OPTIONS, "form"]
-JOIN_OPTIONS = [*SETTINGS, "form", "limit"]
-AUDIT_OPTIONS = [*JOIN_OPTIONS, "workers"]
-SVG_OPTIONS = [*JOIN_OPTIONS, "x", "y", "at"]
-SAMPLE_OPTIONS = ["seed", "count"]
-LEAST_OPTIONS = [*SETTINGS, "boxes", "limit", "of"]
-CAMPAIGN_OPTIONS = [*AUDIT_OPTIONS, "boxes", "order", "keep", "rounds"]
-OPTIONS = [*RUN_OPTIONS, "share", "x", "y", "at", *SAMPLE_OPTIONS, "of", "keep", "rounds"]
+OPTIONS = {command: sorted(f"--{name}" for name in names) for command, names in COMMANDS.items()}
 STATUSES = [str(status) for status in range(12)]
 LINES = ["usage: paver COMMAND SYSTEM [OPTIONS] [PAVING..]", "contract: refused at byte B", "objective: byte B: CAUSE",
          "system: line L column C byte B: CAUSE", "paving NAME: too long", "paving NAME: wrong identity",
@@ -62,7 +55,7 @@ def zsh_makes_of(typed):
     return line
 
 
-def commands_of(text):
+def commands_of(text: str) -> Iterator[tuple[str, list[str], list[str]]]:
     """Of each command that a document shows behind `$` its words, the status in its comment, and the lines shown below it."""
     for block in re.findall(r"^```\n(.*?)^```", text, re.M | re.S):
         found = []
@@ -102,8 +95,8 @@ class Around(PackageTest):
         text = (TOP / "docs" / "paver.1").read_text().replace("\\-", "-")
         for command in COMMANDS:
             self.assertTrue(re.search(rf'^\.BI {command} "', text, re.M), command)
-        for option in OPTIONS:
-            self.assertTrue(re.search(rf'^\.BI? ?R? ?--{option} "', text.replace(".BR", ".B"), re.M), option)
+        for option in sum(OPTIONS.values(), []):
+            self.assertTrue(re.search(rf'^\.BI? ?R? ?{option} "', text.replace(".BR", ".B"), re.M), option)
         status = text[text.index(".SH EXIT STATUS"):text.index(".SH LIMITS")]
         self.assertEqual(re.findall(r"^\.TP\n\.B (\d+)$", status, re.M), STATUSES)
         for line in LINES:
@@ -117,21 +110,11 @@ class Around(PackageTest):
         self.assertEqual(done.stderr, b"", done.stderr)
 
     def test_completions(self) -> None:
-        self.assertEqual(completed("paver", ""), COMMANDS)
+        self.assertEqual(completed("paver", ""), [*COMMANDS])
         self.assertEqual(completed("paver", "re"), ["resume"])
-        self.assertEqual(sorted(completed("paver", "run", "--")), sorted(f"--{name}" for name in RUN_OPTIONS))
-        self.assertEqual(sorted(completed("paver", "run-centered", "--")),
-                         sorted(f"--{name}" for name in CENTERED_OPTIONS))
-        self.assertEqual(sorted(completed("paver", "resume", "--")), sorted([*completed("paver", "run", "--"), "--share"]))
-        self.assertEqual(sorted(completed("paver", "audit-centered", "--")),
-                         sorted(f"--{name}" for name in [*SETTINGS, "limit", "workers"]))
-        self.assertEqual(sorted(completed("paver", "merge", "--")),
-                         sorted(f"--{name}" for name in [*JOIN_OPTIONS, "out"]))
-        self.assertEqual(sorted(completed("paver", "svg", "--")), sorted(f"--{name}" for name in SVG_OPTIONS))
-        self.assertEqual(sorted(completed("paver", "sample", "--")), sorted(f"--{name}" for name in SAMPLE_OPTIONS))
-        self.assertEqual(sorted(completed("paver", "least", "--")), sorted(f"--{name}" for name in LEAST_OPTIONS))
-        self.assertEqual(sorted(completed("paver", "campaign", "--")), sorted(f"--{name}" for name in CAMPAIGN_OPTIONS))
-        self.assertEqual(sorted(completed("paver", "audit", "--")), sorted(f"--{name}" for name in AUDIT_OPTIONS))
+        for command, wanted in OPTIONS.items():
+            with self.subTest(command):
+                self.assertEqual(sorted(completed("paver", command, "--")), wanted)
         self.assertEqual(completed("paver", "run", "s", "--form", ""), ["plain", "centered"])
         self.assertNotIn("--boxes", completed("paver", "merge", "s", "--"))
         self.assertEqual(completed("paver", "run", "s", "--bisect", ""), ["largest", "round"])
@@ -143,9 +126,9 @@ class Around(PackageTest):
         """Each command and each option stands in the files for zsh and for fish, and nothing else does."""
         zsh, fish = ((TOP / "completions" / file).read_text() for file in ("_paver", "paver.fish"))
         self.assertTrue(set(re.findall(r"'--([a-z]+)=\[", zsh)) == set(re.findall(r"^complete .* -l ([a-z]+) ", fish,
-                                                                                  re.M)) == set(OPTIONS))
+                                                                                  re.M)) == set(sum(COMMANDS.values(), ())))
         self.assertEqual(set(re.findall(r" -a ([a-z-]+) -d", fish)), set(COMMANDS))
-        self.assertEqual(re.findall(r"'([a-z-]+):", zsh[zsh.index("commands=("):zsh.index("_describe")]), COMMANDS)
+        self.assertEqual(re.findall(r"'([a-z-]+):", zsh[zsh.index("commands=("):zsh.index("_describe")]), [*COMMANDS])
         cases = re.findall(r"^  ([a-z|-]+)\) _arguments", zsh, re.M)
         self.assertEqual(sorted("|".join(cases).split("|")), sorted(COMMANDS))
 
@@ -159,13 +142,9 @@ class Around(PackageTest):
     def test_fish(self) -> None:
         self.needs_tool("fish")
         self.assertEqual(sorted(self.fish_offers("paver ")), sorted(COMMANDS))
-        self.assertEqual(sorted(self.fish_offers("paver run s --")), sorted(f"--{name}" for name in RUN_OPTIONS))
-        self.assertEqual(sorted(self.fish_offers("paver run-centered s --")), sorted(f"--{name}" for name in CENTERED_OPTIONS))
-        self.assertEqual(sorted(self.fish_offers("paver svg s --")), sorted(f"--{name}" for name in SVG_OPTIONS))
-        self.assertEqual(sorted(self.fish_offers("paver least s --")), sorted(f"--{name}" for name in LEAST_OPTIONS))
-        self.assertEqual(sorted(self.fish_offers("paver audit s --")), sorted(f"--{name}" for name in AUDIT_OPTIONS))
-        self.assertEqual(sorted(self.fish_offers("paver sample --")), sorted(f"--{name}" for name in SAMPLE_OPTIONS))
-        self.assertEqual(sorted(self.fish_offers("paver campaign s --")), sorted(f"--{name}" for name in CAMPAIGN_OPTIONS))
+        for command, wanted in OPTIONS.items():
+            with self.subTest(command):
+                self.assertEqual(sorted(self.fish_offers(f"paver {command} s --")), wanted)
         self.assertEqual(self.fish_offers("paver run s --bisect r"), ["round"])
 
     def test_zsh(self) -> None:
@@ -256,21 +235,6 @@ class Around(PackageTest):
                            env={**os.environ, "PATH": f"{folder}:{os.environ['PATH']}"}, capture_output=True, check=False)
             self.assertIn("below/bad.mbx', 3, 6, 'this can''t stand here (Unexpected). Equality is written `=`",
                           result.read_text(), result.read_text())
-
-    def test_readme(self) -> None:
-        """README's commands end with the statuses that it tells, and print the lines that it shows."""
-        shown = [command for command in commands_of((TOP / "README.md").read_text()) if command[0].startswith("./paver ")]
-        self.assertGreater(len(shown), 10, shown)
-        with tempfile.TemporaryDirectory() as folder:
-            for name, to in (("paver", Path(os.environ["PAVER"])), ("examples", TOP / "examples")):
-                (Path(folder) / name).symlink_to(to)
-            for words, status, lines in shown:
-                if lines[:1] == ["^C"]:
-                    continue
-                done = subprocess.run(["bash", "-c", words], cwd=folder, capture_output=True, text=True, timeout=300,
-                                      check=False)
-                self.assertIn(status, ([], [str(done.returncode)]), (words, done.returncode))
-                self.assertTrue(not lines or done.stdout.splitlines() == lines, (words, done.stdout[:500]))
 
     def test_links(self) -> None:
         """Each link of a document goes to a file or a folder, and to a heading where it names one."""

@@ -15,10 +15,11 @@ from typing import Any
 import paver
 from paver import kept as keeping, numbers, program
 from paver.advice import budget_warning
+from paver.options import COMMANDS
 from paver.tree import Table
 from tests.data.examples import EXAMPLES
 from tests.reference import numbers as plain
-from tests.runners.package_test import COMMANDS, PackageTest, example, options_of
+from tests.runners.package_test import PackageTest, example, options_of
 from tests.runners.running import main, rows
 
 EXAMPLE_FOLDER = Path(__file__).resolve().parents[2] / "examples"

@@ -159,7 +159,7 @@ class Misuse(PackageTest):
             self.assertTrue(paver.draw(ring, second, "x", "y").startswith("<svg "))
             self.assertEqual(sum(paver.Paving.read(second, system=ring).volumes().values()), 36)
             self.assert_raised(paver.PavingRefused, lambda: paver.audit(ring, second, eps=1), cause="wrong identity")
-            status, stdout, err = command("summary", ring, out)
+            status, _, err = command("summary", ring, out)
             self.assertEqual(status, 0, "open leaves are told")
             self.assertIn("the paving is not whole", err, "open leaves are told")
             self.assertIn("paver resume", err, "open leaves are told")

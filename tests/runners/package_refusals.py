@@ -181,12 +181,10 @@ class Refusals(PackageTest):
 
     def test_table_of_options(self) -> None:
         """The package's table of options is the program's: each is taken where the table has it, and refused elsewhere."""
-        values = {"eps": "1", "depth": "1", "bisect": "round", "contract": "prop(1)", "boxes": "1", "workers": "1",
-                  "out": "none", "x": "x", "y": "y", "at": "1", "seed": "1", "count": "1", "of": "x", "keep": "none",
-                  "rounds": "1", "limit": "100000", "form": "centered"}
+        values = options.EXAMPLES
         for name, known in options.COMMANDS.items():
-            files = ["/no such system", "none"][:len(options.FILES.get(name, "SYSTEM").split())]
-            needed = {option: values[option] for option in options.REQUIRED.get(name, ())}
+            files = ["/no such system", "none"][:len(options.FILES[name].split())]
+            needed = {option: values[option] for option in options.REQUIRED[name]}
             for option in values:
                 words = [name, *(f"--{key}={value}" for key, value in {**needed, option: values[option]}.items())]
                 if name == "sample" and option in known:

@@ -114,8 +114,8 @@ class Joined(Shared):
             yield tuple(Fraction(draws.randrange(-400, 400), 100) for _ in box)
 
     def test_random_stages(self) -> None:
-        """Counts, boxes, hull, classes of points and CSV are those of the join by the reference, in whatever order, as often and
-        in whichever version the stages come; volumes too, which are the sum over the reference's boxes."""
+        """Counts, boxes, hull, classes of points and CSV are those of the join by the reference, in whatever order, as often
+        and in whichever version the stages come; volumes too, which are the sum over the reference's boxes."""
         count, seed = made_cases(5)
         for case, (text, settings, first) in itertools.product(range(count), SYSTEMS):
             draws = random.Random(f"{seed} {case} {text}")

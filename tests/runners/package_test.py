@@ -13,8 +13,6 @@ from paver import __main__ as commands
 from paver import program
 from tests.runners.running import TOP
 
-COMMANDS = ["check", "run", "resume", "merge", "audit", "svg", "sample", "run-centered", "audit-centered", "least", "campaign"]
-
 
 def example(name: str) -> Path:
     return TOP / "examples" / f"{name}.mbx"

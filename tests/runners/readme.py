@@ -2,13 +2,14 @@
 
     python3 -m tests.runners.readme [-k WORD]
 
-Commands behind `$` end with the status that their comment tells, 0 or 1 where it
-tells none, and print the lines below them.
+Commands behind `$` end with the status that their comment tells, 0 where it tells none, and print the lines below them. Those
+that stand in its sentences are listed in IN_TEXT.
 """
 from __future__ import annotations
 
 import os
 import re
+import shutil
 import subprocess
 import tempfile
 from pathlib import Path
@@ -21,19 +22,16 @@ MOST_LINES = 200
 ROW = re.compile(r"^\| (?:`(\w+)`, \d variables)? ?\| ([0-9.]+) \| ([0-9,]+) \| [0-9.]+ \| \d+ \| ([0-9.]+) \|$", re.M)
 
 
-def commands() -> list[tuple[str, list[str], list[str]]]:
-    """Of each command behind `$`: its words, the status that it tells, and the lines below it."""
-    found: list[tuple[str, list[str], list[str]]] = []
-    for block in re.findall(r"^```\n(.*?)^```", TEXT, re.M | re.S):
-        shown = False
-        for line in block.splitlines():
-            if line.startswith("$ "):
-                words, _, comment = line[2:].partition("   #")
-                found.append((words.strip(), re.findall(r"status (\d+)", comment), []))
-                shown = True
-            elif shown:
-                found[-1][2].append(line)
-    return found
+# The commands that stand in README's sentences, and what runs them.
+IN_TEXT = {
+    "make try": "first_look.py", "make install PREFIX=/usr/local": "package_around.py", "make dist": "tables.py",
+    "rt version": "test_kit", "./paver run examples/ring.mbx | head -n 1": "test_head",
+    "./paver sample --seed 1 --count 2": "test_sample", "python3 -m paver view examples/ring.mbx > ring.html": "test_view",
+    "python3 -m paver export torus.db > FILE": "test_export", "python3 -m paver sweep SYSTEM --folder F": "test_sweep",
+    "resume SYSTEM first --share K/N --out partK": "test_shares", "python3 -m paver plot": "test_plot",
+    "python3 -m paver least --levels": "test_least", "--of='-(kd)'": "test_least",
+}
+TORUS = "examples/torus.mbx --eps 0.25"
 
 
 class Readme(FolderTest):
@@ -59,38 +57,78 @@ class Readme(FolderTest):
         return subprocess.run(["bash", "-c", f"{set_up.group()}\n{words}"], cwd=self.path, capture_output=True, text=True,
                               timeout=300, env={**os.environ, "PYTHONDONTWRITEBYTECODE": "1"}, check=False)
 
+    def ends_well(self, words: str) -> str:
+        """What a command prints that has to end with status 0."""
+        done = self.shell(words)
+        self.assertEqual(done.returncode, 0, (words, done.stderr[:500]))
+        return done.stdout
+
     def test_commands(self) -> None:
         """Each command and its output."""
-        for words, told, lines in commands():
+        shown = list(package_around.commands_of(TEXT))
+        self.assertGreater(len(shown), 14)
+        for words, told, lines in shown:
             done = self.shell(words)
-            wanted = [int(status) for status in told] or [0, 1]
-            good = done.returncode in wanted and (not lines or done.stdout.splitlines() == lines)
             with self.subTest(words):
-                self.assertTrue(good, (done.returncode, done.stdout[:500], done.stderr[:500]))
+                self.assertEqual((done.returncode, done.stdout.splitlines()), (int(*told or ["0"]), lines), done.stderr[:500])
 
-    def test_commands_in_text(self) -> None:
-        """The commands that stand between the lines, too: the sample's digest, and the page for a browser."""
+    def test_all_are_run(self) -> None:
+        """A command in a sentence is one that is run, here or by the runner that IN_TEXT names."""
+        sentences = re.sub(r"^```.*?^```", "", TEXT, flags=re.M | re.S)
+        found = re.findall(r"`((?:\./paver|python3 -m paver|make|rt|resume SYSTEM) [^`]+|--of=[^`]+)`", sentences)
+        self.assertEqual(set(found) - {"resume SYSTEM PAVING.."}, set(IN_TEXT))
+        targets = set(re.findall(r"(?:^|`)make (\w+)", TEXT, re.M))
+        done = subprocess.run(["make", "-C", str(TOP), "-n", *sorted(targets)], capture_output=True, text=True, check=False)
+        self.assertEqual((targets, done.returncode), ({"demo", "test", "try", "install", "dist"}, 0), done.stderr[:500])
+
+    def test_kit(self) -> None:
+        """The kit that is here is one of those that are named, with that logic."""
+        if not shutil.which("rt"):
+            self.skipTest("there is no rt here")
+        said = subprocess.run(["rt", "version"], capture_output=True, text=True, check=True).stdout
+        kits, logic = re.findall(r"`(rattle-kit-\w+)`", TEXT), re.search(r"logic `([0-9a-f]{16})`", TEXT)
+        self.assertTrue(any(kit in said.split() for kit in kits) and logic.group(1) in said, said)
+
+    def test_sample(self) -> None:
         digest = re.search(r"`\./paver sample --seed 1 --count 2` ends with `(file [0-9a-f]{64})`", TEXT)
-        assert digest is not None
-        last = self.shell("./paver sample --seed 1 --count 2").stdout.splitlines()[-1]
-        with self.subTest("sample"):
-            self.assertEqual(last, digest.group(1))
-        page = re.search(r"`(python3 -m paver view [^`]*)`", TEXT)
-        assert page is not None
-        done = self.shell(page.group(1))
-        with self.subTest("view"):
-            self.assertTrue(done.returncode == 0 and (self.path / "ring.html").read_text()[:15].lower() == "<!doctype html>",
-                            done.stderr[:500])
-        export = re.search(r"`python3 -m paver export torus.db > FILE`", TEXT)
-        assert export is not None
-        done = self.shell("python3 -m paver export torus.db > back && ./paver audit examples/torus.mbx back --eps 0.25")
-        with self.subTest("export"):
-            self.assertEqual(done.stdout, "honest\n", done.stderr[:500])
-        targets = re.findall(r"(?:^|`)make (\w+)", TEXT, re.M)
-        done = subprocess.run(["make", "-C", str(TOP), "-n", *sorted(set(targets))], capture_output=True, text=True,
-                              check=False)
-        with self.subTest("make"):
-            self.assertTrue(len(set(targets)) >= 4 and done.returncode == 0, done.stderr[:500])
+        self.assertEqual(self.ends_well("./paver sample --seed 1 --count 2").splitlines()[-1], digest.group(1))
+
+    def test_view(self) -> None:
+        self.ends_well("python3 -m paver view examples/ring.mbx > ring.html")
+        self.assertEqual((self.path / "ring.html").read_text()[:15].lower(), "<!doctype html>")
+
+    def test_plot(self) -> None:
+        self.ends_well("python3 -m paver plot examples/ring.mbx --picture ring.svg")
+        self.assertIn("<svg", (self.path / "ring.svg").read_text()[:100])
+
+    def test_export(self) -> None:
+        """A campaign's paving as a stored file, which is one run's."""
+        self.ends_well(f"./paver campaign {TORUS} --keep torus.db --boxes 20000; ./paver run {TORUS} --out alone")
+        self.ends_well("python3 -m paver export torus.db > FILE")
+        self.assertEqual(self.ends_well(f"./paver audit {TORUS} FILE; cmp FILE alone"), "honest\n")
+
+    def test_sweep(self) -> None:
+        """A sweep's join is one run's paving, and the same call again finds it done."""
+        for _ in range(2):
+            self.ends_well("python3 -m paver sweep examples/ring.mbx --folder F")
+        self.ends_well("./paver run examples/ring.mbx --out alone; cmp F/whole.paving alone")
+
+    def test_shares(self) -> None:
+        """The join of a paving's shares is one run's paving, to the byte."""
+        self.shell(f"./paver run {TORUS} --boxes 2000 --workers 1 --out first; ./paver run {TORUS} --out alone")
+        for number in range(3):
+            self.ends_well(f"./paver resume {TORUS} first --share {number}/3 --out part{number}")
+        self.ends_well(f"./paver merge {TORUS} first part1 part0 part2 --out joined_shares; cmp joined_shares alone")
+
+    def test_least(self) -> None:
+        """The greatest value by the least of its opposite, and bounds that are closer by levels."""
+        least = next(words for words, _, _ in package_around.commands_of(TEXT) if " least " in words)
+        said = self.ends_well(least.replace("--of kd", "--of='-(kd)'"))
+        lower, upper = (int(m) * 2.0 ** int(e) for m, e in re.findall(r"^(?:lower|upper) (-?\d+):(-?\d+)$", said, re.M))
+        self.assertTrue(lower <= upper < -1.9957, said)
+        said = self.ends_well("python3 -m paver least examples/least_derivative_gain.mbx --of kd --levels --within 0.001")
+        low, high = (float(text) for text in re.findall(r"^(?:lower|upper) +([0-9.]+)", said, re.M))
+        self.assertTrue(1.9957 <= low <= high <= low + 0.001 and high <= 2.0198, said)
 
     def test_head(self) -> None:
         """A reader that leaves early: 6, or 0 where the pipe had taken all."""

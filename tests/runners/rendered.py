@@ -90,7 +90,8 @@ class Plane:
         places = [names.index(name) for name in axes]
         numbers = {names.index(name): Fraction(text) for name, text in at.items()}
         root = [tuple(map(Fraction, pair)) for pair in paving.root_exact]
-        (self.left, self.wide), (self.bottom, self.high) = ((low, high - low) for low, high in (root[place] for place in places))
+        (left, right), (bottom, top) = (root[place] for place in places)
+        self.left, self.wide, self.bottom, self.high = left, right - left, bottom, top - bottom
         self.kept = {kind: [self.in_pixels(*(box[place] for place in places)) for box in (found.exact for found in boxes())
                             if all(box[place][0] <= number <= box[place][1] for place, number in numbers.items())]
                      for kind, boxes in (("inner", paving.inner), ("small", paving.small))}
@@ -108,8 +109,8 @@ class Plane:
 
     def fills(self, column, row, around=0):
         """Whether an inner box holds all of a pixel, with some pixels around it."""
-        return any(left <= column - around and column + 1 + around <= right and top <= row - around and row + 1 + around <= bottom
-                   for left, right, top, bottom in self.kept["inner"])
+        return any(left <= column - around and column + 1 + around <= right
+                   and top <= row - around and row + 1 + around <= bottom for left, right, top, bottom in self.kept["inner"])
 
     def is_right(self, column, row, colour):
         """Whether a pixel says nothing but the truth, and as much as it can but at the distance of a pixel."""

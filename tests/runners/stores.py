@@ -15,7 +15,6 @@ import resource
 import shutil
 import signal
 import subprocess
-import time
 
 from tests.runners.outside import RING
 from tests.runners.running import SECONDS, FolderTest, Moments, made_cases, main

@@ -1,25 +1,30 @@
-"""Checks the one table of commands and options, python/paver/options.py, against all that tell or take them: the program,
-README, the manual page, the completions of three shells, and the lists of other tests.
+"""Checks the one table of commands and options, python/paver/commands.py, against all that tell or take them: the program,
+the package's calls, README, the manual page, the completions of three shells, and the lists of other tests.
 
     python3 -m tests.runners.tables [-k WORD]
 
-A command or an option is added in options.py and in its code; then this says which tables still lack it.
+A command or an option is added in commands.py and in its code. `make tables` writes what is made of it, and this says what else
+still lacks it.
 """
 from __future__ import annotations
 
+import inspect
 import re
 import subprocess
 
-from paver import options
+import paver
+import wheel_of_package
+from paver import __main__ as package_commands
+from paver import commands, options
 from paver.version import VERSION
-from tests.runners import package_around, package_test
+from tests.generators import command_tables
+from tests.runners import allocations, campaign_allocations, fuzz_words, outside, package_around
 from tests.runners.running import PROGRAM, TOP, FolderTest, main
 
 TABLE = {command: set(names) for command, names in options.COMMANDS.items()}
 NAMES = sorted({name for names in options.COMMANDS.values() for name in names})
-VALUES = {"eps": "0.5", "contract": "prop(1)", "out": "stored", "x": "a", "y": "b", "at": "0.5", "of": "a", "keep": "kept", "share": "0/1"} | \
-         {name: str(low) for name, (low, _) in options.RANGES.items()} | \
-         {name: first for name, (first, *_) in options.CHOICES.items()}
+VALUES = options.EXAMPLES
+OTHER_NAMES = {"svg": "draw"}  # of the calls of the package
 USAGE = 2
 README = (TOP / "README.md").read_text()
 MANUAL = (TOP / "docs" / "paver.1").read_text().replace("\\-", "-")
@@ -34,17 +39,10 @@ def named(cell: str) -> set[str]:
 def zsh_tables() -> dict[str, set[str]]:
     """The options of each command in the completion for zsh, with what its variables stand for."""
     text = (TOP / "completions" / "_paver").read_text()
-    single = dict(re.findall(r"^local ([a-z]+)='--([a-z]+)=", text, re.M))
-    arrays = {name: re.findall(r"'--([a-z]+)=", body) for name, body in
-              re.findall(r"^(settings|budget|plane)=\((.*?)\n?\)$", text, re.M | re.S)}
-    stand = {name: [value] for name, value in single.items()} | arrays
+    stand = dict(re.findall(r"^local (o_[a-z]+)='--([a-z]+)=\[", text, re.M))
     found: dict[str, set[str]] = {}
-    for commands, words in re.findall(r"^  ([a-z|-]+)\) _arguments (.*) ;;$", text, re.M):
-        for command in commands.split("|"):
-            names = set(re.findall(r"'--([a-z]+)=", words))
-            for variable, place in re.findall(r"\$([a-z]+)(?:\[(\d)\])?", words):
-                names |= set(stand[variable] if not place else [stand[variable][int(place) - 1]])
-            found[command] = names
+    for command, words in re.findall(r"^  ([a-z-]+)\) _arguments (.*) ;;$", text, re.M):
+        found[command] = {stand[variable] for variable in re.findall(r"\$(\w+)", words)}
     return found
 
 
@@ -53,9 +51,9 @@ def fish_tables() -> dict[str, set[str]]:
     text = (TOP / "completions" / "paver.fish").read_text()
     lists = dict(re.findall(r"^set -l (\w+) (.*)$", text, re.M))
     found: dict[str, set[str]] = {command: set() for command in lists["commands"].split()}
-    for commands, name in re.findall(r'^complete -c paver -n "__fish_seen_subcommand_from ([^"]*)".* -l ([a-z]+) ', text, re.M):
-        for command in (lists[commands[1:]] if commands.startswith("$") else commands).split():
-            found[command].add(name)
+    for names, option in re.findall(r'^complete -c paver -n "__fish_seen_subcommand_from ([^"]*)" -l ([a-z]+) ', text, re.M):
+        for command in names.split():
+            found[command].add(option)
     return found
 
 
@@ -70,9 +68,9 @@ class Tables(FolderTest):
 
     def takes(self, command: str, given: dict[str, str], files: int | None = None, more: list[str] | None = None) -> bool:
         """Whether the program takes these words: in a folder without files it then ends otherwise than by the usage line."""
-        wanted = len(options.FILES.get(command, "SYSTEM").split())
+        wanted = len(options.FILES[command].split())
         names = [f"absent{i}" for i in range(wanted if files is None else files)]
-        needed = {name: VALUES[name] for name in options.REQUIRED.get(command, ())}
+        needed = {name: VALUES[name] for name in options.REQUIRED[command]}
         words = [f"--{name}={value}" for name, value in (needed | given).items()]
         done = self.call(command, *names, *words, *(more or []))
         return not (done.returncode == USAGE and done.stderr.startswith(b"usage: "))
@@ -89,9 +87,9 @@ class Tables(FolderTest):
                 twice = self.takes(command, {name: VALUES[name]}, more=[f"--{name}={VALUES[name]}"])
                 with self.subTest(f"{command} --{name} twice"):
                     self.assertFalse(twice)
-            for name in options.REQUIRED.get(command, ()):
+            for name in options.REQUIRED[command]:
                 words = [f"--{other}={VALUES[other]}" for other in options.REQUIRED[command] if other != name]
-                files = ["absent"] * len(options.FILES.get(command, "SYSTEM").split())
+                files = ["absent"] * len(options.FILES[command].split())
                 done = self.call(command, *files, *words)
                 with self.subTest(f"{command} without --{name}"):
                     self.assertEqual(done.returncode, USAGE)
@@ -132,16 +130,18 @@ class Tables(FolderTest):
     def test_defaults(self) -> None:
         """The defaults of the table, given in words, change no byte, and README and the manual page tell them."""
         (self.path / "ring.mbx").write_bytes((TOP / "examples" / "ring.mbx").read_bytes())
-        words = [f"--{name}={value}" for name, value in options.DEFAULTS.items()]
+        told = {name: option.default for name, option in commands.OPTIONS.items() if option.default}
+        words = [f"--{name}={told[name]}" for name in options.COMMANDS["run"] if name in told]
         plain = self.call("run", "ring.mbx").stdout
         with self.subTest("defaults in words"):
             self.assertTrue(plain)
             self.assertEqual(self.call("run", "ring.mbx", *words).stdout, plain)
         (self.path / "ring.mbx").unlink()
-        for name, value in options.DEFAULTS.items():
+        for name, value in told.items():
             row = re.search(rf"^\| `--{name} .*\| `?([^|`]*)`? \|$", README, re.M)
+            given = row and row.group(1).replace(",", "")
             with self.subTest(f"README's default of {name}"):
-                self.assertEqual(row and row.group(1), value)
+                self.assertEqual(given, value if name in options.COMMANDS["run"] else None)
             start = re.search(rf'^\.B[IR] --{name} "', MANUAL, re.M)
             told = re.search(r"default\s+(?:\.BR )?([\w().]*[\w)])", MANUAL[start.start():] if start else "")
             given = told and told.group(1)
@@ -150,11 +150,13 @@ class Tables(FolderTest):
 
     def test_readme(self) -> None:
         """The rows of README's table of commands."""
+        with self.subTest("`make tables` writes nothing new"):
+            self.assertEqual([name for name, text in command_tables.made().items() if (TOP / name).read_text() != text], [])
         rows = re.findall(r"^\| `([a-z-]+)((?: SYSTEM)?(?: PAVING(?:\.\.)?)?)` \| .* \|([^|]*)\|$", README, re.M)
         with self.subTest("commands in README"):
             self.assertEqual(sorted(row[0] for row in rows), sorted(TABLE), [row[0] for row in rows])
         for command, files, cell in rows:
-            wanted = options.FILES.get(command, "SYSTEM")
+            wanted = options.FILES[command]
             with self.subTest(f"README's files of {command}"):
                 self.assertEqual(files.strip(), wanted, files)
             with self.subTest(f"README's options of {command}"):
@@ -173,7 +175,7 @@ class Tables(FolderTest):
             with self.subTest(f"synopsis of {command}"):
                 self.assertEqual(named(part), TABLE.get(command))
             needed = set(re.findall(r"^\.B --([a-z]+)$", part, re.M))
-            wanted = set(options.REQUIRED.get(command, ()))
+            wanted = set(options.REQUIRED[command])
             with self.subTest(f"what {command} needs"):
                 self.assertEqual(needed, wanted)
         body = MANUAL[MANUAL.index(".SS Settings"):]
@@ -199,20 +201,35 @@ class Tables(FolderTest):
                 with self.subTest(f"{shell}: {command}"):
                     self.assertEqual(tables.get(command), names)
 
+    def test_package(self) -> None:
+        """The calls of the package take what their commands do, by the same names, and nothing of its own name besides."""
+        for command, names in TABLE.items():
+            with self.subTest(f"the call of {command}"):
+                call = getattr(paver, OTHER_NAMES.get(command, command.replace("-", "_")))
+                self.assertEqual(set(inspect.signature(call).parameters) & set(NAMES), names)
+        shown = re.findall(r"^\| `([a-z-]+) (?:.*?, `([a-z]+) [A-Z]+`)?.*\|$", (TOP / "python" / "README.md").read_text(), re.M)
+        choices = next(action.choices for action in package_commands.parser()._actions if action.dest == "command")
+        with self.subTest("the commands of the package in its README"):
+            self.assertEqual({name for row in shown for name in row if name}, set(choices or ()))
+        with self.subTest("the call of run on a text"):
+            self.assertEqual(set(inspect.signature(paver.run_text).parameters) & set(NAMES), TABLE["run"])
+
     def test_lists_of_tests(self) -> None:
-        """Lists that other tests keep by hand."""
-        around = {"run": "RUN_OPTIONS", "run-centered": "CENTERED_OPTIONS", "audit": "AUDIT_OPTIONS", "svg": "SVG_OPTIONS",
-                  "sample": "SAMPLE_OPTIONS", "least": "LEAST_OPTIONS", "campaign": "CAMPAIGN_OPTIONS"}
-        for command, name in around.items():
-            with self.subTest(f"package_around.{name}"):
-                self.assertEqual(set(getattr(package_around, name)), TABLE[command])
-        with self.subTest("package_test.COMMANDS"):
-            self.assertEqual(sorted(package_test.COMMANDS), sorted(TABLE), package_test.COMMANDS)
+        """What other tests try: each command has a call, and each option of made words a value."""
+        tried = {"outside": {words[0] for words in outside.PRINTING},
+                 "allocations": {words[0] for _, words, _ in allocations.commands().values()} | {
+                     words[0] for _, words, _ in campaign_allocations.COMMANDS.values()},
+                 "fuzz_words": set(fuzz_words.COMMANDS) | {"sample"}}
+        for place, found in tried.items():
+            with self.subTest(f"the commands of {place}"):
+                self.assertEqual(found | ({"campaign"} if place == "outside" else set()), set(TABLE))
+        with self.subTest("the values of fuzz_words"):
+            self.assertEqual(set(fuzz_words.Words.VALUES) | set(options.COMMANDS["sample"]) | {"at"}, set(NAMES))
 
     def test_version(self) -> None:
         """One version, in python/paver/version.py; what else tells it agrees."""
         told = {"manual": re.search(r'^\.TH PAVER 1 "[0-9-]+" "paver ([0-9.]+)"', MANUAL),
-                "pyproject": re.search(r'^version = "([0-9.]+)"$', (TOP / "python" / "pyproject.toml").read_text(), re.M),
+                "the wheel": re.search(r"^Version: ([0-9.]+)$", wheel_of_package.METADATA, re.M),
                 "CHANGELOG": re.search(r"^## ([0-9.]+) ", (TOP / "CHANGELOG.md").read_text(), re.M)}
         for place, found in told.items():
             given = found and found.group(1)

@@ -373,7 +373,7 @@ class Page(unittest.TestCase):
             self.assertEqual(given, wanted, (words, given, wanted))
 
     def test_way_to_neighbours_and_back(self) -> None:
-        """A kept box lists its neighbours with their ends; pointing at one frames it, a click goes there, and one leads back."""
+        """A kept box lists its neighbours with their ends: pointing frames one, a click goes there, and one leads back."""
         browser = self.open("ring")
         browser.value("paverView.search('1.2, 0.3')")
         self.assertEqual(browser.value("paverView.pinned.found.path"), "11100")
