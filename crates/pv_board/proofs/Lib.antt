@@ -7,6 +7,7 @@ pub mod Boards
 pub mod Takes
 pub mod Settling
 pub mod Piling
+pub mod Preorder
 pub mod Openings
 pub mod Dealing
 pub mod Filling

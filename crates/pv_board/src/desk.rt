@@ -209,6 +209,11 @@ impl<N: Naming> Desk<N> {
         ensures same { IfNone result ((into.new ≡ into.old) × (ticket.new ≡ ticket.old)) }
         ensures nothing { IfNone result (self.new ≡ self.old) }
         ensures runs { IfSome result (λ _. self.old.stopped ≡ false) }
+        ensures extended { IfSome result (λ _. IsTrue (is_current self.old ticket.old) →
+            IsExtend self.old self.new ticket.old ticket.new
+            (min want (may_issue self.old))) }
+        ensures stale { IfSome result (λ _. is_current self.old ticket.old ≡ false →
+            (self.new ≡ self.old) × (ticket.new ≡ ticket.old)) }
         ensures places { length into.new ≡ length into.old }
     {
         if self.board.is_stopped() {

@@ -9,7 +9,7 @@ ghost use Rattle.pv_board.specs.Leaves.{marks_of, HasRoom, AreOpen, AreOffered, 
 
 use crate::mark::Mark;
 use crate::marks::Marks;
-use crate::pile::pile;
+use crate::pile::pile_all;
 use crate::ticket::Ticket;
 use pv_num::Memory;
 use pv_tree::{NodeLimit, Path, Paving};
@@ -47,7 +47,7 @@ impl Leaves {
         let most = paving.counts().settled() + left;
         let marks = Marks::new(alloc, left as usize)?;
         let mut free = Vec::with_capacity(alloc, most as usize + 1)?;
-        pile(paving, Path::root(), Path::root(), &mut free);
+        pile_all(paving, &mut free);
         Ok(Leaves {
             marks,
             free,
@@ -84,7 +84,7 @@ impl Leaves {
         self.left += self.marks.len() + self.marks.granted();
         self.marks.clear();
         self.free.clear();
-        pile(paving, Path::root(), Path::root(), &mut self.free);
+        pile_all(paving, &mut self.free);
     }
 
     /// Whether a path may be issued.

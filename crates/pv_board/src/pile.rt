@@ -1,10 +1,27 @@
 //! Piling up the open leaves of a paving.
-ghost use Rattle.std.specs.Prelude.{◌≡◌, ◌+◌, ◌≤◌, ◌++◌, ◌↔◌, IsTrue, Some, length, vec_len, vec_capacity};
+ghost use Rattle.std.specs.Prelude.{◌≡◌, ◌+◌, ◌<◌, ◌≤◌, ◌++◌, ◌↔◌, [], IsTrue, Some, length, vec_len, vec_capacity};
 ghost use Rattle.pv_tree.specs.Trees.{Tree, subtree};
 ghost use Rattle.pv_tree.specs.declared.outcome.Shape.TheVariants.{OpenLeaf};
+ghost use Rattle.pv_board.specs.Rules.{settled_in};
 ghost use Rattle.pv_board.specs.Piles.{piled, CanPile, is_cut_shape};
 
 use pv_tree::{Path, Paving, Shape};
+
+/// Piles up all open leaves of a paving, the last in preorder first. What is closed is passed over,
+/// so it takes time for the open leaves and not for all nodes.
+pub(crate) fn pile_all(paving: &Paving, free: &mut Vec<Path>)
+    requires none { free.old.items ≡ [] }
+    requires room { settled_in paving.now.tree < vec_capacity free.old }
+    ensures piled { free.new.items ≡ piled [] paving.now.tree }
+    ensures room { vec_capacity free.new ≡ vec_capacity free.old }
+{
+    let mut next = paving.first_open();
+    while let Some(path) = next {
+        free.push_reserved(path);
+        next = paving.next_open(path);
+    }
+    free.reverse();
+}
 
 /// Appends the open leaves at and below a path, the last in preorder first, as if its node stood at
 /// another path.

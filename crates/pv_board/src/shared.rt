@@ -21,13 +21,19 @@ use std::sync::atomic::{AtomicU64, Ordering};
 use std::sync::ledger::Blank;
 use std::sync::{Condvar, Mutex, Wait};
 
-/// A board that several callers settle. Each call but `idle` takes the lock, makes the board's call
-/// of its name, and lets go.
+/// A board that several callers settle. Each call but `idle` and those of hunger takes the lock,
+/// makes the board's call of its name, and lets go.
+///
+/// A caller that has nothing to do becomes hungry, looks once more wherever there may be something
+/// to do, and only then waits; and who begins something tells those who are hungry. Hunger is
+/// raised and asked for at one place in memory, where all that is done has an order. So either
+/// the one who tells comes later and sees the hunger, or the one who looks once more sees all that
+/// was there when the other told.
 #[derive(Drop)]
 pub struct Shared<N: Naming> {
     desk: Mutex<Desk<N>>,
     changed: Condvar,
-    // How many callers are idle.
+    // How many callers have nothing to do.
     hungry: AtomicU64,
 }
 
@@ -186,27 +192,33 @@ impl<N: Naming> Shared<N> {
         self.changed.notify_all();
     }
 
+    /// Counts the caller among those who have nothing to do.
+    pub fn hunger(&self) {
+        self.hungry.fetch_add(1, Ordering::SeqCst);
+    }
+
+    /// Ends the caller's hunger.
+    pub fn feed(&self) {
+        self.hungry.fetch_sub(1, Ordering::SeqCst);
+    }
+
     /// Whether another caller has nothing to do, as it seems at the moment.
     pub fn is_hungry(&self) -> bool {
         self.hungry.load(Ordering::SeqCst) != 0
     }
 
-    /// Waits until there is a leaf to settle, all is done, or the board's number differs from
-    /// `seen`. It may wait for another thread, and is hungry meanwhile.
-    pub fn idle<R: Wait>(&self, rt: &R, seen: u64, told: &mut Told<N>) -> Look
-        requires { IsLow told.old }
-        ensures told { told.new ≡ told_of told.old result }
-        ensures rises { result ≡ Done → told.new.ended ≡ told.old.ended + 1 }
-        ensures news { result ≢ Same }
-    {
-        self.hungry.fetch_add(1, Ordering::SeqCst);
-        let look = self.await_news(rt, seen, told);
-        self.hungry.fetch_sub(1, Ordering::SeqCst);
-        look
+    /// Announces where a caller has nothing to do. It takes no lock else.
+    pub fn tell<R: Wait>(&self, rt: &R) {
+        // Adding nothing counts as a change of the place, so this has an order among all hungers,
+        // which a load has not.
+        if self.hungry.fetch_add(0, Ordering::SeqCst) != 0 {
+            self.announce(rt);
+        }
     }
 
-    // Waits as `idle` does.
-    fn await_news<R: Wait>(&self, rt: &R, seen: u64, told: &mut Told<N>) -> Look
+    /// Waits until there is a leaf to settle, all is done, or the board's number differs from
+    /// `seen`. It may wait for another thread.
+    pub fn idle<R: Wait>(&self, rt: &R, seen: u64, told: &mut Told<N>) -> Look
         requires { IsLow told.old }
         ensures told { told.new ≡ told_of told.old result }
         ensures rises { result ≡ Done → told.new.ended ≡ told.old.ended + 1 }

@@ -10,11 +10,12 @@ use pv_tree::KnowingSettler;
 use std::alloc::Global;
 use std::marker::Model;
 
-/// What a worker keeps: its counts, and what it settles with.
+/// What a worker keeps: its counts, what it settles with, and whether it has nothing to do.
 #[derive(Drop)]
 pub(crate) struct Account<N: Naming, S: KnowingSettler> {
     pub(crate) told: Told<N>,
     pub(crate) kit: Kit<S>,
+    pub(crate) is_hungry: bool,
 }
 
 impl<N: Naming, S: KnowingSettler> Model for Account<N, S> {
@@ -37,14 +38,22 @@ impl<N: Naming, S: KnowingSettler> Account<N, S> {
         requires none { kit.tickets ≡ [] }
         ensures { result ≡ told }
     {
-        Account { told, kit }
+        Account {
+            told,
+            kit,
+            is_hungry: false,
+        }
     }
 
     // Its counts.
     fn into_told(self) -> Told<N>
         ensures { result ≡ self }
     {
-        let Account { told, kit: _ } = self;
+        let Account {
+            told,
+            kit: _,
+            is_hungry: _,
+        } = self;
         told
     }
 }

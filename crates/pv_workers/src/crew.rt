@@ -60,6 +60,7 @@ where
         account: &mut Account<N, S>,
         children: &mut Batch<Task<'a, N, S>>,
     ) {
+        self.begin(rt, account);
         let mut parts = task.into_parts();
         let told = &mut account.told;
         let kit = &mut account.kit;
@@ -83,9 +84,8 @@ where
         self.shared.give_back(rt, parts.ticket, &mut account.told);
     }
 
-    fn announce<R: Wait>(&self, rt: &R) {
-        self.shared.announce(rt);
-    }
+    // Who begins the next job tells the others.
+    fn announce<R: Wait>(&self, _rt: &R) {}
 
     fn idle<R: Wait>(
         &self,
@@ -93,9 +93,10 @@ where
         seen: u64,
         account: &mut Account<N, S>,
     ) -> Idle<Task<'a, N, S>> {
+        let seen = self.hungry_since(seen, account);
         match self.shared.idle(rt, seen, &mut account.told) {
             Look::Work(ticket) => Idle::Job(Task::of(ticket, self.ruled)),
-            Look::Done => Idle::Done,
+            Look::Done => self.all_done(rt),
             Look::Changed(steps) => Idle::Look(steps),
             Look::Same => unreachable!(),
         }
@@ -103,6 +104,39 @@ where
 }
 
 impl<'a, N: Naming, S: KnowingSettler, G: Gate> Crew<'a, N, S, G> {
+    // Ends a worker's hunger, and tells those who are still hungry: where its job was there may be
+    // more, and what its last job gave lies on its deque.
+    fn begin<R: Wait>(&self, rt: &R, account: &mut Account<N, S>)
+        ensures { account.new ≡ account.old }
+    {
+        if account.is_hungry {
+            account.is_hungry = false;
+            self.shared.feed();
+        }
+        self.shared.tell(rt);
+    }
+
+    // The number to wait with. A worker that was not hungry before is now, and is to look at all
+    // deques once more before it waits, so it gets a number that is never reached.
+    fn hungry_since(&self, seen: u64, account: &mut Account<N, S>) -> u64
+        ensures { account.new ≡ account.old }
+    {
+        if account.is_hungry {
+            return seen;
+        }
+        account.is_hungry = true;
+        self.shared.hunger();
+        u64::MAX
+    }
+
+    // Tells all that wait that nothing is left to do.
+    fn all_done<R: Wait>(&self, rt: &R) -> Idle<Task<'a, N, S>>
+        ensures { result ≡ Done }
+    {
+        self.shared.announce(rt);
+        Idle::Done
+    }
+
     // Settles the leaf of a ticket. The tasks of a cut's children become `children`.
     fn settle<R: Wait>(
         &self,

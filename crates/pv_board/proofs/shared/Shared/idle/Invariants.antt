@@ -1,5 +1,5 @@
 use Rattle.std.specs.Prelude.{◌≡◌}
-use Rattle.pv_board.proofs.shared.Shared.await_news.Given as goal
+use Rattle.pv_board.proofs.shared.Shared.idle.Given as goal
 
 abbrev pub invariant-loop : goal.invariant-loop
 invariant-loop g l = l.told ≡ l.initial.told
