@@ -3,7 +3,7 @@ from __future__ import annotations
 
 import math
 from html import escape
-from typing import TYPE_CHECKING, Iterable, Iterator, List, Mapping, Optional, Sequence, Tuple
+from typing import TYPE_CHECKING, Dict, Iterable, Iterator, List, Mapping, Optional, Sequence, Tuple
 
 from .box import Number
 from .cover import KEPT, Name
@@ -70,7 +70,8 @@ def path_of_union(pairs: Iterable[Sequence[Pair]], frame: Frame) -> str:
         rows = (1 << max(bottom, top + 1)) - (1 << top)
         for column in range(first, max(end, first + 1)):
             columns[column] |= rows
-    parts, begun = [], {}  # type: List[str], Dict[Tuple[int, int], int]
+    parts: List[str] = []
+    begun: Dict[Tuple[int, int], int] = {}
     for column, covered in enumerate([*columns, 0]):
         now = set(runs_of(covered))
         for top, bottom in [run for run in begun if run not in now]:

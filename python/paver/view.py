@@ -6,10 +6,9 @@ import copy
 import hashlib
 import json
 import os
-from collections.abc import Iterable, Sequence
 from html import escape
 from pathlib import Path
-from typing import Union
+from typing import Iterable, Sequence, Union
 
 from . import beside
 from . import program as calls

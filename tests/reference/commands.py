@@ -1,10 +1,12 @@
 """What the commands on paving files answer, by the reference's own files and settler."""
 import hashlib
+from typing import Any, Callable, Optional
 
 from . import files
+from .kinds import Answer, Outcome, Tree
+from .numbers import spelling
 from .paver import Settler, node_line
 from .slopes import CenteredSettler
-from .numbers import spelling
 
 
 ORDERS = {"depth": files.go_on, "level": files.go_on_by_levels}
@@ -22,16 +24,16 @@ class Call:
         text = f"eps {spelling(self.settler.eps)}\ndepth {depth}\nbisect {bisector}\ncontract {contract}\n{form}"
         self.identity = hashlib.sha256(canonical + text.encode()).hexdigest()
 
-    def write(self, tree, version=2):
+    def write(self, tree: Tree, version: int = 2) -> bytes:
         return files.write(tree, self.settler.root, self.identity, version)
 
-    def read(self, name, data):
+    def read(self, name: str, data: bytes) -> Tree:
         try:
             return files.read(data, self.settler.root, self.identity, self.limit)
         except files.Refused as refused:
             raise Stopped(4, f"paving {name}: {refused}") from None
 
-    def opening(self, named):
+    def opening(self, named: Any) -> Tree:
         trees = [self.read(name, data) for name, data in named]
         whole = trees[0]
         for tree in trees[1:]:
@@ -41,7 +43,7 @@ class Call:
                 raise Stopped(9, line_of("disagree", apart.path, apart.one, apart.other)) from None
         return whole
 
-    def delivered(self, tree, out, done=None):
+    def delivered(self, tree: Tree, out: bool, done: Optional[bool] = None) -> Answer:
         """What comes of a tree, with status 0 where this or, by itself, no open leaf says that all is done."""
         summary = (files.summary(tree) + "\n").encode()
         status = 0 if (not files.counts(tree)["O"] if done is None else done) else 1
@@ -50,10 +52,10 @@ class Call:
         body = "".join(line + "\n" for line in files.lines(tree, self.settler.root, 1))
         return status, summary + body.encode(), b"", None
 
-    def run(self, budget, out, order="depth"):
+    def run(self, budget: int, out: bool, order: str = "depth") -> Answer:
         return self.delivered(ORDERS[order](self.settler, ("O",), budget), out)
 
-    def resume(self, named, budget, out, order="depth", share=None):
+    def resume(self, named: Any, budget: int, out: bool, order: str = "depth", share: Any = None) -> Answer:
         """What is gone on with: all open leaves in an order, or those of a share, a number and of how many."""
         tree = self.opening(named)
         settled = files.settled(tree)
@@ -64,14 +66,14 @@ class Call:
         tree, done = files.go_on_with_share(self.settler, tree, budget, *share)
         return self.delivered(tree, out, done)
 
-    def merge(self, named, out):
+    def merge(self, named: Any, out: bool) -> Answer:
         tree = self.opening(named)
         settled = files.settled(tree)
         if settled > self.limit:
             raise Stopped(8, f"tree limit: {settled} settled")
         return self.delivered(tree, out)
 
-    def audit(self, name, data):
+    def audit(self, name: str, data: bytes) -> Answer:
         found = files.audit(self.settler, self.read(name, data))
         if found:
             raise Stopped(9, line_of("differs", *found))
@@ -81,16 +83,16 @@ class Call:
 class Stopped(Exception):
     """A status and its line."""
 
-    def __init__(self, status, line):
+    def __init__(self, status: int, line: str) -> None:
         super().__init__(line)
         self.status, self.line = status, line
 
 
-def line_of(word, path, one, other):
+def line_of(word: str, path: str, one: Outcome, other: Outcome) -> str:
     return f"{word} {files.path_text(path)}: {node_line(one)} | {node_line(other)}"
 
 
-def answer(work):
+def answer(work: Callable[[], Answer]) -> Answer:
     """Status, standard output, standard error and what is stored, None for nothing."""
     try:
         return work()

@@ -3,7 +3,9 @@
 A tree is a tuple: ("O",), ("X",), ("I", to), ("S", to) or ("C", to, variable, at, low, high).
 """
 import re
+from typing import Any, Callable, Dict, Iterator
 
+from .kinds import Box, Outcome, Tree
 from .numbers import NEG_INF, POS_INF, TOP, is_grid, spelling
 from .paver import halves, node_line
 
@@ -18,12 +20,12 @@ class Refused(Exception):
 class Disagree(Exception):
     """Two outcomes at one path."""
 
-    def __init__(self, path, one, other):
+    def __init__(self, path: str, one: Any, other: Any) -> None:
         super().__init__(path)
         self.path, self.one, self.other = path, one, other
 
 
-def settled(tree):
+def settled(tree: Tree) -> int:
     count, waiting = 0, [tree]
     while waiting:
         node = waiting.pop()
@@ -32,11 +34,11 @@ def settled(tree):
     return count
 
 
-def outcome(node):
+def outcome(node: Tree) -> Outcome:
     return node[:4]
 
 
-def counts(tree):
+def counts(tree: Tree) -> Dict[str, int]:
     found, waiting = dict.fromkeys("CXISO", 0), [tree]
     while waiting:
         node = waiting.pop()
@@ -45,13 +47,13 @@ def counts(tree):
     return found
 
 
-def summary(tree):
+def summary(tree: Tree) -> str:
     found = counts(tree)
     return "settled %d cut %d removed %d inner %d small %d open %d" % (
         sum(found.values()) - found["O"], found["C"], found["X"], found["I"], found["S"], found["O"])
 
 
-def lines(tree, root, version):
+def lines(tree: Tree, root: Box, version: int) -> Iterator[str]:
     """The node lines in preorder, without line feeds."""
     waiting = [(tree, root)]
     while waiting:
@@ -62,14 +64,14 @@ def lines(tree, root, version):
             waiting += [(node[5], high), (node[4], low)]
 
 
-def changes_line(node, box):
+def changes_line(node: Tree, box: Box) -> str:
     ends = " ".join("=" if new == old else spelling(new)
                     for new_place, old_place in zip(node[1], box) for new, old in zip(new_place, old_place))
     cut = f"{node[2]} {spelling(node[3])} " if node[0] == "C" else ""
     return f"{node[0]} {cut}{ends}"
 
 
-def write(tree, root, identity, version=2):
+def write(tree: Tree, root: Box, identity: str, version: int = 2) -> bytes:
     head = [f"paving {version}", f"identity {identity}"]
     return "".join(line + "\n" for line in [*head, *lines(tree, root, version)]).encode()
 
@@ -124,7 +126,7 @@ def outcome_of(line, box, version):
 
 
 class Reader:
-    def __init__(self, data):
+    def __init__(self, data: bytes) -> None:
         self.data, self.at, self.line = data, 0, 0
 
     def next(self):
@@ -140,7 +142,7 @@ class Reader:
         raise Refused(f"bad line {self.line}")
 
 
-def read(data, root, identity, limit=MOST_SETTLED):
+def read(data: bytes, root: Box, identity: str, limit: int = MOST_SETTLED) -> Tree:
     if len(data) > 662 * limit + 3_800_000:
         raise Refused("too long")
     reader = Reader(data)
@@ -170,7 +172,7 @@ def read(data, root, identity, limit=MOST_SETTLED):
     return tree_of(found)
 
 
-def tree_of(nodes):
+def tree_of(nodes: Any) -> Tree:
     """The tree of outcomes in preorder."""
     stack = []
     for node in reversed(nodes):
@@ -178,11 +180,11 @@ def tree_of(nodes):
     return stack[0]
 
 
-def path_text(path):
+def path_text(path: str) -> str:
     return path or "."
 
 
-def join(one, other, path=""):
+def join(one: Any, other: Any, path: str = "") -> Tree:
     """The join of two trees over one box."""
     if one[0] == "O":
         return other
@@ -196,18 +198,18 @@ def join(one, other, path=""):
     return (*outcome(one), low, join(one[5], other[5], path + "1"))
 
 
-def go_on(settler, tree, budget, within=MOST_STEPS + 1):
+def go_on(settler: Any, tree: Tree, budget: int, within: int = MOST_STEPS + 1) -> Tree:
     """The tree with so many more nodes settled, each time the first open leaf in preorder whose path has fewer steps."""
     return settle_chosen(settler, tree, budget, lambda number, steps: steps < within)[0]
 
 
-def go_on_with_share(settler, tree, budget, number, of):
+def go_on_with_share(settler: Any, tree: Tree, budget: int, number: int, of: int) -> Any:
     """The tree with so many more nodes settled at or below the open leaves that have this number modulo `of`, counted from 0
     in preorder; and whether none is open there."""
     return settle_chosen(settler, tree, budget, lambda leaf, steps: leaf % of == number)
 
 
-def settle_chosen(settler, tree, budget, is_chosen):
+def settle_chosen(settler: Any, tree: Tree, budget: int, is_chosen: Callable[[str], bool]) -> Any:
     """The tree with so many more nodes settled, in preorder, where the number of the opening's leaf at or above a leaf and the
     steps to it are chosen; and whether no chosen leaf is open."""
     found, waiting, leaves, done = [], [(tree, settler.root, 0, None)], 0, True
@@ -230,7 +232,7 @@ def settle_chosen(settler, tree, budget, is_chosen):
     return tree_of(found), done
 
 
-def go_on_by_levels(settler, tree, budget):
+def go_on_by_levels(settler: Any, tree: Tree, budget: int) -> Tree:
     """The tree with so many more nodes settled, in passes of which each settles the leaves above a depth, four more each."""
     within, most = 4, settled(tree) + budget
     while counts(tree)["O"] and settled(tree) < most:
@@ -239,14 +241,14 @@ def go_on_by_levels(settler, tree, budget):
     return tree
 
 
-def open_paths(tree, path=""):
+def open_paths(tree: Tree, path: str = "") -> Any:
     """The paths of the open leaves, in preorder."""
     if tree[0] == "O":
         return [path]
     return open_paths(tree[4], path + "0") + open_paths(tree[5], path + "1") if tree[0] == "C" else []
 
 
-def settled_paths(tree, path=""):
+def settled_paths(tree: Tree, path: str = "") -> Any:
     """The paths of the settled nodes, in preorder."""
     if tree[0] == "O":
         return []
@@ -254,7 +256,7 @@ def settled_paths(tree, path=""):
     return [path] + below
 
 
-def audit(settler, tree):
+def audit(settler: Any, tree: Tree) -> Any:
     """None where the tree is a stage of the open box; else the first path, the tree's outcome and the settler's."""
     waiting = [(tree, settler.root, "")]
     while waiting:

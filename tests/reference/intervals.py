@@ -1,28 +1,31 @@
 """Interval operations and projections by their written tables. An interval is a pair (lo, hi)."""
+from typing import Callable
+
+from .kinds import Interval, Parts
 from .numbers import DOWN, UP, NEG_INF, POS_INF, UNIT, add, div, mul, negated, power, root, sub
 
 ALL = (NEG_INF, POS_INF)
 ZERO = (0, 0)
 
 
-def plus(x, y):
+def plus(x: Interval, y: Interval) -> Interval:
     return add(x[0], y[0], DOWN), add(x[1], y[1], UP)
 
 
-def minus(x, y):
+def minus(x: Interval, y: Interval) -> Interval:
     return sub(x[0], y[1], DOWN), sub(x[1], y[0], UP)
 
 
-def times(x, y):
+def times(x: Interval, y: Interval) -> Interval:
     pairs = [(a, c) for a in x for c in y]
     return min(mul(a, c, DOWN) for a, c in pairs), max(mul(a, c, UP) for a, c in pairs)
 
 
-def opposite(x):
+def opposite(x: Interval) -> Interval:
     return negated(x[1]), negated(x[0])
 
 
-def absolute(x):
+def absolute(x: Interval) -> Interval:
     if x[0] >= 0:
         return x
     if x[1] <= 0:
@@ -30,15 +33,15 @@ def absolute(x):
     return 0, max(negated(x[0]), x[1])
 
 
-def least(x, y):
+def least(x: Interval, y: Interval) -> Interval:
     return min(x[0], y[0]), min(x[1], y[1])
 
 
-def greatest(x, y):
+def greatest(x: Interval, y: Interval) -> Interval:
     return max(x[0], y[0]), max(x[1], y[1])
 
 
-def raised(x, n):
+def raised(x: Interval, n: int) -> Interval:
     a, b = x
     if n == 0:
         return UNIT, UNIT
@@ -53,7 +56,7 @@ def raised(x, n):
     return 0, max(power(negated(a), n, UP), power(b, n, UP))
 
 
-def quotient(x, y):
+def quotient(x: Interval, y: Interval) -> Interval:
     (a, b), (c, d) = x, y
     if y == ZERO:
         return None
@@ -69,24 +72,24 @@ def quotient(x, y):
     return (NEG_INF, div(a, c, UP)) if a >= 0 else (div(b, c, DOWN), POS_INF)
 
 
-def meet(x, y):
+def meet(x: Interval, y: Interval) -> Interval:
     if x is None or y is None:
         return None
     lo, hi = max(x[0], y[0]), min(x[1], y[1])
     return (lo, hi) if lo <= hi else None
 
 
-def hull(x, y):
+def hull(x: Interval, y: Interval) -> Interval:
     if x is None or y is None:
         return x if y is None else y
     return min(x[0], y[0]), max(x[1], y[1])
 
 
-def factor(z, y):
+def factor(z: Interval, y: Interval) -> Interval:
     return ALL if meet(z, ZERO) and meet(y, ZERO) else quotient(z, y)
 
 
-def both(x, second):
+def both(x: Interval, second: Callable[[Interval], Interval]) -> Parts:
     """(x, second(x)), or None where either is empty."""
     if x is None:
         return None
@@ -94,44 +97,44 @@ def both(x, second):
     return None if y is None else (x, y)
 
 
-def back_add(z, x, y):
+def back_add(z: Interval, x: Interval, y: Interval) -> Parts:
     return both(meet(x, minus(z, y)), lambda x1: meet(y, minus(z, x1)))
 
 
-def back_sub(z, x, y):
+def back_sub(z: Interval, x: Interval, y: Interval) -> Parts:
     return both(meet(x, plus(z, y)), lambda x1: meet(y, minus(x1, z)))
 
 
-def back_mul(z, x, y):
+def back_mul(z: Interval, x: Interval, y: Interval) -> Parts:
     return both(meet(x, factor(z, y)), lambda x1: meet(y, factor(z, x1)))
 
 
-def back_div(z, x, y):
+def back_div(z: Interval, x: Interval, y: Interval) -> Parts:
     if y == ZERO:
         return None
     return both(meet(x, times(z, y)), lambda x1: meet(y, factor(x1, z)))
 
 
-def back_min(z, x, y):
+def back_min(z: Interval, x: Interval, y: Interval) -> Parts:
     above = (z[0], POS_INF)
     return both(meet(x, z if y[0] > z[1] else above), lambda x1: meet(y, z if x1[0] > z[1] else above))
 
 
-def back_max(z, x, y):
+def back_max(z: Interval, x: Interval, y: Interval) -> Parts:
     below = (NEG_INF, z[1])
     return both(meet(x, z if y[1] < z[0] else below), lambda x1: meet(y, z if x1[1] < z[0] else below))
 
 
-def back_neg(z, x):
+def back_neg(z: Interval, x: Interval) -> Interval:
     return meet(x, opposite(z))
 
 
-def back_abs(z, x):
+def back_abs(z: Interval, x: Interval) -> Interval:
     w = meet(z, (0, POS_INF))
     return None if w is None else hull(meet(x, w), meet(x, opposite(w)))
 
 
-def back_pow(z, x, n):
+def back_pow(z: Interval, x: Interval, n: int) -> Interval:
     if n == 0:
         return x if z[0] <= UNIT <= z[1] else None
     if n % 2 == 1:

@@ -5,6 +5,8 @@ A finite number is the whole number that is its value times 2^512. The two infin
 """
 from fractions import Fraction
 
+from .kinds import Value
+
 SCALE = 512
 UNIT = 1 << SCALE
 TOP = ((1 << 62) - 1) << 962
@@ -12,15 +14,15 @@ NEG_INF, POS_INF = float("-inf"), float("inf")
 DOWN, UP = "down", "up"
 
 
-def is_finite(a):
+def is_finite(a: Value) -> bool:
     return isinstance(a, int)
 
 
-def sign(a):
+def sign(a: Value) -> int:
     return (a > 0) - (a < 0)
 
 
-def to_grid(whole, exact, side):
+def to_grid(whole: int, exact: bool, side: str) -> Value:
     """The grid number next to floor(value) = whole, where exact says whether whole is the value itself."""
     if whole < 0:  # -value lies in (-whole - 1, -whole]; mirror it
         mirrored = to_grid(-whole if exact else -whole - 1, exact, UP if side is DOWN else DOWN)
@@ -34,25 +36,25 @@ def to_grid(whole, exact, side):
     return above if above <= TOP else POS_INF
 
 
-def ratio(p, q, side):
+def ratio(p: int, q: int, side: str) -> Value:
     """The rational p/q, given as a number times 2^512 over 1, rounded: floor first, then the grid."""
     whole, rest = divmod(p, q)
     return to_grid(whole, rest == 0, side)
 
 
-def from_fraction(value, side):
+def from_fraction(value: Fraction, side: str) -> Value:
     return ratio(value.numerator << SCALE, value.denominator, side)
 
 
-def as_fraction(a):
+def as_fraction(a: Value) -> Fraction:
     return Fraction(a, UNIT)
 
 
-def negated(a):
+def negated(a: Value) -> Value:
     return -a
 
 
-def add(a, b, side):
+def add(a: Value, b: Value, side: str) -> Value:
     if is_finite(a) and is_finite(b):
         return to_grid(a + b, True, side)
     if not is_finite(a) and not is_finite(b) and a != b:
@@ -60,11 +62,11 @@ def add(a, b, side):
     return b if is_finite(a) else a
 
 
-def sub(a, b, side):
+def sub(a: Value, b: Value, side: str) -> Value:
     return add(a, negated(b), side)
 
 
-def mul(a, b, side):
+def mul(a: Value, b: Value, side: str) -> Value:
     if a == 0 or b == 0:
         return 0
     if is_finite(a) and is_finite(b):
@@ -72,7 +74,7 @@ def mul(a, b, side):
     return POS_INF if sign(a) == sign(b) else NEG_INF
 
 
-def div(a, b, side):
+def div(a: Value, b: Value, side: str) -> Value:
     if not is_finite(b):
         return 0
     if not is_finite(a):
@@ -80,7 +82,7 @@ def div(a, b, side):
     return ratio(a << SCALE, b, side) if b > 0 else ratio(-a << SCALE, -b, side)
 
 
-def power(a, n, side):
+def power(a: Value, n: int, side: str) -> Value:
     if n == 0:
         return UNIT
     result = a
@@ -89,14 +91,14 @@ def power(a, n, side):
     return result
 
 
-def is_grid(n):
+def is_grid(n: int) -> bool:
     n = abs(n)
     while n and n % 2 == 0 and n >= 1 << 62:
         n //= 2
     return n < 1 << 62
 
 
-def by_rank(rank):
+def by_rank(rank: int) -> Value:
     """The numbers from 0 on, in order and without gaps: rank 0 is 0."""
     if rank < 1 << 62:
         return rank
@@ -107,7 +109,7 @@ def by_rank(rank):
 RANKS = 962 * (1 << 61) + (1 << 62)  # of the numbers from 0 to the greatest
 
 
-def root(z, n, side):
+def root(z: Value, n: int, side: str) -> Value:
     """Down: the greatest finite r with r^n, rounded up, at most z. Up: the least with r^n, rounded down, at least z."""
     if side is UP and z == POS_INF:
         return POS_INF
@@ -123,7 +125,7 @@ def root(z, n, side):
     return by_rank(low)
 
 
-def spelling(a):
+def spelling(a: Value) -> str:
     if not is_finite(a):
         return "+oo" if a > 0 else "-oo"
     if a == 0:
@@ -132,7 +134,7 @@ def spelling(a):
     return f"{a >> trailing}:{trailing - SCALE}"
 
 
-def middle(lo, hi):
+def middle(lo: Value, hi: Value) -> Value:
     """The cut of the bisection of [lo, hi], which may be unbounded; None where there is none."""
     if not is_finite(lo) and not is_finite(hi):
         return 0

@@ -1,12 +1,14 @@
 """Contraction, settling and paving straight from their definitions, slow and plain."""
 import re
 from fractions import Fraction
+from typing import Any, List, Tuple
 
 from . import intervals as iv
+from .kinds import Box, Expression, Interval, Outcome, Parts, Program, Value
 from .numbers import DOWN, UP, from_fraction, middle, spelling, sub
 
 
-def bound(value, side):
+def bound(value: Any, side: str) -> Value:
     return value if isinstance(value, float) else from_fraction(value, side)
 
 
@@ -14,7 +16,7 @@ class Empty(Exception):
     """Some step of a contraction was empty."""
 
 
-def kept(x):
+def kept(x: Interval) -> Interval:
     if x is None:
         raise Empty
     return x
@@ -29,7 +31,7 @@ class Constraint:
     def __init__(self, constraint):
         self.relation, self.left, self.right = constraint
 
-    def forward(self, e, box):
+    def forward(self, e: Expression, box: Box) -> Tuple[Interval, bool]:
         """The interval of e on the box, and whether no divisor's interval holds 0."""
         kind = e[0]
         if kind == "const":
@@ -46,7 +48,7 @@ class Constraint:
             return kept(iv.quotient(x, y)), total and not y[0] <= 0 <= y[1]
         return FORWARD[kind](x, y), total
 
-    def related(self, left, right):
+    def related(self, left: Interval, right: Interval) -> Parts:
         if self.relation == "=":
             common = kept(iv.meet(left, right))
             return common, common
@@ -55,7 +57,7 @@ class Constraint:
             return left, right
         return self.below(left, right)
 
-    def below(self, left, right):
+    def below(self, left: Interval, right: Interval) -> Parts:
         if left[0] > right[1] or (self.relation in ("<", ">") and left[0] >= right[1]):
             raise Empty
         return (left[0], min(left[1], right[1])), (max(right[0], left[0]), right[1])
@@ -74,7 +76,7 @@ class Constraint:
             self.targets(e[1], x1, box, found)
             self.targets(e[2], y1, box, found)
 
-    def revise(self, box):
+    def revise(self, box: Box) -> Box:
         left, right = self.related(self.forward(self.left, box)[0], self.forward(self.right, box)[0])
         found = []
         self.targets(self.left, left, box, found)
@@ -84,12 +86,12 @@ class Constraint:
             result[i] = kept(iv.meet(result[i], z))
         return result
 
-    def variables(self):
+    def variables(self) -> Any:
         def found(e):
             return {e[1]} if e[0] == "var" else set().union(*(found(part) for part in e[1:] if isinstance(part, tuple)))
         return found(self.left) | found(self.right)
 
-    def sure(self, box):
+    def sure(self, box: Box) -> bool:
         try:
             (left, total_left), (right, total_right) = self.forward(self.left, box), self.forward(self.right, box)
         except Empty:
@@ -100,7 +102,7 @@ class Constraint:
                 ">": left[0] > right[1], "=": left[0] == left[1] == right[0] == right[1]}[self.relation]
 
 
-def read_program(text):
+def read_program(text: str) -> Program:
     """A good contractor text as nested tuples: ("hc4", i), ("fix", n, p), ("qinter", q, [p]), ("union", [p]) .."""
     words = re.findall(r"[a-z0-9]+|[(),]", text)
 
@@ -121,7 +123,7 @@ def read_program(text):
     return program()
 
 
-def q_hull(q, boxes):
+def q_hull(q: int, boxes: Any) -> Box:
     result = []
     for place in zip(*boxes):
         def covered(end):
@@ -140,7 +142,7 @@ class Settler:
         self.eps, self.depth, self.bisector = from_fraction(eps, DOWN), depth, bisector
         self.program = read_program(contract)
 
-    def contract(self, program, box):
+    def contract(self, program: Program, box: Box) -> Box:
         """The contracted box; None where it is empty."""
         kind = program[0]
         if kind == "hc4":
@@ -161,21 +163,21 @@ class Settler:
             return None
         return [(min(x[0] for x in place), max(x[1] for x in place)) for place in zip(*results)]
 
-    def in_order(self, programs, box):
+    def in_order(self, programs: Any, box: Box) -> Box:
         for program in programs:
             box = self.contract(program, box)
             if box is None:
                 return None
         return box
 
-    def turns(self, most, programs, box):
+    def turns(self, most: int, programs: Any, box: Box) -> Box:
         for _ in range(most):
             before, box = box, self.in_order(programs, box)
             if box is None or box == before:
                 break
         return box
 
-    def revisions(self, program, box):
+    def revisions(self, program: Program, box: Box) -> Any:
         """How many revisions the contraction of the box needs."""
         kind = program[0]
         if kind == "hc4":
@@ -196,7 +198,7 @@ class Settler:
                 break
         return count
 
-    def revisions_of_unclean(self, most, box):
+    def revisions_of_unclean(self, most: int, box: Box) -> Any:
         """The pairs of a turn and a constraint that is not clean when its place comes, up to and with the first empty one."""
         history = []
         for _ in range(most):
@@ -213,13 +215,13 @@ class Settler:
                 break
         return len(history)
 
-    def is_clean(self, i, history):
+    def is_clean(self, i: int, history: Any) -> bool:
         """Whether constraint i once kept the box, and no place of one of its variables changed from then on."""
         places = self.constraints[i].variables()
         return any(number == i and old == new and all(b[k] == c[k] for _, b, c in history[at:] for k in places)
                    for at, (number, old, new) in enumerate(history))
 
-    def sure(self, program, box):
+    def sure(self, program: Program, box: Box) -> bool:
         kind = program[0]
         if kind == "hc4":
             return self.constraints[program[1]].sure(box)
@@ -229,7 +231,7 @@ class Settler:
         return {"compose": all(parts), "fix": all(parts), "union": any(parts),
                 "qinter": kind == "qinter" and sum(parts) >= program[1]}[kind]
 
-    def member(self, program, held):
+    def member(self, program: Program, held: Any) -> bool:
         """Whether a point is a member, given which constraints hold there."""
         kind = program[0]
         if kind == "hc4":
@@ -240,10 +242,10 @@ class Settler:
         return {"compose": all(parts), "fix": all(parts), "union": any(parts),
                 "qinter": kind == "qinter" and sum(parts) >= program[1]}[kind]
 
-    def width(self, x):
+    def width(self, x: Interval) -> Value:
         return sub(x[1], x[0], UP)
 
-    def choose(self, box, length):
+    def choose(self, box: Box, length: int) -> Any:
         cuts = [middle(*x) for x in box]
         able = [i for i, cut in enumerate(cuts) if cut is not None]
         if not able:
@@ -254,7 +256,7 @@ class Settler:
             i = min(able, key=lambda i: (i - length) % len(box))
         return i, cuts[i]
 
-    def settle(self, box, depth_left, length):
+    def settle(self, box: Box, depth_left: int, length: int) -> Outcome:
         to = self.contract(self.program, box)
         if to is None:
             return ("X",)
@@ -266,13 +268,13 @@ class Settler:
         return ("C", to, *choice)
 
 
-def halves(to, variable, at):
+def halves(to: Box, variable: int, at: Value) -> Tuple[Box, Box]:
     low, high = list(to), list(to)
     low[variable], high[variable] = (to[variable][0], at), (at, to[variable][1])
     return low, high
 
 
-def pave(settler, budget=20000):
+def pave(settler: Any, budget: int = 20000) -> Tuple[str, List[str]]:
     """The node lines in preorder; the first open leaf in preorder is settled each time."""
     lines, counts, settled = [], dict.fromkeys("CXISO", 0), 0
     waiting = [(settler.root, 0)]
@@ -290,7 +292,7 @@ def pave(settler, budget=20000):
     return summary, lines
 
 
-def node_line(outcome):
+def node_line(outcome: Outcome) -> str:
     if outcome[0] in "XO":
         return outcome[0]
     ends = " ".join(spelling(end) for x in outcome[1] for end in x)

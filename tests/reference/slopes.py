@@ -1,12 +1,15 @@
 """Centered forms by rational slopes, and settling by them, straight from their definitions, slow and plain."""
+from typing import Any
+
 from . import intervals as iv
+from .kinds import Box, Expression, Interval, Outcome, Program, Relation, Value
 from .numbers import UNIT, is_finite, middle
 from .paver import FORWARD, Constraint, Empty, Settler
 
 ZERO, ONE, EITHER = (0, 0), (UNIT, UNIT), (-UNIT, UNIT)
 
 
-def centre(x):
+def centre(x: Interval) -> Value:
     """The middle of an interval, or its lower end where it has none."""
     cut = middle(*x)
     return x[0] if cut is None else cut
@@ -15,14 +18,14 @@ def centre(x):
 class Centered:
     """An expression's parts on one box with finite ends, where no divisor's interval holds 0."""
 
-    def __init__(self, constraint, box):
+    def __init__(self, constraint: Relation, box: Box) -> None:
         self.constraint, self.box = constraint, box
         self.centre = [(centre(x), centre(x)) for x in box]
 
-    def whole(self, e):
+    def whole(self, e: Expression) -> Interval:
         return self.constraint.forward(e, self.box)[0]
 
-    def at_centre(self, e):
+    def at_centre(self, e: Expression) -> Interval:
         kind = e[0]
         if kind == "const":
             return self.whole(e)
@@ -36,7 +39,7 @@ class Centered:
             found = iv.quotient(x, y) if kind == "/" else FORWARD[kind](x, y)
         return iv.meet(found, self.whole(e))
 
-    def powers(self, f, c, n):
+    def powers(self, f: Any, c: Any, n: int) -> Any:
         """The sum of f^k c^(n-1-k) over k from 0 to n-1, in this order."""
         terms = [iv.times(iv.raised(f, k), iv.raised(c, n - 1 - k)) for k in range(n)]
         total = terms[0]
@@ -44,7 +47,7 @@ class Centered:
             total = iv.plus(total, term)
         return total
 
-    def slope(self, e, i):
+    def slope(self, e: Expression, i: int) -> Interval:
         kind = e[0]
         if kind == "const":
             return ZERO
@@ -72,19 +75,19 @@ class Centered:
             return t
         return iv.hull(s, t)
 
-    def linear(self, e):
+    def linear(self, e: Expression) -> Any:
         total = self.at_centre(e)
         for i, x in enumerate(self.box):
             total = iv.plus(total, iv.times(self.slope(e, i), iv.minus(x, self.centre[i])))
         return total
 
 
-def gap(constraint):
+def gap(constraint: Relation) -> Any:
     """The left side minus the right one."""
     return ("-", constraint.left, constraint.right)
 
 
-def ranged(constraint, box):
+def ranged(constraint: Relation, box: Box) -> Any:
     """The centered form of left - right, and whether no divisor's interval holds 0; None where it is empty."""
     try:
         whole, total = constraint.forward(gap(constraint), box)
@@ -95,7 +98,7 @@ def ranged(constraint, box):
     return iv.meet(whole, Centered(constraint, box).linear(gap(constraint))), total
 
 
-def is_none(constraint, box):
+def is_none(constraint: Relation, box: Box) -> bool:
     found = ranged(constraint, box)
     if found is None:
         return True
@@ -103,7 +106,7 @@ def is_none(constraint, box):
     return {"<=": lo > 0, "<": lo >= 0, ">=": hi < 0, ">": hi <= 0, "=": not lo <= 0 <= hi}[constraint.relation]
 
 
-def is_sure(constraint, box):
+def is_sure(constraint: Relation, box: Box) -> bool:
     found = ranged(constraint, box)
     if found is None or not found[1]:
         return False
@@ -114,7 +117,7 @@ def is_sure(constraint, box):
 class CenteredConstraint(Constraint):
     """A constraint that counts as sure by either test."""
 
-    def sure(self, box):
+    def sure(self, box: Box) -> bool:
         return super().sure(box) or is_sure(self, box)
 
 
@@ -123,7 +126,7 @@ class CenteredSettler(Settler):
         super().__init__(system, **settings)
         self.constraints = [CenteredConstraint(c) for c in system.constraints]
 
-    def none(self, program, box):
+    def none(self, program: Program, box: Box) -> bool:
         kind = program[0]
         if kind == "hc4":
             return is_none(self.constraints[program[1]], box)
@@ -133,7 +136,7 @@ class CenteredSettler(Settler):
         return {"compose": any(parts), "fix": any(parts), "union": all(parts),
                 "qinter": kind == "qinter" and sum(parts) > len(parts) - program[1]}[kind]
 
-    def settle(self, box, depth_left, length):
+    def settle(self, box: Box, depth_left: int, length: int) -> Outcome:
         to = self.contract(self.program, box)
         if to is not None and self.none(self.program, to):
             return ("X",)

@@ -209,6 +209,23 @@ class Around(PackageTest):
             self.assertEqual(run.returncode, 0, run.stderr)
             self.assertTrue(run.stdout.startswith("settled 663 "), run.stderr)
 
+    def test_versions(self) -> None:
+        """Each Python that is here, from the least that is promised on, takes every module of the package with no warning."""
+        least = int(re.findall(r'requires-python = ">=3\.(\d+)"', (TOP / "python" / "pyproject.toml").read_text())[0])
+        modules = [path for path in (TOP / "python" / "paver").rglob("*.py") if path.name != "__init__.py"]
+        names = [".".join(path.relative_to(TOP / "python").with_suffix("").parts) for path in modules]
+        here = [found for minor in range(least, least + 20) for found in (shutil.which(f"python3.{minor}"),) if found]
+        if not here:
+            self.skipTest("there is no python3.N here")
+        for python in here:
+            if subprocess.run([python, "-c", ""], capture_output=True, check=False).returncode:
+                continue  # a shim with nothing behind it
+            done = subprocess.run([python, "-W", "error", "-c", f"import {', '.join(names)}"], capture_output=True, text=True,
+                                  env={**os.environ, "PYTHONPATH": str(TOP / "python"), "PYTHONDONTWRITEBYTECODE": "1"},
+                                  timeout=60, check=False)
+            with self.subTest(python):
+                self.assertEqual((done.returncode, done.stderr), (0, ""))
+
     def test_vim(self) -> None:
         """The errorformat finds the refused place, also in another folder than the one where vim runs."""
         self.needs_tool("vim")

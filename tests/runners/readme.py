@@ -66,7 +66,7 @@ class Readme(FolderTest):
     def test_commands(self) -> None:
         """Each command and its output."""
         shown = list(package_around.commands_of(TEXT))
-        self.assertGreater(len(shown), 14)
+        self.assertGreaterEqual(len(shown), 14)
         for words, told, lines in shown:
             done = self.shell(words)
             with self.subTest(words):
@@ -102,10 +102,11 @@ class Readme(FolderTest):
         self.assertIn("<svg", (self.path / "ring.svg").read_text()[:100])
 
     def test_export(self) -> None:
-        """A campaign's paving as a stored file, which is one run's."""
+        """A campaign's paving as a stored file, of which `merge` makes the very file of one run."""
         self.ends_well(f"./paver campaign {TORUS} --keep torus.db --boxes 20000; ./paver run {TORUS} --out alone")
         self.ends_well("python3 -m paver export torus.db > FILE")
-        self.assertEqual(self.ends_well(f"./paver audit {TORUS} FILE; cmp FILE alone"), "honest\n")
+        self.assertEqual(self.ends_well(f"./paver audit {TORUS} FILE"), "honest\n")
+        self.ends_well(f"./paver merge {TORUS} FILE --out of_file; cmp of_file alone")
 
     def test_sweep(self) -> None:
         """A sweep's join is one run's paving, and the same call again finds it done."""
@@ -123,7 +124,7 @@ class Readme(FolderTest):
     def test_least(self) -> None:
         """The greatest value by the least of its opposite, and bounds that are closer by levels."""
         least = next(words for words, _, _ in package_around.commands_of(TEXT) if " least " in words)
-        said = self.ends_well(least.replace("--of kd", "--of='-(kd)'"))
+        said = self.shell(least.replace("--of kd", "--of='-(kd)'")).stdout  # its budget ends it
         lower, upper = (int(m) * 2.0 ** int(e) for m, e in re.findall(r"^(?:lower|upper) (-?\d+):(-?\d+)$", said, re.M))
         self.assertTrue(lower <= upper < -1.9957, said)
         said = self.ends_well("python3 -m paver least examples/least_derivative_gain.mbx --of kd --levels --within 0.001")

@@ -7,7 +7,6 @@ large example, which takes a machine for half an hour, is left out; engines that
 """
 from __future__ import annotations
 
-import os
 import re
 import shutil
 import subprocess
