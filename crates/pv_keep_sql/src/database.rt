@@ -7,7 +7,7 @@ use crate::kept_path::{path_of, push_digits};
 use crate::listing::{HEAD, Listed, NODE, read_list};
 use pv_keep::{Line, Row, Rows};
 use sqlite::types::ValueRef;
-use sqlite::{Alter, Connection, Statement, Transaction, params};
+use sqlite::{Alter, Connection, Transaction, params};
 use std::alloc::Global;
 
 const IDENTITY: &str = "SELECT identity FROM head WHERE id = 1";
@@ -21,25 +21,12 @@ const ROWS: &str = "SELECT path, line FROM node ORDER BY path";
 
 /// How many rows a statement adds at most. Each statement copies the pages that it writes, so one
 /// for each row would take twice as long.
-const AT_ONCE: usize = 16;
+const AT_ONCE: u64 = 64;
 
-const ADD_ROWS: &str = "INSERT INTO node (path, line)
-SELECT ?1, ?2 WHERE ?1 IS NOT NULL UNION ALL
-SELECT ?3, ?4 WHERE ?3 IS NOT NULL UNION ALL
-SELECT ?5, ?6 WHERE ?5 IS NOT NULL UNION ALL
-SELECT ?7, ?8 WHERE ?7 IS NOT NULL UNION ALL
-SELECT ?9, ?10 WHERE ?9 IS NOT NULL UNION ALL
-SELECT ?11, ?12 WHERE ?11 IS NOT NULL UNION ALL
-SELECT ?13, ?14 WHERE ?13 IS NOT NULL UNION ALL
-SELECT ?15, ?16 WHERE ?15 IS NOT NULL UNION ALL
-SELECT ?17, ?18 WHERE ?17 IS NOT NULL UNION ALL
-SELECT ?19, ?20 WHERE ?19 IS NOT NULL UNION ALL
-SELECT ?21, ?22 WHERE ?21 IS NOT NULL UNION ALL
-SELECT ?23, ?24 WHERE ?23 IS NOT NULL UNION ALL
-SELECT ?25, ?26 WHERE ?25 IS NOT NULL UNION ALL
-SELECT ?27, ?28 WHERE ?27 IS NOT NULL UNION ALL
-SELECT ?29, ?30 WHERE ?29 IS NOT NULL UNION ALL
-SELECT ?31, ?32 WHERE ?31 IS NOT NULL";
+/// A statement that adds one row, and what each further row adds to it.
+const ADD_ROW: &str = "INSERT INTO node (path, line) VALUES (?, ?)";
+
+const ADD_ANOTHER: &str = ", (?, ?)";
 
 /// How a database stands to an identity.
 #[derive(Clone, Copy)]
@@ -257,12 +244,41 @@ pub(crate) fn write_rows<S: Alter>(
         return Err(Refused::Failed);
     }
     let mut change = connection.transaction();
-    let add = change.prepare(ADD_ROWS)?;
-    for first in (0..rows.len()).step_by(AT_ONCE) {
-        write_given(&mut change, &add, &given_from(alloc, rows, first)?)?;
-    }
+    let rest = rows.len() % AT_ONCE;
+    let whole = rows.len() - rest;
+    add_rows(alloc, &mut change, rows, 0, whole, AT_ONCE)?;
+    add_rows(alloc, &mut change, rows, whole, rows.len(), rest)?;
     change.commit()?;
     Ok(())
+}
+
+// Adds the rows from a number to another, so many by each statement.
+fn add_rows<S: Alter>(
+    alloc: Global,
+    change: &mut Transaction<'_, S>,
+    rows: &Rows,
+    start: u64,
+    end: u64,
+    at_once: u64,
+) -> Result<(), Refused> {
+    if start >= end {
+        return Ok(());
+    }
+    let add = change.prepare(addition(alloc, at_once)?.as_str())?;
+    for first in (start..end).step_by(at_once as usize) {
+        let given = given_from(alloc, rows, first, at_once)?;
+        change.execute_prepared(&add, &values_of(alloc, &given)?)?;
+    }
+    Ok(())
+}
+
+// The statement that adds so many rows, at least one.
+fn addition(alloc: Global, count: u64) -> Result<String, Refused> {
+    let mut text = String::from_str(alloc, ADD_ROW)?;
+    for _ in 1..count {
+        text.push_str(ADD_ANOTHER)?;
+    }
+    Ok(text)
 }
 
 // A row as a statement takes it.
@@ -272,9 +288,14 @@ struct Given<'a> {
     line: &'a [u8],
 }
 
-// The rows from a number on, as many as a statement adds.
-fn given_from<'a>(alloc: Global, rows: &'a Rows, first: u64) -> Result<Vec<Given<'a>>, Refused> {
-    let end = rows.len().min(first.saturating_add(AT_ONCE as u64));
+// So many rows from a number on, as far as there are any.
+fn given_from<'a>(
+    alloc: Global,
+    rows: &'a Rows,
+    first: u64,
+    count: u64,
+) -> Result<Vec<Given<'a>>, Refused> {
+    let end = rows.len().min(first.saturating_add(count));
     let mut given = Vec::new(alloc);
     for i in first..end {
         let row = rows.get(i);
@@ -291,17 +312,19 @@ fn given_from<'a>(alloc: Global, rows: &'a Rows, first: u64) -> Result<Vec<Given
     Ok(given)
 }
 
-// Adds rows by one statement. The places behind the last row stay NULL, and add none.
-fn write_given<S: Alter>(
-    change: &mut Transaction<'_, S>,
-    add: &Statement,
-    given: &[Given<'_>],
-) -> Result<(), Refused> {
-    let mut values = [ValueRef::Null; 2 * AT_ONCE];
-    for i in 0..given.len().min(AT_ONCE) {
-        values[2 * i] = ValueRef::Text(&given[i].digits);
-        values[2 * i + 1] = ValueRef::Text(given[i].line);
+// The values of rows, in the order of a statement's places.
+fn values_of<'a>(alloc: Global, given: &'a [Given<'_>]) -> Result<Vec<ValueRef<'a>>, Refused> {
+    let mut values = Vec::new(alloc);
+    for row in given {
+        put_value(&mut values, &row.digits)?;
+        put_value(&mut values, row.line)?;
     }
-    change.execute_prepared(add, &values)?;
-    Ok(())
+    Ok(values)
+}
+
+fn put_value<'a>(values: &mut Vec<ValueRef<'a>>, text: &'a [u8]) -> Result<(), Refused> {
+    match values.push(ValueRef::Text(text)) {
+        Ok(()) => Ok(()),
+        Err(_) => Err(Refused::Memory),
+    }
 }
