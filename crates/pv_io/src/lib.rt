@@ -15,8 +15,6 @@ mod real_sink;
 mod replaced;
 mod script;
 mod sink;
-#[cfg(test)]
-mod tests;
 
 pub use folder::{FetchRefused, Folder, StoreRefused};
 pub use mem_folder::MemFolder;

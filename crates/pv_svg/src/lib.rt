@@ -15,8 +15,6 @@ mod refusal;
 mod shown;
 mod side;
 mod slicing;
-#[cfg(test)]
-mod tests;
 mod text;
 
 pub use picture::Picture;
