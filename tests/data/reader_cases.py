@@ -3,7 +3,7 @@
 
     python3 -m tests.data.reader_cases
 
-writes crates/pv_parse/src/tests/systems.rt, after a comparison with the reference reader; tests/runners/reader_table.py runs
+writes crates/test_reader/src/parse/systems.rt, after a comparison with the reference reader; tests/runners/reader_table.py runs
 the whole table on the real program.
 """
 import sys
@@ -169,7 +169,7 @@ def literal(text):
 
 
 def main():
-    folder = Path(__file__).resolve().parents[2] / "crates/pv_parse/src/tests"
+    folder = Path(__file__).resolve().parents[2] / "crates/test_reader/src/parse"
     wrong = 0
     for cause, marked in FAULTS:
         assert marked.count("¶") == 1, marked

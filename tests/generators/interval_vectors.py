@@ -1,5 +1,5 @@
 #!/usr/bin/env python3
-"""Cases of interval operations, by exact fractions. Writes crates/pv_interval/src/tests/vectors.rt.
+"""Cases of interval operations, by exact fractions. Writes crates/test_numbers/src/interval/vectors.rt.
 
 An end is a Fraction, or -inf or +inf. The tables are those of interval arithmetic with outward rounding to the numbers
 m * 2^e with |m| < 2^62 and e from -512 to 450.
@@ -243,8 +243,8 @@ def result_of(name, n, x, y):
 
 
 HEADING = """//! Cases of interval operations. Written by tests/generators/interval_vectors.py: change them there.
-use crate::tests::Ends;
-use crate::tests::Operation::{self, Abs, Add, Hull, Max, Meet, Min, Mul, Neg, Pow, Quotient, Sub};
+use crate::interval::Ends;
+use crate::interval::Operation::{self, Abs, Add, Hull, Max, Meet, Min, Mul, Neg, Pow, Quotient, Sub};
 
 """
 
@@ -252,7 +252,7 @@ use crate::tests::Operation::{self, Abs, Add, Hull, Max, Meet, Min, Mul, Neg, Po
 def main():
     rows = [f"    ({name}, {n}, {pair(x)}, {pair(y)}, {answer(result_of(name, n, x, y))})," for name, n, x, y in cases()]
     text = HEADING + table("CASES", "(Operation, u8, Ends, Ends, Option<Ends>)", rows, "super")
-    (CRATES / "pv_interval/src/tests/vectors.rt").write_text(text)
+    (CRATES / "test_numbers/src/interval/vectors.rt").write_text(text)
 
 
 if __name__ == "__main__":

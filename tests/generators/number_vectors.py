@@ -1,6 +1,6 @@
 """Arithmetic cases of pv_num, worked out with exact integers and fractions.
 
-Run `python3 -m tests.generators.number_vectors` at the top of the repository: it writes crates/pv_num/src/tests/vectors.rt.
+Run `python3 -m tests.generators.number_vectors` at the top of the repository: it writes crates/test_numbers/src/num/vectors.rt.
 A number is a whole number N of units of 2^-512 that is m * 2^k with m < 2^62 and k <= 962, or an infinite end.
 """
 import random
@@ -138,9 +138,9 @@ def cases():
 
 
 HEADING = """//! Cases of exact arithmetic. Written by tests/generators/number_vectors.py: change them there.
-use crate::End::{self, Down, Up};
-use crate::tests::Operation::{self, Add, Div, Mul};
-use crate::tests::Spelled;
+use crate::num::Operation::{self, Add, Div, Mul};
+use crate::num::Spelled;
+use pv_num::End::{self, Down, Up};
 
 """
 
@@ -148,7 +148,7 @@ use crate::tests::Spelled;
 def main():
     rows = [f"    ({name}, {a}, {b}, {side}, {want})," for name, a, b, side, want in cases()]
     text = HEADING + table("CASES", "(Operation, Spelled, Spelled, End, Spelled)", rows, "super")
-    (CRATES / "pv_num/src/tests/vectors.rt").write_text(text)
+    (CRATES / "test_numbers/src/num/vectors.rt").write_text(text)
 
 
 if __name__ == "__main__":

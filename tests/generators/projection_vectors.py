@@ -1,5 +1,5 @@
 #!/usr/bin/env python3
-"""Cases of projections, by exact fractions. Writes crates/pv_project/src/tests/vectors.rt.
+"""Cases of projections, by exact fractions. Writes crates/test_numbers/src/project/vectors.rt.
 
 The rules are those of interval_vectors.py, and roots are found by bisection over all numbers from 0 on: a lower root is
 the greatest number whose power, rounded up, is at most the given one; an upper root is the least number whose power,
@@ -132,9 +132,9 @@ def both(answer_pair):
 
 
 HEADING = """//! Cases of projections. Written by tests/generators/projection_vectors.py: change them there.
-use crate::tests::Ends;
-use crate::tests::Pairs::{self, Add, Div, Max, Min, Mul, Sub};
-use crate::tests::Singles::{self, Abs, Neg, Pow};
+use crate::project::Ends;
+use crate::project::Pairs::{self, Add, Div, Max, Min, Mul, Sub};
+use crate::project::Singles::{self, Abs, Neg, Pow};
 
 """
 
@@ -166,7 +166,7 @@ def main():
         second.append(f"    ({name}, {n}, {pair(z)}, {pair(x)}, {answer(found)}),")
     tables = [table("PAIRS", "(Pairs, Ends, Ends, Ends, Option<(Ends, Ends)>)", first, "super"),
               table("SINGLES", "(Singles, u8, Ends, Ends, Option<Ends>)", second, "super")]
-    (CRATES / "pv_project/src/tests/vectors.rt").write_text(HEADING + "\n".join(tables))
+    (CRATES / "test_numbers/src/project/vectors.rt").write_text(HEADING + "\n".join(tables))
 
 
 if __name__ == "__main__":

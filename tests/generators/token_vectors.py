@@ -1,8 +1,8 @@
 #!/usr/bin/env python3
-"""Writes the tables of crates/pv_tokens/src/tests/lexical.rt: tokens, values of numbers, lines and columns.
+"""Writes the tables of crates/test_reader/src/tokens/lexical.rt: tokens, values of numbers, lines and columns.
 
 The tokens come from regular expressions, the values from fractions, and none from the program.
-Run it at the top of the repository: python3 -m tests.generators.token_vectors > crates/pv_tokens/src/tests/lexical.rt
+Run it at the top of the repository: python3 -m tests.generators.token_vectors > crates/test_reader/src/tokens/lexical.rt
 """
 import re
 from fractions import Fraction
@@ -65,7 +65,7 @@ def literal(text):
 
 def main():
     print("// Written by tests/generators/token_vectors.py.\n")
-    print("use crate::token::Kind;\n")
+    print("use pv_tokens::Kind;\n")
     print("/// Texts and the value of the number that each is, where it is one that is not too wide.")
     print("pub(crate) const NUMBERS: &[(&[u8], Option<(i128, u128)>)] = &[")
     for text in NUMBERS:

@@ -13,15 +13,7 @@ mod marks;
 mod naming;
 mod opening;
 mod pile;
-#[cfg(test)]
-mod rows;
-#[cfg(test)]
-mod seeded;
 mod shared;
-#[cfg(test)]
-mod stages;
-#[cfg(test)]
-mod tests;
 mod ticket;
 mod told;
 
@@ -29,6 +21,7 @@ pub use absorbing::AbsorbRefused;
 pub use board::Board;
 pub use naming::{Endings, Naming, Settlings};
 pub use opening::OpenRefused;
+pub use pile::pile;
 pub use shared::Shared;
 pub use ticket::{Handed, Look, Settled, Ticket};
 pub use told::Told;

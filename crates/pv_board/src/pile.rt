@@ -25,7 +25,7 @@ pub(crate) fn pile_all(paving: &Paving, free: &mut Vec<Path>)
 
 /// Appends the open leaves at and below a path, the last in preorder first, as if its node stood at
 /// another path.
-pub(crate) fn pile(paving: &Paving, path: Path, at: Path, free: &mut Vec<Path>)
+pub fn pile(paving: &Paving, path: Path, at: Path, free: &mut Vec<Path>)
     requires { CanPile paving.now.tree path at (vec_len free.old) (vec_capacity free.old) }
     ensures piled { (s : Tree) → subtree paving.now.tree path ≡ Some s → free.new.items ≡
         free.old.items ++ piled at s }

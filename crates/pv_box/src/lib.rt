@@ -8,6 +8,3 @@ pub mod laws;
 
 pub use boxes::IBox;
 pub use choice::Bisector;
-
-#[cfg(test)]
-mod tests;

@@ -25,6 +25,3 @@ pub use graphs::Graphs;
 pub use known::Known;
 pub use program::Program;
 pub use reading::ProgramRefused;
-
-#[cfg(test)]
-mod tests;

@@ -13,6 +13,3 @@ pub use constraint::{Constraint, Relation};
 pub use domain::{Bound, Domain};
 pub use expr::Expr;
 pub use system::System;
-
-#[cfg(test)]
-mod tests;

@@ -12,8 +12,6 @@ mod outcome_line;
 mod reader;
 mod refusal;
 mod scribe;
-#[cfg(test)]
-mod tests;
 mod version;
 mod writer;
 

@@ -9,6 +9,3 @@ mod interval;
 pub mod laws;
 
 pub use interval::Interval;
-
-#[cfg(test)]
-mod tests;

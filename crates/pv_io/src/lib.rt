@@ -17,8 +17,6 @@ mod refused;
 mod replaced;
 mod script;
 mod sink;
-#[cfg(test)]
-mod tests;
 
 pub use folder::{FetchRefused, Folder, StoreRefused};
 pub use handing_over::{FileWriteRefused, PIECE, hand_over, hand_over_held, hand_over_piece};

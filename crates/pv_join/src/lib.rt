@@ -5,8 +5,6 @@ mod check;
 mod meeting;
 mod merge;
 mod outcomes;
-#[cfg(test)]
-mod tests;
 mod verdict;
 
 pub use check::{audit, differing};

@@ -16,12 +16,11 @@ mod order;
 mod rebuild;
 mod refusal;
 mod row;
-#[cfg(test)]
-mod tests;
 
 pub use campaign::Campaign;
 pub use keeper::{BeginRefused, KeepRefused, Keeper, LoadRefused};
 pub use line::{LONGEST_LINE, Line};
 pub use mem_keeper::MemKeeper;
+pub use rebuild::rebuild;
 pub use refusal::{CampaignRefused, SaveRefused};
 pub use row::{Row, RowRefused, Rows};

@@ -16,7 +16,7 @@ use std::alloc::Global;
 
 /// The paving over a root box whose settled nodes these rows are. The rows are in preorder, so they
 /// are met by one pass over the leaves of the growing tree.
-pub(crate) fn rebuild(alloc: Global, rows: &Rows, root: IBox) -> Result<Paving, CampaignRefused>
+pub fn rebuild(alloc: Global, rows: &Rows, root: IBox) -> Result<Paving, CampaignRefused>
     ensures root { IfOk result (λ p. p.root ≡ root) }
     ensures made { IfOk result (λ p. Make root leaf rows.now p.tree) }
     ensures rows { InPreorder rows.now → IfOk result (λ p. rows.now ≡ rows_of p.tree) }

@@ -14,8 +14,6 @@ mod file_keeper;
 mod kept_path;
 mod listing;
 mod place;
-#[cfg(test)]
-mod tests;
 
 pub use connection_keeper::ConnectionKeeper;
 pub use file_keeper::FileKeeper;

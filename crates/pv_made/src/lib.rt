@@ -3,7 +3,5 @@
 
 mod circles;
 mod draws;
-#[cfg(test)]
-mod tests;
 
 pub use circles::sample_system;

@@ -15,8 +15,6 @@ mod root;
 mod round;
 mod square;
 mod sum;
-#[cfg(test)]
-mod tests;
 mod text;
 mod unlike;
 

@@ -13,6 +13,3 @@ pub use pv_grammar::Cause;
 pub use pv_tokens::read_number;
 pub use reader::{parse, parse_expr};
 pub use refused::ParseRefused;
-
-#[cfg(test)]
-mod tests;

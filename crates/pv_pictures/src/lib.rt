@@ -1,7 +1,9 @@
-//! Worked pictures of slices of pavings that are read from their texts. This crate is tests alone.
+//! Worked pictures of slices of pavings, most of which are read from their texts. This crate is tests alone.
 #![tactic(auto)]
 
 #[cfg(test)]
 mod pictures;
+#[cfg(test)]
+mod sinks;
 #[cfg(test)]
 mod table;

@@ -3,14 +3,10 @@
 
 mod bench;
 mod deque;
-#[cfg(test)]
-mod edges;
 mod gate;
 mod pool;
 mod seat;
 mod teardown;
-#[cfg(test)]
-mod tests;
 mod work;
 mod worker;
 

@@ -10,6 +10,3 @@ mod ring;
 pub use order::{back_abs, back_max, back_min, back_neg};
 pub use power::back_pow;
 pub use ring::{back_add, back_div, back_mul, back_sub};
-
-#[cfg(test)]
-mod tests;

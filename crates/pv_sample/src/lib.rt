@@ -4,8 +4,6 @@
 
 mod above;
 mod steps;
-#[cfg(test)]
-mod tests;
 
 pub use above::Above;
 pub use steps::{grow, settle_first, settle_in_room};

@@ -14,8 +14,6 @@ mod rectangle;
 mod shown;
 mod side;
 mod slicing;
-#[cfg(test)]
-mod tests;
 mod text;
 
 pub use picture::Picture;

@@ -17,6 +17,3 @@ pub use numeral::Parts;
 pub use place::line_and_column;
 pub use scanner::next_token;
 pub use token::{Kind, Token};
-
-#[cfg(test)]
-mod tests;

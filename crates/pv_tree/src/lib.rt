@@ -17,8 +17,6 @@ mod search;
 mod settler;
 mod steps;
 mod stop;
-#[cfg(test)]
-mod tests;
 mod walk;
 
 pub use batch::Batch;

@@ -12,7 +12,5 @@ mod rest;
 mod ruled;
 mod stage;
 mod task;
-#[cfg(test)]
-mod tests;
 
 pub use paving::{Paved, pave, pave_knowing};

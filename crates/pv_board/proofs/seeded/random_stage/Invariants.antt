@@ -1,8 +1,0 @@
-use Rattle.std.proofs.Common.{◌≡◌, length}
-use Rattle.pv_board.proofs.seeded.random_stage.Given as goal
-
-abbrev pub invariant-loop : goal.invariant-loop
-invariant-loop g l = record {
-  root : l.stage.root ≡ l.root;
-  scratch : length l.scratch ≡ length l.root;
-}

@@ -1,0 +1,14 @@
+use Rattle.test_board.proofs.stages.opens_with.Given as goal
+
+abbrev pub ghosts-opens : goal.ghosts-opens
+ghosts-opens g a = record {
+  rule = g.S.Settler.settle_of a.settler.now;
+  dims = g.S.Settler.dims a.settler.now;
+  depth = g.S.Settler.depth_of a.settler.now;
+  root = a.opening.root;
+  opening = a.opening.tree;
+  budget = a.budget;
+  limit = 100000;
+  settlings = 0;
+  endings = 0;
+}

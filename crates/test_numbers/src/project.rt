@@ -1,0 +1,100 @@
+//! Worked cases, whose values come from exact fractions.
+use pv_interval::Interval;
+use pv_num::Num;
+use pv_project::{
+    back_abs, back_add, back_div, back_max, back_min, back_mul, back_neg, back_pow, back_sub,
+};
+
+mod vectors;
+
+#[derive(Clone, Copy)]
+pub(crate) enum Pairs {
+    Add,
+    Sub,
+    Mul,
+    Div,
+    Min,
+    Max,
+}
+
+#[derive(Clone, Copy)]
+pub(crate) enum Singles {
+    Neg,
+    Abs,
+    Pow,
+}
+
+// A mantissa and an exponent; the exponent 999 stands for an infinite end.
+pub(crate) type Spelled = (i64, i16);
+
+pub(crate) type Ends = (Spelled, Spelled);
+
+fn spelled((m, e): Spelled) -> Option<Num> {
+    if e == 999 {
+        return Some(if m < 0 { Num::NEG_INF } else { Num::POS_INF });
+    }
+    Num::fin(m, e)
+}
+
+fn interval((lo, hi): Ends) -> Option<Interval> {
+    Interval::new(spelled(lo)?, spelled(hi)?)
+}
+
+fn pair(of: Pairs, z: Interval, x: Interval, y: Interval) -> Option<(Interval, Interval)> {
+    match of {
+        Pairs::Add => back_add(z, x, y),
+        Pairs::Sub => back_sub(z, x, y),
+        Pairs::Mul => back_mul(z, x, y),
+        Pairs::Div => back_div(z, x, y),
+        Pairs::Min => back_min(z, x, y),
+        Pairs::Max => back_max(z, x, y),
+    }
+}
+
+fn single(of: Singles, n: u8, z: Interval, x: Interval) -> Option<Interval> {
+    match of {
+        Singles::Neg => back_neg(z, x),
+        Singles::Abs => back_abs(z, x),
+        Singles::Pow => {
+            if n > 32 {
+                return None;
+            }
+            back_pow(z, x, n)
+        }
+    }
+}
+
+fn pair_holds(case: &(Pairs, Ends, Ends, Ends, Option<(Ends, Ends)>)) -> Option<bool> {
+    let found = pair(
+        case.0,
+        interval(case.1)?,
+        interval(case.2)?,
+        interval(case.3)?,
+    );
+    match case.4 {
+        Some((left, right)) => Some(found == Some((interval(left)?, interval(right)?))),
+        None => Some(found.is_none()),
+    }
+}
+
+fn single_holds(case: &(Singles, u8, Ends, Ends, Option<Ends>)) -> Option<bool> {
+    let found = single(case.0, case.1, interval(case.2)?, interval(case.3)?);
+    match case.4 {
+        Some(ends) => Some(found == Some(interval(ends)?)),
+        None => Some(found.is_none()),
+    }
+}
+
+#[test]
+fn pair_cases(rt: HostRuntime) {
+    for (i, case) in vectors::PAIRS.iter().enumerate() {
+        assert_eq!(rt; pair_holds(case), Some(true), "pair {i}");
+    }
+}
+
+#[test]
+fn single_cases(rt: HostRuntime) {
+    for (i, case) in vectors::SINGLES.iter().enumerate() {
+        assert_eq!(rt; single_holds(case), Some(true), "single {i}");
+    }
+}

@@ -1,0 +1,10 @@
+//! Worked trees of boxes, their joins and audits, and the plain settler of other tests. This crate
+//! is tests alone.
+#![tactic(auto)]
+
+#[cfg(test)]
+mod join;
+#[cfg(test)]
+mod sample;
+#[cfg(test)]
+mod tree;
