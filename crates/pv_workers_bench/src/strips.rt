@@ -52,7 +52,9 @@ pub fn pave_strips<R: Threads + Wait + Sync>(
         return Err(Memory);
     }
     let forgetful = Forgetful { settler: &settler };
-    let paved = pave_knowing(rt, alloc, &forgetful, opening, budget, limit, workers, &NoGate)?;
+    let paved = pave_knowing(
+        rt, alloc, &forgetful, opening, budget, limit, workers, &NoGate,
+    )?;
     Ok(Strips {
         nodes: paved.paving.counts().settled(),
         tickets: paved.spent,
