@@ -7,7 +7,7 @@ ghost use Rattle.pv_lines.specs.Turns.{AreSpread};
 
 use crate::spread::{hand_from, spread, turn_all};
 use pv_file::{Scribe, Version};
-use pv_io::Sink;
+use pv_io::{FileWriteRefused, Sink};
 use pv_tree::Paving;
 use std::alloc::Global;
 use std::thread::Threads;

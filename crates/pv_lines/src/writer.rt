@@ -7,7 +7,7 @@ ghost use Rattle.pv_file.specs.declared.version.Version.TheVariants as version;
 
 use crate::rounds::{nodes_of, write_nodes};
 use pv_file::{Version, write, write_header, write_lines};
-use pv_io::Sink;
+use pv_io::{FileWriteRefused, Sink};
 use pv_tree::Paving;
 use std::alloc::Global;
 use std::thread::Threads;
