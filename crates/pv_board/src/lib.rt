@@ -30,5 +30,5 @@ pub use board::Board;
 pub use naming::{Endings, Naming, Settlings};
 pub use opening::OpenRefused;
 pub use shared::Shared;
-pub use ticket::{Handed, Look, Settled, Ticket};
-pub use told::Told;
+pub use ticket::{Handed, Look, MOST_GRANT, Settled, Ticket};
+pub use told::{LOT_NODES, MOST_LOTS, MOST_TICKET_NODES, Told};
