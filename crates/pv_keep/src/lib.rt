@@ -21,7 +21,7 @@ mod tests;
 
 pub use campaign::Campaign;
 pub use keeper::{BeginRefused, KeepRefused, Keeper, LoadRefused};
-pub use line::{LONGEST_LINE, Line};
+pub use line::Line;
 pub use mem_keeper::MemKeeper;
 pub use refusal::{CampaignRefused, SaveRefused};
 pub use row::{Row, RowRefused, Rows};
