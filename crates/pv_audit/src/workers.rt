@@ -4,6 +4,7 @@ ghost use Rattle.pv_tree.specs.Sets.{Covers};
 ghost use Rattle.pv_join.specs.Audits.{IsVerdict, IsSoundIfHonest};
 ghost use Rattle.pv_join.specs.declared.verdict.Audit.TheVariants.{DiffersAt};
 ghost use Rattle.pv_audit.specs.Reports.{IsReport, AreReports};
+ghost use Rattle.pv_tree.specs.declared.limit.TheConstants.{MOST_WORKERS};
 
 use crate::report::{Difference, Report};
 use crate::share::{check_share, nodes_of};
@@ -29,7 +30,7 @@ pub fn audit_by_workers<S: Settler + Sync, R: Threads + Sync>(
 ) -> Result<Audit, Memory>
     requires dims { length paving.now.root ≡ S.dims settler.now }
     requires one { 1 ≤ workers }
-    requires few { workers ≤ 16 }
+    requires few { workers ≤ MOST_WORKERS }
     ensures verdict { IfOk result (λ v.
         IsVerdict (S.settle_of settler.now) (S.depth_of settler.now)
         paving.now.root paving.now.tree v) }

@@ -9,6 +9,7 @@ use Rattle.pv_tree.specs.Codes.{coded_box, coded_tree}
 use Rattle.pv_board.specs.declared.mark.Mark.{Mark}
 use Rattle.pv_board.specs.Marks.{holds, marked, issued, granted}
 use Rattle.pv_board.specs.Rules.{IsFitting, settled_in}
+use Rattle.pv_board.specs.declared.ticket.TheConstants.{MOST_GRANT}
 
 -- The paving with its root box and its room, the marks of the issued paths, what is used and left of the budget, whether it was stopped, and a
 -- number that changes where a worker might find something new.
@@ -36,7 +37,7 @@ pub record IsCore (rule : Rule) (depth : ℕ) (root : List Bounds) (opening : Tr
   pub stage : IsStage rule depth root opening c.tree
   pub distinct : (q : List Bool) → marked c.marks q ≤ 1
   pub are_open : (q : List Bool) → 0 < marked c.marks q → subtree c.tree q ≡ Some leaf
-  pub grants : (q : List Bool) → holds c.marks q ≤ 16
+  pub grants : (q : List Bool) → holds c.marks q ≤ MOST_GRANT + 1
   pub conserved : c.used + issued c.marks + granted c.marks + c.left ≡ budget
   pub settled : settled_in opening + c.used ≤ settled_in c.tree
   pub few : settled_in c.tree + issued c.marks + granted c.marks + c.left ≤ limit

@@ -10,6 +10,7 @@ use Rattle.pv_board.specs.Marks.{weigh, issued, granted, HasMore}
 use Rattle.pv_board.specs.Rules.{settled_in}
 use Rattle.pv_board.specs.Core.{Core, IsOpening, IsCore}
 use Rattle.pv_board.specs.Events.{free_units, fresh, Swaps}
+use Rattle.pv_board.specs.declared.ticket.TheConstants.{MOST_GRANT}
 
 abbrev pub marks_of : Leaves → List Mark
 marks_of l = values l.marks.slots
@@ -78,7 +79,7 @@ pub record IsBoard (rule : Rule) (depth dims : ℕ) (root : List Bounds) (openin
   pub opens_right : IsOpening rule depth dims root opening
   pub core : IsCore rule depth root opening budget limit c
   pub leaves : AreOpen l c.tree
-  pub few_grants : weigh (λ m. m.grant - 15) (marks_of l) ≡ 0
+  pub few_grants : weigh (λ m. m.grant - MOST_GRANT) (marks_of l) ≡ 0
   pub room : HasRoom l
   pub for_free : settled_in c.tree + issued c.marks + granted c.marks + c.left < vec_capacity l.free
 

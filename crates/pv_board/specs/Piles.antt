@@ -3,6 +3,7 @@ use Rattle.std.specs.Prelude.{◌≡◌, ℕ, ◌+◌, ◌≤◌, Bool, true, fa
 use Rattle.pv_tree.specs.Trees.{Tree, leaf, removed, inner, small, cut, subtree, opens, height}
 use Rattle.pv_tree.specs.declared.outcome.Shape.{Shape}
 use Rattle.pv_tree.specs.declared.outcome.Shape.TheVariants as shape
+use Rattle.pv_tree.specs.declared.path.TheConstants.{MOST_STEPS}
 
 -- The paths of the open leaves where the tree's root stands at a path, the last in preorder first.
 abbrev pub piled : List Bool → Tree → List (List Bool)
@@ -16,7 +17,7 @@ piled p (cut to v a low high) = piled (p ++ true ∷ []) high ++ piled (p ++ fal
 pub record CanPile (t : Tree) (path at : List Bool) (len room : ℕ) : Type 0 where
   pub part : Tree
   pub is : subtree t path ≡ Some part
-  pub depth : length at + height part ≤ 200
+  pub depth : length at + height part ≤ MOST_STEPS
   pub fits : len + length (opens part) ≤ room
 
 abbrev pub is_cut_shape : Shape → Bool

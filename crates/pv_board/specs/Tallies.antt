@@ -1,6 +1,7 @@
 -- What a caller of a shared board has counted.
-use Rattle.std.specs.Prelude.{◌≡◌, ℕ, ◌+◌, ◌-◌, ◌*◌, ◌/◌, ◌<◌, ◌≤◌, min, Bool, if◌then◌else◌, ◌++◌, length, option_to_list, refl}
+use Rattle.std.specs.Prelude.{◌≡◌, ℕ, ◌+◌, ◌-◌, ◌*◌, ◌/◌, ◌^◌, ◌<◌, ◌≤◌, min, Bool, if◌then◌else◌, ◌++◌, length, option_to_list, refl}
 use Rattle.std.specs.Coded.{Coded, code_by, coded×, coded_ℕ}
+use Rattle.pv_tree.specs.Limits.{told_room}
 use Rattle.pv_tree.specs.Trees.{Tree}
 use Rattle.pv_board.specs.declared.ticket.Look.{Look}
 use Rattle.pv_board.specs.declared.ticket.Look.TheVariants as look
@@ -8,6 +9,8 @@ use Rattle.pv_board.specs.declared.ticket.Settled.{Settled}
 use Rattle.pv_board.specs.Rules.{settled_in}
 use Rattle.pv_board.specs.Core.{Core}
 use Rattle.pv_board.specs.Events.{IsDry, IsLook, IsOver}
+use Rattle.pv_board.specs.declared.ticket.TheConstants.{MOST_GRANT}
+use Rattle.pv_board.specs.declared.told.TheConstants.{LOT_NODES, MOST_LOTS}
 
 -- How many nodes it settled, how many endings and changes it was told of, how many tickets it was given and handed in, how many lots of up to 16 nodes
 -- it settled, each ticket's nodes by themselves, and its parts of the right to know the whole.
@@ -31,13 +34,13 @@ tally_of parts = record { settled = 0; ended = 0; looks = 0; given = 0; spent = 
 
 -- Counts of 64 bits stand still at their end.
 abbrev pub most : ℕ
-most = 18446744073709551615
+most = 2 ^ 64 - 1
 
 -- The three counts of tickets and looks are far from their end.
 pub record IsLow (t : Tally) : Type 0 where
-  pub looks : t.looks < 1267650600228229401496703205376
-  pub given : t.given < 1267650600228229401496703205376
-  pub spent : t.spent < 1267650600228229401496703205376
+  pub looks : t.looks < told_room
+  pub given : t.given < told_room
+  pub spent : t.spent < told_room
 
 abbrev pub joined : Tally → Tally → Tally
 joined t u = record {
@@ -52,7 +55,7 @@ joined t u = record {
 
 -- How many lots of up to 16 are so many nodes.
 abbrev pub lots_of : ℕ → ℕ
-lots_of nodes = (nodes + 15) / 16
+lots_of nodes = (nodes + MOST_GRANT) / LOT_NODES
 
 -- A ticket was handed in: so many nodes were settled by it, and so many tickets given for it.
 abbrev pub handed_in : Tally → ℕ → ℕ → Tally
@@ -94,9 +97,9 @@ pub record IsTold (settlings endings settled ended spent lots parts others : ℕ
   pub ended_is : ended ≡ min endings most
   pub others_are : others ≡ parts
   pub some : 0 < parts
-  pub few : settlings ≤ 16 * lots
+  pub few : settlings ≤ LOT_NODES * lots
   pub least : lots ≤ settlings
-  pub few_lots : lots ≤ 256 * spent
+  pub few_lots : lots ≤ MOST_LOTS * spent
 
 -- The books are right, nothing was absorbed, and where an ending is booked nothing is issued or can be taken.
 pub record IsDesk (opening : Tree) (c : Core) (settlings endings ended : ℕ) : Type 0 where

@@ -10,6 +10,8 @@ ghost use Rattle.pv_board.specs.Absorbing.{IsAbsorbed, IsAbsorbRefusal};
 ghost use Rattle.pv_tree.specs.Arena.{is_a_cut};
 ghost use Rattle.pv_tree.specs.declared.outcome.Shape.TheVariants.{Absent};
 ghost use Rattle.pv_board.specs.Leaves.{IsBoard, seen};
+ghost use Rattle.pv_board.specs.declared.ticket.TheConstants.{MOST_GRANT};
+ghost use Rattle.pv_tree.specs.declared.batch.TheConstants.{MOST_BATCH};
 
 use crate::absorbing::{AbsorbRefused, fill_all, leaves_below};
 use crate::ceiling::Ceiling;
@@ -189,7 +191,7 @@ impl<N: Naming> Board<N> {
             (length ticket.path) stage.now.tree }
         requires some { 1 ≤ settled_in stage.now.tree }
         requires leaves { leaves.now ≡ leaves_at ticket.path stage.now.tree }
-        requires few { length leaves.now ≤ 17 }
+        requires few { length leaves.now ≤ MOST_BATCH }
         requires empty { children.old ≡ [] }
         ensures handed { IsHandedIn self.old self.new ticket stage.now.tree children.new result }
         ensures rose { HasRisen self.old self.new (taken_by result (settled_in stage.now.tree)) }
@@ -234,7 +236,7 @@ impl<N: Naming> Board<N> {
     /// Moves units from what is left to a current ticket's grant: as many as are wanted and left,
     /// and none where the board was stopped.
     pub fn extend(&mut self, ticket: &mut Ticket, want: u64) -> u64
-        requires { ticket.old.grant + want ≤ 15 }
+        requires { ticket.old.grant + want ≤ MOST_GRANT }
         ensures units { result ≡ (if is_current self.old ticket.old then min want
             (may_issue self.old) else 0) }
         ensures extended { IsTrue (is_current self.old ticket.old) →

@@ -10,6 +10,9 @@ ghost use Rattle.pv_board.specs.Events.{is_current, may_issue, next_step, fresh,
 ghost use Rattle.pv_board.specs.declared.ticket.Handed.TheVariants.{Taken};
 ghost use Rattle.pv_board.specs.declared.ticket.Look.TheVariants.{Done};
 ghost use Rattle.pv_board.specs.Tallies.{Tally, tally_of, handed_in, given_more, told_of, one_if, tickets_in, IsLow, IsDeskLook};
+ghost use Rattle.pv_board.specs.declared.ticket.TheConstants.{MOST_GRANT};
+ghost use Rattle.pv_board.specs.declared.told.TheConstants.{MOST_TICKET_NODES};
+ghost use Rattle.pv_tree.specs.declared.batch.TheConstants.{MOST_BATCH};
 
 use crate::board::Board;
 use crate::naming::{Endings, Naming, Settlings};
@@ -136,9 +139,9 @@ impl<N: Naming> Desk<N> {
         requires stage { IsStageBelow N.rule N.depth stage.now.root
             (length ticket.path) stage.now.tree }
         requires some { 1 ≤ settled_in stage.now.tree }
-        requires few { settled_in stage.now.tree ≤ 4096 }
+        requires few { settled_in stage.now.tree ≤ MOST_TICKET_NODES }
         requires leaves { leaves.now ≡ leaves_at ticket.path stage.now.tree }
-        requires batch { length leaves.now ≤ 17 }
+        requires batch { length leaves.now ≤ MOST_BATCH }
         requires empty { children.old ≡ [] }
         ensures told { told.new ≡ handed_in told.old
             (taken_by result (settled_in stage.now.tree)) (length children.new) }
@@ -167,7 +170,7 @@ impl<N: Naming> Desk<N> {
     }
 
     pub(crate) fn extend(&mut self, ticket: &mut Ticket, want: u64) -> u64
-        requires { ticket.old.grant + want ≤ 15 }
+        requires { ticket.old.grant + want ≤ MOST_GRANT }
         ensures few { result ≤ want }
         ensures path { ticket.new.path ≡ ticket.old.path }
         ensures grant { ticket.new.grant ≡ ticket.old.grant + result }
@@ -196,7 +199,7 @@ impl<N: Naming> Desk<N> {
     }
 
     pub(crate) fn prepare(&mut self, ticket: &mut Ticket, want: u64, into: &mut IBox) -> Option<u64>
-        requires units { ticket.old.grant + want ≤ 15 }
+        requires units { ticket.old.grant + want ≤ MOST_GRANT }
         requires dims { length into.old ≡ N.dims }
         ensures path { ticket.new.path ≡ ticket.old.path }
         ensures least { ticket.old.grant ≤ ticket.new.grant }

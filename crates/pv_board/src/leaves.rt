@@ -6,6 +6,7 @@ ghost use Rattle.pv_board.specs.Marks.{HasMore, marked, holds, issued, granted};
 ghost use Rattle.pv_board.specs.Rules.{settled_in};
 ghost use Rattle.pv_board.specs.Events.{free_units, fresh};
 ghost use Rattle.pv_board.specs.Leaves.{marks_of, HasRoom, AreOpen, AreOffered, IsIssued, IsClosed, IsFreed, IsRaised, children_of};
+ghost use Rattle.pv_tree.specs.declared.path.TheConstants.{MOST_STEPS};
 
 use crate::mark::Mark;
 use crate::marks::Marks;
@@ -174,7 +175,7 @@ impl Leaves {
         path: Path,
         cuts: bool,
     ) -> (Option<Ticket>, Option<Ticket>)
-        requires depth { IsTrue cuts → length path < 200 }
+        requires depth { IsTrue cuts → length path < MOST_STEPS }
         requires few { vec_len self.old.free + 2 ≤ vec_capacity self.old.free }
         requires room { HasRoom self.old }
         ensures offered { AreOffered self.old self.new (children_of path cuts) }

@@ -1,4 +1,5 @@
 //! What a board is for, as contracts know it.
+
 use std::marker::{Brand, PhantomData};
 use std::sync::ledger::Ledger;
 
@@ -42,6 +43,7 @@ impl Naming for Brand {
     ghost use Rattle.std.specs.Prelude.{[]};
     ghost use Rattle.pv_tree.specs.Trees.{leaf};
     ghost use Rattle.pv_tree.specs.declared.outcome.Outcome.TheVariants.{Removed};
+    ghost use Rattle.pv_tree.specs.declared.limit.TheConstants.{LEAST_LIMIT};
 
     ghost rule = { λ b d k. Removed };
 
@@ -55,7 +57,7 @@ impl Naming for Brand {
 
     ghost budget = { 1 };
 
-    ghost limit = { 100000 };
+    ghost limit = { LEAST_LIMIT };
 
     ghost settlings = { 0 };
 

@@ -4,6 +4,7 @@ ghost use Rattle.pv_tree.specs.Trees.{Seen};
 ghost use Rattle.pv_board.specs.Rules.{IsFitting, settled_in};
 ghost use Rattle.pv_board.specs.Core.{Core};
 ghost use Rattle.pv_board.specs.Openings.{IsOpened, IsOpenRefusal};
+ghost use Rattle.pv_tree.specs.declared.limit.TheConstants.{LEAST_LIMIT};
 
 use crate::board::Board;
 use crate::ceiling::Ceiling;
@@ -25,17 +26,17 @@ impl<N: Naming> Board<N> {
     /// A board on a paving, with a budget of 1 to 100,000 settlings, for a tree of at most 100,000
     /// settled nodes. It makes all room that settling needs.
     pub fn open(alloc: Global, opening: Paving, budget: u64) -> Result<Board<N>, OpenRefused>
-        requires limit { N.limit ≡ 100000 }
+        requires limit { N.limit ≡ LEAST_LIMIT }
         requires root { opening.root ≡ N.root }
         requires tree { opening.tree ≡ N.opening }
         requires budget { budget ≡ N.budget }
         requires some { 1 ≤ budget }
-        requires few { budget ≤ 100000 }
+        requires few { budget ≤ LEAST_LIMIT }
         requires rule { IsFitting N.rule N.depth N.dims }
         requires places { length N.root ≡ N.dims }
         ensures opened { IfOk result (λ b. IsOpened N.root N.opening N.budget b) }
-        ensures fits { OnOk result (settled_in N.opening + budget ≤ 100000) }
-        ensures refused { IfErr result (λ e. IsOpenRefusal opening budget 100000 e) }
+        ensures fits { OnOk result (settled_in N.opening + budget ≤ LEAST_LIMIT) }
+        ensures refused { IfErr result (λ e. IsOpenRefusal opening budget LEAST_LIMIT e) }
     {
         Board::open_within(alloc, opening, budget, NodeLimit::by_default())
     }

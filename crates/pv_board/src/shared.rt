@@ -9,6 +9,9 @@ ghost use Rattle.pv_board.specs.Events.{fresh, IsOver, leaves_at, taken_by};
 ghost use Rattle.pv_board.specs.Tallies.{tally_of, handed_in, given_more, told_of, one_if, tickets_in, IsLow};
 ghost use Rattle.pv_board.specs.declared.ticket.Handed.TheVariants.{Taken};
 ghost use Rattle.pv_board.specs.declared.ticket.Look.TheVariants.{Done, Same};
+ghost use Rattle.pv_board.specs.declared.ticket.TheConstants.{MOST_GRANT};
+ghost use Rattle.pv_board.specs.declared.told.TheConstants.{MOST_TICKET_NODES};
+ghost use Rattle.pv_tree.specs.declared.batch.TheConstants.{MOST_BATCH};
 
 use crate::board::Board;
 use crate::desk::Desk;
@@ -106,9 +109,9 @@ impl<N: Naming> Shared<N> {
         requires stage { IsStageBelow N.rule N.depth stage.now.root
             (length ticket.path) stage.now.tree }
         requires some { 1 ≤ settled_in stage.now.tree }
-        requires few { settled_in stage.now.tree ≤ 4096 }
+        requires few { settled_in stage.now.tree ≤ MOST_TICKET_NODES }
         requires leaves { leaves.now ≡ leaves_at ticket.path stage.now.tree }
-        requires batch { length leaves.now ≤ 17 }
+        requires batch { length leaves.now ≤ MOST_BATCH }
         requires empty { children.old ≡ [] }
         ensures told { told.new ≡ handed_in told.old
             (taken_by result (settled_in stage.now.tree)) (length children.new) }
@@ -133,7 +136,7 @@ impl<N: Naming> Shared<N> {
 
     /// Moves units from what is left to a ticket's grant.
     pub fn extend<R: Wait>(&self, rt: &R, ticket: &mut Ticket, want: u64) -> u64
-        requires { ticket.old.grant + want ≤ 15 }
+        requires { ticket.old.grant + want ≤ MOST_GRANT }
         ensures units { result ≤ want }
         ensures path { ticket.new.path ≡ ticket.old.path }
         ensures grant { ticket.new.grant ≡ ticket.old.grant + result }
@@ -165,7 +168,7 @@ impl<N: Naming> Shared<N> {
         want: u64,
         into: &mut IBox,
     ) -> Option<u64>
-        requires units { ticket.old.grant + want ≤ 15 }
+        requires units { ticket.old.grant + want ≤ MOST_GRANT }
         requires dims { length into.old ≡ N.dims }
         ensures path { ticket.new.path ≡ ticket.old.path }
         ensures least { ticket.old.grant ≤ ticket.new.grant }

@@ -6,6 +6,9 @@ use crate::mark::Mark;
 use pv_tree::Path;
 use std::marker::Model;
 
+/// The most units that a ticket has beyond its own.
+pub const MOST_GRANT: u64 = 15;
+
 /// The right to settle an open leaf. It is current as long as the board has its path issued with
 /// its grant. A ticket that is dropped leaves its path issued.
 #[derive(Drop)]
@@ -19,6 +22,7 @@ impl Model for Ticket {
     ghost use Rattle.std.specs.Prelude.{◌≤◌};
     ghost use Rattle.pv_board.specs.declared.mark.Mark.{Mark};
     ghost use Rattle.pv_board.specs.Core.{coded_mark};
+    ghost use Rattle.pv_board.specs.declared.ticket.TheConstants.{MOST_GRANT};
 
     ghost Value = { Mark };
 
@@ -26,7 +30,7 @@ impl Model for Ticket {
 
     ghost view = { λ a. a.mark };
 
-    ghost invariant = { λ a. a.mark.grant ≤ 15 };
+    ghost invariant = { λ a. a.mark.grant ≤ MOST_GRANT };
 }
 
 impl Ticket {
@@ -50,7 +54,7 @@ impl Ticket {
     /// Its units beyond its own.
     pub fn grant(&self) -> u64
         ensures grant { result ≡ self.now.grant }
-        ensures few { result ≤ 15 }
+        ensures few { result ≤ MOST_GRANT }
     {
         self.mark.grant
     }
@@ -62,7 +66,7 @@ impl Ticket {
 
     /// Raises the grant.
     pub(crate) fn raise(&mut self, units: u64, slot: usize)
-        requires { self.old.grant + units ≤ 15 }
+        requires { self.old.grant + units ≤ MOST_GRANT }
         ensures path { self.new.path ≡ self.old.path }
         ensures grant { self.new.grant ≡ self.old.grant + units }
     {

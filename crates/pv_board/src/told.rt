@@ -1,10 +1,22 @@
 //! What a caller of a shared board has counted.
 ghost use Rattle.std.specs.Prelude.{◌≡◌, ◌+◌, ◌-◌, ◌*◌, ◌<◌, ◌≤◌, min};
 ghost use Rattle.pv_board.specs.Tallies.{Tally, tally_of, most, lots_of, joined, handed_in, given_more, ended_more, looked_more, IsLow};
+ghost use Rattle.pv_tree.specs.declared.batch.TheConstants.{MOST_BATCH};
+ghost use Rattle.pv_tree.specs.Limits.{told_room};
 
 use crate::naming::{Endings, Naming, Settlings};
+use crate::ticket::MOST_GRANT;
 use std::marker::Model;
 use std::sync::ledger::{Book, Share};
+
+/// The most nodes of a lot: a ticket's own one, and as many as its grant may be.
+pub const LOT_NODES: u64 = 16;
+
+/// The most lots that one ticket settles.
+pub const MOST_LOTS: u64 = 256;
+
+/// The most nodes that one ticket settles.
+pub const MOST_TICKET_NODES: u64 = 4096;
 
 /// A caller's counts. Each part of all callers' counts together is one of 32 parts.
 #[derive(Drop)]
@@ -33,10 +45,10 @@ impl<N: Naming> Model for Told<N> {
 
 /// How many lots of up to 16 are so many nodes.
 fn lots_of(nodes: u64) -> u64
-    requires { nodes ≤ 4096 }
+    requires { nodes ≤ MOST_TICKET_NODES }
     ensures { result ≡ lots_of nodes }
 {
-    (nodes + 15) / 16
+    (nodes + MOST_GRANT) / LOT_NODES
 }
 
 impl<N: Naming> Told<N> {
@@ -63,7 +75,7 @@ impl<N: Naming> Told<N> {
     /// How many nodes it settled; the count stands still at its end.
     pub fn settled(&self) -> u64
         ensures settled { result ≡ self.now.settled }
-        ensures few { result ≤ 16 * self.now.lots }
+        ensures few { result ≤ LOT_NODES * self.now.lots }
     {
         self.settled
     }
@@ -99,7 +111,7 @@ impl<N: Naming> Told<N> {
     /// How many lots of up to 16 nodes it settled, each ticket's nodes by themselves.
     pub fn lots(&self) -> u128
         ensures is { result ≡ self.now.lots }
-        ensures few { result ≤ 256 * self.now.spent }
+        ensures few { result ≤ MOST_LOTS * self.now.spent }
     {
         self.lots
     }
@@ -126,9 +138,9 @@ impl<N: Naming> Told<N> {
 
     /// Adds another caller's counts and parts.
     pub fn join(&mut self, other: Told<N>)
-        requires looks { self.old.looks + other.looks < 1267650600228229401496703205376 }
-        requires given { self.old.given + other.given < 1267650600228229401496703205376 }
-        requires spent { self.old.spent + other.spent < 1267650600228229401496703205376 }
+        requires looks { self.old.looks + other.looks < told_room }
+        requires given { self.old.given + other.given < told_room }
+        requires spent { self.old.spent + other.spent < told_room }
         ensures { self.new ≡ joined self.old other }
     {
         let Told {
@@ -154,8 +166,8 @@ impl<N: Naming> Told<N> {
     /// Books a ticket that was handed in.
     pub(crate) fn hand_in(&mut self, book: &mut Book<Settlings<N>>, nodes: u64, tickets: u64)
         requires low { IsLow self.old }
-        requires few { nodes ≤ 4096 }
-        requires most { tickets ≤ 17 }
+        requires few { nodes ≤ MOST_TICKET_NODES }
+        requires most { tickets ≤ MOST_BATCH }
         ensures told { self.new ≡ handed_in self.old nodes tickets }
         ensures book { book.new.total ≡ book.old.total + nodes }
     {
@@ -180,7 +192,7 @@ impl<N: Naming> Told<N> {
     /// Counts tickets that were given.
     pub(crate) fn give(&mut self, tickets: u64)
         requires low { IsLow self.old }
-        requires most { tickets ≤ 17 }
+        requires most { tickets ≤ MOST_BATCH }
         ensures { self.new ≡ given_more self.old tickets }
     {
         self.given += u128::from(tickets);

@@ -5,11 +5,12 @@ use Rattle.pv_num.specs.Order.{le, lt}
 use Rattle.pv_interval.specs.Bounds.{Bounds, IsInterval}
 use Rattle.pv_interval.specs.Points.{Lies, Point}
 use Rattle.pv_interval.specs.Tables.{hull_of, meet_of}
+use Rattle.pv_box.specs.declared.boxes.TheConstants.{MOST_PLACES}
 
--- 1 to 12 places, each an interval
+-- some places, but not too many, each an interval
 pub record IsBox (b : List Bounds) : Type 0 where
   pub some : 0 < length b
-  pub few : length b ≤ 12
+  pub few : length b ≤ MOST_PLACES
   pub intervals : All IsInterval b
 
 abbrev pub LieIn : List ℤ → ℕ → List Bounds → Type 0

@@ -9,7 +9,10 @@ use pv_num::{Memory, Num};
 use std::alloc::Global;
 use std::marker::Model;
 
-/// A box of 1 to 12 intervals. Contracts see the list of its places.
+/// The most places of a box: a system has no more variables.
+pub const MOST_PLACES: usize = 12;
+
+/// A box of 1 to `MOST_PLACES` intervals. Contracts see the list of its places.
 #[derive(Drop)]
 pub struct IBox {
     parts: Vec<Interval>,
@@ -28,17 +31,17 @@ impl Model for IBox {
 }
 
 impl IBox {
-    /// The box of these intervals, of which there are 1 to 12.
+    /// The box of these intervals, of which there are 1 to `MOST_PLACES`.
     pub fn new(parts: Vec<Interval>) -> IBox
         requires some { 0 < length parts.items }
-        requires few { length parts.items ≤ 12 }
+        requires few { length parts.items ≤ MOST_PLACES }
         ensures { result ≡ parts.items }
     {
         learn_intervals(&parts);
         IBox { parts }
     }
 
-    /// The number of places, from 1 to 12.
+    /// The number of places, from 1 to `MOST_PLACES`.
     pub fn dims(&self) -> u8
         ensures dims { result ≡ length self.now }
         ensures is_box { IsBox self.now }

@@ -6,5 +6,5 @@ mod choice;
 mod hull;
 pub mod laws;
 
-pub use boxes::IBox;
+pub use boxes::{IBox, MOST_PLACES};
 pub use choice::Bisector;

@@ -7,6 +7,8 @@ use Rattle.pv_code.specs.declared.expand.Function.{Function}
 use Rattle.pv_code.specs.declared.measure.Measure.{Measure}
 use Rattle.pv_code.specs.declared.measure.Place.{Place}
 use Rattle.pv_code.specs.Expansion.{Meaning, Sides, argument}
+use Rattle.pv_code.specs.declared.measure.TheConstants.{MOST_PARAMETERS}
+use Rattle.pv_expr.specs.declared.system.TheConstants.{MOST_TERM_DEPTH, MOST_TERM_NODES}
 
 -- ---- The limits
 
@@ -16,12 +18,12 @@ nodes_of s = node_count s.left + node_count s.right
 
 -- no way down from a side's root has more than 2,000 nodes
 pub record IsShallow (s : Sides) : Type 0 where
-  pub left : depth_of s.left ≤ 2000
-  pub right : depth_of s.right ≤ 2000
+  pub left : depth_of s.left ≤ MOST_TERM_DEPTH
+  pub right : depth_of s.right ≤ MOST_TERM_DEPTH
 
 -- the sides of all constraints have at most 65,536 nodes together, and each is shallow
 pub record AreWithin (cs : List Sides) : Type 0 where
-  pub few_nodes : sum_by nodes_of cs ≤ 65536
+  pub few_nodes : sum_by nodes_of cs ≤ MOST_TERM_NODES
   pub shallow : All IsShallow cs
 
 -- the constraints before this one are within the limits, and with it they are not
@@ -32,8 +34,8 @@ pub record IsFirstLarge (cs : List Sides) (i : ℕ) : Type 0 where
 
 -- the nodes up to and with a constraint behind constraints with so many, or none where it is too large there
 abbrev pub IsRoom : ℕ → Sides → Option ℕ → Type 0
-IsRoom before s None = ¬ (IsShallow s × (before + nodes_of s ≤ 65536))
-IsRoom before s (Some nodes) = IsShallow s × (nodes ≡ before + nodes_of s) × (nodes ≤ 65536)
+IsRoom before s None = ¬ (IsShallow s × (before + nodes_of s ≤ MOST_TERM_NODES))
+IsRoom before s (Some nodes) = IsShallow s × (nodes ≡ before + nodes_of s) × (nodes ≤ MOST_TERM_NODES)
 
 -- ---- Sizes of an expression whose parameters are left open
 
@@ -86,7 +88,7 @@ IsSize m args t = IsSizeOf m args (node_count t) (depth_of t)
 
 -- the measure of a function, at all arguments that it may have
 abbrev pub IsMeasured : Measure → Meaning → Type 0
-IsMeasured m f = (args : List Term) → length args ≤ 12 → IsSize m args (f args)
+IsMeasured m f = (args : List Term) → length args ≤ MOST_PARAMETERS → IsSize m args (f args)
 
 -- the same of all functions
 abbrev pub AreMeasured : List Function → List Meaning → Type 0
@@ -96,5 +98,5 @@ AreMeasured fs ms = ⊥
 
 -- a call has no more arguments than a function may have parameters
 abbrev pub IsShortCall : Op → Type 0
-IsShortCall (Call k n) = n ≤ 12
+IsShortCall (Call k n) = n ≤ MOST_PARAMETERS
 IsShortCall o = Unit {0}

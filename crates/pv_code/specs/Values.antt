@@ -6,6 +6,7 @@ use Rattle.pv_code.specs.declared.expand.Function.{Function}
 use Rattle.pv_code.specs.declared.value.Value.{Value}
 use Rattle.pv_code.specs.Expansion.{Meaning, Stand, code_of, meanings, run}
 use Rattle.pv_code.specs.Sizes.{AreMeasured, IsShortCall, IsSize}
+use Rattle.pv_code.specs.declared.measure.TheConstants.{MOST_PARAMETERS}
 
 -- functions, what they mean, what the parameters stand for, and the code in which a step stands
 pub record Setting : Type 0 where
@@ -25,7 +26,7 @@ HasCode ms args v t = (st : List Term) → run ms args v.code.items st ≡ t ∷
 
 -- a value is this term's: its size where calls are short, and its code over the functions' own codes
 pub record Represents (x : Setting) (v : Value) (t : Term) : Type 0 where
-  pub size : All IsShortCall x.code → AreMeasured x.functions x.meanings → length x.arguments ≤ 12 → HasSize x.arguments v t
+  pub size : All IsShortCall x.code → AreMeasured x.functions x.meanings → length x.arguments ≤ MOST_PARAMETERS → HasSize x.arguments v t
   pub code : Stand x.functions x.meanings → HasCode (meanings (map code_of x.functions)) x.arguments v t
 
 -- the same of each

@@ -11,5 +11,5 @@ mod value;
 pub use code::{Binary, Op, Unary};
 pub use expand::{Function, constraint, expression};
 pub use fraction::{Fraction, is_quotient_at_most};
-pub use measure::{Measure, Place};
+pub use measure::{MOST_PARAMETERS, Measure, Place};
 pub use value::nodes_with;

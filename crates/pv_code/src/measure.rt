@@ -6,9 +6,10 @@ ghost use Rattle.pv_expr.specs.Terms.{Term, Unary, Binary, one, two, node_count,
 ghost use Rattle.pv_code.specs.Expansion.{argument, nothing};
 ghost use Rattle.pv_code.specs.Sizes.{IsRoom, IsSize, IsSizeOf, beside, cut, end_of, within};
 
-const MAX_NODES: u64 = 65536;
+use pv_expr::{MOST_TERM_DEPTH, MOST_TERM_NODES};
 
-const MAX_DEPTH: u64 = 2000;
+/// The most parameters of a function.
+pub const MOST_PARAMETERS: u8 = 12;
 
 /// How often a part stands in an expression, and how deep, with counts that stop at 2^64 - 1.
 #[derive(Clone, Copy)]
@@ -62,7 +63,8 @@ pub struct Measure {
 impl Measure {
     /// Of a parameter alone. One that no function has stands for a constant.
     pub(crate) fn of_parameter(i: u8) -> Measure
-        ensures { (args : List Term) → length args ≤ 12 → IsSize result args (argument args i) }
+        ensures { (args : List Term) → length args ≤ MOST_PARAMETERS →
+            IsSize result args (argument args i) }
     {
         let mut places = [NOWHERE; 13];
         places[usize::from(i).min(12)] = ROOT;
@@ -71,9 +73,9 @@ impl Measure {
 
     /// Of a constant or a variable.
     pub(crate) fn leaf() -> Measure
-        ensures { (args : List Term) → length args ≤ 12 → IsSize result args nothing }
+        ensures { (args : List Term) → length args ≤ MOST_PARAMETERS → IsSize result args nothing }
     {
-        Measure::of_parameter(12)
+        Measure::of_parameter(MOST_PARAMETERS)
     }
 
     /// With copies of another, as many and as deep as a place says.
@@ -110,7 +112,7 @@ pub(crate) fn with_sides(left: &Measure, right: &Measure, before: u64) -> Option
         IsRoom before (record { left = t; relation = r; right = u }) result }
 {
     let (left, right) = (left.whole(), right.whole());
-    let shallow = left.reach <= MAX_DEPTH && right.reach <= MAX_DEPTH;
+    let shallow = left.reach <= MOST_TERM_DEPTH && right.reach <= MOST_TERM_DEPTH;
     let nodes = before.saturating_add(left.uses).saturating_add(right.uses);
-    (shallow && nodes <= MAX_NODES).then_some(nodes)
+    (shallow && nodes <= MOST_TERM_NODES).then_some(nodes)
 }

@@ -1,13 +1,14 @@
 // What a code leaves on the stack: how large each value is with its calls expanded, and the part of
 // its code that is used.
 
-ghost use Rattle.std.specs.Prelude.{All, ◌≡◌, ℕ, ◌≤◌, ◌<◌, List, [], ◌∷◌, ◌++◌, length, reverse, take, drop, IfOk, OnOk};
+ghost use Rattle.std.specs.Prelude.{All, ◌≡◌, ℕ, ◌≤◌, ◌<◌, ◌^◌, List, [], ◌∷◌, ◌++◌, length, reverse, take, drop, IfOk, OnOk};
 ghost use Rattle.pv_expr.specs.declared.constraint.Relation.{Relation};
 ghost use Rattle.pv_expr.specs.Terms.{Binary, Term, Unary, one, two};
 ghost use Rattle.pv_code.specs.declared.code.Op.{Op};
 ghost use Rattle.pv_code.specs.Expansion.{Meaning, argument, below, body_meaning, filtered, is_used, meaning_of, nothing, part_sides, run, step, top};
 ghost use Rattle.pv_code.specs.Sizes.{AreMeasured, IsRoom, IsShortCall, IsSize};
 ghost use Rattle.pv_code.specs.Values.{AreAll, AreLeft, AreStacked, HasCode, HasSize, Represents, Setting, at};
+ghost use Rattle.pv_code.specs.declared.measure.TheConstants.{MOST_PARAMETERS};
 
 use crate::code::Op;
 use crate::expand::Function;
@@ -120,9 +121,9 @@ fn called(
     function: u8,
     arguments: &[Value],
 ) -> Result<Value, Memory>
-    requires { length arguments.now < 256 }
+    requires { length arguments.now < 2 ^ 8 }
     ensures { IfOk result (λ v. (code : List Op) (ms : List Meaning) (args ts : List Term) →
-        (All IsShortCall code → length ts ≤ 12) →
+        (All IsShortCall code → length ts ≤ MOST_PARAMETERS) →
         AreAll (Represents (at functions.now ms args code)) arguments.now ts →
         Represents (at functions.now ms args code) v (meaning_of ms function ts)) }
 {
@@ -137,7 +138,7 @@ fn called(
 
 // The measure of a body with these arguments in place of its parameters.
 fn measure_of(body: &Measure, arguments: &[Value]) -> Measure
-    ensures { (args inner : List Term) (t : Term) → length args ≤ 12 →
+    ensures { (args inner : List Term) (t : Term) → length args ≤ MOST_PARAMETERS →
         AreAll (HasSize args) arguments.now inner →
         IsSize body.now inner t → IsSize result args t }
 {
@@ -151,7 +152,7 @@ fn measure_of(body: &Measure, arguments: &[Value]) -> Measure
 }
 
 fn measure_at(arguments: &[Value], i: usize) -> Measure
-    ensures { (args inner : List Term) → length args ≤ 12 →
+    ensures { (args inner : List Term) → length args ≤ MOST_PARAMETERS →
         AreAll (HasSize args) arguments.now inner →
         IsSize result args (argument inner i) }
 {
@@ -168,7 +169,7 @@ fn code_of(
     function: u8,
     arguments: &[Value],
 ) -> Result<Vec<Op>, Memory>
-    requires { length arguments.now < 256 }
+    requires { length arguments.now < 2 ^ 8 }
     ensures { IfOk result (λ code. (ms inner : List Meaning) (args ts : List Term) →
         ((xs : List Term) → meaning_of ms function xs ≡
         body_meaning inner callee.now.code.items xs) →

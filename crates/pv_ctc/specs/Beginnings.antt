@@ -7,6 +7,7 @@ use Rattle.pv_ctc.specs.Plans.{Plan, Plans, hc4, compose, union, qinter, fix, pr
 use Rattle.pv_ctc.specs.Texts.{program_text}
 use Rattle.pv_ctc.specs.Symbols.{Placed, tokens_at}
 use Rattle.pv_ctc.specs.Refusals.{named_with, refused_at}
+use Rattle.pv_ctc.specs.declared.program.TheConstants.{MOST_PROGRAM_TEXT, MOST_PROGRAMS}
 
 -- no part wants more than 256 programs
 abbrev mutual
@@ -14,7 +15,7 @@ abbrev mutual
   QuorumsFit (hc4 i) = Unit {0}
   QuorumsFit (compose ps) = AllQuorumsFit ps
   QuorumsFit (union ps) = AllQuorumsFit ps
-  QuorumsFit (qinter q ps) = (q ≤ 256) × AllQuorumsFit ps
+  QuorumsFit (qinter q ps) = (q ≤ MOST_PROGRAMS) × AllQuorumsFit ps
   QuorumsFit (fix n p) = QuorumsFit p
   QuorumsFit (prop n) = Unit {0}
 
@@ -43,7 +44,7 @@ pub record Begins (count : ℕ) (ts : List Token) : Type 0 where
 pub record IsTooMany (before : List Token) (t : Token) : Type 0 where
   pub name : Name
   pub is_name : t ≡ Word name
-  pub full : named_in before ≡ 256
+  pub full : named_in before ≡ MOST_PROGRAMS
 
 -- a program's text begins with the tokens before the one at this byte, which name at most 256 programs; with this one
 -- none does, or it is one too many
@@ -54,8 +55,8 @@ pub record IsFirstWrong (count : ℕ) (ps : List Placed) (byte : ℕ) : Type 0 w
   pub parted : ps ≡ before ++ here ∷ after
   pub place : here.place ≡ byte
   pub begins : Begins count (tokens_in before)
-  pub few : named_in (tokens_in before) ≤ 256
+  pub few : named_in (tokens_in before) ≤ MOST_PROGRAMS
   pub wrong : (¬ Begins count (tokens_in before ++ here.token ∷ [])) ⊎ IsTooMany (tokens_in before) here.token
 
 abbrev pub FirstWrong : Type 0
-FirstWrong = (count : ℕ) (text : List ℕ) (byte : ℕ) → 1 ≤ count → count < 2 ^ 32 → length text ≤ 4096 → refused_at count text ≡ Some byte → IsFirstWrong count (tokens_at text 0) byte
+FirstWrong = (count : ℕ) (text : List ℕ) (byte : ℕ) → 1 ≤ count → count < 2 ^ 32 → length text ≤ MOST_PROGRAM_TEXT → refused_at count text ≡ Some byte → IsFirstWrong count (tokens_at text 0) byte

@@ -2,6 +2,7 @@
 use Rattle.std.specs.Prelude.{ℕ, ◌+◌, ◌<◌, ◌≤◌, List, [], ◌∷◌}
 use Rattle.pv_ctc.specs.declared.program.Program.{Program, Row_of-Program, end_of-Program, more_of-Program}
 use Rattle.pv_ctc.specs.declared.program.Program.TheVariants.{Hc4, Compose', Union', QInter', Fix', Prop}
+use Rattle.pv_ctc.specs.declared.program.TheConstants.{MOST_TURNS}
 
 mutual
   pub data Plan : Type 0 where
@@ -45,8 +46,8 @@ abbrev mutual
   IsFor count (compose ps) = (1 ≤ plan_count ps) × AreFor count ps
   IsFor count (union ps) = (1 ≤ plan_count ps) × AreFor count ps
   IsFor count (qinter q ps) = (1 ≤ q) × (q ≤ plan_count ps) × AreFor count ps
-  IsFor count (fix n p) = (1 ≤ n) × (n ≤ 64) × IsFor count p
-  IsFor count (prop n) = (1 ≤ n) × (n ≤ 64)
+  IsFor count (fix n p) = (1 ≤ n) × (n ≤ MOST_TURNS) × IsFor count p
+  IsFor count (prop n) = (1 ≤ n) × (n ≤ MOST_TURNS)
 
   pub AreFor : ℕ → Plans → Type 0
   AreFor count no_plan = Unit {0}

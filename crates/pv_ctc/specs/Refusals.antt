@@ -11,6 +11,7 @@ use Rattle.pv_ctc.specs.declared.reading.ProgramRefused.TheVariants.{Memory}
 use Rattle.pv_ctc.specs.Plans.{Plan, IsFor, node_count}
 use Rattle.pv_ctc.specs.Texts.{program_text}
 use Rattle.pv_ctc.specs.Symbols.{Placed, tokens_at}
+use Rattle.pv_ctc.specs.declared.program.TheConstants.{MOST_PROGRAM_TEXT, MOST_PROGRAMS, MOST_TURNS}
 
 -- what stands behind a number: nothing more of its own, or a list of at least so many programs
 pub data Counted : Type 0 where
@@ -42,9 +43,9 @@ abbrev pub arguments_due : ℕ → Name → List Due
 arguments_due count Hc4 = a_number 0 count nothing ∷ exactly Close ∷ []
 arguments_due count Compose = a_program ∷ more_programs 0 ∷ []
 arguments_due count Union = a_program ∷ more_programs 0 ∷ []
-arguments_due count QInter = a_number 1 257 programs ∷ []
-arguments_due count Fix = a_number 1 65 nothing ∷ exactly Comma ∷ a_program ∷ exactly Close ∷ []
-arguments_due count Prop = a_number 1 65 nothing ∷ exactly Close ∷ []
+arguments_due count QInter = a_number 1 (MOST_PROGRAMS + 1) programs ∷ []
+arguments_due count Fix = a_number 1 (MOST_TURNS + 1) nothing ∷ exactly Comma ∷ a_program ∷ exactly Close ∷ []
+arguments_due count Prop = a_number 1 (MOST_TURNS + 1) nothing ∷ exactly Close ∷ []
 
 abbrev pub counted_due : Counted → ℕ → List Due
 counted_due nothing n = []
@@ -58,7 +59,7 @@ more_due t k = None
 -- what is due when a token has come where an item was due, behind so many programs
 abbrev pub due_after : ℕ → ℕ → Due → Token → Option (List Due)
 due_after count named (exactly u) t = if is_mark u t then Some [] else None
-due_after count named a_program (Word w) = if nat_lt named 256 then Some (exactly Open ∷ arguments_due count w) else None
+due_after count named a_program (Word w) = if nat_lt named MOST_PROGRAMS then Some (exactly Open ∷ arguments_due count w) else None
 due_after count named a_program t = None
 due_after count named (a_number low limit c) (Number n) = if in_range low limit n then Some (counted_due c n) else None
 due_after count named (a_number low limit c) t = None
@@ -89,14 +90,14 @@ refusal (p ∷ ps) count named due = met (allowed count named due p.token) p.pla
 -- the byte at which a text is refused that is read for so many constraints; none where it is not
 unfoldable pub refused_at : ℕ → List ℕ → Option ℕ
 refused_at count text =
-    if nat_lt 4096 (length text) then Some 4096
+    if nat_lt MOST_PROGRAM_TEXT (length text) then Some MOST_PROGRAM_TEXT
     else refusal (tokens_at text 0) count 0 (a_program ∷ exactly End ∷ [])
 
 -- the text is the spelling of a program for so many constraints, within the limits
 pub record IsSpelling (count : ℕ) (text : List ℕ) (p : Plan) : Type 0 where
   pub fits : IsFor count p
-  pub few : node_count p ≤ 256
-  pub short : length text ≤ 4096
+  pub few : node_count p ≤ MOST_PROGRAMS
+  pub short : length text ≤ MOST_PROGRAM_TEXT
   pub spelled : text ≡ program_text p
 
 -- a refusal is want of memory, or right: the text is no program's, and is refused at this byte

@@ -4,6 +4,7 @@ use Rattle.pv_interval.specs.Bounds.{Bounds}
 use Rattle.pv_hc4.specs.Chain.{at}
 use Rattle.pv_expr.specs.Terms.{Term, constant, place, one, two}
 use Rattle.pv_hc4.specs.Revise.{Sides}
+use Rattle.pv_box.specs.declared.boxes.TheConstants.{MOST_PLACES}
 
 -- variable i stands in the term
 abbrev pub has_place : ℕ → Term → Bool
@@ -17,7 +18,7 @@ has_variable i s = has_place i s.left || has_place i s.right
 
 -- whether each of the first 12 variables stands in a constraint
 abbrev pub AreUses : List Bool → Sides → Type 0
-AreUses uses s = (i : ℕ) → i < 12 → slice_index_or uses i false ≡ has_variable i s
+AreUses uses s = (i : ℕ) → i < MOST_PLACES → slice_index_or uses i false ≡ has_variable i s
 
 -- the same for each constraint of a list
 abbrev pub HaveUses : List (List Bool) → List Sides → Type 0

@@ -8,6 +8,7 @@ ghost use Rattle.pv_ctc.specs.Members.{AllOver};
 
 use crate::users::users_of;
 use crate::uses::uses_of;
+use pv_box::MOST_PLACES;
 use pv_expr::System;
 use pv_hc4::{Graph, Marks};
 use pv_num::Memory;
@@ -18,8 +19,8 @@ use std::marker::Model;
 #[derive(Drop)]
 pub struct Graphs {
     pub(crate) graphs: Vec<Graph>,
-    pub(crate) uses: Vec<[bool; 12]>,
-    pub(crate) users: [Marks; 12],
+    pub(crate) uses: Vec<[bool; MOST_PLACES]>,
+    pub(crate) users: [Marks; MOST_PLACES],
     dims: u8,
 }
 

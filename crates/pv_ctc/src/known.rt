@@ -12,6 +12,8 @@ ghost use Rattle.pv_ctc.specs.Contracting.{sides_in, side_at};
 ghost use Rattle.pv_ctc.specs.Facts.{Knows, IsPartAt, IsSettled, IsNoted};
 ghost use Rattle.pv_ctc.specs.Steps.{IsSoFar};
 ghost use Rattle.pv_ctc.specs.Uses.{has_variable};
+ghost use Rattle.pv_box.specs.declared.boxes.TheConstants.{MOST_PLACES};
+ghost use Rattle.pv_expr.specs.declared.system.TheConstants.{MOST_CONSTRAINTS};
 
 use crate::graphs::Graphs;
 use pv_hc4::{Judged, Marks, Revised};
@@ -40,7 +42,7 @@ impl Known {
     /// What of it is true of each part of a box that differs from the box at one variable alone,
     /// as both halves of a cut do.
     pub fn after_cut(self, graphs: &Graphs, var: u8) -> Known
-        requires { var < 12 }
+        requires { var < MOST_PLACES }
         ensures { (b c : List Bounds) → Knows (sides_in graphs.now) self b → IsPartAt var b c →
             Knows (sides_in graphs.now) result c }
     {
@@ -54,7 +56,7 @@ impl Known {
 
     // Whether a constraint is known to leave the box as it is.
     pub(crate) fn settles(self, number: u8) -> bool
-        requires { number < 64 }
+        requires { number < MOST_CONSTRAINTS }
         ensures { IsSettled self number result }
     {
         self.sure.has(number) || self.clean.has(number)
@@ -62,7 +64,7 @@ impl Known {
 
     // What is known after one more revision.
     pub(crate) fn noting(self, graphs: &Graphs, number: u8, judged: Judged) -> Known
-        requires { number < 64 }
+        requires { number < MOST_CONSTRAINTS }
         ensures { (b d : List Bounds) → IsBox d → Knows (sides_in graphs.now) self b →
             IsNoted (side_at (sides_in graphs.now) number) judged b d →
             (revised_by judged ≡ Empty) ⊎ Knows (sides_in graphs.now) result d }
@@ -105,7 +107,7 @@ impl Known {
 // The marked constraints that have none of some variables.
 fn spared(graphs: &Graphs, clean: Marks, changed: Marks) -> Marks
     ensures kept { (k : ℕ) → is_marked result k ≡ true → is_marked clean k ≡ true }
-    ensures spared { (k v : ℕ) → k < length (sides_in graphs.now) → v < 12 →
+    ensures spared { (k v : ℕ) → k < length (sides_in graphs.now) → v < MOST_PLACES →
         is_marked result k ≡ true → is_marked changed v ≡ true →
         has_variable v (side_at (sides_in graphs.now) k) ≡ false }
 {

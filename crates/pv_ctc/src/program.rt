@@ -19,10 +19,10 @@ pub enum Program {
 }
 
 /// The longest text of a program, in bytes.
-pub const TEXT_LIMIT: usize = 4096;
+pub const MOST_PROGRAM_TEXT: usize = 4096;
 
 /// The most nodes of a program.
-pub const NODE_LIMIT: u32 = 256;
+pub const MOST_PROGRAMS: u32 = 256;
 
 /// The most turns of a `fix` or a `prop`.
-pub const TURN_LIMIT: u32 = 64;
+pub const MOST_TURNS: u32 = 64;

@@ -13,7 +13,7 @@ ghost use Rattle.pv_ctc.specs.Uses.{AreAlikeFor};
 
 use crate::counter::Counter;
 use crate::graphs::Graphs;
-use pv_box::IBox;
+use pv_box::{IBox, MOST_PLACES};
 use pv_hc4::{Revised, Scratch};
 use pv_interval::Interval;
 use pv_num::Memory;
@@ -115,7 +115,7 @@ fn propagate_once<C: Counter>(
 }
 
 // Takes the marks from the constraints that have a variable whose place is not as it was.
-fn unmark(graphs: &Graphs, clean: &mut [bool; 64], entry: &[Interval; 12], bx: &IBox)
+fn unmark(graphs: &Graphs, clean: &mut [bool; 64], entry: &[Interval; MOST_PLACES], bx: &IBox)
     requires dims { length (take (length bx.now) entry.now) ≡ length bx.now }
     ensures { (k : ℕ) → k < length (sides_in graphs.now) → slice_index_or clean.new k false ≡
         (slice_index_or clean.old k false && same_places 0 (side_at (sides_in graphs.now) k)
@@ -130,7 +130,7 @@ fn unmark(graphs: &Graphs, clean: &mut [bool; 64], entry: &[Interval; 12], bx: &
 }
 
 // Whether the place of some of these variables is not as it was.
-fn has_changed(uses: &[bool; 12], entry: &[Interval; 12], bx: &IBox) -> bool
+fn has_changed(uses: &[bool; MOST_PLACES], entry: &[Interval; MOST_PLACES], bx: &IBox) -> bool
     ensures { IsFalse result ↔ AreAlikeFor uses.now entry.now bx.now }
 {
     for i in 0..bx.dims() {
@@ -149,10 +149,10 @@ fn differs(used: bool, before: Interval, now: Interval) -> bool
 }
 
 // The places of a box.
-fn places(bx: &IBox) -> [Interval; 12]
+fn places(bx: &IBox) -> [Interval; MOST_PLACES]
     ensures { take (length bx.now) result ≡ bx.now }
 {
-    let mut places = [Interval::ALL; 12];
+    let mut places = [Interval::ALL; MOST_PLACES];
     for i in 0..bx.dims() {
         places[i as usize] = place(bx, i);
     }

@@ -7,8 +7,9 @@ ghost use Rattle.pv_ctc.specs.Plans.{plan_of, plans_of, IsFor, AreFor, node_coun
 ghost use Rattle.pv_ctc.specs.Symbols.{tokens_at, behind};
 ghost use Rattle.pv_ctc.specs.Refusals.{Counted, exactly, a_program, a_number, more_programs, is_mark, arguments_due, counted_due, refused_at, IsRefusal};
 ghost use Rattle.pv_ctc.specs.Taking.{NoComma, Took, Stopped};
+ghost use Rattle.pv_ctc.specs.declared.program.TheConstants.{MOST_PROGRAM_TEXT, MOST_PROGRAMS};
 
-use crate::program::{NODE_LIMIT, Program, TEXT_LIMIT, TURN_LIMIT};
+use crate::program::{MOST_PROGRAM_TEXT, MOST_PROGRAMS, MOST_TURNS, Program};
 use crate::token::{Token, Word, token_at};
 use std::alloc::{AllocError, AllocFailed, Global};
 
@@ -57,13 +58,15 @@ impl Program {
     pub fn read(alloc: Global, text: &[u8], count: u32) -> Result<Program, ProgramRefused>
         ensures fits { IfOk result (λ p. IsFor count (plan_of p)) }
         ensures spelled { IfOk result (λ p. text.now ≡ program_text (plan_of p)) }
-        ensures few { IfOk result (λ p. node_count (plan_of p) ≤ 256) }
-        ensures short { OnOk result (length text.now ≤ 4096) }
+        ensures few { IfOk result (λ p. node_count (plan_of p) ≤ MOST_PROGRAMS) }
+        ensures short { OnOk result (length text.now ≤ MOST_PROGRAM_TEXT) }
         ensures right { OnOk result (refused_at count text.now ≡ None) }
         ensures refused { IfErr result (IsRefusal count text.now) }
     {
-        if text.len() > TEXT_LIMIT {
-            return Err(ProgramRefused::Bad { byte: 4096 });
+        if text.len() > MOST_PROGRAM_TEXT {
+            return Err(ProgramRefused::Bad {
+                byte: MOST_PROGRAM_TEXT as u32,
+            });
         }
         let mut reader = Reader {
             text,
@@ -84,15 +87,15 @@ struct Reader<'a> {
     at: usize,
     count: u32,
     named: u32,
-    ghost is_short: { length text.now ≤ 4096 },
+    ghost is_short: { length text.now ≤ MOST_PROGRAM_TEXT },
     ghost is_within: { at ≤ length text.now },
-    ghost is_few: { named ≤ 256 },
+    ghost is_few: { named ≤ MOST_PROGRAMS },
 }
 
 impl<'a> Reader<'a> {
     // The refusal of the token at a place.
     fn refusal(at: usize) -> ProgramRefused
-        requires { at ≤ 4096 }
+        requires { at ≤ MOST_PROGRAM_TEXT }
         ensures { result ≡ ProgramRefused.Bad at }
     {
         ProgramRefused::Bad { byte: at as u32 }
@@ -166,7 +169,7 @@ impl<'a> Reader<'a> {
     {
         let (found, end) = token_at(self.text, self.at);
         match found {
-            Token::Word(word) if self.named < NODE_LIMIT => {
+            Token::Word(word) if self.named < MOST_PROGRAMS => {
                 self.at = end;
                 self.named += 1;
                 Ok(word)
@@ -246,11 +249,11 @@ impl<'a> Reader<'a> {
     {
         match word {
             Word::Hc4 => Ok(Program::Hc4(self.number(0, self.count)?)),
-            Word::Prop => Ok(Program::Prop(self.number(1, TURN_LIMIT + 1)?)),
+            Word::Prop => Ok(Program::Prop(self.number(1, MOST_TURNS + 1)?)),
             Word::Compose => Ok(Program::Compose(self.parts(alloc)?)),
             Word::Union => Ok(Program::Union(self.parts(alloc)?)),
             Word::QInter => {
-                let q = self.number(1, NODE_LIMIT + 1)?;
+                let q = self.number(1, MOST_PROGRAMS + 1)?;
                 self.want(Token::Comma)?;
                 let parts = self.parts(alloc)?;
                 if parts.len() < q as usize {
@@ -259,7 +262,7 @@ impl<'a> Reader<'a> {
                 Ok(Program::QInter(q, parts))
             }
             Word::Fix => {
-                let turns = self.number(1, TURN_LIMIT + 1)?;
+                let turns = self.number(1, MOST_TURNS + 1)?;
                 self.want(Token::Comma)?;
                 let part = self.program(alloc)?;
                 Ok(Program::Fix(turns, Box::new(alloc, part)?))

@@ -5,21 +5,22 @@ ghost use Rattle.pv_expr.specs.Terms.{term_of};
 ghost use Rattle.pv_hc4.specs.Graphs.{sides_named};
 ghost use Rattle.pv_ctc.specs.Uses.{has_place, AreUses};
 
+use pv_box::MOST_PLACES;
 use pv_expr::{Constraint, Expr};
 
 // Whether each variable stands in a constraint.
-pub(crate) fn uses_of(constraint: &Constraint) -> [bool; 12]
+pub(crate) fn uses_of(constraint: &Constraint) -> [bool; MOST_PLACES]
     ensures { AreUses result (sides_named constraint.now) }
 {
-    let mut uses = [false; 12];
+    let mut uses = [false; MOST_PLACES];
     mark_both(&constraint.left, &constraint.right, &mut uses);
     uses
 }
 
 // Marks the variables of an expression.
 #[cycle(marking)]
-fn mark(e: &Expr, uses: &mut [bool; 12])
-    ensures { (i : ℕ) → i < 12 → slice_index_or uses.new i false ≡
+fn mark(e: &Expr, uses: &mut [bool; MOST_PLACES])
+    ensures { (i : ℕ) → i < MOST_PLACES → slice_index_or uses.new i false ≡
         (slice_index_or uses.old i false || has_place i (term_of e.now)) }
 {
     match e {
@@ -39,8 +40,8 @@ fn mark(e: &Expr, uses: &mut [bool; 12])
 
 #[cycle(marking)]
 #[tactic(auto, using(crate::proofs::Locality::or_assoc))]
-fn mark_both(a: &Expr, b: &Expr, uses: &mut [bool; 12])
-    ensures { (i : ℕ) → i < 12 → slice_index_or uses.new i false ≡
+fn mark_both(a: &Expr, b: &Expr, uses: &mut [bool; MOST_PLACES])
+    ensures { (i : ℕ) → i < MOST_PLACES → slice_index_or uses.new i false ≡
         (slice_index_or uses.old i false ||
         (has_place i (term_of a.now) || has_place i (term_of b.now))) }
 {
@@ -48,11 +49,11 @@ fn mark_both(a: &Expr, b: &Expr, uses: &mut [bool; 12])
     mark(b, uses);
 }
 
-fn mark_one(var: u8, uses: &mut [bool; 12])
-    ensures { (i : ℕ) → i < 12 → slice_index_or uses.new i false ≡
+fn mark_one(var: u8, uses: &mut [bool; MOST_PLACES])
+    ensures { (i : ℕ) → i < MOST_PLACES → slice_index_or uses.new i false ≡
         (slice_index_or uses.old i false || nat_eq var i) }
 {
-    if usize::from(var) < 12 {
+    if usize::from(var) < MOST_PLACES {
         uses[usize::from(var)] = true;
     }
 }

@@ -6,6 +6,7 @@ use Rattle.pv_expr.specs.declared.domain.Bound.{Bound}
 use Rattle.pv_expr.specs.declared.domain.Bound.TheVariants.{MinusOo, Value, PlusOo}
 use Rattle.pv_expr.specs.declared.domain.Domain.{Domain}
 use Rattle.pv_expr.specs.declared.constraint.Constraint.{Constraint}
+use Rattle.pv_expr.specs.declared.system.TheConstants.{MOST_VARIABLES, MOST_CONSTRAINTS, MOST_TERM_DEPTH, MOST_TERM_NODES}
 
 -- a system as its callers see it
 pub record Parts : Type 0 where
@@ -59,19 +60,19 @@ IsOver n (two b t u) = IsOver n t × IsOver n u
 pub record IsConstraint (n : ℕ) (c : Constraint) : Type 0 where
   pub left_over : IsOver n (term_of c.left)
   pub right_over : IsOver n (term_of c.right)
-  pub left_depth : depth_of (term_of c.left) ≤ 2000
-  pub right_depth : depth_of (term_of c.right) ≤ 2000
+  pub left_depth : depth_of (term_of c.left) ≤ MOST_TERM_DEPTH
+  pub right_depth : depth_of (term_of c.right) ≤ MOST_TERM_DEPTH
 
 abbrev pub side_nodes : Constraint → ℕ
 side_nodes c = node_count (term_of c.left) + node_count (term_of c.right)
 
 pub record IsSystem (s : Parts) : Type 0 where
   pub some_names : 1 ≤ length s.names
-  pub few_names : length s.names ≤ 12
+  pub few_names : length s.names ≤ MOST_VARIABLES
   pub distinct : AllPairs (λ x y. x ≢ y) s.names
   pub same_length : length s.domains ≡ length s.names
   pub domains_good : All IsDomain s.domains
   pub some_constraints : 1 ≤ length s.constraints
-  pub few_constraints : length s.constraints ≤ 64
+  pub few_constraints : length s.constraints ≤ MOST_CONSTRAINTS
   pub constraints_good : All (IsConstraint (length s.names)) s.constraints
-  pub few_nodes : sum_by side_nodes s.constraints ≤ 65536
+  pub few_nodes : sum_by side_nodes s.constraints ≤ MOST_TERM_NODES

@@ -12,4 +12,4 @@ pub mod text;
 pub use constraint::{Constraint, Relation};
 pub use domain::{Bound, Domain};
 pub use expr::Expr;
-pub use system::System;
+pub use system::{MOST_CONSTRAINTS, MOST_TERM_DEPTH, MOST_TERM_NODES, MOST_VARIABLES, System};

@@ -10,7 +10,20 @@ use pv_interval::Interval;
 use pv_num::{End, Num};
 use std::marker::Model;
 
-/// A system of constraints: 1 to 12 named variables with a domain each, and 1 to 64 constraints.
+/// The most variables of a system.
+pub const MOST_VARIABLES: u8 = 12;
+
+/// The most constraints of a system.
+pub const MOST_CONSTRAINTS: u32 = 64;
+
+/// The greatest depth of a constraint's side: the nodes on a way down from its root.
+pub const MOST_TERM_DEPTH: u64 = 2000;
+
+/// The most nodes that the sides of all constraints have together.
+pub const MOST_TERM_NODES: u64 = 65536;
+
+/// A system of constraints: 1 to `MOST_VARIABLES` named variables with a domain each, and 1 to
+/// `MOST_CONSTRAINTS` constraints.
 #[derive(Drop)]
 pub struct System {
     names: Vec<String>,
@@ -37,14 +50,14 @@ impl System {
     /// The system of these variables, domains and constraints.
     pub fn new(names: Vec<String>, domains: Vec<Domain>, constraints: Vec<Constraint>) -> System
         requires some_names { 1 ≤ length names.items }
-        requires few_names { length names.items ≤ 12 }
+        requires few_names { length names.items ≤ MOST_VARIABLES }
         requires distinct { AllPairs (λ x y. x ≢ y) (map string_bytes names.items) }
         requires same_length { length domains.items ≡ length names.items }
         requires domains_good { All IsDomain domains.items }
         requires some_constraints { 1 ≤ length constraints.items }
-        requires few_constraints { length constraints.items ≤ 64 }
+        requires few_constraints { length constraints.items ≤ MOST_CONSTRAINTS }
         requires constraints_good { All (IsConstraint (length names.items)) constraints.items }
-        requires few_nodes { sum_by side_nodes constraints.items ≤ 65536 }
+        requires few_nodes { sum_by side_nodes constraints.items ≤ MOST_TERM_NODES }
         ensures names { result.names ≡ map string_bytes names.items }
         ensures domains { result.domains ≡ domains.items }
         ensures constraints { result.constraints ≡ constraints.items }
@@ -56,7 +69,7 @@ impl System {
         }
     }
 
-    /// How many variables there are, from 1 to 12.
+    /// How many variables there are, from 1 to `MOST_VARIABLES`.
     pub fn variable_count(&self) -> u8
         ensures count { result ≡ length self.now.names }
         ensures limits { IsSystem self.now }
@@ -64,7 +77,7 @@ impl System {
         self.names.len() as u8
     }
 
-    /// How many constraints there are, from 1 to 64.
+    /// How many constraints there are, from 1 to `MOST_CONSTRAINTS`.
     pub fn constraint_count(&self) -> u32
         ensures count { result ≡ length self.now.constraints }
         ensures limits { IsSystem self.now }

@@ -5,6 +5,7 @@ ghost use Rattle.pv_num.specs.Parts.{number_text};
 ghost use Rattle.pv_tree.specs.Trees.{subtree, shape_of, outcome_at};
 ghost use Rattle.pv_file.specs.Lines.{change_text, ends_text, changes_text, kept_text, cut_text, outcome_line};
 ghost use Rattle.pv_file.specs.Shapes.{AppendsNodeLine, outcome_of, shape_line, keeps_of};
+ghost use Rattle.pv_box.specs.declared.boxes.TheConstants.{MOST_PLACES};
 
 use crate::version::Version;
 use itoa::Buffer;
@@ -121,7 +122,7 @@ pub(crate) fn keeps(shape: &Shape) -> bool
 /// A box of `places` places, to write over.
 pub(crate) fn scratch_box(alloc: Global, places: u8) -> Result<IBox, Memory>
     requires some { 0 < places }
-    requires few { places ≤ 12 }
+    requires few { places ≤ MOST_PLACES }
     ensures { IfOk result (λ b. length b ≡ places) }
 {
     Ok(IBox::new(vec![in alloc; Interval::ALL; places as usize]?))

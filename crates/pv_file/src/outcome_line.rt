@@ -8,6 +8,7 @@ ghost use Rattle.pv_tree.specs.Trees.{IsBetween, IsStrictlyInside};
 ghost use Rattle.pv_file.specs.Lines.{pair_text, kept_text, line_with, outcome_line, cut_text, change_text};
 ghost use Rattle.pv_file.specs.Readings.{IsRightFor};
 ghost use Rattle.pv_file.specs.Words.{IsPlain, EndsAWord, end_text, part_text, IsPartOf, IsKeptOf, PutsEnds};
+ghost use Rattle.pv_box.specs.declared.boxes.TheConstants.{MOST_PLACES};
 
 use crate::cut::end_at;
 use crate::version::Version;
@@ -307,7 +308,7 @@ fn is_between(at: Num, part: Interval) -> bool
 fn read_cut_place(bytes: &[u8]) -> Option<CutPlace<'_>>
     ensures sound { IfSome result (λ c. 67 ∷ bytes.now ≡ cut_text c.var c.at ++ c.rest.now) }
     ensures number { IfSome result (λ c. IsNumber c.at) }
-    ensures complete { (var : ℕ) (at : Extended) (more : List ℕ) → var < 12 → IsNumber at
+    ensures complete { (var : ℕ) (at : Extended) (more : List ℕ) → var < MOST_PLACES → IsNumber at
         → EndsAWord more → 67 ∷ bytes.now ≡ cut_text var at ++ more
         → MatchOption result ⊥ (λ c. (c.var ≡ var) × (c.at ≡ at) × (c.rest.now ≡ more)) }
 {
@@ -324,7 +325,7 @@ fn read_cut_place(bytes: &[u8]) -> Option<CutPlace<'_>>
 // The number of a place in decimal.
 fn read_var(word: &[u8]) -> Option<u8>
     ensures sound { IfSome result (λ v. word.now ≡ decimal v) }
-    ensures complete { (v : ℕ) → v < 12 → word.now ≡ decimal v → result ≡ Some v }
+    ensures complete { (v : ℕ) → v < MOST_PLACES → word.now ≡ decimal v → result ≡ Some v }
 {
     let guess = likely_var(word);
     if is_decimal(word, guess) {

@@ -8,6 +8,7 @@ ghost use Rattle.pv_file.specs.Texts.{header_text, version_text, identity_text};
 ghost use Rattle.pv_file.specs.Readings.{IsFree, IsTextOf, IsPavingInFormat, settled_count, HasOtherIdentity, IsFirstBadLine, IsOneTooMany};
 ghost use Rattle.pv_file.specs.Lengths.{length_limit};
 ghost use Rattle.pv_file.specs.Reading.{IsBadHeader, HasOtherHeader, HasOtherSecond, HasNoIdentity, IsRightNode, node_of, SaysNode, StandsAt, TakesNode, IsPut, IsMany, IsStep, IsStuck, IsFull, IsBadBody, IsManyBody};
+ghost use Rattle.pv_tree.specs.declared.limit.TheConstants.{LEAST_LIMIT};
 
 use crate::cut::line_end;
 use crate::header::{IdentityLine, learn_digest, read_identity, read_version};
@@ -19,6 +20,13 @@ use pv_num::Memory;
 use pv_tree::{Growth, MOST_STEPS, NodeLimit, Outcome, Path, Paving};
 use std::alloc::Global;
 
+/// So many bytes of a file are read for each settled node that the limit allows: its line, and the
+/// line of an open leaf.
+pub const NODE_BYTES: u64 = 662;
+
+/// So many bytes of a file are read whatever the limit is.
+pub const SPARE_BYTES: u64 = 3_800_000;
+
 // The number of the first node's line.
 const FIRST_NODE: u64 = 3;
 
@@ -27,7 +35,7 @@ const FIRST_NODE: u64 = 3;
 pub fn most_bytes(limit: NodeLimit) -> u64
     ensures { result ≡ length_limit limit }
 {
-    662 * limit.nodes() + 3_800_000
+    NODE_BYTES * limit.nodes() + SPARE_BYTES
 }
 
 /// The paving of a file with at most 100,000 settled nodes, as `read_within` gives it.
@@ -40,16 +48,16 @@ pub fn read(
     ensures root { IfOk result (λ p. p.root ≡ root.now) }
     ensures text { IfOk result (λ p. IsTextOf bytes.now identity root.now p.tree) }
     ensures numbers { IfOk result (λ p. IsPavingInFormat root.now p.tree) }
-    ensures few { IfOk result (λ p. settled_count p.tree ≤ 100000) }
-    ensures complete { (t : Tree) → IsPavingInFormat root.now t → settled_count t ≤ 100000
+    ensures few { IfOk result (λ p. settled_count p.tree ≤ LEAST_LIMIT) }
+    ensures complete { (t : Tree) → IsPavingInFormat root.now t → settled_count t ≤ LEAST_LIMIT
         → IsTextOf bytes.now identity root.now t
         → MatchResult result (λ p. p.tree ≡ t) (λ e. e ≡ FileRefused.Memory) }
     ensures wrong_identity { result ≡ Err FileRefused.WrongIdentity
         → HasOtherIdentity bytes.now identity root.now }
     ensures bad_line { (n : ℕ) → result ≡ Err (FileRefused.BadLine n)
-        → IsFirstBadLine 100000 n bytes.now identity root.now }
+        → IsFirstBadLine LEAST_LIMIT n bytes.now identity root.now }
     ensures too_many { (n : ℕ) → result ≡ Err (FileRefused.TooManyNodes n)
-        → IsOneTooMany 100000 n bytes.now identity root.now }
+        → IsOneTooMany LEAST_LIMIT n bytes.now identity root.now }
 {
     read_within(alloc, bytes, identity, root, NodeLimit::by_default())
 }

@@ -16,8 +16,11 @@ use pv_num::Memory;
 use pv_tree::{Paving, Shape, Walk};
 use std::alloc::Global;
 
-// No line is longer, that of an open leaf included.
-const LONGEST_LINE: usize = 700;
+/// The most bytes of a settled node's line, its line feed among them.
+pub const LONGEST_LINE: usize = 660;
+
+// Room for a line, that of an open leaf included.
+const LINE_ROOM: usize = 700;
 
 /// Hands the version 2 text of a paving's file to a sink.
 pub fn write<K: Sink>(
@@ -36,7 +39,7 @@ pub fn write<K: Sink>(
         → Rose (K.faults sink.old) (K.faults sink.new) }
     ensures counts_on { K.faults sink.old ≤ K.faults sink.new }
 {
-    let mut held = Vec::with_capacity(alloc, PIECE + LONGEST_LINE)?;
+    let mut held = Vec::with_capacity(alloc, PIECE + LINE_ROOM)?;
     push_header(Version::Two, &identity, &mut held)?;
     write_nodes(alloc, p, Version::Two, held, sink)
 }
@@ -74,7 +77,7 @@ pub fn write_lines<K: Sink>(alloc: Global, p: &Paving, sink: &mut K) -> Result<(
         → Rose (K.faults sink.old) (K.faults sink.new) }
     ensures counts_on { K.faults sink.old ≤ K.faults sink.new }
 {
-    let held = Vec::with_capacity(alloc, PIECE + LONGEST_LINE)?;
+    let held = Vec::with_capacity(alloc, PIECE + LINE_ROOM)?;
     write_nodes(alloc, p, Version::One, held, sink)
 }
 

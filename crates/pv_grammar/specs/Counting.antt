@@ -12,6 +12,9 @@ use Rattle.pv_grammar.specs.declared.symbol.Fixed.TheVariants.{Plus, Minus, Star
 use Rattle.pv_grammar.specs.declared.symbol.Symbol.{Symbol}
 use Rattle.pv_grammar.specs.Standings.{Standing, begins_expression}
 use Rattle.pv_grammar.specs.declared.symbol.Symbol.TheVariants.{Fixed as FixedToken, Declared, Function as Call, Unknown}
+use Rattle.pv_code.specs.declared.measure.TheConstants.{MOST_PARAMETERS}
+use Rattle.pv_expr.specs.declared.system.TheConstants.{MOST_VARIABLES, MOST_CONSTRAINTS}
+use Rattle.pv_grammar.specs.declared.counts.TheConstants.{MOST_FUNCTIONS, MOST_NESTING, MOST_OPERATIONS}
 
 abbrev pub Counting : Type 0
 Counting = Result Counts Cause
@@ -51,7 +54,7 @@ where_below n most cause c = if nat_lt n most then Ok c else Err cause
 -- ---- Constraints: at most 64
 
 abbrev pub begins : Phase → Counts → Counting
-begins NextConstraint c = where_below c.constraints 64 TooManyConstraints (in_phase Sides (with_constraints (c.constraints + 1) c))
+begins NextConstraint c = where_below c.constraints MOST_CONSTRAINTS TooManyConstraints (in_phase Sides (with_constraints (c.constraints + 1) c))
 begins p c = Ok c
 
 -- where a constraint may begin, a token that can begin an expression begins one
@@ -75,23 +78,23 @@ operates (Call op arity) = true
 operates s = false
 
 abbrev pub operated : Counts → Symbol → Counting
-operated c s = if operates s then where_below c.operations 1000 TooDeep (with_operations (c.operations + 1) c) else Ok c
+operated c s = if operates s then where_below c.operations MOST_OPERATIONS TooDeep (with_operations (c.operations + 1) c) else Ok c
 
 -- a function's name opens no level, but the parenthesis that must follow does
 abbrev pub levels : Symbol → Counts → Counting
-levels (FixedToken Open) c = where_below c.level 100 TooDeep (in_level (c.level + 1) c)
+levels (FixedToken Open) c = where_below c.level MOST_NESTING TooDeep (in_level (c.level + 1) c)
 levels (FixedToken Close) c = Ok (in_level (c.level - 1) c)
-levels (Call op arity) c = where_below c.level 100 Unexpected c
+levels (Call op arity) c = where_below c.level MOST_NESTING Unexpected c
 levels s c = Ok c
 
 -- ---- Declarations: at most 12 variables, and 12 parameters
 
 abbrev pub declared : Phase → Counts → Bool → Counting
 declared Variables c taken =
-    if nat_lt c.variables 12 then (if taken then Err DuplicateName else Ok (with_variables (c.variables + 1) c)) else Err TooManyVariables
+    if nat_lt c.variables MOST_VARIABLES then (if taken then Err DuplicateName else Ok (with_variables (c.variables + 1) c)) else Err TooManyVariables
 declared FunctionName c taken = if taken then Err DuplicateName else Ok (in_phase Parameters c)
 declared Parameters c taken =
-    if nat_lt c.parameters 12 then (if taken then Err DuplicateName else Ok (with_parameters (c.parameters + 1) c)) else Err Unexpected
+    if nat_lt c.parameters MOST_PARAMETERS then (if taken then Err DuplicateName else Ok (with_parameters (c.parameters + 1) c)) else Err Unexpected
 declared p c taken = if taken then Err DuplicateName else Ok c
 
 -- ---- Parts of the text: at most 64 functions
@@ -100,7 +103,7 @@ abbrev pub before_expression : Phase → Counts → Counts
 before_expression p c = in_phase p (in_level 0 (with_operations 0 c))
 
 abbrev pub behind_comma : Phase → Counts → Counting
-behind_comma Parameters c = where_below c.parameters 12 Unexpected c
+behind_comma Parameters c = where_below c.parameters MOST_PARAMETERS Unexpected c
 behind_comma p c = Ok c
 
 abbrev pub behind_semicolon : Phase → Counts → Counts
@@ -115,7 +118,7 @@ abbrev pub turned : Fixed → Counts → Counting
 turned ConstantsWord c = Ok (in_phase Constants c)
 turned VariablesWord c = Ok (in_phase Variables c)
 turned Constraints c = Ok (before_expression NextConstraint c)
-turned FunctionWord c = where_below c.functions 64 TooManyFunctions (in_phase FunctionName (with_functions (c.functions + 1) c))
+turned FunctionWord c = where_below c.functions MOST_FUNCTIONS TooManyFunctions (in_phase FunctionName (with_functions (c.functions + 1) c))
 turned Comma c = behind_comma c.phase c
 turned Return c = Ok (before_expression Body c)
 turned End c = Ok (behind_end c.phase c)

@@ -3,6 +3,9 @@
 use Rattle.std.specs.Prelude.{◌≡◌, ℕ, suc, ◌+◌, ◌≤◌, max, List, []}
 use Rattle.pv_grammar.specs.declared.symbol.Symbol.{Symbol}
 use Rattle.pv_grammar.specs.Productions.{Arguments, Constraint, Constraints, Expression, Factor, Factors, Function, Functions, Parameters, Power, Primary, System, Term, Terms, Variables, absolute_of, argument, call, constant_named, constraint_and, constraints_semicolon, expression_symbols, function_and, function_of, greatest_of, least_of, minus, negative, no_argument, no_constraint, no_factor, no_function, no_parameter, no_power, no_term, no_variable, number, over, parameter_and, parameter_at, parentheses, plus, positive, product_of, raised, relates, square_of, sum_of, system_of, system_symbols, times, to_power, variable_and, variable_at, variables_separator}
+use Rattle.pv_code.specs.declared.measure.TheConstants.{MOST_PARAMETERS}
+use Rattle.pv_expr.specs.declared.system.TheConstants.{MOST_VARIABLES, MOST_CONSTRAINTS}
+use Rattle.pv_grammar.specs.declared.counts.TheConstants.{MOST_FUNCTIONS, MOST_NESTING, MOST_OPERATIONS}
 
 -- ---- Operations: signs, `+ - * / ^`, and the names of functions
 
@@ -112,10 +115,10 @@ constraints_count (constraint_and c more) = suc (constraints_count more)
 -- ---- The limits
 
 abbrev pub IsExpressionWithin : Expression → Type 0
-IsExpressionWithin e = (expression_depth e ≤ 100) × (expression_operations e ≤ 1000)
+IsExpressionWithin e = (expression_depth e ≤ MOST_NESTING) × (expression_operations e ≤ MOST_OPERATIONS)
 
 abbrev pub IsFunctionWithin : Function → Type 0
-IsFunctionWithin (function_of more body inner outer) = (suc (parameters_count more) ≤ 12) × IsExpressionWithin body
+IsFunctionWithin (function_of more body inner outer) = (suc (parameters_count more) ≤ MOST_PARAMETERS) × IsExpressionWithin body
 
 abbrev pub AreFunctionsWithin : Functions → Type 0
 AreFunctionsWithin no_function = Unit {0}
@@ -124,7 +127,7 @@ AreFunctionsWithin (function_and f more) = IsFunctionWithin f × AreFunctionsWit
 -- the operations of both sides count together
 abbrev pub IsConstraintWithin : Constraint → Type 0
 IsConstraintWithin (relates left r right) =
-    (expression_depth left ≤ 100) × (expression_depth right ≤ 100) × (expression_operations left + expression_operations right ≤ 1000)
+    (expression_depth left ≤ MOST_NESTING) × (expression_depth right ≤ MOST_NESTING) × (expression_operations left + expression_operations right ≤ MOST_OPERATIONS)
 
 abbrev pub AreConstraintsWithin : Constraints → Type 0
 AreConstraintsWithin no_constraint = Unit {0}
@@ -133,9 +136,9 @@ AreConstraintsWithin (constraint_and c more) = IsConstraintWithin c × AreConstr
 
 abbrev pub IsSystemWithin : System → Type 0
 IsSystemWithin (system_of block before v vs behind c cs) =
-    (functions_count before + functions_count behind ≤ 64) × AreFunctionsWithin before × AreFunctionsWithin behind
-    × (suc (variables_count vs) ≤ 12)
-    × (suc (constraints_count cs) ≤ 64) × IsConstraintWithin c × AreConstraintsWithin cs
+    (functions_count before + functions_count behind ≤ MOST_FUNCTIONS) × AreFunctionsWithin before × AreFunctionsWithin behind
+    × (suc (variables_count vs) ≤ MOST_VARIABLES)
+    × (suc (constraints_count cs) ≤ MOST_CONSTRAINTS) × IsConstraintWithin c × AreConstraintsWithin cs
 
 -- ---- Texts within the limits, by their tokens
 

@@ -5,18 +5,17 @@ ghost use Rattle.pv_grammar.specs.Counting.{begun, counted, declared, levels, mo
 
 use crate::cause::Cause;
 use crate::symbol::{Fixed, Symbol};
+use pv_code::MOST_PARAMETERS;
+use pv_expr::{MOST_CONSTRAINTS, MOST_VARIABLES};
 
-const MAX_FUNCTIONS: u8 = 64;
+/// The most functions of a text.
+pub const MOST_FUNCTIONS: u8 = 64;
 
-const MAX_PARAMETERS: u8 = 12;
+/// The most parentheses of an expression within one another.
+pub const MOST_NESTING: u32 = 100;
 
-const MAX_VARIABLES: u8 = 12;
-
-const MAX_CONSTRAINTS: u32 = 64;
-
-const MAX_LEVEL: u32 = 100;
-
-const MAX_OPERATIONS: u32 = 1000;
+/// The most operations of an expression, or of a constraint's two sides together.
+pub const MOST_OPERATIONS: u32 = 1000;
 
 /// The part of the text that a token stands in.
 #[derive(Clone, Copy, Debug, PartialEq, Eq)]
@@ -84,7 +83,7 @@ impl Counts {
         ensures { result ≡ begun self symbol }
     {
         if self.phase == Phase::NextConstraint && symbol.begins() {
-            if self.constraints >= MAX_CONSTRAINTS {
+            if self.constraints >= MOST_CONSTRAINTS {
                 return Err(Cause::TooManyConstraints);
             }
             self.phase = Phase::Sides;
@@ -98,7 +97,7 @@ impl Counts {
         ensures { result ≡ operated self symbol }
     {
         if symbol.operates() {
-            if self.operations >= MAX_OPERATIONS {
+            if self.operations >= MOST_OPERATIONS {
                 return Err(Cause::TooDeep);
             }
             self.operations += 1;
@@ -111,11 +110,11 @@ impl Counts {
         ensures { result ≡ levels symbol self }
     {
         match symbol {
-            Symbol::Fixed(Fixed::Open) if self.level >= MAX_LEVEL => return Err(Cause::TooDeep),
+            Symbol::Fixed(Fixed::Open) if self.level >= MOST_NESTING => return Err(Cause::TooDeep),
             Symbol::Fixed(Fixed::Open) => self.level += 1,
             Symbol::Fixed(Fixed::Close) => self.level = self.level.saturating_sub(1),
             // The `(` that must follow would open a level too many.
-            Symbol::Function { .. } if self.level >= MAX_LEVEL => return Err(Cause::Unexpected),
+            Symbol::Function { .. } if self.level >= MOST_NESTING => return Err(Cause::Unexpected),
             _ => {}
         }
         Ok(self)
@@ -138,10 +137,12 @@ impl Counts {
         ensures { result ≡ declared self.phase self taken }
     {
         match self.phase {
-            Phase::Variables if self.variables >= MAX_VARIABLES => {
+            Phase::Variables if self.variables >= MOST_VARIABLES => {
                 return Err(Cause::TooManyVariables);
             }
-            Phase::Parameters if self.parameters >= MAX_PARAMETERS => return Err(Cause::Unexpected),
+            Phase::Parameters if self.parameters >= MOST_PARAMETERS => return Err(
+                Cause::Unexpected,
+            ),
             _ if taken => return Err(Cause::DuplicateName),
             Phase::Variables => self.variables += 1,
             Phase::Parameters => self.parameters += 1,
@@ -158,7 +159,7 @@ impl Counts {
             Fixed::Constants => self.phase = Phase::Constants,
             Fixed::Variables | Fixed::CloseBracket => self.phase = Phase::Variables,
             Fixed::Constraints => self = self.in_expression(Phase::NextConstraint),
-            Fixed::Function if self.functions >= MAX_FUNCTIONS => {
+            Fixed::Function if self.functions >= MOST_FUNCTIONS => {
                 return Err(Cause::TooManyFunctions);
             }
             Fixed::Function => {
@@ -166,7 +167,7 @@ impl Counts {
                 self.functions += 1;
             }
             Fixed::Comma => {
-                if self.phase == Phase::Parameters && self.parameters >= MAX_PARAMETERS {
+                if self.phase == Phase::Parameters && self.parameters >= MOST_PARAMETERS {
                     return Err(Cause::Unexpected);
                 }
             }

@@ -11,6 +11,6 @@ mod production;
 mod symbol;
 
 pub use cause::Cause;
-pub use counts::{Counts, Phase};
+pub use counts::{Counts, MOST_FUNCTIONS, MOST_NESTING, MOST_OPERATIONS, Phase};
 pub use machine::{Item, Machine};
 pub use symbol::{Fixed, Symbol};

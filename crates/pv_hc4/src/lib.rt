@@ -20,7 +20,7 @@ pub mod total;
 
 pub use graph::{Forward, Graph, Scratch, fill};
 pub use judge::Judged;
-pub use marks::Marks;
+pub use marks::{MOST_MARKS, Marks};
 pub use node::{BinaryOp, Node, UnaryOp};
 pub use revised::Revised;
 pub use steps::Steps;

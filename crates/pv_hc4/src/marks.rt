@@ -3,7 +3,10 @@
 ghost use Rattle.std.specs.Prelude.{◌≡◌, ◌↔◌, ℕ, ◌<◌, IsTrue, ◌||◌, ◌&&◌, not, false, nat_eq};
 ghost use Rattle.pv_hc4.specs.MarkSets.{is_marked};
 
-/// A set of numbers from 0 to 63.
+/// So many numbers may be in a set.
+pub const MOST_MARKS: u8 = 64;
+
+/// A set of numbers below `MOST_MARKS`.
 #[derive(Clone, Copy, Debug, PartialEq, Eq)]
 pub struct Marks {
     word: u64,
@@ -20,7 +23,7 @@ impl Marks {
     /// Whether a number is in the set.
     #[inline(always)]
     pub fn has(self, i: u8) -> bool
-        requires { i < 64 }
+        requires { i < MOST_MARKS }
         ensures { result ≡ is_marked self i }
     {
         (self.word >> u32::from(i)) & 1 == 1
@@ -29,7 +32,7 @@ impl Marks {
     /// The set with a number.
     #[inline(always)]
     pub fn with(self, i: u8) -> Marks
-        requires { i < 64 }
+        requires { i < MOST_MARKS }
         ensures { (k : ℕ) → is_marked result k ≡ (nat_eq i k || is_marked self k) }
     {
         Marks {

@@ -3,14 +3,14 @@
 ghost use Rattle.std.specs.Prelude.{◌≡◌, ◌↔◌, IsTrue, ℕ, ◌<◌, ◌≤◌, length, take};
 
 use crate::forward::place;
-use pv_box::IBox;
+use pv_box::{IBox, MOST_PLACES};
 use pv_interval::Interval;
 
 // The places of a box.
-pub(crate) fn copied(bx: &IBox) -> [Interval; 12]
+pub(crate) fn copied(bx: &IBox) -> [Interval; MOST_PLACES]
     ensures { take (length bx.now) result ≡ bx.now }
 {
-    let mut places = [Interval::ALL; 12];
+    let mut places = [Interval::ALL; MOST_PLACES];
     for i in 0..bx.dims() {
         places[i as usize] = place(bx, i);
     }

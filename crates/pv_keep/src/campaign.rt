@@ -8,6 +8,7 @@ ghost use Rattle.pv_join.specs.Joins.{IsJoin};
 ghost use Rattle.pv_keep.specs.Holdings.{seen_of};
 ghost use Rattle.pv_keep.specs.Keeping.{HasOther};
 ghost use Rattle.pv_keep.specs.Campaigns.{IsOpened, IsLeft, HasTooMany, HasBadRow, KeepsTree, IsSaved, AreStages};
+ghost use Rattle.pv_tree.specs.declared.limit.TheConstants.{LEAST_LIMIT};
 
 use crate::keeper::Keeper;
 use crate::new_rows::new_rows;
@@ -52,19 +53,19 @@ impl Campaign {
         root: IBox,
     ) -> Result<Campaign, CampaignRefused>
         ensures root { IfOk result (λ c. c.root ≡ root) }
-        ensures limit { IfOk result (λ c. c.limit ≡ 100000) }
-        ensures few { IfOk result (λ c. settled_count c.tree ≤ 100000) }
+        ensures limit { IfOk result (λ c. c.limit ≡ LEAST_LIMIT) }
+        ensures few { IfOk result (λ c. settled_count c.tree ≤ LEAST_LIMIT) }
         ensures opened { IfOk result (λ c.
-            IsOpened 100000 (P.kept keeper.old name.now) (P.kept keeper.new name.now)
+            IsOpened LEAST_LIMIT (P.kept keeper.old name.now) (P.kept keeper.new name.now)
             identity root c.tree) }
         ensures begun { OnOk result (P.begun keeper.new ≡ Some name.now) }
         ensures keeps { IfOk result (λ c. KeepsTree (P.kept keeper.new name.now) c.tree) }
         ensures other_identity { (found : List ℕ) → result ≡ Err (CampaignRefused.OtherIdentity found)
             → HasOther (P.kept keeper.old name.now) identity found }
         ensures too_many { IsErrOf result CampaignRefused.TooMany
-            → HasTooMany 100000 (P.kept keeper.old name.now) identity }
+            → HasTooMany LEAST_LIMIT (P.kept keeper.old name.now) identity }
         ensures bad_row { (n : ℕ) → result ≡ Err (CampaignRefused.BadRow n)
-            → HasBadRow 100000 (P.kept keeper.old name.now) identity root n }
+            → HasBadRow LEAST_LIMIT (P.kept keeper.old name.now) identity root n }
         ensures left { OnErr result
             (IsLeft (P.kept keeper.old name.now) (P.kept keeper.new name.now) identity) }
         ensures others { (other : List ℕ)

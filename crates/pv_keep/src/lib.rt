@@ -13,14 +13,13 @@ mod line;
 mod mem_keeper;
 mod new_rows;
 mod order;
-mod rebuild;
+pub mod rebuild;
 mod refusal;
 mod row;
 
 pub use campaign::Campaign;
 pub use keeper::{BeginRefused, KeepRefused, Keeper, LoadRefused};
-pub use line::{LONGEST_LINE, Line};
+pub use line::Line;
 pub use mem_keeper::MemKeeper;
-pub use rebuild::rebuild;
 pub use refusal::{CampaignRefused, SaveRefused};
 pub use row::{Row, RowRefused, Rows};

@@ -6,6 +6,8 @@ ghost use Rattle.pv_file.specs.Lines.{outcome_line};
 ghost use Rattle.pv_file.specs.Readings.{HaveNumberEnds};
 ghost use Rattle.pv_keep.specs.Rows.{IsShuffle, rows_of, row_of};
 ghost use Rattle.pv_keep.specs.Below.{is_a_cut, rows_at};
+ghost use Rattle.pv_box.specs.declared.boxes.TheConstants.{MOST_PLACES};
+ghost use Rattle.pv_file.specs.declared.writer.TheConstants.{LONGEST_LINE};
 
 use crate::line::Line;
 use crate::row::{Row, Rows};
@@ -83,7 +85,7 @@ fn push_settled(
 }
 
 fn line_of(alloc: Global, outcome: &Outcome) -> Result<Line, Memory>
-    requires { length (outcome_line outcome.now) ≤ 660 }
+    requires { length (outcome_line outcome.now) ≤ LONGEST_LINE }
     ensures { IfOk result (λ line. line ≡ outcome_line outcome.now) }
 {
     let mut text = Vec::new(alloc);
@@ -103,7 +105,8 @@ fn outcome_there(
 ) -> Result<Option<Outcome>, Memory>
     requires { shape ≡ shape_of (subtree paving.now.tree path) }
     ensures outcome { IfOk result (λ found. found ≡ outcome_at paving.now.tree path) }
-    ensures short { IfOk result (λ found. IfSome found (λ o. length (outcome_line o) ≤ 660)) }
+    ensures short { IfOk result
+        (λ found. IfSome found (λ o. length (outcome_line o) ≤ LONGEST_LINE)) }
 {
     let dims = paving.dims();
     match shape {
@@ -131,9 +134,9 @@ fn kept_there(alloc: Global, paving: &Paving, path: Path, dims: u8) -> Result<IB
     requires there { IsSome (to_at paving.now.tree path) }
     requires dims { dims ≡ length paving.now.root }
     requires some { 0 < dims }
-    requires few { dims ≤ 12 }
+    requires few { dims ≤ MOST_PLACES }
     ensures is { IfOk result (λ to. to_at paving.now.tree path ≡ Some to) }
-    ensures few { IfOk result (λ to. length to ≤ 12) }
+    ensures few { IfOk result (λ to. length to ≤ MOST_PLACES) }
     ensures numbers { IfOk result (λ to. HaveNumberEnds to) }
 {
     let mut to = IBox::new(vec![in alloc; Interval::ALL; dims as usize]?);

@@ -4,6 +4,7 @@ use Rattle.pv_num.specs.Extended.{Extended, NegInf, Fin, PosInf}
 use Rattle.pv_num.specs.Grid.{unit}
 use Rattle.pv_interval.specs.Bounds.{Bounds, between}
 use Rattle.pv_interval.specs.Points.{Point}
+use Rattle.pv_box.specs.declared.boxes.TheConstants.{MOST_PLACES}
 
 abbrev pub IsFinite : Extended → Type 0
 IsFinite NegInf = ⊥
@@ -17,7 +18,7 @@ AreFinite (x ∷ xs) = IsFinite x × AreFinite xs
 -- 1 to 12 finite numbers
 pub record IsFinitePoint (p : List Extended) : Type 0 where
   pub some : 0 < length p
-  pub few : length p ≤ 12
+  pub few : length p ≤ MOST_PLACES
   pub finite : AreFinite p
 
 -- the box that has a point alone

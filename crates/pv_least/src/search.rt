@@ -6,6 +6,7 @@ ghost use Rattle.pv_least.specs.Objectives.{aim_of, admits};
 ghost use Rattle.pv_least.specs.Searches.{searched, lower_of, best_of, next_of};
 ghost use Rattle.pv_least.specs.Running.{IsSearch, steps_left};
 ghost use Rattle.pv_least.specs.Promises.{NoneIsBelow, IsWitness};
+ghost use Rattle.pv_tree.specs.declared.limit.TheConstants.{MOST_SETTLED};
 
 use crate::found::{Least, Room};
 use crate::objective::Objective;
@@ -35,7 +36,7 @@ pub fn least<S: Settler>(
     requires settler_dims { length root.now ≡ S.dims settler.now }
     requires objective_dims { length root.now ≡ objective.now.dims }
     requires budget_some { 1 ≤ budget }
-    requires budget_few { budget ≤ 100000000 }
+    requires budget_few { budget ≤ MOST_SETTLED }
     ensures lower { IfOk result (λ l. l.lower ≡ lower_of (aim_of objective.now) root.now
         (searched (S.settle_of settler.now) (S.depth_of settler.now)
         (aim_of objective.now) root.now budget)) }
@@ -85,7 +86,7 @@ impl Search {
         requires objective_dims { length self.old.growth.root ≡ objective.now.dims }
         requires leaf { length self.old.room.leaf ≡ objective.now.dims }
         requires probe { length self.old.room.probe ≡ objective.now.dims }
-        requires budget { budget ≤ 100000000 }
+        requires budget { budget ≤ MOST_SETTLED }
         requires search { IsSearch (S.settle_of settler.now) (S.depth_of settler.now)
             (aim_of objective.now) self.old.growth.root budget self.old.growth self.old.found }
         ensures search { OnOk result (IsSearch (S.settle_of settler.now) (S.depth_of settler.now)

@@ -4,6 +4,7 @@ ghost use Rattle.pv_io.specs.Outside.{Rose, appended, AppendsFront};
 ghost use Rattle.pv_tree.specs.Pieces.{root_piece, all_nodes};
 ghost use Rattle.pv_file.specs.Lines.{lines_of};
 ghost use Rattle.pv_lines.specs.Turns.{AreSpread};
+ghost use Rattle.pv_tree.specs.declared.limit.TheConstants.{MOST_WORKERS};
 
 use crate::spread::{hand_from, spread, turn_all};
 use pv_file::{Scribe, Version};
@@ -15,6 +16,12 @@ use std::thread::Threads;
 // The lines of at most some more nodes are held at once.
 const MOST_HELD: u64 = 16_384;
 
+/// A scribe takes at most so many nodes at a turn.
+pub const MOST_SHARE: u64 = 20_000;
+
+/// The others take at most so many nodes between two turns of a scribe.
+pub const MOST_GAP: u64 = 300_000;
+
 /// Hands the lines of all nodes to a sink, made by `workers` workers.
 pub(crate) fn write_nodes<K: Sink, R: Threads + Sync>(
     rt: &R,
@@ -25,7 +32,7 @@ pub(crate) fn write_nodes<K: Sink, R: Threads + Sync>(
     sink: &mut K,
 ) -> Result<(), FileWriteRefused>
     requires one { 1 ≤ workers }
-    requires few { workers ≤ 16 }
+    requires few { workers ≤ MOST_WORKERS }
     ensures whole { OnOk result
         (K.written sink.new
         ≡ appended (K.written sink.old) (lines_of version p.now.root p.now.tree)) }
@@ -55,9 +62,9 @@ pub(crate) fn nodes_of(p: &Paving) -> u64
 fn share_of(nodes: u64, workers: u32) -> u64
     requires fits { nodes < 2 ^ 63 }
     requires one { 1 ≤ workers }
-    requires few { workers ≤ 16 }
+    requires few { workers ≤ MOST_WORKERS }
     ensures some { 1 ≤ result }
-    ensures small { result ≤ 20000 }
+    ensures small { result ≤ MOST_SHARE }
 {
     let rounds = nodes / MOST_HELD + 1;
     MOST_HELD.min(nodes / (rounds * u64::from(workers))) + 1
@@ -76,9 +83,9 @@ pub(crate) fn write_rounds<K: Sink, R: Threads + Sync>(
     requires nodes { nodes ≡ all_nodes p.now.tree }
     requires fits { nodes < 2 ^ 63 }
     requires share { 1 ≤ share }
-    requires small { share ≤ 20000 }
+    requires small { share ≤ MOST_SHARE }
     requires some { 0 < length scribes.old }
-    requires few { length scribes.old ≤ 16 }
+    requires few { length scribes.old ≤ MOST_WORKERS }
     requires spread { AreSpread share (root_piece p.now.root p.now.tree ∷ []) scribes.old }
     ensures whole { OnOk result
         (K.written sink.new
@@ -102,11 +109,11 @@ pub(crate) fn write_rounds<K: Sink, R: Threads + Sync>(
 
 // How many nodes the others take.
 fn gap_of(share: u64, scribes: usize) -> u64
-    requires small { share ≤ 20000 }
+    requires small { share ≤ MOST_SHARE }
     requires some { 0 < scribes }
-    requires few { scribes ≤ 16 }
+    requires few { scribes ≤ MOST_WORKERS }
     ensures is { share + result ≡ share * scribes }
-    ensures small { result ≤ 300000 }
+    ensures small { result ≤ MOST_GAP }
 {
     let mut gap = 0;
     for _other in 1..scribes {

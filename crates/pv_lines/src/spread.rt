@@ -4,6 +4,8 @@ ghost use Rattle.pv_io.specs.Outside.{Rose, appended, AppendsFront};
 ghost use Rattle.pv_tree.specs.Pieces.{root_piece};
 ghost use Rattle.pv_file.specs.Scribes.{Scribed};
 ghost use Rattle.pv_lines.specs.Turns.{AreSpread, HasTurned, HaveTexts, texts_of};
+ghost use Rattle.pv_lines.specs.declared.rounds.TheConstants.{MOST_SHARE};
+ghost use Rattle.pv_tree.specs.declared.limit.TheConstants.{MOST_WORKERS};
 
 use pv_file::{Scribe, Version};
 use pv_io::{FileWriteRefused, Sink, hand_over};
@@ -20,8 +22,8 @@ pub(crate) fn spread<'a>(
     workers: u32,
     share: u64,
 ) -> Result<Vec<Scribe<'a>>, Memory>
-    requires few { workers ≤ 16 }
-    requires small { share ≤ 20000 }
+    requires few { workers ≤ MOST_WORKERS }
+    requires small { share ≤ MOST_SHARE }
     ensures count { IfOk result (λ v. vec_len v ≡ workers) }
     ensures spread { IfOk result (λ v. AreSpread share (root_piece p.now.root p.now.tree ∷ [])
         v.items) }

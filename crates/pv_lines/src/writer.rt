@@ -4,6 +4,7 @@ ghost use Rattle.pv_io.specs.Outside.{Rose, appended, AppendsFront};
 ghost use Rattle.pv_file.specs.Lines.{lines_of};
 ghost use Rattle.pv_file.specs.Texts.{file_text};
 ghost use Rattle.pv_file.specs.declared.version.Version.TheVariants as version;
+ghost use Rattle.pv_tree.specs.declared.limit.TheConstants.{MOST_WORKERS};
 
 use crate::rounds::{nodes_of, write_nodes};
 use pv_file::{Version, write, write_header, write_lines};
@@ -25,7 +26,7 @@ pub fn write_by<K: Sink, R: Threads + Sync>(
     sink: &mut K,
 ) -> Result<(), FileWriteRefused>
     requires one { 1 ≤ workers }
-    requires few { workers ≤ 16 }
+    requires few { workers ≤ MOST_WORKERS }
     ensures whole { OnOk result
         (K.written sink.new ≡
         appended (K.written sink.old) (file_text version.Two identity p.now.root p.now.tree)) }
@@ -52,7 +53,7 @@ pub fn write_lines_by<K: Sink, R: Threads + Sync>(
     sink: &mut K,
 ) -> Result<(), FileWriteRefused>
     requires one { 1 ≤ workers }
-    requires few { workers ≤ 16 }
+    requires few { workers ≤ MOST_WORKERS }
     ensures whole { OnOk result
         (K.written sink.new
         ≡ appended (K.written sink.old) (lines_of version.One p.now.root p.now.tree)) }

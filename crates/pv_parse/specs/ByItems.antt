@@ -24,6 +24,7 @@ use Rattle.pv_parse.specs.Fractions.{HaveFractions}
 use Rattle.pv_parse.specs.Meanings.{Names}
 use Rattle.pv_parse.specs.Scopes.{Scoped, nothing_scoped, scoped_behind}
 use Rattle.pv_parse.specs.Sentences.{Spells}
+use Rattle.pv_parse.specs.declared.reader.TheConstants.{MOST_TEXT}
 
 -- ---- What was read
 
@@ -77,7 +78,7 @@ IsAt byte cause (Fault byte' line column cause') = (byte' ≡ byte) × (cause' �
 -- a fault comes from the length of the text
 abbrev pub IsLong : List ℕ → ParseRefused → Type 0
 IsLong t Memory = Unit {0}
-IsLong t (Fault byte line column cause) = (65536 < length t) × (byte ≡ 65536) × (cause ≡ TextTooLong)
+IsLong t (Fault byte line column cause) = (MOST_TEXT < length t) × (byte ≡ MOST_TEXT) × (cause ≡ TextTooLong)
 
 -- a fault is at the start of a constraint, which is too large
 abbrev pub IsAtStart : List ℕ → ℕ → ParseRefused → Type 0

@@ -17,6 +17,7 @@ use Rattle.pv_tokens.specs.declared.token.Token.{Token}
 use Rattle.pv_tokens.specs.Tokens.{IsNext}
 use Rattle.pv_parse.specs.Meanings.{KnowsVariables, Names}
 use Rattle.pv_parse.specs.Sentences.{IsExpressionTextOf, IsTextOf, bytes_of}
+use Rattle.pv_parse.specs.declared.reader.TheConstants.{MOST_TEXT}
 
 -- ---- The tokens of a sentence, each in its place
 
@@ -111,7 +112,7 @@ pub record IsSystemSentence (t : List ℕ) : Type 0 where
   pub reading : Reading t
   pub good : AreGood (system_domains reading.tree)
   pub within : AreWithin (system_constraints reading.tree)
-  pub short : length t ≤ 65536
+  pub short : length t ≤ MOST_TEXT
 
 -- the text is a system's, and these are its names, domains and constraints
 pub record IsMeaning (t : List ℕ) (s : Parts) : Type 0 where
@@ -138,7 +139,7 @@ pub record IsExpressionSentence (variables : List (List ℕ)) (t : List ℕ) : T
   pub knows : KnowsVariables variables known
   pub tree : Expression
   pub spelled : IsExpressionTextOf known t tree
-  pub short : length t ≤ 65536
+  pub short : length t ≤ MOST_TEXT
 
 -- and this is its term
 pub record IsExpressionMeaning (variables : List (List ℕ)) (t : List ℕ) (x : Term) : Type 0 where

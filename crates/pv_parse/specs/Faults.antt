@@ -19,6 +19,7 @@ use Rattle.pv_parse.specs.declared.refused.ParseRefused.TheVariants.{Memory, Fau
 use Rattle.pv_parse.specs.Declarations.{AreGood, IsFirstBad, Reading, brackets_in, starts_in}
 use Rattle.pv_parse.specs.Meanings.{KnowsVariables, Names, no_names}
 use Rattle.pv_parse.specs.Sentences.{Spells, SpellsTo, StandsFor, bytes_of}
+use Rattle.pv_parse.specs.declared.reader.TheConstants.{MOST_TEXT}
 
 -- a fault's byte lies in the text or at its end, and its line and column are those of the byte
 abbrev pub IsPlaced : List ℕ → ParseRefused → Type 0
@@ -28,7 +29,7 @@ IsPlaced t (Fault byte line column cause) = (byte ≤ length t) × (line ≡ lin
 -- the text is too long, and its fault is at the first byte too many
 abbrev pub SaysTooLong : ParseRefused → Type 0
 SaysTooLong Memory = Unit {0}
-SaysTooLong (Fault byte line column cause) = (byte ≡ 65536) × (cause ≡ TextTooLong)
+SaysTooLong (Fault byte line column cause) = (byte ≡ MOST_TEXT) × (cause ≡ TextTooLong)
 
 -- ---- The first fault
 
@@ -81,10 +82,10 @@ IsAtMostOne IsFault = (byte byte' : ℕ) (cause cause' : Cause) → IsFault byte
 -- is that of a tree, and the first bad domain opens at the byte, or there is none and the first constraint that is too large begins
 -- there
 pub data IsFaultOf (t : List ℕ) (byte : ℕ) (cause : Cause) : Type 0 where
-  long : 65536 < length t → byte ≡ 65536 → cause ≡ TextTooLong → IsFaultOf t byte cause
-  first : length t ≤ 65536 → IsSystemFault t byte cause → IsFaultOf t byte cause
-  bounds : length t ≤ 65536 → (r : Reading t) → IsFirstBad (system_domains r.tree) (brackets_in r.marks) byte → cause ≡ BadBounds → IsFaultOf t byte cause
-  large : length t ≤ 65536 → (r : Reading t) → AreGood (system_domains r.tree) → (i : ℕ) → IsFirstLarge (system_constraints r.tree) i →
+  long : MOST_TEXT < length t → byte ≡ MOST_TEXT → cause ≡ TextTooLong → IsFaultOf t byte cause
+  first : length t ≤ MOST_TEXT → IsSystemFault t byte cause → IsFaultOf t byte cause
+  bounds : length t ≤ MOST_TEXT → (r : Reading t) → IsFirstBad (system_domains r.tree) (brackets_in r.marks) byte → cause ≡ BadBounds → IsFaultOf t byte cause
+  large : length t ≤ MOST_TEXT → (r : Reading t) → AreGood (system_domains r.tree) → (i : ℕ) → IsFirstLarge (system_constraints r.tree) i →
       slice_get (starts_in r.marks) i ≡ Some byte → cause ≡ TooLarge → IsFaultOf t byte cause
 
 abbrev pub IsRefusal : List ℕ → ParseRefused → Type 0
@@ -93,8 +94,8 @@ IsRefusal t (Fault byte line column cause) = IsFaultOf t byte cause
 
 -- the fault of an expression's text, where the variables are known: it is too long, or the first fault of its tokens
 pub data IsExpressionFaultOf (variables : List (List ℕ)) (t : List ℕ) (byte : ℕ) (cause : Cause) : Type 0 where
-  long : 65536 < length t → byte ≡ 65536 → cause ≡ TextTooLong → IsExpressionFaultOf variables t byte cause
-  first : length t ≤ 65536 → IsExpressionFault variables t byte cause → IsExpressionFaultOf variables t byte cause
+  long : MOST_TEXT < length t → byte ≡ MOST_TEXT → cause ≡ TextTooLong → IsExpressionFaultOf variables t byte cause
+  first : length t ≤ MOST_TEXT → IsExpressionFault variables t byte cause → IsExpressionFaultOf variables t byte cause
 
 abbrev pub IsExpressionRefusal : List (List ℕ) → List ℕ → ParseRefused → Type 0
 IsExpressionRefusal variables t Memory = Unit {0}

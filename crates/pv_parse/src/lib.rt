@@ -11,5 +11,5 @@ mod variable;
 
 pub use pv_grammar::Cause;
 pub use pv_tokens::read_number;
-pub use reader::{parse, parse_expr};
+pub use reader::{MOST_TEXT, parse, parse_expr};
 pub use refused::ParseRefused;

@@ -27,7 +27,8 @@ use pv_tokens::{Kind, Token, line_and_column, next_token};
 use std::alloc::Global;
 
 /// The longest text that is read, in bytes.
-const MAX_TEXT: usize = 65536;
+/// The longest text of a system, in bytes.
+pub const MOST_TEXT: usize = 65536;
 
 /// The system that a text means.
 ///
@@ -39,7 +40,7 @@ const MAX_TEXT: usize = 65536;
 pub fn parse(alloc: Global, text: &[u8]) -> Result<System, ParseRefused>
     ensures means { IfOk result (λ s. IsMeaning text.now s) }
     ensures placed { IfErr result (λ e. IsPlaced text.now e) }
-    ensures long { 65536 < length text.now → IsErrAnd result SaysTooLong }
+    ensures long { MOST_TEXT < length text.now → IsErrAnd result SaysTooLong }
     ensures fault { IfErr result (IsRefusal text.now) }
 {
     refuse_long(text)?;
@@ -65,7 +66,7 @@ pub fn parse_expr(alloc: Global, system: &System, text: &[u8]) -> Result<Expr, P
     ensures over { IfOk result (λ e. IsOver (length system.now.names) (term_of e)) }
     ensures means { IfOk result (λ e. IsExpressionMeaning system.now.names text.now (term_of e)) }
     ensures placed { IfErr result (λ e. IsPlaced text.now e) }
-    ensures long { 65536 < length text.now → IsErrAnd result SaysTooLong }
+    ensures long { MOST_TEXT < length text.now → IsErrAnd result SaysTooLong }
     ensures fault { IfErr result (IsExpressionRefusal system.now.names text.now) }
 {
     if let Err(refused) = refuse_long(text) {
@@ -82,7 +83,7 @@ pub fn parse_expr(alloc: Global, system: &System, text: &[u8]) -> Result<Expr, P
 // The state behind the tokens of a system, and their code.
 #[tactic(auto, using(crate::proofs::Meant::first_fault, crate::proofs::TreeTexts::told_tree))]
 fn read_system(alloc: Global, text: &[u8]) -> Result<(State, Vec<Op>), ParseRefused>
-    requires short { length text.now ≤ 65536 }
+    requires short { length text.now ≤ MOST_TEXT }
     ensures told { IfOk result (λ (state, code). IsTold text.now code.items (scoped state)) }
     ensures placed { IfErr result (λ e. IsPlaced text.now e) }
     ensures fault { IfErr result (IsRefusal text.now) }
@@ -94,23 +95,23 @@ fn read_system(alloc: Global, text: &[u8]) -> Result<(State, Vec<Op>), ParseRefu
 }
 
 fn refuse_long(text: &[u8]) -> Result<(), ParseRefused>
-    ensures short { IsOk result → length text.now ≤ 65536 }
+    ensures short { IsOk result → length text.now ≤ MOST_TEXT }
     ensures placed { IfErr result (λ e. IsPlaced text.now e) }
     ensures long { IfErr result SaysTooLong }
     ensures size { IfErr result (IsLong text.now) }
 {
-    if text.len() > MAX_TEXT {
-        return Err(fault(text, MAX_TEXT, Cause::TextTooLong));
+    if text.len() > MOST_TEXT {
+        return Err(fault(text, MOST_TEXT, Cause::TextTooLong));
     }
     Ok(())
 }
 
 fn fault(text: &[u8], byte: usize, cause: Cause) -> ParseRefused
     requires within { byte ≤ length text.now }
-    requires short { byte ≤ 65536 }
+    requires short { byte ≤ MOST_TEXT }
     ensures placed { IsPlaced text.now result }
     ensures at { IsAt byte cause result }
-    ensures long { byte ≡ 65536 → cause ≡ Cause.TextTooLong → SaysTooLong result }
+    ensures long { byte ≡ MOST_TEXT → cause ≡ Cause.TextTooLong → SaysTooLong result }
 {
     let (line, column) = line_and_column(text, byte);
     ParseRefused::Fault {
@@ -122,7 +123,7 @@ fn fault(text: &[u8], byte: usize, cause: Cause) -> ParseRefused
 }
 
 fn read_tokens(text: &[u8], state: &mut State, machine: &mut Machine) -> Result<(), ParseRefused>
-    requires short { length text.now ≤ 65536 }
+    requires short { length text.now ≤ MOST_TEXT }
     requires start { IsStart state.now.counts (pile machine.now.stack.items) }
     requires names { AreBounded (view state.now.names) }
     requires fractions { KnowsFractions (view state.now.names) }
@@ -152,7 +153,7 @@ fn read_tokens(text: &[u8], state: &mut State, machine: &mut Machine) -> Result<
 // Where nothing more may come, only the end of the text is right.
 fn ended(text: &[u8], token: Token, symbol: Symbol) -> Result<(), ParseRefused>
     requires within { token.start ≤ length text.now }
-    requires short { length text.now ≤ 65536 }
+    requires short { length text.now ≤ MOST_TEXT }
     ensures ends { IsOk result → token.kind ≡ Kind.End }
     ensures placed { IfErr result (λ e. IsPlaced text.now e) }
     ensures at { IfErr result (λ e. (token.kind ≢ Kind.End) ×
@@ -183,7 +184,7 @@ fn expanded(
     code: &[Op],
     starts: &[usize],
 ) -> Result<Vec<Constraint>, ParseRefused>
-    requires short { length text.now ≤ 65536 }
+    requires short { length text.now ≤ MOST_TEXT }
     requires calls { All IsShortCall code.now }
     requires places { (k : ℕ) → k < length starts.now → slice_index starts.now k ≤ length text.now }
     requires each { length starts.now ≡ length (constraints_of code.now) }
@@ -221,7 +222,7 @@ fn expanded(
 
 #[tactic(auto, using(crate::proofs::Limited::fault_at_start))]
 fn too_large(text: &[u8], starts: &[usize], i: usize) -> ParseRefused
-    requires short { length text.now ≤ 65536 }
+    requires short { length text.now ≤ MOST_TEXT }
     requires places { (k : ℕ) → k < length starts.now → slice_index starts.now k ≤ length text.now }
     requires within { i < length starts.now }
     ensures placed { IsPlaced text.now result }

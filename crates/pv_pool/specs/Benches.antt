@@ -7,6 +7,7 @@ use Rattle.pv_pool.specs.declared.deque.Owner.{Owner}
 use Rattle.pv_pool.specs.declared.deque.Thief.{Thief}
 use Rattle.pv_pool.specs.declared.bench.Bench.{Bench}
 use Rattle.pv_pool.specs.Counting.{Numbers}
+use Rattle.pv_tree.specs.declared.limit.TheConstants.{MOST_WORKERS}
 
 module _ {J : Type 0} where
   -- what the pass of the worker's own deque knows
@@ -26,7 +27,7 @@ module _ {J : Type 0} where
 
   -- a try to steal that took nothing: another took a job meanwhile, or there was one at most, as the pass that has all parts knows
   abbrev pub HasTried : Thief J → Thief J → Type 0
-  HasTried old new = (taken old.pass < taken new.pass) ⊎ ((reach old).parts ≡ 16 → length (reach old).pushed ≤ length (reach old).taken + 1)
+  HasTried old new = (taken old.pass < taken new.pass) ⊎ ((reach old).parts ≡ MOST_WORKERS → length (reach old).pushed ≤ length (reach old).taken + 1)
 
   -- each of them tried
   abbrev pub HaveTried : List (Thief J) → List (Thief J) → Type 0

@@ -1,5 +1,6 @@
 -- The numbers by which a worker tells what it did.
 use Rattle.std.specs.Prelude.{◌≡◌, ℕ, ◌+◌, ◌*◌, ◌<◌, ◌≤◌, ◌⊎◌, ◌^◌}
+use Rattle.pv_tree.specs.declared.batch.TheConstants.{MOST_BATCH}
 
 -- how many jobs it was given, how many it handed in by working them or giving them back, how often it was told to look again, how often
 -- it was told that all is done, and the parts that it has of the right to know the sums
@@ -64,7 +65,7 @@ pub record Worked (old new : Numbers) (x y : ℕ) : Type 0 where
   pub back : old.back + 1 ≤ new.back
   pub pushed : x ≤ y
   pub given : old.given ≤ new.given
-  pub few : new.given ≤ old.given + 17
+  pub few : new.given ≤ old.given + MOST_BATCH
   pub looks : new.looks ≡ old.looks
   pub ends : new.ends ≡ old.ends
   pub parts : new.parts ≡ old.parts
@@ -80,7 +81,7 @@ pub record Lasted (rounds : ℕ) (old new : Numbers) (x y p q : ℕ) : Type 0 wh
   pub looks : old.looks ≤ new.looks
   pub few_looks : new.looks ≤ old.looks + rounds
   pub pushed : p ≤ q
-  pub few_pushed : q ≤ p + 17 * rounds
+  pub few_pushed : q ≤ p + MOST_BATCH * rounds
   pub ends : new.ends ≡ old.ends
   pub parts : new.parts ≡ old.parts
 
@@ -98,7 +99,7 @@ pub record Ended (old new : Numbers) (x y p q : ℕ) : Type 0 where
   pub looks : old.looks ≤ new.looks
   pub few_looks : new.looks ≤ old.looks + 2 ^ 63
   pub pushed : p ≤ q
-  pub few_pushed : q ≤ p + 17 * 2 ^ 63
+  pub few_pushed : q ≤ p + MOST_BATCH * 2 ^ 63
   pub ends : old.ends ≤ new.ends
   pub parts : new.parts ≡ old.parts
 

@@ -8,6 +8,7 @@ use Rattle.pv_pool.specs.Hands.{SameBag, taken_of}
 use Rattle.pv_pool.specs.Counting.{Numbers, after_returns}
 use Rattle.pv_pool.specs.Benches.{own}
 use Rattle.pv_pool.specs.Links.{Links, total}
+use Rattle.pv_tree.specs.declared.limit.TheConstants.{MOST_WORKERS}
 
 module _ {J : Type 0} where
   -- some passes went to the owners, and what all took of a deque is the same
@@ -29,7 +30,7 @@ module _ {J : Type 0} where
   -- each owner has all parts of its deque, and what all took of it
   pub record Gathered (olds news : List (Bench J)) : Type 0 where
     pub count : length news ≡ length olds
-    pub whole : (k : ℕ) (d : Bench J) → k < length olds → (own (get_or news k d).owner).parts ≡ 16
+    pub whole : (k : ℕ) (d : Bench J) → k < length olds → (own (get_or news k d).owner).parts ≡ MOST_WORKERS
     pub taken : (h : J → ℕ) (k : ℕ) (d : Bench J) → k < length olds → sum_by h (own (get_or news k d).owner).taken ≡ total k (taken_of h) olds [] d
     pub pushed : (k : ℕ) (d : Bench J) → (own (get_or news k d).owner).pushed ≡ (own (get_or olds k d).owner).pushed
 

@@ -4,6 +4,7 @@ use Rattle.std.specs.List.{sum_by}
 use mathlib.Core.Option.{some}
 use lib.ListN.{get_elem?}
 use Rattle.pv_pool.specs.declared.deque.Hand.{Hand}
+use Rattle.pv_tree.specs.declared.limit.TheConstants.{MOST_WORKERS}
 
 -- two lists have the same jobs, each as often, in whatever order
 abbrev pub SameBag : {J : Type 0} → List J → List J → Type 0
@@ -29,6 +30,6 @@ module _ {J : Type 0} where
   -- the jobs pushed are, as bags, those taken and those that the deque holds
   abbrev pub Balanced : List J → List (Hand J) → Type 0
   Balanced items views =
-      (sum_by parts_of views ≡ 16)
+      (sum_by parts_of views ≡ MOST_WORKERS)
       × ((h : J → ℕ) → sum_by (pushed_of h) views ≡ sum_by (taken_of h) views + sum_by h items)
       × IdleIsEmpty views

@@ -7,6 +7,7 @@ use Rattle.pv_pool.specs.declared.deque.Thief.{Thief}
 use Rattle.pv_pool.specs.declared.bench.Bench.{Bench}
 use Rattle.pv_pool.specs.Hands.{hand, parts_of}
 use Rattle.pv_pool.specs.Benches.{own, reach}
+use Rattle.pv_tree.specs.declared.limit.TheConstants.{MOST_WORKERS}
 
 module _ {J : Type 0} where
   -- a number of the pass, if it is of the deque k
@@ -36,7 +37,7 @@ module _ {J : Type 0} where
 
   -- the passes of each deque have 16 parts together
   pub record Links (bs : List (Bench J)) (row : List (Thief J)) : Type 0 where
-    pub parts : (k : ℕ) (d : Bench J) → k < length bs → total k parts_of bs row d ≡ 16
+    pub parts : (k : ℕ) (d : Bench J) → k < length bs → total k parts_of bs row d ≡ MOST_WORKERS
     pub part : (k : ℕ) (d : Bench J) → k < length bs → 0 < (own (get_or bs k d).owner).parts
     pub ways : (i : ℕ) (d : Bench J) → i < length bs → All (IsWay bs) (get_or bs i d).thieves.items
     pub row_ways : All (IsWay bs) row
@@ -55,7 +56,7 @@ module _ {J : Type 0} where
 
   -- a bench with an empty deque, and with no way to another
   pub record IsApart (b : Bench J) : Type 0 where
-    pub hand_is : own b.owner ≡ hand 16 [] []
+    pub hand_is : own b.owner ≡ hand MOST_WORKERS [] []
     pub ways : b.thieves.items ≡ []
     pub none : b.children ≡ []
 

@@ -6,6 +6,7 @@ use Rattle.pv_pool.specs.declared.seat.Seat.{Seat}
 use Rattle.pv_pool.specs.Counting.{Numbers, AreBelow, Ended}
 use Rattle.pv_pool.specs.Benches.{drawn, put, MayWork, SameBench}
 use Rattle.pv_pool.specs.Links.{Links}
+use Rattle.pv_tree.specs.declared.batch.TheConstants.{MOST_BATCH}
 
 module _ {J T : Type 0} (numbers : T → Numbers) where
   -- a worker may begin
@@ -24,5 +25,5 @@ module _ {J T : Type 0} (numbers : T → Numbers) where
     pub benches_count : length benches ≡ length before
     pub links : Links benches []
     pub each : (i : ℕ) (t : T) (d : Bench J) → i < length before → Ended (numbers (get_or before i t)) (numbers (get_or after i t)) 0 (drawn (get_or benches i d)) 0 (put (get_or benches i d))
-    pub few : (i : ℕ) (d : Bench J) → i < length benches → put (get_or benches i d) ≤ 17 * 2 ^ 63
+    pub few : (i : ℕ) (d : Bench J) → i < length benches → put (get_or benches i d) ≤ MOST_BATCH * 2 ^ 63
     pub room : (i : ℕ) (t : T) → i < length after → AreBelow (2 ^ 99) (numbers (get_or after i t))

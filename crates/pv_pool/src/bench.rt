@@ -3,6 +3,7 @@ ghost use Rattle.std.specs.Prelude.{◌≡◌, ◌≢◌, ℕ, ◌+◌, ◌<◌,
 ghost use Rattle.pv_pool.specs.Hands.{hand};
 ghost use Rattle.pv_pool.specs.Benches.{own, reach, stolen_by, HaveTried, MaySteal, SameThieves};
 ghost use Rattle.pv_pool.specs.Links.{Links, IsFresh, IsApart, AreApart, AreReady};
+ghost use Rattle.pv_tree.specs.declared.limit.TheConstants.{MOST_WORKERS};
 
 use crate::deque::{Owner, Thief};
 use pv_num::Memory;
@@ -35,7 +36,7 @@ impl<J: Drop> Bench<J> {
 
 /// Benches for `count` workers, each with a way to the deque of every other.
 pub fn furnish<J: Drop>(alloc: Global, count: usize) -> Result<Vec<Bench<J>>, Memory>
-    requires { count ≤ 16 }
+    requires { count ≤ MOST_WORKERS }
     ensures { IfOk result (λ bs. AreReady count bs.items) }
 {
     let mut benches = empty_benches(alloc, count)?;
@@ -59,13 +60,13 @@ fn empty_benches<J: Drop>(alloc: Global, count: usize) -> Result<Vec<Bench<J>>, 
 // Gives every other worker a way to the deque of one.
 fn introduce<J: Drop>(benches: &mut [Bench<J>], number: usize) -> Result<(), Memory>
     requires ready { AreReady (length benches.old) benches.old }
-    requires few { length benches.old ≤ 16 }
+    requires few { length benches.old ≤ MOST_WORKERS }
     requires there { number < length benches.old }
     requires whole { (k : ℕ) (d : Bench J) → number ≤ k → k < length benches.old →
-        (own (get_or benches.old k d).owner).parts ≡ 16 }
+        (own (get_or benches.old k d).owner).parts ≡ MOST_WORKERS }
     ensures ready { OnOk result (AreReady (length benches.old) benches.new) }
     ensures whole { OnOk result ((k : ℕ) (d : Bench J) → number < k → k < length benches.old →
-        (own (get_or benches.new k d).owner).parts ≡ 16) }
+        (own (get_or benches.new k d).owner).parts ≡ MOST_WORKERS) }
 {
     for other in 0..benches.len() {
         if other != number {

@@ -3,6 +3,7 @@
 ghost use Rattle.std.specs.Prelude.{◌≡◌, ℕ, ◌+◌, ◌-◌, ◌<◌, [], ◌∷◌, ◌++◌, ◌≤◌, ◌⊎◌, length, IfOk, IfSome, IfNone, MatchOption, MatchResult};
 ghost use Rattle.crossbeam_deque.specs.Handles.{view, taken, IsPassOf, worker_deque, worker_view, worker_flavor, stealer_deque};
 ghost use Rattle.pv_pool.specs.Hands.{SameBag, hand};
+ghost use Rattle.pv_tree.specs.declared.limit.TheConstants.{MOST_WORKERS};
 
 use crossbeam_deque::protocol::{Join, Outcome, Protocol, Split};
 use crossbeam_deque::{Pass, Steal, Stealer, Worker};
@@ -26,10 +27,11 @@ pub struct Fair;
 impl<J> Protocol<J, Hand<J>> for Fair {
     ghost use Rattle.std.specs.Prelude.{[]};
     ghost use Rattle.pv_pool.specs.Hands.{hand, Balanced};
+    ghost use Rattle.pv_tree.specs.declared.limit.TheConstants.{MOST_WORKERS};
 
     ghost holds = { Balanced };
 
-    ghost first = { hand 16 [] [] };
+    ghost first = { hand MOST_WORKERS [] [] };
 
     ghost guest = { hand 0 [] [] };
 }
@@ -72,10 +74,11 @@ pub struct Stealing;
 impl<J> Outcome<J, Hand<J>> for Stealing {
     ghost use Rattle.std.specs.Prelude.{◌≡◌, ◌+◌, ◌++◌, ◌≤◌, length};
     ghost use Rattle.pv_pool.specs.Hands.{hand};
+    ghost use Rattle.pv_tree.specs.declared.limit.TheConstants.{MOST_WORKERS};
 
     ghost then = { λ v xs w. w ≡ hand v.parts v.pushed (v.taken ++ xs) };
 
-    ghost empty = { λ v. v.parts ≡ 16 → length v.pushed ≤ length v.taken + 1 };
+    ghost empty = { λ v. v.parts ≡ MOST_WORKERS → length v.pushed ≤ length v.taken + 1 };
 }
 
 /// A pop. Where its pass has all parts, it took no more than was pushed, and all of it where it
@@ -85,10 +88,11 @@ pub struct Popping;
 impl<J> Outcome<J, Hand<J>> for Popping {
     ghost use Rattle.std.specs.Prelude.{◌≡◌, ◌++◌, ◌≤◌, length};
     ghost use Rattle.pv_pool.specs.Hands.{hand, SameBag};
+    ghost use Rattle.pv_tree.specs.declared.limit.TheConstants.{MOST_WORKERS};
 
-    ghost then = { λ v xs w. (w ≡ hand v.parts v.pushed (v.taken ++ xs)) × (v.parts ≡ 16 → length w.taken ≤ length w.pushed) };
+    ghost then = { λ v xs w. (w ≡ hand v.parts v.pushed (v.taken ++ xs)) × (v.parts ≡ MOST_WORKERS → length w.taken ≤ length w.pushed) };
 
-    ghost empty = { λ v. v.parts ≡ 16 → SameBag v.pushed v.taken };
+    ghost empty = { λ v. v.parts ≡ MOST_WORKERS → SameBag v.pushed v.taken };
 }
 
 /// The end of a deque that its own worker uses.
@@ -101,7 +105,7 @@ pub struct Owner<J: Drop> {
 impl<J: Drop> Owner<J> {
     /// An empty deque.
     pub fn new(alloc: Global) -> Result<Owner<J>, AllocError>
-        ensures { IfOk result (λ o. worker_view o.worker ≡ hand 16 [] []) }
+        ensures { IfOk result (λ o. worker_view o.worker ≡ hand MOST_WORKERS [] []) }
     {
         let worker = Worker::lifo_as(alloc, 64)?;
         Ok(Owner { worker })
@@ -126,13 +130,13 @@ impl<J: Drop> Owner<J> {
         ensures same { worker_deque self.new.worker ≡ worker_deque self.old.worker }
         ensures popped { MatchOption result
             ((worker_view self.new.worker ≡ worker_view self.old.worker)
-            × ((worker_view self.old.worker).parts ≡ 16 →
+            × ((worker_view self.old.worker).parts ≡ MOST_WORKERS →
             SameBag (worker_view self.old.worker).pushed
             (worker_view self.old.worker).taken))
             (λ x. worker_view self.new.worker ≡ hand (worker_view self.old.worker).parts
             (worker_view self.old.worker).pushed
             ((worker_view self.old.worker).taken ++ x ∷ [])) }
-        ensures within { IfSome result (λ _. (worker_view self.old.worker).parts ≡ 16 →
+        ensures within { IfSome result (λ _. (worker_view self.old.worker).parts ≡ MOST_WORKERS →
             length (worker_view self.new.worker).taken ≤ length
             (worker_view self.new.worker).pushed) }
     {
@@ -197,7 +201,7 @@ impl<J: Drop> Thief<J> {
             (λ x. view self.new.pass ≡ hand (view self.old.pass).parts
             (view self.old.pass).pushed ((view self.old.pass).taken ++ x ∷ [])) }
         ensures none { IfNone result ((taken self.old.pass < taken self.new.pass)
-            ⊎ ((view self.old.pass).parts ≡ 16 → length (view self.old.pass).pushed ≤
+            ⊎ ((view self.old.pass).parts ≡ MOST_WORKERS → length (view self.old.pass).pushed ≤
             length (view self.old.pass).taken + 1)) }
     {
         match self.stealer.steal_as::<Stealing>(&mut self.pass) {

@@ -4,6 +4,7 @@ ghost use Rattle.pv_pool.specs.Counting.{Numbers, AreBelow, HasServed};
 ghost use Rattle.pv_pool.specs.Accounts.{HaveAccounts};
 ghost use Rattle.pv_pool.specs.Links.{AreReady, Links};
 ghost use Rattle.pv_pool.specs.Pools.{IsSeated, HasRun, HaveWorked};
+ghost use Rattle.pv_tree.specs.declared.limit.TheConstants.{MOST_WORKERS};
 
 use crate::bench::{Bench, furnish};
 use crate::seat::{Room, Seat, clear_seats, seat_all};
@@ -36,7 +37,7 @@ pub fn run_workers<W: Work + Sync, R: Threads + Wait + Sync>(
     told: Vec<W::Told>,
 ) -> Result<Vec<W::Told>, PoolRefused<W::Told>>
     requires some { 1 ≤ vec_len told }
-    requires few { vec_len told ≤ 16 }
+    requires few { vec_len told ≤ MOST_WORKERS }
     requires room { (i : ℕ) (t : W.Told) → i < vec_len told →
         AreBelow (2 ^ 90) (W.numbers (get_or told.items i t)) }
     ensures refused { IfErr result (λ e. e.told.items ≡ told.items) }

@@ -5,6 +5,7 @@ ghost use Rattle.pv_pool.specs.Counting.{AreBelow};
 ghost use Rattle.pv_pool.specs.Benches.{own};
 ghost use Rattle.pv_pool.specs.Links.{Links};
 ghost use Rattle.pv_pool.specs.Ends.{Absorbed, Gathered, IsDrained, IsClosed};
+ghost use Rattle.pv_tree.specs.declared.limit.TheConstants.{MOST_WORKERS};
 
 use crate::bench::Bench;
 use crate::deque::{Owner, Thief};
@@ -68,7 +69,7 @@ fn drain_all<W: Work, R: Wait>(
 )
     requires same { length told.old ≡ length benches.old }
     requires whole { (i : ℕ) (d : Bench W.Job) → i < length benches.old →
-        (own (get_or benches.old i d).owner).parts ≡ 16 }
+        (own (get_or benches.old i d).owner).parts ≡ MOST_WORKERS }
     requires few { (i : ℕ) (d : Bench W.Job) → i < length benches.old →
         length (own (get_or benches.old i d).owner).pushed < 2 ^ 98 }
     requires room { (i : ℕ) (t : W.Told) → i < length told.old →
@@ -85,7 +86,7 @@ fn drain_all<W: Work, R: Wait>(
 
 // Gives the jobs back that are left on a deque.
 fn drain<W: Work, R: Wait>(rt: &R, work: &W, owner: &mut Owner<W::Job>, told: &mut W::Told)
-    requires whole { (own owner.old).parts ≡ 16 }
+    requires whole { (own owner.old).parts ≡ MOST_WORKERS }
     requires few { length (own owner.old).pushed < 2 ^ 98 }
     requires room { AreBelow (2 ^ 99) (W.numbers told.old) }
     ensures { IsDrained (W.numbers told.old) (W.numbers told.new) (own owner.old) }

@@ -4,6 +4,8 @@ ghost use Rattle.crossbeam_deque.specs.Handles.{worker_deque};
 ghost use Rattle.pv_pool.specs.Counting.{AreBelow, Found, Offered, Worked, Lasted, Ended, after_look, after_end};
 ghost use Rattle.pv_pool.specs.Idling.{MatchIdle};
 ghost use Rattle.pv_pool.specs.Benches.{own, drawn, put, MayWork, SameBench};
+ghost use Rattle.pv_tree.specs.declared.batch.TheConstants.{MOST_BATCH};
+ghost use Rattle.pv_tree.specs.Limits.{told_room};
 
 use crate::bench::{Bench, steal_once_round};
 use crate::deque::Owner;
@@ -53,7 +55,7 @@ fn find<W: Work, R: Wait>(
     told: &mut W::Told,
 ) -> Idle<W::Job>
     requires work { MayWork bench.old }
-    requires room { AreBelow (2 ^ 100) (W.numbers told.old) }
+    requires room { AreBelow told_room (W.numbers told.old) }
     ensures same { SameBench bench.old bench.new }
     ensures put { put bench.new ≡ put bench.old }
     ensures found { MatchIdle result
@@ -102,7 +104,7 @@ fn offer_all<W: Work, R: Wait>(
     told: &mut W::Told,
 )
     requires part { 0 < (own owner.old).parts }
-    requires few { length children.old ≤ 17 }
+    requires few { length children.old ≤ MOST_BATCH }
     requires room { AreBelow (2 ^ 99 + 18) (W.numbers told.old) }
     ensures none { children.new ≡ [] }
     ensures deque { worker_deque owner.new.worker ≡ worker_deque owner.old.worker }
@@ -125,7 +127,7 @@ fn offer<W: Work, R: Wait>(
     told: &mut W::Told,
 )
     requires part { 0 < (own owner.old).parts }
-    requires room { AreBelow (2 ^ 100) (W.numbers told.old) }
+    requires room { AreBelow told_room (W.numbers told.old) }
     ensures deque { worker_deque owner.new.worker ≡ worker_deque owner.old.worker }
     ensures parts { (own owner.new).parts ≡ (own owner.old).parts }
     ensures taken { (own owner.new).taken ≡ (own owner.old).taken }

@@ -1,5 +1,6 @@
 //! What is asked of a campaign's rounds.
 ghost use Rattle.std.specs.Prelude.{◌≡◌, ◌*◌, ◌≤◌, ◌^◌};
+ghost use Rattle.pv_tree.specs.declared.limit.TheConstants.{MOST_WORKERS};
 
 use pv_scope::Order;
 use pv_tree::NodeLimit;
@@ -16,7 +17,7 @@ pub struct Plan {
     /// The most settled nodes that the tree may have.
     pub limit: NodeLimit,
     ghost boxes_fit: { (1 ≤ boxes) × (boxes ≤ limit) },
-    ghost workers_fit: { (1 ≤ workers) × (workers ≤ 16) },
+    ghost workers_fit: { (1 ≤ workers) × (workers ≤ MOST_WORKERS) },
 }
 
 impl Plan {

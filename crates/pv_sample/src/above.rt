@@ -1,6 +1,8 @@
 //! The settler of all points whose first coordinate is at least a limit.
 ghost use Rattle.std.specs.Prelude.{◌≡◌, ◌<◌, ◌≤◌, length, IfOk, slice_index_or};
 ghost use Rattle.pv_sample.specs.Rule.{turn_of, reaches, is_above};
+ghost use Rattle.pv_box.specs.declared.boxes.TheConstants.{MOST_PLACES};
+ghost use Rattle.pv_tree.specs.declared.path.TheConstants.{MOST_STEPS};
 
 use pv_box::{Bisector, IBox};
 use pv_num::{Memory, Num};
@@ -15,17 +17,17 @@ pub struct Above {
     limit: Num,
     wide: u32,
     depth: u32,
-    ghost dims_fit: { (1 ≤ dims) × (dims ≤ 12) },
-    ghost depth_fits: { (1 ≤ depth) × (depth ≤ 200) },
+    ghost dims_fit: { (1 ≤ dims) × (dims ≤ MOST_PLACES) },
+    ghost depth_fits: { (1 ≤ depth) × (depth ≤ MOST_STEPS) },
 }
 
 impl Above {
     /// The settler for boxes of `dims` places.
     pub fn new(dims: u8, limit: Num, wide: u32, depth: u32) -> Above
         requires some { 1 ≤ dims }
-        requires few { dims ≤ 12 }
+        requires few { dims ≤ MOST_PLACES }
         requires depth_some { 1 ≤ depth }
-        requires depth_few { depth ≤ 200 }
+        requires depth_few { depth ≤ MOST_STEPS }
         ensures dims { result.dims ≡ dims }
         ensures depth { result.depth ≡ depth }
         ensures limit { result.limit ≡ limit }

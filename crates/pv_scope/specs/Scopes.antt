@@ -2,6 +2,7 @@
 use Rattle.std.specs.Prelude.{◌≡◌, ◌⊎◌, ℕ, suc, ◌%◌, ◌≤◌, Bool, if◌then◌else◌, nat_eq, nat_lt, List, [], ◌∷◌, ◌++◌, length}
 use Rattle.pv_scope.specs.declared.scope.Scope.{Scope}
 use Rattle.pv_scope.specs.declared.scope.Scope.TheVariants.{Shared, Above}
+use Rattle.pv_tree.specs.declared.path.TheConstants.{MOST_LEVELS}
 
 -- a path is one of a list
 abbrev pub IsIn : List Bool → List (List Bool) → Type 0
@@ -24,7 +25,7 @@ share_of k n ps = picked (λ i p. nat_eq (i % n) k) 0 ps
 
 -- Paths below a scope are settled as long as they have fewer steps than this.
 abbrev pub most_steps : Scope → ℕ
-most_steps (Shared number of) = 201
+most_steps (Shared number of) = MOST_LEVELS
 most_steps (Above steps) = steps
 
 -- a scope deals its leaves in turn to at least one

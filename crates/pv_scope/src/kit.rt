@@ -1,5 +1,6 @@
 //! What a call settles with.
 ghost use Rattle.std.specs.Prelude.{◌≡◌, ◌≤◌, length, IfOk};
+ghost use Rattle.pv_box.specs.declared.boxes.TheConstants.{MOST_PLACES};
 
 use pv_box::IBox;
 use pv_interval::Interval;
@@ -21,7 +22,7 @@ impl<S: KnowingSettler> Kit<S> {
     /// A kit for boxes of `places` places.
     pub(crate) fn of(alloc: Global, settler: &S, places: u8) -> Result<Kit<S>, Memory>
         requires some { 1 ≤ places }
-        requires few { places ≤ 12 }
+        requires few { places ≤ MOST_PLACES }
         ensures places { IfOk result (λ k. length k.scratch ≡ places) }
     {
         Ok(Kit {
@@ -35,7 +36,7 @@ impl<S: KnowingSettler> Kit<S> {
 // A box of `places` places.
 fn blank(alloc: Global, places: u8) -> Result<IBox, Memory>
     requires some { 1 ≤ places }
-    requires few { places ≤ 12 }
+    requires few { places ≤ MOST_PLACES }
     ensures { IfOk result (λ b. length b ≡ places) }
 {
     let mut parts = Vec::new(alloc);

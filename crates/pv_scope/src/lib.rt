@@ -13,4 +13,4 @@ mod share;
 
 pub use levels::{Levelled, settle_levels};
 pub use order::{Order, pave_in_order};
-pub use share::{Share, Shared, settle_share};
+pub use share::{MOST_SHARES, Share, Shared, settle_share};

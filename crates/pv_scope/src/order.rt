@@ -5,6 +5,7 @@ ghost use Rattle.pv_tree.specs.Stages.{IsStage};
 ghost use Rattle.pv_board.specs.Rules.{settled_in};
 ghost use Rattle.pv_workers.specs.Pavings.{IsPaved};
 ghost use Rattle.pv_scope.specs.Orders.{IsInOrder};
+ghost use Rattle.pv_tree.specs.declared.limit.TheConstants.{MOST_WORKERS};
 
 use crate::levels::settle_levels;
 use pv_num::Memory;
@@ -51,7 +52,7 @@ where
     requires few { budget ≤ limit }
     requires limit { settled_in opening.tree + budget ≤ limit }
     requires one { 1 ≤ workers }
-    requires sixteen { workers ≤ 16 }
+    requires sixteen { workers ≤ MOST_WORKERS }
     ensures root { IfOk result (λ p. p.root ≡ opening.root) }
     ensures stages { IfOk result (λ p. (earlier : Tree) → Paves opening.root earlier →
         IsStage (S.settle_of settler.now)

@@ -2,7 +2,7 @@
 ghost use Rattle.std.specs.Prelude.{◌≡◌};
 ghost use Rattle.pv_scope.specs.Scopes.{is_in_scope, most_steps, IsScope};
 
-use pv_tree::Path;
+use pv_tree::{MOST_LEVELS, Path};
 
 /// A set of open leaves of an opening. What comes of them is in the scope too.
 #[derive(Clone, Copy)]
@@ -31,7 +31,7 @@ impl Scope {
         ensures { result ≡ most_steps self }
     {
         match self {
-            Scope::Shared { .. } => 201,
+            Scope::Shared { .. } => MOST_LEVELS,
             Scope::Above { steps } => steps,
         }
     }

@@ -4,6 +4,7 @@ ghost use Rattle.pv_tree.specs.Trees.{Tree, Paves};
 ghost use Rattle.pv_tree.specs.Stages.{IsStage};
 ghost use Rattle.pv_board.specs.Rules.{settled_in};
 ghost use Rattle.pv_scope.specs.Settlings.{IsClosed, IsFullThere, LeavesOthers};
+ghost use Rattle.pv_scope.specs.declared.share.TheConstants.{MOST_SHARES};
 
 use crate::kit::Kit;
 use crate::scope::Scope;
@@ -13,7 +14,10 @@ use pv_pool::Gate;
 use pv_tree::{KnowingSettler, Paving};
 use std::alloc::Global;
 
-/// One of up to 1,000,000 shares of an opening's open leaves. These are numbered from 0 in
+/// The most shares of an opening.
+pub const MOST_SHARES: u64 = 1_000_000;
+
+/// One of up to `MOST_SHARES` shares of an opening's open leaves. These are numbered from 0 in
 /// preorder, and the share has those whose number is `number` modulo `of`, with all that comes of
 /// them.
 #[derive(Clone, Copy)]
@@ -21,16 +25,16 @@ pub struct Share {
     number: u64,
     of: u64,
     ghost less: { number < of },
-    ghost few: { of ≤ 1000000 },
+    ghost few: { of ≤ MOST_SHARES },
 }
 
 impl Share {
-    /// A share. None where the number is not below `of`, or `of` is above 1,000,000.
+    /// A share. None where the number is not below `of`, or `of` is above `MOST_SHARES`.
     pub fn new(number: u64, of: u64) -> Option<Share>
         ensures sound { IfSome result (λ s. (s.number ≡ number) × (s.of ≡ of)) }
-        ensures complete { result ≡ None → number < of → of ≤ 1000000 → ⊥ }
+        ensures complete { result ≡ None → number < of → of ≤ MOST_SHARES → ⊥ }
     {
-        if number < of && of <= 1_000_000 {
+        if number < of && of <= MOST_SHARES {
             Some(Share { number, of })
         } else {
             None

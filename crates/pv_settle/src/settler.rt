@@ -9,6 +9,8 @@ ghost use Rattle.pv_ctc.specs.Contracting.{sides_in, contract_of};
 ghost use Rattle.pv_ctc.specs.Members.{AllOver};
 ghost use Rattle.pv_ctc.specs.Plans.{plan_of, IsFor};
 ghost use Rattle.pv_ctc.proofs.Props.{IsFor-prop, AllOver-prop};
+ghost use Rattle.pv_box.specs.declared.boxes.TheConstants.{MOST_PLACES};
+ghost use Rattle.pv_tree.specs.declared.path.TheConstants.{MOST_STEPS};
 
 use crate::settings::Settings;
 use pv_box::IBox;
@@ -27,9 +29,9 @@ pub struct SystemSettler {
     pub(crate) settings: Settings,
     pub(crate) graphs: Graphs,
     ghost names_some: { 1 ≤ length system.names },
-    ghost names_few: { length system.names ≤ 12 },
+    ghost names_few: { length system.names ≤ MOST_PLACES },
     ghost depth_some: { 1 ≤ settings.depth },
-    ghost depth_few: { settings.depth ≤ 200 },
+    ghost depth_few: { settings.depth ≤ MOST_STEPS },
     ghost dims: { graphs.dims ≡ length system.names },
     ghost over: { AllOver graphs.dims (sides_in graphs) } by { AllOver-prop graphs.dims (sides_in graphs) },
     ghost program_fits: { IsFor (length (sides_in graphs)) (plan_of program) } by { IsFor-prop (length (sides_in graphs)) (plan_of program) },
@@ -51,7 +53,7 @@ impl SystemSettler {
         requires eps_from { IsTrue (le (Fin (pos 0)) settings.eps) }
         requires eps_finite { settings.eps ≢ PosInf }
         requires depth_some { 1 ≤ settings.depth }
-        requires depth_few { settings.depth ≤ 200 }
+        requires depth_few { settings.depth ≤ MOST_STEPS }
         ensures system { IfOk result (λ s. (rule_of s).system ≡ system) }
         ensures program { IfOk result (λ s. (rule_of s).program ≡ program) }
         ensures eps { IfOk result (λ s. (rule_of s).eps ≡ settings.eps) }
@@ -106,7 +108,7 @@ impl SystemSettler {
     /// How many variables the system has, from 1 to 12.
     pub fn dims(&self) -> u8
         ensures value { result ≡ dims_of (rule_of self.now) }
-        ensures limits { (1 ≤ result) × (result ≤ 12) }
+        ensures limits { (1 ≤ result) × (result ≤ MOST_PLACES) }
     {
         self.system.variable_count()
     }
@@ -114,7 +116,7 @@ impl SystemSettler {
     /// The most cuts on a path, from 1 to 200.
     pub fn depth(&self) -> u32
         ensures value { result ≡ (rule_of self.now).depth }
-        ensures limits { (1 ≤ result) × (result ≤ 200) }
+        ensures limits { (1 ≤ result) × (result ≤ MOST_STEPS) }
     {
         self.settings.depth
     }

@@ -11,12 +11,14 @@ use Rattle.pv_slope.specs.Laws.{centered_fits, centered_keeps_box, centered_ends
 use Rattle.pv_slope.specs.Methods.{method_of, dims_of, settle_by, is_member}
 use Rattle.pv_slope.specs.declared.form.FormSettler.{FormSettler}
 use Rattle.pv_slope.specs.declared.form.FormSettler.TheVariants.{Plain, Centered}
+use Rattle.pv_box.specs.declared.boxes.TheConstants.{MOST_PLACES}
+use Rattle.pv_tree.specs.declared.path.TheConstants.{MOST_STEPS}
 
-pub form_dims : (s : FormSettler) → (1 ≤ dims_of (method_of s)) × (dims_of (method_of s) ≤ 12)
+pub form_dims : (s : FormSettler) → (1 ≤ dims_of (method_of s)) × (dims_of (method_of s) ≤ MOST_PLACES)
 form_dims (Plain s) = (s.names_some, s.names_few)
 form_dims (Centered s) = (s.dims_some, s.dims_few)
 
-pub form_depth : (s : FormSettler) → (1 ≤ (method_of s).parts.depth) × ((method_of s).parts.depth ≤ 200)
+pub form_depth : (s : FormSettler) → (1 ≤ (method_of s).parts.depth) × ((method_of s).parts.depth ≤ MOST_STEPS)
 form_depth (Plain s) = (s.depth_some, s.depth_few)
 form_depth (Centered s) = (s.depth_some, s.depth_few)
 

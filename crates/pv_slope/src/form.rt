@@ -7,6 +7,8 @@ ghost use Rattle.pv_expr.specs.Searches.{search_bounds};
 ghost use Rattle.pv_hc4.specs.Graphs.{sides_named};
 ghost use Rattle.pv_ctc.specs.Contracting.{sides_in};
 ghost use Rattle.pv_ctc.specs.Plans.{plan_of, IsFor};
+ghost use Rattle.pv_box.specs.declared.boxes.TheConstants.{MOST_PLACES};
+ghost use Rattle.pv_tree.specs.declared.path.TheConstants.{MOST_STEPS};
 
 use crate::room::Room;
 use crate::settler::CenteredSettler;
@@ -50,7 +52,7 @@ impl FormSettler {
         requires eps_from { IsTrue (le (Fin (pos 0)) settings.eps) }
         requires eps_finite { settings.eps ≢ PosInf }
         requires depth_some { 1 ≤ settings.depth }
-        requires depth_few { settings.depth ≤ 200 }
+        requires depth_few { settings.depth ≤ MOST_STEPS }
         ensures form { IfOk result (λ s. (method_of s).form ≡ form) }
         ensures system { IfOk result (λ s. (method_of s).parts.system ≡ system) }
         ensures program { IfOk result (λ s. (method_of s).parts.program ≡ program) }
@@ -88,7 +90,7 @@ impl FormSettler {
     /// How many variables the system has, from 1 to 12.
     pub fn dims(&self) -> u8
         ensures value { result ≡ dims_of (method_of self.now) }
-        ensures limits { (1 ≤ result) × (result ≤ 12) }
+        ensures limits { (1 ≤ result) × (result ≤ MOST_PLACES) }
     {
         match self {
             FormSettler::Plain(settler) => settler.dims(),

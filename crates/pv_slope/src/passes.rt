@@ -12,6 +12,7 @@ ghost use Rattle.pv_slope.specs.Centered.{has_finite_ends, from_centre as from_c
 ghost use Rattle.pv_slope.specs.Flat.{AreOf, AreFactors, node_factor};
 ghost use Rattle.pv_slope.specs.Moving.{AreSlopes, HasDivisor, is_place, moving_slope, node_moves, seen};
 ghost use Rattle.pv_slope.specs.SlopeTable.{zero_slope};
+ghost use Rattle.pv_box.specs.declared.boxes.TheConstants.{MOST_PLACES};
 
 use crate::centre::from_centre;
 use crate::rows::{
@@ -26,7 +27,7 @@ use pv_interval::Interval;
 fn factor(node: Node, values: &[Interval], centres: &[Interval]) -> Interval
     requires values { ReadsBelow (length values.now) node }
     requires centres { ReadsBelow (length centres.now) node }
-    requires fits { FitsNode 12 node }
+    requires fits { FitsNode MOST_PLACES node }
     ensures { result ≡ node_factor values.now centres.now node }
 {
     match node {
@@ -45,7 +46,7 @@ pub(crate) fn factor_all(
     factors: &mut [Interval],
 )
     requires ordered { AreOrdered nodes.now dims }
-    requires dims { dims ≤ 12 }
+    requires dims { dims ≤ MOST_PLACES }
     requires values { length values.now ≡ length nodes.now }
     requires centres { length nodes.now ≤ length centres.now }
     requires factors { length nodes.now ≤ length factors.old }

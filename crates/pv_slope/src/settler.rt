@@ -14,6 +14,8 @@ ghost use Rattle.pv_settle.specs.Settlers.{rule_of};
 ghost use Rattle.pv_slope.specs.Centered.{CenteredEncloses};
 ghost use Rattle.pv_slope.specs.Matching.{all_match};
 ghost use Rattle.pv_slope.specs.Props.{CenteredEncloses-prop};
+ghost use Rattle.pv_box.specs.declared.boxes.TheConstants.{MOST_PLACES};
+ghost use Rattle.pv_tree.specs.declared.path.TheConstants.{MOST_STEPS};
 
 use crate::laws::enclosure;
 use crate::room::Room;
@@ -32,9 +34,9 @@ pub struct CenteredSettler {
     pub(crate) settler: SystemSettler,
     pub(crate) slopes: Vec<Slopes>,
     ghost dims_some: { 1 ≤ dims_of (rule_of settler) },
-    ghost dims_few: { dims_of (rule_of settler) ≤ 12 },
+    ghost dims_few: { dims_of (rule_of settler) ≤ MOST_PLACES },
     ghost depth_some: { 1 ≤ (rule_of settler).depth },
-    ghost depth_few: { (rule_of settler).depth ≤ 200 },
+    ghost depth_few: { (rule_of settler).depth ≤ MOST_STEPS },
     ghost dims: { (rule_of settler).graphs.dims ≡ dims_of (rule_of settler) },
     ghost over: { AllOver (rule_of settler).graphs.dims (sides_in (rule_of settler).graphs) } by { AllOver-prop (rule_of settler).graphs.dims (sides_in (rule_of settler).graphs) },
     ghost program_fits: { IsFor (length (sides_in (rule_of settler).graphs)) (plan_of (rule_of settler).program) } by { IsFor-prop (length (sides_in (rule_of settler).graphs)) (plan_of (rule_of settler).program) },
@@ -59,7 +61,7 @@ impl CenteredSettler {
         requires eps_from { IsTrue (le (Fin (pos 0)) eps) }
         requires eps_finite { eps ≢ PosInf }
         requires depth_some { 1 ≤ depth }
-        requires depth_few { depth ≤ 200 }
+        requires depth_few { depth ≤ MOST_STEPS }
         ensures system { IfOk result (λ s. (rule_of s.settler).system ≡ system) }
         ensures program { IfOk result (λ s. (rule_of s.settler).program ≡ program) }
         ensures eps { IfOk result (λ s. (rule_of s.settler).eps ≡ eps) }
@@ -85,7 +87,7 @@ impl CenteredSettler {
     /// The most cuts on a path, from 1 to 200.
     pub fn depth(&self) -> u32
         ensures value { result ≡ (rule_of self.now.settler).depth }
-        ensures limits { (1 ≤ result) × (result ≤ 200) }
+        ensures limits { (1 ≤ result) × (result ≤ MOST_STEPS) }
     {
         self.settler.depth()
     }

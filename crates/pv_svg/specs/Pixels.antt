@@ -11,6 +11,7 @@ use Rattle.pv_interval.specs.Tables.{holds, width_of, negated}
 use Rattle.pv_svg.specs.declared.rectangle.Class.{Class}
 use Rattle.pv_svg.specs.declared.rectangle.Class.TheVariants.{Removed, Inner, Small, OpenLeaf}
 use Rattle.pv_svg.specs.declared.side.Side.{Side}
+use Rattle.pv_svg.specs.declared.pixel.TheConstants.{PIXELS}
 
 -- An interval without an infinite end.
 pub record IsFinite (axis : Bounds) : Type 0 where
@@ -32,16 +33,16 @@ abbrev pub share_of : Bounds → Extended → Extended
 share_of axis v = div_of Down (sub_of Down v axis.lo) (width_of axis)
 
 abbrev pub thousand : Extended
-thousand = Fin (pos (1000 * unit))
+thousand = Fin (pos (PIXELS * unit))
 
 -- The pixels that end at or below a number of an axis, counted from the lower end: all of them at the upper end, and
 -- else the whole part of 1000 times that share, rounded down. So it is never too high.
 unfoldable pub lower_pixel : Bounds → Extended → ℕ
-lower_pixel axis v = if eq_by_cmp order_of v axis.hi then 1000 else floor_of (mul_of Down (share_of axis v) thousand)
+lower_pixel axis v = if eq_by_cmp order_of v axis.hi then PIXELS else floor_of (mul_of Down (share_of axis v) thousand)
 
 -- The pixels that begin below a number: all but those that are counted from the upper end down. So it is never too low.
 abbrev pub upper_pixel : Bounds → Extended → ℕ
-upper_pixel axis v = 1000 - lower_pixel (negated axis) (neg_of v)
+upper_pixel axis v = PIXELS - lower_pixel (negated axis) (neg_of v)
 
 -- A pixel is one of those of a side.
 abbrev pub has : Side → ℕ → Bool
@@ -60,7 +61,7 @@ some_from first past = record { first = first; past = max past (first + 1) }
 
 -- The pixels of an axis with a length that a part of it touches, and at least one.
 abbrev pub touched : Bounds → Bounds → Side
-touched axis part = some_from (min (lower_pixel axis part.lo) 999) (upper_pixel axis part.hi)
+touched axis part = some_from (min (lower_pixel axis part.lo) (PIXELS - 1)) (upper_pixel axis part.hi)
 
 -- The pixels of an axis with a length that lie within a part of it.
 abbrev pub filled : Bounds → Bounds → Side

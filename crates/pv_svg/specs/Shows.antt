@@ -14,6 +14,7 @@ use Rattle.pv_svg.specs.Paints.{Spot, last_class, IsPointOf, spot_of}
 use Rattle.pv_svg.specs.declared.rectangle.Class.{Class}
 use Rattle.pv_svg.specs.declared.rectangle.Class.TheVariants.{Removed, Inner, Small, OpenLeaf}
 use Rattle.pv_svg.specs.declared.rectangle.Rectangle.{Rectangle}
+use Rattle.pv_svg.specs.declared.pixel.TheConstants.{PIXELS}
 
 -- A pixel of the picture: its column from the left and its row from the bottom, from 0 to 999.
 pub record Pixel : Type 0 where
@@ -40,7 +41,7 @@ edge l h k d = pos k *ℤ ((h +ℤ neg_ℤ l) *ℤ pos d)
 
 -- How the lower edge of pixel k of an axis lies to n / d.
 abbrev pub Compares : (ℤ → ℤ → Type 0) → Extended → Extended → ℕ → ℤ → ℕ → Type 0
-Compares order (Fin l) (Fin h) k n d = order (edge l h k d) (pos 1000 *ℤ beyond l n d)
+Compares order (Fin l) (Fin h) k n d = order (edge l h k d) (pos PIXELS *ℤ beyond l n d)
 Compares order lo hi k n d = ⊥
 
 -- n / d lies in pixel k of an axis, edges included.
@@ -109,8 +110,8 @@ pub record IsUnsaid (x y : Bounds) (r : Rectangle) : Type 0 where
 -- A small or open rectangle has a pixel of the picture, and each pixel within which one of its points lies.
 pub record HasPixel (x y : Bounds) (r : Rectangle) : Type 0 where
   pub pixel : Pixel
-  pub column : pixel.column < 1000
-  pub row : pixel.row < 1000
+  pub column : pixel.column < PIXELS
+  pub row : pixel.row < PIXELS
   pub covered : IsTrue (covers x y pixel r)
 
 abbrev pub UnsaidHasPixel : Type 0

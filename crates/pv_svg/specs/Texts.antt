@@ -7,6 +7,7 @@ use Rattle.pv_svg.specs.declared.rectangle.Class.{Class}
 use Rattle.pv_svg.specs.declared.rectangle.Class.TheVariants.{Removed, Inner, Small, OpenLeaf}
 use Rattle.pv_svg.specs.declared.rectangle.Rectangle.{Rectangle}
 use Rattle.pv_svg.specs.declared.side.Side.{Side}
+use Rattle.pv_svg.specs.declared.pixel.TheConstants.{PIXELS}
 
 abbrev pub head_text : List ℕ
 head_text = codes "<svg xmlns=\"http://www.w3.org/2000/svg\" width=\"1000\" height=\"1000\" viewBox=\"0 0 1000 1000\">\n"
@@ -30,7 +31,7 @@ element_text x y width height class =
 abbrev pub pixels_text : Side → Side → Class → List ℕ
 pixels_text across up class =
     if is_empty across || is_empty up then []
-    else element_text across.first (1000 - up.past) (across.past - across.first) (up.past - up.first) class
+    else element_text across.first (PIXELS - up.past) (across.past - across.first) (up.past - up.first) class
 
 abbrev pub rectangle_text : Bounds → Bounds → Rectangle → List ℕ
 rectangle_text x y r = pixels_text (side_of r.class x r.x) (side_of r.class y r.y) r.class

@@ -16,7 +16,7 @@ pub(crate) const PIXELS: u64 = 1000;
 pub(crate) fn lower_pixel(axis: &Interval, v: Num) -> u64
     requires { IsOn axis.now v }
     ensures pixel { result ≡ lower_pixel_of axis.now v }
-    ensures few { result ≤ 1000 }
+    ensures few { result ≤ PIXELS }
 {
     if v == axis.hi() {
         return PIXELS;
@@ -30,7 +30,7 @@ pub(crate) fn lower_pixel(axis: &Interval, v: Num) -> u64
 pub(crate) fn upper_pixel(axis: &Interval, v: Num) -> u64
     requires { IsOn axis.now v }
     ensures pixel { result ≡ upper_pixel_of axis.now v }
-    ensures few { result ≤ 1000 }
+    ensures few { result ≤ PIXELS }
 {
     PIXELS - lower_pixel(&axis.neg(), v.neg())
 }

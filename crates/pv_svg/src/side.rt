@@ -24,7 +24,7 @@ impl Side {
         requires finite { IsFinite axis.now }
         requires on { LiesWithin axis.now part }
         ensures side { result ≡ side_of class axis.now part }
-        ensures few { result.past ≤ 1000 }
+        ensures few { result.past ≤ PIXELS }
     {
         if has_no_length(axis) {
             return Side { first: 0, past: 1 };
@@ -54,7 +54,7 @@ fn touched(axis: &Interval, part: Interval) -> Side
     requires long { is_flat axis.now ≡ false }
     requires on { LiesWithin axis.now part }
     ensures side { result ≡ touched_of axis.now part }
-    ensures few { result.past ≤ 1000 }
+    ensures few { result.past ≤ PIXELS }
 {
     let first = lower_pixel(axis, part.lo()).min(PIXELS - 1);
     let past = upper_pixel(axis, part.hi()).max(first + 1);
@@ -67,7 +67,7 @@ fn filled(axis: &Interval, part: Interval) -> Side
     requires long { is_flat axis.now ≡ false }
     requires on { LiesWithin axis.now part }
     ensures side { result ≡ filled_of axis.now part }
-    ensures few { result.past ≤ 1000 }
+    ensures few { result.past ≤ PIXELS }
 {
     let first = upper_pixel(axis, part.lo());
     let past = lower_pixel(axis, part.hi());

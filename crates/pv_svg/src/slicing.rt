@@ -3,6 +3,7 @@ ghost use Rattle.std.specs.Prelude.{◌≡◌, ◌≢◌, ◌+◌, ◌<◌, ◌�
 ghost use Rattle.pv_svg.specs.Planes.{place};
 ghost use Rattle.pv_svg.specs.Pixels.{IsFinite};
 ghost use Rattle.pv_svg.specs.Rectangles.{picture_of};
+ghost use Rattle.pv_box.specs.declared.boxes.TheConstants.{MOST_PLACES};
 
 use crate::picture::Picture;
 use crate::plane::Plane;
@@ -44,7 +45,7 @@ pub fn slice(alloc: Global, p: &Paving, x: u8, y: u8, at: &[Num]) -> Result<Pict
 // A box of `places` places, to write over.
 fn scratch_box(alloc: Global, places: u8) -> Result<IBox, Memory>
     requires some { 0 < places }
-    requires few { places ≤ 12 }
+    requires few { places ≤ MOST_PLACES }
     ensures { IfOk result (λ b. length b ≡ places) }
 {
     Ok(IBox::new(vec![in alloc; Interval::ALL; places as usize]?))

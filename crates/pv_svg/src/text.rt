@@ -41,7 +41,7 @@ pub(crate) fn push_rectangle(
 
 // Appends the element of a rectangle's pixels, where there are some.
 fn push_pixels(across: Side, up: Side, class: Class, out: &mut Vec<u8>) -> Result<(), Memory>
-    requires few { up.past ≤ 1000 }
+    requires few { up.past ≤ PIXELS }
     ensures { OnOk result (out.new.items ≡ out.old.items ++ pixels_text across up class) }
 {
     if across.is_empty() || up.is_empty() {

@@ -11,6 +11,7 @@ use Rattle.pv_tree.specs.declared.cell.Node.{Node}
 use Rattle.pv_tree.specs.declared.outcome.Counts.{Counts}
 use Rattle.pv_tree.specs.declared.outcome.Shape.{Shape}
 use Rattle.pv_tree.specs.declared.outcome.Shape.TheVariants as shape
+use Rattle.pv_tree.specs.declared.path.TheConstants.{MOST_STEPS, MOST_LEVELS}
 
 abbrev pub open_node : Node
 open_node = record { cell = Open; closed = false }
@@ -65,7 +66,7 @@ pub record Family (ns : List Node) (label : ℕ → List Bool) (k c : ℕ) : Typ
   pub there : c + 1 < length ns
   pub low : label c ≡ label k ++ false ∷ []
   pub high : label (c + 1) ≡ label k ++ true ∷ []
-  pub short : length (label k) < 200
+  pub short : length (label k) < MOST_STEPS
 
 abbrev pub IsClosed : List Node → Cell → Type 0
 IsClosed ns Open = ⊥
@@ -88,7 +89,7 @@ pub record IsArena (d : ℕ) (es : List Bounds) (ns : List Node) : Type 0 where
   pub linked : IsLinked d es ns label
 
 abbrev pub whole_tree : ℕ → List Bounds → List Node → Tree
-whole_tree d es ns = tree_at d es ns 201 0
+whole_tree d es ns = tree_at d es ns MOST_LEVELS 0
 
 -- What is true of the parts of every paving.
 pub record IsWhole (b : List Bounds) (es : List Bounds) (ns : List Node) (counts : Counts) : Type 0 where

@@ -5,6 +5,7 @@ use Rattle.pv_box.specs.Boxes.{IsBox, lower_half, upper_half}
 use Rattle.pv_tree.specs.Trees.{Tree, leaf, subtree, graft, settled, box_of, Fits, HasDepth}
 use Rattle.pv_tree.specs.declared.outcome.Outcome.{Outcome}
 use Rattle.pv_tree.specs.declared.outcome.Outcome.TheVariants.{Removed, Inner, Small, Cut}
+use Rattle.pv_tree.specs.declared.path.TheConstants.{MOST_STEPS}
 
 -- An open leaf that is still to be given an outcome, or to be passed.
 pub record Hole : Type 0 where
@@ -63,7 +64,7 @@ pub record IsNext (g : Growing) (p : List Bool) : Type 0 where
   pub box : box_of g.root g.tree hole.path ≡ hole.box
   pub dims : length hole.box ≡ length g.root
   pub is_box : IsBox hole.box
-  pub few : length hole.path ≤ 200
+  pub few : length hole.path ≤ MOST_STEPS
 
 -- The tree once the leaves to come have become given trees.
 abbrev pub fill : Tree → List Hole → List Tree → Tree

@@ -6,9 +6,10 @@ use Rattle.pv_box.specs.Boxes.{IsBox}
 use Rattle.pv_tree.specs.Trees.{Tree, Fits, KeepsBox, CutsAbove, Paves}
 use Rattle.pv_tree.specs.Stages.{Rule, IsStage}
 use Rattle.pv_tree.specs.Sets.{IsSoundOutcome, IsSound}
+use Rattle.pv_tree.specs.declared.path.TheConstants.{MOST_STEPS}
 
 pub record IsLawful (rule : Rule) (depth dims : ℕ) (inside : Point → Type 0) : Type 0 where
-  pub deep : depth ≤ 200
+  pub deep : depth ≤ MOST_STEPS
   pub fits : (b : List Bounds) (d k : ℕ) → IsBox b → length b ≡ dims → Fits b (rule b d k)
   pub keeps_box : (b : List Bounds) (d k : ℕ) → IsBox b → length b ≡ dims → KeepsBox (rule b d k)
   pub ends : (b : List Bounds) (d k : ℕ) → IsBox b → length b ≡ dims → CutsAbove d (rule b d k)

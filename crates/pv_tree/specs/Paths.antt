@@ -6,6 +6,7 @@ use Rattle.std.proofs.lemmas.List.{get_or_past, get_or_append_left, get_or-appen
 use Rattle.std.proofs.lemmas.Nat.{div-mul-add, mod-mul-add}
 use Rattle.std.proofs.lemmas.Nat.Bits.{bit_at_lowest, bit_at-lt, bit_at_cat_low, bit_at_cat_high, same_from_bits_below}
 use Rattle.pv_tree.specs.declared.path.Path.TheInside.{Inside}
+use Rattle.pv_tree.specs.declared.path.TheConstants.{MOST_STEPS}
 
 -- the step at a place
 abbrev pub step_of : List ℕ → ℕ → Bool
@@ -22,7 +23,7 @@ steps_of a = steps_in a.words a.len
 -- There are four words, whose bits behind the last step are 0.
 pub record IsPadded (a : Inside) : Type 0 where
   pub size : length a.words ≡ 4
-  pub few : a.len ≤ 200
+  pub few : a.len ≤ MOST_STEPS
   pub fits : (k : ℕ) → slice_index_or a.words k 0 < 2 ^ 64
   pub padding : (i : ℕ) → a.len ≤ i → step_of a.words i ≡ false
 

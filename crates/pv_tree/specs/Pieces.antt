@@ -4,6 +4,7 @@ use Rattle.pv_interval.specs.Bounds.{Bounds}
 use Rattle.pv_box.specs.Boxes.{IsBox, lower_half, upper_half}
 use Rattle.pv_tree.specs.Trees.{Tree, leaf, removed, inner, small, cut, subtree, box_of, height, Paves, counts_of, settled_of, shape_of}
 use Rattle.pv_tree.specs.declared.outcome.Shape.{Shape}
+use Rattle.pv_tree.specs.declared.path.TheConstants.{MOST_STEPS}
 
 -- A node with the path that leads to it, its box, and its tree.
 pub record Piece : Type 0 where
@@ -61,4 +62,4 @@ pub record IsPiece (b : List Bounds) (t : Tree) (piece : Piece) : Type 0 where
   pub dims : length piece.box ≡ length b
   pub is_box : IsBox piece.box
   pub paves : Paves piece.box piece.tree
-  pub depth : length piece.path + height piece.tree ≤ 200
+  pub depth : length piece.path + height piece.tree ≤ MOST_STEPS

@@ -7,19 +7,20 @@ use Rattle.pv_tree.specs.declared.cell.Cell.TheVariants.{Open, Removed, Inner, S
 use Rattle.pv_tree.specs.declared.cell.Node.{Node}
 use Rattle.pv_tree.specs.declared.search.Spot.{Spot}
 use Rattle.pv_tree.specs.declared.search.Pair.{Pair}
+use Rattle.pv_tree.specs.declared.path.TheConstants.{MOST_STEPS, MOST_LEVELS}
 
 -- What a search needs to know of the arena.
 pub record IsSearchable (ns : List Node) : Type 0 where
   pub kids : HasKids ns
   pub marks : MarksRight ns
-  pub short : (p : List Bool) (k c : ℕ) → reach ns 0 p ≡ Some k → kids_of (cell_at ns k) ≡ Some c → length p < 200
+  pub short : (p : List Bool) (k c : ℕ) → reach ns 0 p ≡ Some k → kids_of (cell_at ns k) ≡ Some c → length p < MOST_STEPS
 
 -- A node that is there, with the path that leads to it.
 pub record IsSpot (ns : List Node) (spot : Spot) : Type 0 where
   pub searchable : IsSearchable ns
   pub there : spot.at < length ns
   pub leads : reach ns 0 spot.path ≡ Some spot.at
-  pub few : length spot.path ≤ 200
+  pub few : length spot.path ≤ MOST_STEPS
 
 pub record AreCutInto (ns : List Node) (spot : Spot) (kids : Pair) : Type 0 where
   pub low : IsSpot ns kids.low
@@ -28,7 +29,7 @@ pub record AreCutInto (ns : List Node) (spot : Spot) (kids : Pair) : Type 0 wher
   pub high_path : kids.high.path ≡ spot.path ++ true ∷ []
   pub low_at : kids_of (cell_at ns spot.at) ≡ Some kids.low.at
   pub high_at : kids.high.at ≡ kids.low.at + 1
-  pub short : length spot.path < 200
+  pub short : length spot.path < MOST_STEPS
 
 -- None is a node that is no cut.
 abbrev pub AreChildren : List Node → Spot → Option Pair → Type 0
@@ -47,7 +48,7 @@ opens_below ns (suc f) k = elim (cell_at ns k) [
 ]
 
 unfoldable pub first_below : List Node → Spot → Option (List Bool)
-first_below ns spot = option_map (λ p. spot.path ++ p) (first (opens_below ns (201 - length spot.path) spot.at))
+first_below ns spot = option_map (λ p. spot.path ++ p) (first (opens_below ns (MOST_LEVELS - length spot.path) spot.at))
 
 abbrev pub either : Option (List Bool) → Option (List Bool) → Option (List Bool)
 either None b = b
@@ -58,4 +59,4 @@ first_of_pair ns kids = either (first_below ns kids.low) (first_below ns kids.hi
 
 -- The first open leaf below a node that stands behind a path in preorder, where both go by steps from the node.
 unfoldable pub first_behind : List Node → Spot → List Bool → Option (List Bool)
-first_behind ns spot after = option_map (λ p. spot.path ++ p) (first (behind after (opens_below ns (201 - length spot.path) spot.at)))
+first_behind ns spot after = option_map (λ p. spot.path ++ p) (first (behind after (opens_below ns (MOST_LEVELS - length spot.path) spot.at)))

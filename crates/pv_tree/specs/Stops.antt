@@ -9,11 +9,12 @@ use Rattle.pv_tree.specs.declared.cell.Node.{Node}
 use Rattle.pv_tree.specs.declared.cell.Cell.TheVariants.{Open}
 use Rattle.pv_tree.specs.declared.outcome.Counts.{Counts}
 use Rattle.pv_tree.specs.declared.stop.Stop.{Stop}
+use Rattle.pv_tree.specs.declared.path.TheConstants.{MOST_STEPS, MOST_LEVELS}
 
 -- A node that is there, with the path that leads to it and the number of its parent.
 pub record IsStop (ns : List Node) (stop : Stop) : Type 0 where
   pub leads : reach ns 0 stop.path ≡ Some stop.at
-  pub few : length stop.path ≤ 200
+  pub few : length stop.path ≤ MOST_STEPS
   pub there : stop.at < length ns
   pub parent : 0 < length stop.path → reach ns 0 (take (length stop.path - 1) stop.path) ≡ Some stop.parent
   pub parent_there : stop.parent < length ns
@@ -54,7 +55,7 @@ pub record IsWalk (b es : List Bounds) (ns : List Node) (last : Stop) (stack : L
   pub whole : IsWhole b es ns counts
   pub here : IsStop ns last
   pub stops : AreStacked (IsStop ns) 0 stack
-  pub room : 201 ≤ most
+  pub room : MOST_LEVELS ≤ most
 
 -- An open leaf that is there.
 pub record IsOpenStop (ns : List Node) (s : Stop) : Type 0 where
@@ -82,4 +83,4 @@ pub record IsGrowth (b es : List Bounds) (ns : List Node) (counts : Counts) (sta
   pub whole : IsWhole b es ns counts
   pub stops : AreStacked (IsOpenStop ns) 0 stack
   pub apart : AreApart stack
-  pub room : 201 ≤ most
+  pub room : MOST_LEVELS ≤ most

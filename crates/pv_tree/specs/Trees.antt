@@ -10,6 +10,7 @@ use Rattle.pv_tree.specs.declared.outcome.Outcome.TheVariants.{Removed, Inner, S
 use Rattle.pv_tree.specs.declared.outcome.Counts.{Counts}
 use Rattle.pv_tree.specs.declared.outcome.Shape.{Shape}
 use Rattle.pv_tree.specs.declared.outcome.Shape.TheVariants as shape
+use Rattle.pv_tree.specs.declared.path.TheConstants.{MOST_STEPS}
 
 -- An open leaf, or a settled node: removed whole, inner, small, or cut, where `at` splits place `var` of `to`.
 pub data Tree : Type 0 where
@@ -176,7 +177,7 @@ Paves b (cut to var at low high) =
 pub record IsPaving (b : List Bounds) (t : Tree) : Type 0 where
   pub box : IsBox b
   pub paves : Paves b t
-  pub depth : height t ≤ 200
+  pub depth : height t ≤ MOST_STEPS
 
 -- What contracts see of a paving: its root box, its tree, and for how many settlings it has room.
 pub record Seen : Type 0 where
@@ -202,7 +203,7 @@ abbrev pub HasDepth : List Bool → Outcome → Type 0
 HasDepth p Removed = Unit {0}
 HasDepth p (Inner to) = Unit {0}
 HasDepth p (Small to) = Unit {0}
-HasDepth p (Cut to var at) = length p < 200
+HasDepth p (Cut to var at) = length p < MOST_STEPS
 
 -- The paths of a list that stand behind a path in preorder.
 abbrev pub behind : List Bool → List (List Bool) → List (List Bool)

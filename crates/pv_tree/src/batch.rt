@@ -5,7 +5,10 @@ use pv_num::Memory;
 use std::alloc::Global;
 use std::marker::Model;
 
-/// A list of at most 17 values, with all its room from the start.
+/// The most values of a batch.
+pub const MOST_BATCH: usize = 17;
+
+/// A list of at most `MOST_BATCH` values, with all its room from the start.
 #[derive(Drop)]
 pub struct Batch<T> {
     values: Vec<T>,
@@ -13,12 +16,13 @@ pub struct Batch<T> {
 
 impl<T> Model for Batch<T> {
     ghost use Rattle.std.specs.Prelude.{List, length, vec_capacity, ◌≤◌};
+    ghost use Rattle.pv_tree.specs.declared.batch.TheConstants.{MOST_BATCH};
 
     ghost Value = { List T };
 
     ghost view = { λ a. a.values.items };
 
-    ghost invariant = { λ a. (length a.values.items ≤ 17) × (17 ≤ vec_capacity a.values) };
+    ghost invariant = { λ a. (length a.values.items ≤ MOST_BATCH) × (MOST_BATCH ≤ vec_capacity a.values) };
 }
 
 impl<T> Batch<T> {
@@ -26,13 +30,13 @@ impl<T> Batch<T> {
     pub fn new(alloc: Global) -> Result<Batch<T>, Memory>
         ensures { IfOk result (λ b. b ≡ []) }
     {
-        let values = Vec::with_capacity(alloc, 17)?;
+        let values = Vec::with_capacity(alloc, MOST_BATCH)?;
         Ok(Batch { values })
     }
 
     /// Appends a value.
     pub fn push(&mut self, value: T)
-        requires { length self.old < 17 }
+        requires { length self.old < MOST_BATCH }
         ensures { self.new ≡ self.old ++ value ∷ [] }
     {
         self.values.push_reserved(value);
@@ -49,7 +53,7 @@ impl<T> Batch<T> {
     /// How many values there are.
     pub fn len(&self) -> u32
         ensures count { result ≡ length self.now }
-        ensures few { length self.now ≤ 17 }
+        ensures few { length self.now ≤ MOST_BATCH }
     {
         self.values.len() as u32
     }

@@ -7,9 +7,9 @@ ghost use Rattle.pv_tree.specs.Holes.{growth_over, settle_next, pass_next, Takes
 use crate::arena::{lay_down, mark_all, place, tally};
 use crate::cell::Node;
 use crate::outcome::{Counts, Outcome};
-use crate::path::Path;
+use crate::path::{MOST_LEVELS, Path};
 use crate::paving::{Paving, PutRefused};
-use crate::stop::{MOST_STOPS, Stop, push_kids, write_stop_box};
+use crate::stop::{Stop, push_kids, write_stop_box};
 use pv_box::IBox;
 use pv_interval::Interval;
 use pv_num::Memory;
@@ -64,7 +64,7 @@ impl Growth {
         let _places = bx.dims();
         let mut nodes = Vec::new(alloc);
         nodes.push(Node::OPEN)?;
-        let mut stops = Vec::with_capacity(alloc, MOST_STOPS)?;
+        let mut stops = Vec::with_capacity(alloc, MOST_LEVELS as usize)?;
         stops.push_reserved(Stop::ROOT);
         Ok(Growth {
             root: bx,

@@ -19,12 +19,12 @@ mod steps;
 mod stop;
 mod walk;
 
-pub use batch::Batch;
+pub use batch::{Batch, MOST_BATCH};
 pub use growth::Growth;
 pub use knowing::{Forgetful, KnowingSettler, Settled};
-pub use limit::NodeLimit;
+pub use limit::{LEAST_LIMIT, MOST_SETTLED, MOST_WORKERS, NodeLimit};
 pub use outcome::{Counts, Outcome, Shape};
-pub use path::{MOST_STEPS, Path};
+pub use path::{MOST_LEVELS, MOST_STEPS, Path};
 pub use paving::{Paving, PutRefused};
 pub use settler::Settler;
 pub use walk::Walk;

@@ -1,10 +1,19 @@
-//! How large a tree may become.
+//! How large a tree may become, and how many workers may make it.
 ghost use Rattle.std.specs.Prelude.{◌≡◌, None, IfSome};
 ghost use Rattle.pv_tree.specs.Limits.{IsLimit};
 
 use std::marker::Model;
 
-/// The most settled nodes that a tree may have, 100,000 to 100,000,000. It bounds what a
+/// The least limit on settled nodes, which holds where none is given.
+pub const LEAST_LIMIT: u64 = 100_000;
+
+/// The most settled nodes that a tree ever has: the greatest limit.
+pub const MOST_SETTLED: u64 = 100_000_000;
+
+/// The most workers that a call settles, reads or writes with.
+pub const MOST_WORKERS: u32 = 16;
+
+/// The most settled nodes that a tree may have, `LEAST_LIMIT` to `MOST_SETTLED`. It bounds what a
 /// stranger's input can cost. It is no setting: a paving's identity and bytes don't depend on it.
 #[derive(Clone, Copy, Debug, PartialEq, Eq)]
 pub struct NodeLimit {
@@ -25,24 +34,24 @@ impl Model for NodeLimit {
 }
 
 impl NodeLimit {
-    /// 100,000 nodes: the least limit, which holds where none is given.
-    pub const DEFAULT: NodeLimit = NodeLimit { nodes: 100_000 };
+    /// The least limit, which holds where none is given.
+    pub const DEFAULT: NodeLimit = NodeLimit { nodes: LEAST_LIMIT };
 
-    /// The limit of so many nodes; None below 100,000 and above 100,000,000.
+    /// The limit of so many nodes; None below `LEAST_LIMIT` and above `MOST_SETTLED`.
     pub fn new(nodes: u64) -> Option<NodeLimit>
         ensures sound { IfSome result (λ l. l ≡ nodes) }
         ensures complete { result ≡ None → IsLimit nodes → ⊥ }
     {
-        if (100_000..=100_000_000).contains(&nodes) {
+        if (LEAST_LIMIT..=MOST_SETTLED).contains(&nodes) {
             Some(NodeLimit { nodes })
         } else {
             None
         }
     }
 
-    /// 100,000 nodes, as a call.
+    /// The limit that holds where none is given, as a call.
     pub fn by_default() -> NodeLimit
-        ensures { result ≡ 100000 }
+        ensures { result ≡ LEAST_LIMIT }
     {
         NodeLimit::DEFAULT
     }

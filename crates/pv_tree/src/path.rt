@@ -8,7 +8,10 @@ use std::marker::Model;
 /// The most steps that a path has.
 pub const MOST_STEPS: u32 = 200;
 
-/// A path of at most 200 steps from a tree's root, each to the low or the high child.
+/// The most levels that a tree has, so many as nodes on a path: the root and one for each step.
+pub const MOST_LEVELS: u32 = 201;
+
+/// A path of at most `MOST_STEPS` steps from a tree's root, each to the low or the high child.
 /// Paths are ordered as their nodes in preorder.
 #[derive(Clone, Copy, PartialEq, Eq, PartialOrd, Ord)]
 pub struct Path {
@@ -52,14 +55,14 @@ impl Path {
     /// The number of steps.
     pub fn len(self) -> u32
         ensures count { result ≡ length self }
-        ensures few { length self ≤ 200 }
+        ensures few { length self ≤ MOST_STEPS }
     {
         u32::from(self.len)
     }
 
     /// The path with a step to the low child at its end.
     pub fn low(self) -> Path
-        requires { length self < 200 }
+        requires { length self < MOST_STEPS }
         ensures { result ≡ self ++ false ∷ [] }
     {
         let words = self.words;
@@ -71,7 +74,7 @@ impl Path {
 
     /// The path with a step to the high child at its end.
     pub fn high(self) -> Path
-        requires { length self < 200 }
+        requires { length self < MOST_STEPS }
         ensures { result ≡ self ++ true ∷ [] }
     {
         let mut words = self.words;
@@ -92,7 +95,7 @@ impl Path {
 
     /// The steps of this path, and then those of another.
     pub fn then(self, tail: Path) -> Path
-        requires { length self + length tail ≤ 200 }
+        requires { length self + length tail ≤ MOST_STEPS }
         ensures { result ≡ self ++ tail }
     {
         let mut path = self;

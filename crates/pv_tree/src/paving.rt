@@ -2,6 +2,7 @@
 ghost use Rattle.std.specs.Prelude.{◌≡◌, ◌+◌, ◌-◌, ◌*◌, ◌<◌, ◌≤◌, ◌^◌, ◌++◌, if◌then◌else◌, is_ok, IfOk, IfErr, OnOk, OnErr, IfSome, IsSome, Some, length};
 ghost use Rattle.pv_tree.specs.Sets.{Covers};
 ghost use Rattle.pv_tree.specs.Trees.{Tree, leaf, subtree, graft, settled, Fits, HasDepth, IsPaving, box_of, to_at, shape_of, counts_of, settled_of, height, opens, first, behind, Seen};
+ghost use Rattle.pv_tree.specs.declared.path.TheConstants.{MOST_STEPS};
 
 use crate::arena::{
     cell_after, cell_shape, child_box, close_way, copy_out, descend, lay_down, place, start_at,
@@ -140,7 +141,7 @@ impl Paving {
     pub fn graft(&mut self, path: Path, stage: &Paving)
         requires open { subtree self.old.tree path ≡ Some leaf }
         requires root { stage.now.root ≡ box_of self.old.root self.old.tree path }
-        requires depth { length path + height stage.now.tree ≤ 200 }
+        requires depth { length path + height stage.now.tree ≤ MOST_STEPS }
         requires room { settled_of (counts_of stage.now.tree) ≤ self.old.spare }
         ensures root { self.new.root ≡ self.old.root }
         ensures tree { self.new.tree ≡ graft self.old.tree path stage.now.tree }

@@ -1,4 +1,5 @@
 //! What settles a box.
+
 use crate::outcome::Outcome;
 use pv_box::IBox;
 use pv_num::Memory;
@@ -8,6 +9,7 @@ use std::alloc::Global;
 ///
 /// The set is `inside`. No point of a box outside the outcome's `to` is in it, and every point of
 /// an inner `to` is.
+
 pub trait Settler {
     ghost use Rattle.std.specs.Prelude.{◌≡◌, ℕ, ◌<◌, ◌≤◌, List, length, IfOk};
     ghost use Rattle.pv_interval.specs.Bounds.{Bounds};
@@ -16,6 +18,8 @@ pub trait Settler {
     ghost use Rattle.pv_tree.specs.declared.outcome.Outcome.{Outcome};
     ghost use Rattle.pv_tree.specs.Trees.{Fits, KeepsBox, CutsAbove};
     ghost use Rattle.pv_tree.specs.Sets.{IsSoundOutcome};
+    ghost use Rattle.pv_box.specs.declared.boxes.TheConstants.{MOST_PLACES};
+    ghost use Rattle.pv_tree.specs.declared.path.TheConstants.{MOST_STEPS};
 
     /// The number of places of its boxes.
     ghost dims: { Self → ℕ };
@@ -44,9 +48,9 @@ pub trait Settler {
         requires { length bx.now ≡ dims self.now }
         ensures { IfOk result (λ o. o ≡ settle_of self.now bx.now depth_left path_len) };
 
-    ghost dims_fit: { (s : Self) → (1 ≤ dims s) × (dims s ≤ 12) };
+    ghost dims_fit: { (s : Self) → (1 ≤ dims s) × (dims s ≤ MOST_PLACES) };
 
-    ghost depth_fits: { (s : Self) → (1 ≤ depth_of s) × (depth_of s ≤ 200) };
+    ghost depth_fits: { (s : Self) → (1 ≤ depth_of s) × (depth_of s ≤ MOST_STEPS) };
 
     ghost fits: { (s : Self) (b : List Bounds) (d k : ℕ) → IsBox b → length b ≡ dims s → Fits b (settle_of s b d k) };
 

@@ -2,6 +2,7 @@
 ghost use Rattle.std.specs.Prelude.{◌≡◌, ◌+◌, ◌-◌, ◌<◌, ◌≤◌, ◌^◌, ◌++◌, [], ◌∷◌, false, Some, length, slice_index_or, vec_len, vec_capacity};
 ghost use Rattle.pv_tree.specs.Arena.{cell_at, kids_of, HasKids, HasHalves, half_at};
 ghost use Rattle.pv_tree.specs.Stops.{low_stop, high_stop, stops_below};
+ghost use Rattle.pv_tree.specs.declared.path.TheConstants.{MOST_STEPS};
 
 use crate::arena::{child_box, kids_at};
 use crate::cell::Node;
@@ -17,9 +18,6 @@ pub(crate) struct Stop {
     pub(crate) path: Path,
 }
 
-/// The most stops that a stack holds: a path's steps, and one.
-pub(crate) const MOST_STOPS: usize = 201;
-
 impl Stop {
     pub(crate) const ROOT: Stop = Stop {
         at: 0,
@@ -30,7 +28,7 @@ impl Stop {
 
 /// Puts the children at `kids` of a stop on the stack, the low one on top.
 pub(crate) fn push_pair(stops: &mut Vec<Stop>, stop: &Stop, kids: usize)
-    requires short { length stop.now.path < 200 }
+    requires short { length stop.now.path < MOST_STEPS }
     requires fits { kids + 1 < 2 ^ 64 }
     requires room { vec_len stops.old + 2 ≤ vec_capacity stops.old }
     ensures items { stops.new.items ≡ stops.old.items ++ stops_below stop.now (Some kids) }
@@ -54,7 +52,7 @@ pub(crate) fn push_kids(stops: &mut Vec<Stop>, nodes: &[Node], stop: &Stop)
     requires kids { HasKids nodes.now }
     requires there { stop.now.at < length nodes.now }
     requires short { (c : _) → kids_of (cell_at nodes.now stop.now.at) ≡ Some c →
-        length stop.now.path < 200 }
+        length stop.now.path < MOST_STEPS }
     requires room { (c : _) → kids_of (cell_at nodes.now stop.now.at) ≡ Some c →
         vec_len stops.old + 2 ≤ vec_capacity stops.old }
     ensures items { stops.new.items ≡

@@ -6,9 +6,9 @@ ghost use Rattle.pv_tree.specs.Pieces.{walk_from, IsVisit, IsPiece};
 use crate::arena::{cell_shape, copy_out, start_in};
 use crate::cell::Node;
 use crate::outcome::Shape;
-use crate::path::Path;
+use crate::path::{MOST_LEVELS, Path};
 use crate::paving::Paving;
-use crate::stop::{MOST_STOPS, Stop, push_kids, write_stop_box};
+use crate::stop::{Stop, push_kids, write_stop_box};
 use pv_box::IBox;
 use pv_interval::Interval;
 use pv_num::Memory;
@@ -48,7 +48,7 @@ impl<'a> Walk<'a> {
     pub fn of(alloc: Global, paving: &'a Paving) -> Result<Walk<'a>, Memory>
         ensures { IfOk result (λ w. w ≡ walk_from paving.now.root paving.now.tree) }
     {
-        let mut stops = Vec::with_capacity(alloc, MOST_STOPS)?;
+        let mut stops = Vec::with_capacity(alloc, MOST_LEVELS as usize)?;
         stops.push_reserved(Stop::ROOT);
         Ok(Walk {
             root: &paving.root,

@@ -2,6 +2,8 @@
 ghost use Rattle.std.specs.Prelude.{◌≡◌, ◌+◌, ◌^◌, ◌<◌, ◌≤◌, [], IfOk, length, vec_len};
 ghost use Rattle.pv_board.specs.Tallies.{tally_of};
 ghost use Rattle.pv_workers.specs.Accounts.{parts_in, AllBelow};
+ghost use Rattle.pv_box.specs.declared.boxes.TheConstants.{MOST_PLACES};
+ghost use Rattle.pv_tree.specs.declared.limit.TheConstants.{MOST_WORKERS};
 
 use crate::kit::Kit;
 use pv_board::{Naming, Told};
@@ -68,9 +70,9 @@ pub(crate) fn split<N: Naming, S: KnowingSettler>(
 ) -> Result<Vec<Account<N, S>>, Memory>
     requires told { told ≡ tally_of 32 }
     requires one { 1 ≤ workers }
-    requires sixteen { workers ≤ 16 }
+    requires sixteen { workers ≤ MOST_WORKERS }
     requires some { 1 ≤ places }
-    requires few { places ≤ 12 }
+    requires few { places ≤ MOST_PLACES }
     requires places { places ≡ N.dims }
     ensures count { IfOk result (λ v. vec_len v ≡ workers) }
     ensures none { IfOk result (λ v. AllBelow 1 v.items) }
@@ -90,7 +92,7 @@ pub(crate) fn split<N: Naming, S: KnowingSettler>(
 /// The counts of all workers together.
 pub(crate) fn joined<N: Naming, S: KnowingSettler>(accounts: Vec<Account<N, S>>) -> Told<N>
     requires one { 1 ≤ vec_len accounts }
-    requires sixteen { vec_len accounts ≤ 16 }
+    requires sixteen { vec_len accounts ≤ MOST_WORKERS }
     requires below { AllBelow (2 ^ 71) accounts.items }
     ensures parts { result.parts ≡ parts_in accounts.items }
     ensures few { result.spent < 2 ^ 75 }

@@ -5,13 +5,14 @@ ghost use Rattle.pv_tree.specs.Stages.{full_of};
 ghost use Rattle.pv_board.specs.Tallies.{handed_in, IsLow};
 ghost use Rattle.pv_pool.specs.Counting.{after_work};
 ghost use Rattle.pv_workers.specs.Accounts.{numbers_of};
+ghost use Rattle.pv_board.specs.declared.told.TheConstants.{MOST_TICKET_NODES};
 
 use crate::account::Account;
 use crate::kit::Kit;
 use crate::ruled::Ruled;
 use crate::stage::stage_at;
 use crate::task::{Parts, Task, hand_out};
-use pv_board::{Look, Naming, Settled, Shared, Ticket, Told};
+use pv_board::{Look, MOST_GRANT, Naming, Settled, Shared, Ticket, Told};
 use pv_box::IBox;
 use pv_num::Memory;
 use pv_pool::{Gate, Idle, Work};
@@ -21,10 +22,6 @@ use std::sync::Wait;
 
 // A leaf whose path has this number of steps or more is settled together with nodes below it.
 const STAGED_FROM: u32 = 4;
-
-// So many units beyond the first are asked for before a stage. Units for further nodes are taken
-// once they were settled.
-const MOST_GRANT: u64 = 15;
 
 // The most nodes of a stage.
 const MOST_STAGE: u64 = 1024;
@@ -233,9 +230,9 @@ fn is_staged(ticket: &Ticket) -> bool {
 
 // How many nodes a stage may have whose ticket has this grant, where so many units are left.
 fn most_of(grant: u64, left: u64, workers: u32) -> u64
-    requires { grant ≤ 15 }
+    requires { grant ≤ MOST_GRANT }
     ensures some { 1 ≤ result }
-    ensures few { result ≤ 4096 }
+    ensures few { result ≤ MOST_TICKET_NODES }
 {
     let share = left / 4 / u64::from(workers.max(1));
     share.min(MOST_STAGE).max(1 + grant)
@@ -243,7 +240,7 @@ fn most_of(grant: u64, left: u64, workers: u32) -> u64
 
 // How many units more are wanted for a ticket.
 fn wanted(ticket: &Ticket) -> u64
-    ensures { ticket.now.grant + result ≤ 15 }
+    ensures { ticket.now.grant + result ≤ MOST_GRANT }
 {
     let granted = ticket.grant();
     if is_staged(ticket) {

@@ -4,6 +4,8 @@ ghost use Rattle.pv_tree.specs.Trees.{opens};
 ghost use Rattle.pv_tree.specs.Stages.{IsStage};
 ghost use Rattle.pv_board.specs.Rules.{settled_in};
 ghost use Rattle.pv_workers.specs.Pavings.{IsSpent};
+ghost use Rattle.pv_board.specs.declared.told.TheConstants.{LOT_NODES};
+ghost use Rattle.pv_tree.specs.declared.limit.TheConstants.{MOST_WORKERS};
 
 use crate::paving::{Paved, by_crew, learn_paved};
 use pv_num::Memory;
@@ -37,14 +39,14 @@ where
     requires few { budget ≤ limit }
     requires limit { settled_in opening.tree + budget ≤ limit }
     requires one { 1 ≤ workers }
-    requires sixteen { workers ≤ 16 }
+    requires sixteen { workers ≤ MOST_WORKERS }
     ensures root { IfOk result (λ p. p.paving.root ≡ opening.root) }
     ensures stage { IfOk result (λ p.
         IsStage (S.settle_of settler.now)
         (S.depth_of settler.now) opening.root opening.tree p.paving.tree) }
     ensures paved { IfOk result (λ p. IsSpent budget opening.tree p.paving.tree) }
     ensures spent { IfOk result (λ p.
-        settled_in p.paving.tree ≤ settled_in opening.tree + 16 * p.spent) }
+        settled_in p.paving.tree ≤ settled_in opening.tree + LOT_NODES * p.spent) }
     ensures least { IfOk result (λ p.
         settled_in opening.tree + p.spent ≤ settled_in p.paving.tree) }
 {
@@ -111,15 +113,15 @@ where
     requires few { part ≤ limit }
     requires limit { settled_in before.paving.tree + part ≤ limit }
     requires one { 1 ≤ workers }
-    requires sixteen { workers ≤ 16 }
+    requires sixteen { workers ≤ MOST_WORKERS }
     requires low { before.spent + 2 ^ 84 < 2 ^ 128 }
     ensures root { IfOk result (λ p. p.paving.root ≡ before.paving.root) }
     ensures stage { IfOk result (λ p.
         IsStage (S.settle_of settler.now)
         (S.depth_of settler.now) before.paving.root before.paving.tree p.paving.tree) }
     ensures paved { IfOk result (λ p. IsSpent part before.paving.tree p.paving.tree) }
-    ensures spent { IfOk result (λ p. settled_in p.paving.tree + 16 * before.spent ≤
-        settled_in before.paving.tree + 16 * p.spent) }
+    ensures spent { IfOk result (λ p. settled_in p.paving.tree + LOT_NODES * before.spent ≤
+        settled_in before.paving.tree + LOT_NODES * p.spent) }
     ensures least { IfOk result (λ p. settled_in before.paving.tree + p.spent ≤
         settled_in p.paving.tree + before.spent) }
     ensures low { IfOk result (λ p. p.spent ≤ before.spent + 2 ^ 84) }

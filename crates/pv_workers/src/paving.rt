@@ -5,6 +5,9 @@ ghost use Rattle.pv_tree.specs.Stages.{IsStage};
 ghost use Rattle.pv_board.specs.Marks.{issued};
 ghost use Rattle.pv_board.specs.Rules.{IsFitting, settled_in};
 ghost use Rattle.pv_workers.specs.Pavings.{IsPaved, IsSpent};
+ghost use Rattle.pv_board.specs.declared.told.TheConstants.{LOT_NODES};
+ghost use Rattle.pv_box.specs.declared.boxes.TheConstants.{MOST_PLACES};
+ghost use Rattle.pv_tree.specs.declared.limit.TheConstants.{LEAST_LIMIT, MOST_WORKERS};
 
 use crate::account::{joined, split};
 use crate::crew::Crew;
@@ -55,10 +58,10 @@ pub fn pave<S: Settler + Sync, G: Gate + Sync, R: Threads + Wait + Sync>(
 ) -> Result<Paved, Memory>
     requires dims { length opening.root ≡ S.dims settler.now }
     requires some { 1 ≤ budget }
-    requires few { budget ≤ 100000 }
-    requires limit { settled_in opening.tree + budget ≤ 100000 }
+    requires few { budget ≤ LEAST_LIMIT }
+    requires limit { settled_in opening.tree + budget ≤ LEAST_LIMIT }
     requires one { 1 ≤ workers }
-    requires sixteen { workers ≤ 16 }
+    requires sixteen { workers ≤ MOST_WORKERS }
     ensures root { IfOk result (λ p. p.paving.root ≡ opening.root) }
     ensures stages { IfOk result (λ p. (earlier : Tree) → Paves opening.root earlier →
         IsStage (S.settle_of settler.now)
@@ -69,7 +72,7 @@ pub fn pave<S: Settler + Sync, G: Gate + Sync, R: Threads + Wait + Sync>(
         IsPaved (S.settle_of settler.now)
         (S.depth_of settler.now) opening.root opening.tree budget p.paving.tree) }
     ensures spent { IfOk result (λ p.
-        settled_in p.paving.tree ≤ settled_in opening.tree + 16 * p.spent) }
+        settled_in p.paving.tree ≤ settled_in opening.tree + LOT_NODES * p.spent) }
     ensures least { IfOk result (λ p.
         settled_in opening.tree + p.spent ≤ settled_in p.paving.tree) }
 {
@@ -107,7 +110,7 @@ where
     requires few { budget ≤ limit }
     requires limit { settled_in opening.tree + budget ≤ limit }
     requires one { 1 ≤ workers }
-    requires sixteen { workers ≤ 16 }
+    requires sixteen { workers ≤ MOST_WORKERS }
     ensures root { IfOk result (λ p. p.paving.root ≡ opening.root) }
     ensures stages { IfOk result (λ p. (earlier : Tree) → Paves opening.root earlier →
         IsStage (S.settle_of settler.now)
@@ -118,7 +121,7 @@ where
         IsPaved (S.settle_of settler.now)
         (S.depth_of settler.now) opening.root opening.tree budget p.paving.tree) }
     ensures spent { IfOk result (λ p.
-        settled_in p.paving.tree ≤ settled_in opening.tree + 16 * p.spent) }
+        settled_in p.paving.tree ≤ settled_in opening.tree + LOT_NODES * p.spent) }
     ensures least { IfOk result (λ p.
         settled_in opening.tree + p.spent ≤ settled_in p.paving.tree) }
 {
@@ -147,14 +150,14 @@ where
     requires few { budget ≤ limit }
     requires limit { settled_in opening.tree + budget ≤ limit }
     requires one { 1 ≤ workers }
-    requires sixteen { workers ≤ 16 }
+    requires sixteen { workers ≤ MOST_WORKERS }
     ensures root { IfOk result (λ p. p.paving.root ≡ opening.root) }
     ensures stage { IfOk result (λ p.
         IsStage (S.settle_of settler.now)
         (S.depth_of settler.now) opening.root opening.tree p.paving.tree) }
     ensures paved { IfOk result (λ p. IsSpent budget opening.tree p.paving.tree) }
     ensures spent { IfOk result (λ p.
-        settled_in p.paving.tree ≤ settled_in opening.tree + 16 * p.spent) }
+        settled_in p.paving.tree ≤ settled_in opening.tree + LOT_NODES * p.spent) }
     ensures least { IfOk result (λ p.
         settled_in opening.tree + p.spent ≤ settled_in p.paving.tree) }
 {
@@ -183,14 +186,14 @@ where
     requires few { budget ≤ limit }
     requires limit { settled_in opening.tree + budget ≤ limit }
     requires one { 1 ≤ workers }
-    requires sixteen { workers ≤ 16 }
+    requires sixteen { workers ≤ MOST_WORKERS }
     ensures root { IfOk result (λ p. p.paving.root ≡ opening.root) }
     ensures stage { IfOk result (λ p.
         IsStage (S.settle_of settler.now)
         (S.depth_of settler.now) opening.root opening.tree p.paving.tree) }
     ensures paved { IfOk result (λ p. IsSpent budget opening.tree p.paving.tree) }
     ensures spent { IfOk result (λ p.
-        settled_in p.paving.tree ≤ settled_in opening.tree + 16 * p.spent) }
+        settled_in p.paving.tree ≤ settled_in opening.tree + LOT_NODES * p.spent) }
     ensures least { IfOk result (λ p.
         settled_in opening.tree + p.spent ≤ settled_in p.paving.tree) }
     ensures low { IfOk result (λ p. p.spent < 2 ^ 84) }
@@ -273,14 +276,14 @@ where
     requires few { budget ≤ limit }
     requires limit { settled_in N.opening + budget ≤ limit }
     requires one { 1 ≤ workers }
-    requires sixteen { workers ≤ 16 }
+    requires sixteen { workers ≤ MOST_WORKERS }
     requires settlings { (settlings.name ≡ N.settlings) × (settlings.parts ≡ 32) }
     requires endings { (endings.name ≡ N.endings) × (endings.parts ≡ 32) }
     ensures root { IfOk result (λ p. p.paving.root ≡ N.root) }
     ensures stage { IfOk result (λ p. IsStage N.rule N.depth N.root N.opening p.paving.tree) }
     ensures paved { IfOk result (λ p. IsSpent N.budget N.opening p.paving.tree) }
     ensures spent { IfOk result (λ p.
-        settled_in p.paving.tree ≤ settled_in N.opening + 16 * p.spent) }
+        settled_in p.paving.tree ≤ settled_in N.opening + LOT_NODES * p.spent) }
     ensures least { IfOk result (λ p. settled_in N.opening + p.spent ≤ settled_in p.paving.tree) }
     ensures low { IfOk result (λ p. p.spent < 2 ^ 84) }
 {
@@ -349,13 +352,13 @@ where
     requires issued { issued board.marks ≡ 0 }
     requires used { board.used ≡ 0 }
     requires tree { board.tree ≡ N.opening }
-    requires places { (1 ≤ places) × (places ≤ 12) × (places ≡ N.dims) }
+    requires places { (1 ≤ places) × (places ≤ MOST_PLACES) × (places ≡ N.dims) }
     requires one { 1 ≤ workers }
-    requires sixteen { workers ≤ 16 }
+    requires sixteen { workers ≤ MOST_WORKERS }
     requires settlings { (settlings.name ≡ N.settlings) × (settlings.parts ≡ 32) }
     requires endings { (endings.name ≡ N.endings) × (endings.parts ≡ 32) }
     ensures settled { IfOk result (λ r. settled_in r.0.tree ≡ settled_in N.opening + r.0.used) }
-    ensures few { IfOk result (λ r. r.0.used ≤ 16 * r.1) }
+    ensures few { IfOk result (λ r. r.0.used ≤ LOT_NODES * r.1) }
     ensures least { IfOk result (λ r. r.1 ≤ r.0.used) }
     ensures low { IfOk result (λ r. r.1 < 2 ^ 83) }
 {

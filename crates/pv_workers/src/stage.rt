@@ -8,17 +8,15 @@ ghost use Rattle.pv_board.specs.Events.{leaves_at};
 ghost use Rattle.pv_board.specs.Rules.{IsStageBelow, settled_in};
 ghost use Rattle.pv_workers.specs.Facts.{AreFacts, AreLaid};
 ghost use Rattle.pv_workers.specs.Leaves.{AreOpen, with_handed};
+ghost use Rattle.pv_tree.specs.declared.path.TheConstants.{MOST_STEPS};
 
 use crate::kit::Kit;
 use crate::ruled::Ruled;
 use pv_board::{Naming, Shared};
 use pv_num::Memory;
 use pv_pool::Gate;
-use pv_tree::{Growth, KnowingSettler, Outcome, Path, Paving, Settled};
+use pv_tree::{Growth, KnowingSettler, MOST_BATCH, Outcome, Path, Paving, Settled};
 use std::alloc::Global;
-
-/// A stage has at most so many open leaves: a batch takes the tickets of so many.
-const MOST_LEAVES: usize = 17;
 
 /// From so many nodes on a stage is ended where another worker has nothing to do.
 const SHARED_FROM: u64 = 32;
@@ -51,7 +49,7 @@ pub(crate) fn stage_at<N: Naming, S: KnowingSettler, G: Gate>(
     ensures some { IfOk result (λ p. 1 ≤ settled_in p.tree) }
     ensures few { IfOk result (λ p. settled_in p.tree ≤ most) }
     ensures leaves { IfOk result (λ p. kit.new.leaves.items ≡ leaves_at at p.tree) }
-    ensures few_leaves { IfOk result (λ _. vec_len kit.new.leaves ≤ 17) }
+    ensures few_leaves { IfOk result (λ _. vec_len kit.new.leaves ≤ MOST_BATCH) }
     ensures facts { IfOk result (λ p. AreFacts (S.knows ruled.now.settler.now)
         (box_of kit.old.scratch (full_of N.rule N.depth kit.old.scratch leaf (length at)))
         (opens p.tree) (reverse kit.new.facts.items)) }
@@ -98,7 +96,7 @@ fn grow_on<N: Naming, S: KnowingSettler, G: Gate>(
     requires stage { IsStageBelow N.rule N.depth stage.old.root (length at) stage.old.tree }
     requires facts { AreKnown (S.knows ruled.now.settler.now)
         (reverse kit.old.facts.items) stage.old.holes }
-    requires few_facts { vec_len kit.old.facts ≤ 17 }
+    requires few_facts { vec_len kit.old.facts ≤ MOST_BATCH }
     requires laid { AreLaid
         (full_of N.rule N.depth stage.old.root leaf (length at)) stage.old }
     requires places { length kit.old.scratch ≡ N.dims }
@@ -109,7 +107,7 @@ fn grow_on<N: Naming, S: KnowingSettler, G: Gate>(
     ensures few { OnOk result (settled_in stage.new.tree ≤ most) }
     ensures facts { OnOk result (AreKnown (S.knows ruled.now.settler.now)
         (reverse kit.new.facts.items) stage.new.holes) }
-    ensures few_facts { OnOk result (vec_len kit.new.facts ≤ 17) }
+    ensures few_facts { OnOk result (vec_len kit.new.facts ≤ MOST_BATCH) }
     ensures laid { OnOk result (AreLaid
         (full_of N.rule N.depth stage.new.root leaf (length at)) stage.new) }
     ensures places { length kit.new.scratch ≡ N.dims }
@@ -129,9 +127,9 @@ fn grow_on<N: Naming, S: KnowingSettler, G: Gate>(
 
 // Whether a stage of so many nodes and open leaves is to end.
 fn is_long<N: Naming>(settled: u64, leaves: usize, shared: &Shared<N>) -> bool
-    ensures { result ≡ false → leaves < 17 }
+    ensures { result ≡ false → leaves < MOST_BATCH }
 {
-    if MOST_LEAVES <= leaves {
+    if MOST_BATCH <= leaves {
         return true;
     }
     SHARED_FROM <= settled && shared.is_hungry()
@@ -141,7 +139,7 @@ fn is_long<N: Naming>(settled: u64, leaves: usize, shared: &Shared<N>) -> bool
 fn list_leaves(stage: &mut Growth, at: Path, leaves: &mut Vec<Path>) -> Result<(), Memory>
     requires open { AreOpen stage.old }
     requires short { (p : List Bool) → subtree stage.old.tree p ≡ Some leaf →
-        length at + length p ≤ 200 }
+        length at + length p ≤ MOST_STEPS }
     ensures root { stage.new.root ≡ stage.old.root }
     ensures tree { stage.new.tree ≡ stage.old.tree }
     ensures leaves { OnOk result (leaves.new.items ≡ leaves_at at stage.old.tree) }

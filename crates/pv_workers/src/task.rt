@@ -4,6 +4,7 @@ ghost use Rattle.pv_tree.specs.Trees.{box_of};
 ghost use Rattle.pv_tree.specs.Stages.{full_of};
 ghost use Rattle.pv_board.specs.declared.mark.Mark.{Mark};
 ghost use Rattle.pv_workers.specs.Facts.{AreFacts, paths};
+ghost use Rattle.pv_tree.specs.declared.batch.TheConstants.{MOST_BATCH};
 
 use crate::ruled::Ruled;
 use pv_board::{Naming, Ticket};
@@ -90,7 +91,7 @@ pub(crate) fn hand_out<'a, N: Naming, S: KnowingSettler>(
     facts: &mut Vec<S::Known>,
     children: &mut Batch<Task<'a, N, S>>,
 )
-    requires room { length children.old + length tickets.old ≤ 17 }
+    requires room { length children.old + length tickets.old ≤ MOST_BATCH }
     requires facts { AreFacts (S.knows ruled.now.settler.now)
         (box_of N.root (full_of N.rule N.depth N.root N.opening 0)) (paths tickets.old)
         (reverse facts.old.items) }

@@ -11,8 +11,8 @@ returns-clause-right c =
     read_right c.args.count c.args.text.now (omega arith)
     (c.in_ok-program.ensures.took (exactly End ∷ []) ∙ ap (λ k. refusal (tokens_at c.program.new.self.text.now c.program.new.self.at) k c.program.new.self.named (exactly End ∷ [])) (sym c.program.ensures.count) ∙ c.in_ok-want.ensures.took [])
 
-pub returns-then-text-gt-TEXT_LIMIT-clause-refused : goal.returns-then-text-gt-TEXT_LIMIT-clause-refused
-returns-then-text-gt-TEXT_LIMIT-clause-refused c = too_long c.args.count c.args.text.now c.if-text-gt-TEXT_LIMIT.true
+pub returns-then-text-gt-MOST_PROGRAM_TEXT-clause-refused : goal.returns-then-text-gt-MOST_PROGRAM_TEXT-clause-refused
+returns-then-text-gt-MOST_PROGRAM_TEXT-clause-refused c = too_long c.args.count c.args.text.now c.if-text-gt-MOST_PROGRAM_TEXT.true
 
 pub returns-in_err-program-clause-refused : goal.returns-in_err-program-clause-refused
 returns-in_err-program-clause-refused c =
