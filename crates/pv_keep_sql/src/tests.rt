@@ -3,6 +3,7 @@ ghost use Rattle.std.specs.Prelude.{◌≡◌, ◌≢◌, IfOk};
 ghost use Rattle.pv_keep.specs.Rows.{AreDistinct};
 
 use super::*;
+use crate::kept_path::path_of;
 use pv_keep::{BeginRefused, KeepRefused, Keeper, Line, LoadRefused, Row, Rows};
 use pv_tree::Path;
 use sqlite::{Alter, Connection, Error, MemStore, params};
@@ -285,6 +286,36 @@ fn zeros(alloc: Global, count: u32) -> Result<String, Fail> {
         text.push_str("0")?;
     }
     Ok(text)
+}
+
+// Rows from the root down, always to the low child.
+fn chain(alloc: Global, count: u32) -> Result<Rows, Fail> {
+    let mut rows = Rows::new(alloc);
+    for steps in 0..count {
+        let Some(path) = path_of(zeros(alloc, steps)?.as_bytes()) else {
+            return Err("no path")?;
+        };
+        if rows.push(row(alloc, path, "X")?).is_err() {
+            return Err("no memory")?;
+        }
+    }
+    Ok(rows)
+}
+
+#[test]
+fn any_number_of_rows_is_saved(rt: HostRuntime) -> Result<(), Fail> {
+    let alloc = rt.alloc();
+    for count in [0, 1, 63, 64, 65, 128, 129, 200] {
+        let rows = chain(alloc, count)?;
+        let mut connection = keeper_of(alloc, "")?.into_connection();
+        let saved = database::write_rows(alloc, &mut connection, &rows);
+        assert!(rt; saved.is_ok(), "of {count}");
+        let mut keeper = ConnectionKeeper::new(alloc, connection);
+        let loaded = load(alloc, &mut keeper, 200)?;
+        let wanted = write_rows(alloc, &rows)?;
+        assert_eq!(rt; loaded.text.as_slice(), wanted.as_slice(), "of {count}");
+    }
+    Ok(())
 }
 
 // What a load answers, and whether it left no row.
