@@ -9,6 +9,7 @@
     python3 bench/run.py growth             how the time grows as --eps is halved
     python3 bench/run.py files              a large paving file: stored, joined with itself and in eight parts, audited
     python3 bench/run.py campaigns          what a campaign costs beside the plain run: its rounds, its opening and its file
+    python3 bench/run.py rounds             100 rounds of 1,000 nodes beside one round of 100,000
     python3 bench/run.py workers            how much faster 2, 3, 4 and 16 workers are than one, on fifteen runs
     python3 bench/run.py millions           the same of 2, 4 and 16 workers on runs of about a million nodes, beside what the
                                             machine gives to runs of one worker side by side
@@ -64,6 +65,8 @@ MILLIONS = [("ring", "0.0001"), ("Gough slice, 12 constraints", "0.000025"), ("r
             ("strict order, a deep tree", None)]
 # Questions whose nodes' time is to be the same at each size.
 SIZES = ("ring", "torus", "Gough slice, 12 constraints", "rate law, 8 measurements", "strict order, a deep tree")
+# Campaigns of 100,000 nodes: the title in PAVINGS, and eps.
+ROUNDS = [("ring", "0.0009765625"), ("torus", "0.0625")]
 ORDER = "Variables x in [0,9999999], y in [0,9999999]; Constraints x < y; end\n"
 
 
@@ -324,6 +327,25 @@ def campaigns(folder):
             print(f"{title:28} {settled:6} rows: {costs}, {kept.stat().st_size / 1e6:.1f} MB", flush=True)
 
 
+def rounds(folder):
+    """Seconds of a campaign of 100 rounds of 1,000 nodes beside one round of 100,000: of processors, and by the clock."""
+    kept = Path(folder) / "kept"
+    for title, eps in ROUNDS:
+        file = next(file for name, file, _ in PAVINGS if name == title)
+        best = {}
+        for _ in range(TURNS):
+            for count, boxes in (1, 100_000), (100, 1000):
+                for name in (kept, Path(f"{kept}-wal")):
+                    name.unlink(missing_ok=True)
+                start = time.perf_counter()
+                spent, _ = processor_seconds([TOP / "paver", "campaign", file, "--eps", eps, "--boxes", boxes, "--rounds", count,
+                                              "--keep", kept, "--workers", "1"])
+                took = (spent, time.perf_counter() - start)
+                best[count] = tuple(map(min, best.get(count, took), took))
+        print(f"{title:10} one round {best[1][0]:5.2f} s, {best[1][1]:5.2f} by the clock; 100 rounds {best[100][0]:5.2f} and "
+              f"{best[100][1]:5.2f}: {best[100][0] / best[1][0]:4.2f} times, {best[100][1] / best[1][1]:4.2f} by the clock", flush=True)
+
+
 def trees(_):
     program = TOP / "crates/pv_tree_bench/out/pv_tree_bench"
     built, _ = seconds([program, "none", 0])
@@ -349,7 +371,7 @@ def tickets(_):
 
 def main():
     parts = {"numbers": numbers, "calls": calls, "paving": paving, "printing": printing, "growth": growth, "files": files,
-             "workers": workers, "campaigns": campaigns,
+             "workers": workers, "campaigns": campaigns, "rounds": rounds,
              "tickets": tickets, "trees": trees, "millions": millions, "small": small, "sizes": sizes}
     with tempfile.TemporaryDirectory() as folder:
         for part in sys.argv[1:] or parts:

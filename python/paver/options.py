@@ -23,6 +23,7 @@ RANGES = {name: option.range for name, option in commands.OPTIONS.items() if opt
 CHOICES = {name: option.choices for name, option in commands.OPTIONS.items() if option.choices}
 DEFAULTS = {name: commands.OPTIONS[name].default or "" for name in KEPT_SETTINGS}
 EXAMPLES = {name: option.example or str((option.range or option.choices)[0]) for name, option in commands.OPTIONS.items()}
+OUTPUTS = ("/dev/stdout", "/dev/fd/1", "/proc/self/fd/1")  # under which nothing is stored
 NUMBER = r"[0-9]+(\.[0-9]*)?([eE][+-]?[0-9]+)?"
 
 
@@ -122,9 +123,19 @@ def faults(command: str, words: Sequence[str]) -> List[str]:
     found += [f"`{command}` needs `--{name}`." for name in REQUIRED[command] if name not in seen]
     if seen.get("x") is not None and seen.get("x") == seen.get("y"):
         found.append("`--x` and `--y` name one variable: a picture has two.")
+    found += out_fault(seen.get("out"), read.files)
     if seen.get("share") is not None and seen.get("order") == "level":
         found.append("`--share` and `--order level` exclude each other: a share is settled in its own order.")
     return found + file_faults(command, len(read.files))
+
+
+def out_fault(name: Optional[str], files: Sequence[str]) -> List[str]:
+    """The sentence on a name of `--out` under which nothing is stored."""
+    if name is not None and files[:1] == [name]:
+        return [f"`--out {name}` is the system itself, which would be lost: name another file."]
+    if name in OUTPUTS:
+        return [f"`--out {name}` is the standard output, where the counts are printed: without `--out` the nodes are printed, too."]
+    return []
 
 
 def unknown(command: str, word: str) -> str:
