@@ -70,9 +70,6 @@ AreNumbered t n [] = n ≡ all_nodes t
 AreNumbered t n (piece ∷ pieces) =
     (number_of t piece.path ≡ n) × (subtree t piece.path ≡ Some piece.tree) × AreNumbered t (n + all_nodes piece.tree) pieces
 
-pub numbers_begin : (b : List Bounds) (t : Tree) → AreNumbered t 0 (record { path = []; box = b; tree = t } ∷ [])
-numbers_begin b t = (refl, refl, (let w : 0 + all_nodes t ≡ all_nodes t = omega arith in w))
-
 -- a step of the walk
 step_below : (t : Tree) (n : ℕ) (p : List Bool) (s : Tree) (rest : List Piece) → number_of t p ≡ n → subtree t p ≡ Some s → AreNumbered t (n + all_nodes s) rest
     → AreNumbered t (n + 1) (pieces_below p s ++ rest)

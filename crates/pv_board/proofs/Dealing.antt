@@ -1,5 +1,5 @@
 -- Offering the open leaves of a stage one after the other.
-use Rattle.std.proofs.Common.{◌≡◌, ℕ, zero, suc, ◌+◌, ◌-◌, ◌≤◌, Bool, true, false, List, [], ◌∷◌, ◌++◌, map, take, drop, length, refl, sym, ◌∙◌, ap, arith, subst, append_assoc}
+use Rattle.std.proofs.Common.{◌≡◌, ℕ, zero, suc, ◌+◌, ◌-◌, Bool, true, false, List, [], ◌∷◌, ◌++◌, map, take, drop, length, refl, sym, ◌∙◌, ap, arith, subst, append_assoc}
 use Rattle.pv_tree.specs.Trees.{Tree, opens}
 use Rattle.pv_board.specs.declared.mark.Mark.{Mark}
 use Rattle.pv_board.specs.declared.leaves.Leaves.{Leaves}
@@ -24,11 +24,6 @@ drop_two (suc n) [] ys = let e : suc n - 0 ≡ suc n = omega arith in sym (ap (�
 drop_two (suc n) (x ∷ xs) ys =
     let e : n - length xs ≡ suc n - suc (length xs) = omega arith in
     drop_two n xs ys ∙ ap (λ m. drop n xs ++ drop m ys) e
-
-split_count : {X : Type 0} (n : ℕ) (xs : List X) → length (take n xs) + length (drop n xs) ≡ length xs
-split_count zero xs = omega arith
-split_count (suc n) [] = omega arith
-split_count (suc n) (x ∷ xs) = let r = split_count n xs in omega (arith, r)
 
 take_count : {X : Type 0} (n : ℕ) (xs : List X) → n - length xs ≡ n - length (take n xs)
 take_count zero xs = none_less (length xs) ∙ sym (none_less (length (take 0 xs)))
@@ -89,16 +84,6 @@ pub tickets_more : (a b : Leaves) (ps qs : List (List Bool)) (p : List Bool) (ol
 tickets_more a b ps qs p old mid new e h m n =
     n ∙ ap (λ zs. zs ++ map fresh (take (units b) (p ∷ []))) m ∙ append_assoc old (map fresh (take (units a) ps)) (map fresh (take (units b) (p ∷ [])))
     ∙ ap (λ zs. old ++ zs) (sym (map_two fresh (take (units a) ps) (take (units b) (p ∷ []))) ∙ ap (map fresh) (sym (taken_two a b ps (p ∷ []) h) ∙ ap (take (units a)) (sym e)))
-
--- no more leaves are free than there were with those that were offered
-pub few_more : (a b : Leaves) (ps : List (List Bool)) → AreOffered a b ps → length b.free.items ≤ length a.free.items + length ps
-few_more a b ps h =
-    let x = ap length h.free in let y = add_count a.free.items (drop (units a) ps) in let z = split_count (units a) ps in omega (arith, x, y, z)
-
-pub few_tickets : (old new : List Mark) (u : ℕ) (ps : List (List Bool)) → new ≡ old ++ map fresh (take u ps) → length new ≤ length old + length ps
-few_tickets old new u ps e =
-    let x = ap length e in let y = add_count old (map fresh (take u ps)) in let m = map_count fresh (take u ps) in
-    let z = split_count u ps in omega (arith, x, y, m, z)
 
 -- a stage brings as many open leaves as it has
 pub leaves_count : (p : List Bool) (t : Tree) → length (leaves_at p t) ≡ length (opens t)

@@ -15,13 +15,14 @@ use Rattle.pv_tree.specs.declared.outcome.Shape.TheVariants.{Absent}
 use Rattle.pv_join.specs.Joins.{settled_side, Agree, HasPart, IsOverlaid, IsRefusal, IsFirstDisagreement, is_a_cut}
 use Rattle.pv_join.specs.declared.merge.JoinRefused.{JoinRefused}
 use Rattle.pv_join.specs.declared.merge.JoinRefused.TheVariants as refused
-use Rattle.pv_join.proofs.JoinFacts.{join_unique, join_leaf_left, graft_same, some_there}
+use Rattle.pv_join.proofs.JoinFacts.{join_unique, join_leaf_left, graft_same, some_there, outcome_leaf}
 use Rattle.pv_board.specs.Marks.{weigh, at, times}
 use Rattle.pv_board.specs.Absorbing.{part_at, filled, if_some, filling, CanFill, CanPileAll}
 use Rattle.pv_board.proofs.Paths.{at_self, weigh-append, weigh-ones}
 use Rattle.pv_board.specs.Piles.{piled, CanPile}
 use Rattle.pv_board.proofs.Growth.{weigh_cut}
 use Rattle.pv_board.proofs.Piling.{pile_weighs}
+use Rattle.pv_tree.proofs.Stacks.{height_below}
 
 abbrev low_of : (List Bool → Tree) → List Bool → Tree
 low_of g p = g (false ∷ p)
@@ -118,10 +119,6 @@ filled_within (cut to v a l r) g f h k =
     (filled_within l (low_of g) c.low (grows_low to to v v a a l r c.low c.high n) (λ p q o e m. ap (λ (z : Tree). outcome_at z (false ∷ (p ++ q))) (sym c.is) ∙ k (false ∷ p) q o e m))
     (filled_within r (high_of g) c.high (grows_high to to v v a a l r c.low c.high n) (λ p q o e m. ap (λ (z : Tree). outcome_at z (true ∷ (p ++ q))) (sym c.is) ∙ k (true ∷ p) q o e m)))
 
-outcome_leaf : (p : List Bool) → outcome_at leaf p ≡ None
-outcome_leaf [] = refl
-outcome_leaf (b ∷ p) = refl
-
 part_leaf : (p : List Bool) → part_at leaf p ≡ leaf
 part_leaf [] = refl
 part_leaf (b ∷ p) = refl
@@ -186,7 +183,7 @@ filling_out stage ps p e = ap (λ (n : ℕ). if_some n (part_at stage p)) e
 weigh_more : (f : List Bool → ℕ) (ps : List (List Bool)) (i : ℕ) (d : List Bool) → i < length ps → weigh f (take (i + 1) ps) ≡ weigh f (take i ps) + f (get_or ps i d)
 weigh_more f ps i d l = let e = ap (weigh f) (take_more ps i d l) in let w = weigh-append f (take i ps) (get_or ps i d ∷ []) in omega (arith, e, w)
 
-take_weigh : (f : List Bool → ℕ) (n : ℕ) (ps : List (List Bool)) → weigh f (take n ps) ≤ weigh f ps
+pub take_weigh : (f : List Bool → ℕ) (n : ℕ) (ps : List (List Bool)) → weigh f (take n ps) ≤ weigh f ps
 take_weigh f zero ps = omega arith
 take_weigh f (suc n) [] = omega arith
 take_weigh f (suc n) (p ∷ ps) = let r = take_weigh f n ps in omega (arith, r)
@@ -238,9 +235,6 @@ module _ (old stage : Seen) (ps : List (List Bool)) (h : CanFill old stage ps) (
 pub fill_none : (stage t : Tree) (ps : List (List Bool)) → t ≡ filled t (filling stage (take 0 ps))
 fill_none stage t ps = sym (filled_none t (filling stage (take 0 ps)) (λ p. refl))
 
-pub fill_whole : (t stage u : Tree) (ps : List (List Bool)) (n : ℕ) → u ≡ filled t (filling stage (take n ps)) → take n ps ≡ ps → u ≡ filled t (filling stage ps)
-fill_whole t stage u ps n e all = e ∙ ap (λ (qs : List (List Bool)). filled t (filling stage qs)) all
-
 -- weights that agree on a list
 pub weigh_on : (f g : List Bool → ℕ) (ps : List (List Bool)) → ((p : List Bool) → 0 < times p ps → f p ≡ g p) → weigh f ps ≡ weigh g ps
 weigh_on f g [] h = refl
@@ -283,15 +277,6 @@ leaf_refusal old over p q e o there is h = leaf_disagrees old over p q o there (
 part_is : (t : Tree) (p : List Bool) → IsSome (subtree t p) → subtree t p ≡ Some (part_at t p)
 part_is t p there = let x : (s : Tree) × (subtree t p ≡ Some s) = some_there (subtree t p) there in x.1 ∙ ap (λ (z : Tree). Some z) (sym (some_part t p x.0 x.1))
 
-part_height : (t : Tree) (p : List Bool) (s : Tree) → subtree t p ≡ Some s → length p + height s ≤ height t
-part_height t [] s e = let w : t ≡ s = cc in let h = ap height w in omega (arith, h)
-part_height (cut to v a l r) (false ∷ p) s e = let h = part_height l p s e in omega (arith, h)
-part_height (cut to v a l r) (true ∷ p) s e = let h = part_height r p s e in omega (arith, h)
-part_height leaf (b ∷ p) s e = cc
-part_height removed (b ∷ p) s e = cc
-part_height (inner to) (b ∷ p) s e = cc
-part_height (small to) (b ∷ p) s e = cc
-
 abbrev below : (List Bool → ℕ) → Tree → List Bool → ℕ
 below f t p = weigh (λ q. f (p ++ q)) (opens (part_at t p))
 
@@ -304,7 +289,7 @@ module _ (t : Tree) (ps : List (List Bool)) (room : ℕ) (h : CanPileAll t ps ro
 
   pub can_pile : (leaves : List (List Bool)) (len cap : ℕ) → height t ≤ 200 → ((f : List Bool → ℕ) → weigh f leaves ≡ weigh (λ p. weigh (λ q. f (p ++ q)) (opens (part_at t p))) (take i ps)) → len ≡ length leaves → room ≤ cap → CanPile t x x len cap
   can_pile leaves len cap high so_far size fits =
-      let d = part_height t x (part_at t x) there_now in
+      let d = height_below t x (part_at t x) there_now in
       let c = so_far (λ (q : List Bool). 1) in
       let m = more_now (below (λ (q : List Bool). 1) t) in
       let all = take_weigh (below (λ (q : List Bool). 1) t) (i + 1) ps in

@@ -35,18 +35,9 @@ graft_opens f removed (b ∷ p) s e = cc
 graft_opens f (inner to) (b ∷ p) s e = cc
 graft_opens f (small to) (b ∷ p) s e = cc
 
-zero_low : (ps : List (List Bool)) → weigh (λ (p : List Bool). 0) ps ≡ 0
+pub zero_low : (ps : List (List Bool)) → weigh (λ (p : List Bool). 0) ps ≡ 0
 zero_low [] = refl
 zero_low (p ∷ ps) = let r = zero_low ps in omega (arith, r)
-
--- how often a path stands among the open leaves, one step down
-pub times_root : (t : Tree) (to : ℕ) → times [] (opens t) ≤ 1
-times_root leaf to = omega arith
-times_root removed to = omega arith
-times_root (inner x) to = omega arith
-times_root (small x) to = omega arith
-times_root (cut x v a l r) to =
-    let w = weigh_cut (λ (p : List Bool). at p [] 1) l r in let y = zero_low (opens l) in let z = zero_low (opens r) in omega (arith, w, y, z)
 
 pub cut_root : (x : List Bool) (l r : Tree) → x ≡ [] → times x (map (λ p. false ∷ p) (opens l) ++ map (λ p. true ∷ p) (opens r)) ≡ 0
 cut_root [] l r e = let w = weigh_cut (λ (p : List Bool). at p [] 1) l r in let y = zero_low (opens l) in let z = zero_low (opens r) in omega (arith, w, y, z)

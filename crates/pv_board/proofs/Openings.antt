@@ -47,11 +47,11 @@ opened_board rule depth dims root opening budget limit p l fits size paving r t 
       for_free = omega (arith, i, g, left, free);
     }
 
-none_held : (ms : List Mark) (q : List Bool) → issued ms ≡ 0 → holds ms q ≡ 0
+pub none_held : (ms : List Mark) (q : List Bool) → issued ms ≡ 0 → holds ms q ≡ 0
 none_held [] q e = refl
 none_held (m ∷ ms) q e = absurd (omega (arith, e))
 
-none_granted : (ms : List Mark) → issued ms ≡ 0 → granted ms ≡ 0
+pub none_granted : (ms : List Mark) → issued ms ≡ 0 → granted ms ≡ 0
 none_granted [] e = refl
 none_granted (m ∷ ms) e = absurd (omega (arith, e))
 

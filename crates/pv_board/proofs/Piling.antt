@@ -36,14 +36,6 @@ open_node (inner to) e = cc
 open_node (small to) e = cc
 open_node (cut to v a l r) e = cc
 
--- what is neither open nor cut has no open leaf
-pub end_node : (p : List Bool) (t : Tree) → is_cut_shape (shape_of (Some t)) ≡ false → (shape_of (Some t) ≡ shape.OpenLeaf → ⊥) → piled p t ≡ []
-end_node p leaf e h = absurd (h refl)
-end_node p removed e h = refl
-end_node p (inner to) e h = refl
-end_node p (small to) e h = refl
-end_node p (cut to v a l r) e h = cc
-
 pub same_part : (o : Option Tree) (s t : Tree) → o ≡ Some s → o ≡ Some t → s ≡ t
 same_part o s t e f = let w : Some s ≡ Some t = sym e ∙ f in cc
 

@@ -3,15 +3,15 @@ use Rattle.std.proofs.Common.{◌≡◌, ℕ, zero, suc, ◌+◌, ◌-◌, ◌<�
 use Rattle.std.specs.Prelude.{IsSome, nat_eq}
 use Rattle.std.proofs.lemmas.Bool.Decides.{eqb_tells}
 use Rattle.pv_interval.specs.Bounds.{Bounds}
-use Rattle.pv_box.specs.Boxes.{IsBox, lower_half, upper_half}
-use Rattle.pv_tree.specs.Trees.{Tree, Seen, leaf, removed, inner, small, cut, subtree, graft, opens, box_of, settled, height, counts_of, Paves, Fits, CutsAbove, HasDepth, IsPaving}
+use Rattle.pv_box.specs.Boxes.{IsBox}
+use Rattle.pv_tree.specs.Trees.{Tree, Seen, leaf, removed, inner, small, cut, subtree, graft, opens, box_of, settled, height, counts_of, Fits, CutsAbove, HasDepth, IsPaving}
 use Rattle.pv_tree.specs.Arena.{Adds, is_a_cut}
 use Rattle.pv_tree.specs.Stages.{Rule, IsStage, Grows, full_of}
 use Rattle.pv_tree.specs.declared.outcome.Outcome.{Outcome}
 use Rattle.pv_tree.specs.declared.outcome.Outcome.TheVariants as outcome
 use Rattle.pv_tree.proofs.TreeFacts.{graft_counts, settled_one}
 use Rattle.pv_tree.proofs.Wholes.{box_length}
-use Rattle.pv_tree.proofs.StageLaws.{half_box, settled_grows, depth_from}
+use Rattle.pv_tree.proofs.StageLaws.{settled_grows, depth_from}
 use Rattle.pv_board.specs.declared.mark.Mark.{Mark}
 use Rattle.pv_board.specs.declared.leaves.Leaves.{Leaves}
 use Rattle.pv_board.specs.Marks.{weigh, holds}
@@ -19,20 +19,11 @@ use Rattle.pv_board.specs.Rules.{settled_in}
 use Rattle.pv_board.specs.Events.{fresh, free_units, next_step, leaves_at, left_over, IsSettling, HasRisen}
 use Rattle.pv_board.specs.Leaves.{marks_of, AreOpen, AreOffered, IsClosed, IsBoard, seen, children_of}
 use Rattle.pv_board.proofs.Paths.{weigh-append, weigh-map, weigh-ones}
-use Rattle.pv_board.proofs.Growth.{graft_opens}
+use Rattle.pv_board.proofs.Growth.{graft_opens, zero_low}
 use Rattle.pv_board.proofs.Fulls.{grows_box, graft_stage, stage_height, top_leaf}
 use Rattle.pv_board.proofs.Boards.{core_of}
 use Rattle.pv_board.proofs.Takes.{held_open}
-
--- a box in a paving is a box
-pub box_there : (b : List Bounds) (t : Tree) (p : List Bool) → IsBox b → Paves b t → IsBox (box_of b t p)
-box_there b t [] h q = h
-box_there b (cut to v a l r) (false ∷ p) h q = box_there (lower_half to v a) l p (half_box true to v a q.0 q.2) q.3
-box_there b (cut to v a l r) (true ∷ p) h q = box_there (upper_half to v a) r p (half_box false to v a q.0 q.2) q.4
-box_there b leaf (c ∷ p) h q = h
-box_there b removed (c ∷ p) h q = h
-box_there b (inner to) (c ∷ p) h q = h
-box_there b (small to) (c ∷ p) h q = h
+use Rattle.pv_tree.proofs.Stacks.{box_below}
 
 pub is_equal : (a b : ℕ) → true ≡ nat_eq a b → a ≡ b
 is_equal a b e = elim (eqb_tells a b) [ inl h ↦ h.1 | inr h ↦ let w : true ≡ false = e ∙ h.0 in cc ]
@@ -41,10 +32,6 @@ weigh_split : (f : List Bool → ℕ) (n : ℕ) (ps : List (List Bool)) → weig
 weigh_split f zero ps = omega arith
 weigh_split f (suc n) [] = omega arith
 weigh_split f (suc n) (p ∷ ps) = let r = weigh_split f n ps in omega (arith, r)
-
-weigh_zeros : (ps : List (List Bool)) → weigh (λ (p : List Bool). 0) ps ≡ 0
-weigh_zeros [] = refl
-weigh_zeros (p ∷ ps) = let r = weigh_zeros ps in omega (arith, r)
 
 pub graft_settled : (t : Tree) (p : List Bool) (s : Tree) → subtree t p ≡ Some leaf → settled_in (graft t p s) ≡ settled_in t + settled_in s
 graft_settled t p s e =
@@ -91,7 +78,7 @@ module _ (rule : Rule) (depth dims : ℕ) (root : List Bounds) (opening : Tree) 
     unfolding given
     grants_now =
         let m = w.closed.marks (λ (m : Mark). m.grant - 15) in let o = w.offered.marks (λ (m : Mark). m.grant - 15) in
-        let z = weigh_zeros given in let e = h.few_grants in omega (arith, m, o, z, e)
+        let z = zero_low given in let e = h.few_grants in omega (arith, m, o, z, e)
 
     pub settled_board : (steps' : ℕ) → Is p' new (used + settled_in s) steps'
     unfolding given
@@ -100,7 +87,7 @@ module _ (rule : Rule) (depth dims : ℕ) (root : List Bounds) (opening : Tree) 
         let are : AreOpen new p'.tree = subst (AreOpen new) tree open_now in
         let a = w.closed.marks (λ (m : Mark). 1) in let b = w.closed.marks (λ (m : Mark). m.grant) in
         let c = w.offered.marks (λ (m : Mark). 1) in let d = w.offered.marks (λ (m : Mark). m.grant) in
-        let z = weigh_zeros given in let u = weigh-ones given in
+        let z = zero_low given in let u = weigh-ones given in
         let l = w.closed.left in let k = w.offered.left in
         let n = h.core.conserved in let f = h.core.few in let r = h.core.room in let e = h.core.settled in
         let g : settled_in p'.tree ≡ settled_in p.tree + settled_in s = ap settled_in w.tree ∙ graft_settled p.tree t.path s is_open in
@@ -159,7 +146,7 @@ module _ (rule : Rule) (depth dims : ℕ) (root : List Bounds) (opening : Tree) 
       let same_root : box_of p.root p.tree path ≡ box_of root p.tree path = ap (λ (b : List Bounds). box_of b p.tree path) h.core.root_is in
       let same : box_of p.root p.tree path ≡ box_of root (full_of rule depth root opening 0) path = same_root ∙ grows_box root p.tree (full_of rule depth root opening 0) path h.core.stage.grows there in
       let is : rule (box_of p.root p.tree path) (depth - length path) (length path) ≡ o = ap (λ (b : List Bounds). rule b (depth - length path) (length path)) same ∙ sym due in
-      let box : IsBox (box_of p.root p.tree path) = box_there p.root p.tree path paving.box paving.paves in
+      let box : IsBox (box_of p.root p.tree path) = box_below p.root p.tree path paving.box paving.paves in
       let size : length (box_of p.root p.tree path) ≡ dims = box_length p.root p.tree path paving.paves ∙ ap length h.core.root_is ∙ h.opens_right.places in
       let laws = h.opens_right.rule_fits in
       record {
@@ -237,7 +224,7 @@ module _ (rule : Rule) (depth dims : ℕ) (root : List Bounds) (opening : Tree) 
       let same_root : box_of p.root p.tree path ≡ box_of root p.tree path = ap (λ (b : List Bounds). box_of b p.tree path) h.core.root_is in
       let same : box_of p.root p.tree path ≡ box_of root (full_of rule depth root opening 0) path = same_root ∙ grows_box root p.tree (full_of rule depth root opening 0) path h.core.stage.grows there in
       let is : st.root ≡ box_of p.root p.tree path = at_root ∙ sym same in
-      let box : IsBox (box_of p.root p.tree path) = box_there p.root p.tree path paving.box paving.paves in
+      let box : IsBox (box_of p.root p.tree path) = box_below p.root p.tree path paving.box paving.paves in
       let size : length (box_of p.root p.tree path) ≡ dims = box_length p.root p.tree path paving.paves ∙ ap length h.core.root_is ∙ h.opens_right.places in
       let grown = subst (λ (b : List Bounds). Grows st.tree (full_of rule depth b leaf (length path))) is grows in
       record {

@@ -1,31 +1,17 @@
 -- The choice of a place, in words.
-use Rattle.std.proofs.Common.{◌≡◌, ℕ, zero, suc, ◌+◌, ◌-◌, ◌%◌, ◌<◌, ◌≤◌, List, [], ◌∷◌, length, refl, sym, ◌∙◌, ap, subst, inl, inr, arith, cond, ℤ, ◌≤ℤ◌}
+use Rattle.std.proofs.Common.{◌≡◌, ℕ, zero, suc, ◌+◌, ◌-◌, ◌%◌, ◌<◌, ◌≤◌, List, [], ◌∷◌, length, refl, sym, ◌∙◌, ap, subst, inl, inr, arith, cond}
 use Rattle.std.specs.Prelude.{Option, Some, None, IsSome, IsTrue, Bool, true, false, drop, option_and_then, slice_get}
 use Rattle.std.proofs.lemmas.Bool.{true≢false}
-use Rattle.std.proofs.lemmas.Int.{ints}
-use Rattle.pv_num.specs.Extended.{Extended, NegInf, Fin, PosInf}
+use Rattle.pv_num.specs.Extended.{Extended}
 use Rattle.pv_num.specs.Order.{le}
-use Rattle.pv_num.proofs.Orders.{le-refl, le-trans, Fin-le}
+use Rattle.pv_num.proofs.Orders.{le-refl, le-trans}
 use Rattle.pv_interval.specs.Bounds.{Bounds}
 use Rattle.pv_interval.specs.Tables.{width_of}
 use Rattle.pv_box.specs.declared.choice.Candidate.{Candidate}
 use Rattle.pv_box.specs.declared.choice.Bisector.{Bisector}
 use Rattle.pv_box.specs.declared.choice.Bisector.TheVariants.{Largest, Round}
 use Rattle.pv_box.specs.Choice.{cut_of, cut_at, CanBeCut, width_at, IsNext, IsChoice, wider, widest_from, choice_of, at_or_later, first_from, or_else, choose_of}
-
-greater_of_two : (a b : ℤ) → le (Fin a) (Fin b) ≡ false → b ≤ℤ a
-greater_of_two a b e = grind (arith, ints)
-
-le-total : (a b : Extended) → le a b ≡ false → IsTrue (le b a)
-le-total NegInf NegInf e = refl
-le-total NegInf (Fin b) e = absurd (cc)
-le-total NegInf PosInf e = absurd (cc)
-le-total (Fin a) NegInf e = refl
-le-total (Fin a) (Fin b) e = Fin-le b a (greater_of_two a b e)
-le-total (Fin a) PosInf e = absurd (cc)
-le-total PosInf NegInf e = refl
-le-total PosInf (Fin b) e = refl
-le-total PosInf PosInf e = refl
+use Rattle.pv_interval.proofs.Ends.{le_of_false}
 
 not_both : (o : Option Extended) → o ≡ None → IsSome o → ⊥
 not_both o e s = none_is_not (subst IsSome e s)
@@ -95,7 +81,7 @@ best_grown i x xs (Some a) e (Some m) h = go (le m.width (width_of x)) refl
     go : (t : Bool) → le m.width (width_of x) ≡ t → Best i (x ∷ xs) (cond t (Some (record { var = i; at = a; width = width_of x })) (Some m))
     go true t = best_here i x xs a e (λ k s. le-trans (width_at xs k) m.width (width_of x) (h.widest k s) t)
     go false t = best_later i x xs m
-        (λ s. (le-total m.width (width_of x) t, λ q. true≢false (sym (subst (λ w. le m.width w ≡ true) (sym q) (le-refl m.width)) ∙ t))) h
+        (λ s. (le_of_false m.width (width_of x) t, λ q. true≢false (sym (subst (λ w. le m.width w ≡ true) (sym q) (le-refl m.width)) ∙ t))) h
 
 best_from : (i : ℕ) (xs : List Bounds) → Best i xs (widest_from i xs)
 best_from i [] = λ k. refl

@@ -186,7 +186,7 @@ pub record IsRound (B A : Extended → Type 0) (o : Option Bounds) : Type 0 wher
   pub low : B part.lo
   pub high : A part.hi
 
-if_all : (r s t : Bool) (x : Bounds) → r ≡ true → s ≡ true → t ≡ true → cond (r && (s && t)) (Some x) None ≡ Some x
+pub if_all : (r s t : Bool) (x : Bounds) → r ≡ true → s ≡ true → t ≡ true → cond (r && (s && t)) (Some x) None ≡ Some x
 if_all true true true x e f g = refl
 if_all true true false x e f g = absurd (cc)
 if_all true false t x e f g = absurd (cc)

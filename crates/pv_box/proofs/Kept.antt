@@ -14,7 +14,7 @@ use Rattle.pv_box.proofs.QHullKept.{lies_at}
 
 -- ---- Halves
 
-le_or : (a b : ℤ) → (a ≤ℤ b) ⊎ (b ≤ℤ a)
+pub le_or : (a b : ℤ) → (a ≤ℤ b) ⊎ (b ≤ℤ a)
 le_or a b = grind (arith, ints)
 
 -- an end is at least or at most a number

@@ -7,6 +7,7 @@ use Rattle.pv_box.specs.Boxes.{hull_boxes}
 use Rattle.pv_box.specs.QHull.{column, place_hull_of, places_from, q_hull_of}
 use Rattle.std.proofs.lemmas.List.Elements.{All-push}
 use Rattle.pv_interval.specs.Bounds.{Bounds}
+use Rattle.std.proofs.lemmas.Option.{same_Some}
 
 pub all_push : (n : ℕ) (bs : List (List Bounds)) (b : List Bounds) → All (λ c. length c ≡ n) bs → length b ≡ n → All (λ c. length c ≡ n) (bs ++ b ∷ [])
 all_push n bs b h g = All-push (λ c. length c ≡ n) bs b h g
@@ -16,16 +17,13 @@ hulls_length [] b = refl
 hulls_length (x ∷ a) [] = refl
 hulls_length (x ∷ a) (y ∷ b) = ap suc (hulls_length a b)
 
-some_is : {A : Type 0} (x y : A) → Some x ≡ Some y → x ≡ y
-some_is x y e = cc
-
 taken : (o : Option Bounds) (p : Option (List Bounds)) (c : List Bounds) (n : ℕ) → ((xs : List Bounds) → p ≡ Some xs → length xs ≡ n) → option_and_then (λ x. option_and_then (λ xs. Some (x ∷ xs)) p) o ≡ Some c → length c ≡ suc n
 taken None p c n h e = absurd (cc)
 taken (Some x) None c n h e = absurd (cc)
-taken (Some x) (Some xs) c n h e = ap length (sym (some_is (x ∷ xs) c e)) ∙ ap suc (h xs refl)
+taken (Some x) (Some xs) c n h e = ap length (sym (same_Some (x ∷ xs) c e)) ∙ ap suc (h xs refl)
 
 from_length : (q k n : ℕ) (bs : List (List Bounds)) (c : List Bounds) → places_from q k n bs ≡ Some c → length c ≡ n
-from_length q k zero bs c e = ap length (sym (some_is [] c e))
+from_length q k zero bs c e = ap length (sym (same_Some [] c e))
 from_length q k (suc n) bs c e = taken (place_hull_of q (column k bs)) (places_from q (k + 1) n bs) c n (λ xs. from_length q (k + 1) n bs xs) e
 
 pub q_hull_length : (q n : ℕ) (bs : List (List Bounds)) (c : List Bounds) → All (λ b. length b ≡ n) bs → 0 < length bs → q_hull_of q bs ≡ Some c → length c ≡ n

@@ -14,6 +14,7 @@ use Rattle.pv_ctc.specs.Plans.{Plan, IsFor}
 use Rattle.pv_ctc.specs.Sureness.{program_sure}
 use Rattle.pv_ctc.proofs.Keeping.{contract-keeps, sure-members}
 use Rattle.pv_ctc.proofs.Narrowing.{contract-lies}
+use Rattle.pv_hc4.proofs.Numbering.{same_number}
 
 within_some : (o : Option (List Bounds)) (b : List Bounds) → ((c : List Bounds) → o ≡ Some c → IsWithin c b) → IfSome o (λ c. IsWithin c b)
 within_some None b h = tt
@@ -33,9 +34,6 @@ are_members (Ok t) g p b h fits d e = λ s x i.
     sure-members (sides_in g) p b x (subst (λ m. AllOver m (sides_in g)) (sym d) h) (subst (λ n. IsFor n p) (sym (length-map g.graphs sides_of)) fits) i (sym e ∙ s)
 are_members (Err e) g p b h fits d k = tt
 
-some_is : (x y : ℕ) → Some x ≡ Some y → x ≡ y
-some_is x y e = cc
-
 pub no_fewer : {A E : Type 0} (r : Result A E) (n m k : ℕ) → OnErr r (RoseAtMost n (Some m) (Some k)) → OnErr r (m ≤ k)
 no_fewer (Ok a) n m k h = tt
-no_fewer (Err e) n m k h = let i = some_is k (m + h.by) h.is in omega (arith, i)
+no_fewer (Err e) n m k h = let i = same_number k (m + h.by) h.is in omega (arith, i)

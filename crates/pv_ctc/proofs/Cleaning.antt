@@ -1,5 +1,5 @@
 -- The marks after a revision.
-use Rattle.std.proofs.Common.{◌≡◌, ◌≢◌, ◌⊎◌, inl, inr, ℕ, zero, suc, ◌+◌, ◌<◌, ◌≤◌, List, [], ◌∷◌, length, refl, ap, sym, ◌∙◌, subst, arith, get_or, set, eq-eqb, eqb-true}
+use Rattle.std.proofs.Common.{◌≡◌, ◌≢◌, ◌⊎◌, inl, inr, ℕ, zero, suc, ◌+◌, ◌<◌, ◌≤◌, List, [], ◌∷◌, length, refl, ap, sym, ◌∙◌, subst, arith, get_or, set, eq-eqb}
 use Rattle.std.specs.Prelude.{Option, Some, Bool, true, false, not, ◌&&◌, ◌||◌, nat_eq, replicate}
 use Rattle.std.proofs.lemmas.Bool.{cases_eq, true≢false}
 use Rattle.std.proofs.lemmas.List.{get_or-set_other}
@@ -11,6 +11,8 @@ use Rattle.pv_ctc.specs.Revisions.{Revision, is_left_so, is_clean, revision, sam
 use Rattle.pv_ctc.proofs.Locality.{stays}
 use Rattle.pv_ctc.proofs.Marking.{unmarked, unset}
 use Rattle.pv_ctc.proofs.Sameness.{box_refl, box_not, places_refl, alike_everywhere}
+use Rattle.pv_hc4.proofs.Masks.{other_number}
+use Rattle.pv_hc4.proofs.Judging.{and_none, and_right}
 
 -- the marks so: those that there were, of the constraints with no variable whose place changed
 abbrev pub AreSpared : List Sides → List Bool → List Bool → List Bounds → List Bounds → Type 0
@@ -19,14 +21,6 @@ AreSpared ss marks now b d = (k : ℕ) → k < length ss → get_or now k false 
 pub and_second : (t u : Bool) → (t && u) ≡ true → (t ≡ true) × (u ≡ true)
 and_second true u h = (refl, h)
 and_second false u h = absurd (true≢false (sym h))
-
-and_none : (t : Bool) → (t && false) ≡ false
-and_none true = refl
-and_none false = refl
-
-and_all : (t : Bool) → (t && true) ≡ t
-and_all true = refl
-and_all false = refl
 
 -- one more constraint was looked at: its mark was taken away where a place of one of its variables changed
 abbrev pub LookedAt : List Bool → List Bool → ℕ → Bool → Type 0
@@ -49,7 +43,7 @@ more_spared ss start ms now i b d r w (inr q) done left k h l =
           let ii : i ≤ i = omega arith in
           let f : same_places 0 (side_at ss i) b d ≡ true = sym (w il) ∙ ap not q.0 in
           subst (λ j. get_or now j false ≡ (get_or start j false && same_places 0 (side_at ss j) b d)) (sym p)
-          (ap (λ x. get_or x i false) q.1 ∙ left i ii ∙ sym (ap (λ t. get_or start i false && t) f ∙ and_all (get_or start i false)))
+          (ap (λ x. get_or x i false) q.1 ∙ left i ii ∙ sym (ap (λ t. get_or start i false && t) f ∙ and_right (get_or start i false)))
       | inr p ↦ ap (λ x. get_or x k false) q.1 ∙ done k (omega (arith, p, h)) l
     ]
 
@@ -74,8 +68,8 @@ kept_clean ss made i k b o e =
     ap (λ p. (nat_eq i k && is_left_so p (same_box b)) || (is_clean ss made k && is_left_so p (same_places 0 (side_at ss k) b))) e
     ∙ ap (λ t. (nat_eq i k && t) || (is_clean ss made k && same_places 0 (side_at ss k) b b)) (box_refl b)
     ∙ ap (λ t. (nat_eq i k && true) || (is_clean ss made k && t)) (places_refl 0 (side_at ss k) b)
-    ∙ ap (λ t. t || (is_clean ss made k && true)) (and_all (nat_eq i k))
-    ∙ ap (λ t. nat_eq i k || t) (and_all (is_clean ss made k))
+    ∙ ap (λ t. t || (is_clean ss made k && true)) (and_right (nat_eq i k))
+    ∙ ap (λ t. nat_eq i k || t) (and_right (is_clean ss made k))
 
 pub changed_clean : (ss : List Sides) (made : List Revision) (i k : ℕ) (b d : List Bounds) (o : Option (List Bounds)) → o ≡ Some d → d ≢ b → is_clean ss (record { number = i; before = b; after = o } ∷ made) k ≡ (is_clean ss made k && same_places 0 (side_at ss k) b d)
 changed_clean ss made i k b d o e n =
@@ -87,13 +81,6 @@ set_here : (ms : List Bool) (i : ℕ) → i < length ms → get_or (set ms i tru
 set_here [] i h = absurd (omega arith)
 set_here (m ∷ ms) zero h = refl
 set_here (m ∷ ms) (suc i) h = set_here ms i (omega arith)
-
-other_number : (i k : ℕ) → k ≢ i → nat_eq i k ≡ false
-other_number i k n = go (nat_eq i k) refl
-  where
-    go : (t : Bool) → nat_eq i k ≡ t → nat_eq i k ≡ false
-    go true e = absurd (n (sym (eqb-true i k e)))
-    go false e = e
 
 pub marks_kept : (ss : List Sides) (marks : List Bool) (made : List Revision) (i : ℕ) (b : List Bounds) → i < length marks → revised (side_at ss i) b ≡ Some b → AreMarks ss made marks → AreMarks ss (revision i (side_at ss i) b ∷ made) (set marks i true)
 marks_kept ss marks made i b f e h k l =

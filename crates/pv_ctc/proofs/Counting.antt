@@ -1,17 +1,12 @@
 -- Tests of several parts, and how many of them hold.
-use Rattle.std.proofs.Common.{◌≡◌, ℕ, suc, ◌+◌, ◌<◌, List, ◌∷◌, length, ap, sym, ◌∙◌, arith, get_or, drop, add-one, Vec, Global}
+use Rattle.std.proofs.Common.{◌≡◌, ℕ, suc, ◌+◌, List, ◌∷◌, ap, sym, ◌∙◌, arith, Vec, Global}
 use Rattle.std.specs.Prelude.{Bool, true, false, ◌&&◌, nat_le, cond}
-use Rattle.std.proofs.Math.Seq.{drop-cons}
 use Rattle.std.proofs.lemmas.Bool.Decides.{nat_tests}
 use Rattle.pv_interval.specs.Bounds.{Bounds}
-use Rattle.pv_expr.specs.Terms.{place}
-use Rattle.pv_expr.specs.declared.constraint.Relation.TheVariants.{Eq}
 use Rattle.pv_hc4.specs.Revise.{Sides}
-use Rattle.pv_hc4.specs.Totality.{sure_of}
 use Rattle.pv_ctc.specs.declared.program.Program.{Program, Compose, Union, QInter}
-use Rattle.pv_ctc.specs.Contracting.{side_at}
 use Rattle.pv_ctc.specs.Plans.{plan_of, plans_of}
-use Rattle.pv_ctc.specs.Sureness.{program_sure, parts_sure, constraints_sure, all_true, count_true}
+use Rattle.pv_ctc.specs.Sureness.{program_sure, parts_sure, all_true, count_true}
 use Rattle.pv_ctc.proofs.Sizes.{vec_plans}
 
 pub compose_sure : (ss : List Sides) (p : Program) (v : Vec Program Global) (xs : List Program) (b : List Bounds) → p ≡ Compose v → xs ≡ v.items → program_sure ss (plan_of p) b ≡ all_true (parts_sure ss (plans_of xs) b)
@@ -23,23 +18,9 @@ union_sure ss p v xs b e f = ap (λ q. program_sure ss (plan_of q) b) e ∙ ap (
 pub qinter_sure : (ss : List Sides) (n : ℕ) (p : Program) (v : Vec Program Global) (xs : List Program) (b : List Bounds) → p ≡ QInter n v → xs ≡ v.items → program_sure ss (plan_of p) b ≡ nat_le n (count_true (parts_sure ss (plans_of xs) b))
 qinter_sure ss n p v xs b e f = ap (λ q. program_sure ss (plan_of q) b) e ∙ ap (λ ps. nat_le n (count_true (parts_sure ss ps b))) (vec_plans v xs f)
 
-pub parts_sure_step : (ss : List Sides) (ps : List Program) (k : ℕ) (p : Program) (b : List Bounds) → k < length ps → p ≡ get_or ps k p → parts_sure ss (plans_of (drop k ps)) b ≡ program_sure ss (plan_of p) b ∷ parts_sure ss (plans_of (drop (k + 1) ps)) b
-parts_sure_step ss ps k p b h e =
-    ap (λ xs. parts_sure ss (plans_of xs) b) (drop-cons ps k p h)
-    ∙ ap (λ q. program_sure ss (plan_of q) b ∷ parts_sure ss (plans_of (drop (suc k) ps)) b) (sym e)
-    ∙ ap (λ n. program_sure ss (plan_of p) b ∷ parts_sure ss (plans_of (drop n ps)) b) (sym (add-one k))
-
-pub constraints_sure_step : (ss : List Sides) (i : ℕ) (b : List Bounds) → i < length ss → constraints_sure (drop i ss) b ≡ sure_of (side_at ss i) b ∷ constraints_sure (drop (i + 1) ss) b
-constraints_sure_step ss i b h =
-    ap (λ xs. constraints_sure xs b) (drop-cons ss i (record { left = place 0; relation = Eq; right = place 0 }) h)
-    ∙ ap (λ n. sure_of (side_at ss i) b ∷ constraints_sure (drop n ss) b) (sym (add-one i))
-
 -- the first of some tests holds, so all of them do where the others do
 pub all_more : (ts later : List Bool) (t o : Bool) → ts ≡ t ∷ later → t ≡ true → all_true ts ≡ o → all_true later ≡ o
 all_more ts later t o e h g = sym (ap all_true e ∙ ap (λ u. u && all_true later) h) ∙ g
-
-pub all_stop : (ts later : List Bool) (t o : Bool) → ts ≡ t ∷ later → t ≡ false → all_true ts ≡ o → o ≡ false
-all_stop ts later t o e h g = sym g ∙ ap all_true e ∙ ap (λ u. u && all_true later) h
 
 -- one test fewer is wanted where the first one holds
 pub count_yes : (ts later : List Bool) (t o : Bool) (n m : ℕ) → ts ≡ t ∷ later → t ≡ true → n ≡ suc m → nat_le n (count_true ts) ≡ o → nat_le m (count_true later) ≡ o
@@ -54,9 +35,3 @@ pub count_no : (ts later : List Bool) (t o : Bool) (n : ℕ) → ts ≡ t ∷ la
 count_no ts later t o n e h g =
     let c : count_true ts ≡ count_true later = ap count_true e ∙ ap (λ u. cond u 1 0 + count_true later) h ∙ omega arith in
     sym (ap (nat_le n) c) ∙ g
-
-pub count_enough : (ts : List Bool) (o : Bool) (n : ℕ) → n ≡ 0 → nat_le n (count_true ts) ≡ o → o ≡ true
-count_enough ts o n h g = sym g ∙ ap (λ i. nat_le i (count_true ts)) h ∙ le_zero (count_true ts)
-  where
-    le_zero : (j : ℕ) → nat_le 0 j ≡ true
-    le_zero j = grind (arith, nat_tests)

@@ -1,5 +1,5 @@
 -- What is read of what is due.
-use Rattle.std.proofs.Common.{◌≡◌, ℕ, suc, ◌<◌, ◌≤◌, true, false, cond, nat_lt, List, [], ◌∷◌, ◌++◌, refl, ap, sym, ◌∙◌, subst, arith, append_assoc, Some, None, Result, Ok, Err, IfErr}
+use Rattle.std.proofs.Common.{◌≡◌, ℕ, ◌<◌, ◌≤◌, true, false, cond, nat_lt, List, [], ◌∷◌, ◌++◌, refl, ap, sym, ◌∙◌, subst, arith, append_assoc, Some, None, Result, Ok, Err, IfErr}
 use Rattle.std.specs.Result.{IsErrAnd}
 use Rattle.std.proofs.lemmas.Bool.Decides.{nat_tests}
 use Rattle.pv_ctc.specs.declared.token.Word.{Word as Name}
@@ -8,8 +8,8 @@ use Rattle.pv_ctc.specs.declared.token.Token.TheVariants.{Word, Number, Open, Cl
 use Rattle.pv_ctc.specs.declared.reading.ProgramRefused.{ProgramRefused}
 use Rattle.pv_ctc.specs.declared.reading.ProgramRefused.TheVariants as refused
 use Rattle.pv_ctc.specs.Symbols.{Placed}
-use Rattle.pv_ctc.specs.Refusals.{Due, Counted, exactly, a_program, a_number, more_programs, is_mark, in_range, due_after, counted_due, arguments_due, named_with, in_front, met, refusal}
-use Rattle.pv_ctc.specs.Taking.{Took, Stopped, NoComma}
+use Rattle.pv_ctc.specs.Refusals.{Due, Counted, exactly, a_program, a_number, is_mark, in_range, due_after, counted_due, arguments_due, named_with, in_front, met, refusal}
+use Rattle.pv_ctc.specs.Taking.{Took, Stopped}
 
 -- an error is passed on
 pub passed : {A : Type 0} (r : Result A ProgramRefused) (e : ProgramRefused) (P : ProgramRefused → Type 0) → IsErrAnd r (λ x. x ≡ e) → P e → IfErr r P
@@ -29,10 +29,6 @@ stops_behind count count' named named' due now ps ps' (refused.Bad byte) same t 
 pub then_took : (count count' named named' named'' : ℕ) (due now later : List Due) (ps ps' ps'' : List Placed) → count' ≡ count → Took count due named ps now named' ps' → Took count' now named' ps' later named'' ps'' → Took count due named ps later named'' ps''
 then_took count count' named named' named'' due now later ps ps' ps'' same t u =
     λ rest. t rest ∙ ap (λ k. refusal ps' k named' (now ++ rest)) (sym same) ∙ u rest ∙ ap (λ k. refusal ps'' k named'' (later ++ rest)) same
-
--- what was taken leaves more due behind as it is
-pub took_more : (count named named' : ℕ) (due now more : List Due) (ps ps' : List Placed) → Took count due named ps now named' ps' → Took count (due ++ more) named ps (now ++ more) named' ps'
-took_more count named named' due now more ps ps' t = λ rest. ap (refusal ps count named) (append_assoc due more rest) ∙ t (more ++ rest) ∙ sym (ap (refusal ps' count named') (append_assoc now more rest))
 
 -- a mark that is another one than what is due
 pub other_mark : (count named : ℕ) (u t : Token) (at : ℕ) (before after : List Placed) → before ≡ record { place = at; token = t } ∷ after → is_mark u u ≡ true → (t ≡ u → ⊥) → Stopped count (exactly u ∷ []) named before (refused.Bad at)
@@ -82,21 +78,3 @@ no_word count named t at before after e h = λ rest. ap (λ ps. refusal ps count
     none : (t : Token) → ((w : Name) → t ≡ Word w → 256 ≤ named) → due_after count named a_program t ≡ None
     none (Word w) h = let l : 256 ≤ named = h w refl in let f : nat_lt named 256 ≡ false = grind (arith, nat_tests) in ap (λ b. cond b (Some (exactly Open ∷ arguments_due count w)) None) f
     none t h = refl
-
--- a list with enough programs ends as its parenthesis does
-pub list_ends : (count named place : ℕ) (ps : List Placed) → NoComma place ps → Took count (more_programs 0 ∷ []) named ps (exactly Close ∷ []) named ps
-list_ends count named place [] h = absurd h
-list_ends count named place (p ∷ ps) h = λ rest. cases rest p.token h.1
-  where
-    cases : (rest : List Due) (t : Token) → (t ≡ Comma → ⊥) → met (in_front (due_after count named (more_programs 0) t) rest) p.place (λ now. refusal ps count (named_with t named) now) ≡ met (in_front (due_after count named (exactly Close) t) rest) p.place (λ now. refusal ps count (named_with t named) now)
-    cases rest Comma n = absurd (n refl)
-    cases rest t n = refl
-
--- a list with too few programs is refused at what is no comma
-pub list_short : (count named place k : ℕ) (ps : List Placed) → NoComma place ps → Stopped count (more_programs (suc k) ∷ []) named ps (refused.Bad place)
-list_short count named place k [] h = absurd h
-list_short count named place k (p ∷ ps) h = λ rest. cases rest p.token h.1 ∙ ap Some h.0
-  where
-    cases : (rest : List Due) (t : Token) → (t ≡ Comma → ⊥) → met (in_front (due_after count named (more_programs (suc k)) t) rest) p.place (λ now. refusal ps count (named_with t named) now) ≡ Some p.place
-    cases rest Comma n = absurd (n refl)
-    cases rest t n = refl

@@ -37,7 +37,7 @@ count_no_fewer (true ∷ ts) (false ∷ us) h = let k = count_no_fewer ts us h.1
 count_no_fewer (false ∷ ts) (true ∷ us) h = absurd (let f = h.0 refl in cc)
 count_no_fewer (false ∷ ts) (false ∷ us) h = let k = count_no_fewer ts us h.1 in omega arith
 
-more_enough : (q m n : ℕ) → m ≤ n → nat_le q m ≡ true → nat_le q n ≡ true
+pub more_enough : (q m n : ℕ) → m ≤ n → nat_le q m ≡ true → nat_le q n ≡ true
 more_enough q m n h e = grind (arith, nat_tests)
 
 constraints_inherited : (n : ℕ) (ss : List Sides) (b c : List Bounds) → AllOver n ss → IsBox b → AreWithin b c → AreNoFewer (constraints_sure ss b) (constraints_sure ss c)

@@ -9,16 +9,14 @@ use Rattle.pv_hc4.specs.Graphs.{IsAnswer}
 use Rattle.pv_hc4.specs.declared.revised.Revised.{Revised}
 use Rattle.pv_hc4.specs.declared.revised.Revised.TheVariants.{Kept, Changed, Empty}
 use Rattle.pv_hc4.proofs.Revising.{came}
-
-some_is : {A : Type 0} (x y : A) → Some x ≡ Some y → x ≡ y
-some_is x y e = cc
+use Rattle.std.proofs.lemmas.Option.{same_Some}
 
 places_length : (i : ℕ) (ts : List Target) (b c : List Bounds) → places_from i ts b ≡ Some c → length c ≡ length b
-places_length i ts [] c e = ap length (sym (some_is [] c e))
+places_length i ts [] c e = ap length (sym (same_Some [] c e))
 places_length i ts (x ∷ b) c e =
     let f = came (place_of i ts x) (λ y. chain (places_from (i + 1) ts b) (λ c. Some (y ∷ c))) c e in
     let g = came (places_from (i + 1) ts b) (λ c. Some (f.from ∷ c)) c f.then_is in
-    ap length (sym (some_is (f.from ∷ g.from) c g.then_is)) ∙ ap suc (places_length (i + 1) ts b g.from g.first)
+    ap length (sym (same_Some (f.from ∷ g.from) c g.then_is)) ∙ ap suc (places_length (i + 1) ts b g.from g.first)
 
 pub revised_length : (s : Sides) (b c : List Bounds) → revised s b ≡ Some c → length c ≡ length b
 revised_length s b c e =

@@ -130,14 +130,6 @@ digits_spelled ds a some lead small = sym (decimal-digits_value (numerals_by_val
     alone (b ∷ []) l e = refl
     alone (b ∷ c ∷ xs) l e = absurd (grind (arith, nat_tests))
 
-pub leads_is : (ds : List ℕ) (x : Bool) → (x ≡ true → (1 < length ds) × (get_or ds 0 0 ≡ 48)) → (x ≡ false → 1 < length ds → get_or ds 0 0 ≡ 48 → ⊥) → x ≡ leads_with_zero ds
-leads_is [] true h g = absurd (omega (arith, (h refl).0))
-leads_is [] false h g = refl
-leads_is (b ∷ []) true h g = absurd (omega (arith, (h refl).0))
-leads_is (b ∷ []) false h g = refl
-leads_is (b ∷ c ∷ ds) true h g = let e = (h refl).1 in grind (arith, nat_tests)
-leads_is (b ∷ c ∷ ds) false h g = let l : 1 < length (b ∷ c ∷ ds) = omega arith in let n = g refl l in grind (arith, nat_tests, n)
-
 pub small_digits : (ds : List ℕ) (n : ℕ) → leads_with_zero ds ≡ false → n ≡ digits_value 10 ds → n < 2 ^ 32 → Number n ≡ digits_token ds
 unfolding digits_token
 small_digits ds n l e h =

@@ -10,16 +10,11 @@ use Rattle.pv_hc4.specs.Forward.{forward_of, unary_of, binary_of}
 use Rattle.pv_hc4.specs.Revise.{Target, back_1, back_2, joined, targets_of, place_of, places_from, Sides, related_of, both_targets, revised}
 use Rattle.pv_hc4.proofs.Revising.{came}
 use Rattle.pv_ctc.specs.Uses.{has_place, has_variable}
-
-some_is : {A : Type 0} (x y : A) → Some x ≡ Some y → x ≡ y
-some_is x y e = cc
-
-chain_each : {A B : Type 0} (o : Option A) (f g : A → Option B) → ((x : A) → f x ≡ g x) → chain o f ≡ chain o g
-chain_each None f g h = refl
-chain_each (Some x) f g h = h x
+use Rattle.std.proofs.lemmas.Option.{same_Some}
+use Rattle.pv_hc4.proofs.Places.{chain_cong}
 
 chain_same : {A B : Type 0} (o p : Option A) (f g : A → Option B) → o ≡ p → ((x : A) → f x ≡ g x) → chain o f ≡ chain p g
-chain_same o p f g e h = ap (λ q. chain q f) e ∙ chain_each p f g h
+chain_same o p f g e h = ap (λ q. chain q f) e ∙ chain_cong p f g h
 
 pub or_first : (s t : Bool) → s ≡ true → (s || t) ≡ true
 or_first s t h = ap (λ u. u || t) h
@@ -45,7 +40,7 @@ targets_same (constant p q) b d z h = refl
 targets_same (place j) b d z h = refl
 targets_same (one u t) b d z h =
     chain_same (forward_of b t) (forward_of d t) (λ x. chain (back_1 u z x) (λ y. targets_of b t y)) (λ x. chain (back_1 u z x) (λ y. targets_of d t y))
-    (forward_same t b d h) (λ x. chain_each (back_1 u z x) (λ y. targets_of b t y) (λ y. targets_of d t y) (λ y. targets_same t b d y h))
+    (forward_same t b d h) (λ x. chain_cong (back_1 u z x) (λ y. targets_of b t y) (λ y. targets_of d t y) (λ y. targets_same t b d y h))
 targets_same (two o t u) b d z h =
     let l = λ (i : ℕ) (k : has_place i t ≡ true). h i (or_first (has_place i t) (has_place i u) k) in
     let r = λ (i : ℕ) (k : has_place i u ≡ true). h i (or_second (has_place i t) (has_place i u) k) in
@@ -57,7 +52,7 @@ targets_same (two o t u) b d z h =
     (λ y. chain (back_2 o z x y) (λ p. joined (targets_of b t p.0) (targets_of b u p.1)))
     (λ y. chain (back_2 o z x y) (λ p. joined (targets_of d t p.0) (targets_of d u p.1)))
     (forward_same u b d r)
-    (λ y. chain_each (back_2 o z x y) (λ p. joined (targets_of b t p.0) (targets_of b u p.1)) (λ p. joined (targets_of d t p.0) (targets_of d u p.1))
+    (λ y. chain_cong (back_2 o z x y) (λ p. joined (targets_of b t p.0) (targets_of b u p.1)) (λ p. joined (targets_of d t p.0) (targets_of d u p.1))
     (λ p. joined_same (targets_of b t p.0) (targets_of d t p.0) (targets_of b u p.1) (targets_of d u p.1) (targets_same t b d p.0 l) (targets_same u b d p.1 r))))
 
 -- the variables of all targets have a mark
@@ -128,7 +123,7 @@ all_same s b d h =
     (λ x. chain_same (forward_of b s.right) (forward_of d s.right)
     (λ y. chain (related_of s.relation x y) (λ p. both_targets b s p)) (λ y. chain (related_of s.relation x y) (λ p. both_targets d s p))
     (forward_same s.right b d r)
-    (λ y. chain_each (related_of s.relation x y) (λ p. both_targets b s p) (λ p. both_targets d s p)
+    (λ y. chain_cong (related_of s.relation x y) (λ p. both_targets b s p) (λ p. both_targets d s p)
     (λ p. joined_same (targets_of b s.left p.0) (targets_of d s.left p.0) (targets_of b s.right p.1) (targets_of d s.right p.1) (targets_same s.left b d p.0 l) (targets_same s.right b d p.1 r))))
 
 all_marked : (s : Sides) (b : List Bounds) → MarkedSome (λ i. has_variable i s) (all_targets s b)
@@ -159,7 +154,7 @@ places_stay f i ts (x ∷ b) [] h l a e = absurd (omega arith)
 places_stay f i ts (x ∷ b) (y ∷ d) h l a e =
     let v = came (place_of i ts x) (λ y. chain (places_from (i + 1) ts b) (λ c. Some (y ∷ c))) (x ∷ b) e in
     let w = came (places_from (i + 1) ts b) (λ c. Some (v.from ∷ c)) (x ∷ b) v.then_is in
-    let same : v.from ∷ w.from ≡ x ∷ b = some_is (v.from ∷ w.from) (x ∷ b) w.then_is in
+    let same : v.from ∷ w.from ≡ x ∷ b = same_Some (v.from ∷ w.from) (x ∷ b) w.then_is in
     let here : place_of i ts x ≡ Some x = v.first ∙ ap Some (let p : v.from ≡ x = cc in p) in
     let there : places_from (i + 1) ts b ≡ Some b = w.first ∙ ap Some (let p : w.from ≡ b = cc in p) in
     let i0 : i ≡ i + 0 = omega arith in
@@ -178,7 +173,3 @@ stays s b d l a e =
 pub or_assoc : (a b c : Bool) → ((a || b) || c) ≡ (a || (b || c))
 or_assoc true b c = refl
 or_assoc false b c = refl
-
-pub or_none : (a : Bool) → (a || false) ≡ a
-or_none true = refl
-or_none false = refl

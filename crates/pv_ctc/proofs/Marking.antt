@@ -3,9 +3,8 @@ use Rattle.std.proofs.Common.{◌≡◌, ◌≢◌, ◌⊎◌, ℕ, zero, suc, �
 use Rattle.pv_interval.specs.Bounds.{everything}
 use Rattle.pv_hc4.specs.Chain.{at}
 use Rattle.pv_ctc.specs.Uses.{AreUses, HaveUses, AreAlikeFor, has_variable}
-use Rattle.pv_ctc.proofs.Locality.{stays}
 use Rattle.std.specs.Prelude.{Some, Bool, true, false, replicate}
-use Rattle.std.proofs.lemmas.Bool.{cases_eq, cases_lt, true≢false}
+use Rattle.std.proofs.lemmas.Bool.{cases_eq, true≢false}
 use Rattle.std.proofs.lemmas.List.{get_or-set_other}
 use Rattle.pv_interval.specs.Bounds.{Bounds}
 use Rattle.pv_hc4.specs.Revise.{Sides, revised}
@@ -61,34 +60,7 @@ same_place : (s : Sides) (u : List Bool) (entry b d : List Bounds) → AreUses u
 same_place s u entry b d w l m t a i k (inl h) = sym (ap (λ x. at x i) t) ∙ at_take entry (length d) i h ∙ a i h (w i (omega arith) ∙ k)
 same_place s u entry b d w l m t a i k (inr h) = beyond b i (omega arith) ∙ sym (beyond d i h)
 
--- a mark stays where no place of the constraint's variables changed
-pub mark_stays : (s : Sides) (u : List Bool) (entry b d : List Bounds) → AreUses u s → length d ≤ 12 → length b ≡ length d → take (length d) entry ≡ b → AreAlikeFor u entry d → revised s b ≡ Some b → revised s d ≡ Some d
-mark_stays s u entry b d w l m t a e = stays s b d m (λ i k. same_place s u entry b d w l m t a i k (cases_lt i (length d))) e
-
 pub unset : (ms : List Bool) (i : ℕ) → get_or (set ms i false) i false ≡ false
 unset [] i = refl
 unset (m ∷ ms) zero = refl
 unset (m ∷ ms) (suc i) = unset ms i
-
--- one more constraint was looked at: its mark was taken away, or it would keep the new box as it kept the old one
-pub more_done : (ss : List Sides) (ms now : List Bool) (i : ℕ) (e b : List Bounds) → (now ≡ set ms i false) ⊎ ((now ≡ ms) × (i < length ss → revised (side_at ss i) e ≡ Some e → revised (side_at ss i) b ≡ Some b)) → ((k : ℕ) → k < i → k < length ss → get_or ms k false ≡ true → revised (side_at ss k) b ≡ Some b) → ((k : ℕ) → i ≤ k → k < length ss → get_or ms k false ≡ true → revised (side_at ss k) e ≡ Some e) → (k : ℕ) → k < i + 1 → k < length ss → get_or now k false ≡ true → revised (side_at ss k) b ≡ Some b
-more_done ss ms now i e b (inl q) d f k h l t =
-    elim (cases_eq k i) [
-      | inl p ↦ absurd (true≢false (sym t ∙ ap (λ x. get_or x k false) q ∙ ap (λ j. get_or (set ms i false) j false) p ∙ unset ms i))
-      | inr p ↦ d k (omega (arith, p)) l (sym (ap (λ x. get_or x k false) q ∙ get_or-set_other ms i k false false p) ∙ t)
-    ]
-more_done ss ms now i e b (inr q) d f k h l t =
-    elim (cases_eq k i) [
-      | inl p ↦
-          let il : i < length ss = omega arith in
-          let it : get_or ms i false ≡ true = ap (λ j. get_or ms j false) (sym p) ∙ sym (ap (λ x. get_or x k false) q.0) ∙ t in
-          let ii : i ≤ i = omega arith in
-          subst (λ j. revised (side_at ss j) b ≡ Some b) (sym p) (q.1 il (f i ii il it))
-      | inr p ↦ d k (omega (arith, p)) l (sym (ap (λ x. get_or x k false) q.0) ∙ t)
-    ]
-
-pub more_left : (ss : List Sides) (ms now : List Bool) (i : ℕ) (e : List Bounds) → (now ≡ set ms i false) ⊎ (now ≡ ms) → ((k : ℕ) → i ≤ k → k < length ss → get_or ms k false ≡ true → revised (side_at ss k) e ≡ Some e) → (k : ℕ) → i + 1 ≤ k → k < length ss → get_or now k false ≡ true → revised (side_at ss k) e ≡ Some e
-more_left ss ms now i e (inl q) f k h l t =
-    let p : k ≢ i = λ r. absurd (omega arith) in
-    f k (omega arith) l (sym (ap (λ x. get_or x k false) q ∙ get_or-set_other ms i k false false p) ∙ t)
-more_left ss ms now i e (inr q) f k h l t = f k (omega arith) l (sym (ap (λ x. get_or x k false) q) ∙ t)

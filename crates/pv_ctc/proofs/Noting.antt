@@ -1,5 +1,5 @@
 -- What is known stays true.
-use Rattle.std.proofs.Common.{◌≡◌, ◌⊎◌, inl, inr, ℕ, zero, suc, ◌+◌, ◌<◌, ◌≤◌, List, [], ◌∷◌, length, refl, ap, sym, ◌∙◌, subst, arith, get_or, eqb-true}
+use Rattle.std.proofs.Common.{◌≡◌, ◌⊎◌, inl, inr, ℕ, ◌+◌, ◌<◌, ◌≤◌, List, length, refl, ap, sym, ◌∙◌, subst, arith, eqb-true}
 use Rattle.std.specs.Prelude.{Result, Ok, Err, IfOk, OnErr, Option, Some, Bool, true, false, not, ◌&&◌, ◌||◌, nat_eq}
 use Rattle.std.proofs.lemmas.Bool.{cases_lt, cases_eq, true≢false}
 use Rattle.pv_interval.specs.Bounds.{Bounds}
@@ -27,7 +27,6 @@ use Rattle.pv_ctc.specs.Facts.{IsClean, Knows, IsPartAt, IsNoted}
 use Rattle.pv_ctc.specs.Members.{AllOver}
 use Rattle.pv_ctc.specs.Steps.{IsStep, IsSoFar}
 use Rattle.pv_ctc.specs.Uses.{has_place, has_variable}
-use Rattle.pv_ctc.specs.Users.{no_marks, AreUsers}
 use Rattle.pv_ctc.specs.declared.known.Known.{Known}
 use Rattle.pv_ctc.proofs.Locality.{forward_same, or_first, or_second, stays}
 use Rattle.pv_ctc.proofs.Marking.{beyond}
@@ -143,20 +142,9 @@ known_part n ss known none b d o i w m h = record {
   clean = λ k l e. absurd (true≢false (sym e ∙ m k));
 }
 
-pub known_same : (ss : List Sides) (known : Known) (b d : List Bounds) → d ≡ b → Knows ss known b → Knows ss known d
-known_same ss known b d e h = subst (Knows ss known) (sym e) h
-
 -- ---- the users of a variable
 
-get_or_any : (xs : List Marks) (i : ℕ) (d e : Marks) → i < length xs → get_or xs i d ≡ get_or xs i e
-get_or_any [] i d e h = absurd (omega arith)
-get_or_any (x ∷ xs) zero d e h = refl
-get_or_any (x ∷ xs) (suc i) d e h = get_or_any xs i d e (omega arith)
-
-pub user_at : (users : List Marks) (ss : List Sides) (v k : ℕ) (r : Marks) → v < 12 → v < length users → k < length ss → AreUsers users ss → r ≡ get_or users v r → is_marked r k ≡ has_variable v (side_at ss k)
-user_at users ss v k r w i l h e = ap (λ m. is_marked m k) (e ∙ get_or_any users v r no_marks i) ∙ h v k w l
-
-and_first : (t u : Bool) → (t && u) ≡ true → t ≡ true
+pub and_first : (t u : Bool) → (t && u) ≡ true → t ≡ true
 and_first true u h = refl
 and_first false u h = absurd (true≢false (sym h))
 
@@ -194,11 +182,6 @@ more_spared ss clean old now users changed v (inr q) h k w l i m t =
       | inl p ↦ ap (λ j. has_variable j (side_at ss k)) p ∙ sym (q.1 k l) ∙ and_not (is_marked old k) (is_marked users k) both
       | inr p ↦ h k w l (omega (arith, p, i)) (and_first (is_marked old k) (not (is_marked users k)) both) t
     ]
-
-pub still_marked : (clean old now users : Marks) → (now ≡ old) ⊎ ((k : ℕ) → is_marked now k ≡ (is_marked old k && not (is_marked users k)))
-    → ((k : ℕ) → is_marked old k ≡ true → is_marked clean k ≡ true) → (k : ℕ) → is_marked now k ≡ true → is_marked clean k ≡ true
-still_marked clean old now users (inl q) h k m = h k (ap (λ x. is_marked x k) (sym q) ∙ m)
-still_marked clean old now users (inr q) h k m = h k (and_first (is_marked old k) (not (is_marked users k)) (sym (q k) ∙ m))
 
 -- ---- answers
 

@@ -197,10 +197,6 @@ turned_without_memory ss start n m marks b now next all e h r =
     let f : length w.made ≤ length all.made = subst (λ (p : Passage). length w.made ≤ length p.made) (sym (passage_is n m ss h.made b e) ∙ h.rest) g in
     rose_fewer (length w.made) (length all.made) start next f r
 
-pub turns_over : (ss : List Sides) (start : Option ℕ) (n : ℕ) (marks : List Bool) (b : List Bounds) (now : Option ℕ) (all : Passage) → n ≡ 0 → TurnsSoFar ss start n marks b now all → now ≡ raised start (length all.made)
-turns_over ss start n marks b now all e h =
-    h.count ∙ ap (λ (p : Passage). raised start (length p.made)) (sym (ap (λ k. passage k ss h.made b) e) ∙ h.rest)
-
 pub clean_after : (ss : List Sides) (marks : List Bool) (b : List Bounds) (r : Revised) → r ≡ Changed → (r ≡ Empty) ⊎ AreClean ss marks b → AreClean ss marks b
 clean_after ss marks b r c (inl e) = absurd (cc)
 clean_after ss marks b r c (inr h) = h

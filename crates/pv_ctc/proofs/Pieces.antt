@@ -1,12 +1,12 @@
 -- Pieces of a text.
-use Rattle.std.proofs.Common.{◌≡◌, ℕ, zero, suc, ◌+◌, ◌-◌, ◌≤◌, List, [], ◌∷◌, ◌++◌, length, take, drop, refl, ap, sym, ◌∙◌, arith, append_assoc, append-nil}
+use Rattle.std.proofs.Common.{◌≡◌, ℕ, zero, suc, ◌+◌, ◌-◌, ◌≤◌, List, [], ◌∷◌, ◌++◌, length, take, drop, ap, sym, ◌∙◌, arith, append_assoc, append-nil}
 use Rattle.std.proofs.Math.Seq.{drop-nil}
 use Rattle.std.proofs.lemmas.List.{take-append-drop}
 use Rattle.std.specs.Prelude.{codes, decimal}
 use Rattle.pv_ctc.specs.declared.token.Token.{Token}
 use Rattle.pv_ctc.specs.declared.token.Token.TheVariants as token
 use Rattle.pv_ctc.specs.declared.program.Program.{Program}
-use Rattle.pv_ctc.specs.Plans.{Plan, hc4, compose, union, qinter, fix, prop, plan_of, plans_of}
+use Rattle.pv_ctc.specs.Plans.{compose, union, qinter, plan_of, plans_of}
 use Rattle.pv_ctc.specs.Texts.{program_text, parts_text, open_text, comma_text}
 use Rattle.pv_ctc.specs.declared.program.Program.{Row_of-Program, items-the_row-Program}
 use Rattle.pv_ctc.specs.Plans.{plans_in}
@@ -33,15 +33,6 @@ stands token.Close piece before after e s = e ∙ ap (λ x. x ++ after) s
 stands token.Comma piece before after e s = e ∙ ap (λ x. x ++ after) s
 stands token.Bad piece before after e s = tt
 stands token.End piece before after e s = absurd s
-
--- a program's text is its text up to the last parenthesis, and that
-pub closed_text : (p : Plan) → program_text p ≡ open_text p ++ codes ")"
-closed_text (hc4 i) = refl
-closed_text (compose ps) = refl
-closed_text (union ps) = refl
-closed_text (qinter q ps) = refl
-closed_text (fix n p) = refl
-closed_text (prop n) = refl
 
 parts_more_from : (i : ℕ) (ps : List Program) (p : Program) → parts_text i (plans_of (ps ++ p ∷ [])) ≡ parts_text i (plans_of ps) ++ comma_text (i + length ps) ++ program_text (plan_of p)
 parts_more_from i [] p = let e : i ≡ i + 0 = omega arith in ap (λ m. comma_text m ++ program_text (plan_of p) ++ []) e ∙ append-nil (comma_text (i + 0) ++ program_text (plan_of p))

@@ -1,7 +1,7 @@
 -- Tests for the same intervals, boxes and places of variables.
 use Rattle.std.proofs.Common.{◌≡◌, ◌≢◌, ◌⊎◌, inl, inr, ℕ, zero, suc, ◌+◌, ◌<◌, ◌≤◌, List, [], ◌∷◌, length, take, refl, ap, sym, ◌∙◌, subst, arith}
 use Rattle.std.specs.Prelude.{Bool, true, false, not, ◌&&◌, ◌||◌, IsFalse, ◌↔◌}
-use Rattle.std.proofs.lemmas.Bool.{true≢false, cases_lt}
+use Rattle.std.proofs.lemmas.Bool.{true≢false, cases_lt, and_from}
 use Rattle.pv_num.proofs.Orders.{le-refl, le-antisym}
 use Rattle.pv_interval.specs.Bounds.{Bounds}
 use Rattle.pv_hc4.specs.Chain.{at}
@@ -15,9 +15,6 @@ both : (p r : Bool) → (p && r) ≡ true → (p ≡ true) × (r ≡ true)
 both true r h = (refl, h)
 both false r h = absurd (true≢false (sym h))
 
-pub and_true : (p r : Bool) → p ≡ true → r ≡ true → (p && r) ≡ true
-and_true p r e h = ap (λ t. t && r) e ∙ h
-
 pub interval_is : (x y : Bounds) → same_interval x y ≡ true → x ≡ y
 interval_is x y h =
     let p = both _ _ h in
@@ -26,7 +23,7 @@ interval_is x y h =
     same_bounds x y (le-antisym x.lo y.lo l.0 l.1) (le-antisym x.hi y.hi u.0 u.1)
 
 interval_refl : (x : Bounds) → same_interval x x ≡ true
-interval_refl x = and_true _ _ (and_true _ _ (le-refl x.lo) (le-refl x.lo)) (and_true _ _ (le-refl x.hi) (le-refl x.hi))
+interval_refl x = and_from _ _ (and_from _ _ (le-refl x.lo) (le-refl x.lo)) (and_from _ _ (le-refl x.hi) (le-refl x.hi))
 
 pub box_is : (b c : List Bounds) → same_box b c ≡ true → b ≡ c
 box_is [] [] h = refl
@@ -36,7 +33,7 @@ box_is (x ∷ b) (y ∷ c) h = let p = both _ _ h in ap (λ z. z ∷ b) (interva
 
 pub box_refl : (b : List Bounds) → same_box b b ≡ true
 box_refl [] = refl
-box_refl (x ∷ b) = and_true _ _ (interval_refl x) (box_refl b)
+box_refl (x ∷ b) = and_from _ _ (interval_refl x) (box_refl b)
 
 pub box_not : (b c : List Bounds) → c ≢ b → same_box b c ≡ false
 box_not b c n = go (same_box b c) refl
@@ -47,7 +44,7 @@ box_not b c n = go (same_box b c) refl
 
 pub places_refl : (i : ℕ) (s : Sides) (b : List Bounds) → same_places i s b b ≡ true
 places_refl i s [] = refl
-places_refl i s (x ∷ b) = and_true _ _ (or_later (not (has_variable i s)) (same_interval x x) (interval_refl x)) (places_refl (i + 1) s b)
+places_refl i s (x ∷ b) = and_from _ _ (or_later (not (has_variable i s)) (same_interval x x) (interval_refl x)) (places_refl (i + 1) s b)
   where
     or_later : (t u : Bool) → u ≡ true → (t || u) ≡ true
     or_later true u e = refl
@@ -83,7 +80,7 @@ from_alike i s (x ∷ b) [] l h = absurd (omega arith)
 from_alike i s (x ∷ b) (y ∷ d) l h =
     let z : i ≡ i + 0 = omega arith in
     let m : length b ≡ length d = omega arith in
-    and_true _ _ (there_same (has_variable i s) x y (λ v. h 0 (omega arith) (ap (λ n. has_variable n s) (sym z) ∙ v)))
+    and_from _ _ (there_same (has_variable i s) x y (λ v. h 0 (omega arith) (ap (λ n. has_variable n s) (sym z) ∙ v)))
     (from_alike (i + 1) s b d m (λ j k v. let w : i + suc j ≡ (i + 1) + j = omega arith in h (suc j) (omega arith) (ap (λ n. has_variable n s) w ∙ v)))
 
 -- places beyond both boxes count as the same

@@ -13,6 +13,7 @@ use Rattle.pv_ctc.proofs.Locality.{stays}
 use Rattle.pv_ctc.proofs.Passing.{turn_is, turn_revised, drop_all, unless_left, unless_none}
 use Rattle.pv_ctc.proofs.Sameness.{box_is, box_refl, alike_everywhere}
 use Rattle.pv_ctc.proofs.Turns.{chain_some, chain_none, constraints_step, turns_stay}
+use Rattle.std.proofs.lemmas.Option.{same_Some}
 
 -- each clean constraint would keep the box
 abbrev KeepClean : List Sides → List Revision → List Bounds → Type 0
@@ -49,9 +50,6 @@ record TurnsTo (ss : List Sides) (p : Passage) (o : Option (List Bounds)) : Type
 turns_to : (ss : List Sides) (p r : Passage) (o u : Option (List Bounds)) → p ≡ r → o ≡ u → TurnsTo ss r u → TurnsTo ss p o
 turns_to ss p r o u e f h = subst (λ x. TurnsTo ss x o) (sym e) (subst (TurnsTo ss r) (sym f) h)
 
-some_is : {A : Type 0} (x y : A) → Some x ≡ Some y → x ≡ y
-some_is x y e = cc
-
 by_answer : (ss : List Sides) (made : List Revision) (o : Option (List Bounds)) (steps : List Bounds → Passage) (f : Effect) → ((d : List Bounds) → o ≡ Some d → TurnsTo ss (steps d) (f d)) → TurnsTo ss (onward made o steps) (chain o f)
 by_answer ss made None steps f h = record { left = refl; clean = λ d e. absurd (cc) }
 by_answer ss made (Some d) steps f h = h d refl
@@ -59,7 +57,7 @@ by_answer ss made (Some d) steps f h = h d refl
 turn_leaves : (n : ℕ) (ss : List Sides) (i : ℕ) (made : List Revision) (b : List Bounds) → n + i ≡ length ss → KeepClean ss made b → TurnsTo ss (turn_from ss i (drop i ss) made b) (in_order (map revised (drop i ss)) b)
 turn_leaves zero ss i made b e h =
     subst (λ xs. TurnsTo ss (turn_from ss i xs made b) (in_order (map revised xs) b)) (sym (drop_all ss i (omega arith)))
-    (record { left = refl; clean = λ d f. subst (KeepClean ss made) (some_is b d f) h })
+    (record { left = refl; clean = λ d f. subst (KeepClean ss made) (same_Some b d f) h })
 turn_leaves (suc n) ss i made b e h =
     let l : i < length ss = omega arith in
     let m : n + (i + 1) ≡ length ss = omega arith in

@@ -4,7 +4,6 @@ use Rattle.std.specs.Prelude.{Option, Some, cond}
 use Rattle.std.proofs.Math.Seq.{drop-cons}
 use Rattle.pv_interval.specs.Bounds.{Bounds}
 use Rattle.pv_hc4.specs.Revise.{Sides}
-use Rattle.pv_hc4.specs.declared.revised.Revised.{Revised}
 use Rattle.pv_hc4.specs.declared.revised.Revised.TheVariants.{Kept, Changed, Empty}
 use Rattle.pv_ctc.specs.declared.program.Program.{Program, Compose, Union, QInter}
 use Rattle.pv_ctc.specs.Contracting.{Effect, contract_of}
@@ -45,13 +44,6 @@ pub order_goes_on : (ss : List Sides) (ps : List Program) (k : ℕ) (p : Program
 order_goes_on ss ps k p b new start now next all l e s c h =
     some_more start now next (revisions_in_order ss (plans_of (drop k ps)) b) (revisions_in_order ss (plans_of (drop (k + 1) ps)) new) all (revisions ss (plan_of p) b) h
     (order_is ss ps k p b l e ∙ ap (λ o. revisions ss (plan_of p) b + counted_of o (revisions_in_order ss (plans_of (drop (k + 1) ps)))) s) c
-
-pub order_ends : (ss : List Sides) (ps : List Program) (k : ℕ) (p : Program) (b new : List Bounds) (start now next : Option ℕ) (all : ℕ) (r : Revised) → k < length ps → p ≡ get_or ps k p → r ≡ Empty → IsStep (contract_of ss (plan_of p) b) r b new → next ≡ raised now (revisions ss (plan_of p) b) → SoMany start now (revisions_in_order ss (plans_of (drop k ps)) b) all → next ≡ raised start all
-order_ends ss ps k p b new start now next all r l e f s c h =
-    let o = contract_of ss (plan_of p) b in
-    let none = step_empty o b new (subst (λ x. IsStep o x b new) f s) in
-    last_told start now next (revisions_in_order ss (plans_of (drop k ps)) b) all (revisions ss (plan_of p) b) h
-    (order_is ss ps k p b l e ∙ ap (λ o. revisions ss (plan_of p) b + counted_of o (revisions_in_order ss (plans_of (drop (k + 1) ps)))) none ∙ plus_none (revisions ss (plan_of p) b)) c
 
 pub order_without_memory : (ss : List Sides) (ps : List Program) (k : ℕ) (p : Program) (b : List Bounds) (start now next : Option ℕ) (all : ℕ) → k < length ps → p ≡ get_or ps k p → RoseAtMost (revisions ss (plan_of p) b) now next → SoMany start now (revisions_in_order ss (plans_of (drop k ps)) b) all → RoseAtMost all start next
 order_without_memory ss ps k p b start now next all l e r h =

@@ -24,9 +24,6 @@ pub some_more : (old now new : Option ℕ) (rest later all n : ℕ) → SoMany o
 some_more old now new rest later all n h e f =
     record { part = h.part + n; told = f ∙ ap (λ o. raised o n) h.told ∙ raised_twice old h.part n; sum = let s = h.sum in omega (arith, s, e) }
 
-pub all_told : (old now : Option ℕ) (rest all : ℕ) → SoMany old now rest all → rest ≡ 0 → now ≡ raised old all
-all_told old now rest all h e = h.told ∙ ap (raised old) (let s = h.sum in let p : h.part ≡ all = omega (arith, s, e) in p)
-
 pub last_told : (old now new : Option ℕ) (rest all n : ℕ) → SoMany old now rest all → rest ≡ n → new ≡ raised now n → new ≡ raised old all
 last_told old now new rest all n h e f =
     f ∙ ap (λ o. raised o n) h.told ∙ raised_twice old h.part n ∙ ap (raised old) (let s = h.sum in let p : h.part + n ≡ all = omega (arith, s, e) in p)

@@ -1,5 +1,5 @@
 -- Contractors in order and in turns.
-use Rattle.std.proofs.Common.{◌≡◌, ◌≢◌, ◌⊎◌, inl, inr, ℕ, zero, suc, ◌+◌, ◌-◌, ◌<◌, ◌≤◌, List, [], ◌∷◌, ◌++◌, length, refl, ap, sym, ◌∙◌, subst, arith, get_or, drop, add-one, append_assoc}
+use Rattle.std.proofs.Common.{◌≡◌, ◌≢◌, ◌⊎◌, inl, inr, ℕ, zero, suc, ◌+◌, ◌-◌, ◌<◌, List, [], ◌∷◌, ◌++◌, length, refl, ap, sym, ◌∙◌, subst, arith, get_or, drop, add-one, append_assoc}
 use Rattle.std.proofs.Math.Seq.{drop-cons}
 use Rattle.std.proofs.lemmas.List.{get_or-map}
 use Rattle.std.specs.Prelude.{Option, Some, None, map}
@@ -60,9 +60,6 @@ one_turn n k f b e = ap (λ m. turns_of m f b) e
 
 pub turn : (n k : ℕ) (f : Effect) (start b : List Bounds) → k < n → turns_of (n - k) f b ≡ turns_of n f start → turns_of n f start ≡ chain (f b) (turns_of (n - (k + 1)) f)
 turn n k f start b h e = let m : n - k ≡ suc (n - (k + 1)) = omega arith in sym e ∙ one_turn (n - k) (n - (k + 1)) f b m
-
-pub last_turn : (n k : ℕ) (f : Effect) (start b : List Bounds) → n ≤ k → turns_of (n - k) f b ≡ turns_of n f start → turns_of n f start ≡ Some b
-last_turn n k f start b h e = let m : n - k ≡ 0 = omega arith in sym e ∙ ap (λ i. turns_of i f b) m
 
 -- the constraints from number i on
 pub constraints_step : (ss : List Sides) (i : ℕ) (b : List Bounds) → i < length ss → in_order (map revised (drop i ss)) b ≡ chain (revised (side_at ss i) b) (in_order (map revised (drop (i + 1) ss)))

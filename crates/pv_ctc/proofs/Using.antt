@@ -1,8 +1,7 @@
 -- The constraints that have a variable.
-use Rattle.std.proofs.Common.{◌≡◌, ◌≢◌, ◌⊎◌, inl, inr, ℕ, zero, suc, ◌+◌, ◌<◌, ◌≤◌, List, [], ◌∷◌, ◌++◌, length, refl, ap, sym, ◌∙◌, subst, arith, get_or, set, get_or-set_same, get_or-set_other}
+use Rattle.std.proofs.Common.{◌≡◌, ◌≢◌, ◌⊎◌, inl, inr, ℕ, zero, suc, ◌+◌, ◌<◌, ◌≤◌, List, [], ◌∷◌, ◌++◌, length, refl, ap, sym, ◌∙◌, subst, arith, get_or, set, get_or-set_other}
 use Rattle.std.specs.Prelude.{Bool, true, false, ◌&&◌, ◌||◌, nat_eq, replicate, map}
 use Rattle.std.proofs.lemmas.Bool.{cases_eq}
-use Rattle.std.proofs.lemmas.Bool.Decides.{nat_tests}
 use Rattle.pv_ctc.proofs.Marking.{uses_length}
 use Rattle.pv_hc4.specs.MarkSets.{is_marked}
 use Rattle.pv_hc4.specs.declared.marks.Marks.{Marks}
@@ -13,14 +12,11 @@ use Rattle.pv_ctc.specs.Members.{AllOver}
 use Rattle.pv_ctc.specs.Contracting.{side_at}
 use Rattle.pv_ctc.specs.Uses.{HaveUses, has_variable}
 use Rattle.pv_ctc.specs.Users.{no_marks, has_user, AreTurned, AreUsers}
+use Rattle.pv_hc4.proofs.Masks.{other_number, same_number}
 
 and_true : (t u : Bool) → u ≡ true → (t && u) ≡ t
 and_true true u e = e
 and_true false u e = refl
-
-and_false : (t u : Bool) → u ≡ false → (t && u) ≡ false
-and_false true u e = e
-and_false false u e = refl
 
 -- one variable was looked at
 abbrev pub LookedAt : List Marks → List Marks → ℕ → ℕ → Marks → Bool → Type 0
@@ -31,39 +27,11 @@ LookedAt us now v number m t =
 abbrev pub AddedAt : List Marks → List Marks → List Bool → ℕ → ℕ → Type 0
 AddedAt start now used number v = (k : ℕ) → has_user now v k ≡ ((nat_eq number k && get_or used v false) || has_user start v k)
 
-here_added : (start us now : List Marks) (used : List Bool) (v number : ℕ) (m : Marks) (t : Bool) → t ≡ get_or used v false → v < length us
-    → LookedAt us now v number m t → ((k : ℕ) → has_user us v k ≡ has_user start v k) → AddedAt start now used number v
-here_added start us now used v number m t e h (inl q) left k =
-    ap (λ x. has_user x v k) q.1 ∙ ap (λ x. is_marked x k) (get_or-set_same us v m no_marks h) ∙ q.2 k ∙ ap (λ u. nat_eq number k || u) (left k)
-    ∙ ap (λ u. u || has_user start v k) (sym (and_true (nat_eq number k) (get_or used v false) (sym e ∙ q.0)))
-here_added start us now used v number m t e h (inr q) left k =
-    ap (λ x. has_user x v k) q.1 ∙ left k
-    ∙ ap (λ u. u || has_user start v k) (sym (and_false (nat_eq number k) (get_or used v false) (sym e ∙ q.0)))
-
 there_same : (us now : List Marks) (v w number : ℕ) (m : Marks) (t : Bool) → LookedAt us now v number m t → w ≢ v → (k : ℕ) → has_user now w k ≡ has_user us w k
 there_same us now v w number m t (inl q) n k = ap (λ x. has_user x w k) q.1 ∙ ap (λ x. is_marked x k) (get_or-set_other us v w m no_marks n)
 there_same us now v w number m t (inr q) n k = ap (λ x. has_user x w k) q.1
 
-pub more_added : (start us now : List Marks) (used : List Bool) (v number : ℕ) (m : Marks) (t : Bool) → t ≡ get_or used v false → v < length us
-    → LookedAt us now v number m t → ((w : ℕ) → w < v → AddedAt start us used number w) → ((w k : ℕ) → v ≤ w → has_user us w k ≡ has_user start w k)
-    → (w : ℕ) → w < v + 1 → AddedAt start now used number w
-more_added start us now used v number m t e h l done left w i = elim (cases_eq w v) [
-  | inl p ↦ subst (AddedAt start now used number) (sym p) (here_added start us now used v number m t e h l (λ k. left v k (omega arith)))
-  | inr p ↦ λ k. there_same us now v w number m t l p k ∙ done w (omega (arith, p, i)) k
-]
-
-pub left_added : (start us now : List Marks) (v number : ℕ) (m : Marks) (t : Bool) → LookedAt us now v number m t
-    → ((w k : ℕ) → v ≤ w → has_user us w k ≡ has_user start w k) → (w k : ℕ) → v + 1 ≤ w → has_user now w k ≡ has_user start w k
-left_added start us now v number m t l left w k i =
-    let p : w ≢ v = λ e. absurd (omega (arith, e, i)) in there_same us now v w number m t l p k ∙ left w k (omega arith)
-
 -- ---- all constraints, one after another
-
-not_here : (i k : ℕ) → k ≢ i → nat_eq i k ≡ false
-not_here i k n = grind (arith, nat_tests)
-
-here : (i k : ℕ) → k ≡ i → nat_eq i k ≡ true
-here i k e = grind (arith, nat_tests)
 
 pub more_turned : (old now : List Marks) (uses : List (List Bool)) (i number : ℕ) → number ≡ i
     → ((v k : ℕ) → v < 12 → has_user now v k ≡ ((nat_eq number k && get_or (get_or uses i []) v false) || has_user old v k))
@@ -74,11 +42,11 @@ more_turned old now uses i number e h done left v k w m = elim (cases_eq k i) [
   | inl p ↦
       let il : i ≤ k = omega (arith, p) in
       let used = get_or uses i [] in
-      h v k w ∙ ap (λ t. (t && get_or used v false) || has_user old v k) (ap (λ n. nat_eq n k) e ∙ here i k p)
+      h v k w ∙ ap (λ t. (t && get_or used v false) || has_user old v k) (ap (λ n. nat_eq n k) e ∙ same_number i k p)
       ∙ ap (λ t. get_or used v false || t) (left v k w il) ∙ or_false (get_or used v false) ∙ ap (λ j. get_or (get_or uses j []) v false) (sym p)
   | inr p ↦
       let il : k < i = omega (arith, p, m) in
-      h v k w ∙ ap (λ t. (t && get_or (get_or uses i []) v false) || has_user old v k) (ap (λ n. nat_eq n k) e ∙ not_here i k p) ∙ done v k w il
+      h v k w ∙ ap (λ t. (t && get_or (get_or uses i []) v false) || has_user old v k) (ap (λ n. nat_eq n k) e ∙ other_number i k p) ∙ done v k w il
 ]
   where
     or_false : (t : Bool) → (t || false) ≡ t
@@ -91,7 +59,7 @@ pub left_turned : (old now : List Marks) (used : List Bool) (i number : ℕ) →
     → (v k : ℕ) → v < 12 → i + 1 ≤ k → has_user now v k ≡ false
 left_turned old now used i number e h left v k w m =
     let p : k ≢ i = λ q. absurd (omega (arith, q, m)) in
-    h v k w ∙ ap (λ t. (t && get_or used v false) || has_user old v k) (ap (λ n. nat_eq n k) e ∙ not_here i k p) ∙ left v k w (omega arith)
+    h v k w ∙ ap (λ t. (t && get_or used v false) || has_user old v k) (ap (λ n. nat_eq n k) e ∙ other_number i k p) ∙ left v k w (omega arith)
 
 pub none_turned : (m : Marks) → ((k : ℕ) → is_marked m k ≡ false) → (n v k : ℕ) → v < n → has_user (replicate n m) v k ≡ false
 none_turned m h zero v k l = absurd (omega arith)

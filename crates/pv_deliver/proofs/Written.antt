@@ -64,9 +64,6 @@ front_second before mid after one two whole h =
     let m = longer one two h.0 in
     (m.0, h.1 ∙ ap (λ (x : Option (List ℕ)). appended x (take h.0 two)) whole ∙ appended_twice before one (take h.0 two) ∙ ap (appended before) m.1)
 
-pub whole_both : (before mid after : Option (List ℕ)) (one two : List ℕ) → mid ≡ appended before one → after ≡ appended mid two → after ≡ appended before (one ++ two)
-whole_both before mid after one two first second = second ∙ ap (λ (x : Option (List ℕ)). appended x two) first ∙ appended_twice before one two
-
 -- why the first of two texts is not wholly printed, and so not both
 pub print_first : (before after : Stream) (one two : List ℕ) (r : Refusal) → RefusesPrint before after one r → RefusesPrint before after (one ++ two) r
 print_first before after one two (KeeperFault n) h = h

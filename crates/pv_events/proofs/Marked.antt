@@ -1,11 +1,13 @@
 -- What an event does to the marks of issued paths.
-use Rattle.std.proofs.Common.{◌≡◌, ◌⊎◌, ℕ, zero, suc, ◌<◌, ◌≤◌, Bool, List, [], ◌∷◌, ◌++◌, map, take, length, refl, sym, ◌∙◌, ap, arith, inl, inr}
+use Rattle.std.proofs.Common.{◌≡◌, ◌⊎◌, ℕ, zero, suc, ◌<◌, ◌≤◌, Bool, List, ◌++◌, map, take, length, refl, sym, ◌∙◌, ap, arith, inl, inr}
 use Rattle.pv_tree.specs.Trees.{Tree, opens}
 use Rattle.pv_board.specs.declared.mark.Mark.{Mark}
 use Rattle.pv_board.specs.Marks.{weigh, at, holds, marked, issued, granted}
 use Rattle.pv_board.specs.Events.{fresh, leaves_at}
 use Rattle.pv_board.proofs.Paths.{at_self, at_same, weigh-map, weigh-ones}
 use Rattle.pv_board.proofs.Marked.{unmarked}
+use Rattle.pv_board.proofs.Filling.{take_weigh}
+use Rattle.pv_board.proofs.Growth.{zero_low}
 
 -- two paths are apart or the same
 pub meet : (p q : List Bool) → (at p q 1 ≡ 0) ⊎ (p ≡ q)
@@ -26,22 +28,13 @@ held_marked ms q h = go (marked ms q) refl
     go zero e = let z = unmarked ms q e in absurd (omega (arith, z, h))
     go (suc n) e = omega (arith, e)
 
-weigh_take : (f : List Bool → ℕ) (n : ℕ) (ps : List (List Bool)) → weigh f (take n ps) ≤ weigh f ps
-weigh_take f zero ps = omega arith
-weigh_take f (suc n) [] = omega arith
-weigh_take f (suc n) (p ∷ ps) = let r = weigh_take f n ps in omega (arith, r)
-
-weigh_none : (ps : List (List Bool)) → weigh (λ (p : List Bool). 0) ps ≡ 0
-weigh_none [] = refl
-weigh_none (p ∷ ps) = let r = weigh_none ps in omega (arith, r)
-
 -- the marks of children: no grants, and no more than the leaves
 module _ (p : List Bool) (s : Tree) (n : ℕ) (children : List Mark) (first : children ≡ map fresh (take n (leaves_at p s))) where
   pub children_marked : (q : List Bool) → marked children q ≤ weigh (λ r. at (p ++ r) q 1) (opens s)
   children_marked q =
       let e : marked children q ≡ marked (map fresh (take n (leaves_at p s))) q = ap (λ (ms : List Mark). marked ms q) first in
       let m = weigh-map (λ (m : Mark). at m.path q 1) fresh (take n (leaves_at p s)) in
-      let t = weigh_take (λ (r : List Bool). at r q 1) n (leaves_at p s) in
+      let t = take_weigh (λ (r : List Bool). at r q 1) n (leaves_at p s) in
       let l = weigh-map (λ (r : List Bool). at r q 1) (λ (r : List Bool). p ++ r) (opens s) in
       omega (arith, e, m, t, l)
 
@@ -57,7 +50,7 @@ module _ (p : List Bool) (s : Tree) (n : ℕ) (children : List Mark) (first : ch
   children_granted =
       let e : granted children ≡ granted (map fresh (take n (leaves_at p s))) = ap granted first in
       let m = weigh-map (λ (m : Mark). m.grant) fresh (take n (leaves_at p s)) in
-      let z = weigh_none (take n (leaves_at p s)) in
+      let z = zero_low (take n (leaves_at p s)) in
       omega (arith, e, m, z)
 
 pub children_issued : (children : List Mark) → issued children ≡ length children

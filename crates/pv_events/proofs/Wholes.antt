@@ -5,8 +5,7 @@ use Rattle.pv_tree.specs.Trees.{Tree, leaf, removed, inner, small, cut, opens}
 use Rattle.pv_tree.specs.Stages.{Rule, Grows, full_of}
 use Rattle.pv_tree.specs.declared.outcome.Outcome.TheVariants.{Removed, Inner, Small, Cut}
 use Rattle.pv_tree.proofs.StageLaws.{IsCut, top_removed, top_inner, top_small, top_cut, grows_low, grows_high, grown_whole}
-use Rattle.pv_board.specs.declared.mark.Mark.{Mark}
-use Rattle.pv_board.specs.Marks.{weigh, times, holds, issued, granted}
+use Rattle.pv_board.specs.Marks.{weigh, times}
 use Rattle.pv_board.specs.Rules.{settled_in}
 use Rattle.pv_board.specs.Core.{Core, IsOpening}
 use Rattle.pv_board.specs.Events.{free_units, IsOver}
@@ -16,6 +15,7 @@ use Rattle.pv_events.specs.Steps.{Event, took, extended, became, gave_back, halt
 use Rattle.pv_join.specs.Joins.{Agree}
 use Rattle.pv_events.specs.Runs.{IsBegun, IsRightOf, IsWhole, OverRunsAreWhole, RunsAgree}
 use Rattle.pv_events.proofs.Runs.{opened_right}
+use Rattle.pv_board.proofs.Openings.{none_held, none_granted}
 
 -- a tree that grew and has no more settled nodes is the tree
 none_settled : (t : Tree) → settled_in t ≤ 0 → leaf ≡ t
@@ -54,14 +54,6 @@ module _ (rule : Rule) (depth : ℕ) (root : List Bounds) (opening : Tree) (limi
   run_runs : (es : List Event) (old new : Core) → Run rule depth root opening limit es old new → weigh halts es ≡ 0 → new.stopped ≡ old.stopped
   run_runs [] old new k z = ap (λ (c : Core). c.stopped) k
   run_runs (e ∷ es) old new k z = run_runs es k.0 new k.2 (omega (arith, z)) ∙ step_runs e old k.0 k.1 (omega (arith, z))
-
-none_held : (ms : List Mark) (q : List Bool) → issued ms ≡ 0 → holds ms q ≡ 0
-none_held [] q e = refl
-none_held (m ∷ ms) q e = absurd (omega (arith, e))
-
-none_granted : (ms : List Mark) → issued ms ≡ 0 → granted ms ≡ 0
-none_granted [] e = refl
-none_granted (m ∷ ms) e = absurd (omega (arith, e))
 
 -- a tree without an open leaf
 no_opens : (ps : List (List Bool)) → ((q : List Bool) → 0 < times q ps → ⊥) → ps ≡ []

@@ -10,7 +10,7 @@ use Rattle.pv_num.specs.Grid.{IsGrid}
 use Rattle.pv_num.specs.Order.{order_of}
 use Rattle.pv_num.specs.Laws.{same-Decides}
 use Rattle.pv_num.specs.Parts.{HasNoColon, number_text, IsNumber, IsValue}
-use Rattle.pv_num.proofs.Texts.{IsSpelled, spelling, spelled_text, minus_text, plus_text, minus_only, plus_only, whole_no_colon, fits_mag, some_some, none_some, fin_is}
+use Rattle.pv_num.proofs.Texts.{IsSpelled, spelling, spelled_text, minus_text, plus_text, minus_only, plus_only, whole_no_colon, fits_mag, some_some, none_some, fin_is, other_head}
 use Rattle.pv_interval.specs.Bounds.{Bounds}
 use Rattle.pv_box.specs.Boxes.{lower_half, upper_half}
 use Rattle.pv_tree.specs.Trees.{Tree, leaf, removed, inner, small, cut, top}
@@ -24,7 +24,7 @@ use Rattle.pv_file.specs.Texts.{identity_text, header_text}
 use Rattle.pv_file.specs.Readings.{IsFree, TextsDiffer, OneIdentity}
 use Rattle.pv_file.specs.Words.{IsKeptOf, end_text, part_text}
 use Rattle.pv_file.specs.Reading.{IsRightNode}
-use Rattle.pv_file.proofs.Bytes.{split_once, heads_same, tails_same, same_words}
+use Rattle.pv_file.proofs.Bytes.{split_once, tails_same, same_words}
 use Rattle.pv_file.proofs.Places.{same_bounds}
 use Rattle.pv_file.proofs.Numbers.{number_plain, end_text_plain, decimal_plain, no_mark}
 use Rattle.pv_file.proofs.Ends.{kept_step, kept_ends}
@@ -95,14 +95,11 @@ same_kept v (old ∷ b) (x ∷ xs) (y ∷ ys) k l e =
 
 -- ---- Nodes
 
-other_letter : (a b : ℕ) (xs ys : List ℕ) → a < b → a ∷ xs ≡ b ∷ ys → ⊥
-other_letter a b xs ys l e = let k : a ≡ b = heads_same a b xs ys e in omega (arith, k, l)
-
 only_removed : (v : Version) (b : List Bounds) (o : Outcome) → codes "X" ≡ line_with (kept_text v b) o → o ≡ Removed
 only_removed v b Removed e = refl
-only_removed v b (Inner to) e = absurd (other_letter 73 88 (kept_text v b to) [] (omega arith) (sym e))
-only_removed v b (Small to) e = absurd (other_letter 83 88 (kept_text v b to) [] (omega arith) (sym e))
-only_removed v b (Cut to var at) e = absurd (other_letter 67 88 _ [] (omega arith) (sym e))
+only_removed v b (Inner to) e = absurd (other_head 73 88 (kept_text v b to) [] (omega arith) (sym e))
+only_removed v b (Small to) e = absurd (other_head 83 88 (kept_text v b to) [] (omega arith) (sym e))
+only_removed v b (Cut to var at) e = absurd (other_head 67 88 _ [] (omega arith) (sym e))
 
 same_cuts : (v : Version) (p : List Bool) (b to to' : List Bounds) (var var' : ℕ) (at at' : Extended) → IsRightNode p b (Some (Cut to var at)) → IsRightNode p b (Some (Cut to' var' at'))
     → line_with (kept_text v b) (Cut to var at) ≡ line_with (kept_text v b) (Cut to' var' at') → Cut to var at ≡ Cut to' var' at'
@@ -136,10 +133,10 @@ same_outcome v p b (Cut to var at) q f g e =
     same_cuts v p b to i.0 var i.1 at i.2 f right (e ∙ ap (line_with (kept_text v b)) i.3) ∙ sym i.3
 
 not_open : (v : Version) (b : List Bounds) (o : Outcome) → codes "O" ≡ line_with (kept_text v b) o → ⊥
-not_open v b Removed e = other_letter 79 88 [] [] (omega arith) e
-not_open v b (Inner to) e = other_letter 73 79 (kept_text v b to) [] (omega arith) (sym e)
-not_open v b (Small to) e = other_letter 79 83 [] (kept_text v b to) (omega arith) e
-not_open v b (Cut to var at) e = other_letter 67 79 _ [] (omega arith) (sym e)
+not_open v b Removed e = other_head 79 88 [] [] (omega arith) e
+not_open v b (Inner to) e = other_head 73 79 (kept_text v b to) [] (omega arith) (sym e)
+not_open v b (Small to) e = other_head 79 83 [] (kept_text v b to) (omega arith) e
+not_open v b (Cut to var at) e = other_head 67 79 _ [] (omega arith) (sym e)
 
 pub same_node : (v : Version) (p : List Bool) (b : List Bounds) (o q : Option Outcome) → IsRightNode p b o → IsRightNode p b q
     → node_line_with (kept_text v b) o ≡ node_line_with (kept_text v b) q → o ≡ q

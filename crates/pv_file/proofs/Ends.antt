@@ -20,10 +20,6 @@ kept_ends Two [] to = tt
 kept_ends Two (old ∷ b) [] = tt
 kept_ends Two (old ∷ b) (x ∷ xs) = refl
 
-pub kept_none : (v : Version) → kept_text v [] [] ≡ []
-kept_none One = refl
-kept_none Two = refl
-
 -- The places from the i-th on begin with the i-th.
 pub at_place : (b : List Bounds) (i : ℕ) (d : Bounds) → i < length b → d ≡ slice_index_or b i d → drop i b ≡ d ∷ drop (i + 1) b
 at_place b i d l e =

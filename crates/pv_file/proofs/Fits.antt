@@ -66,7 +66,7 @@ fill_step t hole holes (inner to) ss is_leaf = fill_inner t hole holes to ss
 fill_step t hole holes (small to) ss is_leaf = fill_small t hole holes to ss
 fill_step t hole holes (cut to var at low high) ss is_leaf = fill_cut t hole holes to var at low high ss
 
-regroup : (t l h p : List ℕ) → (t ++ (10 ∷ (l ++ h))) ++ p ≡ (t ++ 10 ∷ []) ++ (l ++ (h ++ p))
+pub regroup : (t l h p : List ℕ) → (t ++ (10 ∷ (l ++ h))) ++ p ≡ (t ++ 10 ∷ []) ++ (l ++ (h ++ p))
 regroup t l h p = simp append_assoc
 
 pub text_step : (v : Version) (hole : Hole) (holes : List Hole) (s : Tree) (ss : List Tree)
@@ -78,10 +78,10 @@ text_step v hole holes (small to) ss = refl
 text_step v hole holes (cut to var at low high) ss =
     regroup (top_line v hole.box (cut to var at low high)) (lines_of v (lower_half to var at) low) (lines_of v (upper_half to var at) high) (holes_text v holes ss)
 
-deep_low : (p : List Bool) (b : Bool) (low high : Tree) → length p + suc (max (height low) (height high)) ≤ 200 → length (p ++ b ∷ []) + height low ≤ 200
+pub deep_low : (p : List Bool) (b : Bool) (low high : Tree) → length p + suc (max (height low) (height high)) ≤ 200 → length (p ++ b ∷ []) + height low ≤ 200
 deep_low p b low high h = let l : length (p ++ b ∷ []) ≡ length p + 1 = length-append p (b ∷ []) in omega (arith, l, h)
 
-deep_high : (p : List Bool) (b : Bool) (low high : Tree) → length p + suc (max (height low) (height high)) ≤ 200 → length (p ++ b ∷ []) + height high ≤ 200
+pub deep_high : (p : List Bool) (b : Bool) (low high : Tree) → length p + suc (max (height low) (height high)) ≤ 200 → length (p ++ b ∷ []) + height high ≤ 200
 deep_high p b low high h = let l : length (p ++ b ∷ []) ≡ length p + 1 = length-append p (b ∷ []) in omega (arith, l, h)
 
 pub fit_down : (hole : Hole) (holes : List Hole) (s : Tree) (ss : List Tree) → FitsHole hole s → FitHoles holes ss → FitHoles (holes_after hole (top s) ++ holes) (kids s ++ ss)
@@ -94,7 +94,7 @@ fit_down hole holes (cut to var at low high) ss f fs = (
   (record { paves = f.paves.4; numbers = f.numbers.3; depth = deep_high hole.path true low high f.depth }, fs),
 )
 
-short_cut : (p : List Bool) (low high : Tree) → length p + suc (max (height low) (height high)) ≤ 200 → length p < 200
+pub short_cut : (p : List Bool) (low high : Tree) → length p + suc (max (height low) (height high)) ≤ 200 → length p < 200
 short_cut p low high h = omega (arith, h)
 
 pub right_top : (hole : Hole) (s : Tree) → FitsHole hole s → IsRightNode hole.path hole.box (top s)

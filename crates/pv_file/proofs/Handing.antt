@@ -7,9 +7,7 @@ use Rattle.pv_tree.specs.Pieces.{Piece, pieces_below, children_of, root_piece}
 use Rattle.pv_file.specs.declared.version.Version.{Version}
 use Rattle.pv_file.specs.Lines.{lines_of, top_line}
 use Rattle.pv_file.specs.Walks.{pending_text, after_steps}
-
-shuffle : (t l h p : List ℕ) → (t ++ (10 ∷ (l ++ h))) ++ p ≡ (t ++ 10 ∷ []) ++ (l ++ (h ++ p))
-shuffle t l h p = simp append_assoc
+use Rattle.pv_file.proofs.Fits.{regroup}
 
 visit : (v : Version) (path : _) (b : List Bounds) (t : Tree) (rest : List Piece)
     → lines_of v b t ++ pending_text v rest ≡ (top_line v b t ++ 10 ∷ []) ++ pending_text v (pieces_below path t ++ rest)
@@ -18,7 +16,7 @@ visit v path b removed rest = refl
 visit v path b (inner to) rest = refl
 visit v path b (small to) rest = refl
 visit v path b (cut to var at low high) rest =
-    shuffle (top_line v b (cut to var at low high)) (lines_of v (lower_half to var at) low) (lines_of v (upper_half to var at) high) (pending_text v rest)
+    regroup (top_line v b (cut to var at low high)) (lines_of v (lower_half to var at) low) (lines_of v (upper_half to var at) high) (pending_text v rest)
 
 pub visit_text : (v : Version) (here : Piece) (old new rest : List Piece) → old ≡ here ∷ rest → new ≡ children_of here ++ rest
     → pending_text v old ≡ (top_line v here.box here.tree ++ 10 ∷ []) ++ pending_text v new

@@ -1,15 +1,15 @@
-mod Bytes
+pub mod Bytes
 mod Numbers
 mod Places
 mod Ends
 mod Rights
 mod Shapes
-mod Handing
+pub mod Handing
 mod Digests
 mod Steps
 mod Refusals
 mod Headers
-mod Fits
+pub mod Fits
 mod Reached
 mod Wholes
 pub mod Different

@@ -81,9 +81,6 @@ change_cases old x false e g t = absurd (no_mark x g t)
 pub marked_stays : (old x : Extended) → IsNumber x → codes "=" ≡ change_text old x → old ≡ x
 marked_stays old x g t = change_cases old x _ refl g t
 
-pub stays_marked : (old : Extended) → codes "=" ≡ change_text old old
-stays_marked old = sym (cond-true _ _ _ ((same-Decides old old).1 refl))
-
 change_plain : (b : Bool) (x : Extended) → IsNumber x → IsPlain (cond b (codes "=") (number_text x))
 change_plain true x g = (omega arith, tt)
 change_plain false x g = number_plain x g

@@ -25,16 +25,6 @@ is_between NegInf x p q = absurd (not_below_all x.lo p)
 is_between (Fin z) x p q = (p, q)
 is_between PosInf x p q = absurd (not_above_all x.hi q)
 
-pub between_low : (a : Extended) (x : Bounds) → IsBetween a x → IsTrue (lt x.lo a)
-between_low NegInf x h = absurd h
-between_low (Fin z) x h = h.0
-between_low PosInf x h = absurd h
-
-pub between_high : (a : Extended) (x : Bounds) → IsBetween a x → IsTrue (lt a x.hi)
-between_high NegInf x h = absurd h
-between_high (Fin z) x h = h.1
-between_high PosInf x h = absurd h
-
 pub strictly_there : (a : Extended) (v : ℕ) (b : List Bounds) → IsStrictlyInside a v b → v < length b
 strictly_there a v [] h = absurd h
 strictly_there a zero (x ∷ xs) h = omega arith

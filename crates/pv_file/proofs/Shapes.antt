@@ -7,9 +7,8 @@ use Rattle.pv_tree.specs.Trees.{Tree, leaf, removed, inner, small, cut, top, sub
 use Rattle.pv_tree.specs.declared.outcome.Outcome.{Outcome}
 use Rattle.pv_tree.specs.declared.outcome.Outcome.TheVariants.{Removed, Inner, Small, Cut}
 use Rattle.pv_tree.specs.declared.outcome.Shape.{Shape}
-use Rattle.pv_file.specs.declared.version.Version.{Version}
 use Rattle.pv_file.specs.declared.version.Version.TheVariants.{One}
-use Rattle.pv_file.specs.Lines.{kept_text, ends_text, line_with, node_line_with, top_line}
+use Rattle.pv_file.specs.Lines.{kept_text, ends_text, node_line_with}
 use Rattle.pv_file.specs.Shapes.{outcome_of, shape_line, keeps_of, AppendsNodeLine}
 
 pub kept_there : (t : Tree) (p : List Bool) → IsTrue (keeps_of (shape_of (subtree t p))) → IsSome (to_at t p)
@@ -66,17 +65,6 @@ line_appended t p b to shape before after there same e =
     node_appended (subtree t p) (outcome_at t p) before after there (top_there t p)
     (e ∙ ap (λ (x : List ℕ). before ++ x) (first_version b (outcome_of shape to)) ∙ ap (λ (x : Option Outcome). before ++ node_line_with ends_text x) same)
 
-pub visited_line : (v : Version) (b' b : List Bounds) (t : Tree) (to : List Bounds) → (IsTrue (keeps_of (shape_of (Some t))) → b' ≡ b)
-    → (IsTrue (keeps_of (shape_of (Some t))) → to_at t [] ≡ Some to) → shape_line v b' (shape_of (Some t)) to ≡ top_line v b t
-visited_line v b' b leaf to same kept = refl
-visited_line v b' b removed to same kept = refl
-visited_line v b' b (inner x) to same kept =
-    ap (λ (y : List Bounds). line_with (kept_text v y) (Inner to)) (same refl) ∙ ap (λ (y : List Bounds). line_with (kept_text v b) (Inner y)) (sym (some_some x to (kept refl)))
-visited_line v b' b (small x) to same kept =
-    ap (λ (y : List Bounds). line_with (kept_text v y) (Small to)) (same refl) ∙ ap (λ (y : List Bounds). line_with (kept_text v b) (Small y)) (sym (some_some x to (kept refl)))
-visited_line v b' b (cut x var at low high) to same kept =
-    ap (λ (y : List Bounds). line_with (kept_text v y) (Cut to var at)) (same refl) ∙ ap (λ (y : List Bounds). line_with (kept_text v b) (Cut y var at)) (sym (some_some x to (kept refl)))
-
 pub not_kept : (b x : Bool) → b ≡ x → b ≡ false → IsTrue x → ⊥
 not_kept b x e f t = cc
 
@@ -87,9 +75,3 @@ outcome_shape t p to shape e h =
 
 pub kept_shape : (t : Tree) (p : List Bool) (shape : Shape) → shape ≡ shape_of (subtree t p) → IsTrue (keeps_of shape) → IsSome (to_at t p)
 kept_shape t p shape e k = kept_there t p (subst (λ (s : Shape). IsTrue (keeps_of s)) e k)
-
-pub visited_shape : (v : Version) (b' b : List Bounds) (t : Tree) (to : List Bounds) (shape : Shape) → shape ≡ shape_of (Some t) → (IsTrue (keeps_of shape) → b' ≡ b)
-    → (IsTrue (keeps_of shape) → to_at t [] ≡ Some to) → shape_line v b' shape to ≡ top_line v b t
-visited_shape v b' b t to shape e same kept =
-    ap (λ (s : Shape). shape_line v b' s to) e
-    ∙ visited_line v b' b t to (λ k. same (subst (λ (s : Shape). IsTrue (keeps_of s)) (sym e) k)) (λ k. kept (subst (λ (s : Shape). IsTrue (keeps_of s)) (sym e) k))

@@ -1,15 +1,15 @@
 -- One line of a reading.
-use Rattle.std.proofs.Common.{◌≡◌, ℕ, suc, Bool, List, [], ◌∷◌, ◌++◌, length, Option, Some, None, refl, sym, ◌∙◌, ap, subst, arith}
+use Rattle.std.proofs.Common.{◌≡◌, ℕ, Bool, List, [], ◌∷◌, ◌++◌, Option, Some, None, refl, sym, ◌∙◌, ap, subst, arith}
 use Rattle.pv_interval.specs.Bounds.{Bounds}
-use Rattle.pv_tree.specs.Trees.{HasDepth, Fits, graft, settled}
-use Rattle.pv_tree.specs.Holes.{Hole, Growing, IsNext, IsFirstBox, Takes, holes_below, rest_of, pass_next, settle_next, settle_first}
+use Rattle.pv_tree.specs.Trees.{graft, settled}
+use Rattle.pv_tree.specs.Holes.{Hole, Growing, IsNext, IsFirstBox, holes_below, rest_of, pass_next, settle_next, settle_first}
 use Rattle.pv_tree.specs.declared.outcome.Outcome.{Outcome}
 use Rattle.pv_file.specs.declared.version.Version.{Version}
 use Rattle.pv_file.specs.declared.reader.NodeLine.{NodeLine}
 use Rattle.pv_file.specs.declared.reader.NodeLine.TheVariants as node
 use Rattle.pv_file.specs.Lines.{kept_text, node_line_with}
 use Rattle.pv_file.specs.Readings.{IsFree}
-use Rattle.pv_file.specs.Reading.{IsRightNode, node_of, SaysNode, TakesNode, IsPut, IsMany, IsLineOf, IsStep, IsStuck, IsFull}
+use Rattle.pv_file.specs.Reading.{IsRightNode, node_of, SaysNode, IsPut, IsMany, IsLineOf, IsStep, IsStuck, IsFull}
 use Rattle.pv_file.proofs.Bytes.{tails_same, split_once}
 
 -- ---- Lines are split at line feeds in one way
@@ -60,17 +60,6 @@ open_line v hole line says only = record { right = tt; text = says; only = λ q 
 settled_line : (v : Version) (hole : Hole) (line : List ℕ) (o : Outcome) → SaysNode v hole.path hole.box line (node.Settled o)
     → Only v hole.path hole.box line (node.Settled o) → IsLineOf v hole line (Some o)
 settled_line v hole line o says only = record { right = says.1; text = says.0; only = λ q r e. settled_some o q (only q r e) }
-
-pub takes_node : (v : Version) (g : Growing) (p : List Bool) (bx : List Bounds) (line : List ℕ) (n : NodeLine) → IsNext g p → IsFirstBox g.holes bx
-    → SaysNode v p bx line n → TakesNode g.holes n
-takes_node v g p bx line node.Open next first says = let l : length g.holes ≡ suc (length next.rest) = ap length next.is in omega (arith, l)
-takes_node v g p bx line (node.Settled o) next first says =
-    let box : bx ≡ next.hole.box = first_box g.holes next.hole next.rest bx next.is first in
-    subst (λ (hs : List Hole). Takes hs o) (sym next.is) (
-      subst (λ (y : List Bounds). Fits y o) box says.1.0.fits,
-      subst (λ (x : List Bool). HasDepth x o) next.path says.1.1,
-    )
-takes_node v g p bx line node.Bad next first says = tt
 
 pass_holes : (g : Growing) (hole : Hole) (others : List Hole) → g.holes ≡ hole ∷ others → (pass_next g).holes ≡ others
 pass_holes g hole others e = ap rest_of e

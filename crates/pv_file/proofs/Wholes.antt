@@ -18,9 +18,6 @@ use Rattle.pv_file.proofs.Headers.{version_free, identity_free}
 
 -- ---- Two texts begin alike
 
-peeled : (line rest more tail : List ℕ) → (line ++ 10 ∷ rest) ++ more ≡ line ++ 10 ∷ (rest ++ more)
-peeled line rest more tail = append_assoc line (10 ∷ rest) more
-
 pub record Peeled (n : ℕ) (bytes line tail : List ℕ) : Type 0 where
   pub rest : List ℕ
   pub text : bytes ≡ line ++ 10 ∷ rest

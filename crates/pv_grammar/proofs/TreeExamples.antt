@@ -1,13 +1,13 @@
 -- That the trees say what they should, by a few examples: each tree with the tokens has the term.
-use Rattle.std.proofs.Common.{◌≡◌, List, [], ◌∷◌, pos, Some, refl, sym, ap, ◌∙◌}
-use Rattle.pv_expr.specs.Terms.{difference, negation, one, place, power, product, quotient, sum, two}
+use Rattle.std.proofs.Common.{◌≡◌, List, [], ◌∷◌, pos, refl, sym, ap, ◌∙◌}
+use Rattle.pv_expr.specs.Terms.{difference, one, place, product, quotient, sum, two}
 use Rattle.pv_code.specs.declared.fraction.Fraction.{Fraction}
 use Rattle.pv_code.specs.declared.code.Op.TheVariants.{Call}
 use Rattle.pv_code.specs.Expansion.{Meaning}
-use Rattle.pv_grammar.specs.declared.symbol.Fixed.TheVariants.{Minus, Plus, Star, Slash, Caret, Open, Close, Comma}
+use Rattle.pv_grammar.specs.declared.symbol.Fixed.TheVariants.{Minus, Plus, Star, Slash, Open, Close, Comma}
 use Rattle.pv_grammar.specs.declared.symbol.Symbol.{Symbol}
-use Rattle.pv_grammar.specs.declared.symbol.Symbol.TheVariants.{Fixed as FixedToken, Number, Variable as VariableName, Function as FunctionName}
-use Rattle.pv_grammar.specs.Productions.{Expression, Factor, Function, Term as TermTree, argument, call, expression_symbols, function_of, minus, negative, no_argument, no_factor, no_parameter, no_power, no_semicolon, no_term, over, parameter_and, parameter_at, plus, product_of, raised, sum_of, times, to_power, variable_at}
+use Rattle.pv_grammar.specs.declared.symbol.Symbol.TheVariants.{Fixed as FixedToken, Variable as VariableName, Function as FunctionName}
+use Rattle.pv_grammar.specs.Productions.{Expression, Factor, Function, Term as TermTree, argument, call, expression_symbols, function_of, minus, no_argument, no_factor, no_parameter, no_power, no_semicolon, no_term, over, parameter_and, parameter_at, plus, product_of, raised, sum_of, times, variable_at}
 use Rattle.pv_grammar.specs.Trees.{expression_term, function_meaning}
 use Rattle.pv_grammar.proofs.OneTree.{one_expression_tree}
 
@@ -39,11 +39,6 @@ differences e is = of_tokens [] _ (sum_of (name x) (minus (name y) (minus (name 
 quotients : (e : Expression) → expression_symbols e [] ≡ VariableName 2 ∷ FixedToken Plus ∷ VariableName 0 ∷ FixedToken Slash ∷ VariableName 1 ∷ FixedToken Star ∷ VariableName 2 ∷ [] →
     expression_term [] [] e ≡ two sum (place 2) (two product (two quotient (place 0) (place 1)) (place 2))
 quotients e is = of_tokens [] _ (sum_of (name z) (plus (product_of x (over y (times z no_factor))) no_term)) refl e is
-
--- -x^2 is -(x^2)
-signs : (e : Expression) → expression_symbols e [] ≡ FixedToken Minus ∷ VariableName 0 ∷ FixedToken Caret ∷ Number whole (Some 2) ∷ [] →
-    expression_term [] [] e ≡ one negation (one (power 2) (place 0))
-signs e is = of_tokens [] _ (sum_of (name (negative (raised (variable_at 0) (to_power whole 2)))) no_term) refl e is
 
 -- where f(a, b) = a - b, f(y, x) is y - x
 abbrev body : Expression

@@ -1,8 +1,8 @@
 -- The interval of a constant is one.
-use Rattle.std.proofs.Common.{◌≡◌, ◌≢◌, ℕ, ◌≤◌, refl, ap, ◌∙◌, arith, rules}
-use Rattle.std.specs.Prelude.{IsTrue, ℤ, pos, ◌*ℤ◌, Option, Some, None, Bool, true, false, cond, ◌&&◌}
+use Rattle.std.proofs.Common.{◌≡◌, ℕ, ◌≤◌, refl, ap, ◌∙◌, arith, rules}
+use Rattle.std.specs.Prelude.{IsTrue, ℤ, pos, ◌*ℤ◌, Option, Some, None, Bool, true, false}
 use Rattle.std.proofs.lemmas.Int.{ints}
-use Rattle.pv_num.specs.Extended.{Extended, NegInf, Fin, PosInf}
+use Rattle.pv_num.specs.Extended.{Extended, NegInf, PosInf}
 use Rattle.pv_num.specs.Order.{le, lt}
 use Rattle.pv_num.specs.Grid.{unit}
 use Rattle.pv_num.specs.Arithmetic.{ratio_of}
@@ -10,6 +10,8 @@ use Rattle.pv_num.specs.declared.num.End.TheVariants.{Down, Up}
 use Rattle.pv_interval.specs.Bounds.{Bounds, IsInterval, between, interval_from}
 use Rattle.pv_interval.proofs.Rounds.{rounded_apart, rounded_down_open, rounded_up_open}
 use Rattle.pv_hc4.specs.Forward.{constant_of}
+use Rattle.pv_project.proofs.Meets.{lt_pos, lt_neg}
+use Rattle.pv_box.proofs.Enough.{if_all}
 
 pub constant_interval : (p : ℤ) (q : ℕ) → 1 ≤ q → IsInterval (constant_of p q)
 constant_interval p q h = record {
@@ -22,24 +24,8 @@ le_true : (b : Bool) → IsTrue b → b ≡ true
 le_true true h = refl
 le_true false h = absurd (search rules)
 
-below_all : (e : Extended) → e ≢ PosInf → lt e PosInf ≡ true
-below_all NegInf h = refl
-below_all (Fin a) h = refl
-below_all PosInf h = absurd (h refl)
-
-above_all : (e : Extended) → e ≢ NegInf → lt NegInf e ≡ true
-above_all NegInf h = absurd (h refl)
-above_all (Fin a) h = refl
-above_all PosInf h = refl
-
-all_three : (a b c : Bool) (x : Bounds) → a ≡ true → b ≡ true → c ≡ true → cond (a && (b && c)) (Some x) None ≡ Some x
-all_three true true true x e f g = refl
-all_three true true false x e f g = absurd (cc)
-all_three true false c x e f g = absurd (cc)
-all_three false b c x e f g = absurd (cc)
-
 pub interval_some : (lo hi : Extended) → IsInterval (between lo hi) → interval_from lo hi ≡ Some (between lo hi)
-interval_some lo hi h = all_three (le lo hi) (lt lo PosInf) (lt NegInf hi) (between lo hi) (le_true (le lo hi) h.ordered) (below_all lo h.lo_open) (above_all hi h.hi_open)
+interval_some lo hi h = if_all (le lo hi) (lt lo PosInf) (lt NegInf hi) (between lo hi) (le_true (le lo hi) h.ordered) (lt_pos lo h.lo_open) (lt_neg hi h.hi_open)
 
 pub constant_some : (p : ℤ) (q : ℕ) (lo hi : Extended) → 1 ≤ q → lo ≡ ratio_of Down p q → hi ≡ ratio_of Up p q → interval_from lo hi ≡ Some (constant_of p q)
 constant_some p q lo hi h e f =

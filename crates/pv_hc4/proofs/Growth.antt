@@ -60,9 +60,3 @@ pub terms_keep : (ns ms : List Node) (k : ℕ) → k < length ns → term_at (te
 terms_keep ns ms k h =
     let b : k < length (terms ns) = omega (arith, length-terms ns) in
     ap (λ ts. term_at ts k) (grown-append [] ns ms) ∙ grown_keeps (terms ns) ms k b
-
-pub terms_last : (ns : List Node) (n : Node) → term_at (terms (ns ++ n ∷ [])) (length ns) ≡ node_term (terms ns) n
-terms_last ns n =
-    ap (λ ts. term_at ts (length ns)) (grown-append [] ns (n ∷ []))
-    ∙ ap (term_at (terms ns ++ node_term (terms ns) n ∷ [])) (sym (length-terms ns))
-    ∙ here_is (terms ns) (node_term (terms ns) n)

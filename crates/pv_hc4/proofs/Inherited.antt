@@ -20,9 +20,10 @@ use Rattle.pv_hc4.specs.Forward.{constant_of, forward_of, unary_of, binary_of}
 use Rattle.pv_hc4.specs.Members.{AreWithin}
 use Rattle.pv_hc4.specs.Revise.{Sides}
 use Rattle.pv_hc4.specs.Totality.{divides_well, total_of, same_number, ends_decide, decided, sure_of}
-use Rattle.pv_hc4.proofs.Sureness.{left_true, right_true}
+use Rattle.pv_hc4.proofs.Sureness.{left_true, right_true, decided_total}
 use Rattle.pv_hc4.proofs.Comparing.{same_end}
 use Rattle.pv_hc4.proofs.Within.{Fine, forward_fine}
+use Rattle.std.proofs.lemmas.Bool.{not-true}
 
 -- ---- forward intervals
 
@@ -33,12 +34,12 @@ at_within (x ∷ b) [] i h = absurd h
 at_within (x ∷ b) (y ∷ c) zero h = record { low = h.0; high = h.1 }
 at_within (x ∷ b) (y ∷ c) (suc i) h = at_within b c i h.2
 
-unary_contained : (u : Unary) (x v : Bounds) → IsInterval x → IsSubset x v → IsSubset (unary_of u x) (unary_of u v)
+pub unary_contained : (u : Unary) (x v : Bounds) → IsInterval x → IsSubset x v → IsSubset (unary_of u x) (unary_of u v)
 unary_contained negation x v i h = negated_contained x v h
 unary_contained absolute x v i h = absolute_contained x v i h
 unary_contained (power n) x v i h = power_contained x v n i h
 
-binary_contained : (o : Binary) (x y v w : Bounds) → IsInterval x → IsInterval y → IsSubset x v → IsSubset y w → IsSubsetSome (binary_of o x y) (binary_of o v w)
+pub binary_contained : (o : Binary) (x y v w : Bounds) → IsInterval x → IsInterval y → IsSubset x v → IsSubset y w → IsSubsetSome (binary_of o x y) (binary_of o v w)
 binary_contained sum x y v w i j h k = sum_contained x y v w h k
 binary_contained difference x y v w i j h k = difference_contained x y v w h k
 binary_contained product x y v w i j h k = product_contained x y v w i j h k
@@ -78,10 +79,6 @@ one_side : {P : Type 0} (s t : Bool) → (s && t) ≡ false → (s ≡ false →
 one_side true t e f g = g e
 one_side false t e f g = f refl
 
-not_true : (t : Bool) → not t ≡ true → t ≡ false
-not_true true e = absurd (cc)
-not_true false e = refl
-
 is_there : (o : Option Bounds) (x : Bounds) → o ≡ Some x → IsThere o
 is_there o x e = subst IsThere (sym e) tt
 
@@ -95,7 +92,7 @@ binary_there : (k : Binary) (x y : Bounds) → IsInterval y → divides_well k (
 binary_there sum x y i d = tt
 binary_there difference x y i d = tt
 binary_there product x y i d = tt
-binary_there quotient x y i d = quotient_there x y i (not_true (has_nought y) d)
+binary_there quotient x y i d = quotient_there x y i (not-true (has_nought y) d)
 binary_there least x y i d = tt
 binary_there greatest x y i d = tt
 
@@ -134,7 +131,7 @@ no_nought y w k e = by_value (has_nought y) refl
         let a = le_trans w.lo y.lo nought k.low (left_true (le y.lo nought) (le nought y.hi) f) in
         let b = le_trans nought y.hi w.hi (right_true (le y.lo nought) (le nought y.hi) f) k.high in
         let c = both (le w.lo nought) (le nought w.hi) a b in
-        let d = not_true (has_nought w) e in absurd (cc)
+        let d = not-true (has_nought w) e in absurd (cc)
 
 divides_part : (k : Binary) (o p : Option Bounds) → IsThere o → IsSubsetSome o p → divides_well k p ≡ true → divides_well k o ≡ true
 divides_part sum o p h i e = refl
@@ -209,11 +206,6 @@ decided_part r (Some x) (Some y) None s t u f g a b h i k e = absurd h
 decided_part r (Some x) (Some y) (Some v) None t u f g a b h i k e = absurd i
 decided_part r (Some x) (Some y) (Some v) (Some w) t u f g a b h i k e =
     ap (λ z. z && ends_decide r x y) k ∙ ends_part r x y v w f g h i (right_true u (ends_decide r v w) e)
-
-decided_total : (c : Relation) (o p : Option Bounds) (t : Bool) → decided c (chain o (λ l. chain p (λ r. Some (record { left = l; right = r; total = t })))) ≡ true → t ≡ true
-decided_total c None p t e = absurd (cc)
-decided_total c (Some l) None t e = absurd (cc)
-decided_total c (Some l) (Some r) t e = left_true t (ends_decide c l r) e
 
 -- a constraint that is sure on a box is sure on each part of it
 pub sure-inherited : (n : ℕ) (s : Sides) (b c : List Bounds) → IsOver n s.left → IsOver n s.right → All IsInterval b → AreWithin b c → sure_of s c ≡ true → sure_of s b ≡ true

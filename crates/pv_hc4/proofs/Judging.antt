@@ -24,7 +24,7 @@ sure_by g b vs x y h av xe ye =
     ap (λ o. decided g.relation (chain o (λ x. chain (forward_of b (sides_of g).right) (λ y. Some (record { left = x; right = y; total = total_of b (sides_of g).left && total_of b (sides_of g).right }))))) (side_value b g.nodes vs g.left x av h.left_in xe)
     ∙ ap (λ o. decided g.relation (chain o (λ y. Some (record { left = x; right = y; total = total_of b (sides_of g).left && total_of b (sides_of g).right })))) (side_value b g.nodes vs g.right y av h.right_in ye)
 
-and_none : (t : Bool) → (t && false) ≡ false
+pub and_none : (t : Bool) → (t && false) ≡ false
 and_none true = refl
 and_none false = refl
 
@@ -33,12 +33,6 @@ pub sure_total : (g : Parts) (b vs : List Bounds) (x y : Bounds) (r : Bool) → 
 sure_total g b vs x y r h av xe ye d t =
     let all = total_of b (sides_of g).left && total_of b (sides_of g).right in
     sides_total g b r h t ∙ sym (and_right all) ∙ ap (λ u. all && u) (sym d) ∙ sym (sure_by g b vs x y h av xe ye)
-
-pub not_sure : (g : Parts) (b vs : List Bounds) (x y : Bounds) → IsGraph g → AreValues b g.nodes vs → x ≡ get_or vs g.left x → y ≡ get_or vs g.right y
-    → ends_decide g.relation x y ≡ false → false ≡ sure_of (sides_of g) b
-not_sure g b vs x y h av xe ye d =
-    let all = total_of b (sides_of g).left && total_of b (sides_of g).right in
-    sym (and_none all) ∙ ap (λ u. all && u) (sym d) ∙ sym (sure_by g b vs x y h av xe ye)
 
 -- where a pass is empty the constraint is not sure
 pub none_sure : (g : Parts) (b : List Bounds) → IsGraph g → IsEmptyPass b g.nodes → false ≡ sure_of (sides_of g) b

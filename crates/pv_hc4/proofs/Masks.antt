@@ -6,10 +6,10 @@ use Rattle.std.proofs.lemmas.Bool.{cases_eq}
 use Rattle.std.proofs.lemmas.Bool.Decides.{nat_tests}
 use Rattle.std.proofs.lemmas.Nat.Bits.{bit_at_set_same, bit_at_set_other, bit_at_and, bit_at_xor, bit_at-lt}
 
-same_number : (i k : ℕ) → k ≡ i → nat_eq i k ≡ true
+pub same_number : (i k : ℕ) → k ≡ i → nat_eq i k ≡ true
 same_number i k e = grind (arith, nat_tests)
 
-other_number : (i k : ℕ) → k ≢ i → nat_eq i k ≡ false
+pub other_number : (i k : ℕ) → k ≢ i → nat_eq i k ≡ false
 other_number i k n = grind (arith, nat_tests)
 
 pub with_bit : (n i s k : ℕ) → i < 64 → s ≡ i → nat_eq (bit_at (bit_or n (1 * 2 ^ s % 2 ^ 64)) k) 1 ≡ (nat_eq i k || nat_eq (bit_at n k) 1)

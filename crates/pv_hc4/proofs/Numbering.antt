@@ -18,7 +18,7 @@ use Rattle.pv_hc4.proofs.Growth.{term_step, length-terms}
 
 -- ---- numbered nodes are all different
 
-same_number : (j k : ℕ) → Some j ≡ Some k → j ≡ k
+pub same_number : (j k : ℕ) → Some j ≡ Some k → j ≡ k
 same_number j k e = cc
 
 pub numbered_apart : {S : Type 0} (ns : List Node) (m : HashMap Node ℕ S) → AreNumbered ns m → (j k : ℕ) → j < length ns → k < length ns → node_at ns j ≡ node_at ns k → j ≡ k

@@ -57,7 +57,7 @@ no_targets : (i : ℕ) (b : List Bounds) → places_from i [] b ≡ Some b
 no_targets i [] = refl
 no_targets i (x ∷ b) = ap (λ o. chain o (λ c. Some (x ∷ c))) (no_targets (i + 1) b)
 
-chain_cong : {A B : Type 0} (o : Option A) (f g : A → Option B) → ((x : A) → f x ≡ g x) → chain o f ≡ chain o g
+pub chain_cong : {A B : Type 0} (o : Option A) (f g : A → Option B) → ((x : A) → f x ≡ g x) → chain o f ≡ chain o g
 chain_cong None f g h = refl
 chain_cong (Some x) f g h = h x
 

@@ -1,9 +1,8 @@
 -- What a revision and the sure test say of points, from their exact answers.
-use Rattle.std.proofs.Common.{◌≡◌, ℕ, List, [], ◌∷◌, length, refl, sym, ◌∙◌, subst}
+use Rattle.std.proofs.Common.{◌≡◌, ℕ, List, length, refl, sym, ◌∙◌, subst}
 use Rattle.std.specs.Prelude.{IsTrue, Bool, Option, Some, None, Result, Ok, Err, IfOk, OnErr}
 use Rattle.pv_interval.specs.Bounds.{Bounds}
 use Rattle.pv_interval.specs.Points.{Point}
-use Rattle.pv_interval.proofs.Ends.{le_refl}
 use Rattle.pv_box.specs.Boxes.{PointIn}
 use Rattle.pv_box.specs.Members.{PointInSome}
 use Rattle.pv_hc4.specs.Graphs.{IsAnswer}
@@ -15,13 +14,10 @@ use Rattle.pv_hc4.specs.declared.revised.Revised.TheVariants.{Kept, Changed, Emp
 use Rattle.pv_hc4.proofs.Keeping.{revised-keeps}
 use Rattle.pv_hc4.proofs.Sureness.{sure-holds}
 use Rattle.pv_hc4.proofs.Within.{revised-within}
-
-within_same : (b : List Bounds) → AreWithin b b
-within_same [] = tt
-within_same (x ∷ b) = (le_refl x.lo, le_refl x.hi, within_same b)
+use Rattle.pv_hc4.proofs.Resting.{within_refl}
 
 within_equal : (new old : List Bounds) → new ≡ old → AreWithin new old
-within_equal new old e = subst (λ c. AreWithin c old) (sym e) (within_same old)
+within_equal new old e = subst (λ c. AreWithin c old) (sym e) (within_refl old)
 
 answer_stays : (x : Point) (o : Option (List Bounds)) (r : Revised) (old new : List Bounds) → IsAnswer o r old new → PointInSome x o → Stays x r new
 answer_stays x None Kept old new a h = absurd a

@@ -16,6 +16,7 @@ use Rattle.pv_hc4.specs.Graphs.{AreValues, IsGraph, IsAnswer, sides_of, Parts}
 use Rattle.pv_hc4.specs.Pass.{IsEmptyPass}
 use Rattle.pv_hc4.proofs.Downward.{chain_none}
 use Rattle.pv_hc4.proofs.Places.{AreBelow, places_applied}
+use Rattle.std.proofs.lemmas.Option.{same_Some}
 
 -- what a step that gave something came from
 pub record Came {A B : Type 0} (o : Option A) (f : A → Option B) (y : B) : Type 0 where
@@ -59,17 +60,14 @@ AreBelow-append : (n : ℕ) (xs ys : List Target) → AreBelow n xs → AreBelow
 AreBelow-append n [] ys h g = g
 AreBelow-append n (x ∷ xs) ys h g = (h.0, AreBelow-append n xs ys h.1 g)
 
-some_is : {A : Type 0} (x y : A) → Some x ≡ Some y → x ≡ y
-some_is x y e = cc
-
 joined_below : (n : ℕ) (o p : Option (List Target)) (ts : List Target) → ((xs : List Target) → o ≡ Some xs → AreBelow n xs) → ((ys : List Target) → p ≡ Some ys → AreBelow n ys) → joined o p ≡ Some ts → AreBelow n ts
 joined_below n None p ts f g e = absurd (cc)
 joined_below n (Some xs) None ts f g e = absurd (cc)
-joined_below n (Some xs) (Some ys) ts f g e = subst (AreBelow n) (some_is (xs ++ ys) ts e) (AreBelow-append n xs ys (f xs refl) (g ys refl))
+joined_below n (Some xs) (Some ys) ts f g e = subst (AreBelow n) (same_Some (xs ++ ys) ts e) (AreBelow-append n xs ys (f xs refl) (g ys refl))
 
 pub targets_below : (n : ℕ) (b : List Bounds) (t : Term) (z : Bounds) (ts : List Target) → IsOver n t → targets_of b t z ≡ Some ts → AreBelow n ts
-targets_below n b (constant p q) z ts h e = subst (AreBelow n) (some_is [] ts e) tt
-targets_below n b (place i) z ts h e = subst (AreBelow n) (some_is (record { var = i; within = z } ∷ []) ts e) (h, tt)
+targets_below n b (constant p q) z ts h e = subst (AreBelow n) (same_Some [] ts e) tt
+targets_below n b (place i) z ts h e = subst (AreBelow n) (same_Some (record { var = i; within = z } ∷ []) ts e) (h, tt)
 targets_below n b (one u t) z ts h e =
     let c = came (forward_of b t) (λ x. chain (back_1 u z x) (λ y. targets_of b t y)) ts e in
     let d = came (back_1 u z c.from) (λ y. targets_of b t y) ts c.then_is in

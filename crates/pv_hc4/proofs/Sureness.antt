@@ -1,6 +1,6 @@
 -- Where the sure test says so, the constraint holds at each point of the box.
 use Rattle.std.proofs.Common.{◌≡◌, ℕ, zero, suc, ◌<◌, List, [], ◌∷◌, length, refl, ap, sym, ◌∙◌, subst, arith}
-use Rattle.std.specs.Prelude.{IsTrue, Option, Some, None, Bool, true, false, not, ◌&&◌, ℤ, pos, negsuc, ◌*ℤ◌, ◌≤ℤ◌, slice_get}
+use Rattle.std.specs.Prelude.{IsTrue, Option, Some, None, Bool, true, false, ◌&&◌, ℤ, pos, negsuc, ◌*ℤ◌, slice_get}
 use Rattle.std.proofs.lemmas.Int.{ints}
 use Rattle.pv_num.specs.Order.{le}
 use Rattle.pv_interval.specs.Bounds.{Bounds}
@@ -21,6 +21,8 @@ use Rattle.pv_hc4.specs.Totality.{divides_well, total_of, same_number, ends_deci
 use Rattle.pv_hc4.specs.Members.{HoldsAt}
 use Rattle.pv_hc4.proofs.Lying.{InSome, forward_lies}
 use Rattle.pv_hc4.proofs.Comparing.{through_end, through_room, same_end}
+use Rattle.pv_num.proofs.Orders.{both_le}
+use Rattle.std.proofs.lemmas.Bool.{not-true}
 
 pub left_true : (a b : Bool) → a && b ≡ true → a ≡ true
 left_true true b e = refl
@@ -29,10 +31,6 @@ left_true false b e = absurd (cc)
 pub right_true : (a b : Bool) → a && b ≡ true → b ≡ true
 right_true true b e = e
 right_true false b e = absurd (cc)
-
-not_true : (b : Bool) → not b ≡ true → b ≡ false
-not_true true e = absurd (cc)
-not_true false e = refl
 
 -- ---- a total term has a value
 
@@ -52,7 +50,7 @@ over_defined f (negsuc r) d y h e = record { v = _; is = refl }
 
 quotient_defined : (f g : Fraction) (o : Option Bounds) → InSome g o → divides_well quotient o ≡ true → IsDefined (over f g)
 quotient_defined f g None h e = absurd h
-quotient_defined f g (Some y) h e = over_defined f g.top g.under y h (not_true (has_nought y) e)
+quotient_defined f g (Some y) h e = over_defined f g.top g.under y h (not-true (has_nought y) e)
 
 pub binary_defined : (k : Binary) (f g : Fraction) (o : Option Bounds) → InSome g o → divides_well k o ≡ true → IsDefined (binary_value k f g)
 binary_defined sum f g o h e = record { v = plus f g; is = refl }
@@ -89,12 +87,9 @@ value_defined x b (two k t u) o h e =
 
 -- ---- the ends decide
 
-antisym : (a b : ℤ) → a ≤ℤ b → b ≤ℤ a → a ≡ b
-antisym a b h k = omega (arith, ints)
-
 equal_stand : (v w : Fraction) (l r : Bounds) → LiesIn v l → LiesIn w r → l.lo ≡ l.hi → r.lo ≡ r.hi → l.lo ≡ r.lo → v.top *ℤ pos w.under ≡ w.top *ℤ pos v.under
 equal_stand v w l r h k e f g =
-    antisym _ _
+    both_le _ _
     (through_end l.hi v.top w.top v.under w.under h.some k.some h.high (subst (λ a. IsBelow a w.top w.under) (sym g ∙ e) k.low))
     (through_end l.lo w.top v.top w.under v.under k.some h.some (subst (λ a. IsAbove a w.top w.under) (sym (g ∙ f)) k.high) h.low)
 
@@ -120,7 +115,7 @@ decided_stand c v w (Some l) None t h k e = absurd k
 decided_stand c v w (Some l) (Some r) t h k e =
     (left_true t (ends_decide c l r) e, stands_by c v w l r h k (right_true t (ends_decide c l r) e))
 
-decided_total : (c : Relation) (o p : Option Bounds) (t : Bool) → decided c (chain o (λ l. chain p (λ r. Some (record { left = l; right = r; total = t })))) ≡ true → t ≡ true
+pub decided_total : (c : Relation) (o p : Option Bounds) (t : Bool) → decided c (chain o (λ l. chain p (λ r. Some (record { left = l; right = r; total = t })))) ≡ true → t ≡ true
 decided_total c None p t e = absurd (cc)
 decided_total c (Some l) None t e = absurd (cc)
 decided_total c (Some l) (Some r) t e = left_true t (ends_decide c l r) e

@@ -19,7 +19,7 @@ use Rattle.pv_hc4.proofs.Revising.{part_none, side_value}
 use Rattle.pv_hc4.proofs.Growth.{term_step}
 use Rattle.pv_hc4.proofs.Passing.{node_default}
 
-op_well : (o : BinaryOp) (y : Bounds) → divides_well (binary_named o) (Some y) ≡ op_divides_well o y
+pub op_well : (o : BinaryOp) (y : Bounds) → divides_well (binary_named o) (Some y) ≡ op_divides_well o y
 op_well Add y = refl
 op_well Sub y = refl
 op_well Mul y = refl
@@ -74,7 +74,7 @@ partial_here b ns vs d i e r o av h r_is r_false = record {
 and_first : (a c : Bool) → a ≡ false → (a && c) ≡ false
 and_first a c e = ap (λ x. x && c) e
 
-and_second : (a c : Bool) → c ≡ false → (a && c) ≡ false
+pub and_second : (a c : Bool) → c ≡ false → (a && c) ≡ false
 and_second true c e = e
 and_second false c e = refl
 

@@ -1,24 +1,25 @@
 -- What settles a box in numbers of the format leaves numbers of the format: so each stage of the open search box has them.
-use Rattle.std.proofs.Common.{◌≡◌, ℕ, zero, suc, ◌+◌, ◌-◌, ◌%◌, ◌/◌, Bool, true, false, cond, List, [], ◌∷◌, ◌++◌, map, length, refl, ap, sym, ◌∙◌, subst, arith, ℤ, pos, negsuc, neg_ℤ, drop}
-use Rattle.std.specs.Prelude.{Option, Some, None, eqb, nat_eq, ◌||◌, ◌&&◌, if◌then◌else◌, option_and_then, slice_index_or, IfSome}
+use Rattle.std.proofs.Common.{◌≡◌, ℕ, zero, suc, ◌+◌, ◌-◌, ◌%◌, ◌/◌, Bool, true, false, cond, arith, ℤ, pos, negsuc, neg_ℤ}
+use Rattle.std.specs.Prelude.{Option, Some, None, eqb, ◌&&◌}
 use Rattle.pv_num.specs.Extended.{Extended, NegInf, Fin, PosInf}
 use Rattle.pv_num.specs.Grid.{unit}
 use Rattle.pv_num.specs.Order.{le, lt, lesser, greater}
 use Rattle.pv_num.specs.Parts.{IsNumber}
-use Rattle.pv_num.specs.Rounding.{rounded, is_size, top_size, size_below, size_above, greatest_upto, first_from, at_most_minus, at_least_plus}
-use Rattle.pv_num.specs.Arithmetic.{neg_of, add_of, sub_of, mul_of, div_of, end_of, infinite_by, rounded_quotient, ratio_of, pow_of, root_of, is_root_below, is_root_above, middle_of}
+use Rattle.pv_num.specs.Rounding.{rounded, is_size, top_size, size_below, size_above, greatest_upto, at_most_minus, at_least_plus}
+use Rattle.pv_num.specs.Arithmetic.{neg_of, add_of, mul_of, div_of, end_of, infinite_by, rounded_quotient, pow_of, root_of, is_root_below, is_root_above}
 use Rattle.pv_num.specs.Arithmetic as number
 use Rattle.pv_num.specs.declared.num.End.{End}
 use Rattle.pv_num.specs.declared.num.End.TheVariants.{Down, Up}
 use Rattle.pv_num.proofs.Signs.{neg_grid, zero_grid}
 use Rattle.pv_num.proofs.Rounds.{is_grid}
 use Rattle.pv_num.proofs.Rounding.{Found, first_from-found, greatest_upto-passes, size-grid, grid-size}
-use Rattle.std.proofs.lemmas.Bool.{and_parts}
-use Rattle.pv_interval.specs.Bounds.{Bounds, everything, between, interval_from}
-use Rattle.pv_interval.specs.Tables.{nought, exactly, is_from_nought, is_to_nought, is_nought, has_nought, crosses_nought, holds, sum_of, difference_of, least_of_four, greatest_of_four, of_ends, product_of, negated, absolute, least_of, greatest_of, signed_power, odd_power, even_power, power_of, over_from_nought, over_to_nought, quotient_across, quotient_of, hull_of, meet_of, width_of}
+use Rattle.pv_interval.specs.Bounds.{Bounds, everything, between}
+use Rattle.pv_interval.specs.Tables.{nought, exactly, is_from_nought, is_to_nought, is_nought, has_nought, crosses_nought, holds, sum_of, difference_of, of_ends, product_of, negated, absolute, least_of, greatest_of, signed_power, odd_power, even_power, power_of, over_from_nought, over_to_nought, quotient_across, quotient_of, hull_of, meet_of}
 use Rattle.pv_interval.proofs.Orders.{cond_keeps}
 use Rattle.pv_project.specs.Projections.{chain, narrowed, factor_of, back_add_of, back_sub_of, back_mul_of, back_div_of, least_side, back_min_of, greatest_side, back_max_of, back_neg_of, hull_of_parts, both_signs, back_abs_of, odd_low, odd_high, even_roots, back_pow_of}
 use Rattle.pv_file.specs.Readings.{HasNumberEnds}
+use Rattle.pv_ctc.proofs.Noting.{and_first}
+use Rattle.pv_slope.proofs.Numbers.{neg_number}
 
 -- ---- Numbers
 
@@ -33,11 +34,6 @@ nought_is = zero_grid
 unit_is : IsNumber (Fin (pos unit))
 unfolding unit
 unit_is = is_grid 1 512 (omega arith) (omega arith)
-
-neg_is : (x : Extended) → IsNumber x → IsNumber (neg_of x)
-neg_is NegInf h = tt
-neg_is (Fin a) h = neg_grid a h
-neg_is PosInf h = tt
 
 below_is : (p : ℕ → Bool) (n : ℕ) → p 0 ≡ true → ((m : ℕ) → p m ≡ true → is_size m ≡ true) → IsNumber (Fin (pos (greatest_upto p n)))
 below_is p n z sizes = size-grid _ (sizes _ (greatest_upto-passes p n z))
@@ -67,7 +63,7 @@ unfolding rounded
 rounded_is Down (pos n) b = size_below_is (n / b)
 rounded_is Down (negsuc n) b = above_low ((suc n + (b - 1)) / b)
 rounded_is Up (pos n) b = above_high ((n + (b - 1)) / b)
-rounded_is Up (negsuc n) b = neg_is (Fin (pos (size_below (suc n / b)))) (size_below_is (suc n / b))
+rounded_is Up (negsuc n) b = neg_number (Fin (pos (size_below (suc n / b)))) (size_below_is (suc n / b))
 
 end_is : (side : End) → IsNumber (end_of side)
 end_is Down = tt
@@ -120,21 +116,18 @@ pow_is side x zero h = unit_is
 pow_is side x (suc zero) h = h
 pow_is side x (suc (suc n)) h = mul_is side (pow_of side x (suc n)) x
 
-both_sizes : (s t : Bool) → (s && t) ≡ true → s ≡ true
-both_sizes s t e = (and_parts s t e).0
-
 root_below_is : (z : Extended) (n k : ℕ) → IsNumber (Fin (pos (greatest_upto (is_root_below z n) k)))
 unfolding greatest_upto
 root_below_is z n zero = nought_is
 root_below_is z n (suc k) =
     cond_keeps (λ (m : ℕ). IsNumber (Fin (pos m))) (is_root_below z n (suc k)) (suc k) (greatest_upto (is_root_below z n) k)
-    (λ t. size-grid (suc k) (both_sizes (is_size (suc k)) (le (pow_of Up (Fin (pos (suc k))) n) z) t)) (λ f. root_below_is z n k)
+    (λ t. size-grid (suc k) (and_first (is_size (suc k)) (le (pow_of Up (Fin (pos (suc k))) n) z) t)) (λ f. root_below_is z n k)
 
 root_is : (side : End) (z : Extended) (n : ℕ) → IsNumber (root_of side z n)
 unfolding root_of
 root_is Down z n = root_below_is z n top_size
 root_is Up NegInf n = nought_is
-root_is Up (Fin a) n = found_high (is_root_above (Fin a) n) (suc top_size) 0 _ (λ m t. both_sizes _ _ t) (first_from-found (is_root_above (Fin a) n) (suc top_size) 0)
+root_is Up (Fin a) n = found_high (is_root_above (Fin a) n) (suc top_size) 0 _ (λ m t. and_first _ _ t) (first_from-found (is_root_above (Fin a) n) (suc top_size) 0)
 root_is Up PosInf n = tt
 
 pub lesser_is : (x y : Extended) → IsNumber x → IsNumber y → IsNumber (lesser x y)
@@ -173,13 +166,13 @@ product_is x y = ends_are mul_of mul_is x y
 
 pub negated_is : (x : Bounds) → HasNumberEnds x → HasNumberEnds (negated x)
 unfolding negated
-negated_is x h = record { lo = neg_is x.hi h.hi; hi = neg_is x.lo h.lo }
+negated_is x h = record { lo = neg_number x.hi h.hi; hi = neg_number x.lo h.lo }
 
 pub absolute_is : (x : Bounds) → HasNumberEnds x → HasNumberEnds (absolute x)
 unfolding absolute
 absolute_is x h =
     either HasNumberEnds (is_from_nought x) x _ h
-    (either HasNumberEnds (is_to_nought x) (negated x) _ (negated_is x h) (record { lo = nought_is; hi = greater_is (neg_of x.lo) x.hi (neg_is x.lo h.lo) h.hi }))
+    (either HasNumberEnds (is_to_nought x) (negated x) _ (negated_is x h) (record { lo = nought_is; hi = greater_is (neg_of x.lo) x.hi (neg_number x.lo h.lo) h.hi }))
 
 pub least_is : (x y : Bounds) → HasNumberEnds x → HasNumberEnds y → HasNumberEnds (least_of x y)
 unfolding least_of
@@ -192,13 +185,13 @@ greatest_is x y h k = record { lo = greater_is x.lo y.lo h.lo k.lo; hi = greater
 signed_power_is : (side other : End) (e : Extended) (n : ℕ) → IsNumber e → IsNumber (signed_power side other e n)
 signed_power_is side other e n h =
     either IsNumber (le nought e) (pow_of side e n) (neg_of (pow_of other (neg_of e) n)) (pow_is side e n h)
-    (neg_is (pow_of other (neg_of e) n) (pow_is other (neg_of e) n (neg_is e h)))
+    (neg_number (pow_of other (neg_of e) n) (pow_is other (neg_of e) n (neg_number e h)))
 
 even_power_is : (x : Bounds) (n : ℕ) → HasNumberEnds x → HasNumberEnds (even_power x n)
 even_power_is x n h =
     either HasNumberEnds (is_from_nought x) _ _ (record { lo = pow_is Down x.lo n h.lo; hi = pow_is Up x.hi n h.hi })
-    (either HasNumberEnds (is_to_nought x) _ _ (record { lo = pow_is Down (neg_of x.hi) n (neg_is x.hi h.hi); hi = pow_is Up (neg_of x.lo) n (neg_is x.lo h.lo) })
-    (record { lo = nought_is; hi = greater_is _ _ (pow_is Up (neg_of x.lo) n (neg_is x.lo h.lo)) (pow_is Up x.hi n h.hi) }))
+    (either HasNumberEnds (is_to_nought x) _ _ (record { lo = pow_is Down (neg_of x.hi) n (neg_number x.hi h.hi); hi = pow_is Up (neg_of x.lo) n (neg_number x.lo h.lo) })
+    (record { lo = nought_is; hi = greater_is _ _ (pow_is Up (neg_of x.lo) n (neg_number x.lo h.lo)) (pow_is Up x.hi n h.hi) }))
 
 pub power_is : (x : Bounds) (n : ℕ) → HasNumberEnds x → HasNumberEnds (power_of x n)
 unfolding power_of
@@ -322,13 +315,13 @@ odd_low_is : (e : Extended) (n : ℕ) → IsNumber (odd_low e n)
 odd_low_is NegInf n = tt
 odd_low_is (Fin a) n =
     either IsNumber (le nought (Fin a)) (root_of Down (Fin a) n) (neg_of (root_of Up (neg_of (Fin a)) n)) (root_is Down (Fin a) n)
-    (neg_is (root_of Up (neg_of (Fin a)) n) (root_is Up (neg_of (Fin a)) n))
+    (neg_number (root_of Up (neg_of (Fin a)) n) (root_is Up (neg_of (Fin a)) n))
 odd_low_is PosInf n = root_is Down PosInf n
 
 odd_high_is : (e : Extended) (n : ℕ) → IsNumber (odd_high e n)
 odd_high_is e n =
     either IsNumber (le nought e) (root_of Up e n) (neg_of (root_of Down (neg_of e) n)) (root_is Up e n)
-    (neg_is (root_of Down (neg_of e) n) (root_is Down (neg_of e) n))
+    (neg_number (root_of Down (neg_of e) n) (root_is Down (neg_of e) n))
 
 even_roots_are : (w : Bounds) (n : ℕ) → HasNumberEnds (even_roots w n)
 even_roots_are w n = record { lo = root_is Down w.lo n; hi = root_is Up w.hi n }

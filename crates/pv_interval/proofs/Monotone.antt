@@ -1,5 +1,5 @@
 -- Products, quotients and powers of ends keep or turn the order.
-use Rattle.std.proofs.Common.{◌≡◌, ℕ, zero, suc, ◌<◌, refl, arith, ap, subst, rules}
+use Rattle.std.proofs.Common.{◌≡◌, ℕ, zero, suc, refl, arith, ap, subst, rules}
 use Rattle.std.specs.Prelude.{IsTrue, false, ℤ, pos, negsuc, ◌*ℤ◌, ◌≤ℤ◌}
 use Rattle.std.proofs.Math.IntN.{*ℤ_comm, *ℤ-zero}
 use Rattle.std.proofs.lemmas.Int.{ints}
@@ -16,6 +16,7 @@ use Rattle.pv_interval.proofs.Ends.{le_refl, le_trans, fin_le, le_fin}
 use Rattle.pv_interval.proofs.Rounds.{rounded_mono, rounded_from_zero, rounded_to_zero}
 use Rattle.pv_interval.proofs.Multiples.{unit_some, times_pp, times_np}
 use Rattle.pv_interval.proofs.Powers.{pow_from_zero}
+use Rattle.pv_num.proofs.Monotone.{rounded-monotone}
 
 pub neg_least : (e : Extended) → IsTrue (le NegInf e)
 neg_least NegInf = refl
@@ -55,9 +56,6 @@ mul_comm s PosInf NegInf = refl
 mul_comm s PosInf (Fin b) = refl
 mul_comm s PosInf PosInf = refl
 
-same_unit : (s : End) (p q : ℤ) (b : ℕ) → 0 < b → p ≤ℤ q → IsTrue (le (rounded s p b) (rounded s q b))
-same_unit s p q b h k = rounded_mono s p q b b h h (times_pos b p q k)
-
 zero_low : (s : End) (b : Extended) → IsTrue (le nought (mul_of s b nought))
 zero_low s NegInf = refl
 zero_low s (Fin b) = rounded_from_zero s (b *ℤ pos 0) unit unit_some (let e = *ℤ-zero b in omega (arith, ints))
@@ -86,7 +84,7 @@ mul_mono s a b (Fin (negsuc c)) h k = absurd (search rules)
 mul_mono s NegInf b (Fin (pos (suc c))) h k = neg_least (mul_of s b (Fin (pos (suc c))))
 mul_mono s (Fin a) NegInf (Fin (pos (suc c))) h k = absurd (search rules)
 mul_mono s (Fin a) (Fin b) (Fin (pos (suc c))) h k =
-    same_unit s (a *ℤ pos (suc c)) (b *ℤ pos (suc c)) unit unit_some (times_pos (suc c) a b (fin_le a b h))
+    rounded-monotone s (a *ℤ pos (suc c)) (b *ℤ pos (suc c)) unit unit_some (times_pos (suc c) a b (fin_le a b h))
 mul_mono s (Fin a) PosInf (Fin (pos (suc c))) h k = pos_greatest (rounded s (a *ℤ pos (suc c)) unit)
 mul_mono s PosInf NegInf (Fin (pos (suc c))) h k = absurd (search rules)
 mul_mono s PosInf (Fin b) (Fin (pos (suc c))) h k = absurd (search rules)
@@ -108,7 +106,7 @@ mul_turn s a b (Fin (pos (suc c))) h k = absurd (search rules)
 mul_turn s NegInf b (Fin (negsuc c)) h k = pos_greatest (mul_of s b (Fin (negsuc c)))
 mul_turn s (Fin a) NegInf (Fin (negsuc c)) h k = absurd (search rules)
 mul_turn s (Fin a) (Fin b) (Fin (negsuc c)) h k =
-    same_unit s (b *ℤ negsuc c) (a *ℤ negsuc c) unit unit_some
+    rounded-monotone s (b *ℤ negsuc c) (a *ℤ negsuc c) unit unit_some
     (times_to_zero (negsuc c) a b (omega (arith, ints)) (fin_le a b h))
 mul_turn s (Fin a) PosInf (Fin (negsuc c)) h k = neg_least (rounded s (a *ℤ negsuc c) unit)
 mul_turn s PosInf NegInf (Fin (negsuc c)) h k = absurd (search rules)
@@ -141,7 +139,7 @@ div_mono s PosInf PosInf PosInf h k = refl
 div_mono s NegInf b (Fin (pos (suc e))) h k = neg_least (div_of s b (Fin (pos (suc e))))
 div_mono s (Fin a) NegInf (Fin (pos (suc e))) h k = absurd (search rules)
 div_mono s (Fin a) (Fin b) (Fin (pos (suc e))) h k =
-    same_unit s (a *ℤ pos unit) (b *ℤ pos unit) (suc e) (omega arith) (times_pos unit a b (fin_le a b h))
+    rounded-monotone s (a *ℤ pos unit) (b *ℤ pos unit) (suc e) (omega arith) (times_pos unit a b (fin_le a b h))
 div_mono s (Fin a) PosInf (Fin (pos (suc e))) h k = pos_greatest (rounded s (a *ℤ pos unit) (suc e))
 div_mono s PosInf NegInf (Fin (pos (suc e))) h k = absurd (search rules)
 div_mono s PosInf (Fin b) (Fin (pos (suc e))) h k = absurd (search rules)

@@ -244,10 +244,10 @@ far_power a b n h k = by_le a b
 
 -- ---- quotients by one end
 
-not_pos : (a : ℤ) → Fin a ≢ PosInf
+pub not_pos : (a : ℤ) → Fin a ≢ PosInf
 not_pos a e = cc
 
-not_neg : (a : ℤ) → Fin a ≢ NegInf
+pub not_neg : (a : ℤ) → Fin a ≢ NegInf
 not_neg a e = cc
 
 pub div_low_open : (a e : Extended) → a ≢ PosInf → le e nought ≡ false → div_of Down a e ≢ PosInf
@@ -270,12 +270,12 @@ div_high_open (Fin a) (Fin (pos (suc e))) h k = rounded_up_open (a *ℤ pos unit
 div_high_open PosInf PosInf h k = not_neg (pos 0)
 div_high_open (Fin a) PosInf h k = not_neg (pos 0)
 
-neg_not_pos : (a : Extended) → a ≢ NegInf → neg_of a ≢ PosInf
+pub neg_not_pos : (a : Extended) → a ≢ NegInf → neg_of a ≢ PosInf
 neg_not_pos NegInf h = absurd (h refl)
 neg_not_pos (Fin a) h = not_pos (neg_ℤ a)
 neg_not_pos PosInf h = λ q. cc
 
-neg_not_neg : (a : Extended) → a ≢ PosInf → neg_of a ≢ NegInf
+pub neg_not_neg : (a : Extended) → a ≢ PosInf → neg_of a ≢ NegInf
 neg_not_neg PosInf h = absurd (h refl)
 neg_not_neg (Fin a) h = not_neg (neg_ℤ a)
 neg_not_neg NegInf h = λ q. cc

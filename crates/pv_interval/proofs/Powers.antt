@@ -156,7 +156,7 @@ odd_high f x n o h = let g = power f n in
 pub odd_keeps : (f : Fraction) (x : Bounds) (n : ℕ) → n % 2 ≡ 1 → LiesIn f x → LiesIn (power f n) (odd_power x n)
 odd_keeps f x n o h = record { some = power_some f n h.some; low = odd_low f x n o h; high = odd_high f x n o h }
 
-even_from_zero : (f : Fraction) (n : ℕ) → n % 2 ≡ 0 → pos 0 ≤ℤ (power f n).top
+pub even_from_zero : (f : Fraction) (n : ℕ) → n % 2 ≡ 0 → pos 0 ≤ℤ (power f n).top
 even_from_zero f n o = by_sign f.top (power_from_zero f n)
     (λ s. let e = power_from_zero (opposite f) n (omega (arith, ints)) in
     let p = ap (λ w. w.top) (power_even f n o) in omega (arith, ints))

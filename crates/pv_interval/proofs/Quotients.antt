@@ -268,7 +268,7 @@ below_down e r s p h = by_value (le nought e) refl
     by_value true k = let z = below_zero (negsuc r) s (below_le nought e (negsuc r) s k h) in absurd (omega (arith, ints))
     by_value false k = k
 
-both : (s t : Bool) → s ≡ true → t ≡ true → s && t ≡ false → ⊥
+pub both : (s t : Bool) → s ≡ true → t ≡ true → s && t ≡ false → ⊥
 both s t h k e = grind rules
 
 across_up : (f : Fraction) (r s : ℕ) (x y : Bounds) → LiesIn f x → Lies (pos (suc r)) s y

@@ -1,8 +1,7 @@
 -- Bytes that go to a writer or come from a reader piece by piece.
 use Rattle.std.proofs.Common.{◌≡◌, ◌+◌, ℕ, List, ◌++◌, take, drop, Option, Some, None, sym, ◌∙◌, ap, subst, append_assoc}
 use Rattle.std.proofs.Math.Seq.{take-add, drop-drop}
-use Rattle.std.specs.Io.KnownBytes.{Appends, Consumes, Keeps}
-use Rattle.pv_io.specs.Real.{TakesIn}
+use Rattle.std.specs.Io.KnownBytes.{Appends, Keeps}
 
 pub keeps_append : (old mid new : Option (List ℕ)) (bs : List ℕ) → Appends old mid bs → Keeps mid new → Appends old new bs
 keeps_append None mid new bs a k = tt
@@ -15,13 +14,6 @@ append_twice None mid new bs cs a b = tt
 append_twice (Some xs) None new bs cs a b = absurd a
 append_twice (Some xs) (Some ys) None bs cs a b = absurd b
 append_twice (Some xs) (Some ys) (Some zs) bs cs a b = b ∙ ap (λ (v : List ℕ). v ++ cs) a ∙ append_assoc xs bs cs
-
-pub takes_in : (had mid left : Option (List ℕ)) (before after : List ℕ) → Consumes had mid before → TakesIn mid left before after → Consumes had left after
-takes_in None mid left before after a b = tt
-takes_in (Some xs) None left before after a b = absurd a
-takes_in (Some xs) (Some ys) None before after a b = absurd b.2
-takes_in (Some xs) (Some ys) (Some zs) before after a b =
-    a ∙ ap (λ (v : List ℕ). before ++ v) b.2 ∙ sym (append_assoc before b.0 zs) ∙ ap (λ (v : List ℕ). v ++ zs) (sym b.1)
 
 -- A further part of the rest went to the writer.
 pub sent_more : (old mid new : Option (List ℕ)) (bytes rest next : List ℕ) (n m : ℕ) → rest ≡ drop n bytes → Appends old mid (take n bytes)

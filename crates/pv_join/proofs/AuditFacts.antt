@@ -31,7 +31,7 @@ outcome_below (small to) (b ∷ p) s q e = cc
 pub not_false : IsTrue false → ⊥
 not_false h = let w : false ≡ true = h in cc
 
-nothing_first : (r : List Bool) → IsTrue (precedes r []) → ⊥
+pub nothing_first : (r : List Bool) → IsTrue (precedes r []) → ⊥
 nothing_first [] h = let w : false ≡ true = h in cc
 nothing_first (b ∷ r) h = let w : false ≡ true = h in cc
 
@@ -57,7 +57,7 @@ precedes_past [] q r = refl
 precedes_past (false ∷ p) q r = precedes_past p q r
 precedes_past (true ∷ p) q r = precedes_past p q r
 
-step_past : (p : List Bool) (c : Bool) (u : List Bool) → (p ++ c ∷ []) ++ u ≡ p ++ c ∷ u
+pub step_past : (p : List Bool) (c : Bool) (u : List Bool) → (p ++ c ∷ []) ++ u ≡ p ++ c ∷ u
 step_past p c u = append_assoc p (c ∷ []) u
 
 child_follows : (p : List Bool) (c : Bool) (x y : Piece) → x.path ≡ p ++ c ∷ [] → (y' : Piece) → y'.path ≡ p → Follows y' y → Follows x y

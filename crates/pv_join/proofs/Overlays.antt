@@ -8,10 +8,11 @@ use Rattle.pv_tree.specs.Trees.{Tree, leaf, cut, top, subtree, outcome_at, graft
 use Rattle.pv_tree.specs.declared.outcome.Outcome.{Outcome}
 use Rattle.pv_tree.specs.declared.outcome.Outcome.TheVariants.{Removed, Inner, Small, Cut}
 use Rattle.pv_tree.proofs.Halves.{box_child}
-use Rattle.pv_join.specs.Joins.{IsJoin, DisagreeAt, IsFirstDisagreement, is_a_cut, IsOverlaid, HasPart, IsRefusal, IsReady, IsSettledAs, IsMismatch, IsJoinRefusal}
+use Rattle.pv_join.specs.Joins.{IsJoin, DisagreeAt, IsFirstDisagreement, is_a_cut, IsOverlaid, HasPart, IsRefusal, IsReady, IsSettledAs, IsMismatch}
 use Rattle.pv_join.specs.declared.merge.JoinRefused.{JoinRefused}
 use Rattle.pv_join.specs.declared.merge.JoinRefused.TheVariants as refused
 use Rattle.pv_join.proofs.JoinFacts.{join_unique, join_self, join_leaf_left, join_leaf_right, join_cut, graft_at, graft_same, graft_twice, subtree_low, subtree_high, graft_low, graft_high, cut_height, top_is, some_there, open_top, IsCutTree, cut_top, end_top, open_there}
+use Rattle.pv_join.proofs.AuditFacts.{nothing_first}
 
 some_same : (o : Option Tree) (s t : Tree) → o ≡ Some s → o ≡ Some t → s ≡ t
 some_same o s t e f = let w : Some s ≡ Some t = sym e ∙ f in cc
@@ -33,14 +34,10 @@ overlaid_end old mid over p o e c h s t hs ht =
           record { part = s; is_join = subst (λ (x : Tree). IsJoin s x s) (same ∙ sym is) (join_self s); new_is = k.1 ∙ sym (graft_same old p s hs) }
     ]
 
-none_before_root : (q : List Bool) → IsTrue (precedes q []) → ⊥
-none_before_root [] h = let w : false ≡ true = h in cc
-none_before_root (b ∷ q) h = let w : false ≡ true = h in cc
-
 pub root_first : (s t : Tree) (u o : Outcome) → top s ≡ Some u → top t ≡ Some o → u ≢ o → IsFirstDisagreement s t []
 root_first s t u o e f n = record {
   here = record { left = u; right = o; left_is = e; right_is = f; differ = n };
-  before = λ q h d. none_before_root q h;
+  before = λ q h d. nothing_first q h;
 }
 
 mismatch_disagree : (old over : Tree) (p : List Bool) (o : Outcome) (q : List Bool) → outcome_at over p ≡ Some o → IsMismatch old p o (refused.Disagree q) → IsRefusal old over p (refused.Disagree q)
@@ -254,17 +251,3 @@ on_ok_map (Err e) P Q f h = tt
 pub if_err_map : {T E : Type 0} (r : Result T E) (P Q : E → Type 0) → ((e : E) → P e → Q e) → IfErr r P → IfErr r Q
 if_err_map (Ok x) P Q f h = tt
 if_err_map (Err e) P Q f h = f e h
-
-pub join_whole : (a b new : Tree) (p : List Bool) → p ≡ [] → IsOverlaid a b new p → IsJoin a b new
-join_whole a b new p e h =
-    let x : HasPart a new p a b = h a b (ap (subtree a) e) (ap (subtree b) e) in
-    subst (IsJoin a b) (sym (x.new_is ∙ ap (λ (q : List Bool). graft a q x.part) e)) x.is_join
-
-refusal_disagree : (a b : Tree) (p q : List Bool) → p ≡ [] → IsRefusal a b p (refused.Disagree q) → IsFirstDisagreement a b q
-refusal_disagree a b p q e h =
-    let x : (r : List Bool) × ((q ≡ p ++ r) × IsFirstDisagreement a b r) = h a b (ap (subtree a) e) (ap (subtree b) e) in
-    subst (IsFirstDisagreement a b) (sym (x.1.0 ∙ ap (λ (z : List Bool). z ++ x.0) e)) x.1.1
-
-pub refusal_whole : (a b : Tree) (p : List Bool) (e : JoinRefused) → p ≡ [] → IsRefusal a b p e → IsJoinRefusal a b e
-refusal_whole a b p refused.Memory e h = tt
-refusal_whole a b p (refused.Disagree q) e h = refusal_disagree a b p q e h

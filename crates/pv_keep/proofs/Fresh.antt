@@ -1,16 +1,16 @@
 -- Where one tree grew from another, the rows that are new stand at and below the leaves that were open.
-use Rattle.std.proofs.Common.{◌≡◌, ℕ, zero, suc, ◌+◌, ◌<◌, ◌≤◌, max, Bool, true, false, cond, Option, Some, None, List, [], ◌∷◌, ◌++◌, map, length, refl, sym, ◌∙◌, ap, subst, inl, arith, append_assoc, append-nil}
+use Rattle.std.proofs.Common.{◌≡◌, ℕ, suc, ◌+◌, ◌<◌, ◌≤◌, Bool, true, false, cond, Option, Some, None, List, [], ◌∷◌, ◌++◌, map, length, refl, sym, ◌∙◌, ap, subst, inl, arith, append_assoc, append-nil}
 use Rattle.std.specs.Prelude.{IsTrue}
 use Rattle.pv_interval.specs.Bounds.{Bounds}
 use Rattle.pv_num.specs.Extended.{Extended}
-use Rattle.pv_tree.specs.Trees.{Tree, leaf, removed, inner, small, cut, top, outcome_at, subtree, opens, first, behind, precedes, shape_of, to_at, height, box_of, to_of, Paves, IsStrictlyInside}
+use Rattle.pv_tree.specs.Trees.{Tree, leaf, removed, inner, small, cut, top, outcome_at, subtree, opens, first, behind, precedes, shape_of, to_at, height, box_of, to_of, Paves}
 use Rattle.pv_tree.specs.Stages.{Grows}
 use Rattle.pv_tree.specs.declared.outcome.Outcome.{Outcome}
 use Rattle.pv_tree.specs.declared.outcome.Outcome.TheVariants.{Removed, Inner, Small, Cut}
 use Rattle.pv_tree.specs.declared.outcome.Shape.{Shape}
 use Rattle.pv_tree.specs.declared.outcome.Shape.TheVariants as shape
 use Rattle.pv_tree.proofs.Stacks.{height_below}
-use Rattle.pv_tree.proofs.Halves.{paves_below}
+use Rattle.pv_tree.proofs.Halves.{paves_below, inside_there}
 use Rattle.pv_join.proofs.Shapes.{top_there, outcome_top}
 use Rattle.pv_join.proofs.JoinFacts.{subtree_low, subtree_high}
 use Rattle.pv_keep.specs.declared.row.Row.{Row}
@@ -234,11 +234,6 @@ cut_rows t p low high s rows first second third e c l h a b d =
 
 -- ---- The place of a cut
 
-strictly_there : (a : Extended) (v : ℕ) (b : List Bounds) → IsStrictlyInside a v b → v < length b
-strictly_there a v [] h = absurd h
-strictly_there a zero (x ∷ xs) h = omega arith
-strictly_there a (suc v) (x ∷ xs) h = omega (arith, strictly_there a v xs h)
-
 abbrev var_or : Shape → ℕ
 var_or shape.Absent = 0
 var_or shape.OpenLeaf = 0
@@ -262,7 +257,7 @@ place_below b (Some removed) var at to h e f l = cc
 place_below b (Some (inner to')) var at to h e f l = cc
 place_below b (Some (small to')) var at to h e f l = cc
 place_below b (Some (cut to' var' at' low high)) var at to h e f l =
-    let below : var' < length to' = strictly_there at' var' to' (h (cut to' var' at' low high) refl).2 in
+    let below : var' < length to' = inside_there at' var' to' (h (cut to' var' at' low high) refl).2 in
     let same : var ≡ var' = ap var_or e in
     let kept : length to' ≡ length to = ap length_or f in
     omega (arith, below, same, kept, l)

@@ -153,7 +153,7 @@ behind_kids hole p (Inner to) others k = k
 behind_kids hole p (Small to) others k = k
 behind_kids hole p (Cut to var at) others k = inr (inr k)
 
-behind_trans : (p q : List Bool) (xs : List Row) → IsTrue (precedes p q) → AllBehind q xs → AllBehind p xs
+pub behind_trans : (p q : List Bool) (xs : List Row) → IsTrue (precedes p q) → AllBehind q xs → AllBehind p xs
 behind_trans p q [] h a = tt
 behind_trans p q (x ∷ xs) h a = (precedes_trans p q x.path h a.0, behind_trans p q xs h a.1)
 

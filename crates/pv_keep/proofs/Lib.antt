@@ -2,8 +2,8 @@ mod Orders
 mod Stepping
 mod RowOrder
 mod Shuffles
-mod Placing
-mod Leaves
+pub mod Placing
+pub mod Leaves
 mod Making
 mod Fresh
 mod Opening

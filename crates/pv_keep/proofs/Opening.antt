@@ -6,16 +6,15 @@ use Rattle.pv_join.specs.Joins.{IsJoin, settled_side}
 use Rattle.pv_join.proofs.JoinFacts.{side_left}
 use Rattle.pv_tree.specs.Trees.{outcome_at}
 use Rattle.pv_tree.specs.declared.outcome.Outcome.{Outcome}
-use Rattle.std.proofs.Common.{◌≡◌, Bool, true, false, length-append, ℕ, ◌+◌, ◌<◌, ◌≤◌, List, [], ◌∷◌, ◌++◌, length, refl, sym, ◌∙◌, ap, subst, inl, inr, arith}
+use Rattle.std.proofs.Common.{◌≡◌, Bool, true, false, length-append, ℕ, ◌+◌, List, [], ◌∷◌, ◌++◌, length, refl, sym, ◌∙◌, ap, subst, inl, inr, arith}
 use Rattle.pv_interval.specs.Bounds.{Bounds}
-use Rattle.pv_io.specs.Outside.{Rose}
 use Rattle.pv_tree.specs.Trees.{Tree, leaf}
 use Rattle.pv_file.specs.Readings.{settled_count}
 use Rattle.pv_keep.specs.declared.row.Row.{Row}
-use Rattle.pv_keep.specs.Rows.{rows_of, rows_below, InPreorder, IsShuffle, AreDistinct}
-use Rattle.pv_keep.specs.Keeping.{Kept, untold, absent, holds, IsBegun, IsOrdered, AreAll, AreTooMany, MayBeThere, MayBeNew, with_rows}
-use Rattle.pv_keep.specs.Rebuilding.{Make, IsFirstBad}
-use Rattle.pv_keep.specs.Campaigns.{IsOpened, IsLeft, HasTooMany, HasBadRow, KeepsTree, IsSaved}
+use Rattle.pv_keep.specs.Rows.{rows_of, rows_below, InPreorder, IsShuffle}
+use Rattle.pv_keep.specs.Keeping.{Kept, untold, absent, holds, IsBegun, IsOrdered, AreAll, MayBeThere, MayBeNew, with_rows}
+use Rattle.pv_keep.specs.Rebuilding.{IsFirstBad}
+use Rattle.pv_keep.specs.Campaigns.{IsLeft, HasBadRow, KeepsTree, IsSaved}
 use Rattle.pv_keep.proofs.RowOrder.{ordered_rows}
 use Rattle.pv_keep.proofs.Shuffles.{all_placed_shuffle, second_new}
 
@@ -23,30 +22,6 @@ pub there_now : (k0 k1 : Kept) (identity : List ℕ) → IsBegun k0 k1 identity 
 there_now untold k1 identity b = subst MayBeThere (sym b) tt
 there_now absent k1 identity b = subst MayBeThere (sym b) tt
 there_now (holds kept rows) k1 identity b = subst MayBeThere (sym b.1) tt
-
-pub opened_now : (limit : ℕ) (k0 k1 k2 : Kept) (identity : List ℕ) (b : List Bounds) (rows : List Row) (t : Tree) → IsBegun k0 k1 identity → k2 ≡ k1 → AreAll k1 limit rows → IsOrdered k1
-    → Make b leaf rows t → (InPreorder rows → rows ≡ rows_of t) → IsOpened limit k0 k2 identity b t
-opened_now limit untold k1 k2 identity b rows t begun same all ordered made are = same ∙ begun
-opened_now limit absent k1 k2 identity b rows t begun same all ordered made are =
-    let none : AreAll (holds identity []) limit rows = subst (λ (k : Kept). AreAll k limit rows) begun all in
-    (same ∙ begun, subst (λ (xs : List Row). Make b leaf xs t) none.0 made)
-opened_now limit (holds kept kept_rows) k1 k2 identity b rows t begun same all ordered made are =
-    let known : AreAll (holds kept kept_rows) limit rows = subst (λ (k : Kept). AreAll k limit rows) begun.1 all in
-    let in_order : InPreorder kept_rows = subst IsOrdered begun.1 ordered in
-    let list : rows ≡ rows_of t = are (subst InPreorder (sym known.0) in_order) in
-    (begun.0, (same ∙ begun.1, (sym known.0 ∙ list, (subst (λ (xs : List Row). Make b leaf xs t) known.0 made, known.1))))
-
-pub few_rows : (limit : ℕ) (k : Kept) (rows : List Row) → AreAll k limit rows → length rows ≤ limit
-few_rows limit untold rows a = a
-few_rows limit absent rows a = absurd a
-few_rows limit (holds kept kept_rows) rows a = let e : length rows ≡ length kept_rows = ap length a.0 in omega (arith, a.1, e)
-
-pub too_many_now : (limit : ℕ) (k0 k1 : Kept) (identity : List ℕ) (rows : List Row) → IsBegun k0 k1 identity → AreTooMany k1 limit rows → HasTooMany limit k0 identity
-too_many_now limit untold k1 identity rows begun many = tt
-too_many_now limit absent k1 identity rows begun many =
-    let none : AreTooMany (holds identity []) limit rows = subst (λ (k : Kept). AreTooMany k limit rows) begun many in absurd (omega (arith, none.1))
-too_many_now limit (holds kept kept_rows) k1 identity rows begun many =
-    let known : AreTooMany (holds kept kept_rows) limit rows = subst (λ (k : Kept). AreTooMany k limit rows) begun.1 many in (begun.0, known.1)
 
 none_bad : (b : List Bounds) (n : ℕ) → IsFirstBad b [] n → ⊥
 none_bad b n f = no_middle f.front f.row f.rest f.are
@@ -73,21 +48,7 @@ left_alone untold k1 identity e = e
 left_alone absent k1 identity e = inl e
 left_alone (holds kept rows) k1 identity e = e
 
-pub left_begun : (k0 k1 k2 : Kept) (identity : List ℕ) → IsBegun k0 k1 identity → k2 ≡ k1 → IsLeft k0 k2 identity
-left_begun untold k1 k2 identity b e = e ∙ b
-left_begun absent k1 k2 identity b e = inr (e ∙ b)
-left_begun (holds kept rows) k1 k2 identity b e = e ∙ b.1
-
-pub rose_later : (a b c : ℕ) → a ≤ b → Rose b c → Rose a c
-rose_later a b c l (inl h) = inl (omega (arith, l, h))
-rose_later a b c l (inr h) = inr h
-
 -- ---- Saving
-
-pub there_kept : (k : Kept) (t : Tree) → KeepsTree k t → MayBeThere k
-there_kept untold t h = tt
-there_kept absent t h = absurd h
-there_kept (holds identity rows) t h = tt
 
 pub new_now : (k : Kept) (t u : Tree) (rows : List Row) → KeepsTree k t → IsShuffle (rows_of t) rows (rows_of u) → MayBeNew k rows
 new_now untold t u rows h s = tt
@@ -139,9 +100,3 @@ shuffle_count xs ys (z ∷ zs) (inr s) = let e : length ys ≡ length (z ∷ s.0
 
 pub new_count : (s u : Tree) (rows : List Row) → IsShuffle (rows_of s) rows (rows_of u) → settled_count u ≡ settled_count s + length rows
 new_count s u rows h = omega (arith, shuffle_count (rows_of s) rows (rows_of u) h, row_count [] s, row_count [] u)
-
--- what is told once a campaign is opened is its tree's
-pub opened_keeps : (limit : ℕ) (before after : Kept) (identity : List ℕ) (b : List Bounds) (t : Tree) → IsOpened limit before after identity b t → KeepsTree after t
-opened_keeps limit untold after identity b t h = subst (λ (k : Kept). KeepsTree k t) (sym h) tt
-opened_keeps limit absent after identity b t h = subst (λ (k : Kept). KeepsTree k t) (sym h.0) (sym (ap rows_of h.1))
-opened_keeps limit (holds kept rows) after identity b t h = subst (λ (k : Kept). KeepsTree k t) (sym h.1.0) h.1.1.0

@@ -2,9 +2,7 @@
 use Rattle.std.proofs.Common.{◌≡◌, ◌≢◌, Bool, true, false, List, [], ◌∷◌, ◌++◌, refl, ap}
 use Rattle.std.specs.Prelude.{IsTrue}
 use Rattle.pv_tree.specs.Trees.{precedes}
-
-pub not_false : IsTrue false → ⊥
-not_false h = let w : false ≡ true = h in cc
+use Rattle.pv_join.proofs.AuditFacts.{not_false}
 
 pub precedes_past : (p q r : List Bool) → precedes (p ++ q) (p ++ r) ≡ precedes q r
 precedes_past [] q r = refl

@@ -1,19 +1,16 @@
 -- A row put at its place among rows in preorder.
 use Rattle.std.specs.List.Sorted.{IsPartitionPoint, IsPartitionedBy}
-use Rattle.std.proofs.Common.{◌≡◌, ◌≢◌, ℕ, zero, suc, ◌≤◌, ◌<◌, Bool, true, false, cond, List, [], ◌∷◌, ◌++◌, length, reverse, refl, sym, ◌∙◌, ap, subst, arith}
+use Rattle.std.proofs.Common.{◌≡◌, ◌≢◌, ℕ, zero, suc, ◌≤◌, ◌<◌, Bool, true, false, cond, List, [], ◌∷◌, ◌++◌, length, reverse, refl, sym, ◌∙◌, ap, arith}
 use Rattle.std.specs.Prelude.{IsTrue, insert, slice_index_or}
 use Rattle.std.proofs.lemmas.List.{reverse-append}
 use Rattle.pv_tree.specs.Trees.{precedes}
 use Rattle.pv_keep.specs.declared.row.Row.{Row}
-use Rattle.pv_keep.specs.Rows.{AllBehind, InPreorder, placed, all_placed, HasNoRow, AreDistinct, AreNew, IsSplit, NoneBefore}
-use Rattle.pv_keep.proofs.Orders.{precedes_trans, not_back, or_back, unlike}
+use Rattle.pv_keep.specs.Rows.{AllBehind, InPreorder, placed, HasNoRow, AreNew, IsSplit, NoneBefore}
+use Rattle.pv_keep.proofs.Orders.{precedes_trans, not_back, or_back}
+use Rattle.pv_keep.proofs.Leaves.{behind_trans}
 
 placed_case : (row x : Row) (xs : List Row) (b : Bool) → precedes row.path x.path ≡ b → placed row (x ∷ xs) ≡ cond b (row ∷ x ∷ xs) (x ∷ placed row xs)
 placed_case row x xs b e = ap (λ (c : Bool). cond c (row ∷ x ∷ xs) (x ∷ placed row xs)) e
-
-behind_trans : (p q : List Bool) (xs : List Row) → IsTrue (precedes p q) → AllBehind q xs → AllBehind p xs
-behind_trans p q [] h a = tt
-behind_trans p q (x ∷ xs) h a = (precedes_trans p q x.path h a.0, behind_trans p q xs h a.1)
 
 behind_placed_case : (p : List Bool) (row x : Row) (xs : List Row) (b : Bool) → IsTrue (precedes p row.path) → AllBehind p (x ∷ xs) → AllBehind p (placed row xs)
     → AllBehind p (cond b (row ∷ x ∷ xs) (x ∷ placed row xs))
@@ -42,7 +39,7 @@ pub none_placed : (p : List Bool) (row : Row) (xs : List Row) → row.path ≢ p
 none_placed p row [] h a = (h, tt)
 none_placed p row (x ∷ xs) h a = none_case p row x xs (precedes row.path x.path) h a (none_placed p row xs h a.1)
 
-turned : (p q : List Bool) → p ≢ q → q ≢ p
+pub turned : (p q : List Bool) → p ≢ q → q ≢ p
 turned p q h = λ e. h (sym e)
 
 -- What was new still is, behind a row at another path.

@@ -1,6 +1,5 @@
 -- The rows of a paving make that paving and no other.
-use Rattle.std.proofs.Common.{◌≡◌, ℕ, suc, ◌+◌, ◌<◌, ◌≤◌, length, length-append, Bool, true, false, List, [], ◌∷◌, ◌++◌, Some, refl, sym, ◌∙◌, ap, subst, arith}
-use Rattle.std.specs.Prelude.{max}
+use Rattle.std.proofs.Common.{◌≡◌, ℕ, ◌+◌, ◌≤◌, length, Bool, true, false, List, [], ◌∷◌, ◌++◌, Some, refl, sym, ◌∙◌, ap, subst, arith}
 use Rattle.pv_num.proofs.Texts.{some_some}
 use Rattle.pv_num.specs.Extended.{Extended}
 use Rattle.pv_interval.specs.Bounds.{Bounds}
@@ -25,6 +24,7 @@ use Rattle.pv_keep.specs.Rebuilding.{Make, IsGoodRow, IsFirstBad, MayStand}
 use Rattle.pv_keep.specs.Rounds.{Held, AllHeldStages}
 use Rattle.pv_keep.specs.Reopening.{MakeOnly, RowsMakeTheirs, KeptMakes, AllKeptMake, RoundsKeepTheirTrees}
 use Rattle.pv_keep.proofs.Rounding.{all_held}
+use Rattle.pv_file.proofs.Fits.{deep_low, deep_high, short_cut}
 
 -- ---- One line, one outcome
 
@@ -53,15 +53,6 @@ record IsPart (p : List Bool) (b : List Bounds) (t : Tree) : Type 0 where
   pub paves : Paves b t
   pub numbers : HasNumbers t
   pub depth : length p + height t ≤ 200
-
-deep_low : (p : List Bool) (c : Bool) (low high : Tree) → length p + suc (max (height low) (height high)) ≤ 200 → length (p ++ c ∷ []) + height low ≤ 200
-deep_low p c low high h = let l : length (p ++ c ∷ []) ≡ length p + 1 = length-append p (c ∷ []) in omega (arith, l, h)
-
-deep_high : (p : List Bool) (c : Bool) (low high : Tree) → length p + suc (max (height low) (height high)) ≤ 200 → length (p ++ c ∷ []) + height high ≤ 200
-deep_high p c low high h = let l : length (p ++ c ∷ []) ≡ length p + 1 = length-append p (c ∷ []) in omega (arith, l, h)
-
-short_cut : (p : List Bool) (low high : Tree) → length p + suc (max (height low) (height high)) ≤ 200 → length p < 200
-short_cut p low high h = omega (arith, h)
 
 low_part : (p : List Bool) (b to : List Bounds) (var : ℕ) (at : Extended) (low high : Tree) → IsPart p b (cut to var at low high) → IsPart (p ++ false ∷ []) (lower_half to var at) low
 low_part p b to var at low high f = record { paves = f.paves.3; numbers = f.numbers.2; depth = deep_low p false low high f.depth }

@@ -1,23 +1,21 @@
 -- The rows of a tree stand in preorder.
-use Rattle.std.proofs.Common.{◌≡◌, Bool, true, false, List, [], ◌∷◌, ◌++◌, refl, sym, ◌∙◌, ap, subst, append_assoc, append-nil}
+use Rattle.std.proofs.Common.{Bool, true, false, List, [], ◌∷◌, ◌++◌, sym, subst, append-nil}
 use Rattle.std.specs.Prelude.{IsTrue}
 use Rattle.pv_tree.specs.Trees.{Tree, leaf, removed, inner, small, cut, precedes}
 use Rattle.pv_keep.specs.declared.row.Row.{Row}
 use Rattle.pv_keep.specs.Rows.{rows_below, rows_of, AllBehind, InPreorder}
 use Rattle.pv_keep.proofs.Orders.{precedes_past}
+use Rattle.pv_join.proofs.AuditFacts.{step_past}
 
 pub behind_append : (p : List Bool) (xs ys : List Row) → AllBehind p xs → AllBehind p ys → AllBehind p (xs ++ ys)
 behind_append p [] ys h k = k
 behind_append p (x ∷ xs) ys h k = (h.0, behind_append p xs ys h.1 k)
 
-step_on : (p : List Bool) (c : Bool) (u : List Bool) → (p ++ c ∷ []) ++ u ≡ p ++ c ∷ u
-step_on p c u = append_assoc p (c ∷ []) u
-
 at_once : (q p : List Bool) → ((u : List Bool) → IsTrue (precedes q (p ++ u))) → IsTrue (precedes q p)
 at_once q p h = subst (λ (r : List Bool). IsTrue (precedes q r)) (append-nil p) (h [])
 
 further : (q p : List Bool) (c : Bool) → ((u : List Bool) → IsTrue (precedes q (p ++ u))) → (u : List Bool) → IsTrue (precedes q ((p ++ c ∷ []) ++ u))
-further q p c h u = subst (λ (r : List Bool). IsTrue (precedes q r)) (sym (step_on p c u)) (h (c ∷ u))
+further q p c h u = subst (λ (r : List Bool). IsTrue (precedes q r)) (sym (step_past p c u)) (h (c ∷ u))
 
 -- A path that stands before all that a path leads to stands before the rows there.
 pub behind_below : (q p : List Bool) (t : Tree) → ((u : List Bool) → IsTrue (precedes q (p ++ u))) → AllBehind q (rows_below p t)
@@ -46,7 +44,7 @@ here_across : (q : List Bool) (ys : List Row) → ((u : List Bool) → AllBehind
 here_across q ys h = subst (λ (r : List Bool). AllBehind r ys) (append-nil q) (h [])
 
 across_on : (q : List Bool) (c : Bool) (ys : List Row) → ((u : List Bool) → AllBehind (q ++ u) ys) → (u : List Bool) → AllBehind ((q ++ c ∷ []) ++ u) ys
-across_on q c ys h u = subst (λ (r : List Bool). AllBehind r ys) (sym (step_on q c u)) (h (c ∷ u))
+across_on q c ys h u = subst (λ (r : List Bool). AllBehind r ys) (sym (step_past q c u)) (h (c ∷ u))
 
 across_below : (q : List Bool) (t : Tree) (ys : List Row) → ((u : List Bool) → AllBehind (q ++ u) ys) → AllAcross (rows_below q t) ys
 across_below q leaf ys h = tt
@@ -60,13 +58,13 @@ across_below q (cut to var at low high) ys h = (
 
 below_here : (p : List Bool) (c : Bool) (u : List Bool) → IsTrue (precedes p ((p ++ c ∷ []) ++ u))
 below_here p c u =
-    subst (λ (r : List Bool). IsTrue (precedes p r)) (sym (step_on p c u))
+    subst (λ (r : List Bool). IsTrue (precedes p r)) (sym (step_past p c u))
     (subst (λ (r : List Bool). IsTrue (precedes r (p ++ c ∷ u))) (append-nil p) (precedes_past p [] (c ∷ u)))
 
 low_high : (p u s : List Bool) → IsTrue (precedes ((p ++ false ∷ []) ++ u) ((p ++ true ∷ []) ++ s))
 low_high p u s =
-    subst (λ (r : List Bool). IsTrue (precedes r ((p ++ true ∷ []) ++ s))) (sym (step_on p false u))
-    (subst (λ (r : List Bool). IsTrue (precedes (p ++ false ∷ u) r)) (sym (step_on p true s)) (precedes_past p (false ∷ u) (true ∷ s)))
+    subst (λ (r : List Bool). IsTrue (precedes r ((p ++ true ∷ []) ++ s))) (sym (step_past p false u))
+    (subst (λ (r : List Bool). IsTrue (precedes (p ++ false ∷ u) r)) (sym (step_past p true s)) (precedes_past p (false ∷ u) (true ∷ s)))
 
 pub ordered_below : (p : List Bool) (t : Tree) → InPreorder (rows_below p t)
 ordered_below p leaf = tt

@@ -1,10 +1,11 @@
 -- Rows that are two lists in one, and rows put at their places.
-use Rattle.std.proofs.Common.{◌≡◌, ◌≢◌, Bool, true, false, cond, List, [], ◌∷◌, ◌++◌, refl, sym, ◌∙◌, ap, subst, inl, inr, ◌⊎◌}
+use Rattle.std.proofs.Common.{◌≡◌, Bool, false, cond, List, [], ◌∷◌, ◌++◌, refl, sym, ◌∙◌, ap, subst, inl, inr}
 use Rattle.std.specs.Prelude.{IsTrue}
 use Rattle.pv_tree.specs.Trees.{precedes}
 use Rattle.pv_keep.specs.declared.row.Row.{Row}
 use Rattle.pv_keep.specs.Rows.{AllBehind, InPreorder, placed, all_placed, HasNoRow, AreDistinct, AreNew, IsShuffle}
-use Rattle.pv_keep.proofs.Orders.{precedes_trans, not_back, or_back, unlike}
+use Rattle.pv_keep.proofs.Orders.{not_back, unlike}
+use Rattle.pv_keep.proofs.Placing.{turned}
 
 abbrev head_of : List Row → Row → Row
 head_of [] d = d
@@ -96,9 +97,6 @@ pub second_distinct : (xs ys zs : List Row) → IsShuffle xs ys zs → InPreorde
 second_distinct xs ys [] s o = subst AreDistinct (sym s.1) tt
 second_distinct xs ys (z ∷ zs) (inl s) o = second_distinct s.0 ys zs s.2 o.1
 second_distinct xs ys (z ∷ zs) (inr s) o = subst AreDistinct (sym s.1) (none_second z.path xs s.0 zs o.0 s.2, second_distinct xs s.0 zs s.2 o.1)
-
-turned : (p q : List Bool) → p ≢ q → q ≢ p
-turned p q h = λ e. h (sym e)
 
 new_more : (x : Row) (xs ys : List Row) → HasNoRow x.path ys → AreNew xs ys → AreNew (x ∷ xs) ys
 new_more x xs [] h n = tt

@@ -1,6 +1,6 @@
 -- Each refusal has a cause, and where nothing is at fault there is none but memory and the machine.
-use Rattle.std.proofs.Common.{◌≡◌, ◌⊎◌, inl, inr, ℕ, ◌<◌, ◌^◌, Bool, true, false, List, length, refl, sym, ◌∙◌, ap, subst}
-use Rattle.std.specs.Prelude.{◌≢◌, Option, Some, None}
+use Rattle.std.proofs.Common.{◌≡◌, inl, inr, ℕ, true, false, List, length, refl, sym, ◌∙◌, ap, subst}
+use Rattle.std.specs.Prelude.{◌≢◌, Option, None}
 use Rattle.std.proofs.lemmas.List.{length-map}
 use Rattle.clap.specs.Words.{Text}
 use Rattle.pv_expr.specs.Systems.{Parts}
@@ -12,7 +12,7 @@ use Rattle.pv_parse.specs.declared.refused.ParseRefused.TheVariants.{Fault}
 use Rattle.pv_parse.proofs.Outcomes.{system_apart, one_system_meant}
 use Rattle.pv_ctc.specs.Plans.{plan_of}
 use Rattle.pv_ctc.specs.Refusals.{refused_at}
-use Rattle.pv_ctc.proofs.Spelled.{spelling_right}
+use Rattle.pv_ctc.proofs.Spelled.{spelling_right, apart}
 use Rattle.pv_slope.specs.Methods.{Method}
 use Rattle.pv_io.specs.Outside.{Content, Rose, untold, absent, holds, MayBeAbsent}
 use Rattle.pv_request.specs.Requests.{Asks, out_of, RefusesWords}
@@ -20,15 +20,15 @@ use Rattle.pv_request.specs.Refusals.{status_of}
 use Rattle.pv_rule.specs.Systems.{Files, IsFetched, HasSystem, HasFault, HasRule, HasNoRule, RefusesSystem, RefusesRule}
 use Rattle.pv_product.specs.Campaigns.{Stock}
 use Rattle.pv_product.specs.Products.{Product, text, unfinished, paved_as, HasStatus, RefusesSample, RefusesWork}
-use Rattle.pv_product.specs.Ends.{Outside, IsEnd, RefusesDelivery, IsRefusedSo, in_words, in_request, Tells}
+use Rattle.pv_product.specs.Ends.{Outside, RefusesDelivery, IsRefusedSo, in_words, in_request, Tells}
 use Rattle.pv_laws.specs.Merges.{AreTold}
 use Rattle.pv_laws.specs.Stored.{IsAnswer}
 use Rattle.pv_laws.specs.Complete.{IsRight, IsOutsideFault, no_memory, not_read, not_stored, not_printed, RightIsAnswered}
 use Rattle.pv_request.specs.declared.request.Settings.{Settings}
 use Rattle.pv_request.specs.declared.request.Request.{Request}
-use Rattle.pv_request.specs.declared.request.Request.TheVariants.{Check, Run, Resume, Merge, Audit, Svg, Sample, Least, Campaign}
+use Rattle.pv_request.specs.declared.request.Request.TheVariants.{Check, Run, Sample}
 use Rattle.pv_request.specs.declared.refusal.Refusal.{Refusal}
-use Rattle.pv_request.specs.declared.refusal.Refusal.TheVariants.{Usage, System, Contract, Objective, NoFile, ReadFault, Paving, NotStored, KeeperFault, NotPrinted, Memory, TreeLimit, Disagree, Differs}
+use Rattle.pv_request.specs.declared.refusal.Refusal.TheVariants.{Usage, System, Contract, NoFile, ReadFault, NotStored, NotPrinted, Memory}
 use Rattle.pv_request.specs.declared.status.Status.{Status}
 use Rattle.pv_request.specs.declared.status.Status.TheVariants as status
 use Rattle.pv_laws.proofs.Merges.{same_fetched}
@@ -60,9 +60,6 @@ system_excused before after name s (ReadFault n) told h k = k.1
 system_excused before after name s Memory told h k = tt
 system_excused before after name s r told h k = k
 
-none_some : (n : ℕ) → None ≡ Some n → ⊥
-none_some n e = cc
-
 -- a program that is spelled is not refused
 not_refused : (before : Files) (name : Text) (s : Settings) (rule : Method) (byte : ℕ) → before.content name ≢ untold → HasRule before name s rule → HasNoRule before name s (Contract byte) → ⊥
 not_refused before name s rule byte told h k =
@@ -72,7 +69,7 @@ not_refused before name s rule byte told h k =
     sym (length-map k.system.constraints sides_of) ∙ ap length (sym alike.constraints) ∙ length-map h.system.constraints sides_of in
     let right : refused_at (length h.system.constraints) s.contract.now ≡ None =
     spelling_right (length h.system.constraints) s.contract.now (plan_of rule.parts.program) (few_constraints h.read.text h.system h.read.means) h.is.program in
-    none_some byte (sym right ∙ ap (λ (n : ℕ). refused_at n s.contract.now) (sym count) ∙ k.refused)
+    apart byte (sym right ∙ ap (λ (n : ℕ). refused_at n s.contract.now) (sym count) ∙ k.refused)
 
 rule_excused : (before after : Files) (name : Text) (s : Settings) (rule : Method) (r : Refusal) → before.content name ≢ untold → HasRule before name s rule → RefusesRule before after name s r → IsExcused before after r
 rule_excused before after name s rule (Contract byte) told h k = not_refused before name s rule byte told h k

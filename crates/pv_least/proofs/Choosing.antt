@@ -1,7 +1,7 @@
 -- The least of some numbers and the first best of some points, as a list grows at its end.
 use Rattle.std.proofs.Common.{◌≡◌, Bool, true, false, IsTrue, cond, List, [], ◌∷◌, ◌++◌, refl, sym, ◌∙◌, ap, append-nil}
 use Rattle.std.specs.Prelude.{not, Option, Some, None, IfSome}
-use Rattle.std.proofs.lemmas.Bool.{true≢false}
+use Rattle.std.proofs.lemmas.Bool.{true≢false, not-true, not-false}
 use Rattle.std.specs.Ordering.{is_lt, is_le, ordering_reverse}
 use Rattle.std.specs.declared.cmp.Ordering.{Ordering}
 use Rattle.std.specs.declared.cmp.Ordering.TheVariants.{Less, Equal, Greater}
@@ -62,19 +62,11 @@ reversed_lt Greater = refl
 lt_not : (a b : Extended) → lt b a ≡ not (le a b)
 lt_not a b = ap is_lt (order_of-total.antisymm b a) ∙ reversed_lt (order_of a b)
 
-not_false : (t : Bool) → not t ≡ true → t ≡ false
-not_false false h = refl
-not_false true h = absurd (true≢false (sym h))
-
-not_true : (t : Bool) → not t ≡ false → t ≡ true
-not_true true h = refl
-not_true false h = absurd (true≢false h)
-
 above : (a b : Extended) → lt b a ≡ true → le a b ≡ false
-above a b h = not_false (le a b) (sym (lt_not a b) ∙ h)
+above a b h = not-true (le a b) (sym (lt_not a b) ∙ h)
 
 pub at_most : (a b : Extended) → lt b a ≡ false → le a b ≡ true
-at_most a b h = not_true (le a b) (sym (lt_not a b) ∙ h)
+at_most a b h = not-false (le a b) (sym (lt_not a b) ∙ h)
 
 still_above : (a b c : Extended) (t : Bool) → le a c ≡ t → le a b ≡ false → le b c ≡ false → t ≡ false
 still_above a b c false e h k = refl
@@ -157,7 +149,3 @@ all_more P (p ∷ ps) qs h k = (h.0, all_more P ps qs h.1 k)
 pub better_later : (o : Option BestPoint) (p : BestPoint) → beats p.upper o ≡ true → better o (Some p) ≡ Some p
 better_later None p h = refl
 better_later (Some a) p h = ap (λ t. cond t (Some p) (Some a)) h
-
-pub better_earlier : (o : Option BestPoint) (p : BestPoint) → beats p.upper o ≡ false → better o (Some p) ≡ o
-better_earlier None p h = absurd (true≢false h)
-better_earlier (Some a) p h = ap (λ t. cond t (Some p) (Some a)) h

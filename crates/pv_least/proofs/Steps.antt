@@ -1,5 +1,5 @@
 -- One step of a search: what it asks of the leaf that comes next, and that it brings the end nearer.
-use Rattle.std.proofs.Common.{◌≡◌, ℕ, suc, ◌+◌, ◌-◌, ◌*◌, ◌<◌, ◌≤◌, Bool, IsTrue, List, length, refl, sym, ◌∙◌, ap, subst, arith, length-append}
+use Rattle.std.proofs.Common.{◌≡◌, ℕ, ◌-◌, ◌<◌, ◌≤◌, Bool, IsTrue, List, length, refl, sym, ◌∙◌, ap, subst, arith}
 use Rattle.std.specs.Prelude.{Option}
 use Rattle.pv_num.specs.Extended.{Extended}
 use Rattle.pv_interval.specs.Bounds.{Bounds}
@@ -9,16 +9,16 @@ use Rattle.pv_expr.specs.Terms.{Term}
 use Rattle.pv_tree.specs.Trees.{leaf, Fits, CutsAbove}
 use Rattle.pv_tree.specs.Stages.{Rule}
 use Rattle.pv_tree.specs.Laws.{IsLawful}
-use Rattle.pv_tree.specs.Holes.{Hole, Growing, holes_below, settle_next, pass_next, rest_of, Takes, IsNext, IsFirstBox}
+use Rattle.pv_tree.specs.Holes.{Growing, settle_next, pass_next, Takes, IsNext, IsFirstBox}
 use Rattle.pv_tree.specs.declared.outcome.Outcome.{Outcome}
 use Rattle.pv_tree.specs.declared.outcome.Outcome.TheVariants.{Removed, Inner, Small, Cut}
 use Rattle.pv_tree.proofs.Wholes.{within_length}
 use Rattle.pv_tree.proofs.StageLaws.{depth_from, step_stage}
-use Rattle.pv_tree.proofs.KnownLeaves.{next_box, next_takes, next_holes, next_is_leaf}
+use Rattle.pv_tree.proofs.KnownLeaves.{next_box, next_takes, next_is_leaf}
 use Rattle.pv_least.specs.declared.found.Least.{Least}
 use Rattle.pv_least.specs.Objectives.{low_of, admits}
 use Rattle.pv_least.specs.Searches.{upper_of}
-use Rattle.pv_least.specs.Running.{HasDims, IsSearch, steps_left, passed_by, settled_by}
+use Rattle.pv_least.specs.Running.{HasDims, IsSearch, passed_by, settled_by}
 use Rattle.pv_least.proofs.Searching.{search_passes, search_settles}
 
 fits_dims : (n : ℕ) (b : List Bounds) (o : Outcome) → Fits b o → length b ≡ n → HasDims n o
@@ -26,33 +26,6 @@ fits_dims n b Removed h e = tt
 fits_dims n b (Inner to) h e = within_length to b h ∙ e
 fits_dims n b (Small to) h e = within_length to b h ∙ e
 fits_dims n b (Cut to v a) h e = within_length to b h.0 ∙ e
-
-few_below : (hole : Hole) (o : Outcome) → length (holes_below hole o) ≤ 2
-few_below hole Removed = omega arith
-few_below hole (Inner to) = omega arith
-few_below hole (Small to) = omega arith
-few_below hole (Cut to v a) = omega arith
-
-count_after : (t : Term) (l : Least) (o : Outcome) → (settled_by t l o).settled ≡ l.settled + 1
-count_after t l Removed = refl
-count_after t l (Inner to) = refl
-count_after t l (Small to) = refl
-count_after t l (Cut to v a) = refl
-
-less_left : (budget s r holes below rest : ℕ) → s < budget → r ≡ s + 1 → holes ≡ suc rest → below ≤ 2 → 2 * (budget - r) + (below + rest) < 2 * (budget - s) + holes
-less_left budget s r holes below rest h e f g = omega arith
-
-pub fewer_settled : (t : Term) (budget : ℕ) (g : Growing) (p : List Bool) (l : Least) (o : Outcome) → IsNext g p → l.settled < budget → steps_left budget (settle_next g o) (settled_by t l o) < steps_left budget g l
-fewer_settled t budget g p l o n more =
-    let count : length (settle_next g o).holes ≡ length (holes_below n.hole o) + length n.rest = ap length (next_holes g p o n) ∙ length-append (holes_below n.hole o) n.rest in
-    subst (λ k. 2 * (budget - (settled_by t l o).settled) + k < 2 * (budget - l.settled) + length g.holes) (sym count)
-    (less_left budget l.settled (settled_by t l o).settled (length g.holes) (length (holes_below n.hole o)) (length n.rest) more (count_after t l o) (ap length n.is) (few_below n.hole o))
-
-pub fewer_passed : (budget : ℕ) (g : Growing) (p : List Bool) (l : Least) (low : Option Extended) (is_next : Bool) → IsNext g p → steps_left budget (pass_next g) (passed_by l low is_next) < steps_left budget g l
-fewer_passed budget g p l low is_next n =
-    let front : length (rest_of g.holes) ≡ length n.rest = ap (λ hs. length (rest_of hs)) n.is in
-    let all : length g.holes ≡ suc (length n.rest) = ap length n.is in
-    omega (arith, front, all)
 
 module _ (rule : Rule) (depth dims : ℕ) (inside : Point → Type 0) (laws : IsLawful rule depth dims inside) (g : Growing) (p : List Bool) (n : IsNext g p)
     (root_box : IsBox g.root) (size : length g.root ≡ dims) (b : List Bounds) (first : IsFirstBox g.holes b) where

@@ -6,7 +6,7 @@ use Rattle.std.proofs.lemmas.Option.{IfSome_then}
 use Rattle.std.specs.Prelude.{IfSome, IsSome}
 use Rattle.pv_interval.specs.Bounds.{Bounds}
 use Rattle.pv_io.specs.Outside.{appended, AppendsFront}
-use Rattle.pv_io.proofs.Fronts.{appended_none, held_front}
+use Rattle.pv_io.proofs.Fronts.{held_front}
 use Rattle.pv_tree.specs.Trees.{Tree}
 use Rattle.pv_tree.specs.Pieces.{Piece, children_of, root_piece, all_nodes, to_come}
 use Rattle.pv_tree.proofs.Pieces.{some_nodes, to_come-step}
@@ -15,12 +15,9 @@ use Rattle.pv_file.specs.Lines.{lines_of}
 use Rattle.pv_file.specs.Walks.{pending_text, after_steps, AreWritten}
 use Rattle.pv_file.specs.Scribes.{Scribed}
 use Rattle.pv_lines.specs.Turns.{AreSpread, HasTurned, before_text, texts_of, HaveTexts}
+use Rattle.pv_file.proofs.Handing.{none_after}
 
 -- ---- Steps
-
-none_after : (n : ℕ) → after_steps n [] ≡ []
-none_after zero = refl
-none_after (suc n) = refl
 
 pub steps_add : (a b : ℕ) (ps : List Piece) → after_steps (a + b) ps ≡ after_steps b (after_steps a ps)
 steps_add zero b ps = let e : 0 + b ≡ b = omega arith in ap (λ (n : ℕ). after_steps n ps) e
@@ -129,18 +126,10 @@ turned v share gap old mid new made come same =
 
 -- ---- Handing texts over
 
-pub front_none : (told : Option (List ℕ)) (text : List ℕ) → AppendsFront told told text
-front_none told text = (0, sym (appended_none told))
-
 pub texts_from : (xs : List Scribed) (i : ℕ) (d : Scribed) (t : List ℕ) → i < length xs → (get_or xs i d).text ≡ Some t
     → texts_of (drop i xs) ≡ t ++ texts_of (drop (i + 1) xs)
 texts_from xs i d t there e =
     ap texts_of (drop_more xs i d there) ∙ ap (λ (o : Option (List ℕ)). before_text o (texts_of (drop (i + 1) xs))) e
-
-pub have_from : (xs : List Scribed) (i : ℕ) (d : Scribed) (t : List ℕ) → i < length xs → (get_or xs i d).text ≡ Some t
-    → HaveTexts (drop (i + 1) xs) → HaveTexts (drop i xs)
-have_from xs i d t there e have =
-    subst HaveTexts (sym (drop_more xs i d there)) (subst (λ (o : Option (List ℕ)). IsSome o) (sym e) refl, have)
 
 -- ---- All rounds
 

@@ -132,16 +132,6 @@ finite_is PosInf s n f e g = absurd (true≢false f)
 finite_is (Fin (pos m)) s n f e g = ap (λ z. Fin (with_sign z n)) e ∙ ap (λ z. Fin (pos z)) g
 finite_is (Fin (negsuc m)) s n f e g = ap (λ z. Fin (with_sign z n)) e ∙ ap (λ z. Fin (neg_ℤ (pos z))) g
 
-pub minus_end : (x : Extended) → is_infinite_of x ≡ true → is_negative_of x ≡ true → x ≡ NegInf
-minus_end NegInf f e = refl
-minus_end (Fin a) f e = absurd (true≢false (sym f))
-minus_end PosInf f e = absurd (true≢false (sym e))
-
-pub plus_end : (x : Extended) → is_infinite_of x ≡ true → is_negative_of x ≡ false → x ≡ PosInf
-plus_end NegInf f e = absurd (true≢false e)
-plus_end (Fin a) f e = absurd (true≢false (sym f))
-plus_end PosInf f e = refl
-
 value_from : (m e z : ℤ) (k : ℕ) → e +ℤ pos 512 ≡ pos k → z ≡ m *ℤ pos (2 ^ k) → IsValue m e z
 value_from m e z k h v = subst (λ x. IsValueAt m x z) (sym h) v
 

@@ -2,14 +2,13 @@ use Rattle.std.proofs.Common.{◌≡◌, ℕ, zero, suc, ◌*◌, ◌^◌, ◌<�
 use Rattle.std.proofs.lemmas.Bool.{true≢false}
 use Rattle.std.proofs.lemmas.Nat.{pow_pos}
 use Rattle.std.proofs.Math.Nat.{mul-pos}
-use Rattle.std.proofs.Math.IntN.{neg_ℤ-neg_ℤ}
-use Rattle.pv_num.specs.Arithmetic.{neg_of}
 use Rattle.pv_num.specs.Extended.{Extended, NegInf, Fin, PosInf}
 use Rattle.pv_num.specs.View.{number_of, opposite_of, IsClassOf, IsJustified}
 use Rattle.pv_num.specs.Sizes.{size_of, signed_of, magnitude_of, is_negative_of, is_infinite_of}
 use Rattle.pv_num.specs.declared.magnitude.Magnitude.{Magnitude}
 use Rattle.pv_num.specs.declared.num.Class.{Class}
 use Rattle.pv_num.specs.declared.num.Class.TheVariants.{MinusOo, Negative, NonNegative, PlusOo}
+use Rattle.pv_num.proofs.Divisions.{divisor_pos}
 
 -- What the class of a number says of it.
 
@@ -72,13 +71,9 @@ two_classes k l m e n f a b d ea eb ca cb fa fb same =
 
 -- ---- A number of the same class with another size
 
-positive : (m e : ℕ) → 0 < m * 2 ^ e → 0 < m
-positive zero e h = omega (arith, h)
-positive (suc m) e h = omega arith
-
 classed : (k : Class) (m e : ℕ) → endless k ≡ false → (minus k ≡ true → 0 < m * 2 ^ e) → IsClassOf k e m
 classed MinusOo m e f z = absurd (true≢false f)
-classed Negative m e f z = positive m e (z refl)
+classed Negative m e f z = divisor_pos m e (z refl)
 classed NonNegative m e f z = tt
 classed PlusOo m e f z = absurd (true≢false f)
 
@@ -118,12 +113,6 @@ other_class Negative m e c n = tt
 other_class NonNegative m e c n = positive_or_zero m e n
 other_class PlusOo m e c n = c
 
-other_value : (k : Class) (n : ℕ) → number_of (opposite_of k) n ≡ neg_of (number_of k n)
-other_value MinusOo n = refl
-other_value Negative n = ap Fin (sym (neg_ℤ-neg_ℤ (pos n)))
-other_value NonNegative n = refl
-other_value PlusOo n = refl
-
 pub other_sign : (k : Class) (m e : ℕ) (a : Extended) → number_of k (m * 2 ^ e) ≡ a → (a ≡ Fin (pos 0) → ⊥) → m < 2 ^ 62 → e ≤ 962 → (0 < e → 2 ^ 61 ≤ m) → IsClassOf k e m → IsJustified (record { class = opposite_of k; exponent = e; mantissa = m })
 other_sign k m e a q n f x j c = record {
   mantissa_fits = f;
@@ -131,6 +120,3 @@ other_sign k m e a q n f x j c = record {
   justified = j;
   classed = other_class k m e c (λ z. n (sym q ∙ z));
 }
-
-pub other_sign_is : (k : Class) (m e : ℕ) (a : Extended) → number_of k (m * 2 ^ e) ≡ a → number_of (opposite_of k) (m * 2 ^ e) ≡ neg_of a
-other_sign_is k m e a q = other_value k (m * 2 ^ e) ∙ ap neg_of q

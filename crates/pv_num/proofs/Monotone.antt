@@ -7,10 +7,10 @@ use Rattle.pv_num.specs.Extended.{Extended, NegInf, Fin, PosInf}
 use Rattle.pv_num.specs.Grid.{IsGrid, unit}
 use Rattle.pv_num.specs.Order.{le}
 use Rattle.pv_num.specs.Rounding.{IsDown, IsUp, rounded}
-use Rattle.pv_num.specs.Arithmetic.{neg_of, mul_of, pow_of}
+use Rattle.pv_num.specs.Arithmetic.{mul_of, pow_of}
 use Rattle.pv_num.specs.declared.num.End.{End}
 use Rattle.pv_num.specs.declared.num.End.TheVariants.{Down, Up}
-use Rattle.pv_num.proofs.Signs.{neg_grid, pos_le, le_pos, neg-mul, below-neg, above-neg, zero_grid}
+use Rattle.pv_num.proofs.Signs.{pos_le, le_pos, zero_grid}
 use Rattle.pv_num.proofs.Scales.{unit_pos}
 use Rattle.pv_num.proofs.Rounding.{rounded-is, rounded-unique}
 use Rattle.pv_num.proofs.Orders.{le-Fin, Fin-le, le-refl, NegInf-le, le-PosInf}
@@ -51,7 +51,7 @@ rounded-monotone Up a c b p l = up_monotone a c b _ _ l (rounded-is Up a b p) (r
 
 -- ---- A format number stays
 
-≤ℤ_same : (a b : ℤ) → a ≡ b → a ≤ℤ b
+pub ≤ℤ_same : (a b : ℤ) → a ≡ b → a ≤ℤ b
 ≤ℤ_same a b e = omega (arith, ints)
 
 cancel_pos : (m n b : ℕ) → 0 < b → m * b ≤ n * b → m ≤ n
@@ -104,36 +104,6 @@ rounded-at_most a b p = down_at_most a b (rounded Down a b) (rounded-is Down a b
 
 pub rounded-at_least : (a : ℤ) (b : ℕ) → 0 < b → IsAtLeast (rounded Up a b) a b
 rounded-at_least a b p = up_at_least a b (rounded Up a b) (rounded-is Up a b p)
-
--- ---- Negation exchanges the sides
-
-neg_none_down : (a : ℤ) (b : ℕ) → ((f : ℤ) → IsGrid f → (f *ℤ pos b) <ℤ a) → (f : ℤ) → IsGrid f → neg_ℤ a <ℤ (f *ℤ pos b)
-neg_none_down a b h f g =
-    let l : (neg_ℤ f *ℤ pos b) <ℤ a = h (neg_ℤ f) (neg_grid f g) in
-    let l' : neg_ℤ (f *ℤ pos b) <ℤ a = subst (λ x. x <ℤ a) (neg-mul f b) l in
-    omega (arith, ints, l')
-
-neg_none_up : (a : ℤ) (b : ℕ) → ((f : ℤ) → IsGrid f → a <ℤ (f *ℤ pos b)) → (f : ℤ) → IsGrid f → (f *ℤ pos b) <ℤ neg_ℤ a
-neg_none_up a b h f g =
-    let l : a <ℤ (neg_ℤ f *ℤ pos b) = h (neg_ℤ f) (neg_grid f g) in
-    let l' : a <ℤ neg_ℤ (f *ℤ pos b) = subst (λ x. a <ℤ x) (neg-mul f b) l in
-    omega (arith, ints, l')
-
-neg_up : (a : ℤ) (b : ℕ) (r : Extended) → IsUp a b r → IsDown (neg_ℤ a) b (neg_of r)
-neg_up a b NegInf h = absurd h
-neg_up a b (Fin n) h = above-neg a b n h
-neg_up a b PosInf h = neg_none_down a b h
-
-neg_down : (a : ℤ) (b : ℕ) (r : Extended) → IsDown a b r → IsUp (neg_ℤ a) b (neg_of r)
-neg_down a b NegInf h = neg_none_up a b h
-neg_down a b (Fin n) h = below-neg a b n h
-neg_down a b PosInf h = absurd h
-
-pub neg-rounded_up : (a : ℤ) (b : ℕ) → 0 < b → neg_of (rounded Up a b) ≡ rounded Down (neg_ℤ a) b
-neg-rounded_up a b p = rounded-unique Down (neg_ℤ a) b (neg_of (rounded Up a b)) p (neg_up a b (rounded Up a b) (rounded-is Up a b p))
-
-pub neg-rounded_down : (a : ℤ) (b : ℕ) → 0 < b → neg_of (rounded Down a b) ≡ rounded Up (neg_ℤ a) b
-neg-rounded_down a b p = rounded-unique Up (neg_ℤ a) b (neg_of (rounded Down a b)) p (neg_down a b (rounded Down a b) (rounded-is Down a b p))
 
 -- ---- Products and powers of numbers from 0 on are monotone
 

@@ -2,17 +2,17 @@ use Rattle.std.proofs.Common.{◌≡◌, ◌≢◌, ◌↔◌, IsTrue, ℕ, zero
 use mathlib.Core.Bool.{beq}
 use Rattle.std.proofs.lemmas.Bool.{true≢false, cases_lt, le-ltb}
 use Rattle.std.proofs.lemmas.Int.{ints}
-use Rattle.std.proofs.Math.IntN.{negsuc-*ℤ-pos, pos-*ℤ-negsuc}
+use Rattle.std.proofs.Math.IntN.{negsuc-*ℤ-pos}
 use Rattle.std.specs.Int.Signed.{lt_z}
 use Rattle.pv_num.specs.Extended.{Extended, NegInf, Fin, PosInf}
 use Rattle.pv_num.specs.Grid.{unit}
 use Rattle.pv_num.specs.Rounding.{rounded}
-use Rattle.pv_num.specs.Arithmetic.{mul_of, div_of, ratio_of}
+use Rattle.pv_num.specs.Arithmetic.{div_of, ratio_of}
 use Rattle.pv_num.specs.Sizes.{IsSized, fine, signed_of, toward_of, magnitude_of, is_negative_of, is_infinite_of, whole_of, with_sign}
 use Rattle.pv_num.specs.declared.num.End.{End}
 use Rattle.pv_num.specs.declared.magnitude.Magnitude.{Magnitude}
 use Rattle.pv_num.specs.declared.magnitude.Toward.{Toward}
-use Rattle.pv_num.proofs.Scales.{signed_is, unit_pos, round_sum}
+use Rattle.pv_num.proofs.Scales.{signed_is, round_sum}
 use Rattle.pv_num.proofs.Signs.{neg-mul}
 use Rattle.std.proofs.lemmas.Nat.{pow_pos}
 
@@ -24,24 +24,6 @@ restated side s s' t v v' b r es et ev h = subst (λ z. IsSized (toward_of side 
 
 both_signs : (p q p' q' : Bool) → p ≡ p' → q ≡ q' → not (beq p q) ≡ not (beq p' q')
 both_signs p q p' q' e f = ap (λ z. not (beq z q)) e ∙ ap (λ z. not (beq p' z)) f
-
--- ---- Products
-
-mul_core : (side : End) (a b : Extended) (r : Option Magnitude) → is_infinite_of a ≡ false → is_infinite_of b ≡ false → IsSized (toward_of side (not (beq (is_negative_of a) (is_negative_of b)))) (magnitude_of a * magnitude_of b) unit r → signed_of (not (beq (is_negative_of a) (is_negative_of b))) r ≡ mul_of side a b
-mul_core side NegInf b r f g h = absurd (true≢false f)
-mul_core side PosInf b r f g h = absurd (true≢false f)
-mul_core side (Fin a) NegInf r f g h = absurd (true≢false g)
-mul_core side (Fin a) PosInf r f g h = absurd (true≢false g)
-mul_core side (Fin (pos m)) (Fin (pos n)) r f g h = signed_to side false (m * n) unit r (pos m *ℤ pos n) refl unit_pos h
-mul_core side (Fin (pos m)) (Fin (negsuc n)) r f g h = signed_to side true (m * suc n) unit r (pos m *ℤ negsuc n) (sym (pos-*ℤ-negsuc m n)) unit_pos h
-mul_core side (Fin (negsuc m)) (Fin (pos n)) r f g h = signed_to side true (suc m * n) unit r (negsuc m *ℤ pos n) (sym (negsuc-*ℤ-pos m n)) unit_pos h
-mul_core side (Fin (negsuc m)) (Fin (negsuc n)) r f g h = signed_to side false (suc m * suc n) unit r (negsuc m *ℤ negsuc n) refl unit_pos h
-
-pub mul_finite : (side : End) (a b : Extended) (t : Toward) (x y : ℕ) (p q : Bool) (r : Option Magnitude) → is_infinite_of a ≡ false → is_infinite_of b ≡ false → p ≡ is_negative_of a → q ≡ is_negative_of b → x ≡ magnitude_of a → y ≡ magnitude_of b → t ≡ toward_of side (not (beq p q)) → IsSized t (x * y) unit r → signed_of (not (beq p q)) r ≡ mul_of side a b
-mul_finite side a b t x y p q r f g ep eq ex ey et h =
-    let es = both_signs p q (is_negative_of a) (is_negative_of b) ep eq in
-    let ev : x * y ≡ magnitude_of a * magnitude_of b = ap (λ z. z * y) ex ∙ ap (λ z. magnitude_of a * z) ey in
-    ap (λ z. signed_of z r) es ∙ mul_core side a b r f g (restated side (not (beq p q)) _ t (x * y) _ unit r es et ev h)
 
 -- ---- Quotients
 
@@ -143,14 +125,6 @@ same_signs true true e = refl
 same_signs true false e = absurd (true≢false e)
 same_signs false true e = absurd (true≢false (sym e))
 same_signs false false e = refl
-
--- A sum of numbers of one sign, over 1.
-pub alike_whole : (side : End) (a b : Extended) (t : Toward) (x y : ℕ) (p : Bool) (r : Option Magnitude) → is_infinite_of a ≡ false → is_infinite_of b ≡ false → is_negative_of a ≡ is_negative_of b → p ≡ is_negative_of a → x ≡ magnitude_of a → y ≡ magnitude_of b → t ≡ toward_of side p → IsSized t (x + y) 1 r → signed_of p r ≡ rounded side (whole_of a +ℤ whole_of b) 1
-alike_whole side a b t x y p r f g same ep ex ey et h =
-    let one : 0 < 1 = omega arith in
-    ap (λ z. signed_of z r) ep
-    ∙ signed_to side (is_negative_of a) (magnitude_of a + magnitude_of b) 1 r _ (sum_alike a b f g (same_signs _ _ same)) one
-    (restated side p (is_negative_of a) t (x + y) (magnitude_of a + magnitude_of b) 1 r ep et (ap (λ z. z + y) ex ∙ ap (λ z. magnitude_of a + z) ey) h)
 
 -- ---- Sums of numbers of opposite signs, over 1
 

@@ -30,11 +30,6 @@ is_lt_means a b Less h t = h
 is_lt_means a b Equal h t = absurd (true≢false (sym t))
 is_lt_means a b Greater h t = absurd (true≢false (sym t))
 
-is_lt_from : (a b : ℤ) (o : Ordering) → MatchOrdering o (a <ℤ b) (a ≡ b) (b <ℤ a) → a <ℤ b → is_lt o ≡ true
-is_lt_from a b Less h l = refl
-is_lt_from a b Equal h l = absurd (omega (arith, ints))
-is_lt_from a b Greater h l = absurd (omega (arith, ints))
-
 -- The order of finite numbers is that of the whole numbers.
 pub le-Fin : (a b : ℤ) → IsTrue (le (Fin a) (Fin b)) → a ≤ℤ b
 le-Fin a b t = is_le_means a b (int_cmp a b) (int_ranks a b) t
@@ -44,9 +39,6 @@ Fin-le a b l = is_le_from a b (int_cmp a b) (int_ranks a b) l
 
 pub lt-Fin : (a b : ℤ) → IsTrue (lt (Fin a) (Fin b)) → a <ℤ b
 lt-Fin a b t = is_lt_means a b (int_cmp a b) (int_ranks a b) t
-
-pub Fin-lt : (a b : ℤ) → a <ℤ b → IsTrue (lt (Fin a) (Fin b))
-Fin-lt a b l = is_lt_from a b (int_cmp a b) (int_ranks a b) l
 
 -- ---- The whole part of a number from 0 on
 
@@ -85,7 +77,7 @@ le-refl PosInf = refl
 pub le-trans : (a b c : Extended) → IsTrue (le a b) → IsTrue (le b c) → IsTrue (le a c)
 le-trans a b c h k = gt-le (order_of a c) (upto order_of-total a b c (le-gt (order_of a b) h) (le-gt (order_of b c) k))
 
-both_le : (a b : ℤ) → a ≤ℤ b → b ≤ℤ a → a ≡ b
+pub both_le : (a b : ℤ) → a ≤ℤ b → b ≤ℤ a → a ≡ b
 both_le a b h k = omega (arith, ints)
 
 pub le-antisym : (a b : Extended) → IsTrue (le a b) → IsTrue (le b a) → a ≡ b

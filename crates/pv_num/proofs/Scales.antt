@@ -1,6 +1,6 @@
 use Rattle.std.proofs.Common.{◌≡◌, ℕ, ◌+◌, ◌-◌, ◌*◌, ◌^◌, ◌<◌, ◌≤◌, Bool, Option, Some, None, arith, refl, ap, sym, subst, ◌∙◌}
-use Rattle.std.proofs.lemmas.Nat.{pow_pos, pow-add}
-use Rattle.std.proofs.Math.Nat.{mul-le-mul_right, mul-lt-mul_of_pos_right, lt_of_mul-lt-mul_right, le_of_mul-le-mul_right, mul_assoc, mul_right_comm, mul-mul-mul_comm}
+use Rattle.std.proofs.lemmas.Nat.{pow_pos}
+use Rattle.std.proofs.Math.Nat.{mul-le-mul_right, mul-lt-mul_of_pos_right, lt_of_mul-lt-mul_right, le_of_mul-le-mul_right, mul_assoc, mul_right_comm}
 use Rattle.pv_num.specs.Grid.{unit}
 use Rattle.pv_num.specs.Rounding.{rounded}
 use Rattle.pv_num.specs.Sizes.{size_of, IsSized, fine, signed_of, toward_of, with_sign}
@@ -71,11 +71,6 @@ pub round_product : (t : Toward) (p k : ℕ) (r : Option Magnitude) → IsSized 
 round_product t p k r h =
     let e : p * 2 ^ (k + 512) * unit ≡ p * 2 ^ k * fine = ap (λ x. x * unit) (by_unit p k) ∙ mul_assoc (p * 2 ^ k) unit unit ∙ ap (λ x. p * 2 ^ k * x) (sym fine-unit) in
     equal_sized t (p * 2 ^ (k + 512)) fine (p * 2 ^ k) unit r fine_pos unit_pos e h
-
-pub product_sized : (t : Toward) (m e n f : ℕ) (r : Option Magnitude) → IsSized t (m * n * 2 ^ (e + f + 512)) fine r → IsSized t (m * 2 ^ e * (n * 2 ^ f)) unit r
-product_sized t m e n f r h =
-    let s : m * 2 ^ e * (n * 2 ^ f) ≡ m * n * 2 ^ (e + f) = mul-mul-mul_comm m (2 ^ e) n (2 ^ f) ∙ ap (λ x. m * n * x) (sym (pow-add 2 e f)) in
-    subst (λ v. IsSized t v unit r) (sym s) (round_product t (m * n) (e + f) r h)
 
 -- What `round` gives for a sum.
 pub round_sum : (t : Toward) (v at : ℕ) (r : Option Magnitude) → at ≤ 1024 → IsSized t (v * 2 ^ at) fine r → IsSized t v (2 ^ (1024 - at)) r

@@ -1,5 +1,5 @@
 use Rattle.std.proofs.Common.{◌≡◌, ℕ, zero, suc, ◌+◌, ◌-◌, ◌*◌, ◌/◌, ◌%◌, ◌^◌, ◌<◌, ◌≤◌, ◌⊎◌, inl, inr, Bool, true, false, not, IsTrue, Option, Some, None, arith, refl, ap, sym, subst, ◌∙◌, ℤ, pos}
-use Rattle.std.proofs.lemmas.Bool.{true≢false, cases_lt, cases_eq, cases_Bool, cond-true, cond-false, and_parts, and_from, both_ways}
+use Rattle.std.proofs.lemmas.Bool.{true≢false, cases_lt, cases_eq, cases_Bool, cond-true, cond-false, and_parts, and_from, both_ways, not-true, not-false}
 use Rattle.std.proofs.Math.Nat.{div-add-mod', two-pow-succ, lt_irrefl}
 use Rattle.pv_num.specs.Extended.{Extended, NegInf, Fin, PosInf}
 use Rattle.pv_num.specs.Grid.{IsGridSize}
@@ -31,9 +31,6 @@ exponent_at-fits i h = omega (arith, block_parts i)
 
 pub size_at-grid : (i : ℕ) → i < 962 * 2 ^ 61 + 2 ^ 62 → IsGridSize (size_at i)
 size_at-grid i h = is_grid (mantissa_at i) (exponent_at i) (mantissa_at-fits i) (exponent_at-fits i h)
-
-pub size_at-zero : size_at 0 ≡ 0
-size_at-zero = refl
 
 pub same_block : (i b r : ℕ) → i ≡ b * 2 ^ 61 + r → r < 2 ^ 61 → i / 2 ^ 61 ≡ b
 same_block i b r e h = omega (arith, block_parts i, e)
@@ -72,18 +69,10 @@ size_at-top = refl
 
 -- ---- What is reached stays reached
 
-not-le : (b : Bool) → not b ≡ true → b ≡ false
-not-le true h = absurd (true≢false (sym h))
-not-le false h = refl
-
-le-not : (b : Bool) → not b ≡ false → b ≡ true
-le-not true h = refl
-le-not false h = absurd (true≢false h)
-
 pub reached-up : (side : End) (z : Extended) (n f g : ℕ) → f ≤ g → is_reached side z n f ≡ true → is_reached side z n g ≡ true
 reached-up Down z n f g h t =
     elim (cases_Bool (le (pow_of Up (Fin (pos g)) n) z)) [
-      | inl u ↦ absurd (both_ways (le (pow_of Up (Fin (pos f)) n) z) (not-le _ t) (le-trans (pow_of Up (Fin (pos f)) n) (pow_of Up (Fin (pos g)) n) z (power-monotone Up f g n h) u))
+      | inl u ↦ absurd (both_ways (le (pow_of Up (Fin (pos f)) n) z) (not-true _ t) (le-trans (pow_of Up (Fin (pos f)) n) (pow_of Up (Fin (pos g)) n) z (power-monotone Up f g n h) u))
       | inr u ↦ ap not u
     ]
 reached-up Up z n f g h t = le-trans z (pow_of Down (Fin (pos f)) n) (pow_of Down (Fin (pos g)) n) t (power-monotone Down f g n h)
@@ -143,7 +132,7 @@ root_down_is z n first h below here =
           let less : first - 1 < 962 * 2 ^ 61 + 2 ^ 62 = omega (arith, h, c) in
           let g : IsGridSize (size_at (first - 1)) = size_at-grid (first - 1) less in
           greatest_upto-greatest (is_root_below z n) top_size (size_at (first - 1)) (at_most_top _ g)
-          (and_from _ _ (grid-size _ g) (le-not _ (below (omega (arith, c)))))
+          (and_from _ _ (grid-size _ g) (not-false _ (below (omega (arith, c)))))
     ] in
     ap (λ x. Fin (pos x)) (squeezed (size_at (first - 1)) (greatest_upto (is_root_below z n) top_size) lower upper)
 

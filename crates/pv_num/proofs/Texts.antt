@@ -16,9 +16,10 @@ use Rattle.pv_num.specs.Sizes.{with_sign}
 use Rattle.pv_num.specs.Parts.{HasNoColon, IsNumber, IsValueAt, IsValue, IsFin, IsPartsOf, number_text, parts_text, parts_of, odd_of, twos, exponent_parts}
 use Rattle.pv_num.specs.declared.convert.Parts.{Parts}
 use Rattle.pv_num.specs.declared.convert.Parts.TheVariants.{Fin as FinParts}
-use Rattle.pv_num.proofs.Monotone.{cancel}
+use Rattle.pv_num.proofs.Monotone.{cancel, ≤ℤ_same}
 use Rattle.std.proofs.lemmas.Nat.{pow_pos}
 use Rattle.pv_num.proofs.Canonical.{twos_below, odd_below, parts_of-are, parts_of-signed}
+use Rattle.pv_num.proofs.Orders.{both_le}
 
 digit_not_colon : (c : ℕ) → digit_value c < 10 → c ≡ 58 → ⊥
 digit_not_colon c h e = let k : digit_value 58 < 10 = subst (λ x. digit_value x < 10) e h in omega (arith, k)
@@ -146,7 +147,7 @@ pub plus_text : number_text PosInf ≡ 43 ∷ 111 ∷ 111 ∷ []
 unfolding number_text
 plus_text = refl
 
-other_head : (a b : ℕ) (xs ys : List ℕ) → a < b → a ∷ xs ≡ b ∷ ys → ⊥
+pub other_head : (a b : ℕ) (xs ys : List ℕ) → a < b → a ∷ xs ≡ b ∷ ys → ⊥
 other_head a b xs ys h e = let k : a ≡ b = ap (λ l. get_or l 0 0) e in omega (arith, k, h)
 
 pub minus_only : (x : Extended) → IsNumber x → 45 ∷ 111 ∷ 111 ∷ [] ≡ number_text x → x ≡ NegInf
@@ -167,14 +168,8 @@ finite_text PosInf bytes g e a b = absurd (b (e ∙ plus_text))
 
 -- ---- Values are unique
 
-order_same : (a b : ℤ) → a ≤ℤ b → b ≤ℤ a → a ≡ b
-order_same a b h k = omega (arith, ints)
-
-le_same : (a b : ℤ) → a ≡ b → a ≤ℤ b
-le_same a b h = omega (arith, ints)
-
 same_product : (z y : ℤ) (b : ℕ) → 0 < b → z *ℤ pos b ≡ y *ℤ pos b → z ≡ y
-same_product z y b p h = order_same z y (cancel z y b p (le_same (z *ℤ pos b) (y *ℤ pos b) h)) (cancel y z b p (le_same (y *ℤ pos b) (z *ℤ pos b) (sym h)))
+same_product z y b p h = both_le z y (cancel z y b p (≤ℤ_same (z *ℤ pos b) (y *ℤ pos b) h)) (cancel y z b p (≤ℤ_same (y *ℤ pos b) (z *ℤ pos b) (sym h)))
 
 value_unique : (m w z y : ℤ) → IsValueAt m w z → IsValueAt m w y → z ≡ y
 value_unique m (pos k) z y h i = h ∙ sym i

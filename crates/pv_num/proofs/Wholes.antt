@@ -115,22 +115,8 @@ casts t m d x h s =
     let f : s.word < 2 ^ 64 = omega (arith, h, s.fits) in
     subst (λ y. T (non_neg y) × Fits w64 (nat_abs y)) (sym s.is) (tt, record { fits = f })
 
-pub word_fits : (t : Toward) (m d : ℕ) (x : ℤ) → IsShifted t m d x → nat_abs x ≤ m
-word_fits t m d x s = subst (λ y. nat_abs y ≤ m) (sym s.is) s.fits
-
 pub word_whole : (t : Toward) (m d : ℕ) (x : ℤ) → IsShifted t m d x → IsWhole t m (2 ^ d) (nat_abs x)
 word_whole t m d x s = subst (λ y. IsWhole t m (2 ^ d) (nat_abs y)) (sym s.is) s.whole
-
--- A double word that is not 0.
-pub cut_whole : (t : Toward) (p u : ℕ) → 0 < p → (t ≡ Zero → u ≡ 0) → (t ≡ Away → u ≡ 1) → IsWhole t p (2 ^ 61) ((p - u) / 2 ^ 61 + u)
-cut_whole Zero p u h z a = subst (λ x. IsWhole Zero p (2 ^ 61) ((p - x) / 2 ^ 61 + x)) (sym (z refl)) (down p)
-  where
-    down : (p : ℕ) → IsWhole Zero p (2 ^ 61) ((p - 0) / 2 ^ 61 + 0)
-    down p = (omega arith, omega arith)
-cut_whole Away p u h z a = subst (λ x. IsWhole Away p (2 ^ 61) ((p - x) / 2 ^ 61 + x)) (sym (a refl)) (up p h)
-  where
-    up : (p : ℕ) → 0 < p → IsWhole Away p (2 ^ 61) ((p - 1) / 2 ^ 61 + 1)
-    up p h = (omega (arith, h), omega (arith, h))
 
 -- A value of whole units in other units.
 pub times_whole : (t : Toward) (p u c w : ℕ) → 0 < c → IsWhole t p u w → IsWhole t (p * c) (u * c) w

@@ -15,6 +15,7 @@ use Rattle.pv_request.specs.declared.refusal.Refusal.{Refusal}
 use Rattle.pv_request.specs.declared.refusal.Refusal.TheVariants.{Usage, System, Contract, Objective, NoFile, ReadFault, Paving, NotStored, KeeperFault, NotPrinted, Memory, TreeLimit, Disagree, Differs}
 use Rattle.pv_request.specs.declared.status.Status.{Status}
 use Rattle.pv_product.proofs.OnlyRead.{only_read_on}
+use Rattle.pv_file.proofs.Bytes.{no_cons, heads_same, tails_same}
 
 pub same_files : (f : Files) → AreOnlyRead f f
 same_files f = record { content = λ name. refl; fetch_faults = omega arith; store_faults = refl }
@@ -135,28 +136,19 @@ pub passed : {A : Type 0} (r : Result A Refusal) (e : Refusal) (P : Refusal → 
 passed (Ok x) e P h p = absurd h
 passed (Err x) e P h p = subst P (sym h) p
 
-none_more : (x : ℕ) (b : List ℕ) → [] ≡ x ∷ b → ⊥
-none_more x b e = cc
-
-first_same : (x y : ℕ) (a b : List ℕ) → x ∷ a ≡ y ∷ b → x ≡ y
-first_same x y a b e = cc
-
-rest_same : (x y : ℕ) (a b : List ℕ) → x ∷ a ≡ y ∷ b → a ≡ b
-rest_same x y a b e = cc
-
 both_same : (x y : ℕ) (a b : List ℕ) → x ≡ y → a ≡ b → x ∷ a ≡ y ∷ b
 both_same x y a b e f = cc
 
 pub same_or_other : (a b : List ℕ) → (a ≡ b) ⊎ (a ≡ b → ⊥)
 same_or_other [] [] = inl refl
-same_or_other [] (y ∷ b) = inr (none_more y b)
-same_or_other (x ∷ a) [] = inr (λ e. none_more x a (sym e))
+same_or_other [] (y ∷ b) = inr (no_cons y b)
+same_or_other (x ∷ a) [] = inr (λ e. no_cons x a (sym e))
 same_or_other (x ∷ a) (y ∷ b) = heads (eqb_tells x y) (same_or_other a b)
   where
     heads : (((x == y) ≡ true) × (x ≡ y)) ⊎ (((x == y) ≡ false) × (x ≡ y → ⊥)) → (a ≡ b) ⊎ (a ≡ b → ⊥) → (x ∷ a ≡ y ∷ b) ⊎ (x ∷ a ≡ y ∷ b → ⊥)
     heads (inl same) (inl rest) = inl (both_same x y a b same.1 rest)
-    heads (inl same) (inr other) = inr (λ e. other (rest_same x y a b e))
-    heads (inr other) r = inr (λ e. other.1 (first_same x y a b e))
+    heads (inl same) (inr other) = inr (λ e. other (tails_same x y a b e))
+    heads (inr other) r = inr (λ e. other.1 (heads_same x y a b e))
 
 pub all_kept : (f g : Text → Content) (name : Text) → g name ≡ f name → ((other : Text) → other ≢ name → g other ≡ f other) → (other : Text) → g other ≡ f other
 all_kept f g name same others other = by (same_or_other other name)

@@ -17,7 +17,7 @@ use Rattle.pv_interval.proofs.Multiples.{zero_below, zero_above}
 use Rattle.pv_interval.proofs.Keeps.{sum_keeps, difference_keeps, product_keeps, opposite_keeps, by_sign, some_times}
 use Rattle.pv_interval.proofs.Orders.{meet_keeps, hull_keeps_left, hull_keeps_right, cond_keeps, above_down, below_up, lt_fact, not_lt_fact, size_from, size_to}
 use Rattle.pv_interval.proofs.Powers.{opposite_twice}
-use Rattle.pv_interval.proofs.Quotients.{quotient_keeps, zero_top}
+use Rattle.pv_interval.proofs.Quotients.{quotient_keeps, zero_top, both}
 use Rattle.pv_project.specs.Projections.{chain, narrowed, factor_of, back_add_of, back_sub_of, back_mul_of, back_div_of, back_neg_of, back_min_of, back_max_of, back_abs_of, least_side, greatest_side, hull_of_parts, both_signs}
 use Rattle.pv_project.specs.Kept.{PairIn}
 use Rattle.pv_project.proofs.Same.{IsSame, same_back, same_lies, plus_swap, times_swap, same_add, same_sub, same_less, same_quotient_up, same_quotient_down, same_product_up, same_product_down}
@@ -77,9 +77,6 @@ holds_zero n d x e h =
     both_true : (s t : Bool) → s ≡ true → t ≡ true → s && t ≡ true
     both_true s t h k = ap (λ w. w && t) h ∙ k
 
-both_no : (s t : Bool) → s ≡ true → t ≡ true → s && t ≡ false → ⊥
-both_no s t h k e = let p : s && t ≡ true = ap (λ w. w && t) h ∙ k in cc
-
 all_lies : (n : ℤ) (d : ℕ) → 0 < d → Lies n d everything
 all_lies n d p = record { some = p; low = tt; high = tt }
 
@@ -88,7 +85,7 @@ factor_by : (f : Fraction) (n : ℤ) (s : ℕ) (z y : Bounds) → LiesIn (times 
 factor_by f (pos zero) s z y l p k =
     cond_keeps (LiesInSome f.top f.under) (has_nought z && has_nought y) (Some everything) (quotient_of z y)
     (λ t. all_lies f.top f.under p)
-    (λ t. absurd (both_no (has_nought z) (has_nought y)
+    (λ t. absurd (both (has_nought z) (has_nought y)
     (holds_zero (f.top *ℤ pos 0) (f.under * s) z (*ℤ-zero f.top) l) (holds_zero (pos 0) s y refl k) t))
 factor_by f (pos (suc r)) s z y l p k =
     cond_keeps (LiesInSome f.top f.under) (has_nought z && has_nought y) (Some everything) (quotient_of z y)

@@ -8,12 +8,12 @@ use Rattle.pv_interval.specs.Bounds.{Bounds, IsInterval, between, interval_from}
 use Rattle.pv_interval.specs.Tables.{meet_of, negated}
 use Rattle.pv_interval.proofs.Choices.{lesser_either, greater_either}
 
-lt_pos : (e : Extended) → e ≢ PosInf → lt e PosInf ≡ true
+pub lt_pos : (e : Extended) → e ≢ PosInf → lt e PosInf ≡ true
 lt_pos NegInf h = refl
 lt_pos (Fin e) h = refl
 lt_pos PosInf h = absurd (h refl)
 
-lt_neg : (e : Extended) → e ≢ NegInf → lt NegInf e ≡ true
+pub lt_neg : (e : Extended) → e ≢ NegInf → lt NegInf e ≡ true
 lt_neg NegInf h = absurd (h refl)
 lt_neg (Fin e) h = refl
 lt_neg PosInf h = refl

@@ -1,6 +1,6 @@
 -- Roots, and the cases of the power.
 use Rattle.std.proofs.Common.{◌≡◌, ◌≢◌, ℕ, zero, suc, ◌%◌, refl, arith, ◌∙◌, ap, subst, cond}
-use Rattle.std.specs.Prelude.{IsTrue, Bool, true, false, ℤ, pos, Option, Some, None, if◌then◌else◌, eqb}
+use Rattle.std.specs.Prelude.{IsTrue, Bool, true, false, pos, Option, Some, None, if◌then◌else◌, eqb}
 use Rattle.std.proofs.lemmas.Bool.{eq-eqb}
 use Rattle.std.proofs.Math.Dec.{eqb-suc-zero}
 use lib.IntN.{neg_ℤ}
@@ -15,12 +15,7 @@ use Rattle.pv_interval.specs.Tables.{nought, meet_of, holds}
 use Rattle.pv_interval.proofs.Ends.{le_trans}
 use Rattle.pv_interval.proofs.Choices.{greater_right}
 use Rattle.pv_project.specs.Projections.{chain, back_pow_of, both_signs, even_roots, odd_low, odd_high}
-
-not_pos : (a : ℤ) → Fin a ≢ PosInf
-not_pos a e = cc
-
-not_neg : (a : ℤ) → Fin a ≢ NegInf
-not_neg a e = cc
+use Rattle.pv_interval.proofs.Picks.{not_pos, not_neg}
 
 pub root_down_open : (z : Extended) (n : ℕ) → root_of Down z n ≢ PosInf
 unfolding root_of

@@ -1,6 +1,6 @@
 -- No root is lost: the power is strictly increasing from 0 on.
 use Rattle.std.proofs.Common.{◌≡◌, inl, inr, ℕ, zero, suc, ◌%◌, ◌<◌, refl, arith, sym, ◌∙◌, ap, subst}
-use Rattle.std.specs.Prelude.{IsTrue, Bool, true, false, ◌&&◌, ℤ, pos, negsuc, ◌*ℤ◌, ◌≤ℤ◌, ◌<ℤ◌, Option, Some, None, if◌then◌else◌}
+use Rattle.std.specs.Prelude.{IsTrue, Bool, true, ◌&&◌, ℤ, pos, negsuc, ◌*ℤ◌, ◌≤ℤ◌, ◌<ℤ◌, Option, Some, None, if◌then◌else◌}
 use Rattle.std.proofs.Math.IntN.{*ℤ_comm, zero-*ℤ}
 use Rattle.std.proofs.lemmas.Int.{ints, by_lt_z}
 use lib.IntN.{neg_ℤ}
@@ -24,10 +24,11 @@ use Rattle.pv_interval.proofs.Multiples.{cross, unit_some, times_pp, zero_below,
 use Rattle.pv_interval.proofs.Monotone.{zero_high}
 use Rattle.pv_interval.proofs.Keeps.{neg_below, neg_above, by_sign}
 use Rattle.pv_interval.proofs.Orders.{cond_keeps, meet_keeps}
-use Rattle.pv_interval.proofs.Powers.{pow_low, pow_high, power_some, power_from_zero, power_even, power_odd, opposite_twice, first_power, turn_le, turn_from}
+use Rattle.pv_interval.proofs.Powers.{pow_low, pow_high, power_some, power_from_zero, power_even, power_odd, opposite_twice, first_power, turn_le, turn_from, even_from_zero}
 use Rattle.pv_project.specs.Projections.{chain, back_pow_of, both_signs, even_roots, odd_low, odd_high}
 use Rattle.pv_project.proofs.Kept.{signs_keep}
 use Rattle.pv_project.proofs.Roots.{from_zero_low, power_row_zero, power_row_even, power_row_odd}
+use Rattle.pv_interval.proofs.Quotients.{and_right}
 
 -- ---- the power of a fraction is strictly increasing from 0 on
 
@@ -92,10 +93,6 @@ zero_passes z n h =
     both_true : (s t : Bool) → s ≡ true → t ≡ true → s && t ≡ true
     both_true s t h k = ap (λ w. w && t) h ∙ k
 
-second_true : (s t : Bool) → s && t ≡ true → t ≡ true
-second_true true t h = h
-second_true false t h = absurd (cc)
-
 -- the number f · 2^-512
 abbrev pub units : ℕ → Fraction
 units t = record { top = pos t; under = unit }
@@ -121,7 +118,7 @@ pub root_low : (z : Extended) (n : ℕ) (f : Fraction) → IsTrue (le nought z) 
 unfolding root_of
 root_low z n f h p s k =
     let t = greatest_upto (is_root_below z (suc n)) top_size in
-    low_at t n z f (second_true (is_size t) (le (pow_of Up (Fin (pos t)) (suc n)) z)
+    low_at t n z f (and_right (is_size t) (le (pow_of Up (Fin (pos t)) (suc n)) z)
     (greatest_upto-passes (is_root_below z (suc n)) top_size (zero_passes z n h))) p s k
 
 high_at : (t n : ℕ) (z : Extended) (f : Fraction) → IsTrue (le z (pow_of Down (Fin (pos t)) (suc n))) → 0 < f.under → pos 0 ≤ℤ f.top
@@ -138,7 +135,7 @@ high_by : (o : Option ℕ) (n : ℕ) (z : Extended) (f : Fraction) → Found (is
     → IsAbove z (power f (suc n)).top (power f (suc n)).under → IsAbove (at_least_plus o) f.top f.under
 high_by None n z f h p s k = tt
 high_by (Some t) n z f h p s k =
-    high_at t n z f (second_true (is_size t) (le z (pow_of Down (Fin (pos t)) (suc n))) h.passes) p s k
+    high_at t n z f (and_right (is_size t) (le z (pow_of Down (Fin (pos t)) (suc n))) h.passes) p s k
 
 pub root_high : (z : Extended) (n : ℕ) (f : Fraction) → 0 < f.under → pos 0 ≤ℤ f.top
     → IsAbove z (power f (suc n)).top (power f (suc n)).under → IsAbove (root_of Up z (suc n)) f.top f.under
@@ -166,11 +163,6 @@ chain_kept : (f g : Fraction) (o : Option Bounds) (step : Bounds → Option Boun
 chain_kept f g None step h k = absurd h
 chain_kept f g (Some x) step h k = k x refl h
 
-even_not_negative : (f : Fraction) (n : ℕ) → n % 2 ≡ 0 → pos 0 ≤ℤ (power f n).top
-even_not_negative f n o = by_sign f.top (power_from_zero f n)
-    (λ s. let e = power_from_zero (opposite f) n (omega (arith, ints)) in
-    let p = ap (λ w. w.top) (power_even f n o) in omega (arith, ints))
-
 roots_of : (f : Fraction) (w : Bounds) (n : ℕ) → IsTrue (le nought w.lo) → 0 < f.under → pos 0 ≤ℤ f.top → LiesIn (power f (suc n)) w
     → LiesIn f (even_roots w (suc n))
 roots_of f w n z p s h = record {
@@ -184,7 +176,7 @@ even_kept : (f : Fraction) (z x : Bounds) (n : ℕ) → suc n % 2 ≡ 0 → Lies
 even_kept f z x n o h l = let P = power f (suc n) in
     chain_kept P f (meet_of z (between nought PosInf)) (λ w. both_signs x (even_roots w (suc n)))
     (meet_keeps P.top P.under z (between nought PosInf) l
-    (record { some = l.some; low = zero_below P.top P.under (even_not_negative f (suc n) o); high = tt }))
+    (record { some = l.some; low = zero_below P.top P.under (even_from_zero f (suc n) o); high = tt }))
     (λ w e i. signs_keep f x (even_roots w (suc n)) h (by_sign f.top
     (λ s. inl (roots_of f w n (from_zero_low z w e) h.some s i))
     (λ s. inr (roots_of (opposite f) w n (from_zero_low z w e) h.some (omega (arith, ints))

@@ -1,15 +1,15 @@
 -- Budgets that are spent one after another.
-use Rattle.std.proofs.Common.{◌≡◌, ◌⊎◌, inl, inr, ℕ, suc, ◌+◌, ◌≤◌, Bool, List, [], ◌∷◌, length, refl, sym, ◌∙◌, ap, subst, arith}
+use Rattle.std.proofs.Common.{◌≡◌, ◌⊎◌, inl, inr, ℕ, suc, ◌+◌, ◌≤◌, Bool, List, [], ◌∷◌, length, refl, ap, subst, arith}
 use Rattle.std.specs.Prelude.{◌≢◌}
 use Rattle.pv_interval.specs.Bounds.{Bounds}
 use Rattle.pv_interval.specs.Points.{Point}
 use Rattle.pv_box.specs.Boxes.{IsBox, lower_half, upper_half}
 use Rattle.pv_tree.specs.Trees.{Tree, leaf, removed, inner, small, cut, opens, IsPaving, Paves}
-use Rattle.pv_tree.specs.Stages.{Rule, full_of, Grows, IsStage}
+use Rattle.pv_tree.specs.Stages.{Rule, full_of, IsStage}
 use Rattle.pv_tree.specs.Sets.{Covers}
 use Rattle.pv_tree.specs.Laws.{IsLawful}
 use Rattle.pv_tree.proofs.StageLaws.{grows_self, grows_leaf, grows_cut, whole_stage}
-use Rattle.pv_tree.proofs.Earlier.{stage_on}
+use Rattle.pv_tree.proofs.Earlier.{stage_on, grows_full, opening_is_stage}
 use Rattle.pv_workers.proofs.Budgets.{fits_of, spent_of}
 use Rattle.pv_board.specs.Rules.{settled_in}
 use Rattle.pv_workers.specs.Pavings.{IsSpent, IsPaved, FullFits}
@@ -20,18 +20,14 @@ use Rattle.pv_rounds.proofs.Ordered.{ordered_on}
 
 -- ---- A stage of what it begins with
 
-full_grows : (rule : Rule) (depth : ℕ) (b : List Bounds) (t : Tree) (k : ℕ) → Grows t (full_of rule depth b t k)
 unfolding full_of
-full_grows rule depth b leaf k = grows_leaf (full_of rule depth b leaf k)
-full_grows rule depth b removed k = grows_self removed
-full_grows rule depth b (inner to) k = grows_self (inner to)
-full_grows rule depth b (small to) k = grows_self (small to)
-full_grows rule depth b (cut to v a low high) k =
+grows_full rule depth b leaf k = grows_leaf (full_of rule depth b leaf k)
+grows_full rule depth b removed k = grows_self removed
+grows_full rule depth b (inner to) k = grows_self (inner to)
+grows_full rule depth b (small to) k = grows_self (small to)
+grows_full rule depth b (cut to v a low high) k =
     grows_cut to v a low high (full_of rule depth (lower_half to v a) low (suc k)) (full_of rule depth (upper_half to v a) high (suc k))
-    (full_grows rule depth (lower_half to v a) low (suc k)) (full_grows rule depth (upper_half to v a) high (suc k))
-
-pub own_stage : (rule : Rule) (depth : ℕ) (b : List Bounds) (t : Tree) → IsStage rule depth b t t
-own_stage rule depth b t = record { grown = grows_self t; grows = full_grows rule depth b t 0 }
+    (grows_full rule depth (lower_half to v a) low (suc k)) (grows_full rule depth (upper_half to v a) high (suc k))
 
 cons_nil : {A : Type 0} (x : A) (xs : List A) → x ∷ xs ≡ [] → ⊥
 cons_nil x xs e = cc
@@ -58,7 +54,7 @@ few_settled rule depth b opening t budget p = by (none_or_some (opens t))
 module _ (rule : Rule) (depth dims : ℕ) (inside : Point → Type 0) (laws : IsLawful rule depth dims inside) (b : List Bounds) (box : IsBox b) (over : length b ≡ dims) where
   pub no_budget : (t : Tree) → IsPaving b t → Covers b t → IsPaved rule depth b t 0 t
   no_budget t paving covers =
-      let stage : IsStage rule depth b t t = own_stage rule depth b t in
+      let stage : IsStage rule depth b t t = opening_is_stage rule depth b t in
       let spent : IsSpent 0 t t = inl (omega arith) in
       record {
         paving = paving;

@@ -1,6 +1,5 @@
 -- The rule's answer where a box is cut.
 use Rattle.std.proofs.Common.{◌≡◌, ℕ, zero, suc, ◌<◌, Bool, true, false, Some, List, [], ◌∷◌, length, get_or, sym, ◌∙◌, ap, arith, cond}
-use Rattle.std.specs.Prelude.{◌&&◌}
 use Rattle.pv_num.specs.Extended.{Extended}
 use Rattle.pv_num.specs.Order.{le, lt}
 use Rattle.pv_interval.specs.Bounds.{Bounds}
@@ -9,14 +8,11 @@ use Rattle.pv_box.specs.Choice.{choose_of}
 use Rattle.pv_box.specs.declared.choice.Bisector.TheVariants.{Round}
 use Rattle.pv_tree.specs.declared.outcome.Outcome.TheVariants.{Removed, Inner, Cut}
 use Rattle.pv_sample.specs.Rule.{reaches, is_above, cuts_at, cut_if, cut_at, turn_of, cut_below, settle_by}
-
-both : (s t : Bool) → s ≡ true → t ≡ true → (s && t) ≡ true
-both true t h k = k
-both false t h k = h
+use Rattle.std.proofs.lemmas.Bool.{and_from}
 
 pub cuts_there : (a : Extended) (v : ℕ) (b : List Bounds) (d : Bounds) → v < length b → IsInside a (get_or b v d) → cuts_at a v b ≡ true
 cuts_there a v [] d l h = absurd (omega arith)
-cuts_there a zero (x ∷ b) d l h = both (lt x.lo a) (lt a x.hi) h.above h.below
+cuts_there a zero (x ∷ b) d l h = and_from (lt x.lo a) (lt a x.hi) h.above h.below
 cuts_there a (suc v) (x ∷ b) d l h = cuts_there a v b d (omega arith) h
 
 pub first_reaches : (limit : Extended) (b : List Bounds) (x : Bounds) → 0 < length b → x ≡ get_or b 0 x → reaches limit b ≡ le limit x.hi

@@ -1,16 +1,14 @@
 -- The leaf that a growth settles next.
-use Rattle.std.proofs.Common.{◌≡◌, ◌<◌, List, Bool, ◌∷◌, length, subst, sym}
+use Rattle.std.proofs.Common.{◌<◌, List, Bool, length, subst, sym}
 use Rattle.pv_interval.specs.Bounds.{Bounds}
 use Rattle.pv_tree.specs.Trees.{Fits, HasDepth}
 use Rattle.pv_tree.specs.Holes.{Growing, Hole, Takes, IsNext, IsFirstBox}
 use Rattle.pv_tree.specs.declared.outcome.Outcome.{Outcome}
 use Rattle.std.proofs.Common.{arith}
+use Rattle.pv_tree.proofs.KnownLeaves.{next_box}
 
 pub next_some : (g : Growing) (p : List Bool) → IsNext g p → 0 < length g.holes
 next_some g p h = subst (λ (hs : List Hole). 0 < length hs) (sym h.is) (omega arith)
-
-pub next_box : (g : Growing) (p : List Bool) (b : List Bounds) (h : IsNext g p) → IsFirstBox g.holes b → b ≡ h.hole.box
-next_box g p b h k = subst (λ (hs : List Hole). IsFirstBox hs b) h.is k
 
 pub next_takes : (g : Growing) (p : List Bool) (b : List Bounds) (o : Outcome) (h : IsNext g p) → IsFirstBox g.holes b → Fits b o → HasDepth p o → Takes g.holes o
 next_takes g p b o h k f d =

@@ -7,6 +7,7 @@ use Rattle.pv_tree.specs.declared.outcome.Shape.{Shape}
 use Rattle.pv_tree.specs.declared.outcome.Shape.TheVariants as shape
 use Rattle.pv_scope.specs.Scopes.{picked}
 use Rattle.pv_scope.proofs.Lists.{picked_first}
+use Rattle.pv_board.proofs.Piling.{open_node}
 
 abbrev pub ahead : List Piece → List (List Bool)
 ahead [] = []
@@ -35,13 +36,6 @@ ahead_below p (cut to v a l r) rest ne =
     ∙ sym (append_assoc (map (λ (q : List Bool). p ++ q) (map (λ (q : List Bool). false ∷ q) (opens l))) (map (λ (q : List Bool). p ++ q) (map (λ (q : List Bool). true ∷ q) (opens r))) (ahead rest))
     ∙ ap (λ (qs : List (List Bool)). qs ++ ahead rest) (sym (map_both p (map (λ (q : List Bool). false ∷ q) (opens l)) (map (λ (q : List Bool). true ∷ q) (opens r))))
 
-looks_open : (t : Tree) → shape_of (Some t) ≡ shape.OpenLeaf → t ≡ leaf
-looks_open leaf e = refl
-looks_open removed e = cc
-looks_open (inner to) e = cc
-looks_open (small to) e = cc
-looks_open (cut to v a l r) e = cc
-
 pub all_ahead : (b : List Bounds) (t : Tree) → ahead (walk_from b t).pending ≡ opens t
 all_ahead b t = append-nil (map (λ (q : List Bool). [] ++ q) (opens t)) ∙ map_same (opens t)
 
@@ -51,7 +45,7 @@ passed_settled old new s v ne =
 
 pub passed_leaf : (old new : Walked) (s : Shape) → IsVisit old new s → s ≡ shape.OpenLeaf → ahead old.pending ≡ new.here.path ∷ ahead new.pending
 passed_leaf old new s v e =
-    let is : new.here.tree ≡ leaf = looks_open new.here.tree (sym v.shape ∙ e) in
+    let is : new.here.tree ≡ leaf = open_node new.here.tree (sym v.shape ∙ e) in
     ap ahead v.was ∙ ap (λ (t : Tree). map (λ (q : List Bool). new.here.path ++ q) (opens t) ++ ahead v.rest) is
     ∙ (λ i. append-nil new.here.path i ∷ ahead v.rest)
     ∙ ap (λ (qs : List (List Bool)). new.here.path ∷ qs) (sym (ap ahead v.pending ∙ ap (λ (t : Tree). ahead (pieces_below new.here.path t ++ v.rest)) is))

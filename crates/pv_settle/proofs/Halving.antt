@@ -13,7 +13,7 @@ use Rattle.pv_ctc.proofs.Shrinking.{within_refl}
 use Rattle.pv_tree.specs.Trees.{IsBetween, IsStrictlyInside}
 use Rattle.pv_tree.proofs.StageLaws.{half_box}
 
-lt_le : (a b : Extended) → IsTrue (lt a b) → IsTrue (le a b)
+pub lt_le : (a b : Extended) → IsTrue (lt a b) → IsTrue (le a b)
 lt_le a b h = le_of_false b a (lt_not a b h)
 
 above_low : (a : Extended) (x : Bounds) → IsBetween a x → IsTrue (le x.lo a)

@@ -6,17 +6,18 @@ use Rattle.std.proofs.lemmas.List.Elements.{All-head, All-tail}
 use Rattle.pv_num.specs.Extended.{Extended, NegInf, Fin, PosInf}
 use Rattle.pv_num.specs.Arithmetic.{middle_of}
 use Rattle.pv_num.specs.Grid.{unit}
-use Rattle.pv_num.specs.Order.{le, lt}
+use Rattle.pv_num.specs.Order.{le}
 use Rattle.pv_interval.specs.Bounds.{Bounds, IsInterval}
 use Rattle.pv_interval.specs.Points.{Lies, Point}
 use Rattle.pv_interval.specs.Tables.{exactly}
-use Rattle.pv_interval.proofs.Ends.{le_refl, le_of_false, lt_not}
+use Rattle.pv_interval.proofs.Ends.{le_refl}
 use Rattle.pv_interval.proofs.Multiples.{unit_some}
 use Rattle.pv_interval.proofs.Values.{below_le, above_le}
 use Rattle.pv_box.specs.Boxes.{IsInside, PointIn}
 use Rattle.pv_box.proofs.Inside.{middle_inside}
 use Rattle.pv_slope.specs.Centres.{centre_of}
 use Rattle.pv_slope.specs.Centered.{is_finite, has_finite_ends}
+use Rattle.pv_settle.proofs.Halving.{lt_le}
 
 -- a finite end in units
 abbrev pub units : Extended → ℤ
@@ -32,9 +33,6 @@ finite_is PosInf h = absurd (cc)
 pub both_true : (s t : Bool) → (s && t) ≡ true → (s ≡ true) × (t ≡ true)
 both_true true t e = (refl, e)
 both_true false t e = absurd (cc)
-
-lt_le : (a b : Extended) → IsTrue (lt a b) → IsTrue (le a b)
-lt_le a b h = le_of_false b a (lt_not a b h)
 
 -- a finite number of an interval
 pub record IsHeld (c : Extended) (x : Bounds) : Type 0 where

@@ -9,9 +9,7 @@ use Rattle.pv_interval.specs.Bounds.{Bounds, IsInterval, between, everything}
 use Rattle.pv_interval.specs.Subsets.{IsSubset, IsSubsetSome}
 use Rattle.pv_interval.specs.Tables.{exactly, meet_of}
 use Rattle.pv_interval.proofs.Choices.{lesser_first, lesser_second, greater_first, greater_second}
-use Rattle.pv_interval.proofs.Contained.{sum_contained, difference_contained, product_contained, least_contained, greatest_contained, negated_contained, absolute_contained, power_contained}
-use Rattle.pv_interval.proofs.ContainedQuotients.{quotient_contained}
-use Rattle.pv_expr.specs.Terms.{Unary, negation, absolute, power, Binary, sum, difference, product, quotient, least, greatest, Term}
+use Rattle.pv_expr.specs.Terms.{Unary, Binary, Term}
 use Rattle.pv_hc4.specs.declared.node.Node.{Node}
 use Rattle.pv_hc4.specs.declared.node.Node.TheVariants.{Constant, Place, One, Two}
 use Rattle.pv_hc4.specs.Chain.{at, chain}
@@ -25,21 +23,9 @@ use Rattle.pv_slope.specs.Centered.{is_finite}
 use Rattle.pv_slope.specs.Flat.{ArePartsInside, IsWholeOf}
 use Rattle.pv_slope.proofs.Centring.{centre_held}
 use Rattle.pv_slope.proofs.Walking.{read_at}
+use Rattle.pv_hc4.proofs.Inherited.{unary_contained, binary_contained}
 
 -- ---- operations
-
-unary_contained : (u : Unary) (x v : Bounds) → IsInterval x → IsSubset x v → IsSubset (unary_of u x) (unary_of u v)
-unary_contained negation x v i h = negated_contained x v h
-unary_contained absolute x v i h = absolute_contained x v i h
-unary_contained (power n) x v i h = power_contained x v n i h
-
-binary_contained : (o : Binary) (x y v w : Bounds) → IsInterval x → IsInterval y → IsSubset x v → IsSubset y w → IsSubsetSome (binary_of o x y) (binary_of o v w)
-binary_contained sum x y v w i j h k = sum_contained x y v w h k
-binary_contained difference x y v w i j h k = difference_contained x y v w h k
-binary_contained product x y v w i j h k = product_contained x y v w i j h k
-binary_contained quotient x y v w i j h k = quotient_contained x y v w i j h k
-binary_contained least x y v w i j h k = least_contained x y v w h k
-binary_contained greatest x y v w i j h k = greatest_contained x y v w h k
 
 pub in_itself : (x : Bounds) → IsSubset x x
 in_itself x = record { low = le-refl x.lo; high = le-refl x.hi }

@@ -20,6 +20,7 @@ use Rattle.pv_slope.proofs.Joining.{Same, Joins, same_joins, covered_joins, scal
 use Rattle.pv_slope.proofs.Mixing.{mixed_joins}
 use Rattle.pv_slope.proofs.Raising.{terms_value, terms_lie, powers_differ}
 use Rattle.pv_slope.proofs.Turning.{turn}
+use Rattle.pv_num.proofs.Orders.{both_le}
 
 pub in_known : (e : ℤ) (d : ℕ) (o : Option Bounds) → LiesInSome e d o → Lies e d (known o)
 in_known e d None h = absurd h
@@ -101,32 +102,29 @@ AtMost f g = (f.top *ℤ pos g.under) ≤ℤ (g.top *ℤ pos f.under)
 at_most : (f g : Fraction) (x y : Bounds) → le x.hi y.lo ≡ true → LiesIn f x → LiesIn g y → AtMost f g
 at_most f g x y t h l = through_end x.hi f.top g.top f.under g.under h.some l.some h.high (below_le x.hi y.lo g.top g.under t l.low)
 
-equal_ends : (a b : ℤ) → a ≤ℤ b → b ≤ℤ a → a ≡ b
-equal_ends a b h k = omega (arith, ints)
-
 least_first : (f g : Fraction) → AtMost f g → Same f (least f g)
 least_first f g h =
     cond_keeps (Same f) (below g f) g f
-    (λ e. equal_ends _ _ h (lt_fact (g.top *ℤ pos f.under) (f.top *ℤ pos g.under) e))
+    (λ e. both_le _ _ h (lt_fact (g.top *ℤ pos f.under) (f.top *ℤ pos g.under) e))
     (λ e. refl)
 
 least_second : (f g : Fraction) → AtMost g f → Same g (least f g)
 least_second f g h =
     cond_keeps (Same g) (below g f) g f
     (λ e. refl)
-    (λ e. equal_ends _ _ h (not_lt_fact (g.top *ℤ pos f.under) (f.top *ℤ pos g.under) e))
+    (λ e. both_le _ _ h (not_lt_fact (g.top *ℤ pos f.under) (f.top *ℤ pos g.under) e))
 
 greatest_first : (f g : Fraction) → AtMost g f → Same f (greatest f g)
 greatest_first f g h =
     cond_keeps (Same f) (below f g) g f
-    (λ e. equal_ends _ _ (lt_fact (f.top *ℤ pos g.under) (g.top *ℤ pos f.under) e) h)
+    (λ e. both_le _ _ (lt_fact (f.top *ℤ pos g.under) (g.top *ℤ pos f.under) e) h)
     (λ e. refl)
 
 greatest_second : (f g : Fraction) → AtMost f g → Same g (greatest f g)
 greatest_second f g h =
     cond_keeps (Same g) (below f g) g f
     (λ e. refl)
-    (λ e. equal_ends _ _ (not_lt_fact (f.top *ℤ pos g.under) (g.top *ℤ pos f.under) e) h)
+    (λ e. both_le _ _ (not_lt_fact (f.top *ℤ pos g.under) (g.top *ℤ pos f.under) e) h)
 
 -- one of two is at most the other
 by_order : {P : Type 0} (f g : Fraction) → (AtMost f g → P) → (AtMost g f → P) → P

@@ -1,6 +1,6 @@
 -- Slopes that match constraints are of those constraints.
 use Rattle.std.proofs.Common.{◌≡◌, ℕ, zero, suc, ◌+◌, ◌<◌, List, [], ◌∷◌, ◌++◌, length, take, refl, ap, sym, ◌∙◌, subst, arith, get_or}
-use Rattle.std.specs.Prelude.{ℤ, pos, negsuc, Bool, true, ◌&&◌, nat_eq, map, slice_get, Some}
+use Rattle.std.specs.Prelude.{ℤ, pos, negsuc, true, ◌&&◌, nat_eq, map, slice_get, Some}
 use Rattle.std.proofs.lemmas.Bool.Decides.{nat_tests}
 use Rattle.pv_expr.specs.declared.constraint.Relation.{Relation}
 use Rattle.pv_expr.specs.declared.constraint.Relation.TheVariants.{Eq, Le, Ge, Lt, Gt}
@@ -12,15 +12,13 @@ use Rattle.pv_slope.specs.Centered.{gap_of}
 use Rattle.pv_slope.specs.Flat.{Parts, term_in}
 use Rattle.pv_slope.specs.Matching.{same_whole, same_unary, same_binary, same_term, same_relation, matches, all_match}
 use Rattle.pv_slope.proofs.Centring.{both_true}
+use Rattle.std.proofs.lemmas.Bool.{and_from}
 
-equal : (m n : ℕ) → nat_eq m n ≡ true → m ≡ n
+pub equal : (m n : ℕ) → nat_eq m n ≡ true → m ≡ n
 equal m n e = grind (arith, nat_tests)
 
 equal_self : (m : ℕ) → nat_eq m m ≡ true
 equal_self m = grind (arith, nat_tests)
-
-and_both : (s t : Bool) → s ≡ true → t ≡ true → (s && t) ≡ true
-and_both s t e h = ap (λ u. u && t) e ∙ h
 
 whole_is : (a b : ℤ) → same_whole a b ≡ true → a ≡ b
 whole_is (pos m) (pos n) e = ap pos (equal m n e)
@@ -73,10 +71,10 @@ term_is (two o t u) (two p s v) e =
 term_is t s e = absurd (cc)
 
 term_self : (t : Term) → same_term t t ≡ true
-term_self (constant p q) = and_both (same_whole p p) (nat_eq q q) (whole_self p) (equal_self q)
+term_self (constant p q) = and_from (same_whole p p) (nat_eq q q) (whole_self p) (equal_self q)
 term_self (place i) = equal_self i
-term_self (one u t) = and_both (same_unary u u) (same_term t t) (unary_self u) (term_self t)
-term_self (two o t u) = and_both (same_binary o o) (same_term t t && same_term u u) (binary_self o) (and_both (same_term t t) (same_term u u) (term_self t) (term_self u))
+term_self (one u t) = and_from (same_unary u u) (same_term t t) (unary_self u) (term_self t)
+term_self (two o t u) = and_from (same_binary o o) (same_term t t && same_term u u) (binary_self o) (and_from (same_term t t) (same_term u u) (term_self t) (term_self u))
 
 relation_is : (r s : Relation) → same_relation r s ≡ true → r ≡ s
 relation_is Eq Eq e = refl
@@ -107,9 +105,9 @@ match_is d p s e =
 
 is_match : (d : ℕ) (p : Parts) (s : Sides) → IsMatch d p s → matches d p s ≡ true
 is_match d p s h =
-    and_both (same_term (term_in p) (gap_of s)) (same_relation p.relation s.relation && nat_eq p.dims d)
+    and_from (same_term (term_in p) (gap_of s)) (same_relation p.relation s.relation && nat_eq p.dims d)
     (ap (λ t. same_term t (gap_of s)) h.term ∙ term_self (gap_of s))
-    (and_both (same_relation p.relation s.relation) (nat_eq p.dims d)
+    (and_from (same_relation p.relation s.relation) (nat_eq p.dims d)
     (ap (λ r. same_relation r s.relation) h.relation ∙ relation_self s.relation) (ap (λ m. nat_eq m d) h.dims ∙ equal_self d))
 
 pub match_length : (d : ℕ) (ps : List Parts) (ss : List Sides) → all_match d ps ss ≡ true → length ps ≡ length ss
@@ -129,12 +127,12 @@ match_read d (q ∷ ps) (s ∷ ss) (suc k) p e l r =
     let less : k < length ss = omega arith in match_read d ps ss k p (both_true (matches d q s) (all_match d ps ss) e).1 less r
 
 match_behind : (d : ℕ) (ps : List Parts) (ss : List Sides) (p : Parts) (s : Sides) → all_match d ps ss ≡ true → matches d p s ≡ true → all_match d (ps ++ p ∷ []) (ss ++ s ∷ []) ≡ true
-match_behind d [] [] p s e h = and_both (matches d p s) true h refl
+match_behind d [] [] p s e h = and_from (matches d p s) true h refl
 match_behind d [] (r ∷ ss) p s e h = absurd (cc)
 match_behind d (q ∷ ps) [] p s e h = absurd (cc)
 match_behind d (q ∷ ps) (r ∷ ss) p s e h =
     let g = both_true (matches d q r) (all_match d ps ss) e in
-    and_both (matches d q r) (all_match d (ps ++ p ∷ []) (ss ++ s ∷ [])) g.0 (match_behind d ps ss p s g.1 h)
+    and_from (matches d q r) (all_match d (ps ++ p ∷ []) (ss ++ s ∷ [])) g.0 (match_behind d ps ss p s g.1 h)
 
 mapped : {A B : Type 0} (f : A → B) (xs : List A) (i : ℕ) (x : A) → slice_get xs i ≡ Some x → slice_get (map f xs) i ≡ Some (f x)
 mapped f [] i x e = absurd (cc)

@@ -45,7 +45,7 @@ end_nought_add side (Fin z) h =
     whole_rounded side z (pos 0 +ℤ z) h (same ∙ sym (*ℤ-one z))
 end_nought_add side PosInf h = refl
 
-neg_number : (e : Extended) → IsNumber e → IsNumber (neg_of e)
+pub neg_number : (e : Extended) → IsNumber e → IsNumber (neg_of e)
 neg_number NegInf h = h
 neg_number (Fin z) h = neg_grid z h
 neg_number PosInf h = h

@@ -3,10 +3,11 @@ use Rattle.std.proofs.Common.{◌≡◌, ℕ, zero, suc, List, [], ◌∷◌, re
 use Rattle.std.specs.Prelude.{ℤ, pos, negsuc, ◌+ℤ◌, ◌-ℤ◌, ◌*ℤ◌, Bool, true, false, cond, ◌&&◌, nat_eq, nat_le}
 use Rattle.std.proofs.Math.IntN.{*ℤ_comm, *ℤ-one, *ℤ-zero, zero-*ℤ}
 use Rattle.std.proofs.lemmas.Int.{ints}
-use Rattle.std.proofs.lemmas.Bool.Decides.{nat_tests}
 use lib.IntN.{neg_ℤ}
 use Rattle.pv_interval.proofs.Integers.{neg_left, times_assoc, left_distrib, right_distrib}
 use Rattle.pv_interval.proofs.Multiples.{cross}
+use Rattle.pv_ctc.proofs.Cleaning.{and_second}
+use Rattle.pv_slope.proofs.Matched.{equal}
 
 infixl 6 ◌⊕◌
 infixl 6 ◌⊖◌
@@ -48,19 +49,12 @@ same [] (k ∷ ks) = false
 same (j ∷ js) [] = false
 same (j ∷ js) (k ∷ ks) = nat_eq j k && same js ks
 
-both : (s t : Bool) → (s && t) ≡ true → (s ≡ true) × (t ≡ true)
-both true t e = (refl, e)
-both false t e = absurd (cc)
-
-equal : (j k : ℕ) → nat_eq j k ≡ true → j ≡ k
-equal j k e = grind (arith, nat_tests)
-
 same_is : (js ks : List ℕ) → same js ks ≡ true → js ≡ ks
 same_is [] [] e = refl
 same_is [] (k ∷ ks) e = absurd (cc)
 same_is (j ∷ js) [] e = absurd (cc)
 same_is (j ∷ js) (k ∷ ks) e =
-    let h = both (nat_eq j k) (same js ks) e in
+    let h = and_second (nat_eq j k) (same js ks) e in
     ap (λ i. i ∷ js) (equal j k h.0) ∙ ap (λ is. k ∷ is) (same_is js ks h.1)
 
 -- one more monomial
@@ -190,7 +184,7 @@ zero_is (negsuc k) e = absurd (cc)
 zero_total : (xs : List ℤ) (ms : List Monomial) → all_zero ms ≡ true → total xs ms ≡ pos 0
 zero_total xs [] e = refl
 zero_total xs (m ∷ ms) e =
-    let h = both (is_zero m.by) (all_zero ms) e in
+    let h = and_second (is_zero m.by) (all_zero ms) e in
     let f = ap (λ z. z *ℤ product xs m.of) (zero_is m.by h.0) ∙ zero-*ℤ (product xs m.of) in
     let g = zero_total xs ms h.1 in omega (arith, ints)
 

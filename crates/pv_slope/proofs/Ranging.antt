@@ -24,6 +24,7 @@ use Rattle.pv_slope.specs.Flat.{IsFlat}
 use Rattle.pv_slope.specs.Ranges.{ranged_of}
 use Rattle.pv_slope.proofs.Centring.{both_true, centre_point, centre_in_box}
 use Rattle.pv_slope.proofs.Enclosing.{encloses}
+use Rattle.pv_num.proofs.Texts.{none_some}
 
 pub flat_total : (ns : List Node) (root d : ℕ) (b : List Bounds) (r : Bool) → IsFlat ns root d → IsTotality b ns r → r ≡ total_of b (term_at (terms ns) root)
 flat_total ns root d b true h t = sym (t root h.root_in)
@@ -39,27 +40,12 @@ ranged_is b t = sym (chain_assoc (forward_of b t) (centered_from b t) (λ x. Som
 pub ranged_none : (b : List Bounds) (t : Term) → forward_of b t ≡ None → ranged_of b t ≡ None
 ranged_none b t e = ap (λ o. chain o (λ f. chain (centered_from b t f) (λ x. Some (record { interval = x; total = total_of b t })))) e
 
-pub ranged_from : (b : List Bounds) (t : Term) (f : Bounds) → forward_of b t ≡ Some f → ranged_of b t ≡ chain (centered_from b t f) (λ x. Some (record { interval = x; total = total_of b t }))
-ranged_from b t f e = ap (λ o. chain o (λ g. chain (centered_from b t g) (λ x. Some (record { interval = x; total = total_of b t })))) e
-
-pub ranged_some : (b : List Bounds) (t : Term) (f x : Bounds) (r : Bool) → forward_of b t ≡ Some f → Some x ≡ centered_from b t f → r ≡ total_of b t
-    → Some (record { interval = x; total = r }) ≡ ranged_of b t
-ranged_some b t f x r e h k =
-    ap (λ q. Some (record { interval = x; total = q })) k
-    ∙ ap (λ o. chain o (λ y. Some (record { interval = y; total = total_of b t }))) h ∙ sym (ranged_from b t f e)
-
-pub ranged_nothing : (b : List Bounds) (t : Term) (f : Bounds) → forward_of b t ≡ Some f → None ≡ centered_from b t f → ranged_of b t ≡ None
-ranged_nothing b t f e h = ranged_from b t f e ∙ sym (ap (λ o. chain o (λ y. Some (record { interval = y; total = total_of b t }))) h)
-
 -- there is no slope where a divisor is [0,0]
 pub slope_none : (b : List Bounds) (i : ℕ) (t : Term) → forward_of b t ≡ None → None ≡ slope_where b i t
 slope_none b i t e = sym (ap (λ o. chain o (λ f. if has_finite_ends b && total_of b t then Some (slope_of b i t) else None)) e)
 
 one_range : (q r : Ranged) → Some q ≡ Some r → q ≡ r
 one_range q r e = cc
-
-none_some : {A : Type 0} (x : A) → None ≡ Some x → ⊥
-none_some x e = absurd (cc)
 
 -- what a range says of the centered form
 pub centered_none_of : (b : List Bounds) (t : Term) (o : Option Ranged) → o ≡ ranged_of b t → o ≡ None → centered_of b t ≡ None

@@ -1,19 +1,18 @@
 -- Single steps of the functions that work out slopes.
-use Rattle.std.proofs.Common.{◌≡◌, ℕ, zero, suc, ◌+◌, ◌<◌, List, [], ◌∷◌, length, drop, refl, ap, sym, ◌∙◌, arith, add-one}
-use Rattle.std.proofs.Math.Seq.{drop-cons}
+use Rattle.std.proofs.Common.{◌≡◌, ℕ, zero, suc, ◌<◌, List, [], ◌∷◌, length, refl, ap, ◌∙◌, arith}
 use Rattle.std.specs.Prelude.{IsTrue, pos, true, ◌&&◌}
 use Rattle.std.proofs.lemmas.Int.{ints}
 use lib.IntN.{neg_ℤ}
 use Rattle.pv_num.specs.Extended.{Fin}
 use Rattle.pv_num.specs.Grid.{unit}
 use Rattle.pv_num.specs.Order.{le, greater}
-use Rattle.pv_interval.specs.Bounds.{Bounds, between, everything}
-use Rattle.pv_interval.specs.Tables.{power_of, hull_of, negated, sum_of}
+use Rattle.pv_interval.specs.Bounds.{Bounds, between}
+use Rattle.pv_interval.specs.Tables.{power_of, hull_of, negated}
 use Rattle.pv_interval.proofs.Choices.{lesser_first, greater_second}
 use Rattle.pv_interval.proofs.Ends.{le_fin}
 use Rattle.pv_hc4.specs.Chain.{at}
 use Rattle.pv_slope.specs.Centered.{is_finite, has_finite_ends}
-use Rattle.pv_slope.specs.SlopeTable.{one_slope, either_slope, power_term, power_terms}
+use Rattle.pv_slope.specs.SlopeTable.{one_slope, either_slope}
 use Rattle.pv_slope.proofs.Centring.{both_true}
 
 pub one_power : (x : Bounds) → power_of x 0 ≡ one_slope
@@ -27,17 +26,9 @@ either_is =
     ap (λ e. between e (greater (Fin (neg_ℤ (pos unit))) (Fin (pos unit)))) (lesser_first (Fin (neg_ℤ (pos unit))) (Fin (pos unit)) h)
     ∙ ap (λ e. between (Fin (neg_ℤ (pos unit))) e) (greater_second (Fin (neg_ℤ (pos unit))) (Fin (pos unit)) h)
 
--- whether the ends of the places from number i on are finite
-pub finite_step : (b : List Bounds) (i : ℕ) → i < length b
-    → has_finite_ends (drop i b) ≡ ((is_finite (at b i).lo && is_finite (at b i).hi) && has_finite_ends (drop (i + 1) b))
-finite_step b i h = ap has_finite_ends (drop-cons b i everything h ∙ ap (λ k. at b i ∷ drop k b) (sym (add-one i)))
-
 pub finite_at : (b : List Bounds) (i : ℕ) → has_finite_ends b ≡ true → i < length b → (is_finite (at b i).lo && is_finite (at b i).hi) ≡ true
 finite_at [] i h l = absurd (omega arith)
 finite_at (x ∷ b) zero h l = (both_true (is_finite x.lo && is_finite x.hi) (has_finite_ends b) h).0
 finite_at (x ∷ b) (suc i) h l =
     let less : i < length b = omega arith in
     finite_at b i (both_true (is_finite x.lo && is_finite x.hi) (has_finite_ends b) h).1 less
-
-pub terms_more : (f c : Bounds) (m k : ℕ) → sum_of (power_terms f c m k) (power_term f c m (k + 1)) ≡ power_terms f c m (k + 1)
-terms_more f c m k = ap (λ j. sum_of (power_terms f c m k) (power_term f c m j)) (add-one k) ∙ sym (ap (power_terms f c m) (add-one k))

@@ -1,25 +1,22 @@
 -- Nodes in whose term a variable does not stand: their slopes are [0,0].
 use Rattle.std.proofs.Common.{◌≡◌, ◌≢◌, ℕ, ◌+◌, ◌<◌, List, length, refl, ap, sym, ◌∙◌, subst, arith, get_or, add-one}
 use Rattle.std.proofs.lemmas.Bool.{true≢false}
-use Rattle.std.proofs.lemmas.Bool.Decides.{nat_tests}
 use Rattle.std.proofs.lemmas.List.{get_or-set_same, get_or-set_other}
-use Rattle.std.specs.Prelude.{Bool, true, false, ◌&&◌, ◌||◌, Some, nat_eq, slice_set, if◌then◌else◌}
+use Rattle.std.specs.Prelude.{Bool, true, false, ◌&&◌, ◌||◌, Some, slice_set, if◌then◌else◌}
 use Rattle.pv_interval.specs.Bounds.{Bounds, everything}
 use Rattle.pv_interval.specs.Tables.{exactly, difference_of, product_of, sum_of}
 use Rattle.pv_expr.specs.Terms.{Term, place}
-use Rattle.pv_hc4.specs.declared.node.BinaryOp.{BinaryOp}
-use Rattle.pv_hc4.specs.declared.node.BinaryOp.TheVariants.{Add, Sub, Mul, Div, Min, Max}
 use Rattle.pv_hc4.specs.declared.node.Node.{Node}
 use Rattle.pv_hc4.specs.declared.node.Node.TheVariants.{Constant, Place, One, Two}
 use Rattle.pv_hc4.specs.Chain.{at}
 use Rattle.pv_hc4.specs.Forward.{forward_of}
 use Rattle.pv_hc4.specs.Graphs.{AreValues}
 use Rattle.pv_hc4.specs.Nodes.{AreOrdered, ReadsBelow, binary_named, node_at, node_term, terms, term_at}
-use Rattle.pv_hc4.specs.Pass.{op_divides_well, node_divides_well}
+use Rattle.pv_hc4.specs.Pass.{node_divides_well}
 use Rattle.pv_hc4.specs.Totality.{total_of, divides_well}
 use Rattle.pv_hc4.proofs.Growth.{term_step}
 use Rattle.pv_hc4.proofs.Passing.{node_default}
-use Rattle.pv_hc4.proofs.Totals.{part_partial}
+use Rattle.pv_hc4.proofs.Totals.{part_partial, op_well}
 use Rattle.pv_slope.specs.Centres.{at_centre, centre_of, known, on_box}
 use Rattle.pv_slope.specs.Centered.{from_centre, linear_of}
 use Rattle.pv_slope.specs.Flat.{IsFlat, AreOf, unary_slope_by, binary_slope_by}
@@ -28,6 +25,7 @@ use Rattle.pv_slope.specs.SlopeTable.{zero_slope, one_slope, slope_of}
 use Rattle.pv_slope.proofs.Centring.{both_true}
 use Rattle.pv_slope.proofs.Walking.{read_at}
 use Rattle.pv_slope.proofs.Zeros.{unary_zero, binary_zero}
+use Rattle.pv_slope.proofs.Matched.{equal}
 
 -- ---- one node
 
@@ -85,14 +83,6 @@ here_moves i vs cs fs ms ss ns k n e by x h in_ms in_ss in_fs n_is by_is x_is =
     seen_set ms ss k x in_ms in_ss ∙ x_is ∙ ap (moving_slope i by vs cs ms ss) (n_is ∙ node_default ns k e h)
     ∙ ap (λ f. moving_slope i f vs cs ms ss (node_at ns k)) (read_at fs k by in_fs by_is)
 
-op_well : (o : BinaryOp) (y : Bounds) → divides_well (binary_named o) (Some y) ≡ op_divides_well o y
-op_well Add y = refl
-op_well Sub y = refl
-op_well Mul y = refl
-op_well Div y = refl
-op_well Min y = refl
-op_well Max y = refl
-
 node_well : (b : List Bounds) (ts : List Term) (vs : List Bounds) (i : ℕ) (n : Node) → ReadsBelow i n → ((k : ℕ) → k < i → forward_of b (term_at ts k) ≡ Some (at vs k))
     → total_of b (node_term ts n) ≡ true → node_divides_well vs n ≡ true
 node_well b ts vs i (Constant p q) r f h = refl
@@ -130,12 +120,9 @@ linear_more b t i sum slope y e f h =
 
 -- ---- how far a variable may be from its centre
 
-same_number : (i j : ℕ) → nat_eq i j ≡ true → i ≡ j
-same_number i j e = grind (arith, nat_tests)
-
 same_place : (b : List Bounds) (i : ℕ) (ts : List Term) (n : Node) → is_place i n ≡ true → node_term ts n ≡ place i
 same_place b i ts (Constant p q) e = absurd (true≢false (sym e))
-same_place b i ts (Place j) e = ap place (sym (same_number i j e))
+same_place b i ts (Place j) e = ap place (sym (equal i j e))
 same_place b i ts (One o a) e = absurd (true≢false (sym e))
 same_place b i ts (Two o a c) e = absurd (true≢false (sym e))
 

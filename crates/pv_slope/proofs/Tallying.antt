@@ -1,7 +1,6 @@
 -- Tests of the parts of a program, and how many of them hold.
-use Rattle.std.proofs.Common.{◌≡◌, ℕ, suc, ◌+◌, ◌-◌, ◌<◌, List, ◌∷◌, length, ap, sym, ◌∙◌, arith, get_or, drop, add-one, Vec, Global}
+use Rattle.std.proofs.Common.{◌≡◌, ℕ, ◌+◌, ◌-◌, List, length, ap, ◌∙◌, arith, Vec, Global}
 use Rattle.std.specs.Prelude.{Bool, nat_le, nat_lt}
-use Rattle.std.proofs.Math.Seq.{drop-cons}
 use Rattle.std.proofs.lemmas.Bool.Decides.{nat_tests}
 use Rattle.pv_ctc.specs.declared.program.Program.{Program, Compose, Union, QInter}
 use Rattle.pv_ctc.specs.Plans.{plan_of, plans_of, plan_count}
@@ -9,20 +8,6 @@ use Rattle.pv_ctc.specs.Sureness.{all_true, count_true}
 use Rattle.pv_ctc.proofs.Rows.{count_plans}
 use Rattle.pv_ctc.proofs.Sizes.{vec_plans}
 use Rattle.pv_slope.specs.Programs.{none_by, none_by_each, sure_by, sure_by_each}
-
-pub none_step : (ts : List Bool) (ps : List Program) (k : ℕ) (p : Program) → k < length ps → p ≡ get_or ps k p
-    → none_by_each ts (plans_of (drop k ps)) ≡ none_by ts (plan_of p) ∷ none_by_each ts (plans_of (drop (k + 1) ps))
-none_step ts ps k p h e =
-    ap (λ xs. none_by_each ts (plans_of xs)) (drop-cons ps k p h)
-    ∙ ap (λ q. none_by ts (plan_of q) ∷ none_by_each ts (plans_of (drop (suc k) ps))) (sym e)
-    ∙ ap (λ n. none_by ts (plan_of p) ∷ none_by_each ts (plans_of (drop n ps))) (sym (add-one k))
-
-pub sure_step : (ts : List Bool) (ps : List Program) (k : ℕ) (p : Program) → k < length ps → p ≡ get_or ps k p
-    → sure_by_each ts (plans_of (drop k ps)) ≡ sure_by ts (plan_of p) ∷ sure_by_each ts (plans_of (drop (k + 1) ps))
-sure_step ts ps k p h e =
-    ap (λ xs. sure_by_each ts (plans_of xs)) (drop-cons ps k p h)
-    ∙ ap (λ q. sure_by ts (plan_of q) ∷ sure_by_each ts (plans_of (drop (suc k) ps))) (sym e)
-    ∙ ap (λ n. sure_by ts (plan_of p) ∷ sure_by_each ts (plans_of (drop n ps))) (sym (add-one k))
 
 pub compose_none : (ts : List Bool) (p : Program) (v : Vec Program Global) (xs : List Program) → p ≡ Compose v → xs ≡ v.items → none_by ts (plan_of p) ≡ nat_le 1 (count_true (none_by_each ts (plans_of xs)))
 compose_none ts p v xs e f = ap (λ q. none_by ts (plan_of q)) e ∙ ap (λ ps. nat_le 1 (count_true (none_by_each ts ps))) (vec_plans v xs f)
@@ -47,7 +32,3 @@ union_sure ts p v xs e f = ap (λ q. sure_by ts (plan_of q)) e ∙ ap (λ ps. na
 
 pub qinter_sure : (ts : List Bool) (n : ℕ) (p : Program) (v : Vec Program Global) (xs : List Program) → p ≡ QInter n v → xs ≡ v.items → sure_by ts (plan_of p) ≡ nat_le n (count_true (sure_by_each ts (plans_of xs)))
 qinter_sure ts n p v xs e f = ap (λ q. sure_by ts (plan_of q)) e ∙ ap (λ ps. nat_le n (count_true (sure_by_each ts ps))) (vec_plans v xs f)
-
--- what is behind the first of some tests
-pub tests_step : (ts : List Bool) (k : ℕ) (t : Bool) → k < length ts → t ≡ get_or ts k t → drop k ts ≡ t ∷ drop (k + 1) ts
-tests_step ts k t h e = drop-cons ts k t h ∙ ap (λ u. u ∷ drop (suc k) ts) (sym e) ∙ ap (λ n. t ∷ drop n ts) (sym (add-one k))

@@ -1,48 +1,24 @@
 -- What is found of a constraint is what the tests say.
 use Rattle.std.proofs.Common.{◌≡◌, ℕ, zero, suc, ◌+◌, ◌<◌, List, [], ◌∷◌, ◌++◌, length, take, refl, ap, sym, ◌∙◌, arith}
-use Rattle.std.specs.Prelude.{ℤ, Bool, true, false, ◌&&◌, ◌||◌, All, Some, None, map, slice_get}
+use Rattle.std.specs.Prelude.{ℤ, Bool, true, false, ◌&&◌, ◌||◌, All, Some, map, slice_get}
 use Rattle.std.proofs.lemmas.List.Elements.{All-head, All-tail}
 use Rattle.pv_num.specs.Grid.{unit}
 use Rattle.pv_interval.specs.Bounds.{Bounds, IsInterval}
 use Rattle.pv_interval.specs.Points.{Point}
 use Rattle.pv_interval.proofs.Intervals.{member}
 use Rattle.pv_box.specs.Boxes.{IsBox, LieIn}
-use Rattle.pv_expr.specs.Terms.{Term}
-use Rattle.pv_expr.specs.declared.constraint.Relation.{Relation}
 use Rattle.pv_hc4.specs.Members.{AreOver}
 use Rattle.pv_hc4.specs.Revise.{Sides}
 use Rattle.pv_hc4.specs.Totality.{total_of, sure_of}
 use Rattle.pv_hc4.proofs.Sureness.{sure-holds}
 use Rattle.pv_ctc.specs.Contracting.{side_at}
 use Rattle.pv_settle.proofs.Making.{take_more}
-use Rattle.pv_slope.specs.declared.slopes.Ranged.{Ranged}
 use Rattle.pv_slope.specs.Centered.{centered_of}
 use Rattle.pv_slope.specs.Flat.{Parts, term_in}
-use Rattle.pv_slope.specs.Tests.{none_stands, all_stand, none_in, all_in, centered_none, centered_sure, counts_as_sure}
+use Rattle.pv_slope.specs.Tests.{none_in, all_in, centered_none, centered_sure, counts_as_sure}
 use Rattle.pv_slope.specs.Excluding.{none_holds}
 use Rattle.pv_slope.proofs.Enclosing.{encloses}
 use Rattle.pv_slope.proofs.Matched.{IsMatch}
-use Rattle.pv_slope.proofs.Ranging.{IsRange}
-
--- ---- from the range
-
-pub none_by_range : (b : List Bounds) (t : Term) (r : Relation) (x : Ranged) (n : Bool) → IsRange b t x → n ≡ none_stands r x.interval → n ≡ none_in r (centered_of b t)
-none_by_range b t r x n h e = e ∙ sym (ap (none_in r) h.interval)
-
-pub sure_by_range : (b : List Bounds) (t : Term) (r : Relation) (x : Ranged) (n : Bool) → IsRange b t x → n ≡ (x.total && all_stand r x.interval)
-    → n ≡ (total_of b t && all_in r (centered_of b t))
-sure_by_range b t r x n h e =
-    e ∙ sym (ap (λ q. q && all_in r (centered_of b t)) h.total ∙ ap (λ o. x.total && all_in r o) h.interval)
-
-pub none_by_nothing : (b : List Bounds) (t : Term) (r : Relation) → centered_of b t ≡ None → true ≡ none_in r (centered_of b t)
-none_by_nothing b t r e = sym (ap (none_in r) e)
-
-and_false : (t : Bool) → (t && false) ≡ false
-and_false true = refl
-and_false false = refl
-
-pub sure_by_nothing : (b : List Bounds) (t : Term) (r : Relation) → centered_of b t ≡ None → false ≡ (total_of b t && all_in r (centered_of b t))
-sure_by_nothing b t r e = sym (ap (λ o. total_of b t && all_in r o) e ∙ and_false (total_of b t))
 
 -- ---- from the slopes to the constraint
 
@@ -69,7 +45,7 @@ some_point (x ∷ b) i =
     let p = some_point b (All-tail IsInterval x b i) in
     record { places = m.number ∷ p.places; lie = (m.lies, p.lie) }
 
-truth : (t : Bool) → (t ≡ true → ⊥) → t ≡ false
+pub truth : (t : Bool) → (t ≡ true → ⊥) → t ≡ false
 truth true h = absurd (h refl)
 truth false h = refl
 
@@ -78,9 +54,6 @@ sure_not_none s b o i e =
     let p = some_point b i.intervals in
     let x : Point = record { places = p.places; under = unit } in
     truth (centered_none s b) (λ t. none_holds encloses s b x o i p.lie t (sure-holds s b x o.0 o.1 p.lie e))
-
-pub sure_either : (s : Sides) (b : List Bounds) (t : Bool) → sure_of s b ≡ t → t ≡ true → counts_as_sure s b ≡ true
-sure_either s b t e h = ap (λ u. u || centered_sure s b) (e ∙ h)
 
 pub unsure_other : (s : Sides) (b : List Bounds) (t : Bool) → sure_of s b ≡ t → t ≡ false → counts_as_sure s b ≡ centered_sure s b
 unsure_other s b t e h = ap (λ u. u || centered_sure s b) (e ∙ h)

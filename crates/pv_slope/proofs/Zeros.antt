@@ -1,7 +1,7 @@
 -- The slope of an operation on parts that have the slope 0.
 use Rattle.std.proofs.Common.{◌≡◌, zero, suc, refl, ap, sym, subst, ◌∙◌, arith, pos, negsuc}
-use Rattle.std.proofs.lemmas.Bool.{true≢false}
-use Rattle.std.specs.Prelude.{Bool, true, false, not, ◌&&◌, Option, Some, None, if◌then◌else◌}
+use Rattle.std.proofs.lemmas.Bool.{true≢false, and_from, not-true}
+use Rattle.std.specs.Prelude.{Bool, true, false, Option, Some, None, if◌then◌else◌}
 use Rattle.std.proofs.Math.IntN.{*ℤ-zero, zero-*ℤ}
 use Rattle.pv_num.specs.Arithmetic.{mul_of, div_of}
 use Rattle.pv_num.specs.Extended.{Extended, NegInf, Fin, PosInf}
@@ -24,6 +24,7 @@ use Rattle.pv_slope.specs.Centres.{known}
 use Rattle.pv_slope.specs.Flat.{unary_slope_by, binary_slope_by}
 use Rattle.pv_slope.specs.SlopeTable.{zero_slope, either_slope, quotient_slope}
 use Rattle.pv_slope.proofs.Centring.{both_true}
+use Rattle.pv_slope.proofs.Weighing.{truth}
 
 pub same_ends : (x y : Bounds) → x.lo ≡ y.lo → x.hi ≡ y.hi → x ≡ y
 same_ends x y e h = λ i. record { lo = e i; hi = h i }
@@ -95,24 +96,17 @@ over_end side (Fin (pos (suc n))) h = ap (λ z. rounded side z (suc n)) (zero-*�
 over_end side (Fin (negsuc n)) h = ap (λ z. rounded side z (suc n)) (zero-*ℤ (pos unit)) ∙ rounded-zero side (suc n) (omega arith)
 over_end side PosInf h = refl
 
-both_hold : (s t : Bool) → s ≡ true → t ≡ true → (s && t) ≡ true
-both_hold s t e f = ap (λ q. q && t) e ∙ f
-
 not_low : (g : Bounds) → IsInterval g → has_nought g ≡ false → g.lo ≡ nought → ⊥
 not_low g i h e =
-    true≢false (sym (both_hold (le g.lo nought) (le nought g.hi) (subst (λ x. le x nought ≡ true) (sym e) (le-refl nought)) (subst (λ x. le x g.hi ≡ true) e i.ordered)) ∙ h)
+    true≢false (sym (and_from (le g.lo nought) (le nought g.hi) (subst (λ x. le x nought ≡ true) (sym e) (le-refl nought)) (subst (λ x. le x g.hi ≡ true) e i.ordered)) ∙ h)
 
 not_high : (g : Bounds) → IsInterval g → has_nought g ≡ false → g.hi ≡ nought → ⊥
 not_high g i h e =
-    true≢false (sym (both_hold (le g.lo nought) (le nought g.hi) (subst (λ x. le g.lo x ≡ true) e i.ordered) (subst (λ x. le nought x ≡ true) (sym e) (le-refl nought))) ∙ h)
-
-is_false : (t : Bool) → (t ≡ true → ⊥) → t ≡ false
-is_false true h = absurd (h refl)
-is_false false h = refl
+    true≢false (sym (and_from (le g.lo nought) (le nought g.hi) (subst (λ x. le g.lo x ≡ true) e i.ordered) (subst (λ x. le nought x ≡ true) (sym e) (le-refl nought))) ∙ h)
 
 not_alone : (g : Bounds) → IsInterval g → has_nought g ≡ false → is_nought g ≡ false
 not_alone g i h =
-    is_false (is_nought g)
+    truth (is_nought g)
     (λ e. let p = both_true (is_from_nought g) (is_to_nought g) e in not_low g i h (le-antisym g.lo nought (le-trans g.lo g.hi nought i.ordered p.1) p.0))
 
 third : (s t : Bool) (x : Option Bounds) (y : Bounds) → s ≡ false → t ≡ false → (if s then None else if t then x else Some y) ≡ Some y
@@ -132,14 +126,10 @@ quotient_zero : (by g : Bounds) → IsInterval g → has_nought g ≡ false → 
 quotient_zero by g i h =
     ap (λ x. known (quotient_of (difference_of zero_slope x) g)) (times_zero by) ∙ ap (λ x. known (quotient_of x g)) difference_zero ∙ ap known (quotient_nought g i h)
 
-not_true : (t : Bool) → not t ≡ true → t ≡ false
-not_true true h = absurd (true≢false (sym h))
-not_true false h = refl
-
 pub binary_zero : (o : BinaryOp) (by f g d : Bounds) → op_divides_well o g ≡ true → IsInterval g → binary_slope_by o by f g d zero_slope zero_slope ≡ zero_slope
 binary_zero Add by f g d h i = sum_zero
 binary_zero Sub by f g d h i = difference_zero
 binary_zero Mul by f g d h i = ap (λ x. sum_of x (product_of d zero_slope)) (times_zero f) ∙ ap (sum_of zero_slope) (times_zero d) ∙ sum_zero
-binary_zero Div by f g d h i = quotient_zero by g i (not_true (has_nought g) h)
+binary_zero Div by f g d h i = quotient_zero by g i (not-true (has_nought g) h)
 binary_zero Min by f g d h i = of_three _ _ zero_slope zero_slope (hull_of zero_slope zero_slope) zero_slope refl refl hull_zero
 binary_zero Max by f g d h i = of_three _ _ zero_slope zero_slope (hull_of zero_slope zero_slope) zero_slope refl refl hull_zero

@@ -22,6 +22,7 @@ use Rattle.pv_interval.proofs.Monotone.{neg_order}
 use Rattle.pv_svg.specs.Pixels.{IsFinite, IsOn, is_flat, share_of, thousand, lower_pixel, upper_pixel}
 use Rattle.pv_svg.proofs.Shares.{share_nat, scaled_there, scaled_few, part_few, part_low, up_above}
 use Rattle.pv_svg.proofs.Ends.{same_end}
+use Rattle.pv_interval.proofs.Picks.{neg_not_pos, neg_not_neg}
 
 -- ---- A finite axis and a number on it, as whole numbers
 
@@ -119,16 +120,6 @@ turned_length l h q e = omega (arith, ints, e)
 turned_far : (l m h : ℤ) (p q : ℕ) → (m +ℤ neg_ℤ l) ≡ pos p → (h +ℤ neg_ℤ l) ≡ pos q → p ≤ q → (neg_ℤ m +ℤ neg_ℤ (neg_ℤ h)) ≡ pos (q - p)
 turned_far l m h p q e f w = omega (arith, ints, e, f, w)
 
-neg_above : (e : Extended) → e ≢ PosInf → neg_of e ≢ NegInf
-neg_above NegInf n h = cc
-neg_above (Fin a) n h = cc
-neg_above PosInf n h = absurd (n refl)
-
-neg_below : (e : Extended) → e ≢ NegInf → neg_of e ≢ PosInf
-neg_below NegInf n h = absurd (n refl)
-neg_below (Fin a) n h = cc
-neg_below PosInf n h = cc
-
 turned_back : (e : Extended) → neg_of (neg_of e) ≡ e
 turned_back NegInf = refl
 turned_back (Fin a) = ap Fin (grind (arith, ints))
@@ -224,7 +215,7 @@ turned_on : (axis : Bounds) (v : Extended) → IsOn axis v → IsOn (negated axi
 unfolding negated
 turned_on axis v on =
     let parts = and_parts (le axis.lo v) (le v axis.hi) on.there in record {
-      finite = record { lo = neg_above axis.hi on.finite.hi; hi = neg_below axis.lo on.finite.lo };
+      finite = record { lo = neg_not_neg axis.hi on.finite.hi; hi = neg_not_pos axis.lo on.finite.lo };
       long = turned_long axis.lo axis.hi on.long;
       there = and_from (le (neg_of axis.hi) (neg_of v)) (le (neg_of v) (neg_of axis.lo)) (neg_order v axis.hi parts.1) (neg_order axis.lo v parts.0);
     }

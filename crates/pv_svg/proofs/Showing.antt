@@ -13,7 +13,7 @@ use Rattle.pv_num.proofs.Orders.{le-refl, le-trans}
 use Rattle.pv_interval.specs.Bounds.{Bounds, everything}
 use Rattle.pv_box.specs.Boxes.{IsWithin, lower_half, upper_half}
 use Rattle.pv_tree.specs.Trees.{Tree, leaf, removed, inner, small, cut, Paves, IsBetween, IsStrictlyInside, box_of}
-use Rattle.pv_tree.specs.Pieces.{Piece, pieces_below, children_of, root_piece}
+use Rattle.pv_tree.specs.Pieces.{Piece, pieces_below, children_of}
 use Rattle.pv_svg.specs.Planes.{Plane, place, meets}
 use Rattle.pv_svg.specs.Pixels.{IsFinite}
 use Rattle.pv_svg.specs.Rectangles.{rectangle_of, fills, cast_off, kept, seen, rectangles_of, LiesWithin, IsOnAxes, IsPicture, picture_of}
@@ -90,11 +90,6 @@ visit plane path b (cut to v a l r) rest h =
     parts_behind (meets plane b) (cast_off plane b to) (rectangles_of plane (lower_half to v a) l) (rectangles_of plane (upper_half to v a) r) (still_to_show plane rest)
     (λ e. hidden plane (lower_half to v a) l (part_hidden plane (lower_half to v a) b (low_child b to v a l r h) e))
     (λ e. hidden plane (upper_half to v a) r (part_hidden plane (upper_half to v a) b (high_child b to v a l r h) e))
-
-pub begin_shown : (plane : Plane) (b : List Bounds) (t : Tree) (had : List Rectangle) (pending : List Piece) → had ≡ [] → pending ≡ root_piece b t ∷ []
-    → rectangles_of plane b t ≡ had ++ still_to_show plane pending
-begin_shown plane b t had pending e f =
-    sym (append-nil (rectangles_of plane b t)) ∙ ap (still_to_show plane) (sym f) ∙ ap (λ (x : List Rectangle). x ++ still_to_show plane pending) (sym e)
 
 -- one node more is shown
 pub one_shown : (plane : Plane) (here : Piece) (old new rest : List Piece) (total had had' : List Rectangle) → Paves here.box here.tree

@@ -10,9 +10,7 @@ use Rattle.pv_box.specs.Boxes.{LieIn, PointIn, lower_half, upper_half}
 use Rattle.pv_tree.specs.Trees.{Tree, leaf, removed, inner, small, cut, Paves, IsStrictlyInside, IsBetween}
 use Rattle.pv_tree.specs.Sets.{Covers}
 use Rattle.pv_tree.proofs.Cells.{lt_or}
-
-le_or : (a b : ℤ) → (a ≤ℤ b) ⊎ (b ≤ℤ a)
-le_or a b = grind (arith, ints)
+use Rattle.pv_box.proofs.Kept.{le_or}
 
 le_decides : (a b : ℤ) → (a ≤ℤ b) ⊎ (a ≤ℤ b → ⊥)
 le_decides a b = grind (arith, ints)

@@ -38,10 +38,6 @@ unfolding full
 full-is rule zero b k o e = ap settled e ∙ settled_grown rule k o
 full-is rule (suc d) b k o e = ap (grown rule (suc d) k) e
 
--- growth, node by node
-pub grows_top : (s t : Tree) (o : Outcome) → Grows s t → top s ≡ Some o → top t ≡ Some o
-grows_top s t o h e = h [] o e
-
 pub record IsCut (t : Tree) (to : List Bounds) (v : ℕ) (a : Extended) : Type 0 where
   pub low : Tree
   pub high : Tree

@@ -1,36 +1,19 @@
 -- A budget is enough exactly where the full tree needs no more of it.
-use Rattle.std.proofs.Common.{◌≡◌, inl, inr, ℕ, ◌+◌, ◌-◌, ◌<◌, ◌≤◌, Bool, List, [], ◌∷◌, length, refl, sym, ap, subst, arith}
+use Rattle.std.proofs.Common.{◌≡◌, inl, inr, ℕ, ◌+◌, ◌-◌, ◌<◌, ◌≤◌, Bool, List, [], ◌∷◌, length, refl, sym, ap, arith}
 use Rattle.std.specs.Prelude.{Option, Some, None, ◌≢◌, ◌↔◌}
 use Rattle.pv_interval.specs.Bounds.{Bounds}
 use Rattle.pv_interval.specs.Points.{Point}
 use Rattle.pv_box.specs.Boxes.{IsBox}
-use Rattle.pv_tree.specs.Trees.{Tree, leaf, removed, inner, small, cut, opens, first, subtree, graft, settled, box_of, Paves}
-use Rattle.pv_tree.specs.declared.outcome.Outcome.TheVariants.{Removed, Inner, Small, Cut}
-use Rattle.pv_tree.specs.Stages.{Rule, full_of, Grows, IsStage}
+use Rattle.pv_tree.specs.Trees.{Tree, leaf, opens, first, subtree, graft, settled, box_of, Paves}
+use Rattle.pv_tree.specs.Stages.{Rule, full_of, IsStage}
 use Rattle.pv_tree.specs.Laws.{IsLawful}
-use Rattle.pv_tree.proofs.StageLaws.{IsCut, top_removed, top_inner, top_small, top_cut, grows_low, grows_high, step_stage, whole_stage}
+use Rattle.pv_tree.proofs.StageLaws.{step_stage, whole_stage}
 use Rattle.pv_tree.proofs.TreeFacts.{settled_more}
 use Rattle.pv_tree.proofs.Searches.{some_is}
 use Rattle.pv_board.specs.Rules.{settled_in}
 use Rattle.pv_workers.specs.Pavings.{FullFits, IsSpent}
-
-same_or_more : (s t : Tree) → s ≡ t → settled_in s ≤ settled_in t
-same_or_more s t e = let n : settled_in s ≡ settled_in t = ap settled_in e in omega arith
-
--- what grows has no fewer settled nodes
-pub grows_settled : (s t : Tree) → Grows s t → settled_in s ≤ settled_in t
-grows_settled leaf t h = omega arith
-grows_settled removed t h = same_or_more removed t (sym (top_removed t (h [] Removed refl)))
-grows_settled (inner to) t h = same_or_more (inner to) t (sym (top_inner t to (h [] (Inner to) refl)))
-grows_settled (small to) t h = same_or_more (small to) t (sym (top_small t to (h [] (Small to) refl)))
-grows_settled (cut to v a l r) t h =
-    let c : IsCut t to v a = top_cut t to v a (h [] (Cut to v a) refl) in
-    let g : Grows (cut to v a l r) (cut to v a c.low c.high) = subst (Grows (cut to v a l r)) c.is h in
-    let low : settled_in l ≤ settled_in c.low = grows_settled l c.low (grows_low to to v v a a l r c.low c.high g) in
-    let high : settled_in r ≤ settled_in c.high = grows_settled r c.high (grows_high to to v v a a l r c.low c.high g) in
-    let whole : settled_in (cut to v a l r) ≤ settled_in (cut to v a c.low c.high) = omega arith in
-    let same : settled_in (cut to v a c.low c.high) ≤ settled_in t = same_or_more (cut to v a c.low c.high) t (sym c.is) in
-    omega arith
+use Rattle.pv_board.proofs.Growth.{grows_settled}
+use Rattle.pv_workers.proofs.Shares.{part_most}
 
 -- the first of a list that is empty, or isn't
 pub no_first : (ps : List (List Bool)) → first ps ≡ None → ps ≡ []
@@ -42,14 +25,6 @@ none_some p e = cc
 
 cons_nil : (q : List Bool) (ps : List (List Bool)) → q ∷ ps ≡ [] → ⊥
 cons_nil q ps e = cc
-
-some_first : (ps : List (List Bool)) (p : List Bool) → first ps ≡ Some p → ps ≡ [] → ⊥
-some_first [] p e none = let bad : None ≡ Some p = e in absurd (none_some p bad)
-some_first (q ∷ ps) p e none = absurd (cons_nil q ps none)
-
-at_most : (budget : ℕ) (opening t : Tree) → IsSpent budget opening t → settled_in t ≤ settled_in opening + budget
-at_most budget opening t (inl spent) = omega arith
-at_most budget opening t (inr done) = done.1
 
 -- where a leaf is open, the whole budget was spent
 pub spent_of : (budget : ℕ) (opening t : Tree) → IsSpent budget opening t → opens t ≢ [] → settled_in t ≡ settled_in opening + budget
@@ -94,6 +69,6 @@ module _ (rule : Rule) (depth dims : ℕ) (inside : Point → Type 0) (laws : Is
   pub fits_of : (b : List Bounds) (opening t : Tree) (budget : ℕ) → IsBox b → length b ≡ dims → Paves b opening → IsStage rule depth b opening t → IsSpent budget opening t
       → (opens t ≡ []) ↔ FullFits rule depth b opening budget
   fits_of b opening t budget h places paves stage spent = (
-    λ none. full_fits b opening t budget stage none (at_most budget opening t spent),
+    λ none. full_fits b opening t budget stage none (part_most budget opening t spent),
     λ fits. all_done b opening t budget h places paves stage spent fits,
   )

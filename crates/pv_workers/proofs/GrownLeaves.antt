@@ -8,7 +8,6 @@ use Rattle.pv_tree.specs.Stages.{IsStage, Rule}
 use Rattle.pv_tree.specs.declared.outcome.Outcome.{Outcome}
 use Rattle.pv_tree.specs.declared.outcome.Outcome.TheVariants.{Removed, Inner, Small, Cut}
 use Rattle.pv_tree.proofs.TreeFacts.{settled_more}
-use Rattle.pv_tree.specs.Trees.{shape_of}
 use Rattle.pv_tree.specs.declared.outcome.Shape.TheVariants as shape
 use Rattle.pv_board.specs.Rules.{settled_in}
 use Rattle.pv_workers.specs.Leaves.{AreOpen, paths_of}
@@ -130,11 +129,3 @@ grown rule depth b budget old new e = subst (λ g. new.root ≡ g.root → Goes 
       stage = subst (λ x. IsStage rule depth x leaf new.tree) root (goes leaf tt (opening_is_stage rule depth b leaf));
       spent = spent;
     })
-
--- what looks like an open leaf is one
-pub looks_open : (t : Tree) → shape_of (Some t) ≡ shape.OpenLeaf → t ≡ leaf
-looks_open leaf e = refl
-looks_open removed e = cc
-looks_open (inner to) e = cc
-looks_open (small to) e = cc
-looks_open (cut to v a l r) e = cc

@@ -1,17 +1,18 @@
 -- What the caller finds on a board.
-use Rattle.std.proofs.Common.{◌≡◌, inl, inr, ℕ, suc, ◌+◌, ◌<◌, ◌≤◌, Bool, true, false, Some, List, [], ◌∷◌, refl, sym, ◌∙◌, ap, arith, subst}
+use Rattle.std.proofs.Common.{◌≡◌, inl, inr, ℕ, suc, ◌+◌, ◌<◌, ◌≤◌, Bool, true, false, Some, List, [], refl, sym, arith, subst}
 use Rattle.std.specs.Prelude.{nat_eq}
 use Rattle.std.proofs.lemmas.Bool.Decides.{eqb_tells}
 use Rattle.pv_interval.specs.Bounds.{Bounds}
 use Rattle.pv_tree.specs.Trees.{Tree, leaf, subtree, opens}
 use Rattle.pv_tree.specs.Stages.{Rule}
 use Rattle.pv_board.specs.declared.mark.Mark.{Mark}
-use Rattle.pv_board.specs.Marks.{at, holds, issued, granted}
+use Rattle.pv_board.specs.Marks.{at, holds, issued}
 use Rattle.pv_board.specs.Core.{Core, IsCore}
 use Rattle.pv_board.specs.Events.{is_current, free_units, IsOver, IsTake}
 use Rattle.pv_board.proofs.Paths.{at_self}
 use Rattle.pv_workers.specs.Pavings.{IsSpent}
 use Rattle.pv_workers.specs.Boards.{IsRecalled}
+use Rattle.pv_board.proofs.Openings.{none_held, none_granted}
 
 nat_equal : (m n : ℕ) → m ≡ n → nat_eq m n ≡ true
 nat_equal m n e = elim (eqb_tells m n) [ inl h ↦ h.0 | inr h ↦ absurd (h.1 e) ]
@@ -23,17 +24,6 @@ taken_current old new t h =
     let s = at_self t.path (suc t.grant) in
     let z = h.is_fresh in
     nat_equal (holds new.marks t.path) (suc t.grant) (omega (arith, m, s, z))
-
-pub taken_there : (old new : Core) (t : Mark) → IsTake old new t → subtree new.tree t.path ≡ Some leaf
-taken_there old new t h = ap (λ (c : Core). subtree c.tree t.path) h.rest ∙ h.is_open
-
-none_held : (ms : List Mark) (q : List Bool) → issued ms ≡ 0 → holds ms q ≡ 0
-none_held [] q e = refl
-none_held (m ∷ ms) q e = absurd (omega (arith, e))
-
-pub none_granted : (ms : List Mark) → issued ms ≡ 0 → granted ms ≡ 0
-none_granted [] e = refl
-none_granted (m ∷ ms) e = absurd (omega (arith, e))
 
 module _ (rule : Rule) (depth : ℕ) (root : List Bounds) (opening : Tree) (budget limit : ℕ) (c : Core) (h : IsCore rule depth root opening budget limit c) (r : IsRecalled opening c) where
   -- where nothing is left the budget is spent
