@@ -1,5 +1,5 @@
 -- The open leaves of a tree stand in preorder, so what comes behind one of them is the rest of them.
-use Rattle.std.proofs.Common.{◌≡◌, ℕ, ◌+◌, ◌-◌, ◌<◌, Bool, true, false, cond, Option, Some, None, List, [], ◌∷◌, ◌++◌, map, length, refl, sym, ◌∙◌, ap, subst, arith, append_assoc, append-nil, length-append}
+use Rattle.std.proofs.Common.{◌≡◌, ℕ, ◌-◌, ◌<◌, Bool, true, false, cond, Option, Some, None, List, [], ◌∷◌, ◌++◌, map, length, refl, sym, ◌∙◌, ap, subst, arith, append_assoc, append-nil, length-append}
 use Rattle.std.proofs.lemmas.List.{reverse-reverse, map-id}
 use Rattle.std.specs.Prelude.{reverse}
 use Rattle.pv_tree.specs.Trees.{Tree, leaf, removed, inner, small, cut, opens, first, behind, precedes}

@@ -93,7 +93,11 @@ where
         let seen = self.hungry_since(seen, account);
         match self.shared.idle(rt, seen, &mut account.told) {
             Look::Work(ticket) => Idle::Job(Task::of(ticket, self.ruled)),
-            Look::Done => self.all_done(rt),
+            Look::Done => {
+                // Those who wait are told.
+                self.shared.announce(rt);
+                Idle::Done
+            }
             Look::Changed(steps) => Idle::Look(steps),
             Look::Same => unreachable!(),
         }
@@ -124,14 +128,6 @@ impl<'a, N: Naming, S: KnowingSettler, G: Gate> Crew<'a, N, S, G> {
         account.is_hungry = true;
         self.shared.hunger();
         u64::MAX
-    }
-
-    // Tells all that wait that nothing is left to do.
-    fn all_done<R: Wait>(&self, rt: &R) -> Idle<Task<'a, N, S>>
-        ensures { result ≡ Done }
-    {
-        self.shared.announce(rt);
-        Idle::Done
     }
 
     // Settles the leaf of a ticket. The tasks of a cut's children become `children`.

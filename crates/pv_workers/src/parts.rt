@@ -16,8 +16,8 @@ use std::sync::Wait;
 use std::thread::Threads;
 
 // A board makes room for its whole budget at once, so a large budget is spent in parts: a part has
-// as many settlings as the paving has settled nodes, and at least so many. Between two parts one
-// thread goes through the whole tree.
+// as many settlings as the paving has settled nodes, and at least so many. At the end of each part
+// the workers run out of work, so there are to be few.
 const LEAST_PART: u64 = 1_000_000;
 
 /// Settles by crews, each on a board of its own for a part of the budget.
