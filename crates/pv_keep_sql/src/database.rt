@@ -264,6 +264,9 @@ fn add_rows<S: Alter>(
     if start >= end {
         return Ok(());
     }
+    if at_once == 0 {
+        return Ok(());
+    }
     let add = change.prepare(addition(alloc, at_once)?.as_str())?;
     for first in (start..end).step_by(at_once as usize) {
         let given = given_from(alloc, rows, first, at_once)?;
