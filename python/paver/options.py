@@ -35,6 +35,7 @@ RANGES = {"depth": (1, 200), "boxes": (1, MOST_BOXES), "workers": (1, 16), "limi
           "seed": (0, 2 ** 31 - 1), "count": (1, 16), "rounds": (1, 100)}
 CHOICES = {"bisect": ("largest", "round"), "form": ("plain", "centered"), "order": ("depth", "level")}
 DEFAULTS = {"eps": "0.125", "depth": "60", "bisect": "largest", "contract": "prop(8)", "form": "plain"}
+OUTPUTS = ("/dev/stdout", "/dev/fd/1", "/proc/self/fd/1")  # under which nothing is stored
 NUMBER = r"[0-9]+(\.[0-9]*)?([eE][+-]?[0-9]+)?"
 
 
@@ -134,9 +135,19 @@ def faults(command: str, words: Sequence[str]) -> List[str]:
     found += [f"`{command}` needs `--{name}`." for name in REQUIRED.get(command, ()) if name not in seen]
     if seen.get("x") is not None and seen.get("x") == seen.get("y"):
         found.append("`--x` and `--y` name one variable: a picture has two.")
+    found += out_fault(seen.get("out"), read.files)
     if seen.get("share") is not None and seen.get("order") == "level":
         found.append("`--share` and `--order level` exclude each other: a share is settled in its own order.")
     return found + file_faults(command, len(read.files))
+
+
+def out_fault(name: Optional[str], files: Sequence[str]) -> List[str]:
+    """The sentence on a name of `--out` under which nothing is stored."""
+    if name is not None and files[:1] == [name]:
+        return [f"`--out {name}` is the system itself, which would be lost: name another file."]
+    if name in OUTPUTS:
+        return [f"`--out {name}` is the standard output, where the counts are printed: without `--out` the nodes are printed, too."]
+    return []
 
 
 def unknown(command: str, word: str) -> str:

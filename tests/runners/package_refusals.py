@@ -59,6 +59,8 @@ WORDS = [  # of each command words that the program refuses, and a part of the s
     (["run", "S", "--bisect"], "`--bisect` needs a value."),
     (["run", "S", "-e", "1"], "`-e` is no option of run"),
     (["check", "S", "--eps", "1"], "check takes none"),
+    (["run", "S", "--out", "S"], "is the system itself, which would be lost"),
+    (["merge", "S", "P", "--out=/dev/stdout"], "is the standard output"),
     (["resume", "S"], "one SYSTEM and 1 to 8 PAVINGs: 1 name is given."),
     (["merge", "S", "P", "--boxes", "5"], "`--boxes` is no option of merge; it is one of run, resume"),
     (["audit", "S"], "one SYSTEM and one PAVING: 1 name is given."),

@@ -119,6 +119,17 @@ class PavingFiles(FolderTest):
         self.expect(["resume", "s", "a", *QUARTER, "--boxes", "4", "--out", "a"], 0, WHOLE_SUMMARY, changed="a")
         self.same("b", "a")
 
+    def test_names_that_are_taken(self) -> None:
+        """Nothing is stored under the system's own name or on the standard output; under a paving's name it is."""
+        self.put("s", RECIPROCAL)
+        self.put("a", file_of(2, PART))
+        for name in ("s", "/dev/stdout", "/dev/fd/1", "/proc/self/fd/1"):
+            for words in (["run", "s"], ["run-centered", "s"], ["resume", "s", "a"], ["merge", "s", "a"]):
+                for out in (["--out", name], [f"--out={name}"]):
+                    self.expect([*words, *out], 2, err=USAGE)
+        self.expect(["run", "absent", "--out", "absent"], 2, err=USAGE)
+        self.expect(["resume", "s", "a", *QUARTER, "--out", "a"], 0, WHOLE_SUMMARY, changed="a")
+
     def test_merged_files(self) -> None:
         for name, data in dict(s=RECIPROCAL, A=file_of(1, A), B=file_of(1, B), F=file_of(1, F), b=file_of(2, WHOLE),
                                old=file_of(1, WHOLE_1)).items():

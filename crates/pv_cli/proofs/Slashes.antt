@@ -102,7 +102,7 @@ one_order o u e = sym (order_of o) ∙ ap order_in e ∙ order_of u
 pub bad_share : (rows : List Row) (e : Effort) (r : Refusal) → IsEffort rows e → RefusesValues (HasNoShare e.order (first_of (codes "share") rows)) r
     → RefusesValues (HasBadValueFor resumes rows) r
 bad_share rows e Usage h none =
-    inr (inr (inr (λ o same. subst (λ (x : Order). HasNoShare x (first_of (codes "share") rows)) (one_order e.order o (sym h.order ∙ same)) none)))
+    inr (inr (inr (inr (λ o same. subst (λ (x : Order). HasNoShare x (first_of (codes "share") rows)) (one_order e.order o (sym h.order ∙ same)) none))))
 bad_share rows e Memory h none = tt
 bad_share rows e (System line column byte cause) h none = none
 bad_share rows e (Contract byte) h none = none

@@ -712,13 +712,16 @@ ask_alike words q r h k = asked_alike (subcommand_of paver_app words) q r h.1 k.
 
 values_are_good : (name : Text) (rows : List Row) (q : Request) → (h : IsAskedBy name rows q) → HasBadValueFor (command_of (usual_of name rows q h) q) rows → ⊥
 values_are_good name rows (Check system) h b = b
-values_are_good name rows (Run system settings effort out) h b = work_is_good h.0.0 rows settings effort h.0.1.1 h.2 b
-values_are_good name rows (Resume system pavings settings effort share out) h (inl b) = pavings_are_few rows pavings.items h.2 b
-values_are_good name rows (Resume system pavings settings effort share out) h (inr (inl b)) = settings_are_good Plain rows settings h.3 b
-values_are_good name rows (Resume system pavings settings effort share out) h (inr (inr (inl b))) = effort_is_good rows effort h.4 b
-values_are_good name rows (Resume system pavings settings effort share out) h (inr (inr (inr b))) = b effort.order h.4.order share h.5
-values_are_good name rows (Merge system pavings settings limit out) h (inl b) = pavings_are_few rows pavings.items h.2 b
-values_are_good name rows (Merge system pavings settings limit out) h (inr b) = join_is_good Plain rows settings limit h.3 h.4 b
+values_are_good name rows (Run system settings effort out) h (inl b) = h.3.free b
+values_are_good name rows (Run system settings effort out) h (inr b) = work_is_good h.0.0 rows settings effort h.0.1.1 h.2 b
+values_are_good name rows (Resume system pavings settings effort share out) h (inl b) = h.6.free b
+values_are_good name rows (Resume system pavings settings effort share out) h (inr (inl b)) = pavings_are_few rows pavings.items h.2 b
+values_are_good name rows (Resume system pavings settings effort share out) h (inr (inr (inl b))) = settings_are_good Plain rows settings h.3 b
+values_are_good name rows (Resume system pavings settings effort share out) h (inr (inr (inr (inl b)))) = effort_is_good rows effort h.4 b
+values_are_good name rows (Resume system pavings settings effort share out) h (inr (inr (inr (inr b)))) = b effort.order h.4.order share h.5
+values_are_good name rows (Merge system pavings settings limit out) h (inl b) = h.5.free b
+values_are_good name rows (Merge system pavings settings limit out) h (inr (inl b)) = pavings_are_few rows pavings.items h.2 b
+values_are_good name rows (Merge system pavings settings limit out) h (inr (inr b)) = join_is_good Plain rows settings limit h.3 h.4 b
 values_are_good name rows (Audit system paving settings limit workers) h (inl b) = settings_are_good h.0.0 rows settings h.0.1.1 b
 values_are_good name rows (Audit system paving settings limit workers) h (inr (inl none)) = none limit h.3
 values_are_good name rows (Audit system paving settings limit workers) h (inr (inr none)) = none workers.count h.4

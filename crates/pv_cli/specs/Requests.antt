@@ -189,8 +189,29 @@ pub record ArePavings (rows : List Row) (names : List (Bor Text)) : Type 0 where
   pub are : names_in names ≡ paving_names rows
   pub few : length names ≤ 8
 
+-- a name of the standard output
+abbrev pub IsOutput : Text → Type 0
+IsOutput name = (name ≡ codes "/dev/stdout") ⊎ ((name ≡ codes "/dev/fd/1") ⊎ (name ≡ codes "/proc/self/fd/1"))
+
+-- nothing is stored under the system's own name, or on the standard output
+abbrev pub IsTaken : Text → Text → Type 0
+IsTaken system name = (name ≡ system) ⊎ IsOutput name
+
+abbrev pub IsTakenIn : Text → Option Text → Type 0
+IsTakenIn system None = ⊥
+IsTakenIn system (Some name) = IsTaken system name
+
+-- the file that is found for `--out`
+pub record IsOutIn (system : Text) (found : Option Text) (out : Option (Bor Text)) : Type 0 where
+  pub is : option_map (λ name. name.now) out ≡ found
+  pub free : IsTakenIn system found → ⊥
+
 abbrev pub IsOut : List Row → Option (Bor Text) → Type 0
-IsOut rows out = option_map (λ name. name.now) out ≡ first_of (codes "out") rows
+IsOut rows out = IsOutIn (system_name rows) (first_of (codes "out") rows) out
+
+-- the name of the file is taken
+abbrev pub HasBadOut : List Row → Type 0
+HasBadOut rows = IsTakenIn (system_name rows) (first_of (codes "out") rows)
 
 -- the numbers of `--at`; none where it isn't given
 abbrev pub AreLevelsIn : Option Text → List Extended → Type 0
@@ -313,9 +334,9 @@ name_of keeps = codes "campaign"
 -- a value is refused that the command takes
 abbrev pub HasBadValueFor : Command → List Row → Type 0
 HasBadValueFor checks rows = ⊥
-HasBadValueFor (runs usual) rows = HasBadSetting usual rows ⊎ HasBadEffort rows
-HasBadValueFor resumes rows = HasManyPavings rows ⊎ (HasBadSetting Plain rows ⊎ (HasBadEffort rows ⊎ HasBadShare rows))
-HasBadValueFor merges rows = HasManyPavings rows ⊎ (HasBadSetting Plain rows ⊎ HasBadLimit rows)
+HasBadValueFor (runs usual) rows = HasBadOut rows ⊎ (HasBadSetting usual rows ⊎ HasBadEffort rows)
+HasBadValueFor resumes rows = HasBadOut rows ⊎ (HasManyPavings rows ⊎ (HasBadSetting Plain rows ⊎ (HasBadEffort rows ⊎ HasBadShare rows)))
+HasBadValueFor merges rows = HasBadOut rows ⊎ (HasManyPavings rows ⊎ (HasBadSetting Plain rows ⊎ HasBadLimit rows))
 HasBadValueFor (audits usual) rows = HasBadSetting usual rows ⊎ (HasBadLimit rows ⊎ HasBadWorkers rows)
 HasBadValueFor draws rows = HasBadLevels rows ⊎ (HasBadSetting Plain rows ⊎ HasBadLimit rows)
 HasBadValueFor samples rows = HasBadCircles rows

@@ -1,7 +1,7 @@
 //! From the words of a command to what they ask for.
-ghost use Rattle.std.specs.Prelude.{◌≡◌, ◌≢◌, ◌⊎◌, Some, List, codes, map, option_map, MatchOption, MatchResult, string_bytes, IfOk, IfErr, unwrap_or};
+ghost use Rattle.std.specs.Prelude.{◌≡◌, ◌≢◌, ◌⊎◌, MatchBool, Some, List, codes, map, option_map, MatchOption, MatchResult, string_bytes, IfOk, IfErr, unwrap_or};
 ghost use Rattle.clap.specs.Words.{all_of, first_of, subcommand_rows_of};
-ghost use Rattle.pv_cli.specs.Requests.{value_of, system_name, paving_names, names_in, AreSettings, IsEffort, ArePavings, IsOut, HasBadSetting, HasBadLimit, HasBadEffort, HasBadWorkers, AreWorkers, IsNodeLimit, IsShareIn, HasNoShare, IsView, AreGiven, AreCircles, HasManyPavings, HasBadLevels, HasBadCircles, IsSearch, HasBadBudget, IsRounds, HasBadRounds, HasBadValueFor, run_name, audit_name, runs, resumes, merges, audits, draws, samples, seeks, keeps, IsAskedBy, IsAsked, Asks};
+ghost use Rattle.pv_cli.specs.Requests.{value_of, system_name, paving_names, names_in, AreSettings, IsEffort, ArePavings, IsOut, IsOutIn, IsOutput, IsTaken, IsTakenIn, HasBadOut, HasBadSetting, HasBadLimit, HasBadEffort, HasBadWorkers, AreWorkers, IsNodeLimit, IsShareIn, HasNoShare, IsView, AreGiven, AreCircles, HasManyPavings, HasBadLevels, HasBadCircles, IsSearch, HasBadBudget, IsRounds, HasBadRounds, HasBadValueFor, run_name, audit_name, runs, resumes, merges, audits, draws, samples, seeks, keeps, IsAskedBy, IsAsked, Asks};
 ghost use Rattle.pv_cli.specs.Found.{rows_in, RefusesValues, RefusesCommand, RefusesFound};
 ghost use Rattle.pv_cli.specs.Ends.{RefusesWords};
 
@@ -87,6 +87,10 @@ fn run_in<'a>(usual: Form, found: &ArgMatches<'a>) -> Result<Request<'a>, Refusa
     ensures { MatchResult result (IsAskedBy (run_name usual) (rows_in found.now))
         (RefusesValues (HasBadValueFor (runs usual) (rows_in found.now))) }
 {
+    let out = match out_in(found) {
+        Ok(out) => out,
+        Err(refusal) => return Err(refusal),
+    };
     let settings = match settings_in(usual, found) {
         Some(settings) => settings,
         None => return Err(Refusal::Usage),
@@ -96,7 +100,7 @@ fn run_in<'a>(usual: Form, found: &ArgMatches<'a>) -> Result<Request<'a>, Refusa
             system: text_in(found, "SYSTEM", ""),
             settings,
             effort,
-            out: out_in(found),
+            out,
         }),
         None => Err(Refusal::Usage),
     }
@@ -107,6 +111,10 @@ fn resume_in<'a>(alloc: Global, found: &ArgMatches<'a>) -> Result<Request<'a>, R
     ensures { MatchResult result (IsAskedBy (codes "resume") (rows_in found.now))
         (RefusesValues (HasBadValueFor resumes (rows_in found.now))) }
 {
+    let out = match out_in(found) {
+        Ok(out) => out,
+        Err(refusal) => return Err(refusal),
+    };
     let pavings = match pavings_in(alloc, found) {
         Ok(pavings) => pavings,
         Err(refusal) => return Err(refusal),
@@ -126,7 +134,7 @@ fn resume_in<'a>(alloc: Global, found: &ArgMatches<'a>) -> Result<Request<'a>, R
             settings,
             effort,
             share,
-            out: out_in(found),
+            out,
         }),
         Err(refusal) => Err(refusal),
     }
@@ -164,6 +172,10 @@ fn merge_in<'a>(alloc: Global, found: &ArgMatches<'a>) -> Result<Request<'a>, Re
     ensures { MatchResult result (IsAskedBy (codes "merge") (rows_in found.now))
         (RefusesValues (HasBadValueFor merges (rows_in found.now))) }
 {
+    let out = match out_in(found) {
+        Ok(out) => out,
+        Err(refusal) => return Err(refusal),
+    };
     let pavings = match pavings_in(alloc, found) {
         Ok(pavings) => pavings,
         Err(refusal) => return Err(refusal),
@@ -178,7 +190,7 @@ fn merge_in<'a>(alloc: Global, found: &ArgMatches<'a>) -> Result<Request<'a>, Re
             pavings,
             settings,
             limit,
-            out: out_in(found),
+            out,
         }),
         None => Err(Refusal::Usage),
     }
@@ -414,11 +426,50 @@ fn raw_names<'a>(alloc: Global, found: &ArgMatches<'a>) -> Result<Vec<&'a str>, 
     }
 }
 
+// The file that is to be stored, where one is given. What is stored under the system's own name would
+// be lost with the system, and on the standard output the summary would be written over it.
 #[tactic(auto, using(crate::proofs::Rows::first_is))]
-fn out_in<'a>(found: &ArgMatches<'a>) -> Option<&'a str>
-    ensures { IsOut (rows_in found.now) result }
+fn out_in<'a>(found: &ArgMatches<'a>) -> Result<Option<&'a str>, Refusal<'a>>
+    ensures { MatchResult result (IsOut (rows_in found.now))
+        (RefusesValues (HasBadOut (rows_in found.now))) }
 {
-    found.get_str("out")
+    let system = text_in(found, "SYSTEM", "");
+    match found.get_str("out") {
+        Some(name) => out_beside(system, name),
+        None => Ok(None),
+    }
+}
+
+fn out_beside<'a>(system: &str, name: &'a str) -> Result<Option<&'a str>, Refusal<'a>>
+    ensures { MatchResult result (IsOutIn system.now (Some name.entry.now))
+        (RefusesValues (IsTakenIn system.now (Some name.entry.now))) }
+{
+    if is_taken(system, name) {
+        Err(Refusal::Usage)
+    } else {
+        Ok(Some(name))
+    }
+}
+
+// Whether a name is the system's, or one of the standard output.
+fn is_taken(system: &str, name: &str) -> bool
+    ensures { MatchBool result (IsTaken system.now name.now) (IsTaken system.now name.now → ⊥) }
+{
+    if name == system {
+        return true;
+    }
+    is_output(name)
+}
+
+fn is_output(name: &str) -> bool
+    ensures { MatchBool result (IsOutput name.now) (IsOutput name.now → ⊥) }
+{
+    match name {
+        "/dev/stdout" => true,
+        "/dev/fd/1" => true,
+        "/proc/self/fd/1" => true,
+        _ => false,
+    }
 }
 
 // The text of a word or an option, or what stands for one that is not given.

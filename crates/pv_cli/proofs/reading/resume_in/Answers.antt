@@ -2,4 +2,4 @@ use Rattle.std.proofs.Common.{inl, inr}
 use Rattle.pv_cli.proofs.reading.resume_in.Goals as goal
 
 pub returns-in-None-effort_in : goal.returns-in-None-effort_in
-returns-in-None-effort_in c = inr (inr (inl c.in-None-effort_in.ensures))
+returns-in-None-effort_in c = inr (inr (inr (inl c.in-None-effort_in.ensures)))
