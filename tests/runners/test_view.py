@@ -583,20 +583,20 @@ class Files(unittest.TestCase):
 
     def test_size(self) -> None:
         """What the page has beside its data, and its bytes a node in two variables, also where each end is contracted."""
-        faults = []
         for name, eps in (("ring", "0.03125"), ("pi_gains", "0.015625"), ("two_discs", "0.015625"),
                           ("arm_configurations", "0.0625"), ("lyapunov_fall", "0.03125")):
             answer = paver.run(TOP / "examples" / f"{name}.mbx", boxes=100000, eps=eps)
             paving, html = answer.paving(), view(TOP / "examples" / f"{name}.mbx", answer).html
             data = len(packed(paving)[0])
-            if len(html) - data > OVERHEAD or paving.dims == 2 and data > BYTES_A_NODE * len(paving.lines):
-                faults.append(f"{name}: {len(html) - data} bytes and {data / len(paving.lines):.1f} a node")
+            with self.subTest(name):
+                self.assertLessEqual(len(html) - data, OVERHEAD)
+                if paving.dims == 2:
+                    self.assertLessEqual(data / len(paving.lines), BYTES_A_NODE)
         for seed in range(3):
             system = paver.System.from_text(canonical([-2, 2, -2, 2]))
             paving = paver.Paving.from_text(made_text(seed, [-2, 2, -2, 2], 12, contract=1.0), system=system, identity=None)
-            if len(packed(paving)[0]) > BYTES_A_NODE * len(paving.lines):
-                faults.append(f"made {seed}: {len(packed(paving)[0]) / len(paving.lines):.1f} bytes a node")
-        self.assertEqual(faults, [])
+            with self.subTest(f"made {seed}"):
+                self.assertLessEqual(len(packed(paving)[0]) / len(paving.lines), BYTES_A_NODE)
 
     def test_committed_page(self) -> None:
         """The page that the gallery links to is small, and has the parts of the page as they stand."""
