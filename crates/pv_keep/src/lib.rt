@@ -13,7 +13,7 @@ mod line;
 mod mem_keeper;
 mod new_rows;
 mod order;
-mod rebuild;
+pub mod rebuild;
 mod refusal;
 mod row;
 
@@ -21,6 +21,5 @@ pub use campaign::Campaign;
 pub use keeper::{BeginRefused, KeepRefused, Keeper, LoadRefused};
 pub use line::{LONGEST_LINE, Line};
 pub use mem_keeper::MemKeeper;
-pub use rebuild::rebuild;
 pub use refusal::{CampaignRefused, SaveRefused};
 pub use row::{Row, RowRefused, Rows};

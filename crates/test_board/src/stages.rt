@@ -5,7 +5,8 @@ ghost use Rattle.pv_board.specs.Events.{leaves_at};
 ghost use Rattle.pv_board.specs.Rules.{IsFitting};
 
 use crate::tickets::{has, settle_by, unit_box};
-use pv_board::{AbsorbRefused, Board, Handed, Naming, Settled, Ticket, pile};
+use pv_board::pile::pile;
+use pv_board::{AbsorbRefused, Board, Handed, Naming, Settled, Ticket};
 use pv_box::IBox;
 use pv_join::{Audit, audit};
 use pv_num::{Memory, Num};

@@ -1,6 +1,7 @@
 //! Kept rows of each bad kind, campaigns over the keeper in memory, and the longest line.
 use pv_box::IBox;
 use pv_interval::Interval;
+use pv_keep::rebuild::rebuild;
 use pv_keep::*;
 use pv_num::Num;
 use pv_tree::Path;
