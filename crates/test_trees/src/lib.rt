@@ -2,6 +2,7 @@
 //! is tests alone.
 #![tactic(auto)]
 
+pub mod claims;
 #[cfg(test)]
 mod join;
 #[cfg(test)]
