@@ -6,7 +6,7 @@ use Rattle.clap.specs.Words.{App, Row, Text, Kinds, HasKind, IsAmong, fault_of, 
 use Rattle.clap.specs.declared.error.Error.{Error}
 use Rattle.clap.specs.declared.error.kind.ErrorKind.{ErrorKind}
 use Rattle.clap.specs.declared.error.kind.ErrorKind.TheVariants.{OutOfMemory}
-use Rattle.pv_request.specs.Commands.{paver_app}
+use Rattle.pv_words.specs.Commands.{paver_app}
 use Rattle.pv_request.specs.Requests.{Command, name_of, IsAskedBy, IsAsked, Asks, HasBadValueFor, HasBadValue, HasBadValueIn, AreRefused, RefusesWords}
 use Rattle.pv_args.specs.Found.{IsNoCommand, RefusesValues, RefusesCommand, RefusesFound}
 use Rattle.pv_request.specs.declared.request.Request.{Request}

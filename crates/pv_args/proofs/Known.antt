@@ -10,7 +10,7 @@ use Rattle.clap.specs.Faults.{built_fault, level_fault, walk_fault, settle_fault
 use Rattle.clap.specs.Facts.{explicit_source}
 use Rattle.clap.specs.Takes.{is_given}
 use Rattle.std.specs.List.{list_any}
-use Rattle.pv_request.specs.Commands.{paver_app}
+use Rattle.pv_words.specs.Commands.{paver_app}
 use Rattle.pv_slope.specs.declared.form.Form.TheVariants.{Plain, Centered}
 use Rattle.pv_request.specs.Requests.{Command, checks, runs, resumes, merges, audits, draws, samples, seeks, keeps, name_of}
 

@@ -4,7 +4,6 @@ ghost use Rattle.clap.specs.Words.{all_of, first_of, subcommand_rows_of};
 ghost use Rattle.pv_request.specs.Requests.{value_of, system_name, paving_names, names_in, AreSettings, IsEffort, ArePavings, IsOut, IsOutIn, IsOutput, IsTaken, IsTakenIn, HasBadOut, HasBadSetting, HasBadLimit, HasBadEffort, HasBadWorkers, AreWorkers, IsNodeLimit, IsShareIn, HasNoShare, IsView, AreGiven, AreCircles, HasManyPavings, HasBadLevels, HasBadCircles, IsSearch, HasBadBudget, IsRounds, HasBadRounds, HasBadValueFor, run_name, audit_name, runs, resumes, merges, audits, draws, samples, seeks, keeps, IsAskedBy, IsAsked, Asks, RefusesWords};
 ghost use Rattle.pv_args.specs.Found.{rows_in, RefusesValues, RefusesCommand, RefusesFound};
 
-use crate::command_line::paver;
 use crate::values::{
     bisector_of, count_of, form_of, levels_of, name_of_form, order_of, share_of, width_of,
 };
@@ -15,6 +14,7 @@ use pv_request::{Circles, Effort, Refusal, Request, Rounds, Search, Settings, Vi
 use pv_scope::{Order, Share};
 use pv_slope::Form;
 use pv_tree::NodeLimit;
+use pv_words::paver;
 use std::alloc::Global;
 
 /// Reads the words of a command, of which the first is the program's name.

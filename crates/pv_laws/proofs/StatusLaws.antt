@@ -9,7 +9,7 @@ use Rattle.clap.specs.Words.{Row, Text, subcommand_of}
 use Rattle.pv_tree.specs.Trees.{Tree, leaf, opens, first, counts_of}
 use Rattle.pv_scope.specs.declared.order.Order.{Order}
 use Rattle.pv_slope.specs.Methods.{Method, identity_of}
-use Rattle.pv_request.specs.Commands.{paver_app}
+use Rattle.pv_words.specs.Commands.{paver_app}
 use Rattle.pv_request.specs.Requests.{names_in, out_of, paving_names, AreSettings, IsEffort, ArePavings, HasBadSetting, bad_eps, bad_depth, bad_bisector, HasBadEffort, bad_form, bad_limit, bad_workers, bad_boxes, bad_order, HasBadLimit, HasBadBoxes, HasBadBudget, IsCount, IsNodeLimit, IsSearch, boxes_text, HasManyPavings, AreCircles, HasBadCircles, bad_seed, bad_count, Command, checks, runs, resumes, merges, audits, draws, samples, seeks, keeps, name_of, HasBadValueFor, HasBadValue, IsAskedBy, IsAsked, Asks, HasBadValueIn, AreRefused, RefusesWords}
 use Rattle.pv_request.specs.Refusals.{status_of}
 use Rattle.pv_rule.specs.Systems.{Files, search_box}

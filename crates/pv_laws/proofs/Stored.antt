@@ -21,7 +21,7 @@ use Rattle.pv_file.specs.Texts.{IsDigest, file_text}
 use Rattle.pv_file.specs.Lengths.{length_limit}
 use Rattle.pv_file.specs.declared.version.Version.TheVariants.{Two}
 use Rattle.pv_file.proofs.Lengths.{files-read}
-use Rattle.pv_request.specs.Commands.{paver_app}
+use Rattle.pv_words.specs.Commands.{paver_app}
 use Rattle.pv_request.specs.Requests.{IsAsked, Asks, names_in, out_of}
 use Rattle.pv_rule.specs.Systems.{Files, HasRule, search_box}
 use Rattle.pv_rule.specs.Pavings.{IsPaved, settled_in}

@@ -1,4 +1,3 @@
 pub mod Statuses
-pub mod Commands
 pub mod Requests
 pub mod Refusals

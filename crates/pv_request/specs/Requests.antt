@@ -10,7 +10,7 @@ use Rattle.pv_num.specs.declared.num.End.TheVariants.{Down}
 use Rattle.pv_box.specs.declared.choice.Bisector.{Bisector}
 use Rattle.pv_box.specs.declared.choice.Bisector.TheVariants.{Largest, Round}
 use Rattle.pv_tokens.specs.Numbers.{IsRead}
-use Rattle.pv_request.specs.Commands.{paver_app}
+use Rattle.pv_words.specs.Commands.{paver_app}
 use Rattle.pv_slope.specs.declared.form.Form.{Form}
 use Rattle.pv_slope.specs.declared.form.Form.TheVariants.{Plain, Centered}
 use Rattle.pv_scope.specs.declared.order.Order.{Order}

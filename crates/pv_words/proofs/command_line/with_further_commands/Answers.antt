@@ -1,8 +1,8 @@
 use Rattle.std.proofs.Common.{◌∙◌, ap, ap₂}
 use Rattle.std.proofs.lemmas.Result.{IfOk-weaker}
 use Rattle.clap.specs.Words.{app_of}
-use Rattle.pv_request.specs.Commands.{with_command}
-use Rattle.pv_args.proofs.command_line.with_further_commands.Goals as goal
+use Rattle.pv_words.specs.Commands.{with_command}
+use Rattle.pv_words.proofs.command_line.with_further_commands.Goals as goal
 
 pub returns : goal.returns
 returns c =

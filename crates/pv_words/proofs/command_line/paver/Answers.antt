@@ -1,7 +1,7 @@
 use Rattle.std.proofs.Common.{◌∙◌, ap}
 use Rattle.std.proofs.lemmas.Result.{IfOk-weaker}
-use Rattle.pv_request.specs.Commands.{paving_commands, further_commands, paver_app}
-use Rattle.pv_args.proofs.command_line.paver.Goals as goal
+use Rattle.pv_words.specs.Commands.{paving_commands, further_commands, paver_app}
+use Rattle.pv_words.proofs.command_line.paver.Goals as goal
 
 pub returns : goal.returns
 unfolding paver_app

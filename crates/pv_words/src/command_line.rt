@@ -2,7 +2,7 @@
 ghost use Rattle.std.specs.Prelude.{◌≡◌, codes, true, false, IfOk};
 ghost use Rattle.clap.specs.Words.{app_of, with_rule};
 ghost use Rattle.clap.specs.declared.builder.command.Command.TheViews.{out-Command};
-ghost use Rattle.pv_request.specs.Commands.{
+ghost use Rattle.pv_words.specs.Commands.{
   word_rule,
   words_rule,
   bare_app,
@@ -36,7 +36,7 @@ use clap::{Arg, ArgAction, Command};
 use std::alloc::{AllocError, Global};
 
 /// The commands, without the flags and the command that clap adds by itself.
-pub(crate) fn paver<'a>(alloc: Global) -> Result<Command<'a>, AllocError>
+pub fn paver<'a>(alloc: Global) -> Result<Command<'a>, AllocError>
     ensures { IfOk result (λ c. app_of c ≡ paver_app) }
 {
     let command = with_paving_commands(top(alloc), alloc)?;

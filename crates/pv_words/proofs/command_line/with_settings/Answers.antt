@@ -1,7 +1,7 @@
 use Rattle.std.proofs.Common.{◌∙◌, ap, codes}
 use Rattle.std.proofs.lemmas.Result.{IfOk-weaker}
-use Rattle.pv_request.specs.Commands.{with_option}
-use Rattle.pv_args.proofs.command_line.with_settings.Goals as goal
+use Rattle.pv_words.specs.Commands.{with_option}
+use Rattle.pv_words.proofs.command_line.with_settings.Goals as goal
 
 pub returns-clause-app : goal.returns-clause-app
 returns-clause-app c =
