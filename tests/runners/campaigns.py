@@ -250,6 +250,16 @@ class Campaigns(FolderTest):
         self.assertEqual(self.contents(), before, "a campaign with nothing left to settle changed its file")
         self.assertEqual(rows_of(files.go_on(call().settler, ("O",), 100)), ROWS, "the reference has other rows")
 
+    def test_any_number_of_rows_is_saved(self) -> None:
+        eps = Fraction(DISC_EPS[1])
+        settler, identity = call(DISC, eps=eps).settler, identity_of(DISC, eps=eps)
+        for boxes in (1, 2, 63, 64, 65, 127, 128, 129, 200):
+            rows = rows_of(files.go_on(settler, ("O",), boxes))
+            self.assertEqual(len(rows), boxes)
+            with self.subTest(boxes=boxes):
+                self.expect(1, None, boxes=boxes, options=[*DISC_EPS, "--workers", "1"], name=f"k{boxes}", text=DISC)
+                self.keeps(rows, f"k{boxes}", identity)
+
     def test_tables_are_strict(self) -> None:
         self.expect(1, ONE_SUMMARY)
         connection = sqlite3.connect(self.path / "k")
