@@ -10,10 +10,13 @@ use crate::values::{
 use clap::ArgMatches;
 use clap::error::ErrorKind;
 use pv_num::Num;
-use pv_request::{Circles, Effort, Refusal, Request, Rounds, Search, Settings, View, Workers};
+use pv_request::{
+    Circles, Effort, MOST_CIRCLES, MOST_ROUNDS, MOST_SEED, Refusal, Request, Rounds, Search,
+    Settings, View, Workers,
+};
 use pv_scope::{Order, Share};
 use pv_slope::Form;
-use pv_tree::NodeLimit;
+use pv_tree::{LEAST_LIMIT, MOST_SETTLED, MOST_STEPS, MOST_WORKERS, NodeLimit};
 use pv_words::paver;
 use std::alloc::Global;
 
@@ -281,8 +284,8 @@ fn circles_in(found: &ArgMatches<'_>) -> Option<Circles>
     ensures { MatchOption result (HasBadCircles (rows_in found.now))
         (AreCircles (rows_in found.now)) }
 {
-    let seed = count_of(text_in(found, "seed", ""), 0, 2_147_483_647)? as u32;
-    let count = count_of(text_in(found, "count", ""), 1, 16)? as u32;
+    let seed = count_of(text_in(found, "seed", ""), 0, MOST_SEED as u64)? as u32;
+    let count = count_of(text_in(found, "count", ""), 1, MOST_CIRCLES as u64)? as u32;
     Some(Circles { seed, count })
 }
 
@@ -342,7 +345,7 @@ fn campaign_in<'a>(found: &ArgMatches<'a>) -> Result<Request<'a>, Refusal<'a>>
 fn rounds_in<'a>(found: &ArgMatches<'a>) -> Option<Rounds<'a>>
     ensures { MatchOption result (HasBadRounds (rows_in found.now)) (IsRounds (rows_in found.now)) }
 {
-    let count = count_of(text_in(found, "rounds", "1"), 1, 100)? as u32;
+    let count = count_of(text_in(found, "rounds", "1"), 1, MOST_ROUNDS as u64)? as u32;
     Some(Rounds {
         name: text_in(found, "keep", ""),
         count,
@@ -355,7 +358,7 @@ fn settings_in<'a>(usual: Form, found: &ArgMatches<'a>) -> Option<Settings<'a>>
         (AreSettings usual (rows_in found.now)) }
 {
     let eps = width_of(text_in(found, "eps", "0.125"))?;
-    let depth = count_of(text_in(found, "depth", "60"), 1, 200)? as u32;
+    let depth = count_of(text_in(found, "depth", "60"), 1, MOST_STEPS as u64)? as u32;
     let bisector = bisector_of(text_in(found, "bisect", "largest"))?;
     let contract = text_in(found, "contract", "prop(8)");
     let form = form_of(text_in(found, "form", name_of_form(usual)))?;
@@ -372,7 +375,7 @@ fn effort_in(found: &ArgMatches<'_>) -> Option<Effort>
     ensures { MatchOption result (HasBadEffort (rows_in found.now)) (IsEffort (rows_in found.now)) }
 {
     let limit = limit_in(found)?;
-    let workers = count_of(text_in(found, "workers", "4"), 1, 16)? as u32;
+    let workers = count_of(text_in(found, "workers", "4"), 1, MOST_WORKERS as u64)? as u32;
     let boxes = count_of(text_in(found, "boxes", "20000"), 1, limit.nodes())?;
     let order = order_of(text_in(found, "order", "depth"))?;
     Some(Effort {
@@ -387,7 +390,7 @@ fn workers_in(found: &ArgMatches<'_>) -> Option<Workers>
     ensures { MatchOption result (HasBadWorkers (rows_in found.now))
         (AreWorkers (rows_in found.now)) }
 {
-    let count = count_of(text_in(found, "workers", "4"), 1, 16)? as u32;
+    let count = count_of(text_in(found, "workers", "4"), 1, MOST_WORKERS as u64)? as u32;
     Some(Workers { count })
 }
 
@@ -395,7 +398,7 @@ fn limit_in(found: &ArgMatches<'_>) -> Option<NodeLimit>
     ensures { MatchOption result (HasBadLimit (rows_in found.now))
         (IsNodeLimit (rows_in found.now)) }
 {
-    NodeLimit::new(count_of(text_in(found, "limit", "100000"), 100_000, 100_000_000)?)
+    NodeLimit::new(count_of(text_in(found, "limit", "100000"), LEAST_LIMIT, MOST_SETTLED)?)
 }
 
 fn pavings_in<'a>(alloc: Global, found: &ArgMatches<'a>) -> Result<Vec<&'a str>, Refusal<'a>>

@@ -24,6 +24,7 @@ use pv_run::check::check;
 use pv_run::run::run;
 use pv_run::sample::sample;
 use pv_search::least::least;
+use pv_tree::MOST_WORKERS;
 use pv_view::svg::svg;
 use std::alloc::Global;
 use std::sync::Wait;
@@ -133,7 +134,7 @@ fn file_of<'a>(request: &Request<'a>) -> Option<&'a str>
 // By how many threads the lines of a paving are made.
 fn workers_of<'a>(request: &Request<'a>) -> u32
     ensures one { 1 ≤ result }
-    ensures few { result ≤ 16 }
+    ensures few { result ≤ MOST_WORKERS }
 {
     match request {
         Request::Run { effort, .. } => effort.workers,

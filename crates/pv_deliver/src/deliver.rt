@@ -19,7 +19,7 @@ use pv_product::Product;
 use pv_product::summary::summary;
 use pv_request::{Refusal, Status};
 use pv_svg::Picture;
-use pv_tree::Paving;
+use pv_tree::{MOST_WORKERS, Paving};
 use std::alloc::Global;
 use std::thread::Threads;
 
@@ -35,7 +35,7 @@ pub fn deliver<'a, F: Folder, K: Sink, R: Threads + Sync>(
     workers: u32,
 ) -> Result<Status, Refusal<'a>>
     requires one { 1 ≤ workers }
-    requires few { workers ≤ 16 }
+    requires few { workers ≤ MOST_WORKERS }
     ensures status { IfOk result (HasStatus (made product.now)) }
     ensures delivered { OnOk result
         (IsDelivered (option_map (λ name. name.now) file.entry) (made product.now)
@@ -100,7 +100,7 @@ fn store<'a, F: Folder, R: Threads + Sync>(
     workers: u32,
 ) -> Result<(), Refusal<'a>>
     requires one { 1 ≤ workers }
-    requires few { workers ≤ 16 }
+    requires few { workers ≤ MOST_WORKERS }
     ensures stored { OnOk result
         (IsStored name.now (file_text version.Two identity paving.now.root paving.now.tree)
         (files (F.content folder.old) (F.fetch_faults folder.old) (F.store_faults folder.old))
@@ -144,7 +144,7 @@ fn print_paving<'a, K: Sink, R: Threads + Sync>(
     workers: u32,
 ) -> Result<(), Refusal<'a>>
     requires one { 1 ≤ workers }
-    requires few { workers ≤ 16 }
+    requires few { workers ≤ MOST_WORKERS }
     ensures whole { OnOk result
         (K.written out.new
         ≡ appended (K.written out.old)

@@ -16,6 +16,10 @@ use Rattle.pv_slope.specs.declared.form.Form.TheVariants.{Plain, Centered}
 use Rattle.pv_scope.specs.declared.order.Order.{Order}
 use Rattle.pv_scope.specs.declared.order.Order.TheVariants.{Depth, Level}
 use Rattle.pv_scope.specs.declared.share.Share.{Share}
+use Rattle.pv_tree.specs.declared.path.TheConstants.{MOST_STEPS}
+use Rattle.pv_tree.specs.declared.limit.TheConstants.{LEAST_LIMIT, MOST_SETTLED, MOST_WORKERS}
+use Rattle.pv_scope.specs.declared.share.TheConstants.{MOST_SHARES}
+use Rattle.pv_request.specs.declared.request.TheConstants.{MOST_CIRCLES, MOST_SEED, MOST_ROUNDS}
 use Rattle.pv_request.specs.declared.request.Settings.{Settings}
 use Rattle.pv_request.specs.declared.request.Effort.{Effort}
 use Rattle.pv_request.specs.declared.request.Workers.{Workers}
@@ -86,7 +90,7 @@ pub record IsShare (t : Text) (s : Share) : Type 0 where
   pub number_is : IsDigits number s.number
   pub of_is : IsDigits of s.of
   pub less : s.number < s.of
-  pub few : s.of ≤ 1000000
+  pub few : s.of ≤ MOST_SHARES
 
 abbrev pub order_name : Order → Text
 order_name Depth = codes "depth"
@@ -139,23 +143,23 @@ order_text = value_of (codes "order") (codes "depth")
 -- the settings that the options give of a command which has a form by itself
 pub record AreSettings (usual : Form) (rows : List Row) (s : Settings) : Type 0 where
   pub eps : IsWidth (eps_text rows) s.eps
-  pub depth : IsCount 1 200 (depth_text rows) s.depth
+  pub depth : IsCount 1 MOST_STEPS (depth_text rows) s.depth
   pub bisector : bisect_text rows ≡ bisector_name s.bisector
   pub contract : s.contract.now ≡ contract_text rows
   pub form : form_text usual rows ≡ form_name s.form
 
 -- the most settled nodes that a tree may have
 abbrev pub IsNodeLimit : List Row → ℕ → Type 0
-IsNodeLimit rows n = IsCount 100000 100000000 (limit_text rows) n
+IsNodeLimit rows n = IsCount LEAST_LIMIT MOST_SETTLED (limit_text rows) n
 
 -- the threads that the options give
 abbrev pub AreWorkers : List Row → Workers → Type 0
-AreWorkers rows w = IsCount 1 16 (workers_text rows) w.count
+AreWorkers rows w = IsCount 1 MOST_WORKERS (workers_text rows) w.count
 
 -- the threads, the budget, the limit and the order that the options give
 pub record IsEffort (rows : List Row) (e : Effort) : Type 0 where
   pub limit : IsNodeLimit rows e.limit
-  pub workers : IsCount 1 16 (workers_text rows) e.workers
+  pub workers : IsCount 1 MOST_WORKERS (workers_text rows) e.workers
   pub boxes : IsCount 1 e.limit (boxes_text rows) e.boxes
   pub order : order_text rows ≡ order_name e.order
 
@@ -237,8 +241,8 @@ count_text = value_of (codes "count") []
 
 -- the circles that the options give
 pub record AreCircles (rows : List Row) (c : Circles) : Type 0 where
-  pub seed : IsCount 0 2147483647 (seed_text rows) c.seed
-  pub count : IsCount 1 16 (count_text rows) c.count
+  pub seed : IsCount 0 MOST_SEED (seed_text rows) c.seed
+  pub count : IsCount 1 MOST_CIRCLES (count_text rows) c.count
 
 -- the expression, the budget and the limit that the options give
 pub record IsSearch (rows : List Row) (s : Search) : Type 0 where
@@ -252,7 +256,7 @@ rounds_text = value_of (codes "rounds") (codes "1")
 -- the campaign's name and the number of rounds that the options give
 pub record IsRounds (rows : List Row) (r : Rounds) : Type 0 where
   pub name : r.name.now ≡ value_of (codes "keep") [] rows
-  pub count : IsCount 1 100 (rounds_text rows) r.count
+  pub count : IsCount 1 MOST_ROUNDS (rounds_text rows) r.count
 
 -- a number of `--at` has another spelling
 abbrev pub HasBadLevels : List Row → Type 0
@@ -261,7 +265,7 @@ HasBadLevels rows = (ns : List Extended) → AreGiven rows ns → ⊥
 -- a setting has another spelling, or is outside its range
 pub data HasBadSetting (usual : Form) (rows : List Row) : Type 0 where
   bad_eps : ((n : Extended) → IsWidth (eps_text rows) n → ⊥) → HasBadSetting usual rows
-  bad_depth : ((n : ℕ) → IsCount 1 200 (depth_text rows) n → ⊥) → HasBadSetting usual rows
+  bad_depth : ((n : ℕ) → IsCount 1 MOST_STEPS (depth_text rows) n → ⊥) → HasBadSetting usual rows
   bad_bisector : ((b : Bisector) → bisect_text rows ≡ bisector_name b → ⊥) → HasBadSetting usual rows
   bad_form : ((f : Form) → form_text usual rows ≡ form_name f → ⊥) → HasBadSetting usual rows
 
@@ -271,7 +275,7 @@ HasBadLimit rows = (n : ℕ) → IsNodeLimit rows n → ⊥
 
 -- so is the number of threads
 abbrev pub HasBadWorkers : List Row → Type 0
-HasBadWorkers rows = (n : ℕ) → IsCount 1 16 (workers_text rows) n → ⊥
+HasBadWorkers rows = (n : ℕ) → IsCount 1 MOST_WORKERS (workers_text rows) n → ⊥
 
 -- so is the budget, which the limit bounds
 abbrev pub HasBadBoxes : List Row → Type 0
@@ -290,12 +294,12 @@ HasBadBudget rows = HasBadLimit rows ⊎ HasBadBoxes rows
 
 -- so is the number of rounds
 abbrev pub HasBadRounds : List Row → Type 0
-HasBadRounds rows = (n : ℕ) → IsCount 1 100 (rounds_text rows) n → ⊥
+HasBadRounds rows = (n : ℕ) → IsCount 1 MOST_ROUNDS (rounds_text rows) n → ⊥
 
 -- so is a number of a sample
 pub data HasBadCircles (rows : List Row) : Type 0 where
-  bad_seed : ((n : ℕ) → IsCount 0 2147483647 (seed_text rows) n → ⊥) → HasBadCircles rows
-  bad_count : ((n : ℕ) → IsCount 1 16 (count_text rows) n → ⊥) → HasBadCircles rows
+  bad_seed : ((n : ℕ) → IsCount 0 MOST_SEED (seed_text rows) n → ⊥) → HasBadCircles rows
+  bad_count : ((n : ℕ) → IsCount 1 MOST_CIRCLES (count_text rows) n → ⊥) → HasBadCircles rows
 
 -- there are more than eight paving files
 abbrev pub HasManyPavings : List Row → Type 0

@@ -8,5 +8,8 @@ mod status;
 
 pub use decimal::push_decimal;
 pub use refusal::{FileFault, Refusal};
-pub use request::{Circles, Effort, Request, Rounds, Search, Settings, View, Workers};
+pub use request::{
+    Circles, Effort, MOST_CIRCLES, MOST_ROUNDS, MOST_SEED, Request, Rounds, Search, Settings, View,
+    Workers,
+};
 pub use status::Status;

@@ -2,12 +2,24 @@
 ghost use Rattle.std.specs.Prelude.{◌≢◌, ◌<◌, ◌≤◌, ◌^◌, pos, IsTrue};
 ghost use Rattle.pv_num.specs.Extended.{Fin, PosInf};
 ghost use Rattle.pv_num.specs.Order.{le};
+ghost use Rattle.pv_tree.specs.declared.path.TheConstants.{MOST_STEPS};
+ghost use Rattle.pv_tree.specs.declared.limit.TheConstants.{MOST_WORKERS};
+ghost use Rattle.pv_request.specs.declared.request.TheConstants.{MOST_CIRCLES, MOST_ROUNDS};
 
 use pv_box::Bisector;
 use pv_num::Num;
 use pv_scope::{Order, Share};
 use pv_slope::Form;
 use pv_tree::NodeLimit;
+
+/// The most circles of a sample.
+pub const MOST_CIRCLES: u32 = 16;
+
+/// The greatest number that makes circles.
+pub const MOST_SEED: u32 = 2_147_483_647;
+
+/// The most rounds of a campaign that a call asks for.
+pub const MOST_ROUNDS: u32 = 100;
 
 /// How boxes are settled.
 #[derive(Clone, Copy)]
@@ -20,7 +32,7 @@ pub struct Settings<'a> {
     pub form: Form,
     ghost eps_from: { IsTrue (le (Fin (pos 0)) eps) },
     ghost eps_finite: { eps ≢ PosInf },
-    ghost depth_fits: { (1 ≤ depth) × (depth ≤ 200) },
+    ghost depth_fits: { (1 ≤ depth) × (depth ≤ MOST_STEPS) },
 }
 
 /// How much is settled at most, within a limit on the whole tree, by how many threads and in which
@@ -31,7 +43,7 @@ pub struct Effort {
     pub workers: u32,
     pub order: Order,
     pub boxes: u64,
-    ghost workers_fit: { (1 ≤ workers) × (workers ≤ 16) },
+    ghost workers_fit: { (1 ≤ workers) × (workers ≤ MOST_WORKERS) },
     ghost boxes_fit: { (1 ≤ boxes) × (boxes ≤ limit) },
 }
 
@@ -39,7 +51,7 @@ pub struct Effort {
 #[derive(Clone, Copy)]
 pub struct Workers {
     pub count: u32,
-    ghost count_fits: { (1 ≤ count) × (count ≤ 16) },
+    ghost count_fits: { (1 ≤ count) × (count ≤ MOST_WORKERS) },
 }
 
 /// Which plane of a paving a picture shows.
@@ -60,7 +72,7 @@ pub struct Circles {
     pub seed: u32,
     pub count: u32,
     ghost seed_fits: { seed < 2 ^ 31 },
-    ghost count_fits: { (1 ≤ count) × (count ≤ 16) },
+    ghost count_fits: { (1 ≤ count) × (count ≤ MOST_CIRCLES) },
 }
 
 /// Which expression's least value is sought, and how many boxes are settled for it at most.
@@ -79,7 +91,7 @@ pub struct Rounds<'a> {
     /// The name for the keeper.
     pub name: &'a str,
     pub count: u32,
-    ghost count_fits: { (1 ≤ count) × (count ≤ 100) },
+    ghost count_fits: { (1 ≤ count) × (count ≤ MOST_ROUNDS) },
 }
 
 /// What the words of a command ask for.

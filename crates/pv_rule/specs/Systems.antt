@@ -19,6 +19,7 @@ use Rattle.pv_io.specs.Outside.{Rose, Content, untold, absent, holds, MayBeAbsen
 use Rattle.pv_request.specs.declared.request.Settings.{Settings}
 use Rattle.pv_request.specs.declared.refusal.Refusal.{Refusal}
 use Rattle.pv_request.specs.declared.refusal.Refusal.TheVariants.{System, Contract, NoFile, ReadFault, Memory}
+use Rattle.pv_parse.specs.declared.reader.TheConstants.{MOST_TEXT}
 
 -- what a folder tells: what each name holds, and how often a fetch and a store have failed
 pub record Files : Type 0 where
@@ -51,7 +52,7 @@ pub record HasSystem (before : Files) (name : List ℕ) (s : Parts) : Type 0 whe
 -- a text of a system has this fault, at this place
 pub record IsFaultOf (text : List ℕ) (e : ParseRefused) : Type 0 where
   pub placed : IsPlaced text e
-  pub long : 65536 < length text → SaysTooLong e
+  pub long : MOST_TEXT < length text → SaysTooLong e
   pub because : IsRefusal text e
 
 -- the file's text has this fault

@@ -17,6 +17,7 @@ use pv_product::{Product, told};
 use pv_request::{Refusal, Search, Settings};
 use pv_rule::settler_in;
 use pv_slope::FormSettler;
+use pv_tree::MOST_SETTLED;
 use std::alloc::Global;
 
 /// A bound below the least value of an expression over the set of the system in a file, and a point
@@ -85,7 +86,7 @@ fn found_by(
 ) -> Result<Least, Memory>
     requires dims { objective.now.dims ≡ dims_of (method_of settler.now) }
     requires some { 1 ≤ boxes }
-    requires few { boxes ≤ 100000000 }
+    requires few { boxes ≤ MOST_SETTLED }
     ensures { IfOk result (IsLeastBy (method_of settler.now) (search_box (method_of settler.now))
         (aim_of objective.now) boxes) }
 {
