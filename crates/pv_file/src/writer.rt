@@ -11,7 +11,7 @@ use crate::header::push_header;
 use crate::lines::{keeps, push_shape, scratch_box};
 use crate::version::Version;
 use pv_box::IBox;
-use pv_io::{FileWriteRefused, PIECE, Sink, hand_over, hand_over_piece};
+use pv_io::{FileWriteRefused, PIECE, Sink, hand_over, hand_over_held, hand_over_piece};
 use pv_num::Memory;
 use pv_tree::{Paving, Shape, Walk};
 use std::alloc::Global;
@@ -107,7 +107,7 @@ fn write_nodes<K: Sink>(
         push_visited(&walk, shape, version, &mut bx, &mut to, &mut held)?;
         hand_over_piece(&mut held, sink)?;
     }
-    hand_over(&held, sink)
+    hand_over_held(&mut held, sink)
 }
 
 // Appends the line of the node that a walk has just visited.

@@ -6,7 +6,7 @@ ghost use Rattle.pv_svg.specs.Texts.{picture_text};
 use crate::rectangle::Rectangle;
 use crate::text::{FOOT, HEAD, LONGEST_LINE, push, push_rectangle};
 use pv_interval::Interval;
-use pv_io::{FileWriteRefused, PIECE, Sink, hand_over, hand_over_piece};
+use pv_io::{FileWriteRefused, PIECE, Sink, hand_over_held, hand_over_piece};
 use std::alloc::Global;
 use std::marker::Model;
 
@@ -46,6 +46,6 @@ impl Picture {
             hand_over_piece(&mut held, sink)?;
         }
         push(&mut held, FOOT)?;
-        hand_over(&held, sink)
+        hand_over_held(&mut held, sink)
     }
 }

@@ -42,8 +42,8 @@ loop-shape-preserved g c =
 pub returns-clause-whole : goal.returns-clause-whole
 returns-clause-whole g c =
     let done = end_text c.args.version c.loop-shape.invariant.sent _ _ _ (c.next.ensures.over c.in_default.is) c.loop-shape.invariant.text in
-    on_ok_weaker c.hand_over.result (λ e. all_sent _ _ _ c.loop-shape.invariant.sent _ _ c.loop-shape.invariant.told done e) c.hand_over.ensures.whole
+    on_ok_weaker c.hand_over_held.result (λ e. all_sent _ _ _ c.loop-shape.invariant.sent _ _ c.loop-shape.invariant.told done e) c.hand_over_held.ensures.whole
 
 pub returns-clause-front : goal.returns-clause-front
 returns-clause-front g c =
-    on_err_weaker c.hand_over.result (λ f. held_front _ _ _ c.loop-shape.invariant.sent _ _ _ c.loop-shape.invariant.told c.loop-shape.invariant.text f) c.hand_over.ensures.front
+    on_err_weaker c.hand_over_held.result (λ f. held_front _ _ _ c.loop-shape.invariant.sent _ _ _ c.loop-shape.invariant.told c.loop-shape.invariant.text f) c.hand_over_held.ensures.front

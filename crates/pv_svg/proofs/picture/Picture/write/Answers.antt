@@ -32,9 +32,9 @@ returns-in_err-push-2-clause-front g c =
 pub returns-clause-whole : goal.returns-clause-whole
 returns-clause-whole g c =
     let done = end_held c.args.self.now c.loop-i.invariant.sent _ _ _ c.loop-i.i (search rules) c.loop-i.invariant.text c.in_ok-push-2.ensures in
-    on_ok_weaker c.hand_over.result (λ e. all_sent _ _ _ c.loop-i.invariant.sent _ _ c.loop-i.invariant.told done e) c.hand_over.ensures.whole
+    on_ok_weaker c.hand_over_held.result (λ e. all_sent _ _ _ c.loop-i.invariant.sent _ _ c.loop-i.invariant.told done e) c.hand_over_held.ensures.whole
 
 pub returns-clause-front : goal.returns-clause-front
 returns-clause-front g c =
     let done = end_held c.args.self.now c.loop-i.invariant.sent _ _ _ c.loop-i.i (search rules) c.loop-i.invariant.text c.in_ok-push-2.ensures in
-    on_err_weaker c.hand_over.result (λ f. held_front _ _ _ c.loop-i.invariant.sent _ _ _ c.loop-i.invariant.told done f) c.hand_over.ensures.front
+    on_err_weaker c.hand_over_held.result (λ f. held_front _ _ _ c.loop-i.invariant.sent _ _ _ c.loop-i.invariant.told done f) c.hand_over_held.ensures.front
