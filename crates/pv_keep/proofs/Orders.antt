@@ -1,5 +1,5 @@
 -- Preorder is a strict total order of paths.
-use Rattle.std.proofs.Common.{◌≡◌, ◌≢◌, Bool, true, false, List, [], ◌∷◌, ◌++◌, refl, ap}
+use Rattle.std.proofs.Common.{◌≡◌, ◌≢◌, Bool, true, false, List, [], ◌∷◌, ◌++◌, refl, sym, ap}
 use Rattle.std.specs.Prelude.{IsTrue}
 use Rattle.pv_tree.specs.Trees.{precedes}
 use Rattle.pv_join.proofs.AuditFacts.{not_false}
@@ -48,3 +48,6 @@ or_back (true ∷ p) (true ∷ q) h k = or_back p q h (λ e. k (ap (λ (r : List
 
 pub unlike : (p q : List Bool) → IsTrue (precedes p q) → q ≢ p
 unlike p q h = λ e. let f : precedes p p ≡ false = itself_not p in cc
+
+pub turned : (p q : List Bool) → p ≢ q → q ≢ p
+turned p q h = λ e. h (sym e)

@@ -6,7 +6,7 @@ use Rattle.std.proofs.lemmas.List.{reverse-append}
 use Rattle.pv_tree.specs.Trees.{precedes}
 use Rattle.pv_keep.specs.declared.row.Row.{Row}
 use Rattle.pv_keep.specs.Rows.{AllBehind, InPreorder, placed, HasNoRow, AreNew, IsSplit, NoneBefore}
-use Rattle.pv_keep.proofs.Orders.{precedes_trans, not_back, or_back}
+use Rattle.pv_keep.proofs.Orders.{precedes_trans, not_back, or_back, turned}
 use Rattle.pv_keep.proofs.Leaves.{behind_trans}
 
 placed_case : (row x : Row) (xs : List Row) (b : Bool) → precedes row.path x.path ≡ b → placed row (x ∷ xs) ≡ cond b (row ∷ x ∷ xs) (x ∷ placed row xs)
@@ -38,9 +38,6 @@ none_case p row x xs false h a r = (a.0, r)
 pub none_placed : (p : List Bool) (row : Row) (xs : List Row) → row.path ≢ p → HasNoRow p xs → HasNoRow p (placed row xs)
 none_placed p row [] h a = (h, tt)
 none_placed p row (x ∷ xs) h a = none_case p row x xs (precedes row.path x.path) h a (none_placed p row xs h a.1)
-
-pub turned : (p q : List Bool) → p ≢ q → q ≢ p
-turned p q h = λ e. h (sym e)
 
 -- What was new still is, behind a row at another path.
 pub new_placed : (row : Row) (kept rows : List Row) → HasNoRow row.path rows → AreNew kept rows → AreNew (placed row kept) rows

@@ -4,8 +4,7 @@ use Rattle.std.specs.Prelude.{IsTrue}
 use Rattle.pv_tree.specs.Trees.{precedes}
 use Rattle.pv_keep.specs.declared.row.Row.{Row}
 use Rattle.pv_keep.specs.Rows.{AllBehind, InPreorder, placed, all_placed, HasNoRow, AreDistinct, AreNew, IsShuffle}
-use Rattle.pv_keep.proofs.Orders.{not_back, unlike}
-use Rattle.pv_keep.proofs.Placing.{turned}
+use Rattle.pv_keep.proofs.Orders.{not_back, unlike, turned}
 
 abbrev head_of : List Row → Row → Row
 head_of [] d = d
