@@ -275,7 +275,8 @@ fn keep_new<P: Keeper>(
 {
     let rows = new_rows(alloc, earlier, later)?;
     match keeper.save(&rows) {
-        Ok(()) => Ok(rows.len()),
-        Err(refused) => Err(refused),
+        Ok(()) => {}
+        Err(refused) => return Err(refused),
     }
+    Ok(rows.len())
 }

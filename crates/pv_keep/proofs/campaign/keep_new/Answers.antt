@@ -12,7 +12,7 @@ pub save-requires-clause-new : goal.save-requires-clause-new
 save-requires-clause-new g c = λ name b. new_now _ c.args.earlier.now.tree c.args.later.now.tree _ (c.requires.kept name b) c.in_ok-rows.ensures
 
 pub returns-clause-saved : goal.returns-clause-saved
-returns-clause-saved g c = λ name b. saved_now _ _ c.args.earlier.now.tree c.args.later.now.tree _ (c.requires.kept name b) c.in_ok-rows.ensures (c.in_ok-save.ensures.saved name b)
+returns-clause-saved g c = λ name b. saved_now _ _ c.args.earlier.now.tree c.args.later.now.tree _ (c.requires.kept name b) c.in_ok-rows.ensures (c.in-Ok.ensures.saved name b)
 
 pub returns-clause-kept : goal.returns-clause-kept
 returns-clause-kept g c = λ name b. saved_keeps _ _ c.args.later.now.tree (returns-clause-saved g c name b)
