@@ -1,15 +1,15 @@
 -- Budgets that are spent one after another.
-use Rattle.std.proofs.Common.{◌≡◌, ◌⊎◌, inl, inr, ℕ, suc, ◌+◌, ◌≤◌, Bool, List, [], ◌∷◌, length, refl, ap, subst, arith}
+use Rattle.std.proofs.Common.{◌≡◌, ◌⊎◌, inl, inr, ℕ, ◌+◌, ◌≤◌, Bool, List, [], ◌∷◌, length, refl, ap, subst, arith}
 use Rattle.std.specs.Prelude.{◌≢◌}
 use Rattle.pv_interval.specs.Bounds.{Bounds}
 use Rattle.pv_interval.specs.Points.{Point}
-use Rattle.pv_box.specs.Boxes.{IsBox, lower_half, upper_half}
-use Rattle.pv_tree.specs.Trees.{Tree, leaf, removed, inner, small, cut, opens, IsPaving, Paves}
+use Rattle.pv_box.specs.Boxes.{IsBox}
+use Rattle.pv_tree.specs.Trees.{Tree, leaf, opens, IsPaving, Paves}
 use Rattle.pv_tree.specs.Stages.{Rule, full_of, IsStage}
 use Rattle.pv_tree.specs.Sets.{Covers}
 use Rattle.pv_tree.specs.Laws.{IsLawful}
-use Rattle.pv_tree.proofs.StageLaws.{grows_self, grows_leaf, grows_cut, whole_stage}
-use Rattle.pv_tree.proofs.Earlier.{stage_on, grows_full, opening_is_stage}
+use Rattle.pv_tree.proofs.StageLaws.{whole_stage}
+use Rattle.pv_tree.proofs.Earlier.{stage_on, opening_is_stage}
 use Rattle.pv_workers.proofs.Budgets.{fits_of, spent_of}
 use Rattle.pv_board.specs.Rules.{settled_in}
 use Rattle.pv_workers.specs.Pavings.{IsSpent, IsPaved, FullFits}
@@ -19,15 +19,6 @@ use Rattle.pv_rounds.specs.Going.{AddUp}
 use Rattle.pv_rounds.proofs.Ordered.{ordered_on}
 
 -- ---- A stage of what it begins with
-
-unfolding full_of
-grows_full rule depth b leaf k = grows_leaf (full_of rule depth b leaf k)
-grows_full rule depth b removed k = grows_self removed
-grows_full rule depth b (inner to) k = grows_self (inner to)
-grows_full rule depth b (small to) k = grows_self (small to)
-grows_full rule depth b (cut to v a low high) k =
-    grows_cut to v a low high (full_of rule depth (lower_half to v a) low (suc k)) (full_of rule depth (upper_half to v a) high (suc k))
-    (grows_full rule depth (lower_half to v a) low (suc k)) (grows_full rule depth (upper_half to v a) high (suc k))
 
 cons_nil : {A : Type 0} (x : A) (xs : List A) → x ∷ xs ≡ [] → ⊥
 cons_nil x xs e = cc
