@@ -192,7 +192,7 @@ same_text Two Two identity b s t h k e = texts-differ Two identity b s t h k e
 same_text One Two identity b s t h k e = absurd (other_version identity b s t e)
 same_text Two One identity b s t h k e = absurd (other_version identity b t s (sym e))
 
-same_held : (before : Files) (limit : ℕ) (r q : Method) (name : Text) (s t : Tree) → AreTold before → AreSameRules r q → HasPaving before limit r name s → HasPaving before limit q name t → s ≡ t
+pub same_held : (before : Files) (limit : ℕ) (r q : Method) (name : Text) (s t : Tree) → AreTold before → AreSameRules r q → HasPaving before limit r name s → HasPaving before limit q name t → s ≡ t
 same_held before limit r q name s t told same h k =
     let bytes : h.bytes ≡ k.bytes = same_whole (before.content name) (length_limit limit) h.bytes k.bytes (told name) h.fetched k.fetched in
     let other : IsPavingInFormat (search_box r) t = subst (λ (b : List Bounds). IsPavingInFormat b t) (sym same.box) k.paving in

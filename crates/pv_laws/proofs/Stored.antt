@@ -158,6 +158,12 @@ stage_paving before u v found q name s limit p asked h stages c = absurd h
 
 -- ---- A stage's text is wanted
 
+pub stage_moves : (r q : Method) (t : Tree) → AreOneRule r q → IsStage (settle_by r) r.parts.depth (search_box r) leaf t → IsStage (settle_by q) q.parts.depth (search_box q) leaf t
+stage_moves r q t one h =
+    subst (λ (b : List Bounds). IsStage (settle_by q) q.parts.depth b leaf t) one.named.box
+    (subst (λ (d : ℕ). IsStage (settle_by q) d (search_box r) leaf t) one.depth
+    (subst (λ (x : Rule). IsStage x r.parts.depth (search_box r) leaf t) one.settle h))
+
 module _ (r q : Method) (one : AreOneRule r q) (t : Tree) (later : Files) (file : Text)
     (is : later.content file ≡ holds (file_text Two (identity_of r) (search_box r) t)) (paving : IsPavingInFormat (search_box r) t) where
   paving_there : IsPavingInFormat (search_box q) t
@@ -183,12 +189,6 @@ module _ (r q : Method) (one : AreOneRule r q) (t : Tree) (later : Files) (file 
       let whole = subst (λ (c : Content). IsWhole c (length_limit most) h.bytes) is h.fetched in
       same_text h.text.0 Two (identity_of q) (search_box q) u t h.paving paving_there (sym h.text.1 ∙ whole.0 ∙ text_there)
 
-  stage_there : IsStage (settle_by r) r.parts.depth (search_box r) leaf t → IsStage (settle_by q) q.parts.depth (search_box q) leaf t
-  stage_there h =
-      subst (λ (b : List Bounds). IsStage (settle_by q) q.parts.depth b leaf t) one.named.box
-      (subst (λ (d : ℕ). IsStage (settle_by q) d (search_box r) leaf t) one.depth
-      (subst (λ (x : Rule). IsStage x r.parts.depth (search_box r) leaf t) one.settle h))
-
 wanted_of : (before later : Files) (system system' file : Text) (s s' : Settings) (limit : ℕ) (p : Product) → (d : IsStagePaving before system s limit p) → before.content system ≢ untold
     → before.content system ≡ later.content system' → AreSameSettings s s' → later.content file ≡ holds (file_text Two (identity_of d.rule) (search_box d.rule) d.tree)
     → IsWanted later system' s' limit file
@@ -196,7 +196,7 @@ wanted_of before later system system' file s s' limit p d told there same is = r
   tree = d.tree;
   read = λ q most more k. held_there d.rule q (read_one_rule before later system system' s s' d.rule q told there same d.read k) d.tree later file is d.honest.paving limit most d.few more;
   only = λ q most t k h. one_there d.rule q (read_one_rule before later system system' s s' d.rule q told there same d.read k) d.tree later file is d.honest.paving most t h;
-  stage = λ q k. stage_there d.rule q (read_one_rule before later system system' s s' d.rule q told there same d.read k) d.tree later file is d.honest.paving d.honest.stage;
+  stage = λ q k. stage_moves d.rule q d.tree (read_one_rule before later system system' s s' d.rule q told there same d.read k) d.honest.stage;
 }
 
 -- ---- One command
@@ -263,17 +263,17 @@ module _ (f : Files) (limit : ℕ) (identity : List ℕ) (b : List Bounds) (name
       let same : h.bytes ≡ o.bytes = same_whole (f.content name) (length_limit limit) h.bytes o.bytes told h.fetched o.fetched in
       o.no_text t h.paving h.few (subst (λ (bytes : List ℕ). IsTextOf bytes identity b t) same h.text)
 
-  no_fault : (fault : FileFault) → HasFileFault f limit identity b name fault → ⊥
-  no_fault TooLong l = whole_or_long (f.content name) (length_limit limit) h.bytes l.bytes told h.fetched l.long
-  no_fault WrongIdentity o = no_other _ o
-  no_fault (BadLine n) o = no_other _ o
-  no_fault (TooManyNodes n) o = no_other _ o
-  no_fault (BadRow n) o = o
-  no_fault TooManyRows o = o
+  pub no_file_fault : (fault : FileFault) → HasFileFault f limit identity b name fault → ⊥
+  no_file_fault TooLong l = whole_or_long (f.content name) (length_limit limit) h.bytes l.bytes told h.fetched l.long
+  no_file_fault WrongIdentity o = no_other _ o
+  no_file_fault (BadLine n) o = no_other _ o
+  no_file_fault (TooManyNodes n) o = no_other _ o
+  no_file_fault (BadRow n) o = o
+  no_file_fault TooManyRows o = o
 
 pub wanted_is_taken : WantedIsTaken
 wanted_is_taken f after system file s limit most rule (Paving n fault) wanted more read told h =
-    absurd (no_fault f most (identity_of rule) (search_box rule) file wanted.tree told (wanted.read rule most more read) fault h.1)
+    absurd (no_file_fault f most (identity_of rule) (search_box rule) file wanted.tree told (wanted.read rule most more read) fault h.1)
 wanted_is_taken f after system file s limit most rule r wanted more read told h = h
 
 -- ---- A chain of commands

@@ -9,7 +9,7 @@ ghost use Rattle.pv_laws.specs.CampaignLaws.{
   OthersLeaveKeeper,
 };
 ghost use Rattle.pv_laws.specs.Headline.{CompletedAreAlike};
-ghost use Rattle.pv_laws.specs.Complete.{RightIsAnswered};
+ghost use Rattle.pv_laws.specs.Complete.{RightIsAnswered, PavingIsAudited};
 ghost use Rattle.pv_laws.specs.Stored.{
   StoredIsWanted,
   WantedAreStages,
@@ -65,11 +65,15 @@ pub fn stored_is_wanted()
     ensures written { WrittenIsWanted }
 {}
 
-/// Nothing at fault means an answer. Where words ask for `check`, `run`, `run-centered` or `sample`,
-/// the text means a system and the settings give a rule, the status is 0 or 1; or there was no
-/// memory, or a read, a store or a write failed in this call.
+/// Nothing at fault means an answer. Where the text means a system, the settings give a rule for it,
+/// each file holds a paving by that rule within the limit, those of `resume` and `merge` agree and
+/// have room, that of `audit` is a stage, the plane of `svg` is one of the system and the text of
+/// `least` an expression, the status is 0 or 1; or there was no memory, or a read, a store or a write
+/// failed in this call. Where the paving of `audit` may be no stage, the status says whether it is
+/// one. Nothing is said of `campaign`.
 pub fn right_is_answered()
-    ensures { RightIsAnswered }
+    ensures right { RightIsAnswered }
+    ensures audited { PavingIsAudited }
 {}
 
 /// With status 0 no leaf is open: what was printed and stored is of the full tree. Of a share none is

@@ -1,5 +1,5 @@
-use Rattle.pv_laws.proofs.Complete.{right_is_answered}
+use Rattle.pv_laws.proofs.Complete.{right_is_answered, paving_is_audited}
 use Rattle.pv_laws.proofs.laws.right_is_answered.Goals as goal
 
 pub returns : goal.returns
-returns c = right_is_answered
+returns c = record { right = right_is_answered; audited = paving_is_audited }
