@@ -1,6 +1,7 @@
 -- Each refusal has a cause, and where nothing is at fault there is none but memory and the machine.
-use Rattle.std.proofs.Common.{◌≡◌, ◌⊎◌, inl, inr, ℕ, ◌+◌, ◌≤◌, ◌<◌, Bool, true, false, List, [], ◌∷◌, ◌++◌, length, map, refl, sym, ◌∙◌, ap, subst, arith, AllPairs, get_or, slice_get}
+use Rattle.std.proofs.Common.{◌≡◌, ◌⊎◌, inl, inr, ℕ, ◌+◌, ◌*◌, ◌≤◌, ◌<◌, Bool, true, false, List, [], ◌∷◌, ◌++◌, length, map, refl, sym, ◌∙◌, ap, subst, arith, AllPairs, get_or, slice_get}
 use Rattle.std.specs.Prelude.{◌≢◌, Option, Some, None}
+use Rattle.std.specs.Borrow.{Bor}
 use Rattle.std.proofs.lemmas.Bool.{cases_order}
 use Rattle.std.proofs.lemmas.List.{length-map}
 use Rattle.std.proofs.lemmas.Option.{get_or_from_slice_get, slice_get_within}
@@ -31,13 +32,24 @@ use Rattle.pv_tree.specs.Stages.{IsStage}
 use Rattle.pv_tree.specs.declared.outcome.Outcome.{Outcome}
 use Rattle.pv_io.specs.Outside.{Content, Rose, untold, absent, holds, IsWhole, MayBeAbsent}
 use Rattle.pv_file.specs.Lengths.{length_limit}
+use Rattle.pv_file.specs.Readings.{IsPavingInFormat}
+use Rattle.pv_keep.specs.Campaigns.{IsOpened, HasTooMany, HasBadRow}
+use Rattle.pv_keep.specs.Keeping as keeping
+use Rattle.pv_keep.specs.Keeping.{Kept, HasOther}
+use Rattle.pv_keep.specs.Rebuilding.{Make, IsFirstBad}
+use Rattle.pv_keep.specs.Reopening.{RowsMakeTheirs}
+use Rattle.pv_keep.specs.declared.row.Row.{Row}
+use Rattle.pv_rounds.specs.Holding.{RefusesHold}
+use Rattle.pv_rounds.specs.declared.campaign.HoldRefused.{HoldRefused}
+use Rattle.pv_rounds.specs.declared.campaign.HoldRefused.TheVariants as hold
+use Rattle.pv_scope.specs.declared.order.Order.{Order}
 use Rattle.pv_svg.specs.Pixels.{IsFinite}
 use Rattle.pv_svg.specs.Planes.{Plane, place}
 use Rattle.pv_request.specs.Requests.{Asks, names_in, out_of, RefusesWords}
 use Rattle.pv_request.specs.Refusals.{status_of}
 use Rattle.pv_rule.specs.Systems.{Files, IsFetched, HasSystem, HasFault, HasRule, HasNoRule, RefusesFetch, RefusesSystem, RefusesRule, search_box}
 use Rattle.pv_rule.specs.Pavings.{settled_in}
-use Rattle.pv_product.specs.Campaigns.{Stock}
+use Rattle.pv_product.specs.Campaigns.{Stock, campaign_refusal, RefusesRounds, RefusesCampaign}
 use Rattle.pv_product.specs.Files.{HoldsPaving, HasPaving, HavePavings, RefusesPaving, RefusesPavings, AnyTree, IsJoinOf, IsDisagreement, RefusesJoin, RefusesOpening}
 use Rattle.pv_product.specs.Leasts.{RefusesLeast}
 use Rattle.pv_product.specs.Views.{IsAxis, HasNoAxis, unknown, unbounded, IsPlaneOf, HasNoPlane, no_x, no_y, same as same_name, other_count}
@@ -45,14 +57,15 @@ use Rattle.pv_product.specs.Products.{Product, text, unfinished, paved_as, HasSt
 use Rattle.pv_product.specs.Ends.{Outside, RefusesDelivery, IsRefused, IsRefusedSo, in_words, in_request, Tells}
 use Rattle.pv_laws.specs.Merges.{IsTree, AreSameSettings, AreTold}
 use Rattle.pv_laws.specs.Stored.{IsAnswer}
-use Rattle.pv_laws.specs.Complete.{AllAgree, AreJoinable, HoldsPavingOf, IsOfStage, HoldsStageOf, HasPicture, HasObjective, IsRight, IsOutsideFault, no_memory, not_read, not_stored, not_printed, RightIsAnswered, IsAuditable, HasVerdict, IsVerdictOn, IsAudited, PavingIsAudited}
+use Rattle.pv_laws.specs.Complete.{AllAgree, AreJoinable, HoldsPavingOf, IsOfStage, HoldsStageOf, HasPicture, HasObjective, KeepsRowsOf, HasCampaign, IsRight, IsOutsideFault, no_memory, not_read, not_stored, not_printed, not_kept, RightIsAnswered, IsAuditable, HasVerdict, IsVerdictOn, IsAudited, PavingIsAudited}
 use Rattle.pv_request.specs.declared.request.Settings.{Settings}
 use Rattle.pv_request.specs.declared.request.View.{View}
+use Rattle.pv_request.specs.declared.request.Rounds.{Rounds}
 use Rattle.pv_request.specs.declared.request.Request.{Request}
 use Rattle.pv_request.specs.declared.request.Request.TheVariants.{Check, Run, Resume, Merge, Audit, Svg, Sample, Least, Campaign}
 use Rattle.pv_request.specs.declared.refusal.FileFault.{FileFault}
 use Rattle.pv_request.specs.declared.refusal.Refusal.{Refusal}
-use Rattle.pv_request.specs.declared.refusal.Refusal.TheVariants.{Usage, System, Contract, Objective, NoFile, ReadFault, Paving, NotStored, NotPrinted, Memory, TreeLimit, Disagree, Differs}
+use Rattle.pv_request.specs.declared.refusal.Refusal.TheVariants.{Usage, System, Contract, Objective, NoFile, ReadFault, Paving, NotStored, KeeperFault, NotPrinted, Memory, TreeLimit, Disagree, Differs}
 use Rattle.pv_request.specs.declared.status.Status.{Status}
 use Rattle.pv_request.specs.declared.status.Status.TheVariants as status
 use Rattle.pv_opening.proofs.Joined.{any_left, any_right}
@@ -159,9 +172,9 @@ no_quarrel ts path a b agree d =
     let all : List Tree = d.earlier ++ d.next ∷ d.later in
     let here = d.first.here in
     let left = any_tree (λ s. outcome_at s path ≡ Some here.left) all
-        (any_left (λ s. outcome_at s path ≡ Some here.left) d.earlier (d.next ∷ d.later) (d.is_join.only path here.left here.left_is)) in
+    (any_left (λ s. outcome_at s path ≡ Some here.left) d.earlier (d.next ∷ d.later) (d.is_join.only path here.left here.left_is)) in
     let right = any_tree (λ s. outcome_at s path ≡ Some here.right) all
-        (any_right (λ s. outcome_at s path ≡ Some here.right) d.earlier (d.next ∷ d.later) (inl here.right_is)) in
+    (any_right (λ s. outcome_at s path ≡ Some here.right) d.earlier (d.next ∷ d.later) (inl here.right_is)) in
     here.differ (subst AllAgree d.are agree left.0 right.0 left.1.0 right.1.0 path here.left here.right left.1.1 right.1.1)
 
 join_excused : (before after : Files) (ts : List Tree) (r : Refusal) → AllAgree ts → RefusesJoin ts r → IsExcused before after r
@@ -276,23 +289,86 @@ least_excused before after system s of (Objective byte cause) told h k =
     text_apart k.rule.parts.system.names of byte cause (subst (λ (ns : List (List ℕ)). IsExpressionSentence ns of) names h.means.text) k.fault
 least_excused before after system s of r told h k = rule_excused before after system s h.rule r (told system) h.read k
 
+-- ---- Campaigns
+
+module _ (make : RowsMakeTheirs) (limit : ℕ) (identity : List ℕ) (b : List Bounds) (t : Tree) where
+  not_other : (kept : Kept) (found : List ℕ) → KeepsRowsOf limit kept identity t → HasOther kept identity found → ⊥
+  not_other keeping.untold found h k = h
+  not_other keeping.absent found h k = k
+  not_other (keeping.holds held rows) found h k = k.1 h.0
+
+  not_too_many : (kept : Kept) → KeepsRowsOf limit kept identity t → HasTooMany limit kept identity → ⊥
+  not_too_many keeping.untold h k = h
+  not_too_many keeping.absent h k = k
+  not_too_many (keeping.holds held rows) h k = let few = h.1.1 in let many = k.1 in omega (arith, few, many)
+
+  not_bad : (kept : Kept) (n : ℕ) → IsPavingInFormat b t → KeepsRowsOf limit kept identity t → HasBadRow limit kept identity b n → ⊥
+  not_bad keeping.untold n paving h k = h
+  not_bad keeping.absent n paving h k = k
+  not_bad (keeping.holds held rows) n paving h k = (make b t paving).none_bad n (subst (λ (xs : List Row). IsFirstBad b xs n) h.1.0 k.1.1)
+
+  one_opening : (kept after : Kept) (opening : Tree) → IsPavingInFormat b t → KeepsRowsOf limit kept identity t → IsOpened limit kept after identity b opening → opening ≡ t
+  one_opening keeping.untold after opening paving h k = absurd h
+  one_opening keeping.absent after opening paving h k = k.1 ∙ sym h
+  one_opening (keeping.holds held rows) after opening paving h k = (make b t paving).only opening (subst (λ (xs : List Row). Make b leaf xs opening) h.1.0 k.1.1.1.0)
+
+-- the keeper failed
+record IsNotKept (u v : Stock) (r : Refusal) : Type 0 where
+  name : Bor Text
+  is : r ≡ KeeperFault name
+  rose : Rose u.faults v.faults
+
+module _ (make : RowsMakeTheirs) (before after : Files) (u v : Stock) (system : Text) (s : Settings) (limit : ℕ) (order : Order) (boxes : ℕ) (rounds : Rounds) (told : AreTold before)
+    (h : HasCampaign before u system s limit boxes rounds) where
+  module _ (q : Method) (same : AreSameRules h.rule q) where
+    paving_there : IsPavingInFormat (search_box q) h.opening
+    paving_there = subst (λ (b : List Bounds). IsPavingInFormat b h.opening) same.box h.paving
+
+    kept_there : KeepsRowsOf limit (u.kept rounds.name.now) (identity_of q) h.opening
+    kept_there = subst (λ (i : List ℕ). KeepsRowsOf limit (u.kept rounds.name.now) i h.opening) same.identity h.kept
+
+    hold_excused : (e : HoldRefused) → (e ≡ hold.Failed → Rose u.faults v.faults)
+        → RefusesHold limit (settle_by q) q.parts.depth (search_box q) order (identity_of q) boxes rounds.count (u.kept rounds.name.now) (v.kept rounds.name.now) e
+        → IsExcused before after (campaign_refusal rounds.name e) ⊎ IsNotKept u v (campaign_refusal rounds.name e)
+    hold_excused hold.Memory rose k = inl tt
+    hold_excused hold.Failed rose k = inr (record { name = rounds.name; is = refl; rose = rose refl })
+    hold_excused (hold.OtherIdentity found) rose k = absurd (not_other make limit (identity_of q) (search_box q) h.opening (u.kept rounds.name.now) found kept_there k.0)
+    hold_excused hold.TooMany rose k = absurd (not_too_many make limit (identity_of q) (search_box q) h.opening (u.kept rounds.name.now) kept_there k.0)
+    hold_excused (hold.BadRow n) rose k = absurd (not_bad make limit (identity_of q) (search_box q) h.opening (u.kept rounds.name.now) n paving_there kept_there k.0)
+    hold_excused (hold.TreeLimit n) rose k =
+        let one = one_opening make limit (identity_of q) (search_box q) h.opening (u.kept rounds.name.now) (v.kept rounds.name.now) k.opening paving_there kept_there k.opened in
+        let size : settled_in k.opening ≡ settled_in h.opening = ap settled_in one in
+        let room = h.room in let many = k.many in let is = k.settled in
+        absurd (omega (arith, size, room, many, is))
+
+  rounds_excused : (q : Method) (r : Refusal) → HasRule before system s q → RefusesRounds q u v limit order boxes rounds r → IsExcused before after r ⊎ IsNotKept u v r
+  rounds_excused q r read k =
+      subst (λ (x : Refusal). IsExcused before after x ⊎ IsNotKept u v x) (sym k.is)
+      (hold_excused q (one_rule_of before system s h.rule q (told system) h.read read).named k.refused k.rose k.because)
+
+  campaign_excused : (r : Refusal) → RefusesCampaign before after u v system s limit order boxes rounds r → IsExcused before after r ⊎ IsNotKept u v r
+  campaign_excused r (inl k) = inl (rule_excused before after system s h.rule r (told system) h.read k.0)
+  campaign_excused r (inr k) = rounds_excused k.rule r k.read k.refused
+
 -- ---- What is asked for
 
 sample_excused : (before after : Files) (r : Refusal) → RefusesSample r → IsExcused before after r
 sample_excused before after Memory h = tt
 sample_excused before after r h = absurd h
 
-work_excused : (before after : Files) (u v : Stock) (q : Request) (r : Refusal) → AreTold before → IsRight before q → RefusesWork before after u v q r → IsExcused before after r
-work_excused before after u v (Check system) r told h k = system_excused before after system.now h.0 r (told system.now) h.1 k
-work_excused before after u v (Run system settings effort out) r told h k = rule_excused before after system.now settings h.0 r (told system.now) h.1 k
-work_excused before after u v (Resume system pavings settings effort share out) r told h k =
-    joined_excused before after system.now (names_in pavings.items) settings effort.limit effort.boxes told h r k
-work_excused before after u v (Merge system pavings settings limit out) r told h k = joined_excused before after system.now (names_in pavings.items) settings limit 0 told h r k
-work_excused before after u v (Audit system paving settings limit workers) r told h k = audit_excused before after system.now paving.now settings limit r told h k
-work_excused before after u v (Svg system paving settings limit view) r told h k = svg_excused before after system.now paving.now settings limit view r told h k
-work_excused before after u v (Sample circles) r told h k = sample_excused before after r k
-work_excused before after u v (Least system settings search) r told h k = least_excused before after system.now settings search.of.now r told h k
-work_excused before after u v (Campaign system settings effort rounds) r told h k = absurd h
+work_excused : RowsMakeTheirs → (before after : Files) (u v : Stock) (q : Request) (r : Refusal) → AreTold before → IsRight before u q → RefusesWork before after u v q r
+    → IsExcused before after r ⊎ IsNotKept u v r
+work_excused make before after u v (Check system) r told h k = inl (system_excused before after system.now h.0 r (told system.now) h.1 k)
+work_excused make before after u v (Run system settings effort out) r told h k = inl (rule_excused before after system.now settings h.0 r (told system.now) h.1 k)
+work_excused make before after u v (Resume system pavings settings effort share out) r told h k =
+    inl (joined_excused before after system.now (names_in pavings.items) settings effort.limit effort.boxes told h r k)
+work_excused make before after u v (Merge system pavings settings limit out) r told h k = inl (joined_excused before after system.now (names_in pavings.items) settings limit 0 told h r k)
+work_excused make before after u v (Audit system paving settings limit workers) r told h k = inl (audit_excused before after system.now paving.now settings limit r told h k)
+work_excused make before after u v (Svg system paving settings limit view) r told h k = inl (svg_excused before after system.now paving.now settings limit view r told h k)
+work_excused make before after u v (Sample circles) r told h k = inl (sample_excused before after r k)
+work_excused make before after u v (Least system settings search) r told h k = inl (least_excused before after system.now settings search.of.now r told h k)
+work_excused make before after u v (Campaign system settings effort rounds) r told h k =
+    campaign_excused make before after u v system.now settings effort.limit effort.order effort.boxes rounds told h r k
 
 -- ---- The whole command
 
@@ -300,6 +376,10 @@ excused_end : (before after : Outside) (r : Refusal) (s : Status) → s ≡ stat
 excused_end before after Memory s e h = no_memory e
 excused_end before after (ReadFault n) s e h = not_read e h
 excused_end before after r s e h = absurd h
+
+work_end : (before after : Outside) (r : Refusal) (s : Status) → s ≡ status_of r → IsExcused before.files after.files r ⊎ IsNotKept before.stock after.stock r → IsOutsideFault before after s
+work_end before after r s e (inl h) = excused_end before after r s e h
+work_end before after r s e (inr h) = not_kept (e ∙ ap status_of h.is) h.rose
 
 delivery_end : (before after : Outside) (out : Option Text) (p : Product) (r : Refusal) (s : Status) → s ≡ status_of r → RefusesDelivery out p before.files after.files before.out after.out r
     → IsOutsideFault before after s
@@ -331,11 +411,11 @@ answers (unfinished t) s h = inr h
 answers (paved_as identity b t true) s h = inl h
 answers (paved_as identity b t false) s h = inr h
 
-pub right_is_answered : RightIsAnswered
-right_is_answered words before after s q told asks right (inl d) = inl (answers d.answered.product s d.answered.is)
-right_is_answered words before after s q told asks right (inr r) =
+pub right_is_answered : RowsMakeTheirs → RightIsAnswered
+right_is_answered make words before after s q told asks right (inl d) = inl (answers d.answered.product s d.answered.is)
+right_is_answered make words before after s q told asks right (inr r) =
     told_end words before after q r.refusal s (IsAnswer s) asks
-    (λ o asked e k. inr (excused_end before after r.refusal s e (work_excused before.files after.files before.stock after.stock o r.refusal told (right o asked) k))) r.so r.told
+    (λ o asked e k. inr (work_end before after r.refusal s e (work_excused make before.files after.files before.stock after.stock o r.refusal told (right o asked) k))) r.so r.told
 
 -- ---- Audits
 

@@ -1,29 +1,34 @@
 -- That nothing at fault means an answer.
-use Rattle.std.specs.Prelude.{◌≡◌, ◌⊎◌, ℕ, ◌+◌, ◌≤◌, List}
+use Rattle.std.specs.Prelude.{◌≡◌, ◌⊎◌, ℕ, ◌+◌, ◌*◌, ◌≤◌, List, length}
 use Rattle.clap.specs.Words.{Text}
 use Rattle.pv_expr.specs.Systems.{Parts}
 use Rattle.pv_expr.specs.Terms.{Term}
 use Rattle.pv_parse.specs.Declarations.{IsExpressionMeaning}
-use Rattle.pv_slope.specs.Methods.{Method, settle_by}
+use Rattle.pv_slope.specs.Methods.{Method, settle_by, identity_of}
 use Rattle.pv_tree.specs.Trees.{Tree, leaf}
 use Rattle.pv_tree.specs.Stages.{IsStage}
 use Rattle.pv_join.specs.Joins.{Agree}
 use Rattle.pv_io.specs.Outside.{Rose}
+use Rattle.pv_file.specs.Readings.{IsPavingInFormat}
 use Rattle.pv_svg.specs.Planes.{Plane}
+use Rattle.pv_keep.specs.Keeping.{Kept, untold, absent, holds}
+use Rattle.pv_keep.specs.Rows.{rows_of}
 use Rattle.pv_request.specs.Requests.{Asks, names_in}
 use Rattle.pv_rule.specs.Systems.{Files, HasSystem, HasRule, search_box}
 use Rattle.pv_rule.specs.Pavings.{settled_in}
 use Rattle.pv_product.specs.Files.{HasPaving, HavePavings, IsJoinOf}
 use Rattle.pv_product.specs.Views.{IsPlaneOf}
+use Rattle.pv_product.specs.Campaigns.{Stock}
 use Rattle.pv_product.specs.Ends.{Outside, IsEnd}
 use Rattle.pv_laws.specs.Merges.{IsTree, AreTold}
 use Rattle.pv_laws.specs.Stored.{IsAnswer}
 use Rattle.pv_request.specs.declared.request.Settings.{Settings}
 use Rattle.pv_request.specs.declared.request.View.{View}
+use Rattle.pv_request.specs.declared.request.Rounds.{Rounds}
 use Rattle.pv_request.specs.declared.request.Request.{Request}
 use Rattle.pv_request.specs.declared.request.Request.TheVariants.{Check, Run, Resume, Merge, Audit, Svg, Sample, Least, Campaign}
 use Rattle.pv_request.specs.declared.status.Status.{Status}
-use Rattle.pv_request.specs.declared.status.Status.TheVariants.{Done, Disagree, ReadFault, WriteFault, WantOfMemory}
+use Rattle.pv_request.specs.declared.status.Status.TheVariants.{Done, Disagree, ReadFault, WriteFault, WantOfMemory, KeeperFault}
 
 -- ---- What is right
 
@@ -69,18 +74,34 @@ pub record HasObjective (before : Files) (system : Text) (s : Settings) (of : Te
   pub term : Term
   pub means : IsExpressionMeaning rule.parts.system.names of term
 
--- Nothing that is asked for is at fault: the file's text means a system, the settings give a rule for it, and the other files
--- and texts are right for that. Of `campaign` nothing is said here.
-abbrev pub IsRight : Files → Request → Type 0
-IsRight before (Check system) = (s : Parts) × HasSystem before system.now s
-IsRight before (Run system settings effort out) = (rule : Method) × HasRule before system.now settings rule
-IsRight before (Resume system pavings settings effort share out) = AreJoinable before system.now (names_in pavings.items) settings effort.limit effort.boxes
-IsRight before (Merge system pavings settings limit out) = AreJoinable before system.now (names_in pavings.items) settings limit 0
-IsRight before (Audit system paving settings limit workers) = HoldsStageOf before system.now paving.now settings limit
-IsRight before (Svg system paving settings limit view) = HasPicture before system.now paving.now settings limit view
-IsRight before (Sample circles) = Unit {0}
-IsRight before (Least system settings search) = HasObjective before system.now settings search.of.now
-IsRight before (Campaign system settings effort rounds) = ⊥
+-- a name is absent, and the paving an open leaf; or the paving's rows are kept with this identity, and are no more than the limit
+abbrev pub KeepsRowsOf : ℕ → Kept → List ℕ → Tree → Type 0
+KeepsRowsOf limit untold identity t = ⊥
+KeepsRowsOf limit absent identity t = t ≡ leaf
+KeepsRowsOf limit (holds kept rows) identity t = (kept ≡ identity) × ((rows ≡ rows_of t) × (length rows ≤ limit))
+
+-- Under the campaign's name a paving of the system by the settings is kept, or nothing is yet. All rounds together keep its
+-- settled nodes within the limit.
+pub record HasCampaign (before : Files) (u : Stock) (system : Text) (s : Settings) (limit boxes : ℕ) (rounds : Rounds) : Type 0 where
+  pub rule : Method
+  pub read : HasRule before system s rule
+  pub opening : Tree
+  pub paving : IsPavingInFormat (search_box rule) opening
+  pub kept : KeepsRowsOf limit (u.kept rounds.name.now) (identity_of rule) opening
+  pub room : settled_in opening + rounds.count * boxes ≤ limit
+
+-- Nothing that is asked for is at fault: the file's text means a system, the settings give a rule for it, and the other files,
+-- texts and rows are right for that.
+abbrev pub IsRight : Files → Stock → Request → Type 0
+IsRight before u (Check system) = (s : Parts) × HasSystem before system.now s
+IsRight before u (Run system settings effort out) = (rule : Method) × HasRule before system.now settings rule
+IsRight before u (Resume system pavings settings effort share out) = AreJoinable before system.now (names_in pavings.items) settings effort.limit effort.boxes
+IsRight before u (Merge system pavings settings limit out) = AreJoinable before system.now (names_in pavings.items) settings limit 0
+IsRight before u (Audit system paving settings limit workers) = HoldsStageOf before system.now paving.now settings limit
+IsRight before u (Svg system paving settings limit view) = HasPicture before system.now paving.now settings limit view
+IsRight before u (Sample circles) = Unit {0}
+IsRight before u (Least system settings search) = HasObjective before system.now settings search.of.now
+IsRight before u (Campaign system settings effort rounds) = HasCampaign before u system.now settings effort.limit effort.boxes rounds
 
 -- ---- What comes of it
 
@@ -90,12 +111,13 @@ pub data IsOutsideFault (before after : Outside) (status : Status) : Type 0 wher
   not_read : status ≡ ReadFault → Rose before.files.fetch_faults after.files.fetch_faults → IsOutsideFault before after status
   not_stored : status ≡ WriteFault → Rose before.files.store_faults after.files.store_faults → IsOutsideFault before after status
   not_printed : status ≡ WriteFault → Rose before.out.faults after.out.faults → IsOutsideFault before after status
+  not_kept : status ≡ KeeperFault → Rose before.stock.faults after.stock.faults → IsOutsideFault before after status
 
 -- Where words ask for something and nothing of that is at fault, the status is 0 or 1; or memory or the machine failed.
 abbrev pub RightIsAnswered : Type 0
 RightIsAnswered =
     (words : List Text) (before after : Outside) (status : Status) (q : Request) → AreTold before.files → Asks words q
-    → ((r : Request) → Asks words r → IsRight before.files r) → IsEnd words before after status
+    → ((r : Request) → Asks words r → IsRight before.files before.stock r) → IsEnd words before after status
     → IsAnswer status ⊎ IsOutsideFault before after status
 
 -- ---- What an audit finds

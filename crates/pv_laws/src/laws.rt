@@ -29,6 +29,8 @@ ghost use Rattle.pv_laws.specs.StatusLaws.{
   UsageIsOfWords,
 };
 
+use pv_keep::laws::rows_make_their_paving;
+
 /// What `merge` makes of files depends neither on their order nor on repeats: over the same files
 /// two commands for the same join print and store the same bytes, and end with the same status.
 pub fn merges_alike()
@@ -67,14 +69,17 @@ pub fn stored_is_wanted()
 
 /// Nothing at fault means an answer. Where the text means a system, the settings give a rule for it,
 /// each file holds a paving by that rule within the limit, those of `resume` and `merge` agree and
-/// have room, that of `audit` is a stage, the plane of `svg` is one of the system and the text of
-/// `least` an expression, the status is 0 or 1; or there was no memory, or a read, a store or a write
-/// failed in this call. Where the paving of `audit` may be no stage, the status says whether it is
-/// one. Nothing is said of `campaign`.
+/// their join leaves room for the budget, that of `audit` is a stage, the plane of `svg` is one of
+/// the system, the text of `least` is an expression, and the rows of `campaign` are those of a paving
+/// that leaves room for its rounds, the status is 0 or 1; or there was no memory, or a read, a store,
+/// a write or the keeper failed in this call. Where the paving of `audit` need be no stage, the
+/// status says whether it is one.
 pub fn right_is_answered()
     ensures right { RightIsAnswered }
     ensures audited { PavingIsAudited }
-{}
+{
+    rows_make_their_paving();
+}
 
 /// With status 0 no leaf is open: what was printed and stored is of the full tree. Of a share none is
 /// open at or below it, and what stands there is that of the full tree. Of `least` no leaf is open in
