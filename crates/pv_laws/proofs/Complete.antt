@@ -1,5 +1,5 @@
 -- Each refusal has a cause, and where nothing is at fault there is none but memory and the machine.
-use Rattle.std.proofs.Common.{◌≡◌, ◌⊎◌, inl, inr, ℕ, ◌+◌, ◌*◌, ◌≤◌, ◌<◌, Bool, true, false, List, [], ◌∷◌, ◌++◌, length, map, refl, sym, ◌∙◌, ap, subst, arith, AllPairs, get_or, slice_get}
+use Rattle.std.proofs.Common.{◌≡◌, ◌⊎◌, inl, inr, ℕ, ◌+◌, ◌<◌, Bool, true, false, List, [], ◌∷◌, ◌++◌, length, map, refl, sym, ◌∙◌, ap, subst, arith, AllPairs, get_or, slice_get}
 use Rattle.std.specs.Prelude.{◌≢◌, Option, Some, None}
 use Rattle.std.specs.Borrow.{Bor}
 use Rattle.std.proofs.lemmas.Bool.{cases_order}
@@ -29,7 +29,6 @@ use Rattle.pv_ctc.proofs.Spelled.{spelling_right, apart}
 use Rattle.pv_slope.specs.Methods.{Method, settle_by, identity_of}
 use Rattle.pv_tree.specs.Trees.{Tree, leaf, outcome_at}
 use Rattle.pv_tree.specs.Stages.{IsStage}
-use Rattle.pv_tree.specs.declared.outcome.Outcome.{Outcome}
 use Rattle.pv_io.specs.Outside.{Content, Rose, untold, absent, holds, IsWhole, MayBeAbsent}
 use Rattle.pv_file.specs.Lengths.{length_limit}
 use Rattle.pv_file.specs.Readings.{IsPavingInFormat}
@@ -53,21 +52,19 @@ use Rattle.pv_product.specs.Campaigns.{Stock, campaign_refusal, RefusesRounds, R
 use Rattle.pv_product.specs.Files.{HoldsPaving, HasPaving, HavePavings, RefusesPaving, RefusesPavings, AnyTree, IsJoinOf, IsDisagreement, RefusesJoin, RefusesOpening}
 use Rattle.pv_product.specs.Leasts.{RefusesLeast}
 use Rattle.pv_product.specs.Views.{IsAxis, HasNoAxis, unknown, unbounded, IsPlaneOf, HasNoPlane, no_x, no_y, same as same_name, other_count}
-use Rattle.pv_product.specs.Products.{Product, text, unfinished, paved_as, HasStatus, ComesOf, ComesOfAudit, IsOverLimit, RefusesJoined, HasDifference, HasBadPaving, RefusesAudit, HasNoPicture, RefusesSvg, RefusesSample, RefusesWork}
-use Rattle.pv_product.specs.Ends.{Outside, RefusesDelivery, IsRefused, IsRefusedSo, in_words, in_request, Tells}
+use Rattle.pv_product.specs.Products.{Product, text, unfinished, paved_as, HasStatus, ComesOf, ComesOfAudit, IsOverLimit, RefusesJoined, HasBadPaving, RefusesAudit, HasNoPicture, RefusesSvg, RefusesSample, RefusesWork}
+use Rattle.pv_product.specs.Ends.{Outside, RefusesDelivery, IsRefusedSo, in_words, in_request, Tells}
 use Rattle.pv_laws.specs.Merges.{IsTree, AreSameSettings, AreTold}
 use Rattle.pv_laws.specs.Stored.{IsAnswer}
-use Rattle.pv_laws.specs.Complete.{AllAgree, AreJoinable, HoldsPavingOf, IsOfStage, HoldsStageOf, HasPicture, HasObjective, KeepsRowsOf, HasCampaign, IsRight, IsOutsideFault, no_memory, not_read, not_stored, not_printed, not_kept, RightIsAnswered, IsAuditable, HasVerdict, IsVerdictOn, IsAudited, PavingIsAudited}
+use Rattle.pv_laws.specs.Complete.{AllAgree, AreJoinable, HoldsPavingOf, HoldsStageOf, HasPicture, HasObjective, KeepsRowsOf, HasCampaign, IsRight, IsOutsideFault, no_memory, not_read, not_stored, not_printed, not_kept, RightIsAnswered, IsAuditable, HasVerdict, IsVerdictOn, IsAudited, PavingIsAudited}
 use Rattle.pv_request.specs.declared.request.Settings.{Settings}
 use Rattle.pv_request.specs.declared.request.View.{View}
 use Rattle.pv_request.specs.declared.request.Rounds.{Rounds}
 use Rattle.pv_request.specs.declared.request.Request.{Request}
 use Rattle.pv_request.specs.declared.request.Request.TheVariants.{Check, Run, Resume, Merge, Audit, Svg, Sample, Least, Campaign}
-use Rattle.pv_request.specs.declared.refusal.FileFault.{FileFault}
 use Rattle.pv_request.specs.declared.refusal.Refusal.{Refusal}
 use Rattle.pv_request.specs.declared.refusal.Refusal.TheVariants.{Usage, System, Contract, Objective, NoFile, ReadFault, Paving, NotStored, KeeperFault, NotPrinted, Memory, TreeLimit, Disagree, Differs}
 use Rattle.pv_request.specs.declared.status.Status.{Status}
-use Rattle.pv_request.specs.declared.status.Status.TheVariants as status
 use Rattle.pv_opening.proofs.Joined.{any_left, any_right}
 use Rattle.pv_laws.proofs.Merges.{AreSameRules, same_fetched, same_held}
 use Rattle.pv_laws.proofs.Headline.{AreOneRule, few_constraints, read_one_rule}
