@@ -5,7 +5,7 @@
 
 at the top of the repository. It works by the kit's own rtlib, so what it leaves in each out/ is what `rt check` and `rt run`
 take up. Unlike `rt all check` it proves no crate of tests or measurements, and makes no quick pass over all crates first.
-What a check says stands in its crate's out/prove.log. Status 0: all are proved. 1: one is not, and the end of its log is
+What a check says stands in its crate's out/prove.log. Edit nothing while it runs. Status 0: all are proved. 1: one is not, and the end of its log is
 shown. 3: this kit has no rtlib that is known here, and nothing was done.
 """
 import argparse
@@ -37,6 +37,18 @@ def kit() -> Any:
     spec.loader.exec_module(module)
     known = all(hasattr(module, name) for name in CALLS) and hasattr(module.Crate, "is_built")
     return module if known and [*inspect.signature(module.Crate.build_rlib).parameters] == ["self", "flags", "anew"] else None
+
+
+def remember_stamps(rtlib: Any) -> None:
+    """Works the stamp of each crate out once: rtlib asks those below again for each crate above, twice as often a level."""
+    plain, known = rtlib.Crate.stamp, {}
+
+    def stamp(crate: Any) -> str:
+        if crate not in known:
+            known[crate] = plain(crate)
+        return str(known[crate])
+
+    rtlib.Crate.stamp = stamp
 
 
 def lines_of(rtlib: Any, crate: Any) -> int:
@@ -134,6 +146,7 @@ def main() -> int:
         return 3
     signal.signal(signal.SIGINT, signal.SIG_DFL)
     rtlib.guarded()  # what is started ends with this process
+    remember_stamps(rtlib)
     crates = {crate.name: crate for crate in rtlib.crates_below(os.getcwd())}
     if given.crate not in crates:
         words.error(f"crates.txt lists no crate {given.crate}")

@@ -1,12 +1,15 @@
 //! `campaign`: a paving that is kept between rounds under a name.
-ghost use Rattle.std.specs.Prelude.{◌≡◌, ◌*◌, IfOk, IfErr, length};
-ghost use Rattle.pv_slope.specs.Methods.{method_of, dims_of};
+ghost use Rattle.std.specs.Prelude.{◌≡◌, ◌≢◌, ◌*◌, ◌≤◌, List, ℕ, IfOk, IfErr, IsErrOf, length};
+ghost use Rattle.pv_io.specs.Outside.{Rose};
+ghost use Rattle.pv_rounds.specs.Holding.{IsHeld, RefusesHold};
+ghost use Rattle.pv_slope.specs.Methods.{method_of, dims_of, settle_by};
 ghost use Rattle.pv_rule.specs.Systems.{files, AreOnlyRead, search_box};
 ghost use Rattle.pv_product.specs.Campaigns.{stock, AreOthersStocked, RefusesRounds, RefusesCampaign, campaign_refusal, is_done};
 ghost use Rattle.pv_product.specs.Products.{ComesOfCampaign, ComesOfRounds, LearnsHeld, report_as, summary_of};
 ghost use Rattle.pv_product.specs.Made.{made};
 ghost use Rattle.pv_tree.specs.Trees.{counts_of};
 
+use pv_box::IBox;
 use pv_honest::learn_honest;
 use pv_io::Folder;
 use pv_keep::{Campaign, Keeper};
@@ -96,7 +99,7 @@ fn gone_on<'a, P: Keeper, G: Gate + Sync, R: Threads + Wait + Sync>(
         order: effort.order,
         limit: effort.limit,
     };
-    let held = hold(
+    let held = hold_by_form(
         rt,
         alloc,
         settler,
@@ -111,6 +114,39 @@ fn gone_on<'a, P: Keeper, G: Gate + Sync, R: Threads + Wait + Sync>(
         Ok(campaign) => Ok(reported(alloc, settler, &campaign)?),
         Err(refused) => Err(refusal_by(rounds.name, refused)),
     }
+}
+
+// The rounds of a campaign by the settler of a system, of which nothing else is at hand.
+fn hold_by_form<P: Keeper, G: Gate + Sync, R: Threads + Wait + Sync>(
+    rt: &R,
+    alloc: Global,
+    settler: &FormSettler,
+    keeper: &mut P,
+    name: &str,
+    identity: [u8; 32],
+    root: IBox,
+    plan: &Plan,
+    gate: &G,
+) -> Result<Campaign, HoldRefused>
+    requires dims { length root ≡ dims_of (method_of settler.now) }
+    ensures root { IfOk result (λ c. c.root ≡ root) }
+    ensures held { IfOk result (λ c.
+        IsHeld plan.now.limit (settle_by (method_of settler.now))
+        (method_of settler.now).parts.depth root plan.now.order identity
+        (plan.now.count * plan.now.boxes)
+        (P.kept keeper.old name.now) (P.kept keeper.new name.now) c.tree) }
+    ensures refused { IfErr result
+        (RefusesHold plan.now.limit (settle_by (method_of settler.now))
+        (method_of settler.now).parts.depth root plan.now.order identity
+        plan.now.boxes plan.now.count
+        (P.kept keeper.old name.now) (P.kept keeper.new name.now)) }
+    ensures others { (other : List ℕ)
+        → other ≢ name.now → P.kept keeper.new other ≡ P.kept keeper.old other }
+    ensures cause { IsErrOf result HoldRefused.Failed
+        → Rose (P.faults keeper.old) (P.faults keeper.new) }
+    ensures counts_on { P.faults keeper.old ≤ P.faults keeper.new }
+{
+    hold(rt, alloc, settler, keeper, name, identity, root, plan, gate)
 }
 
 // The summary of a campaign, which was cut short unless no leaf is open.
