@@ -87,14 +87,14 @@ where
     requires dims { length root ≡ S.dims settler.now }
     ensures root { IfOk result (λ c. c.root ≡ root) }
     ensures held { IfOk result (λ c.
-        IsHeld plan.now.limit (S.settle_of settler.now) (S.depth_of settler.now) root plan.now.order
+        IsHeld plan.now.budget.limit (S.settle_of settler.now) (S.depth_of settler.now) root plan.now.order
         identity
-        (plan.now.count * plan.now.boxes)
+        (plan.now.count * plan.now.budget.nodes)
         (P.kept keeper.old name.now) (P.kept keeper.new name.now) c.tree) }
     ensures refused { IfErr result
-        (RefusesHold plan.now.limit (S.settle_of settler.now) (S.depth_of settler.now) root
+        (RefusesHold plan.now.budget.limit (S.settle_of settler.now) (S.depth_of settler.now) root
         plan.now.order identity
-        plan.now.boxes plan.now.count
+        plan.now.budget.nodes plan.now.count
         (P.kept keeper.old name.now) (P.kept keeper.new name.now)) }
     ensures others { (other : List ℕ)
         → other ≢ name.now → P.kept keeper.new other ≡ P.kept keeper.old other }
@@ -102,8 +102,16 @@ where
         → Rose (P.faults keeper.old) (P.faults keeper.new) }
     ensures counts_on { P.faults keeper.old ≤ P.faults keeper.new }
 {
-    let budget = plan.budget();
-    let mut campaign = match opened(alloc, keeper, name, identity, root, budget, plan.limit) {
+    let budget = plan.nodes();
+    let mut campaign = match opened(
+        alloc,
+        keeper,
+        name,
+        identity,
+        root,
+        budget,
+        plan.budget.limit,
+    ) {
         Ok(campaign) => campaign,
         Err(refused) => return Err(refused),
     };

@@ -29,6 +29,7 @@ use pv_rule::settler_for;
 use pv_scope::Order;
 use pv_slope::{Form, FormSettler};
 use pv_tree::{NodeLimit, Paving};
+use pv_workers::Budget;
 use sha2::{Digest, Sha256};
 use std::alloc::Global;
 use std::sync::Wait;
@@ -71,11 +72,14 @@ fn reported<G: Gate + Sync, R: Threads + Wait + Sync>(
 {
     let identity = settler.identity(alloc)?;
     // A tree of at most 14 cuts on a path has fewer nodes.
-    let effort = Effort {
+    let budget = Budget {
+        nodes: 100_000,
         limit: NodeLimit::DEFAULT,
         workers: 4,
+    };
+    let effort = Effort {
+        budget,
         order: Order::Depth,
-        boxes: 100_000,
     };
     let root = settler.search_box(alloc)?;
     let paving = paved(rt, alloc, settler, root, &effort, gate)?;

@@ -3,6 +3,7 @@
 #![tactic(auto)]
 
 mod account;
+mod budget;
 mod crew;
 mod growing;
 mod kit;
@@ -13,4 +14,5 @@ mod ruled;
 mod stage;
 mod task;
 
+pub use budget::Budget;
 pub use paving::{Paved, pave, pave_knowing};

@@ -1,6 +1,6 @@
 use Rattle.std.proofs.Common.{◌<◌, sym, ◌∙◌, subst}
 use Rattle.pv_workers.proofs.Counts.{Served, served, each_below}
-use Rattle.pv_workers.proofs.paving.worked.Goals as goal
+use Rattle.pv_workers.proofs.paving.run_crew.Goals as goal
 
 pub run_workers-requires-clause-room : goal.run_workers-requires-clause-room
 run_workers-requires-clause-room g c κs within = λ i t l.
