@@ -10,7 +10,7 @@ ghost use Rattle.pv_board.specs.declared.told.TheConstants.{MOST_TICKET_NODES};
 use crate::account::Account;
 use crate::kit::Kit;
 use crate::ruled::Ruled;
-use crate::stage::stage_at;
+use crate::stage::Stager;
 use crate::task::{Parts, Task, hand_out};
 use pv_board::{Look, MOST_GRANT, Naming, Settled, Shared, Ticket, Told};
 use pv_box::IBox;
@@ -195,17 +195,15 @@ impl<'a, N: Naming, S: KnowingSettler, G: Gate> Crew<'a, N, S, G> {
         } = parts;
         let path = ticket.path();
         let most = most_of(ticket.grant(), left, self.workers);
-        match stage_at(
-            self.alloc,
+        let stager = Stager {
+            alloc: self.alloc,
             ruled,
-            self.shared,
-            self.gate,
+            shared: self.shared,
+            gate: self.gate,
             worker,
-            path,
-            known,
-            most,
-            kit,
-        ) {
+            at: path,
+        };
+        match stager.grow(known, most, kit) {
             Ok(stage) => {
                 let tickets = &mut kit.tickets;
                 let leaves = kit.leaves.as_slice();
