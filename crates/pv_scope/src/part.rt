@@ -24,14 +24,23 @@ pub(crate) struct Came {
     pub(crate) done: bool,
 }
 
+/// An open leaf, and how far below it is settled.
+#[derive(Clone, Copy)]
+pub(crate) struct Reach {
+    /// The leaf's path.
+    pub(crate) at: Path,
+    /// Leaves are settled whose path has fewer steps.
+    pub(crate) steps: u32,
+}
+
 #[derive(Drop)]
 struct Part {
     stage: Paving,
     came: Came,
 }
 
-/// Settles an open leaf and what is below it, each time the first open leaf whose path has fewer
-/// than `steps` steps, until there is none or `most` are settled.
+/// Settles an open leaf and what is below it, each time the first open leaf within the reach, until
+/// there is none or `most` are settled.
 ///
 /// # Errors
 ///
@@ -41,12 +50,11 @@ pub(crate) fn settle_at<S: KnowingSettler, G: Gate>(
     settler: &S,
     gate: &G,
     paving: &mut Paving,
-    path: Path,
-    steps: u32,
+    reach: Reach,
     most: u64,
     kit: &mut Kit<S>,
 ) -> Result<Came, Memory>
-    requires open { subtree paving.old.tree path ≡ Some leaf }
+    requires open { subtree paving.old.tree reach.at ≡ Some leaf }
     requires dims { length paving.old.root ≡ S.dims settler.now }
     requires scratch { length kit.old.scratch ≡ S.dims settler.now }
     ensures root { paving.new.root ≡ paving.old.root }
@@ -58,36 +66,35 @@ pub(crate) fn settle_at<S: KnowingSettler, G: Gate>(
         → IsStage (S.settle_of settler.now)
         (S.depth_of settler.now) paving.new.root opening paving.new.tree) }
     ensures grown { IfOk result (λ came.
-        IsGrownAt paving.old.tree paving.new.tree path steps most came.settled came.done) }
+        IsGrownAt paving.old.tree paving.new.tree reach.at reach.steps most came.settled came.done) }
 {
     let _places = paving.dims();
-    paving.box_at(path, &mut kit.scratch);
+    paving.box_at(reach.at, &mut kit.scratch);
     let _sides = kit.scratch.dims();
-    let _steps = path.len();
-    let part = grow_at(alloc, settler, gate, path, steps, most, kit)?;
+    let _steps = reach.at.len();
+    let part = grow_at(alloc, settler, gate, reach, most, kit)?;
     paving.reserve(part.came.settled)?;
-    paving.graft(path, &part.stage);
+    paving.graft(reach.at, &part.stage);
     Ok(part.came)
 }
 
-// Grows a stage of the box in `kit.scratch`, which is that of the leaf at a path.
+// Grows a stage of the box in `kit.scratch`, which is that of the leaf.
 fn grow_at<S: KnowingSettler, G: Gate>(
     alloc: Global,
     settler: &S,
     gate: &G,
-    at: Path,
-    steps: u32,
+    reach: Reach,
     most: u64,
     kit: &mut Kit<S>,
 ) -> Result<Part, Memory>
     requires scratch { length kit.old.scratch ≡ S.dims settler.now }
     ensures root { IfOk result (λ p. p.stage.root ≡ kit.old.scratch) }
     ensures stage { IfOk result (λ p. IsStageBelow (S.settle_of settler.now)
-        (S.depth_of settler.now) kit.old.scratch (length at) p.stage.tree) }
+        (S.depth_of settler.now) kit.old.scratch (length reach.at) p.stage.tree) }
     ensures count { IfOk result (λ p. settled_in p.stage.tree ≡ p.came.settled) }
-    ensures short { IfOk result (λ p. AreShort steps (length at) p.stage.tree) }
+    ensures short { IfOk result (λ p. AreShort reach.steps (length reach.at) p.stage.tree) }
     ensures grown { IfOk result (λ p.
-        IsGrown steps (length at) most p.came.settled p.came.done p.stage.tree) }
+        IsGrown reach.steps (length reach.at) most p.came.settled p.came.done p.stage.tree) }
     ensures scratch { length kit.new.scratch ≡ S.dims settler.now }
 {
     let mut growth = Growth::open(alloc, kit.scratch.clone_of(alloc)?)?;
@@ -95,7 +102,7 @@ fn grow_at<S: KnowingSettler, G: Gate>(
     kit.facts.clear();
     kit.facts.push(settler.nothing())?;
     for settled in 0..most {
-        let Some(path) = next_short(settler, &mut growth, at, steps, kit) else {
+        let Some(path) = next_short(settler, &mut growth, reach, kit) else {
             return Ok(Part {
                 stage: growth.finish(),
                 came: Came {
@@ -104,9 +111,9 @@ fn grow_at<S: KnowingSettler, G: Gate>(
                 },
             });
         };
-        settle_next(alloc, settler, gate, at, path, steps, &mut growth, kit)?;
+        settle_next(alloc, settler, gate, reach, path, &mut growth, kit)?;
     }
-    let done = next_short(settler, &mut growth, at, steps, kit).is_none();
+    let done = next_short(settler, &mut growth, reach, kit).is_none();
     Ok(Part {
         stage: growth.finish(),
         came: Came {
@@ -120,25 +127,24 @@ fn grow_at<S: KnowingSettler, G: Gate>(
 fn next_short<S: KnowingSettler>(
     _settler: &S,
     growth: &mut Growth,
-    at: Path,
-    steps: u32,
+    reach: Reach,
     kit: &mut Kit<S>,
 ) -> Option<Path>
-    requires to_come { AreToCome steps (length at) growth.old }
+    requires to_come { AreToCome reach.steps (length reach.at) growth.old }
     requires facts { AreKnown (S.knows _settler.now)
         (reverse kit.old.facts.items) growth.old.holes }
     ensures root { growth.new.root ≡ growth.old.root }
     ensures tree { growth.new.tree ≡ growth.old.tree }
     ensures next { IfSome result (λ p. IsNext growth.new p) }
-    ensures short { IfSome result (λ p. length at + length p < steps) }
-    ensures none { result ≡ None → AreLong steps (length at) growth.new.tree }
-    ensures to_come { AreToCome steps (length at) growth.new }
+    ensures short { IfSome result (λ p. length reach.at + length p < reach.steps) }
+    ensures none { result ≡ None → AreLong reach.steps (length reach.at) growth.new.tree }
+    ensures to_come { AreToCome reach.steps (length reach.at) growth.new }
     ensures facts { AreKnown (S.knows _settler.now)
         (reverse kit.new.facts.items) growth.new.holes }
     ensures scratch { kit.new.scratch ≡ kit.old.scratch }
 {
     while let Some(path) = growth.next_leaf() {
-        if at.len() + path.len() < steps {
+        if reach.at.len() + path.len() < reach.steps {
             return Some(path);
         }
         growth.pass();
@@ -154,35 +160,34 @@ fn settle_next<S: KnowingSettler, G: Gate>(
     alloc: Global,
     settler: &S,
     gate: &G,
-    at: Path,
+    reach: Reach,
     path: Path,
-    steps: u32,
     growth: &mut Growth,
     kit: &mut Kit<S>,
 ) -> Result<(), Memory>
     requires next { IsNext growth.old path }
-    requires few { length at + length path < steps }
+    requires few { length reach.at + length path < reach.steps }
     requires dims { length growth.old.root ≡ S.dims settler.now }
     requires stage { IsStageBelow (S.settle_of settler.now)
-        (S.depth_of settler.now) growth.old.root (length at) growth.old.tree }
+        (S.depth_of settler.now) growth.old.root (length reach.at) growth.old.tree }
     requires facts { AreKnown (S.knows settler.now)
         (reverse kit.old.facts.items) growth.old.holes }
-    requires to_come { AreToCome steps (length at) growth.old }
-    requires short { AreShort steps (length at) growth.old.tree }
+    requires to_come { AreToCome reach.steps (length reach.at) growth.old }
+    requires short { AreShort reach.steps (length reach.at) growth.old.tree }
     requires scratch { length kit.old.scratch ≡ S.dims settler.now }
     ensures root { growth.new.root ≡ growth.old.root }
     ensures stage { OnOk result (IsStageBelow (S.settle_of settler.now)
-        (S.depth_of settler.now) growth.new.root (length at) growth.new.tree) }
+        (S.depth_of settler.now) growth.new.root (length reach.at) growth.new.tree) }
     ensures more { OnOk result (settled_in growth.new.tree ≡ settled_in growth.old.tree + 1) }
     ensures facts { OnOk result (AreKnown (S.knows settler.now)
         (reverse kit.new.facts.items) growth.new.holes) }
-    ensures to_come { OnOk result (AreToCome steps (length at) growth.new) }
-    ensures short { OnOk result (AreShort steps (length at) growth.new.tree) }
+    ensures to_come { OnOk result (AreToCome reach.steps (length reach.at) growth.new) }
+    ensures short { OnOk result (AreShort reach.steps (length reach.at) growth.new.tree) }
     ensures scratch { length kit.new.scratch ≡ S.dims settler.now }
 {
     let _places = growth.dims();
-    let _steps = at.len();
-    let whole = at.then(path);
+    let _steps = reach.at.len();
+    let whole = reach.at.then(path);
     gate.enter(0, whole);
     growth.write_box(&mut kit.scratch);
     let Some(known) = kit.facts.pop() else {

@@ -7,7 +7,7 @@ ghost use Rattle.pv_scope.specs.Settlings.{IsEnded, IsSettled};
 
 use crate::kit::Kit;
 use crate::leaves::leaves_in;
-use crate::part::{Came, settle_at};
+use crate::part::{Came, Reach, settle_at};
 use crate::scope::Scope;
 use pv_num::Memory;
 use pv_pool::Gate;
@@ -53,7 +53,8 @@ pub(crate) fn settle_scope<S: KnowingSettler, G: Gate>(
     let mut settled = 0u64;
     while let Some(path) = leaves.pop() {
         let left = budget - settled;
-        let came = settle_at(alloc, settler, gate, paving, path, steps, left, kit)?;
+        let reach = Reach { at: path, steps };
+        let came = settle_at(alloc, settler, gate, paving, reach, left, kit)?;
         settled += came.settled;
         if !came.done {
             return Ok(Came {
