@@ -15,7 +15,7 @@ use pv_pool::Gate;
 use pv_product::summary::summary;
 use pv_product::{Product, is_closed, told};
 use pv_request::{Effort, FileFault, Refusal, Rounds, Settings};
-use pv_rounds::{HoldRefused, Plan, hold, learn_rounds};
+use pv_rounds::{HoldRefused, Plan, Subject, learn_rounds, run_rounds};
 use pv_rule::settler_in;
 use pv_slope::FormSettler;
 use pv_tree::Paving;
@@ -60,11 +60,11 @@ pub fn campaign<'a, F: Folder, P: Keeper, G: Gate + Sync, R: Threads + Wait + Sy
         Ok(settler) => settler,
         Err(refusal) => return Err(refusal),
     };
-    gone_on(rt, alloc, &settler, keeper, effort, rounds, gate)
+    continue_campaign(rt, alloc, &settler, keeper, effort, rounds, gate)
 }
 
 // What the rounds make of what is kept of a settler's paving.
-fn gone_on<'a, P: Keeper, G: Gate + Sync, R: Threads + Wait + Sync>(
+fn continue_campaign<'a, P: Keeper, G: Gate + Sync, R: Threads + Wait + Sync>(
     rt: &R,
     alloc: Global,
     settler: &FormSettler,
@@ -94,18 +94,13 @@ fn gone_on<'a, P: Keeper, G: Gate + Sync, R: Threads + Wait + Sync>(
         budget: effort.budget,
         order: effort.order,
     };
-    let held = hold(
-        rt,
-        alloc,
-        settler,
-        keeper,
-        rounds.name,
+    let subject = Subject {
+        name: rounds.name,
         identity,
         root,
-        &plan,
-        gate,
-    );
-    match held {
+    };
+    let kept = run_rounds(rt, alloc, settler, keeper, subject, &plan, gate);
+    match kept {
         Ok(campaign) => Ok(reported(alloc, settler, &campaign)?),
         Err(refused) => Err(refusal_by(rounds.name, refused)),
     }

@@ -35,8 +35,8 @@ pub(crate) struct Stager<'a, N: Naming, S: KnowingSettler, G: Gate> {
 }
 
 impl<'a, N: Naming, S: KnowingSettler, G: Gate> Stager<'a, N, S, G> {
-    /// Settles up to `most` nodes of the box in `kit.scratch`, which is that of the leaf, each
-    /// time the first open leaf; fewer where another worker has nothing to do. What is known of a box is
+    /// Settles up to `most` nodes of the box in `kit.scratch`, which is that of the leaf, each time
+    /// the first open leaf; fewer where another worker has nothing to do. What is known of a box is
     /// handed to its halves. The paths of the stage's open leaves from the root of all are left in
     /// `kit.leaves`, and what is known of them in `kit.facts`, that of the first one last.
     ///
@@ -60,7 +60,8 @@ impl<'a, N: Naming, S: KnowingSettler, G: Gate> Stager<'a, N, S, G> {
         ensures leaves { IfOk result (λ p. kit.new.leaves.items ≡ leaves_at self.now.at p.tree) }
         ensures few_leaves { IfOk result (λ _. vec_len kit.new.leaves ≤ MOST_BATCH) }
         ensures facts { IfOk result (λ p. AreFacts (S.knows self.now.ruled.now.settler.now)
-            (box_of kit.old.scratch (full_of N.rule N.depth kit.old.scratch leaf (length self.now.at)))
+            (box_of kit.old.scratch
+            (full_of N.rule N.depth kit.old.scratch leaf (length self.now.at)))
             (opens p.tree) (reverse kit.new.facts.items)) }
         ensures places { length kit.new.scratch ≡ N.dims }
         ensures tickets { kit.new.tickets ≡ kit.old.tickets }
