@@ -47,14 +47,16 @@ pub fn campaign<'a, F: Folder, P: Keeper, G: Gate + Sync, R: Threads + Wait + Sy
         (files (F.content folder.old) (F.fetch_faults folder.old) (F.store_faults folder.old))
         (stock (P.kept keeper.old) (P.faults keeper.old))
         (stock (P.kept keeper.new) (P.faults keeper.new))
-        system.now settings.now effort.now.budget.limit effort.now.order effort.now.budget.nodes rounds.now (made p)) }
+        system.now settings.now effort.now.budget.limit effort.now.order effort.now.budget.nodes
+        rounds.now (made p)) }
     ensures refused { IfErr result
         (RefusesCampaign
         (files (F.content folder.old) (F.fetch_faults folder.old) (F.store_faults folder.old))
         (files (F.content folder.new) (F.fetch_faults folder.new) (F.store_faults folder.new))
         (stock (P.kept keeper.old) (P.faults keeper.old))
         (stock (P.kept keeper.new) (P.faults keeper.new))
-        system.now settings.now effort.now.budget.limit effort.now.order effort.now.budget.nodes rounds.now) }
+        system.now settings.now effort.now.budget.limit effort.now.order effort.now.budget.nodes
+        rounds.now) }
 {
     let settler = match settler_in(alloc, folder, system, settings) {
         Ok(settler) => settler,

@@ -46,7 +46,8 @@ pub fn resume<'a, F: Folder, G: Gate + Sync, R: Threads + Wait + Sync>(
         (RefusesJoined
         (files (F.content folder.old) (F.fetch_faults folder.old) (F.store_faults folder.old))
         (files (F.content folder.new) (F.fetch_faults folder.new) (F.store_faults folder.new))
-        system.now (names_in names.now) settings.now effort.now.budget.limit effort.now.budget.nodes) }
+        system.now (names_in names.now) settings.now effort.now.budget.limit
+        effort.now.budget.nodes) }
 {
     let opening = match opening_in(alloc, folder, system, names, settings, effort.budget.limit) {
         Ok(opening) => opening,
@@ -71,7 +72,8 @@ fn resumed<G: Gate + Sync, R: Threads + Wait + Sync>(
 ) -> Result<Product, Memory>
     requires root { opening.paving.root ≡ search_box (method_of opening.settler) }
     requires dims { length opening.paving.root ≡ dims_of (method_of opening.settler) }
-    requires limit { settled_in opening.paving.tree + effort.now.budget.nodes ≤ effort.now.budget.limit }
+    requires limit { settled_in opening.paving.tree + effort.now.budget.nodes ≤
+        effort.now.budget.limit }
     ensures { IfOk result
         (λ p. GivesResumed (method_of opening.settler) opening.paving.tree effort.now.order
         effort.now.budget.nodes share (made p)) }
@@ -108,7 +110,8 @@ fn go_on<G: Gate + Sync, R: Threads + Wait + Sync>(
     requires limit { settled_in opening.tree + effort.now.budget.nodes ≤ effort.now.budget.limit }
     ensures root { IfOk result (λ p. p.root ≡ search_box (method_of settler.now)) }
     ensures resumed { IfOk result
-        (λ p. IsResumed (method_of settler.now) opening.tree effort.now.order effort.now.budget.nodes
+        (λ p. IsResumed (method_of settler.now) opening.tree effort.now.order
+        effort.now.budget.nodes
         p.tree) }
 {
     let paving = pave_in_order(

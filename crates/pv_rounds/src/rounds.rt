@@ -54,7 +54,8 @@ where
     S::Known: Send,
     requires dims { length campaign.old.root ≡ S.dims settler.now }
     requires limit { campaign.old.limit ≡ plan.now.budget.limit }
-    requires few { settled_in campaign.old.tree + plan.now.count * plan.now.budget.nodes ≤ plan.now.budget.limit }
+    requires few { settled_in campaign.old.tree + plan.now.count * plan.now.budget.nodes ≤
+        plan.now.budget.limit }
     requires begun { IsSome (P.begun keeper.old) }
     requires kept { (name : List ℕ) → P.begun keeper.old ≡ Some name
         → KeepsTree (P.kept keeper.old name) campaign.old.tree }
@@ -62,11 +63,13 @@ where
     ensures limit { campaign.new.limit ≡ campaign.old.limit }
     ensures gone { (name : List ℕ) → P.begun keeper.old ≡ Some name → OnOk result
         (HasGoneOn (S.settle_of settler.now) (S.depth_of settler.now) campaign.old.root
-        plan.now.order campaign.old.tree (plan.now.count * plan.now.budget.nodes) (P.kept keeper.old name)
+        plan.now.order campaign.old.tree (plan.now.count * plan.now.budget.nodes)
+        (P.kept keeper.old name)
         (P.kept keeper.new name) campaign.new.tree) }
     ensures stopped { (name : List ℕ) → P.begun keeper.old ≡ Some name → OnErr result
         (HasStopped (S.settle_of settler.now) (S.depth_of settler.now) campaign.old.root
-        plan.now.order campaign.old.tree plan.now.budget.nodes plan.now.count (P.kept keeper.old name)
+        plan.now.order campaign.old.tree plan.now.budget.nodes plan.now.count
+        (P.kept keeper.old name)
         (P.kept keeper.new name)) }
     ensures cause { IsErrOf result IoRefused.Failed
         → Rose (P.faults keeper.old) (P.faults keeper.new) }

@@ -70,7 +70,8 @@ where
     requires { length root ≡ S.dims settler.now }
     ensures root { IfOk result (λ p. p.root ≡ root) }
     ensures paved { IfOk result
-        (λ p. IsPaved (S.settle_of settler.now) (S.depth_of settler.now) root leaf effort.now.budget.nodes
+        (λ p. IsPaved (S.settle_of settler.now) (S.depth_of settler.now) root leaf
+        effort.now.budget.nodes
         p.tree) }
     ensures ordered { IfOk result (λ p. IsInOrder effort.now.order leaf p.tree) }
 {

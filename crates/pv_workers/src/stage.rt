@@ -82,7 +82,8 @@ impl<'a, N: Naming, S: KnowingSettler, G: Gate> Stager<'a, N, S, G> {
         requires some { 1 ≤ most }
         requires one { settled_in stage.old.tree ≡ 1 }
         requires dims { length stage.old.root ≡ N.dims }
-        requires stage { IsStageBelow N.rule N.depth stage.old.root (length self.now.at) stage.old.tree }
+        requires stage { IsStageBelow N.rule N.depth stage.old.root (length self.now.at)
+            stage.old.tree }
         requires facts { AreKnown (S.knows self.now.ruled.now.settler.now)
             (reverse kit.old.facts.items) stage.old.holes }
         requires few_facts { vec_len kit.old.facts ≤ MOST_BATCH }
@@ -118,7 +119,8 @@ impl<'a, N: Naming, S: KnowingSettler, G: Gate> Stager<'a, N, S, G> {
     fn settle_next(&self, path: Path, stage: &mut Growth, kit: &mut Kit<S>) -> Result<(), Memory>
         requires next { IsNext stage.old path }
         requires dims { length stage.old.root ≡ N.dims }
-        requires stage { IsStageBelow N.rule N.depth stage.old.root (length self.now.at) stage.old.tree }
+        requires stage { IsStageBelow N.rule N.depth stage.old.root (length self.now.at)
+            stage.old.tree }
         requires facts { AreKnown (S.knows self.now.ruled.now.settler.now)
             (reverse kit.old.facts.items) stage.old.holes }
         requires laid { AreLaid
