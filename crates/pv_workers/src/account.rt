@@ -90,7 +90,7 @@ pub(crate) fn split<N: Naming, S: KnowingSettler>(
 }
 
 /// The counts of all workers together.
-pub(crate) fn joined<N: Naming, S: KnowingSettler>(accounts: Vec<Account<N, S>>) -> Told<N>
+pub(crate) fn join_accounts<N: Naming, S: KnowingSettler>(accounts: Vec<Account<N, S>>) -> Told<N>
     requires one { 1 ≤ vec_len accounts }
     requires sixteen { vec_len accounts ≤ MOST_WORKERS }
     requires below { AllBelow (2 ^ 71) accounts.items }

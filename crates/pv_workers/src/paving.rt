@@ -8,7 +8,7 @@ ghost use Rattle.pv_workers.specs.Pavings.{IsPaved, IsSpent};
 ghost use Rattle.pv_board.specs.declared.told.TheConstants.{LOT_NODES};
 ghost use Rattle.pv_tree.specs.declared.limit.TheConstants.{LEAST_LIMIT, MOST_WORKERS};
 
-use crate::account::{joined, split};
+use crate::account::{join_accounts, split};
 use crate::budget::Budget;
 use crate::crew::Crew;
 use crate::growing::grow;
@@ -349,7 +349,7 @@ where
     let Ok(accounts) = run_workers(rt, alloc, &crew, accounts) else {
         return Err(Memory);
     };
-    let told = joined(accounts);
+    let told = join_accounts(accounts);
     let _settled = told.settled();
     let spent = told.lots();
     Ok((shared.into_board(told), spent))
