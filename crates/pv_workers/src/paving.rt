@@ -131,13 +131,13 @@ where
         settled_in opening.tree + p.spent ≤ settled_in p.paving.tree) }
 {
     let _places = opening.dims();
-    let paved = settled_by(rt, alloc, settler, opening, budget, gate)?;
+    let paved = settle(rt, alloc, settler, opening, budget, gate)?;
     learn_paved(&paved.paving, settler);
     Ok(paved)
 }
 
 // Settles by one worker alone, or by crews.
-fn settled_by<S: KnowingSettler + Sync, G: Gate + Sync, R: Threads + Wait + Sync>(
+fn settle<S: KnowingSettler + Sync, G: Gate + Sync, R: Threads + Wait + Sync>(
     rt: &R,
     alloc: Global,
     settler: &S,
@@ -276,7 +276,7 @@ where
     let places = opening.dims();
     let ruled: Ruled<N, S> = Ruled::of(settler, places);
     let mut scratch = blank(alloc, places)?;
-    let board = opened(alloc, opening, budget)?;
+    let board = open_board(alloc, opening, budget)?;
     let (mut board, spent) = run_crew(rt, alloc, &ruled, board, budget.workers, gate, blanks)?;
     let own = settle_rest(alloc, &ruled, gate, &mut board, &mut scratch)?;
     let paving = close(board)?;
@@ -287,7 +287,7 @@ where
 }
 
 // A board on an opening.
-fn opened<N: Naming>(alloc: Global, opening: Paving, budget: Budget) -> Result<Board<N>, Memory>
+fn open_board<N: Naming>(alloc: Global, opening: Paving, budget: Budget) -> Result<Board<N>, Memory>
     requires fits { IsFitting N.rule N.depth N.dims }
     requires root { opening.root ≡ N.root }
     requires tree { opening.tree ≡ N.opening }
