@@ -11,7 +11,7 @@ use crate::account::Account;
 use crate::kit::Kit;
 use crate::ruled::Ruled;
 use crate::stage::Stager;
-use crate::task::{Parts, Task, hand_out};
+use crate::task::{TaskParts, Task, hand_out};
 use pv_board::{Look, MOST_GRANT, Naming, Settled, Shared, Ticket, Told};
 use pv_box::IBox;
 use pv_num::Memory;
@@ -135,7 +135,7 @@ impl<'a, N: Naming, S: KnowingSettler, G: Gate> Crew<'a, N, S, G> {
         &self,
         rt: &R,
         worker: u64,
-        parts: Parts<'a, N, S>,
+        parts: TaskParts<'a, N, S>,
         leaf: &IBox,
         told: &mut Told<N>,
         children: &mut Batch<Task<'a, N, S>>,
@@ -149,7 +149,7 @@ impl<'a, N: Naming, S: KnowingSettler, G: Gate> Crew<'a, N, S, G> {
         requires none { children.old ≡ [] }
         ensures { numbers_of told.new ≡ after_work (length children.new) (numbers_of told.old) }
     {
-        let Parts {
+        let TaskParts {
             ticket,
             ruled,
             known: _,
@@ -168,7 +168,7 @@ impl<'a, N: Naming, S: KnowingSettler, G: Gate> Crew<'a, N, S, G> {
         &self,
         rt: &R,
         worker: u64,
-        parts: Parts<'a, N, S>,
+        parts: TaskParts<'a, N, S>,
         left: u64,
         kit: &mut Kit<S>,
         told: &mut Told<N>,
@@ -188,7 +188,7 @@ impl<'a, N: Naming, S: KnowingSettler, G: Gate> Crew<'a, N, S, G> {
         ensures places { length kit.new.scratch ≡ N.dims }
         ensures tickets { kit.new.tickets ≡ [] }
     {
-        let Parts {
+        let TaskParts {
             ticket,
             ruled,
             known,
