@@ -117,7 +117,7 @@ where
         root,
     } = subject;
     let (nodes, limit) = (plan.nodes(), plan.budget.limit);
-    let mut campaign = match opened(alloc, keeper, name, identity, root, nodes, limit) {
+    let mut campaign = match open_kept(alloc, keeper, name, identity, root, nodes, limit) {
         Ok(campaign) => campaign,
         Err(refused) => return Err(refused),
     };
@@ -128,7 +128,7 @@ where
 }
 
 // Opens what is kept under a name, of which a budget is still to be settled.
-fn opened<P: Keeper>(
+fn open_kept<P: Keeper>(
     alloc: Global,
     keeper: &mut P,
     name: &str,
