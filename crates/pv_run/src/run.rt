@@ -50,13 +50,13 @@ pub fn run<'a, F: Folder, G: Gate + Sync, R: Threads + Wait + Sync>(
     };
     let identity = settler.identity(alloc)?;
     let root = settler.search_box(alloc)?;
-    let paving = paved(rt, alloc, &settler, root, effort, gate)?;
+    let paving = pave_box(rt, alloc, &settler, root, effort, gate)?;
     learn_honest(&paving, &settler);
     Ok(of_paving(identity, paving))
 }
 
 /// What the budget settles of an open box.
-pub(crate) fn paved<S: KnowingSettler + Sync, G: Gate + Sync, R: Threads + Wait + Sync>(
+pub(crate) fn pave_box<S: KnowingSettler + Sync, G: Gate + Sync, R: Threads + Wait + Sync>(
     rt: &R,
     alloc: Global,
     settler: &S,

@@ -13,7 +13,7 @@ ghost use Rattle.pv_rule.specs.Systems.{IsRuleFor, search_box};
 ghost use Rattle.pv_request.specs.declared.request.Settings as declared;
 ghost use Rattle.pv_product.specs.Made.{made};
 
-use crate::run::paved;
+use crate::run::pave_box;
 use pv_box::Bisector;
 use pv_file::{hex_digits, write};
 use pv_honest::learn_honest;
@@ -51,11 +51,11 @@ pub fn sample<'a, G: Gate + Sync, R: Threads + Wait + Sync>(
         Ok(settler) => settler,
         Err(refusal) => return Err(refusal),
     };
-    Ok(Product::Text(reported(rt, alloc, circles, &settler, gate)?))
+    Ok(Product::Text(report_full(rt, alloc, circles, &settler, gate)?))
 }
 
 // The report on what a settler makes of its search box.
-fn reported<G: Gate + Sync, R: Threads + Wait + Sync>(
+fn report_full<G: Gate + Sync, R: Threads + Wait + Sync>(
     rt: &R,
     alloc: Global,
     circles: &Circles,
@@ -82,7 +82,7 @@ fn reported<G: Gate + Sync, R: Threads + Wait + Sync>(
         order: Order::Depth,
     };
     let root = settler.search_box(alloc)?;
-    let paving = paved(rt, alloc, settler, root, &effort, gate)?;
+    let paving = pave_box(rt, alloc, settler, root, &effort, gate)?;
     learn_honest(&paving, settler);
     report(alloc, circles, identity, &paving)
 }
