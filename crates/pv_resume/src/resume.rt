@@ -58,11 +58,11 @@ pub fn resume<'a, F: Folder, G: Gate + Sync, R: Threads + Wait + Sync>(
     if settled + effort.budget.nodes > most {
         return Err(Refusal::TreeLimit { settled });
     }
-    Ok(resumed(rt, alloc, opening, effort, share, gate)?)
+    Ok(settle_opening(rt, alloc, opening, effort, share, gate)?)
 }
 
 // What the budget settles of an opening, or of a share of it.
-fn resumed<G: Gate + Sync, R: Threads + Wait + Sync>(
+fn settle_opening<G: Gate + Sync, R: Threads + Wait + Sync>(
     rt: &R,
     alloc: Global,
     opening: Opening,

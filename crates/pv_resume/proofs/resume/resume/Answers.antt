@@ -27,7 +27,7 @@ returns-clause-comes g c =
     let o = c.in-Ok.ensures.opened in
     let rule = method_of c.in-Ok.opening.settler in
     let first = c.in-Ok.opening.paving.tree in
-    let done = c.in_ok-resumed.ensures in
+    let done = c.in_ok-settle_opening.ensures in
     let few : settled_in first + c.args.effort.now.budget.nodes ≤ c.args.effort.now.budget.limit = search rules in
     record {
       rule = rule;

@@ -5,7 +5,7 @@ use Rattle.pv_slope.specs.Methods.{method_of}
 use Rattle.pv_scope.specs.declared.share.Share.{Share}
 use Rattle.pv_product.specs.Campaigns.{is_done}
 use Rattle.pv_product.specs.Products.{paved, paved_as, IsSettledSo}
-use Rattle.pv_resume.proofs.resume.resumed.Goals as goal
+use Rattle.pv_resume.proofs.resume.settle_opening.Goals as goal
 
 pub returns-in-Some : goal.returns-in-Some
 returns-in-Some g c =
