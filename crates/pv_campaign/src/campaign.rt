@@ -103,13 +103,13 @@ fn continue_campaign<'a, P: Keeper, G: Gate + Sync, R: Threads + Wait + Sync>(
     };
     let kept = run_rounds(rt, alloc, settler, keeper, subject, &plan, gate);
     match kept {
-        Ok(campaign) => Ok(reported(alloc, settler, &campaign)?),
+        Ok(campaign) => Ok(report_on(alloc, settler, &campaign)?),
         Err(refused) => Err(refusal_by(rounds.name, refused)),
     }
 }
 
 // The summary of a campaign, which was cut short unless no leaf is open.
-fn reported(alloc: Global, settler: &FormSettler, campaign: &Campaign) -> Result<Product, Memory>
+fn report_on(alloc: Global, settler: &FormSettler, campaign: &Campaign) -> Result<Product, Memory>
     requires root { campaign.now.root ≡ search_box (method_of settler.now) }
     requires dims { length campaign.now.root ≡ dims_of (method_of settler.now) }
     ensures report { IfOk result
