@@ -68,13 +68,14 @@ pub(crate) fn settle_at<S: KnowingSettler, G: Gate>(
     ensures grown { IfOk result (λ came.
         IsGrownAt paving.old.tree paving.new.tree reach.at reach.steps most came.settled came.done) }
 {
+    let Reach { at, steps } = reach;
     let _places = paving.dims();
-    paving.box_at(reach.at, &mut kit.scratch);
+    paving.box_at(at, &mut kit.scratch);
     let _sides = kit.scratch.dims();
-    let _steps = reach.at.len();
-    let part = grow_at(alloc, settler, gate, reach, most, kit)?;
+    let _steps = at.len();
+    let part = grow_at(alloc, settler, gate, at, steps, most, kit)?;
     paving.reserve(part.came.settled)?;
-    paving.graft(reach.at, &part.stage);
+    paving.graft(at, &part.stage);
     Ok(part.came)
 }
 
@@ -83,18 +84,19 @@ fn grow_at<S: KnowingSettler, G: Gate>(
     alloc: Global,
     settler: &S,
     gate: &G,
-    reach: Reach,
+    at: Path,
+    steps: u32,
     most: u64,
     kit: &mut Kit<S>,
 ) -> Result<Part, Memory>
     requires scratch { length kit.old.scratch ≡ S.dims settler.now }
     ensures root { IfOk result (λ p. p.stage.root ≡ kit.old.scratch) }
     ensures stage { IfOk result (λ p. IsStageBelow (S.settle_of settler.now)
-        (S.depth_of settler.now) kit.old.scratch (length reach.at) p.stage.tree) }
+        (S.depth_of settler.now) kit.old.scratch (length at) p.stage.tree) }
     ensures count { IfOk result (λ p. settled_in p.stage.tree ≡ p.came.settled) }
-    ensures short { IfOk result (λ p. AreShort reach.steps (length reach.at) p.stage.tree) }
+    ensures short { IfOk result (λ p. AreShort steps (length at) p.stage.tree) }
     ensures grown { IfOk result (λ p.
-        IsGrown reach.steps (length reach.at) most p.came.settled p.came.done p.stage.tree) }
+        IsGrown steps (length at) most p.came.settled p.came.done p.stage.tree) }
     ensures scratch { length kit.new.scratch ≡ S.dims settler.now }
 {
     let mut growth = Growth::open(alloc, kit.scratch.clone_of(alloc)?)?;
@@ -102,7 +104,7 @@ fn grow_at<S: KnowingSettler, G: Gate>(
     kit.facts.clear();
     kit.facts.push(settler.nothing())?;
     for settled in 0..most {
-        let Some(path) = next_short(settler, &mut growth, reach, kit) else {
+        let Some(path) = next_short(settler, &mut growth, at, steps, kit) else {
             return Ok(Part {
                 stage: growth.finish(),
                 came: Came {
@@ -111,9 +113,17 @@ fn grow_at<S: KnowingSettler, G: Gate>(
                 },
             });
         };
-        settle_next(alloc, settler, gate, reach, path, &mut growth, kit)?;
+        settle_next(
+            alloc,
+            settler,
+            gate,
+            Reach { at, steps },
+            path,
+            &mut growth,
+            kit,
+        )?;
     }
-    let done = next_short(settler, &mut growth, reach, kit).is_none();
+    let done = next_short(settler, &mut growth, at, steps, kit).is_none();
     Ok(Part {
         stage: growth.finish(),
         came: Came {
@@ -127,24 +137,25 @@ fn grow_at<S: KnowingSettler, G: Gate>(
 fn next_short<S: KnowingSettler>(
     _settler: &S,
     growth: &mut Growth,
-    reach: Reach,
+    at: Path,
+    steps: u32,
     kit: &mut Kit<S>,
 ) -> Option<Path>
-    requires to_come { AreToCome reach.steps (length reach.at) growth.old }
+    requires to_come { AreToCome steps (length at) growth.old }
     requires facts { AreKnown (S.knows _settler.now)
         (reverse kit.old.facts.items) growth.old.holes }
     ensures root { growth.new.root ≡ growth.old.root }
     ensures tree { growth.new.tree ≡ growth.old.tree }
     ensures next { IfSome result (λ p. IsNext growth.new p) }
-    ensures short { IfSome result (λ p. length reach.at + length p < reach.steps) }
-    ensures none { result ≡ None → AreLong reach.steps (length reach.at) growth.new.tree }
-    ensures to_come { AreToCome reach.steps (length reach.at) growth.new }
+    ensures short { IfSome result (λ p. length at + length p < steps) }
+    ensures none { result ≡ None → AreLong steps (length at) growth.new.tree }
+    ensures to_come { AreToCome steps (length at) growth.new }
     ensures facts { AreKnown (S.knows _settler.now)
         (reverse kit.new.facts.items) growth.new.holes }
     ensures scratch { kit.new.scratch ≡ kit.old.scratch }
 {
     while let Some(path) = growth.next_leaf() {
-        if reach.at.len() + path.len() < reach.steps {
+        if at.len() + path.len() < steps {
             return Some(path);
         }
         growth.pass();

@@ -8,7 +8,7 @@ abbrev pub invariant-loop-path : goal.invariant-loop-path
 invariant-loop-path g l = record {
   root : l.growth.root ≡ l.fn.growth.root;
   tree : l.growth.tree ≡ l.fn.growth.tree;
-  to_come : AreToCome l.reach.steps (length l.reach.at) l.growth;
+  to_come : AreToCome l.steps (length l.at) l.growth;
   facts : AreKnown (g.S.KnowingSettler.knows l._settler) (reverse l.kit.facts.items) l.growth.holes;
   scratch : l.kit.scratch ≡ l.fn.kit.scratch;
 }
