@@ -44,10 +44,10 @@ returns-clause-stage g c =
     let n = g.N.Naming in
     let st = c.grow_on.new.stage in
     let same : st.root ≡ c.in_ok-stage.stage.root = c.in_ok-grow_on.ensures.root ∙ c.in_ok-settle_next.ensures.root in
-    let from : c.in_ok-stage.stage.root ≡ c.args.kit.now.scratch = search rules in
-    let root : st.root ≡ c.args.kit.now.scratch = same ∙ from in
+    let from : c.in_ok-stage.stage.root ≡ c.args.workspace.now.scratch = search rules in
+    let root : st.root ≡ c.args.workspace.now.scratch = same ∙ from in
     let tree : c.finish.result.tree ≡ st.tree = c.finish.ensures.tree ∙ c.in_ok-list_leaves.ensures.tree in
-    subst (λ (x : Tree). Grows x (full_of n.rule n.depth c.args.kit.now.scratch leaf (length c.args.self.now.at))) (sym tree)
+    subst (λ (x : Tree). Grows x (full_of n.rule n.depth c.args.workspace.now.scratch leaf (length c.args.self.now.at))) (sym tree)
     (subst (λ (b : List Bounds). Grows st.tree (full_of n.rule n.depth b leaf (length c.args.self.now.at))) root c.in_ok-grow_on.ensures.stage)
 
 pub returns-clause-facts : goal.returns-clause-facts
@@ -55,16 +55,16 @@ returns-clause-facts g c =
     let n = g.N.Naming in
     let st = c.grow_on.new.stage in
     let same : st.root ≡ c.in_ok-stage.stage.root = c.in_ok-grow_on.ensures.root ∙ c.in_ok-settle_next.ensures.root in
-    let from : c.in_ok-stage.stage.root ≡ c.args.kit.now.scratch = search rules in
-    let root : st.root ≡ c.args.kit.now.scratch = same ∙ from in
+    let from : c.in_ok-stage.stage.root ≡ c.args.workspace.now.scratch = search rules in
+    let root : st.root ≡ c.args.workspace.now.scratch = same ∙ from in
     let tree : c.finish.result.tree ≡ st.tree = c.finish.ensures.tree ∙ c.in_ok-list_leaves.ensures.tree in
-    stage_facts (g.S.KnowingSettler.knows c.args.self.now.ruled.now.settler.now) n.rule n.depth (length c.args.self.now.at) st c.args.kit.now.scratch c.finish.result.tree (reverse c.grow_on.new.kit.facts.items)
+    stage_facts (g.S.KnowingSettler.knows c.args.self.now.ruled.now.settler.now) n.rule n.depth (length c.args.self.now.at) st c.args.workspace.now.scratch c.finish.result.tree (reverse c.grow_on.new.workspace.facts.items)
     tree root c.in_ok-grow_on.ensures.laid c.in_ok-grow_on.ensures.facts
 
 pub returns-clause-few_leaves : goal.returns-clause-few_leaves
 returns-clause-few_leaves g c =
     let n = g.N.Naming in let knows = g.S.KnowingSettler.knows c.args.self.now.ruled.now.settler.now in
-    let st = c.grow_on.new.stage in let ks = c.grow_on.new.kit.facts in let ps = c.list_leaves.new.leaves in let k = length c.args.self.now.at in
+    let st = c.grow_on.new.stage in let ks = c.grow_on.new.workspace.facts in let ps = c.list_leaves.new.leaves in let k = length c.args.self.now.at in
     let known = stage_facts knows n.rule n.depth k st st.root st.tree (reverse ks.items) refl refl c.in_ok-grow_on.ensures.laid c.in_ok-grow_on.ensures.facts in
     let few = few_facts knows (box_of st.root (full_of n.rule n.depth st.root leaf k)) (opens st.tree) (reverse ks.items) known in
     let count = ap length c.in_ok-list_leaves.ensures.leaves ∙ leaves_count c.args.self.now.at st.tree in

@@ -12,9 +12,9 @@ invariant-loop-settled g l = record {
   root : l.stage.root ≡ l.fn.stage.root;
   stage : IsStageBelow g.N.Naming.rule g.N.Naming.depth l.stage.root (length l.self.at) l.stage.tree;
   count : settled_in l.stage.tree ≡ l.settled;
-  facts : AreKnown (g.S.KnowingSettler.knows l.self.ruled.now.settler.now) (reverse l.kit.facts.items) l.stage.holes;
-  few_facts : vec_len l.kit.facts ≤ 17;
+  facts : AreKnown (g.S.KnowingSettler.knows l.self.ruled.now.settler.now) (reverse l.workspace.facts.items) l.stage.holes;
+  few_facts : vec_len l.workspace.facts ≤ 17;
   laid : AreLaid (full_of g.N.Naming.rule g.N.Naming.depth l.stage.root leaf (length l.self.at)) l.stage;
-  places : length l.kit.scratch ≡ g.N.Naming.dims;
-  tickets : l.kit.tickets ≡ l.fn.kit.tickets;
+  places : length l.workspace.scratch ≡ g.N.Naming.dims;
+  tickets : l.workspace.tickets ≡ l.fn.workspace.tickets;
 }
