@@ -1,23 +1,22 @@
 -- One pass over the nodes, in their order.
 use Rattle.std.specs.Prelude.{ℕ, ◌≡◌, ◌<◌, Bool, true, false, not, List, length, Option, Some, None}
 use Rattle.pv_interval.specs.Tables.{has_nought}
-use Rattle.pv_hc4.specs.declared.node.BinaryOp.{BinaryOp}
-use Rattle.pv_hc4.specs.declared.node.BinaryOp.TheVariants.{Add, Sub, Mul, Div, Min, Max}
+use Rattle.pv_expr.specs.Terms.{BinaryOp, Add, Sub, Mul, Div, Min, Max}
 use Rattle.pv_hc4.specs.Totality.{total_of}
 use Rattle.pv_interval.specs.Bounds.{Bounds}
 use Rattle.pv_hc4.specs.declared.node.Node.{Node}
 use Rattle.pv_hc4.specs.declared.node.Node.TheVariants.{Constant, Place, One, Two}
 use Rattle.pv_hc4.specs.Chain.{at}
 use Rattle.pv_hc4.specs.Forward.{forward_of, unary_of, binary_of}
-use Rattle.pv_hc4.specs.Nodes.{unary_named, binary_named, terms, term_at}
+use Rattle.pv_hc4.specs.Nodes.{terms, term_at}
 use Rattle.pv_hc4.specs.Graphs.{AreValues}
 
 -- the interval of a node over those of earlier ones
 abbrev pub node_value : List Bounds → List Bounds → Bounds → Node → Option Bounds
 node_value b vs own (Constant p q) = Some own
 node_value b vs own (Place i) = Some (at b i)
-node_value b vs own (One o a) = Some (unary_of (unary_named o) (at vs a))
-node_value b vs own (Two o a c) = binary_of (binary_named o) (at vs a) (at vs c)
+node_value b vs own (One o a) = Some (unary_of o (at vs a))
+node_value b vs own (Two o a c) = binary_of o (at vs a) (at vs c)
 
 -- some node's forward interval is empty
 pub record IsEmptyPass (b : List Bounds) (ns : List Node) : Type 0 where

@@ -7,9 +7,9 @@ ghost use Rattle.pv_hc4.specs.Graphs.{AreValues};
 ghost use Rattle.pv_hc4.specs.Pass.{node_divides_well, op_divides_well, IsTotality};
 ghost use Rattle.pv_hc4.specs.Totality.{ends_decide};
 
-use crate::node::{BinaryOp, Node};
+use crate::node::Node;
 use pv_box::IBox;
-use pv_expr::Relation;
+use pv_expr::{BinaryOp, Relation};
 use pv_interval::Interval;
 use pv_num::Num;
 

@@ -15,10 +15,7 @@ use Rattle.pv_num.proofs.Orders.{le-refl, le-trans, le-antisym}
 use Rattle.pv_num.proofs.Scales.{unit_pos}
 use Rattle.pv_interval.specs.Bounds.{Bounds, IsInterval}
 use Rattle.pv_interval.specs.Tables.{nought, is_from_nought, is_to_nought, has_nought, is_nought, least_of_four, greatest_of_four, of_ends, sum_of, difference_of, product_of, quotient_of, negated, hull_of}
-use Rattle.pv_hc4.specs.declared.node.UnaryOp.{UnaryOp}
-use Rattle.pv_hc4.specs.declared.node.UnaryOp.TheVariants.{Neg, Abs, Pow}
-use Rattle.pv_hc4.specs.declared.node.BinaryOp.{BinaryOp}
-use Rattle.pv_hc4.specs.declared.node.BinaryOp.TheVariants.{Add, Sub, Mul, Div, Min, Max}
+use Rattle.pv_expr.specs.Terms.{UnaryOp, Neg, Abs, Pow, BinaryOp, Add, Sub, Mul, Div, Min, Max}
 use Rattle.pv_hc4.specs.Pass.{op_divides_well}
 use Rattle.pv_slope.specs.Centres.{known}
 use Rattle.pv_slope.specs.Flat.{unary_slope_by, binary_slope_by}
