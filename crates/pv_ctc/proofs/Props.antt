@@ -4,7 +4,9 @@ use Rattle.std.specs.Coded.{×_prop, Unit-prop, le_prop}
 use Rattle.std.proofs.Props.{props}
 use Rattle.std.specs.Prelude.{ℤ}
 use Rattle.pv_expr.specs.Systems.{IsFraction, IsUnary, IsOver}
-use Rattle.pv_expr.specs.Terms.{UnaryOp, Neg, Abs, Pow, Term, constant, place, one, two}
+use Rattle.pv_expr.specs.declared.operators.UnaryOp.{UnaryOp}
+use Rattle.pv_expr.specs.declared.operators.UnaryOp.TheVariants.{Neg, Abs, Pow}
+use Rattle.pv_expr.specs.Terms.{Term, constant, place, one, two}
 use Rattle.pv_hc4.specs.Revise.{Sides}
 use Rattle.pv_ctc.specs.Plans.{Plan, Plans, hc4, compose, union, qinter, fix, prop, no_plan, plan_and, IsFor, AreFor}
 use Rattle.pv_ctc.specs.Members.{AllOver}

@@ -3,7 +3,11 @@ use Rattle.std.specs.Prelude.{ℕ, ℤ, List, [], ◌∷◌, ◌++◌, length, m
 use Rattle.std.specs.Fmt.{signed_decimal}
 use Rattle.pv_interval.specs.Bounds.{Bounds}
 use Rattle.pv_num.specs.Parts.{number_text}
-use Rattle.pv_expr.specs.Terms.{Term, constant, place, one, two, UnaryOp, Neg, Abs, Pow, BinaryOp, Add, Sub, Mul, Div, Min, Max, term_of}
+use Rattle.pv_expr.specs.declared.operators.UnaryOp.{UnaryOp}
+use Rattle.pv_expr.specs.declared.operators.UnaryOp.TheVariants.{Neg, Abs, Pow}
+use Rattle.pv_expr.specs.declared.operators.BinaryOp.{BinaryOp}
+use Rattle.pv_expr.specs.declared.operators.BinaryOp.TheVariants.{Add, Sub, Mul, Div, Min, Max}
+use Rattle.pv_expr.specs.Terms.{Term, constant, place, one, two, term_of}
 use Rattle.pv_expr.specs.Systems.{Parts}
 use Rattle.pv_expr.specs.Searches.{search_bounds}
 use Rattle.pv_expr.specs.declared.constraint.Relation.{Relation}

@@ -1,7 +1,9 @@
 -- What a system is: its parts, and the limits within which they lie.
 use Rattle.std.specs.Prelude.{◌≡◌, ◌≢◌, ℕ, ◌+◌, ◌^◌, ◌<◌, ◌≤◌, List, ℤ, pos, ◌*ℤ◌, ◌≤ℤ◌, unsigned_abs, length, All, AllPairs, sum_by, slice_get, Some}
 use Rattle.std.specs.Int.{IsGcd}
-use Rattle.pv_expr.specs.Terms.{Term, constant, place, one, two, UnaryOp, Neg, Abs, Pow, term_of, node_count, depth_of}
+use Rattle.pv_expr.specs.declared.operators.UnaryOp.{UnaryOp}
+use Rattle.pv_expr.specs.declared.operators.UnaryOp.TheVariants.{Neg, Abs, Pow}
+use Rattle.pv_expr.specs.Terms.{Term, constant, place, one, two, term_of, node_count, depth_of}
 use Rattle.pv_expr.specs.declared.domain.Bound.{Bound}
 use Rattle.pv_expr.specs.declared.domain.Bound.TheVariants.{MinusOo, Value, PlusOo}
 use Rattle.pv_expr.specs.declared.domain.Domain.{Domain}

@@ -6,10 +6,10 @@ use Rattle.pv_expr.specs.declared.expr.Expr.TheVariants.{Const, Var, Add', Sub',
 use Rattle.pv_expr.specs.declared.constraint.Relation.{Relation}
 use Rattle.pv_expr.specs.declared.constraint.Relation.TheVariants.{Eq, Le, Ge, Lt, Gt}
 use Rattle.pv_expr.specs.declared.constraint.Constraint.{Constraint}
-pub use Rattle.pv_expr.specs.declared.operators.UnaryOp.{UnaryOp}
-pub use Rattle.pv_expr.specs.declared.operators.UnaryOp.TheVariants.{Neg, Abs, Pow}
-pub use Rattle.pv_expr.specs.declared.operators.BinaryOp.{BinaryOp}
-pub use Rattle.pv_expr.specs.declared.operators.BinaryOp.TheVariants.{Add, Sub, Mul, Div, Min, Max}
+use Rattle.pv_expr.specs.declared.operators.UnaryOp.{UnaryOp}
+use Rattle.pv_expr.specs.declared.operators.UnaryOp.TheVariants.{Neg, Abs, Pow}
+use Rattle.pv_expr.specs.declared.operators.BinaryOp.{BinaryOp}
+use Rattle.pv_expr.specs.declared.operators.BinaryOp.TheVariants.{Add, Sub, Mul, Div, Min, Max}
 
 -- a term: the constant p/q, the variable at a place, or an operation
 pub data Term : Type 0 where

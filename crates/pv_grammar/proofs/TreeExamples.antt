@@ -1,6 +1,7 @@
 -- That the trees say what they should, by a few examples: each tree with the tokens has the term.
 use Rattle.std.proofs.Common.{◌≡◌, List, [], ◌∷◌, pos, refl, sym, ap, ◌∙◌}
-use Rattle.pv_expr.specs.Terms.{Add, Div, Mul, Sub, one, place, two}
+use Rattle.pv_expr.specs.declared.operators.BinaryOp.TheVariants.{Add, Sub, Mul, Div}
+use Rattle.pv_expr.specs.Terms.{one, place, two}
 use Rattle.pv_code.specs.declared.fraction.Fraction.{Fraction}
 use Rattle.pv_code.specs.declared.code.Op.TheVariants.{Call}
 use Rattle.pv_code.specs.Expansion.{Meaning}

@@ -2,7 +2,11 @@
 use Rattle.std.proofs.Common.{◌≡◌, ℕ, suc, List, [], ◌∷◌, ◌++◌, length, reverse, take, drop, refl, ap, sym, subst, ◌∙◌, append_assoc, arith}
 use Rattle.std.proofs.lemmas.List.{reverse-append, reverse-reverse, length-reverse}
 use Rattle.std.proofs.Math.Seq.{take-append_seam, drop-append_seam}
-use Rattle.pv_expr.specs.Terms.{Abs, Add, BinaryOp, Div, Max, Min, Mul, Neg, Pow, Sub, Term, UnaryOp, one, two}
+use Rattle.pv_expr.specs.declared.operators.UnaryOp.{UnaryOp}
+use Rattle.pv_expr.specs.declared.operators.UnaryOp.TheVariants.{Neg, Abs, Pow}
+use Rattle.pv_expr.specs.declared.operators.BinaryOp.{BinaryOp}
+use Rattle.pv_expr.specs.declared.operators.BinaryOp.TheVariants.{Add, Sub, Mul, Div, Min, Max}
+use Rattle.pv_expr.specs.Terms.{Term, one, two}
 use Rattle.pv_code.specs.declared.code.Op.{Op}
 use Rattle.pv_code.specs.declared.code.Op.TheVariants.{Constant as ConstantStep, Variable as VariableStep, Parameter as ParameterStep, One, Two, Call, Define, Relate}
 use Rattle.pv_code.specs.Expansion.{Meaning, Sides, below, body_meaning, constraints_behind, constraints_of, meaning_of, run, step, top}

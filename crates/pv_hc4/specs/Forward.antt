@@ -4,7 +4,11 @@ use Rattle.pv_num.specs.Arithmetic.{ratio_of}
 use Rattle.pv_num.specs.declared.num.End.TheVariants.{Down, Up}
 use Rattle.pv_interval.specs.Bounds.{Bounds, between}
 use Rattle.pv_interval.specs.Tables as table
-use Rattle.pv_expr.specs.Terms.{UnaryOp, Neg, Abs, Pow, BinaryOp, Add, Sub, Mul, Div, Min, Max, Term, constant, place, one, two}
+use Rattle.pv_expr.specs.declared.operators.UnaryOp.{UnaryOp}
+use Rattle.pv_expr.specs.declared.operators.UnaryOp.TheVariants.{Neg, Abs, Pow}
+use Rattle.pv_expr.specs.declared.operators.BinaryOp.{BinaryOp}
+use Rattle.pv_expr.specs.declared.operators.BinaryOp.TheVariants.{Add, Sub, Mul, Div, Min, Max}
+use Rattle.pv_expr.specs.Terms.{Term, constant, place, one, two}
 use Rattle.pv_hc4.specs.Chain.{chain, at}
 
 -- the least interval with format ends that holds p/q

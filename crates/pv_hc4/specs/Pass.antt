@@ -1,8 +1,6 @@
 -- One pass over the nodes, in their order.
-use Rattle.std.specs.Prelude.{ℕ, ◌≡◌, ◌<◌, Bool, true, false, not, List, length, Option, Some, None}
-use Rattle.pv_interval.specs.Tables.{has_nought}
-use Rattle.pv_expr.specs.Terms.{BinaryOp, Add, Sub, Mul, Div, Min, Max}
-use Rattle.pv_hc4.specs.Totality.{total_of}
+use Rattle.std.specs.Prelude.{ℕ, ◌≡◌, ◌<◌, Bool, true, false, List, length, Option, Some, None}
+use Rattle.pv_hc4.specs.Totality.{divides_well, total_of}
 use Rattle.pv_interval.specs.Bounds.{Bounds}
 use Rattle.pv_hc4.specs.declared.node.Node.{Node}
 use Rattle.pv_hc4.specs.declared.node.Node.TheVariants.{Constant, Place, One, Two}
@@ -28,20 +26,12 @@ abbrev pub IsPass : List Bounds → List Node → List Bounds → Bool → Type 
 IsPass b ns vs true = AreValues b ns vs
 IsPass b ns vs false = IsEmptyPass b ns
 
-abbrev pub op_divides_well : BinaryOp → Bounds → Bool
-op_divides_well Add y = true
-op_divides_well Sub y = true
-op_divides_well Mul y = true
-op_divides_well Div y = not (has_nought y)
-op_divides_well Min y = true
-op_divides_well Max y = true
-
 -- the node is no quotient by an interval that contains 0
 abbrev pub node_divides_well : List Bounds → Node → Bool
 node_divides_well vs (Constant p q) = true
 node_divides_well vs (Place i) = true
 node_divides_well vs (One o a) = true
-node_divides_well vs (Two o a c) = op_divides_well o (at vs c)
+node_divides_well vs (Two o a c) = divides_well o (Some (at vs c))
 
 -- some node's term has a divisor whose interval contains 0
 pub record IsPartial (b : List Bounds) (ns : List Node) : Type 0 where

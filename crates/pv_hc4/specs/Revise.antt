@@ -4,7 +4,11 @@ use Rattle.pv_num.specs.Order.{le, lt, lesser, greater}
 use Rattle.pv_interval.specs.Bounds.{Bounds}
 use Rattle.pv_interval.specs.Tables.{meet_of}
 use Rattle.pv_project.specs.Projections.{back_add_of, back_sub_of, back_mul_of, back_div_of, back_min_of, back_max_of, back_neg_of, back_abs_of, back_pow_of}
-use Rattle.pv_expr.specs.Terms.{UnaryOp, Neg, Abs, Pow, BinaryOp, Add, Sub, Mul, Div, Min, Max, Term, constant, place, one, two}
+use Rattle.pv_expr.specs.declared.operators.UnaryOp.{UnaryOp}
+use Rattle.pv_expr.specs.declared.operators.UnaryOp.TheVariants.{Neg, Abs, Pow}
+use Rattle.pv_expr.specs.declared.operators.BinaryOp.{BinaryOp}
+use Rattle.pv_expr.specs.declared.operators.BinaryOp.TheVariants.{Add, Sub, Mul, Div, Min, Max}
+use Rattle.pv_expr.specs.Terms.{Term, constant, place, one, two}
 use Rattle.pv_expr.specs.declared.constraint.Relation.{Relation}
 use Rattle.pv_expr.specs.declared.constraint.Relation.TheVariants.{Eq, Le, Ge, Lt, Gt}
 use Rattle.pv_hc4.specs.Chain.{chain, at}

@@ -7,7 +7,9 @@ use Rattle.pv_interval.specs.Bounds.{Bounds}
 use Rattle.pv_interval.specs.Tables.{has_nought}
 use Rattle.pv_expr.specs.declared.constraint.Relation.{Relation}
 use Rattle.pv_expr.specs.declared.constraint.Relation.TheVariants.{Eq, Le, Ge, Lt, Gt}
-use Rattle.pv_expr.specs.Terms.{BinaryOp, Add, Sub, Mul, Div, Min, Max, Term, constant, place, one, two}
+use Rattle.pv_expr.specs.declared.operators.BinaryOp.{BinaryOp}
+use Rattle.pv_expr.specs.declared.operators.BinaryOp.TheVariants.{Add, Sub, Mul, Div, Min, Max}
+use Rattle.pv_expr.specs.Terms.{Term, constant, place, one, two}
 use Rattle.pv_hc4.specs.declared.graph.Forward.{Forward}
 use Rattle.pv_hc4.specs.Chain.{chain}
 use Rattle.pv_hc4.specs.Forward.{forward_of}

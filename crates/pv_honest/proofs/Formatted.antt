@@ -16,7 +16,11 @@ use Rattle.pv_box.specs.QHull as hulls
 use Rattle.pv_box.specs.Choice.{strictly_between, cut_below, cut_above, cut_between, cut_of, wider, widest_from, choice_of, at_or_later, first_from, or_else, round_from, choose_of, is_small_of}
 use Rattle.pv_box.specs.declared.choice.Bisector.{Bisector}
 use Rattle.pv_box.specs.declared.choice.Bisector.TheVariants.{Largest, Round}
-use Rattle.pv_expr.specs.Terms.{UnaryOp, Neg, Abs, Pow, BinaryOp, Add, Sub, Mul, Div, Min, Max, Term, constant, place, one, two}
+use Rattle.pv_expr.specs.declared.operators.UnaryOp.{UnaryOp}
+use Rattle.pv_expr.specs.declared.operators.UnaryOp.TheVariants.{Neg, Abs, Pow}
+use Rattle.pv_expr.specs.declared.operators.BinaryOp.{BinaryOp}
+use Rattle.pv_expr.specs.declared.operators.BinaryOp.TheVariants.{Add, Sub, Mul, Div, Min, Max}
+use Rattle.pv_expr.specs.Terms.{Term, constant, place, one, two}
 use Rattle.pv_expr.specs.Searches.{search_bounds}
 use Rattle.pv_expr.specs.Searches as search_ends
 use Rattle.pv_expr.specs.declared.domain.Bound.{Bound}

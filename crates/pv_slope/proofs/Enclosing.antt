@@ -12,7 +12,11 @@ use Rattle.pv_interval.proofs.Orders.{cond_keeps, meet_keeps}
 use Rattle.pv_interval.proofs.Quotients.{quotient_keeps}
 use Rattle.pv_box.specs.Boxes.{IsBox, LieIn, PointIn}
 use Rattle.pv_expr.specs.Systems.{IsOver}
-use Rattle.pv_expr.specs.Terms.{UnaryOp, Neg, Abs, Pow, BinaryOp, Add, Sub, Mul, Div, Min, Max, Term, constant, place, one, two, unary_value, binary_value, coordinate, value_at}
+use Rattle.pv_expr.specs.declared.operators.UnaryOp.{UnaryOp}
+use Rattle.pv_expr.specs.declared.operators.UnaryOp.TheVariants.{Neg, Abs, Pow}
+use Rattle.pv_expr.specs.declared.operators.BinaryOp.{BinaryOp}
+use Rattle.pv_expr.specs.declared.operators.BinaryOp.TheVariants.{Add, Sub, Mul, Div, Min, Max}
+use Rattle.pv_expr.specs.Terms.{Term, constant, place, one, two, unary_value, binary_value, coordinate, value_at}
 use Rattle.pv_hc4.specs.Chain.{chain, at}
 use Rattle.pv_hc4.specs.Forward.{forward_of, unary_of, binary_of}
 use Rattle.pv_hc4.specs.Totality.{total_of}

@@ -9,7 +9,9 @@ use Rattle.pv_interval.specs.Bounds.{Bounds, IsInterval, between, everything}
 use Rattle.pv_interval.specs.Subsets.{IsSubset, IsSubsetSome}
 use Rattle.pv_interval.specs.Tables.{exactly, meet_of}
 use Rattle.pv_interval.proofs.Choices.{lesser_first, lesser_second, greater_first, greater_second}
-use Rattle.pv_expr.specs.Terms.{UnaryOp, BinaryOp, Term}
+use Rattle.pv_expr.specs.declared.operators.UnaryOp.{UnaryOp}
+use Rattle.pv_expr.specs.declared.operators.BinaryOp.{BinaryOp}
+use Rattle.pv_expr.specs.Terms.{Term}
 use Rattle.pv_hc4.specs.declared.node.Node.{Node}
 use Rattle.pv_hc4.specs.declared.node.Node.TheVariants.{Constant, Place, One, Two}
 use Rattle.pv_hc4.specs.Chain.{at, chain}

@@ -16,7 +16,7 @@ use Rattle.pv_hc4.specs.Pass.{node_divides_well}
 use Rattle.pv_hc4.specs.Totality.{total_of, divides_well}
 use Rattle.pv_hc4.proofs.Growth.{term_step}
 use Rattle.pv_hc4.proofs.Passing.{node_default}
-use Rattle.pv_hc4.proofs.Totals.{part_partial, op_well}
+use Rattle.pv_hc4.proofs.Totals.{part_partial}
 use Rattle.pv_slope.specs.Centres.{at_centre, centre_of, known, on_box}
 use Rattle.pv_slope.specs.Centered.{from_centre, linear_of}
 use Rattle.pv_slope.specs.Flat.{IsFlat, AreOf, unary_slope_by, binary_slope_by}
@@ -91,7 +91,7 @@ node_well b ts vs i (One o a) r f h = refl
 node_well b ts vs i (Two o a c) r f h =
     let p = both_true (total_of b (term_at ts a)) (total_of b (term_at ts c) && divides_well o (forward_of b (term_at ts c))) h in
     let q = both_true (total_of b (term_at ts c)) (divides_well o (forward_of b (term_at ts c))) p.1 in
-    sym (ap (divides_well o) (f c r.1) ∙ op_well o (at vs c)) ∙ q.1
+    sym (ap (divides_well o) (f c r.1)) ∙ q.1
 
 -- where every node's term is total
 pub divides_node : (b : List Bounds) (ns : List Node) (vs : List Bounds) (d i : ℕ) → AreOrdered ns d → AreValues b ns vs → i < length ns

@@ -6,7 +6,8 @@ use Rattle.pv_interval.specs.Fractions.{Fraction}
 use Rattle.pv_interval.specs.Points.{Point, LiesInSome}
 use Rattle.pv_interval.specs.Tables.{exactly, sum_of, difference_of, product_of, meet_of}
 use Rattle.pv_box.specs.Boxes.{IsBox, PointIn}
-use Rattle.pv_expr.specs.Terms.{Term, two, Sub, value_at}
+use Rattle.pv_expr.specs.declared.operators.BinaryOp.TheVariants.{Sub}
+use Rattle.pv_expr.specs.Terms.{Term, two, value_at}
 use Rattle.pv_expr.specs.Systems.{IsOver}
 use Rattle.pv_hc4.specs.Chain.{chain, at}
 use Rattle.pv_hc4.specs.Forward.{forward_of}

@@ -16,7 +16,8 @@ use Rattle.pv_interval.proofs.Values.{across, below_le, above_le}
 use Rattle.pv_box.specs.Boxes.{IsBox, PointIn}
 use Rattle.pv_expr.specs.declared.constraint.Relation.{Relation}
 use Rattle.pv_expr.specs.declared.constraint.Relation.TheVariants.{Eq, Le, Ge, Lt, Gt}
-use Rattle.pv_expr.specs.Terms.{Sub, place, Stands, value_at, with_two}
+use Rattle.pv_expr.specs.declared.operators.BinaryOp.TheVariants.{Sub}
+use Rattle.pv_expr.specs.Terms.{place, Stands, value_at, with_two}
 use Rattle.pv_hc4.specs.Members.{HoldsAt, AreOver}
 use Rattle.pv_hc4.specs.Revise.{Sides}
 use Rattle.pv_hc4.specs.Totality.{total_of, same_number, sure_of}

@@ -5,7 +5,11 @@ use Rattle.pv_interval.specs.Subsets.{IsSubset}
 use Rattle.pv_interval.specs.Tables as table
 use Rattle.pv_expr.specs.declared.constraint.Relation.{Relation}
 use Rattle.pv_expr.specs.Systems.{IsOver}
-use Rattle.pv_expr.specs.Terms.{Abs, Add, BinaryOp, Div, Max, Min, Mul, Neg, Pow, Sub, Term, UnaryOp}
+use Rattle.pv_expr.specs.declared.operators.UnaryOp.{UnaryOp}
+use Rattle.pv_expr.specs.declared.operators.UnaryOp.TheVariants.{Neg, Abs, Pow}
+use Rattle.pv_expr.specs.declared.operators.BinaryOp.{BinaryOp}
+use Rattle.pv_expr.specs.declared.operators.BinaryOp.TheVariants.{Add, Sub, Mul, Div, Min, Max}
+use Rattle.pv_expr.specs.Terms.{Term}
 use Rattle.pv_hc4.specs.declared.node.Node.{Node}
 use Rattle.pv_hc4.specs.declared.node.Node.TheVariants.{Constant, Place, One, Two}
 use Rattle.pv_hc4.specs.Building.{IsPart}

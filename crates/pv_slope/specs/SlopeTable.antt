@@ -9,7 +9,11 @@ use Rattle.pv_num.specs.Arithmetic.{neg_of}
 use Rattle.pv_num.specs.Order.{le}
 use Rattle.pv_interval.specs.Bounds.{Bounds, between}
 use Rattle.pv_interval.specs.Tables as table
-use Rattle.pv_expr.specs.Terms.{UnaryOp, Neg, Abs, Pow, BinaryOp, Add, Sub, Mul, Div, Min, Max, Term, constant, place, one, two}
+use Rattle.pv_expr.specs.declared.operators.UnaryOp.{UnaryOp}
+use Rattle.pv_expr.specs.declared.operators.UnaryOp.TheVariants.{Neg, Abs, Pow}
+use Rattle.pv_expr.specs.declared.operators.BinaryOp.{BinaryOp}
+use Rattle.pv_expr.specs.declared.operators.BinaryOp.TheVariants.{Add, Sub, Mul, Div, Min, Max}
+use Rattle.pv_expr.specs.Terms.{Term, constant, place, one, two}
 use Rattle.pv_slope.specs.Centres.{known, on_box, at_centre}
 
 abbrev pub zero_slope : Bounds
