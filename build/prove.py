@@ -41,12 +41,13 @@ def kit() -> Any:
 
 def remember_stamps(rtlib: Any) -> None:
     """Works the stamp of each crate out once: rtlib asks those below again for each crate above, twice as often a level."""
-    plain, known = rtlib.Crate.stamp, {}
+    plain = rtlib.Crate.stamp
+    known: dict[Any, str] = {}
 
     def stamp(crate: Any) -> str:
         if crate not in known:
-            known[crate] = plain(crate)
-        return str(known[crate])
+            known[crate] = str(plain(crate))
+        return known[crate]
 
     rtlib.Crate.stamp = stamp
 
