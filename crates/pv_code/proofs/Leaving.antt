@@ -2,15 +2,15 @@
 use Rattle.std.proofs.Common.{◌≡◌, ℕ, zero, suc, ◌+◌, ◌-◌, ◌<◌, ◌≤◌, Bool, true, false, if◌then◌else◌, List, [], ◌∷◌, ◌++◌, get_or, length, reverse, map, take, drop, refl, ap, sym, subst, ◌∙◌, arith}
 use Rattle.std.specs.Prelude.{All}
 use Rattle.std.proofs.lemmas.List.{reverse-append, reverse-reverse, take_all, take_more, take_at, drop_at, length-reverse, length-take, get_or_past}
-use Rattle.pv_expr.specs.Terms.{Binary, Term, Unary, one, two}
+use Rattle.pv_expr.specs.declared.operators.UnaryOp.{UnaryOp}
+use Rattle.pv_expr.specs.declared.operators.BinaryOp.{BinaryOp}
+use Rattle.pv_expr.specs.Terms.{Term, one, two}
 use Rattle.pv_code.specs.declared.code.Op.{Op}
 use Rattle.pv_code.specs.declared.code.Op.TheVariants.{One, Two, Call}
-use Rattle.pv_code.specs.declared.code.Unary as CodeUnary
-use Rattle.pv_code.specs.declared.code.Binary as CodeBinary
 use Rattle.pv_code.specs.declared.expand.Function.{Function}
 use Rattle.pv_code.specs.declared.measure.Measure.{Measure}
 use Rattle.pv_code.specs.declared.value.Value.{Value}
-use Rattle.pv_code.specs.Expansion.{Meaning, argument, below, binary_of, body_meaning, callee, code_of, filtered, is_used, meaning_of, meanings, nothing, run, step, top, unary_of}
+use Rattle.pv_code.specs.Expansion.{Meaning, argument, below, body_meaning, callee, code_of, filtered, is_used, meaning_of, meanings, nothing, run, step, top}
 use Rattle.pv_code.specs.Sizes.{IsShortCall, IsSize}
 use Rattle.pv_code.specs.Values as Values
 use Rattle.pv_code.specs.Values.{AreAll, AreStacked, HasCode, HasSize, Represents, Setting, at}
@@ -119,19 +119,19 @@ of-step x v m o o' t measured-is code-is is steps sized = record {
   code = λ stand st. run-last (meanings (map code_of x.functions)) x.arguments [] v.code.items o o' st st code-is is refl ∙ steps st;
 }
 
-pub of-one : (x : Setting) (v r : Value) (o : Op) (u : CodeUnary.Unary) (t : Term) → o ≡ One u → r.code.items ≡ v.code.items ++ o ∷ [] →
-    ((args : List Term) (t : Term) (w : Unary) → length args ≤ 12 → HasSize args v t → HasSize args r (one w t)) →
-    Represents x v t → Represents x r (one (unary_of u) t)
+pub of-one : (x : Setting) (v r : Value) (o : Op) (u : UnaryOp) (t : Term) → o ≡ One u → r.code.items ≡ v.code.items ++ o ∷ [] →
+    ((args : List Term) (t : Term) (w : UnaryOp) → length args ≤ 12 → HasSize args v t → HasSize args r (one w t)) →
+    Represents x v t → Represents x r (one u t)
 of-one x v r o u t is code sized s = record {
-  size = λ short measured few. sized x.arguments t (unary_of u) few (s.size short measured few);
+  size = λ short measured few. sized x.arguments t u few (s.size short measured few);
   code = λ stand st. run-last (meanings (map code_of x.functions)) x.arguments v.code.items r.code.items o (One u) st (t ∷ st) code is (s.code stand st);
 }
 
-pub of-two : (x : Setting) (v w r : Value) (o : Op) (b : CodeBinary.Binary) (t u : Term) → o ≡ Two b → r.code.items ≡ (v.code.items ++ w.code.items) ++ o ∷ [] →
-    ((args : List Term) (t u : Term) (c : Binary) → length args ≤ 12 → HasSize args v t → HasSize args w u → HasSize args r (two c t u)) →
-    Represents x v t → Represents x w u → Represents x r (two (binary_of b) t u)
+pub of-two : (x : Setting) (v w r : Value) (o : Op) (b : BinaryOp) (t u : Term) → o ≡ Two b → r.code.items ≡ (v.code.items ++ w.code.items) ++ o ∷ [] →
+    ((args : List Term) (t u : Term) (c : BinaryOp) → length args ≤ 12 → HasSize args v t → HasSize args w u → HasSize args r (two c t u)) →
+    Represents x v t → Represents x w u → Represents x r (two b t u)
 of-two x v w r o b t u is code sized s s' = record {
-  size = λ short measured few. sized x.arguments t u (binary_of b) few (s.size short measured few) (s'.size short measured few);
+  size = λ short measured few. sized x.arguments t u b few (s.size short measured few) (s'.size short measured few);
   code = λ stand st.
       run-last (meanings (map code_of x.functions)) x.arguments (v.code.items ++ w.code.items) r.code.items o (Two b) st (u ∷ (t ∷ st)) code is
       (run-append (meanings (map code_of x.functions)) x.arguments v.code.items w.code.items st ∙ ap (run (meanings (map code_of x.functions)) x.arguments w.code.items) (s.code stand st) ∙ s'.code stand (t ∷ st));

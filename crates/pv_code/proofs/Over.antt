@@ -10,7 +10,7 @@ use Rattle.pv_expr.specs.Systems.{IsConstraint, IsOver, IsUnary, side_nodes}
 use Rattle.pv_expr.specs.Terms.{Term}
 use Rattle.pv_code.specs.declared.code.Op.{Op}
 use Rattle.pv_code.specs.declared.code.Op.TheVariants.{Constant, Variable, Parameter, One, Two, Call, Define, Relate}
-use Rattle.pv_code.specs.Expansion.{Meaning, Sides, below, body_meaning, constraints_behind, constraints_of, nothing, run, sides_of, step, top, unary_of}
+use Rattle.pv_code.specs.Expansion.{Meaning, Sides, below, body_meaning, constraints_behind, constraints_of, nothing, run, sides_of, step, top}
 use Rattle.pv_code.specs.Fractions.{IsLowest}
 use Rattle.pv_code.specs.Sizes.{AreWithin, IsShallow, IsShortCall, nodes_of}
 
@@ -18,7 +18,7 @@ use Rattle.pv_code.specs.Sizes.{AreWithin, IsShallow, IsShortCall, nodes_of}
 abbrev pub IsStep : ℕ → Op → Type 0
 IsStep n (Constant f) = IsLowest f
 IsStep n (Variable i) = i < n
-IsStep n (One u) = IsUnary (unary_of u)
+IsStep n (One u) = IsUnary u
 IsStep n (Call k m) = m ≤ 12
 IsStep n o = Unit {0}
 

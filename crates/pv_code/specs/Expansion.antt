@@ -4,13 +4,9 @@ use Rattle.std.specs.List.{list_any}
 use Rattle.pv_expr.specs.declared.expr.Expr.{Expr}
 use Rattle.pv_expr.specs.declared.constraint.Relation.{Relation}
 use Rattle.pv_expr.specs.declared.constraint.Constraint.{Constraint}
-use Rattle.pv_expr.specs.Terms.{Term, constant, place, one, two, Unary, negation, absolute, power, Binary, sum, difference, product, quotient, least, greatest, term_of}
+use Rattle.pv_expr.specs.Terms.{Term, constant, place, one, two, term_of}
 use Rattle.pv_code.specs.declared.code.Op.{Op}
 use Rattle.pv_code.specs.declared.code.Op.TheVariants.{Constant, Variable, Parameter, One, Two, Call, Define, Relate}
-use Rattle.pv_code.specs.declared.code.Unary as CodeUnary
-use Rattle.pv_code.specs.declared.code.Unary.TheVariants.{Neg, Abs, Pow}
-use Rattle.pv_code.specs.declared.code.Binary as CodeBinary
-use Rattle.pv_code.specs.declared.code.Binary.TheVariants.{Add, Sub, Mul, Div, Min, Max}
 use Rattle.pv_code.specs.declared.expand.Function.{Function}
 
 -- what a call of a function with these arguments stands for
@@ -35,27 +31,14 @@ abbrev pub below : List Term → List Term
 below [] = []
 below (t ∷ ts) = ts
 
-abbrev pub unary_of : CodeUnary.Unary → Unary
-unary_of Neg = negation
-unary_of Abs = absolute
-unary_of (Pow n) = power n
-
-abbrev pub binary_of : CodeBinary.Binary → Binary
-binary_of Add = sum
-binary_of Sub = difference
-binary_of Mul = product
-binary_of Div = quotient
-binary_of Min = least
-binary_of Max = greatest
-
 -- a step on the stack of terms, the top first: a call stands for what its function means with the values on top as
 -- arguments, the last of them on top
 abbrev pub step : List Meaning → List Term → Op → List Term → List Term
 step ms args (Constant f) st = constant f.p f.q ∷ st
 step ms args (Variable i) st = place i ∷ st
 step ms args (Parameter i) st = argument args i ∷ st
-step ms args (One u) st = one (unary_of u) (top st) ∷ below st
-step ms args (Two b) st = two (binary_of b) (top (below st)) (top st) ∷ below (below st)
+step ms args (One u) st = one u (top st) ∷ below st
+step ms args (Two b) st = two b (top (below st)) (top st) ∷ below (below st)
 step ms args (Call k n) st = meaning_of ms k (reverse (take n st)) ∷ drop n st
 step ms args Define st = st
 step ms args (Relate r) st = st

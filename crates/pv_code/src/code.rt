@@ -1,27 +1,7 @@
 // Expressions in postfix form.
 
 use crate::fraction::Fraction;
-use pv_expr::Relation;
-
-/// An operation with one argument.
-#[derive(Clone, Copy)]
-pub enum Unary {
-    Neg,
-    Abs,
-    /// A power with an exponent of at most 32.
-    Pow(u8),
-}
-
-/// An operation with two arguments.
-#[derive(Clone, Copy)]
-pub enum Binary {
-    Add,
-    Sub,
-    Mul,
-    Div,
-    Min,
-    Max,
-}
+use pv_expr::{BinaryOp, Relation, UnaryOp};
 
 /// One step of an expression in postfix form: it takes its arguments from a stack and puts its
 /// value there.
@@ -31,8 +11,8 @@ pub enum Op {
     Variable(u8),
     /// A parameter of the function whose body this is.
     Parameter(u8),
-    One(Unary),
-    Two(Binary),
+    One(UnaryOp),
+    Two(BinaryOp),
     /// A call of a function that was declared before, with as many arguments as it has parameters.
     Call { function: u8, arity: u8 },
     /// The end of a function's body, which is the one value on the stack.

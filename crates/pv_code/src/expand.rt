@@ -2,14 +2,14 @@
 
 ghost use Rattle.std.specs.Prelude.{◌≡◌, All, true, ◌∷◌, ◌+◌, [], List, length, map, reverse, take, drop, IfOk, OnOk};
 ghost use Rattle.pv_expr.specs.Terms.{Term, term_of, one, two};
-ghost use Rattle.pv_code.specs.Expansion.{argument, body_meaning, meaning_of, meanings, run, step, nothing, stacked, RunsAlike, occurs, is_parameter, IsMarked, KeepsBody, Meaning, Stand, sides_of, part_sides, stack_of, code_of, unary_of, binary_of, top, below};
+ghost use Rattle.pv_code.specs.Expansion.{argument, body_meaning, meaning_of, meanings, run, step, nothing, stacked, RunsAlike, occurs, is_parameter, IsMarked, KeepsBody, Meaning, Stand, sides_of, part_sides, stack_of, code_of, top, below};
 ghost use Rattle.pv_code.specs.Sizes.{AreMeasured, IsMeasured, IsShortCall};
 
-use crate::code::{Binary, Op, Unary};
+use crate::code::Op;
 use crate::fraction::Fraction;
 use crate::measure::Measure;
 use crate::value::{topmost, values};
-use pv_expr::{Constraint, Expr, Relation};
+use pv_expr::{BinaryOp, Constraint, Expr, Relation, UnaryOp};
 use pv_num::Memory;
 use std::alloc::Global;
 use std::mem;
@@ -212,28 +212,28 @@ fn is_parameter(op: Op, i: u8) -> bool
     matches!(op, Op::Parameter(k) if k == i)
 }
 
-fn one(alloc: Global, unary: Unary, a: Expr) -> Result<Expr, Memory>
-    ensures { IfOk result (λ e. term_of e ≡ one (unary_of unary) (term_of a)) }
+fn one(alloc: Global, unary: UnaryOp, a: Expr) -> Result<Expr, Memory>
+    ensures { IfOk result (λ e. term_of e ≡ one unary (term_of a)) }
 {
     let a = Box::new(alloc, a)?;
     Ok(match unary {
-        Unary::Neg => Expr::Neg(a),
-        Unary::Abs => Expr::Abs(a),
-        Unary::Pow(n) => Expr::Pow(a, n),
+        UnaryOp::Neg => Expr::Neg(a),
+        UnaryOp::Abs => Expr::Abs(a),
+        UnaryOp::Pow(n) => Expr::Pow(a, n),
     })
 }
 
-fn two(alloc: Global, binary: Binary, a: Expr, b: Expr) -> Result<Expr, Memory>
-    ensures { IfOk result (λ e. term_of e ≡ two (binary_of binary) (term_of a) (term_of b)) }
+fn two(alloc: Global, binary: BinaryOp, a: Expr, b: Expr) -> Result<Expr, Memory>
+    ensures { IfOk result (λ e. term_of e ≡ two binary (term_of a) (term_of b)) }
 {
     let a = Box::new(alloc, a)?;
     let b = Box::new(alloc, b)?;
     Ok(match binary {
-        Binary::Add => Expr::Add(a, b),
-        Binary::Sub => Expr::Sub(a, b),
-        Binary::Mul => Expr::Mul(a, b),
-        Binary::Div => Expr::Div(a, b),
-        Binary::Min => Expr::Min(a, b),
-        Binary::Max => Expr::Max(a, b),
+        BinaryOp::Add => Expr::Add(a, b),
+        BinaryOp::Sub => Expr::Sub(a, b),
+        BinaryOp::Mul => Expr::Mul(a, b),
+        BinaryOp::Div => Expr::Div(a, b),
+        BinaryOp::Min => Expr::Min(a, b),
+        BinaryOp::Max => Expr::Max(a, b),
     })
 }

@@ -8,7 +8,7 @@ mod fraction;
 mod measure;
 mod value;
 
-pub use code::{Binary, Op, Unary};
+pub use code::Op;
 pub use expand::{Function, constraint, expression};
 pub use fraction::{Fraction, is_quotient_at_most};
 pub use measure::{MOST_PARAMETERS, Measure, Place};

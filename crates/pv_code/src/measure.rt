@@ -2,7 +2,7 @@
 
 ghost use Rattle.std.specs.Prelude.{◌≡◌, ℕ, ◌+◌, ◌*◌, ◌≤◌, List, [], length, max};
 ghost use Rattle.pv_expr.specs.declared.constraint.Relation.{Relation};
-ghost use Rattle.pv_expr.specs.Terms.{Term, Unary, Binary, one, two, node_count, depth_of};
+ghost use Rattle.pv_expr.specs.Terms.{Term, one, two, node_count, depth_of};
 ghost use Rattle.pv_code.specs.Expansion.{argument, nothing};
 ghost use Rattle.pv_code.specs.Sizes.{IsRoom, IsSize, IsSizeOf, beside, cut, end_of, within};
 

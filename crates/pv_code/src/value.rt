@@ -3,7 +3,7 @@
 
 ghost use Rattle.std.specs.Prelude.{All, ◌≡◌, ℕ, ◌≤◌, ◌<◌, ◌^◌, List, [], ◌∷◌, ◌++◌, length, reverse, take, drop, IfOk, OnOk};
 ghost use Rattle.pv_expr.specs.declared.constraint.Relation.{Relation};
-ghost use Rattle.pv_expr.specs.Terms.{Binary, Term, Unary, one, two};
+ghost use Rattle.pv_expr.specs.Terms.{Term, one, two};
 ghost use Rattle.pv_code.specs.declared.code.Op.{Op};
 ghost use Rattle.pv_code.specs.Expansion.{Meaning, argument, below, body_meaning, filtered, is_used, meaning_of, nothing, part_sides, run, step, top};
 ghost use Rattle.pv_code.specs.Sizes.{AreMeasured, IsRoom, IsShortCall, IsSize};

@@ -4,7 +4,9 @@ use Rattle.std.specs.Coded.{×_prop, Unit-prop, le_prop}
 use Rattle.std.proofs.Props.{props}
 use Rattle.std.specs.Prelude.{ℤ}
 use Rattle.pv_expr.specs.Systems.{IsFraction, IsUnary, IsOver}
-use Rattle.pv_expr.specs.Terms.{Unary, negation, absolute, power, Term, constant, place, one, two}
+use Rattle.pv_expr.specs.declared.operators.UnaryOp.{UnaryOp}
+use Rattle.pv_expr.specs.declared.operators.UnaryOp.TheVariants.{Neg, Abs, Pow}
+use Rattle.pv_expr.specs.Terms.{Term, constant, place, one, two}
 use Rattle.pv_hc4.specs.Revise.{Sides}
 use Rattle.pv_ctc.specs.Plans.{Plan, Plans, hc4, compose, union, qinter, fix, prop, no_plan, plan_and, IsFor, AreFor}
 use Rattle.pv_ctc.specs.Members.{AllOver}
@@ -22,10 +24,10 @@ mutual
   AreFor-prop n no_plan = Unit-prop
   AreFor-prop n (plan_and p ps) = ×_prop (IsFor-prop n p) (AreFor-prop n ps)
 
-IsUnary-prop : (u : Unary) → IsProp (IsUnary u)
-IsUnary-prop negation = Unit-prop
-IsUnary-prop absolute = Unit-prop
-IsUnary-prop (power n) = le_prop
+IsUnary-prop : (u : UnaryOp) → IsProp (IsUnary u)
+IsUnary-prop Neg = Unit-prop
+IsUnary-prop Abs = Unit-prop
+IsUnary-prop (Pow n) = le_prop
 
 IsFraction-prop : (p : ℤ) (q : ℕ) → IsProp (IsFraction p q)
 IsFraction-prop p q = hlevel props

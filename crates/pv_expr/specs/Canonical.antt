@@ -3,7 +3,11 @@ use Rattle.std.specs.Prelude.{ℕ, ℤ, List, [], ◌∷◌, ◌++◌, length, m
 use Rattle.std.specs.Fmt.{signed_decimal}
 use Rattle.pv_interval.specs.Bounds.{Bounds}
 use Rattle.pv_num.specs.Parts.{number_text}
-use Rattle.pv_expr.specs.Terms.{Term, constant, place, one, two, Unary, negation, absolute, power, Binary, sum, difference, product, quotient, least, greatest, term_of}
+use Rattle.pv_expr.specs.declared.operators.UnaryOp.{UnaryOp}
+use Rattle.pv_expr.specs.declared.operators.UnaryOp.TheVariants.{Neg, Abs, Pow}
+use Rattle.pv_expr.specs.declared.operators.BinaryOp.{BinaryOp}
+use Rattle.pv_expr.specs.declared.operators.BinaryOp.TheVariants.{Add, Sub, Mul, Div, Min, Max}
+use Rattle.pv_expr.specs.Terms.{Term, constant, place, one, two, term_of}
 use Rattle.pv_expr.specs.Systems.{Parts}
 use Rattle.pv_expr.specs.Searches.{search_bounds}
 use Rattle.pv_expr.specs.declared.constraint.Relation.{Relation}
@@ -17,18 +21,18 @@ relation_text Ge = codes ">="
 relation_text Lt = codes "<"
 relation_text Gt = codes ">"
 
-abbrev pub binary_head : Binary → List ℕ
-binary_head sum = codes "(+ "
-binary_head difference = codes "(- "
-binary_head product = codes "(* "
-binary_head quotient = codes "(/ "
-binary_head least = codes "(min "
-binary_head greatest = codes "(max "
+abbrev pub binary_head : BinaryOp → List ℕ
+binary_head Add = codes "(+ "
+binary_head Sub = codes "(- "
+binary_head Mul = codes "(* "
+binary_head Div = codes "(/ "
+binary_head Min = codes "(min "
+binary_head Max = codes "(max "
 
-abbrev pub unary_head : Unary → List ℕ
-unary_head negation = codes "(neg "
-unary_head absolute = codes "(abs "
-unary_head (power n) = codes "(^ "
+abbrev pub unary_head : UnaryOp → List ℕ
+unary_head Neg = codes "(neg "
+unary_head Abs = codes "(abs "
+unary_head (Pow n) = codes "(^ "
 
 -- how the text of an operation begins
 abbrev pub term_head : Term → List ℕ
@@ -37,10 +41,10 @@ term_head (place i) = []
 term_head (one u t) = unary_head u
 term_head (two b t u) = binary_head b
 
-abbrev pub unary_text : Unary → List ℕ → List ℕ
-unary_text negation text = codes "(neg " ++ text ++ codes ")"
-unary_text absolute text = codes "(abs " ++ text ++ codes ")"
-unary_text (power n) text = codes "(^ " ++ text ++ codes " " ++ decimal n ++ codes ")"
+abbrev pub unary_text : UnaryOp → List ℕ → List ℕ
+unary_text Neg text = codes "(neg " ++ text ++ codes ")"
+unary_text Abs text = codes "(abs " ++ text ++ codes ")"
+unary_text (Pow n) text = codes "(^ " ++ text ++ codes " " ++ decimal n ++ codes ")"
 
 abbrev pub fraction_text : ℤ → ℕ → List ℕ
 fraction_text p q = signed_decimal p ++ codes "/" ++ decimal q

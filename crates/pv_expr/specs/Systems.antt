@@ -1,7 +1,9 @@
 -- What a system is: its parts, and the limits within which they lie.
 use Rattle.std.specs.Prelude.{◌≡◌, ◌≢◌, ℕ, ◌+◌, ◌^◌, ◌<◌, ◌≤◌, List, ℤ, pos, ◌*ℤ◌, ◌≤ℤ◌, unsigned_abs, length, All, AllPairs, sum_by, slice_get, Some}
 use Rattle.std.specs.Int.{IsGcd}
-use Rattle.pv_expr.specs.Terms.{Term, constant, place, one, two, Unary, negation, absolute, power, term_of, node_count, depth_of}
+use Rattle.pv_expr.specs.declared.operators.UnaryOp.{UnaryOp}
+use Rattle.pv_expr.specs.declared.operators.UnaryOp.TheVariants.{Neg, Abs, Pow}
+use Rattle.pv_expr.specs.Terms.{Term, constant, place, one, two, term_of, node_count, depth_of}
 use Rattle.pv_expr.specs.declared.domain.Bound.{Bound}
 use Rattle.pv_expr.specs.declared.domain.Bound.TheVariants.{MinusOo, Value, PlusOo}
 use Rattle.pv_expr.specs.declared.domain.Domain.{Domain}
@@ -45,10 +47,10 @@ pub record IsDomain (d : Domain) : Type 0 where
   pub upper : IsBound d.hi
   pub in_order : InOrder d.lo d.hi
 
-abbrev pub IsUnary : Unary → Type 0
-IsUnary negation = Unit {0}
-IsUnary absolute = Unit {0}
-IsUnary (power n) = n ≤ 32
+abbrev pub IsUnary : UnaryOp → Type 0
+IsUnary Neg = Unit {0}
+IsUnary Abs = Unit {0}
+IsUnary (Pow n) = n ≤ 32
 
 -- each constant is a fraction within the limits, each variable is below n, each exponent at most 32
 abbrev pub IsOver : ℕ → Term → Type 0

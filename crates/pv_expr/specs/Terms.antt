@@ -6,59 +6,50 @@ use Rattle.pv_expr.specs.declared.expr.Expr.TheVariants.{Const, Var, Add', Sub',
 use Rattle.pv_expr.specs.declared.constraint.Relation.{Relation}
 use Rattle.pv_expr.specs.declared.constraint.Relation.TheVariants.{Eq, Le, Ge, Lt, Gt}
 use Rattle.pv_expr.specs.declared.constraint.Constraint.{Constraint}
-
-pub data Unary : Type 0 where
-  negation : Unary
-  absolute : Unary
-  power : ℕ → Unary
-
-pub data Binary : Type 0 where
-  sum : Binary
-  difference : Binary
-  product : Binary
-  quotient : Binary
-  least : Binary
-  greatest : Binary
+use Rattle.pv_expr.specs.declared.operators.UnaryOp.{UnaryOp}
+use Rattle.pv_expr.specs.declared.operators.UnaryOp.TheVariants.{Neg, Abs, Pow}
+use Rattle.pv_expr.specs.declared.operators.BinaryOp.{BinaryOp}
+use Rattle.pv_expr.specs.declared.operators.BinaryOp.TheVariants.{Add, Sub, Mul, Div, Min, Max}
 
 -- a term: the constant p/q, the variable at a place, or an operation
 pub data Term : Type 0 where
   constant : ℤ → ℕ → Term
   place : ℕ → Term
-  one : Unary → Term → Term
-  two : Binary → Term → Term → Term
+  one : UnaryOp → Term → Term
+  two : BinaryOp → Term → Term → Term
 
 abbrev pub term_of : Expr → Term
 term_of (Const p q) = constant p q
 term_of (Var i) = place i
-term_of (Add' p a q b) = two sum (term_of a) (term_of b)
-term_of (Sub' p a q b) = two difference (term_of a) (term_of b)
-term_of (Mul' p a q b) = two product (term_of a) (term_of b)
-term_of (Div' p a q b) = two quotient (term_of a) (term_of b)
-term_of (Min' p a q b) = two least (term_of a) (term_of b)
-term_of (Max' p a q b) = two greatest (term_of a) (term_of b)
-term_of (Neg' p a) = one negation (term_of a)
-term_of (Abs' p a) = one absolute (term_of a)
-term_of (Pow' p a n) = one (power n) (term_of a)
+term_of (Add' p a q b) = two Add (term_of a) (term_of b)
+term_of (Sub' p a q b) = two Sub (term_of a) (term_of b)
+term_of (Mul' p a q b) = two Mul (term_of a) (term_of b)
+term_of (Div' p a q b) = two Div (term_of a) (term_of b)
+term_of (Min' p a q b) = two Min (term_of a) (term_of b)
+term_of (Max' p a q b) = two Max (term_of a) (term_of b)
+term_of (Neg' p a) = one Neg (term_of a)
+term_of (Abs' p a) = one Abs (term_of a)
+term_of (Pow' p a n) = one (Pow n) (term_of a)
 
-abbrev pub unary_value : Unary → Fraction → Fraction
-unary_value negation f = opposite f
-unary_value absolute f = size f
-unary_value (power n) f = raised f n
+abbrev pub unary_value : UnaryOp → Fraction → Fraction
+unary_value Neg f = opposite f
+unary_value Abs f = size f
+unary_value (Pow n) f = raised f n
 
 -- undefined where the divisor is 0
-abbrev pub binary_value : Binary → Fraction → Fraction → Option Fraction
-binary_value sum f g = Some (plus f g)
-binary_value difference f g = Some (minus f g)
-binary_value product f g = Some (times f g)
-binary_value quotient f g = over f g
-binary_value least f g = Some (lesser f g)
-binary_value greatest f g = Some (larger f g)
+abbrev pub binary_value : BinaryOp → Fraction → Fraction → Option Fraction
+binary_value Add f g = Some (plus f g)
+binary_value Sub f g = Some (minus f g)
+binary_value Mul f g = Some (times f g)
+binary_value Div f g = over f g
+binary_value Min f g = Some (lesser f g)
+binary_value Max f g = Some (larger f g)
 
-abbrev pub with_one : Unary → Option Fraction → Option Fraction
+abbrev pub with_one : UnaryOp → Option Fraction → Option Fraction
 with_one u None = None
 with_one u (Some v) = Some (unary_value u v)
 
-abbrev pub with_two : Binary → Option Fraction → Option Fraction → Option Fraction
+abbrev pub with_two : BinaryOp → Option Fraction → Option Fraction → Option Fraction
 with_two b None o = None
 with_two b (Some v) None = None
 with_two b (Some v) (Some w) = binary_value b v w

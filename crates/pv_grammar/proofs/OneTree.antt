@@ -3,8 +3,8 @@ use Rattle.std.proofs.Common.{◌≡◌, ◌≢◌, ℕ, zero, suc, List, [], �
 use Rattle.std.proofs.Props.{props}
 use Rattle.pv_code.specs.declared.code.Op.{Op}
 use Rattle.pv_code.specs.declared.code.Op.TheVariants.{One, Two, Call}
-use Rattle.pv_code.specs.declared.code.Unary.TheVariants.{Pow}
-use Rattle.pv_code.specs.declared.code.Binary.TheVariants.{Max}
+use Rattle.pv_expr.specs.declared.operators.UnaryOp.TheVariants.{Pow}
+use Rattle.pv_expr.specs.declared.operators.BinaryOp.TheVariants.{Max}
 use Rattle.pv_grammar.specs.declared.machine.Item.{Item}
 use Rattle.pv_grammar.specs.declared.machine.Item.TheVariants.{Then}
 use Rattle.pv_grammar.specs.declared.symbol.Symbol.{Symbol}

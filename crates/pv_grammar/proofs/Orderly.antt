@@ -3,8 +3,8 @@ use Rattle.std.proofs.Common.{Bool, true, false, ◌≡◌, ◌≢◌, ℕ, zero
 use Rattle.pv_expr.specs.declared.constraint.Relation.TheVariants.{Eq}
 use Rattle.pv_code.specs.declared.code.Op.{Op}
 use Rattle.pv_code.specs.declared.code.Op.TheVariants.{One, Two, Define, Relate}
-use Rattle.pv_code.specs.declared.code.Unary.TheVariants.{Neg}
-use Rattle.pv_code.specs.declared.code.Binary.TheVariants.{Add, Sub, Mul, Div}
+use Rattle.pv_expr.specs.declared.operators.UnaryOp.TheVariants.{Neg}
+use Rattle.pv_expr.specs.declared.operators.BinaryOp.TheVariants.{Add, Sub, Mul, Div}
 use Rattle.pv_grammar.specs.declared.symbol.Fixed.{Fixed}
 use Rattle.pv_grammar.specs.declared.symbol.Fixed.TheVariants.{Plus, Minus, Star, Slash, Caret, Open, Close, CloseBracket, Comma, Semicolon, Constants, Variables, Constraints, Function as FunctionWord, End, In, EndOfText}
 use Rattle.pv_grammar.specs.declared.symbol.Symbol.{Symbol}

@@ -4,8 +4,8 @@ use Rattle.pv_expr.specs.declared.constraint.Relation.{Relation}
 use Rattle.pv_expr.specs.declared.constraint.Relation.TheVariants.{Eq}
 use Rattle.pv_code.specs.declared.code.Op.{Op}
 use Rattle.pv_code.specs.declared.code.Op.TheVariants.{One, Two, Call, Relate}
-use Rattle.pv_code.specs.declared.code.Unary.TheVariants.{Abs, Pow}
-use Rattle.pv_code.specs.declared.code.Binary.TheVariants.{Min, Max}
+use Rattle.pv_expr.specs.declared.operators.UnaryOp.TheVariants.{Abs, Pow}
+use Rattle.pv_expr.specs.declared.operators.BinaryOp.TheVariants.{Min, Max}
 use Rattle.pv_code.specs.declared.fraction.Fraction.{Fraction}
 use Rattle.pv_grammar.specs.declared.machine.Item.{Item}
 use Rattle.pv_grammar.specs.declared.machine.Item.TheVariants.{Exactly, MaybeConstants, WantConstant, MoreConstants, MaybeConstant, WantEquals, MaybeSign, WantValue, MaybeFunctions, WantFunctionName, WantParameter, MoreParameters, MaybeSemicolon, WantVariable, MoreVariables, MaybeVariable, MaybeDomain, WantBound, WantRelation, MoreConstraints, MaybeConstraint, WantFactor, MoreFactors, MoreTerms, MaybePower, WantExponent, MoreArguments, Then}

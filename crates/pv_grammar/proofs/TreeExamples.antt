@@ -1,6 +1,7 @@
 -- That the trees say what they should, by a few examples: each tree with the tokens has the term.
 use Rattle.std.proofs.Common.{◌≡◌, List, [], ◌∷◌, pos, refl, sym, ap, ◌∙◌}
-use Rattle.pv_expr.specs.Terms.{difference, one, place, product, quotient, sum, two}
+use Rattle.pv_expr.specs.declared.operators.BinaryOp.TheVariants.{Add, Sub, Mul, Div}
+use Rattle.pv_expr.specs.Terms.{one, place, two}
 use Rattle.pv_code.specs.declared.fraction.Fraction.{Fraction}
 use Rattle.pv_code.specs.declared.code.Op.TheVariants.{Call}
 use Rattle.pv_code.specs.Expansion.{Meaning}
@@ -32,12 +33,12 @@ whole = record { p = pos 2; q = 1 }
 
 -- x - y - z is (x - y) - z
 differences : (e : Expression) → expression_symbols e [] ≡ VariableName 0 ∷ FixedToken Minus ∷ VariableName 1 ∷ FixedToken Minus ∷ VariableName 2 ∷ [] →
-    expression_term [] [] e ≡ two difference (two difference (place 0) (place 1)) (place 2)
+    expression_term [] [] e ≡ two Sub (two Sub (place 0) (place 1)) (place 2)
 differences e is = of_tokens [] _ (sum_of (name x) (minus (name y) (minus (name z) no_term))) refl e is
 
 -- x / y * z is (x / y) * z, and binds tighter than +
 quotients : (e : Expression) → expression_symbols e [] ≡ VariableName 2 ∷ FixedToken Plus ∷ VariableName 0 ∷ FixedToken Slash ∷ VariableName 1 ∷ FixedToken Star ∷ VariableName 2 ∷ [] →
-    expression_term [] [] e ≡ two sum (place 2) (two product (two quotient (place 0) (place 1)) (place 2))
+    expression_term [] [] e ≡ two Add (place 2) (two Mul (two Div (place 0) (place 1)) (place 2))
 quotients e is = of_tokens [] _ (sum_of (name z) (plus (product_of x (over y (times z no_factor))) no_term)) refl e is
 
 -- where f(a, b) = a - b, f(y, x) is y - x
@@ -48,7 +49,7 @@ abbrev difference_function : Function
 difference_function = function_of (parameter_and no_parameter) body no_semicolon no_semicolon
 
 calls : (e : Expression) → expression_symbols e [] ≡ FunctionName (Call 0 2) 2 ∷ FixedToken Open ∷ VariableName 1 ∷ FixedToken Comma ∷ VariableName 0 ∷ FixedToken Close ∷ [] →
-    expression_term (function_meaning [] difference_function ∷ []) [] e ≡ two difference (place 1) (place 0)
+    expression_term (function_meaning [] difference_function ∷ []) [] e ≡ two Sub (place 1) (place 0)
 calls e is =
     of_tokens (function_meaning [] difference_function ∷ []) _
     (sum_of (name (raised (call 0 (sum_of (name y) no_term) (argument (sum_of (name x) no_term) no_argument)) no_power)) no_term) refl e is

@@ -2,14 +2,14 @@
 use Rattle.std.proofs.Common.{◌≡◌, ℕ, suc, List, [], ◌∷◌, ◌++◌, length, reverse, take, drop, refl, ap, sym, subst, ◌∙◌, append_assoc, arith}
 use Rattle.std.proofs.lemmas.List.{reverse-append, reverse-reverse, length-reverse}
 use Rattle.std.proofs.Math.Seq.{take-append_seam, drop-append_seam}
+use Rattle.pv_expr.specs.declared.operators.UnaryOp.{UnaryOp}
+use Rattle.pv_expr.specs.declared.operators.UnaryOp.TheVariants.{Neg, Abs, Pow}
+use Rattle.pv_expr.specs.declared.operators.BinaryOp.{BinaryOp}
+use Rattle.pv_expr.specs.declared.operators.BinaryOp.TheVariants.{Add, Sub, Mul, Div, Min, Max}
 use Rattle.pv_expr.specs.Terms.{Term, one, two}
 use Rattle.pv_code.specs.declared.code.Op.{Op}
 use Rattle.pv_code.specs.declared.code.Op.TheVariants.{Constant as ConstantStep, Variable as VariableStep, Parameter as ParameterStep, One, Two, Call, Define, Relate}
-use Rattle.pv_code.specs.declared.code.Unary as CodeUnary
-use Rattle.pv_code.specs.declared.code.Unary.TheVariants.{Neg, Abs, Pow}
-use Rattle.pv_code.specs.declared.code.Binary as CodeBinary
-use Rattle.pv_code.specs.declared.code.Binary.TheVariants.{Add, Sub, Mul, Div, Min, Max}
-use Rattle.pv_code.specs.Expansion.{Meaning, Sides, below, binary_of, body_meaning, constraints_behind, constraints_of, meaning_of, run, step, top, unary_of}
+use Rattle.pv_code.specs.Expansion.{Meaning, Sides, below, body_meaning, constraints_behind, constraints_of, meaning_of, run, step, top}
 use Rattle.pv_code.proofs.Leaving.{run-append}
 use Rattle.pv_grammar.specs.Productions.{Arguments, Constraint, Constraints, Expression, Factor, Factors, Functions, Power, Primary, System, Term as TermTree, Terms, absolute_of, argument, call, constant_named, constraint_and, constraints_semicolon, count, function_and, function_of, greatest_of, least_of, minus, negative, no_argument, no_constraint, no_factor, no_function, no_power, no_term, number, over, parameter_at, parentheses, plus, positive, product_of, raised, relates, square_of, sum_of, system_of, times, to_power, variable_at}
 use Rattle.pv_grammar.specs.TreeCodes.{arguments_code, constraint_code, constraints_code, expression_code, factor_code, factors_code, functions_code, power_code, primary_code, system_code, term_code, terms_code}
@@ -40,8 +40,8 @@ push_step ms part k o f same is = record {
   plain = λ args st. ap (run ms args k) (is args st);
 }
 
-push_one : (ms : List Meaning) (part code k : List Op) (f : List Term → Term) (u : CodeUnary.Unary) → Pushes ms part code (One u ∷ k) f →
-    Pushes ms part code k (λ args. one (unary_of u) (f args))
+push_one : (ms : List Meaning) (part code k : List Op) (f : List Term → Term) (u : UnaryOp) → Pushes ms part code (One u ∷ k) f →
+    Pushes ms part code k (λ args. one u (f args))
 push_one ms part code k f u p = record {
   behind = p.behind ++ One u ∷ [];
   same = p.same;
@@ -49,8 +49,8 @@ push_one ms part code k f u p = record {
   plain = λ args st. p.plain args st;
 }
 
-push_two : (ms : List Meaning) (part code mid k : List Op) (f g : List Term → Term) (b : CodeBinary.Binary) → Pushes ms part code mid f →
-    ((q : List Op) → Pushes ms q mid (Two b ∷ k) g) → Pushes ms part code k (λ args. two (binary_of b) (f args) (g args))
+push_two : (ms : List Meaning) (part code mid k : List Op) (f g : List Term → Term) (b : BinaryOp) → Pushes ms part code mid f →
+    ((q : List Op) → Pushes ms q mid (Two b ∷ k) g) → Pushes ms part code k (λ args. two b (f args) (g args))
 push_two ms part code mid k f g b p t =
     let u = t p.behind in
     record {

@@ -1,11 +1,11 @@
 -- How trees and the items of `Grammar` say the same: the code of a tree, and the laws that tie both. It is for the machine's proofs: no
 -- public contract of the reader cites it.
 use Rattle.std.specs.Prelude.{◌≡◌, ◌↔◌, ℕ, zero, suc, List, [], ◌∷◌, true}
+use Rattle.pv_expr.specs.declared.operators.UnaryOp.TheVariants.{Neg, Abs, Pow}
+use Rattle.pv_expr.specs.declared.operators.BinaryOp.TheVariants.{Add, Sub, Mul, Div, Min, Max}
 use Rattle.pv_expr.specs.Terms.{Term}
 use Rattle.pv_code.specs.declared.code.Op.{Op}
 use Rattle.pv_code.specs.declared.code.Op.TheVariants.{Constant as ConstantStep, Variable as VariableStep, Parameter as ParameterStep, One, Two, Call, Define, Relate}
-use Rattle.pv_code.specs.declared.code.Unary.TheVariants.{Neg, Abs, Pow}
-use Rattle.pv_code.specs.declared.code.Binary.TheVariants.{Add, Sub, Mul, Div, Min, Max}
 use Rattle.pv_code.specs.Expansion.{Meaning, constraints_of, run}
 use Rattle.pv_grammar.specs.declared.symbol.Symbol.{Symbol}
 use Rattle.pv_grammar.specs.declared.symbol.Symbol.TheVariants.{Declared, Function as FunctionName, Unknown}

@@ -4,7 +4,9 @@ use Rattle.std.specs.Prelude.{List, [], ◌∷◌, ◌++◌, Bool, true, false}
 use Rattle.pv_expr.specs.declared.domain.Bound.{Bound}
 use Rattle.pv_expr.specs.declared.domain.Bound.TheVariants.{MinusOo, Value, PlusOo}
 use Rattle.pv_expr.specs.declared.domain.Domain.{Domain}
-use Rattle.pv_expr.specs.Terms.{Term, constant, place, one, two, negation, absolute, power, sum, difference, product, quotient, least, greatest}
+use Rattle.pv_expr.specs.declared.operators.UnaryOp.TheVariants.{Neg, Abs, Pow}
+use Rattle.pv_expr.specs.declared.operators.BinaryOp.TheVariants.{Add, Sub, Mul, Div, Min, Max}
+use Rattle.pv_expr.specs.Terms.{Term, constant, place, one, two}
 use Rattle.pv_code.specs.declared.fraction.Fraction.{Fraction}
 use Rattle.pv_code.specs.Expansion.{Meaning, Sides, argument, meaning_of}
 use Rattle.pv_code.specs.Fractions.{signed}
@@ -15,7 +17,7 @@ use Rattle.pv_grammar.specs.Productions.{Arguments, Bound as BoundTree, Constrai
 -- `x^n`, or x where no power is written
 abbrev pub power_term : Power → Term → Term
 power_term no_power x = x
-power_term (to_power value n) x = one (power n) x
+power_term (to_power value n) x = one (Pow n) x
 
 -- the term of a tree, over functions with these meanings, where the parameters stand for these arguments; further terms and
 -- factors join what stands before them, so sums and products group from the left
@@ -25,20 +27,20 @@ abbrev mutual
 
   pub terms_term : List Meaning → List Term → Terms → Term → Term
   terms_term fs args no_term before = before
-  terms_term fs args (plus t ts) before = terms_term fs args ts (two sum before (term_term fs args t))
-  terms_term fs args (minus t ts) before = terms_term fs args ts (two difference before (term_term fs args t))
+  terms_term fs args (plus t ts) before = terms_term fs args ts (two Add before (term_term fs args t))
+  terms_term fs args (minus t ts) before = terms_term fs args ts (two Sub before (term_term fs args t))
 
   pub term_term : List Meaning → List Term → TermTree → Term
   term_term fs args (product_of x xs) = factors_term fs args xs (factor_term fs args x)
 
   pub factors_term : List Meaning → List Term → Factors → Term → Term
   factors_term fs args no_factor before = before
-  factors_term fs args (times x xs) before = factors_term fs args xs (two product before (factor_term fs args x))
-  factors_term fs args (over x xs) before = factors_term fs args xs (two quotient before (factor_term fs args x))
+  factors_term fs args (times x xs) before = factors_term fs args xs (two Mul before (factor_term fs args x))
+  factors_term fs args (over x xs) before = factors_term fs args xs (two Div before (factor_term fs args x))
 
   pub factor_term : List Meaning → List Term → Factor → Term
   factor_term fs args (positive x) = factor_term fs args x
-  factor_term fs args (negative x) = one negation (factor_term fs args x)
+  factor_term fs args (negative x) = one Neg (factor_term fs args x)
   factor_term fs args (raised x exponent) = power_term exponent (primary_term fs args x)
 
   pub primary_term : List Meaning → List Term → Primary → Term
@@ -47,10 +49,10 @@ abbrev mutual
   primary_term fs args (variable_at i) = place i
   primary_term fs args (parameter_at i) = argument args i
   primary_term fs args (parentheses e) = expression_term fs args e
-  primary_term fs args (absolute_of e) = one absolute (expression_term fs args e)
-  primary_term fs args (square_of e) = one (power 2) (expression_term fs args e)
-  primary_term fs args (least_of a b) = two least (expression_term fs args a) (expression_term fs args b)
-  primary_term fs args (greatest_of a b) = two greatest (expression_term fs args a) (expression_term fs args b)
+  primary_term fs args (absolute_of e) = one Abs (expression_term fs args e)
+  primary_term fs args (square_of e) = one (Pow 2) (expression_term fs args e)
+  primary_term fs args (least_of a b) = two Min (expression_term fs args a) (expression_term fs args b)
+  primary_term fs args (greatest_of a b) = two Max (expression_term fs args a) (expression_term fs args b)
   primary_term fs args (call f e more) = meaning_of fs f (expression_term fs args e ∷ arguments_terms fs args more)
 
   pub arguments_terms : List Meaning → List Term → Arguments → List Term

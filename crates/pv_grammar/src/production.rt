@@ -14,8 +14,8 @@ use crate::machine::Item::{
 };
 use crate::machine::{Item, Machine};
 use crate::symbol::{Fixed, Symbol};
-use pv_code::{Binary, Op, Unary};
-use pv_expr::Relation;
+use pv_code::Op;
+use pv_expr::{BinaryOp, Relation, UnaryOp};
 use pv_num::Memory;
 use std::alloc::Global;
 
@@ -126,7 +126,7 @@ impl Machine {
     {
         match symbol {
             Symbol::Fixed(Fixed::Plus) => self.behind(&[WantFactor]),
-            Symbol::Fixed(Fixed::Minus) => self.behind(&[WantFactor, Then(Op::One(Unary::Neg))]),
+            Symbol::Fixed(Fixed::Minus) => self.behind(&[WantFactor, Then(Op::One(UnaryOp::Neg))]),
             Symbol::Fixed(Fixed::Open) => self.expression(&[MoreArguments(0), MaybePower]),
             Symbol::Number { value, .. } | Symbol::Constant(value) => {
                 self.operand(Op::Constant(value))
@@ -159,8 +159,8 @@ impl Machine {
         ensures { IfOk result (Moves (grammar.factors symbol) self.old self.new) }
     {
         let op = match symbol {
-            Symbol::Fixed(Fixed::Star) => Binary::Mul,
-            Symbol::Fixed(Fixed::Slash) => Binary::Div,
+            Symbol::Fixed(Fixed::Star) => BinaryOp::Mul,
+            Symbol::Fixed(Fixed::Slash) => BinaryOp::Div,
             _ => return Ok(false),
         };
         self.behind(&[WantFactor, Then(Op::Two(op)), MoreFactors])
@@ -170,8 +170,8 @@ impl Machine {
         ensures { IfOk result (Moves (grammar.terms symbol) self.old self.new) }
     {
         let op = match symbol {
-            Symbol::Fixed(Fixed::Plus) => Binary::Add,
-            Symbol::Fixed(Fixed::Minus) => Binary::Sub,
+            Symbol::Fixed(Fixed::Plus) => BinaryOp::Add,
+            Symbol::Fixed(Fixed::Minus) => BinaryOp::Sub,
             _ => return Ok(false),
         };
         self.behind(&[WantFactor, MoreFactors, Then(Op::Two(op)), MoreTerms])
@@ -187,7 +187,7 @@ impl Machine {
         else {
             return Ok(false);
         };
-        self.code.push(Op::One(Unary::Pow(n)))?;
+        self.code.push(Op::One(UnaryOp::Pow(n)))?;
         Ok(true)
     }
 

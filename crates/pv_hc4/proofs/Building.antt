@@ -2,12 +2,12 @@
 use Rattle.std.proofs.Common.{◌≡◌, inl, inr, ℕ, ◌<◌, ◌≤◌, List, [], ◌++◌, length, refl, ap, sym, ◌∙◌, subst, arith, append_assoc, length-append}
 use Rattle.std.proofs.lemmas.Bool.{cases_lt}
 use Rattle.std.specs.Prelude.{Result, Ok, Err, IfOk, OnOk}
+use Rattle.pv_expr.specs.declared.operators.UnaryOp.{UnaryOp}
+use Rattle.pv_expr.specs.declared.operators.BinaryOp.{BinaryOp}
 use Rattle.pv_expr.specs.Terms.{Term, constant, place, one, two}
 use Rattle.pv_hc4.specs.declared.node.Node.{Node}
 use Rattle.pv_hc4.specs.declared.node.Node.TheVariants.{One, Two}
-use Rattle.pv_hc4.specs.declared.node.UnaryOp.{UnaryOp}
-use Rattle.pv_hc4.specs.declared.node.BinaryOp.{BinaryOp}
-use Rattle.pv_hc4.specs.Nodes.{term_at, node_at, node_term, terms, AreOrdered, unary_named, binary_named}
+use Rattle.pv_hc4.specs.Nodes.{term_at, node_at, node_term, terms, AreOrdered}
 use Rattle.pv_hc4.specs.Building.{IsPart, HasTerm, Grows, Holds}
 use Rattle.pv_expr.specs.declared.constraint.Relation.{Relation}
 use Rattle.pv_expr.specs.Systems.{IsOver}
@@ -60,11 +60,11 @@ leaf_grows old new d i n t o h e only =
       whole = leaf_whole new i t h.within here only;
     }
 
-pub one_grows : (a b c : List Node) (d j i : ℕ) (op : UnaryOp) (t : Term) → AreOrdered c d → Grows a b j t → Holds b c i (One op j) → Grows a c i (one (unary_named op) t)
+pub one_grows : (a b c : List Node) (d j i : ℕ) (op : UnaryOp) (t : Term) → AreOrdered c d → Grows a b j t → Holds b c i (One op j) → Grows a c i (one op t)
 one_grows a b c d j i op t o g h =
     let under = kept_by b c h.more j h.is g.within ∙ g.term in
-    let here : term_at (terms c) i ≡ one (unary_named op) t = node_is d c i (One op j) o h.within h.node ∙ ap (one (unary_named op)) under in
-    let whole : Term = one (unary_named op) t in
+    let here : term_at (terms c) i ≡ one op t = node_is d c i (One op j) o h.within h.node ∙ ap (one op) under in
+    let whole : Term = one op t in
     record {
       more = g.more ++ h.more;
       is = regrouped a b c g.more h.more g.is h.is;
@@ -81,14 +81,14 @@ one_grows a b c d j i op t o g h =
       ];
     }
 
-pub two_grows : (a b c e : List Node) (d i j k : ℕ) (op : BinaryOp) (t u : Term) → AreOrdered e d → Grows a b i t → Grows b c j u → Holds c e k (Two op i j) → Grows a e k (two (binary_named op) t u)
+pub two_grows : (a b c e : List Node) (d i j k : ℕ) (op : BinaryOp) (t u : Term) → AreOrdered e d → Grows a b i t → Grows b c j u → Holds c e k (Two op i j) → Grows a e k (two op t u)
 two_grows a b c e d i j k op t u o g h s =
     let in_c : i < length c = omega (arith, g.within, longer b c h.more h.is) in
     let first = kept_by c e s.more i s.is in_c ∙ kept_by b c h.more i h.is g.within ∙ g.term in
     let second = kept_by c e s.more j s.is h.within ∙ h.term in
-    let here : term_at (terms e) k ≡ two (binary_named op) t u =
-    node_is d e k (Two op i j) o s.within s.node ∙ ap (λ x. two (binary_named op) x (term_at (terms e) j)) first ∙ ap (two (binary_named op) t) second in
-    let whole : Term = two (binary_named op) t u in
+    let here : term_at (terms e) k ≡ two op t u =
+    node_is d e k (Two op i j) o s.within s.node ∙ ap (λ x. two op x (term_at (terms e) j)) first ∙ ap (two op t) second in
+    let whole : Term = two op t u in
     record {
       more = (g.more ++ h.more) ++ s.more;
       is = regrouped a c e (g.more ++ h.more) s.more (regrouped a b c g.more h.more g.is h.is) s.is;
@@ -119,11 +119,11 @@ pub leaf_grown : {E : Type 0} (r : Result ℕ E) (old new : List Node) (d : ℕ)
 leaf_grown (Ok i) old new d n t o h e only = leaf_grows old new d i n t o h (e (terms new)) only
 leaf_grown (Err x) old new d n t o h e only = tt
 
-pub one_grown : {E : Type 0} (r : Result ℕ E) (a b c : List Node) (d j : ℕ) (op : UnaryOp) (t : Term) → OnOk r (AreOrdered c d) → Grows a b j t → IfOk r (λ i. Holds b c i (One op j)) → IfOk r (λ i. Grows a c i (one (unary_named op) t))
+pub one_grown : {E : Type 0} (r : Result ℕ E) (a b c : List Node) (d j : ℕ) (op : UnaryOp) (t : Term) → OnOk r (AreOrdered c d) → Grows a b j t → IfOk r (λ i. Holds b c i (One op j)) → IfOk r (λ i. Grows a c i (one op t))
 one_grown (Ok i) a b c d j op t o g h = one_grows a b c d j i op t o g h
 one_grown (Err x) a b c d j op t o g h = tt
 
-pub two_grown : {E : Type 0} (r : Result ℕ E) (a b c e : List Node) (d i j : ℕ) (op : BinaryOp) (t u : Term) → OnOk r (AreOrdered e d) → Grows a b i t → Grows b c j u → IfOk r (λ k. Holds c e k (Two op i j)) → IfOk r (λ k. Grows a e k (two (binary_named op) t u))
+pub two_grown : {E : Type 0} (r : Result ℕ E) (a b c e : List Node) (d i j : ℕ) (op : BinaryOp) (t u : Term) → OnOk r (AreOrdered e d) → Grows a b i t → Grows b c j u → IfOk r (λ k. Holds c e k (Two op i j)) → IfOk r (λ k. Grows a e k (two op t u))
 two_grown (Ok k) a b c e d i j op t u o g h s = two_grows a b c e d i j k op t u o g h s
 two_grown (Err x) a b c e d i j op t u o g h s = tt
 

@@ -3,19 +3,19 @@ use Rattle.std.proofs.Common.{◌≡◌, ℕ, ◌<◌, List, [], ◌∷◌, ◌+
 use Rattle.std.specs.Prelude.{Option, Some, None, slice_set}
 use Rattle.pv_interval.specs.Bounds.{Bounds}
 use Rattle.pv_interval.specs.Tables.{meet_of}
-use Rattle.pv_expr.specs.Terms.{Term, one, two, Unary, Binary}
+use Rattle.pv_expr.specs.declared.operators.UnaryOp.{UnaryOp}
+use Rattle.pv_expr.specs.declared.operators.BinaryOp.{BinaryOp}
+use Rattle.pv_expr.specs.Terms.{Term, one, two}
 use Rattle.pv_interval.specs.Bounds.{everything}
 use Rattle.std.specs.Prelude.{Bool, true, false}
 use Rattle.std.proofs.lemmas.List.{get_or_read}
-use Rattle.pv_hc4.specs.declared.node.UnaryOp.{UnaryOp}
-use Rattle.pv_hc4.specs.declared.node.BinaryOp.{BinaryOp}
 use Rattle.pv_hc4.specs.declared.node.Node.{Node}
 use Rattle.pv_hc4.specs.declared.node.Node.TheVariants.{One, Two}
 use Rattle.pv_hc4.specs.Graphs.{AreValues}
 use Rattle.pv_hc4.specs.Chain.{chain, at, Gives}
 use Rattle.pv_hc4.specs.Forward.{forward_of}
 use Rattle.pv_hc4.specs.Revise.{back_1, back_2, Target, joined, targets_of, applied, went}
-use Rattle.pv_hc4.specs.Nodes.{term_at, node_term, terms, AreOrdered, ReadsBelow, unary_named, binary_named}
+use Rattle.pv_hc4.specs.Nodes.{term_at, node_term, terms, AreOrdered, ReadsBelow}
 use Rattle.pv_hc4.proofs.Growth.{term_step}
 use Rattle.pv_hc4.proofs.Passing.{node_default}
 
@@ -42,13 +42,13 @@ went_joined s None p = refl
 went_joined s (Some xs) None = sym (chain_none (applied s xs))
 went_joined s (Some xs) (Some ys) = applied-append s xs ys
 
-pub one_gives : (b s : List Bounds) (u : Unary) (t : Term) (z v : Bounds) (o : Option Bounds) → forward_of b t ≡ Some v → o ≡ back_1 u z v → went b s (one u t) z ≡ chain o (λ y. went b s t y)
+pub one_gives : (b s : List Bounds) (u : UnaryOp) (t : Term) (z v : Bounds) (o : Option Bounds) → forward_of b t ≡ Some v → o ≡ back_1 u z v → went b s (one u t) z ≡ chain o (λ y. went b s t y)
 one_gives b s u t z v o f e =
     ap (λ x. chain (chain x (λ x. chain (back_1 u z x) (λ y. targets_of b t y))) (applied s)) f
     ∙ chain_assoc (back_1 u z v) (λ y. targets_of b t y) (applied s)
     ∙ ap (λ x. chain x (λ y. went b s t y)) (sym e)
 
-pub two_gives : (b s : List Bounds) (k : Binary) (t u : Term) (z v w : Bounds) (o : Option (Bounds × Bounds)) → forward_of b t ≡ Some v → forward_of b u ≡ Some w → o ≡ back_2 k z v w → went b s (two k t u) z ≡ chain o (λ p. chain (went b s t p.0) (λ r. went b r u p.1))
+pub two_gives : (b s : List Bounds) (k : BinaryOp) (t u : Term) (z v w : Bounds) (o : Option (Bounds × Bounds)) → forward_of b t ≡ Some v → forward_of b u ≡ Some w → o ≡ back_2 k z v w → went b s (two k t u) z ≡ chain o (λ p. chain (went b s t p.0) (λ r. went b r u p.1))
 two_gives b s k t u z v w o f g e =
     ap (λ x. chain (chain x (λ x. chain (forward_of b u) (λ y. chain (back_2 k z x y) (λ p. joined (targets_of b t p.0) (targets_of b u p.1))))) (applied s)) f
     ∙ ap (λ y. chain (chain y (λ y. chain (back_2 k z v y) (λ p. joined (targets_of b t p.0) (targets_of b u p.1)))) (applied s)) g
@@ -71,20 +71,20 @@ value_read b ns vs a v av h v_is =
     let inside : a < length vs = omega (arith, av.same) in
     av.each a h ∙ ap Some (sym (get_or_read vs a v inside v_is everything))
 
-pub one_read : (b s : List Bounds) (ns : List Node) (vs : List Bounds) (d k : ℕ) (op : UnaryOp) (a : ℕ) (e : Node) (z v : Bounds) (o : Option Bounds) → AreOrdered ns d → AreValues b ns vs → k < length ns → get_or ns k e ≡ One op a → v ≡ get_or vs a v → o ≡ back_1 (unary_named op) z v → went b s (term_at (terms ns) k) z ≡ chain o (λ y. went b s (term_at (terms ns) a) y)
+pub one_read : (b s : List Bounds) (ns : List Node) (vs : List Bounds) (d k : ℕ) (op : UnaryOp) (a : ℕ) (e : Node) (z v : Bounds) (o : Option Bounds) → AreOrdered ns d → AreValues b ns vs → k < length ns → get_or ns k e ≡ One op a → v ≡ get_or vs a v → o ≡ back_1 op z v → went b s (term_at (terms ns) k) z ≡ chain o (λ y. went b s (term_at (terms ns) a) y)
 one_read b s ns vs d k op a e z v o ordered av h n_is v_is o_is =
     let under : a < k = below_is ns d k (One op a) e ordered h n_is in
     let inside : a < length ns = omega arith in
     ap (λ t. went b s t z) (term_read ns d k (One op a) e ordered h n_is)
-    ∙ one_gives b s (unary_named op) (term_at (terms ns) a) z v o (value_read b ns vs a v av inside v_is) o_is
+    ∙ one_gives b s op (term_at (terms ns) a) z v o (value_read b ns vs a v av inside v_is) o_is
 
-pub two_read : (b s : List Bounds) (ns : List Node) (vs : List Bounds) (d k : ℕ) (op : BinaryOp) (a c : ℕ) (e : Node) (z v w : Bounds) (o : Option (Bounds × Bounds)) → AreOrdered ns d → AreValues b ns vs → k < length ns → get_or ns k e ≡ Two op a c → v ≡ get_or vs a v → w ≡ get_or vs c w → o ≡ back_2 (binary_named op) z v w → went b s (term_at (terms ns) k) z ≡ chain o (λ p. chain (went b s (term_at (terms ns) a) p.0) (λ r. went b r (term_at (terms ns) c) p.1))
+pub two_read : (b s : List Bounds) (ns : List Node) (vs : List Bounds) (d k : ℕ) (op : BinaryOp) (a c : ℕ) (e : Node) (z v w : Bounds) (o : Option (Bounds × Bounds)) → AreOrdered ns d → AreValues b ns vs → k < length ns → get_or ns k e ≡ Two op a c → v ≡ get_or vs a v → w ≡ get_or vs c w → o ≡ back_2 op z v w → went b s (term_at (terms ns) k) z ≡ chain o (λ p. chain (went b s (term_at (terms ns) a) p.0) (λ r. went b r (term_at (terms ns) c) p.1))
 two_read b s ns vs d k op a c e z v w o ordered av h n_is v_is w_is o_is =
     let under : (a < k) × (c < k) = below_is ns d k (Two op a c) e ordered h n_is in
     let inside_a : a < length ns = omega (arith, under.0) in
     let inside_c : c < length ns = omega (arith, under.1) in
     ap (λ t. went b s t z) (term_read ns d k (Two op a c) e ordered h n_is)
-    ∙ two_gives b s (binary_named op) (term_at (terms ns) a) (term_at (terms ns) c) z v w o
+    ∙ two_gives b s op (term_at (terms ns) a) (term_at (terms ns) c) z v w o
     (value_read b ns vs a v av inside_a v_is) (value_read b ns vs c w av inside_c w_is) o_is
 
 -- the first part went, and then the second

@@ -4,7 +4,7 @@ use Rattle.std.proofs.lemmas.List.{get_or_append_left}
 use Rattle.pv_expr.specs.Terms.{Term, place, one, two}
 use Rattle.pv_hc4.specs.declared.node.Node.{Node}
 use Rattle.pv_hc4.specs.declared.node.Node.TheVariants.{Constant, Place, One, Two}
-use Rattle.pv_hc4.specs.Nodes.{term_at, node_at, node_term, grown, terms, ReadsBelow, unary_named, binary_named}
+use Rattle.pv_hc4.specs.Nodes.{term_at, node_at, node_term, grown, terms, ReadsBelow}
 
 pub grown-append : (ts : List Term) (ns ms : List Node) → grown ts (ns ++ ms) ≡ grown (grown ts ns) ms
 grown-append ts [] ms = refl
@@ -29,9 +29,9 @@ grown_keeps ts (n ∷ ns) k h =
 pub node_term_stable : (ts us : List Term) (k : ℕ) (n : Node) → ReadsBelow k n → ((j : ℕ) → j < k → term_at ts j ≡ term_at us j) → node_term ts n ≡ node_term us n
 node_term_stable ts us k (Constant p q) r h = refl
 node_term_stable ts us k (Place i) r h = refl
-node_term_stable ts us k (One o a) r h = ap (one (unary_named o)) (h a r)
+node_term_stable ts us k (One o a) r h = ap (one o) (h a r)
 node_term_stable ts us k (Two o a b) r h =
-    ap (λ t. two (binary_named o) t (term_at ts b)) (h a r.0) ∙ ap (two (binary_named o) (term_at us a)) (h b r.1)
+    ap (λ t. two o t (term_at ts b)) (h a r.0) ∙ ap (two o (term_at us a)) (h b r.1)
 
 here_is : (ts : List Term) (x : Term) → term_at (ts ++ x ∷ []) (length ts) ≡ x
 here_is [] x = refl

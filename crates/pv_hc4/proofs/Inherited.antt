@@ -14,7 +14,11 @@ use Rattle.pv_interval.proofs.ContainedQuotients.{quotient_contained}
 use Rattle.pv_expr.specs.Systems.{IsOver}
 use Rattle.pv_expr.specs.declared.constraint.Relation.{Relation}
 use Rattle.pv_expr.specs.declared.constraint.Relation.TheVariants.{Eq, Le, Ge, Lt, Gt}
-use Rattle.pv_expr.specs.Terms.{Unary, negation, absolute, power, Binary, sum, difference, product, quotient, least, greatest, Term, constant, place, one, two}
+use Rattle.pv_expr.specs.declared.operators.UnaryOp.{UnaryOp}
+use Rattle.pv_expr.specs.declared.operators.UnaryOp.TheVariants.{Neg, Abs, Pow}
+use Rattle.pv_expr.specs.declared.operators.BinaryOp.{BinaryOp}
+use Rattle.pv_expr.specs.declared.operators.BinaryOp.TheVariants.{Add, Sub, Mul, Div, Min, Max}
+use Rattle.pv_expr.specs.Terms.{Term, constant, place, one, two}
 use Rattle.pv_hc4.specs.Chain.{chain, at}
 use Rattle.pv_hc4.specs.Forward.{constant_of, forward_of, unary_of, binary_of}
 use Rattle.pv_hc4.specs.Members.{AreWithin}
@@ -34,25 +38,25 @@ at_within (x ∷ b) [] i h = absurd h
 at_within (x ∷ b) (y ∷ c) zero h = record { low = h.0; high = h.1 }
 at_within (x ∷ b) (y ∷ c) (suc i) h = at_within b c i h.2
 
-pub unary_contained : (u : Unary) (x v : Bounds) → IsInterval x → IsSubset x v → IsSubset (unary_of u x) (unary_of u v)
-unary_contained negation x v i h = negated_contained x v h
-unary_contained absolute x v i h = absolute_contained x v i h
-unary_contained (power n) x v i h = power_contained x v n i h
+pub unary_contained : (u : UnaryOp) (x v : Bounds) → IsInterval x → IsSubset x v → IsSubset (unary_of u x) (unary_of u v)
+unary_contained Neg x v i h = negated_contained x v h
+unary_contained Abs x v i h = absolute_contained x v i h
+unary_contained (Pow n) x v i h = power_contained x v n i h
 
-pub binary_contained : (o : Binary) (x y v w : Bounds) → IsInterval x → IsInterval y → IsSubset x v → IsSubset y w → IsSubsetSome (binary_of o x y) (binary_of o v w)
-binary_contained sum x y v w i j h k = sum_contained x y v w h k
-binary_contained difference x y v w i j h k = difference_contained x y v w h k
-binary_contained product x y v w i j h k = product_contained x y v w i j h k
-binary_contained quotient x y v w i j h k = quotient_contained x y v w i j h k
-binary_contained least x y v w i j h k = least_contained x y v w h k
-binary_contained greatest x y v w i j h k = greatest_contained x y v w h k
+pub binary_contained : (o : BinaryOp) (x y v w : Bounds) → IsInterval x → IsInterval y → IsSubset x v → IsSubset y w → IsSubsetSome (binary_of o x y) (binary_of o v w)
+binary_contained Add x y v w i j h k = sum_contained x y v w h k
+binary_contained Sub x y v w i j h k = difference_contained x y v w h k
+binary_contained Mul x y v w i j h k = product_contained x y v w i j h k
+binary_contained Div x y v w i j h k = quotient_contained x y v w i j h k
+binary_contained Min x y v w i j h k = least_contained x y v w h k
+binary_contained Max x y v w i j h k = greatest_contained x y v w h k
 
-one_contained : (u : Unary) (o p : Option Bounds) → Fine o → IsSubsetSome o p → IsSubsetSome (chain o (λ x. Some (unary_of u x))) (chain p (λ x. Some (unary_of u x)))
+one_contained : (u : UnaryOp) (o p : Option Bounds) → Fine o → IsSubsetSome o p → IsSubsetSome (chain o (λ x. Some (unary_of u x))) (chain p (λ x. Some (unary_of u x)))
 one_contained u None p f h = tt
 one_contained u (Some x) None f h = absurd h
 one_contained u (Some x) (Some v) f h = unary_contained u x v f h
 
-two_contained : (k : Binary) (o p q r : Option Bounds) → Fine o → Fine p → IsSubsetSome o q → IsSubsetSome p r
+two_contained : (k : BinaryOp) (o p q r : Option Bounds) → Fine o → Fine p → IsSubsetSome o q → IsSubsetSome p r
     → IsSubsetSome (chain o (λ x. chain p (λ y. binary_of k x y))) (chain q (λ x. chain r (λ y. binary_of k x y)))
 two_contained k None p q r f g h i = tt
 two_contained k (Some x) None q r f g h i = tt
@@ -88,19 +92,19 @@ quotient_there x y i n =
     (λ a. is_there (quotient_of x y) (of_ends div_of x y) (quotient_positive x y i (lt_from nought y.lo a)))
     (λ a. is_there (quotient_of x y) (of_ends div_of x y) (quotient_negative x y i (lt_from y.hi nought a)))
 
-binary_there : (k : Binary) (x y : Bounds) → IsInterval y → divides_well k (Some y) ≡ true → IsThere (binary_of k x y)
-binary_there sum x y i d = tt
-binary_there difference x y i d = tt
-binary_there product x y i d = tt
-binary_there quotient x y i d = quotient_there x y i (not-true (has_nought y) d)
-binary_there least x y i d = tt
-binary_there greatest x y i d = tt
+binary_there : (k : BinaryOp) (x y : Bounds) → IsInterval y → divides_well k (Some y) ≡ true → IsThere (binary_of k x y)
+binary_there Add x y i d = tt
+binary_there Sub x y i d = tt
+binary_there Mul x y i d = tt
+binary_there Div x y i d = quotient_there x y i (not-true (has_nought y) d)
+binary_there Min x y i d = tt
+binary_there Max x y i d = tt
 
-one_there : (u : Unary) (o : Option Bounds) → IsThere o → IsThere (chain o (λ x. Some (unary_of u x)))
+one_there : (u : UnaryOp) (o : Option Bounds) → IsThere o → IsThere (chain o (λ x. Some (unary_of u x)))
 one_there u None h = absurd h
 one_there u (Some x) h = tt
 
-two_there : (k : Binary) (o p : Option Bounds) → Fine p → IsThere o → IsThere p → divides_well k p ≡ true
+two_there : (k : BinaryOp) (o p : Option Bounds) → Fine p → IsThere o → IsThere p → divides_well k p ≡ true
     → IsThere (chain o (λ x. chain p (λ y. binary_of k x y)))
 two_there k None p f h i d = absurd h
 two_there k (Some x) None f h i d = absurd i
@@ -133,15 +137,15 @@ no_nought y w k e = by_value (has_nought y) refl
         let c = both (le w.lo nought) (le nought w.hi) a b in
         let d = not-true (has_nought w) e in absurd (cc)
 
-divides_part : (k : Binary) (o p : Option Bounds) → IsThere o → IsSubsetSome o p → divides_well k p ≡ true → divides_well k o ≡ true
-divides_part sum o p h i e = refl
-divides_part difference o p h i e = refl
-divides_part product o p h i e = refl
-divides_part quotient None p h i e = absurd h
-divides_part quotient (Some y) None h i e = absurd i
-divides_part quotient (Some y) (Some w) h i e = no_nought y w i e
-divides_part least o p h i e = refl
-divides_part greatest o p h i e = refl
+divides_part : (k : BinaryOp) (o p : Option Bounds) → IsThere o → IsSubsetSome o p → divides_well k p ≡ true → divides_well k o ≡ true
+divides_part Add o p h i e = refl
+divides_part Sub o p h i e = refl
+divides_part Mul o p h i e = refl
+divides_part Div None p h i e = absurd h
+divides_part Div (Some y) None h i e = absurd i
+divides_part Div (Some y) (Some w) h i e = no_nought y w i e
+divides_part Min o p h i e = refl
+divides_part Max o p h i e = refl
 
 all_three : (s t u : Bool) → s ≡ true → t ≡ true → u ≡ true → s && (t && u) ≡ true
 all_three s t u h k l = ap (λ r. r && (t && u)) h ∙ ap (λ r. r && u) k ∙ l

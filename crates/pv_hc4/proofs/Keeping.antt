@@ -20,7 +20,11 @@ use Rattle.pv_box.specs.Members.{PointInSome}
 use Rattle.pv_expr.specs.Systems.{IsOver}
 use Rattle.pv_expr.specs.declared.constraint.Relation.{Relation}
 use Rattle.pv_expr.specs.declared.constraint.Relation.TheVariants.{Eq, Le, Ge, Lt, Gt}
-use Rattle.pv_expr.specs.Terms.{Unary, negation, absolute, power, Binary, sum, difference, product, quotient, least, greatest, Term, constant, place, one, two, unary_value, binary_value, coordinate, value_at, Stands}
+use Rattle.pv_expr.specs.declared.operators.UnaryOp.{UnaryOp}
+use Rattle.pv_expr.specs.declared.operators.UnaryOp.TheVariants.{Neg, Abs, Pow}
+use Rattle.pv_expr.specs.declared.operators.BinaryOp.{BinaryOp}
+use Rattle.pv_expr.specs.declared.operators.BinaryOp.TheVariants.{Add, Sub, Mul, Div, Min, Max}
+use Rattle.pv_expr.specs.Terms.{Term, constant, place, one, two, unary_value, binary_value, coordinate, value_at, Stands}
 use Rattle.pv_hc4.specs.Chain.{chain}
 use Rattle.pv_hc4.specs.Forward.{forward_of}
 use Rattle.pv_hc4.specs.Revise.{back_1, back_2, Target, joined, targets_of, place_of, places_from, Sides, ordered_of, swapped, related_of, both_targets, revised}
@@ -50,18 +54,18 @@ joined_hold x None p h k = absurd h
 joined_hold x (Some xs) None h k = absurd k
 joined_hold x (Some xs) (Some ys) h k = AllHold-append x xs ys h k
 
-pub unary_back : (u : Unary) (f : Fraction) (z y : Bounds) → LiesIn f y → LiesIn (unary_value u f) z → InSome f (back_1 u z y)
-unary_back negation f z y h l = back_neg_keeps f z y h l
-unary_back absolute f z y h l = back_abs_keeps f z y h l
-unary_back (power n) f z y h l = back_pow_keeps f z y n h l
+pub unary_back : (u : UnaryOp) (f : Fraction) (z y : Bounds) → LiesIn f y → LiesIn (unary_value u f) z → InSome f (back_1 u z y)
+unary_back Neg f z y h l = back_neg_keeps f z y h l
+unary_back Abs f z y h l = back_abs_keeps f z y h l
+unary_back (Pow n) f z y h l = back_pow_keeps f z y n h l
 
-pub binary_back : (o : Binary) (f g v : Fraction) (z x y : Bounds) → binary_value o f g ≡ Some v → LiesIn f x → LiesIn g y → LiesIn v z → PairIn f g (back_2 o z x y)
-binary_back sum f g v z x y e h k l = back_add_keeps f g z x y h k (subst (λ w. LiesIn w z) (sym (same_value (plus f g) v e)) l)
-binary_back difference f g v z x y e h k l = back_sub_keeps f g z x y h k (subst (λ w. LiesIn w z) (sym (same_value (minus f g) v e)) l)
-binary_back product f g v z x y e h k l = back_mul_keeps f g z x y h k (subst (λ w. LiesIn w z) (sym (same_value (times f g) v e)) l)
-binary_back quotient f g v z x y e h k l = back_div_keeps f g v z x y e h k l
-binary_back least f g v z x y e h k l = back_min_keeps f g z x y h k (subst (λ w. LiesIn w z) (sym (same_value (lesser_of f g) v e)) l)
-binary_back greatest f g v z x y e h k l = back_max_keeps f g z x y h k (subst (λ w. LiesIn w z) (sym (same_value (larger_of f g) v e)) l)
+pub binary_back : (o : BinaryOp) (f g v : Fraction) (z x y : Bounds) → binary_value o f g ≡ Some v → LiesIn f x → LiesIn g y → LiesIn v z → PairIn f g (back_2 o z x y)
+binary_back Add f g v z x y e h k l = back_add_keeps f g z x y h k (subst (λ w. LiesIn w z) (sym (same_value (plus f g) v e)) l)
+binary_back Sub f g v z x y e h k l = back_sub_keeps f g z x y h k (subst (λ w. LiesIn w z) (sym (same_value (minus f g) v e)) l)
+binary_back Mul f g v z x y e h k l = back_mul_keeps f g z x y h k (subst (λ w. LiesIn w z) (sym (same_value (times f g) v e)) l)
+binary_back Div f g v z x y e h k l = back_div_keeps f g v z x y e h k l
+binary_back Min f g v z x y e h k l = back_min_keeps f g z x y h k (subst (λ w. LiesIn w z) (sym (same_value (lesser_of f g) v e)) l)
+binary_back Max f g v z x y e h k l = back_max_keeps f g z x y h k (subst (λ w. LiesIn w z) (sym (same_value (larger_of f g) v e)) l)
 
 one_then : (x : Point) (f : Fraction) (o : Option Bounds) (k : Bounds → Option (List Target)) → InSome f o → ((y : Bounds) → LiesIn f y → TargetsHold x (k y)) → TargetsHold x (chain o k)
 one_then x f None k h go = absurd h
@@ -71,12 +75,12 @@ two_then : (x : Point) (f g : Fraction) (o : Option (Bounds × Bounds)) (k : Bou
 two_then x f g None k h go = absurd h
 two_then x f g (Some p) k h go = go p h.0 h.1
 
-one_down : (x : Point) (u : Unary) (f v : Fraction) (z : Bounds) (o : Option Bounds) (k : Bounds → Option (List Target)) → unary_value u f ≡ v → LiesIn v z → InSome f o → ((y : Bounds) → LiesIn f y → TargetsHold x (k y)) → TargetsHold x (chain o (λ w. chain (back_1 u z w) k))
+one_down : (x : Point) (u : UnaryOp) (f v : Fraction) (z : Bounds) (o : Option Bounds) (k : Bounds → Option (List Target)) → unary_value u f ≡ v → LiesIn v z → InSome f o → ((y : Bounds) → LiesIn f y → TargetsHold x (k y)) → TargetsHold x (chain o (λ w. chain (back_1 u z w) k))
 one_down x u f v z None k e l h go = absurd h
 one_down x u f v z (Some w) k e l h go =
     one_then x f (back_1 u z w) k (unary_back u f z w h (subst (λ r. LiesIn r z) (sym e) l)) go
 
-two_down : (x : Point) (o : Binary) (f g v : Fraction) (z : Bounds) (p q : Option Bounds) (k : Bounds × Bounds → Option (List Target)) → binary_value o f g ≡ Some v → LiesIn v z → InSome f p → InSome g q → ((r : Bounds × Bounds) → LiesIn f r.0 → LiesIn g r.1 → TargetsHold x (k r)) → TargetsHold x (chain p (λ w. chain q (λ y. chain (back_2 o z w y) k)))
+two_down : (x : Point) (o : BinaryOp) (f g v : Fraction) (z : Bounds) (p q : Option Bounds) (k : Bounds × Bounds → Option (List Target)) → binary_value o f g ≡ Some v → LiesIn v z → InSome f p → InSome g q → ((r : Bounds × Bounds) → LiesIn f r.0 → LiesIn g r.1 → TargetsHold x (k r)) → TargetsHold x (chain p (λ w. chain q (λ y. chain (back_2 o z w y) k)))
 two_down x o f g v z None q k e l h i go = absurd h
 two_down x o f g v z (Some w) None k e l h i go = absurd i
 two_down x o f g v z (Some w) (Some y) k e l h i go = two_then x f g (back_2 o z w y) k (binary_back o f g v z w y e h i l) go

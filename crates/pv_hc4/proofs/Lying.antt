@@ -14,7 +14,11 @@ use Rattle.pv_interval.proofs.Powers.{power_keeps}
 use Rattle.pv_interval.proofs.Quotients.{quotient_keeps}
 use Rattle.pv_box.specs.Boxes.{LieIn, PointIn}
 use Rattle.pv_expr.specs.Systems.{IsOver}
-use Rattle.pv_expr.specs.Terms.{Unary, negation, absolute, power, Binary, sum, difference, product, quotient, least, greatest, Term, constant, place, one, two, unary_value, binary_value, with_one, with_two, coordinate, value_at}
+use Rattle.pv_expr.specs.declared.operators.UnaryOp.{UnaryOp}
+use Rattle.pv_expr.specs.declared.operators.UnaryOp.TheVariants.{Neg, Abs, Pow}
+use Rattle.pv_expr.specs.declared.operators.BinaryOp.{BinaryOp}
+use Rattle.pv_expr.specs.declared.operators.BinaryOp.TheVariants.{Add, Sub, Mul, Div, Min, Max}
+use Rattle.pv_expr.specs.Terms.{Term, constant, place, one, two, unary_value, binary_value, with_one, with_two, coordinate, value_at}
 use Rattle.pv_hc4.specs.Chain.{chain, at}
 use Rattle.pv_hc4.specs.Forward.{forward_of, constant_of, unary_of, binary_of}
 
@@ -26,23 +30,23 @@ pub same_value : (f g : Fraction) → Some f ≡ Some g → f ≡ g
 same_value f g e = cc
 
 -- the parts of a value
-pub record OneValue (u : Unary) (o : Option Fraction) (v : Fraction) : Type 0 where
+pub record OneValue (u : UnaryOp) (o : Option Fraction) (v : Fraction) : Type 0 where
   pub f : Fraction
   pub is : o ≡ Some f
   pub value : unary_value u f ≡ v
 
-pub one_value : (u : Unary) (o : Option Fraction) (v : Fraction) → with_one u o ≡ Some v → OneValue u o v
+pub one_value : (u : UnaryOp) (o : Option Fraction) (v : Fraction) → with_one u o ≡ Some v → OneValue u o v
 one_value u None v e = absurd (cc)
 one_value u (Some f) v e = record { f = f; is = refl; value = same_value (unary_value u f) v e }
 
-pub record TwoValues (b : Binary) (o p : Option Fraction) (v : Fraction) : Type 0 where
+pub record TwoValues (b : BinaryOp) (o p : Option Fraction) (v : Fraction) : Type 0 where
   pub f : Fraction
   pub g : Fraction
   pub first : o ≡ Some f
   pub second : p ≡ Some g
   pub value : binary_value b f g ≡ Some v
 
-pub two_values : (b : Binary) (o p : Option Fraction) (v : Fraction) → with_two b o p ≡ Some v → TwoValues b o p v
+pub two_values : (b : BinaryOp) (o p : Option Fraction) (v : Fraction) → with_two b o p ≡ Some v → TwoValues b o p v
 two_values b None p v e = absurd (cc)
 two_values b (Some f) None v e = absurd (cc)
 two_values b (Some f) (Some g) v e = record { f = f; g = g; first = refl; second = refl; value = e }
@@ -61,24 +65,24 @@ constant_lies p q h = record {
   high = above_rounded (p *ℤ pos unit) p q q (omega arith) (omega (arith, ints));
 }
 
-pub unary_lies : (u : Unary) (f : Fraction) (x : Bounds) → LiesIn f x → LiesIn (unary_value u f) (unary_of u x)
-unary_lies negation f x h = opposite_keeps f x h
-unary_lies absolute f x h = absolute_keeps f x h
-unary_lies (power n) f x h = power_keeps f x n h
+pub unary_lies : (u : UnaryOp) (f : Fraction) (x : Bounds) → LiesIn f x → LiesIn (unary_value u f) (unary_of u x)
+unary_lies Neg f x h = opposite_keeps f x h
+unary_lies Abs f x h = absolute_keeps f x h
+unary_lies (Pow n) f x h = power_keeps f x n h
 
-pub binary_lies : (o : Binary) (f g v : Fraction) (x y : Bounds) → binary_value o f g ≡ Some v → LiesIn f x → LiesIn g y → InSome v (binary_of o x y)
-binary_lies sum f g v x y e h k = subst (λ w. LiesIn w (table.sum_of x y)) (same_value (plus f g) v e) (sum_keeps f g x y h k)
-binary_lies difference f g v x y e h k = subst (λ w. LiesIn w (table.difference_of x y)) (same_value (minus f g) v e) (difference_keeps f g x y h k)
-binary_lies product f g v x y e h k = subst (λ w. LiesIn w (table.product_of x y)) (same_value (times f g) v e) (product_keeps f g x y h k)
-binary_lies quotient f g v x y e h k = quotient_keeps f g v x y e h k
-binary_lies least f g v x y e h k = subst (λ w. LiesIn w (table.least_of x y)) (same_value (lesser f g) v e) (least_keeps f g x y h k)
-binary_lies greatest f g v x y e h k = subst (λ w. LiesIn w (table.greatest_of x y)) (same_value (larger f g) v e) (greatest_keeps f g x y h k)
+pub binary_lies : (o : BinaryOp) (f g v : Fraction) (x y : Bounds) → binary_value o f g ≡ Some v → LiesIn f x → LiesIn g y → InSome v (binary_of o x y)
+binary_lies Add f g v x y e h k = subst (λ w. LiesIn w (table.sum_of x y)) (same_value (plus f g) v e) (sum_keeps f g x y h k)
+binary_lies Sub f g v x y e h k = subst (λ w. LiesIn w (table.difference_of x y)) (same_value (minus f g) v e) (difference_keeps f g x y h k)
+binary_lies Mul f g v x y e h k = subst (λ w. LiesIn w (table.product_of x y)) (same_value (times f g) v e) (product_keeps f g x y h k)
+binary_lies Div f g v x y e h k = quotient_keeps f g v x y e h k
+binary_lies Min f g v x y e h k = subst (λ w. LiesIn w (table.least_of x y)) (same_value (lesser f g) v e) (least_keeps f g x y h k)
+binary_lies Max f g v x y e h k = subst (λ w. LiesIn w (table.greatest_of x y)) (same_value (larger f g) v e) (greatest_keeps f g x y h k)
 
-one_lies : (u : Unary) (f v : Fraction) (o : Option Bounds) → unary_value u f ≡ v → InSome f o → InSome v (chain o (λ x. Some (unary_of u x)))
+one_lies : (u : UnaryOp) (f v : Fraction) (o : Option Bounds) → unary_value u f ≡ v → InSome f o → InSome v (chain o (λ x. Some (unary_of u x)))
 one_lies u f v None e h = absurd h
 one_lies u f v (Some x) e h = subst (λ w. LiesIn w (unary_of u x)) e (unary_lies u f x h)
 
-two_lies : (o : Binary) (f g v : Fraction) (p q : Option Bounds) → binary_value o f g ≡ Some v → InSome f p → InSome g q → InSome v (chain p (λ x. chain q (λ y. binary_of o x y)))
+two_lies : (o : BinaryOp) (f g v : Fraction) (p q : Option Bounds) → binary_value o f g ≡ Some v → InSome f p → InSome g q → InSome v (chain p (λ x. chain q (λ y. binary_of o x y)))
 two_lies o f g v None q e h k = absurd h
 two_lies o f g v (Some x) None e h k = absurd k
 two_lies o f g v (Some x) (Some y) e h k = binary_lies o f g v x y e h k

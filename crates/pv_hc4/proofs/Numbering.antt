@@ -4,14 +4,10 @@ use Rattle.std.specs.Prelude.{Some}
 use Rattle.std.specs.HashMap.{HashMap, get}
 use Rattle.std.proofs.lemmas.Bool.{cases_lt}
 use Rattle.std.proofs.lemmas.List.{get_or_append_left}
-use Rattle.pv_expr.specs.Terms.{Term, Binary, sum, difference, product, quotient, least, greatest}
+use Rattle.pv_expr.specs.Terms.{Term}
 use Rattle.pv_hc4.specs.declared.node.Node.{Node}
 use Rattle.pv_hc4.specs.declared.node.Node.TheVariants.{Constant, Place, One, Two}
-use Rattle.pv_hc4.specs.declared.node.UnaryOp.{UnaryOp}
-use Rattle.pv_hc4.specs.declared.node.UnaryOp.TheVariants.{Neg, Abs, Pow}
-use Rattle.pv_hc4.specs.declared.node.BinaryOp.{BinaryOp}
-use Rattle.pv_hc4.specs.declared.node.BinaryOp.TheVariants.{Add, Sub, Mul, Div, Min, Max}
-use Rattle.pv_hc4.specs.Nodes.{term_at, node_at, node_term, terms, AreOrdered, ReadsBelow, unary_named, binary_named}
+use Rattle.pv_hc4.specs.Nodes.{term_at, node_at, node_term, terms, AreOrdered, ReadsBelow}
 use Rattle.pv_hc4.specs.Numbers.{same_node, AreNumbered, CountsParts}
 use Rattle.pv_hc4.specs.Graphs.{Parts, IsGraph, sides_of}
 use Rattle.pv_hc4.proofs.Growth.{term_step, length-terms}
@@ -63,38 +59,6 @@ numbered_more ns new old put n a e missing u k h =
 
 -- ---- equal terms have equal nodes
 
-unary_apart : (o p : UnaryOp) → unary_named o ≡ unary_named p → o ≡ p
-unary_apart Neg Neg e = refl
-unary_apart Neg Abs e = absurd (cc)
-unary_apart Neg (Pow n) e = absurd (cc)
-unary_apart Abs Neg e = absurd (cc)
-unary_apart Abs Abs e = refl
-unary_apart Abs (Pow n) e = absurd (cc)
-unary_apart (Pow m) Neg e = absurd (cc)
-unary_apart (Pow m) Abs e = absurd (cc)
-unary_apart (Pow m) (Pow n) e = cc
-
--- an operation by its name
-op_of : Binary → BinaryOp
-op_of sum = Add
-op_of difference = Sub
-op_of product = Mul
-op_of quotient = Div
-op_of least = Min
-op_of greatest = Max
-
-op_back : (o : BinaryOp) → op_of (binary_named o) ≡ o
-unfolding op_of
-op_back Add = refl
-op_back Sub = refl
-op_back Mul = refl
-op_back Div = refl
-op_back Min = refl
-op_back Max = refl
-
-binary_apart : (o p : BinaryOp) → binary_named o ≡ binary_named p → o ≡ p
-binary_apart o p e = sym (op_back o) ∙ ap op_of e ∙ op_back p
-
 -- nodes that read below i, where the terms below i are all different
 node_apart : (ts : List Term) (i : ℕ) → ((j k : ℕ) → j < i → k < i → term_at ts j ≡ term_at ts k → j ≡ k)
     → (a b : Node) → ReadsBelow i a → ReadsBelow i b → node_term ts a ≡ node_term ts b → a ≡ b
@@ -109,18 +73,18 @@ node_apart ts i d (Place v) (Two o b c) h k e = absurd (cc)
 node_apart ts i d (One p a) (Constant r s) h k e = absurd (cc)
 node_apart ts i d (One p a) (Place w) h k e = absurd (cc)
 node_apart ts i d (One p a) (One o b) h k e =
-    let f : unary_named p ≡ unary_named o = cc in
+    let f : p ≡ o = cc in
     let g : term_at ts a ≡ term_at ts b = cc in
-    ap (λ x. One x a) (unary_apart p o f) ∙ ap (One o) (d a b h k g)
+    ap (λ x. One x a) f ∙ ap (One o) (d a b h k g)
 node_apart ts i d (One p a) (Two o b c) h k e = absurd (cc)
 node_apart ts i d (Two p a v) (Constant r s) h k e = absurd (cc)
 node_apart ts i d (Two p a v) (Place w) h k e = absurd (cc)
 node_apart ts i d (Two p a v) (One o b) h k e = absurd (cc)
 node_apart ts i d (Two p a v) (Two o b c) h k e =
-    let f : binary_named p ≡ binary_named o = cc in
+    let f : p ≡ o = cc in
     let g : term_at ts a ≡ term_at ts b = cc in
     let l : term_at ts v ≡ term_at ts c = cc in
-    ap (λ x. Two x a v) (binary_apart p o f) ∙ ap (λ x. Two o x v) (d a b h.0 k.0 g) ∙ ap (Two o b) (d v c h.1 k.1 l)
+    ap (λ x. Two x a v) f ∙ ap (λ x. Two o x v) (d a b h.0 k.0 g) ∙ ap (Two o b) (d v c h.1 k.1 l)
 
 reads_more : (i j : ℕ) (n : Node) → i ≤ j → ReadsBelow i n → ReadsBelow j n
 reads_more i j (Constant p q) h r = tt

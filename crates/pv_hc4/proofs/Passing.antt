@@ -10,7 +10,7 @@ use Rattle.pv_hc4.specs.declared.node.Node.{Node}
 use Rattle.pv_hc4.specs.declared.node.Node.TheVariants.{Constant, Place, One, Two}
 use Rattle.pv_hc4.specs.Chain.{chain, at}
 use Rattle.pv_hc4.specs.Forward.{forward_of, unary_of, binary_of}
-use Rattle.pv_hc4.specs.Nodes.{term_at, node_at, node_term, terms, ReadsBelow, AreOrdered, unary_named, binary_named}
+use Rattle.pv_hc4.specs.Nodes.{term_at, node_at, node_term, terms, ReadsBelow, AreOrdered}
 use Rattle.pv_hc4.specs.Graphs.{IsReady}
 use Rattle.pv_hc4.specs.Pass.{node_value}
 use Rattle.pv_hc4.proofs.Growth.{term_step}
@@ -18,10 +18,10 @@ use Rattle.pv_hc4.proofs.Growth.{term_step}
 node_forward : (b : List Bounds) (ts : List Term) (vs : List Bounds) (i : ℕ) (own : Bounds) (n : Node) → ReadsBelow i n → ((k : ℕ) → k < i → forward_of b (term_at ts k) ≡ Some (at vs k)) → IsReady n own → node_value b vs own n ≡ forward_of b (node_term ts n)
 node_forward b ts vs i own (Constant p q) r h e = ap Some e
 node_forward b ts vs i own (Place j) r h e = refl
-node_forward b ts vs i own (One o a) r h e = sym (ap (λ x. chain x (λ y. Some (unary_of (unary_named o) y))) (h a r))
+node_forward b ts vs i own (One o a) r h e = sym (ap (λ x. chain x (λ y. Some (unary_of o y))) (h a r))
 node_forward b ts vs i own (Two o a c) r h e =
-    sym (ap (λ x. chain x (λ y. chain (forward_of b (term_at ts c)) (λ z. binary_of (binary_named o) y z))) (h a r.0)
-    ∙ ap (λ x. chain x (λ z. binary_of (binary_named o) (at vs a) z)) (h c r.1))
+    sym (ap (λ x. chain x (λ y. chain (forward_of b (term_at ts c)) (λ z. binary_of o y z))) (h a r.0)
+    ∙ ap (λ x. chain x (λ z. binary_of o (at vs a) z)) (h c r.1))
 
 pub value_is : (b : List Bounds) (ns : List Node) (vs : List Bounds) (d i : ℕ) (own : Bounds) → AreOrdered ns d → i < length ns → ((k : ℕ) → k < i → forward_of b (term_at (terms ns) k) ≡ Some (at vs k)) → IsReady (node_at ns i) own → node_value b vs own (node_at ns i) ≡ forward_of b (term_at (terms ns) i)
 value_is b ns vs d i own o h f e =

@@ -3,7 +3,8 @@ use Rattle.std.proofs.Common.{◌≡◌, ◌⊎◌, inl, inr, ℕ, ◌<◌, List
 use Rattle.std.specs.Prelude.{Option, Some, None}
 use Rattle.std.proofs.lemmas.List.{get_or_read}
 use Rattle.pv_interval.specs.Bounds.{Bounds, everything}
-use Rattle.pv_expr.specs.Terms.{Term, constant, place, one, two, Binary}
+use Rattle.pv_expr.specs.declared.operators.BinaryOp.{BinaryOp}
+use Rattle.pv_expr.specs.Terms.{Term, constant, place, one, two}
 use Rattle.pv_expr.specs.Systems.{IsOver}
 use Rattle.pv_hc4.specs.declared.node.Node.{Node}
 use Rattle.pv_hc4.specs.declared.revised.Revised.{Revised}
@@ -28,7 +29,7 @@ pub came : {A B : Type 0} (o : Option A) (f : A → Option B) (y : B) → chain 
 came None f y e = absurd (cc)
 came (Some x) f y e = record { from = x; first = refl; then_is = e }
 
-none_two : (b : List Bounds) (o : Binary) (t u : Term) → (forward_of b t ≡ None) ⊎ (forward_of b u ≡ None) → forward_of b (two o t u) ≡ None
+none_two : (b : List Bounds) (o : BinaryOp) (t u : Term) → (forward_of b t ≡ None) ⊎ (forward_of b u ≡ None) → forward_of b (two o t u) ≡ None
 none_two b o t u (inl e) = ap (λ x. chain x (λ x. chain (forward_of b u) (λ y. binary_of o x y))) e
 none_two b o t u (inr e) = ap (λ y. chain (forward_of b t) (λ x. chain y (λ y. binary_of o x y))) e ∙ chain_none (forward_of b t)
 

@@ -13,7 +13,10 @@ use Rattle.pv_box.specs.Boxes.{LieIn, PointIn}
 use Rattle.pv_expr.specs.Systems.{IsOver}
 use Rattle.pv_expr.specs.declared.constraint.Relation.{Relation}
 use Rattle.pv_expr.specs.declared.constraint.Relation.TheVariants.{Eq, Le, Ge, Lt, Gt}
-use Rattle.pv_expr.specs.Terms.{Unary, Binary, sum, difference, product, quotient, least, greatest, Term, constant, place, one, two, unary_value, binary_value, with_one, with_two, coordinate, value_at, Stands}
+use Rattle.pv_expr.specs.declared.operators.UnaryOp.{UnaryOp}
+use Rattle.pv_expr.specs.declared.operators.BinaryOp.{BinaryOp}
+use Rattle.pv_expr.specs.declared.operators.BinaryOp.TheVariants.{Add, Sub, Mul, Div, Min, Max}
+use Rattle.pv_expr.specs.Terms.{Term, constant, place, one, two, unary_value, binary_value, with_one, with_two, coordinate, value_at, Stands}
 use Rattle.pv_hc4.specs.Chain.{chain}
 use Rattle.pv_hc4.specs.Forward.{forward_of}
 use Rattle.pv_hc4.specs.Revise.{Sides}
@@ -48,22 +51,22 @@ over_defined f (pos zero) d y h e = let t = has_zero d y h in absurd (cc)
 over_defined f (pos (suc r)) d y h e = record { v = _; is = refl }
 over_defined f (negsuc r) d y h e = record { v = _; is = refl }
 
-quotient_defined : (f g : Fraction) (o : Option Bounds) → InSome g o → divides_well quotient o ≡ true → IsDefined (over f g)
+quotient_defined : (f g : Fraction) (o : Option Bounds) → InSome g o → divides_well Div o ≡ true → IsDefined (over f g)
 quotient_defined f g None h e = absurd h
 quotient_defined f g (Some y) h e = over_defined f g.top g.under y h (not-true (has_nought y) e)
 
-pub binary_defined : (k : Binary) (f g : Fraction) (o : Option Bounds) → InSome g o → divides_well k o ≡ true → IsDefined (binary_value k f g)
-binary_defined sum f g o h e = record { v = plus f g; is = refl }
-binary_defined difference f g o h e = record { v = minus f g; is = refl }
-binary_defined product f g o h e = record { v = times f g; is = refl }
-binary_defined quotient f g o h e = quotient_defined f g o h e
-binary_defined least f g o h e = record { v = lesser_of f g; is = refl }
-binary_defined greatest f g o h e = record { v = larger_of f g; is = refl }
+pub binary_defined : (k : BinaryOp) (f g : Fraction) (o : Option Bounds) → InSome g o → divides_well k o ≡ true → IsDefined (binary_value k f g)
+binary_defined Add f g o h e = record { v = plus f g; is = refl }
+binary_defined Sub f g o h e = record { v = minus f g; is = refl }
+binary_defined Mul f g o h e = record { v = times f g; is = refl }
+binary_defined Div f g o h e = quotient_defined f g o h e
+binary_defined Min f g o h e = record { v = lesser_of f g; is = refl }
+binary_defined Max f g o h e = record { v = larger_of f g; is = refl }
 
-one_defined : (u : Unary) (o : Option Fraction) → IsDefined o → IsDefined (with_one u o)
+one_defined : (u : UnaryOp) (o : Option Fraction) → IsDefined o → IsDefined (with_one u o)
 one_defined u o d = record { v = unary_value u d.v; is = ap (with_one u) d.is }
 
-two_defined : (k : Binary) (o p : Option Fraction) (d : IsDefined o) (e : IsDefined p) → IsDefined (binary_value k d.v e.v) → IsDefined (with_two k o p)
+two_defined : (k : BinaryOp) (o p : Option Fraction) (d : IsDefined o) (e : IsDefined p) → IsDefined (binary_value k d.v e.v) → IsDefined (with_two k o p)
 two_defined k o p d e h = record { v = h.v; is = ap (λ w. with_two k w p) d.is ∙ ap (with_two k (Some d.v)) e.is ∙ h.is }
 
 coordinate_defined : (ns : List ℤ) (d : ℕ) (b : List Bounds) (i : ℕ) → LieIn ns d b → i < length b → IsDefined (coordinate (slice_get ns i) d)

@@ -3,29 +3,19 @@ use Rattle.std.proofs.Common.{◌≡◌, inl, inr, ℕ, ◌+◌, ◌<◌, List, 
 use Rattle.std.specs.Prelude.{Some, None, Bool, true, false, ◌&&◌}
 use Rattle.pv_interval.specs.Bounds.{Bounds}
 use Rattle.pv_expr.specs.Terms.{Term, constant, place, one, two}
-use Rattle.pv_hc4.specs.declared.node.BinaryOp.{BinaryOp}
-use Rattle.pv_hc4.specs.declared.node.BinaryOp.TheVariants.{Add, Sub, Mul, Div, Min, Max}
 use Rattle.pv_hc4.specs.declared.node.Node.{Node}
 use Rattle.pv_hc4.specs.declared.node.Node.TheVariants.{Constant, Place, One, Two}
 use Rattle.pv_hc4.specs.Chain.{at, chain}
 use Rattle.pv_hc4.specs.Forward.{forward_of}
-use Rattle.pv_hc4.specs.Nodes.{term_at, node_at, node_term, terms, AreOrdered, ReadsBelow, binary_named}
+use Rattle.pv_hc4.specs.Nodes.{term_at, node_at, node_term, terms, AreOrdered, ReadsBelow}
 use Rattle.pv_hc4.specs.Building.{IsPart}
 use Rattle.pv_hc4.specs.Graphs.{AreValues, IsGraph, Parts, sides_of}
 use Rattle.pv_hc4.specs.Totality.{total_of, divides_well, forward_sides}
-use Rattle.pv_hc4.specs.Pass.{node_divides_well, op_divides_well, IsPartial, IsTotality, IsEmptyPass}
+use Rattle.pv_hc4.specs.Pass.{node_divides_well, IsPartial, IsTotality, IsEmptyPass}
 use Rattle.pv_hc4.proofs.Downward.{chain_none}
 use Rattle.pv_hc4.proofs.Revising.{part_none, side_value}
 use Rattle.pv_hc4.proofs.Growth.{term_step}
 use Rattle.pv_hc4.proofs.Passing.{node_default}
-
-pub op_well : (o : BinaryOp) (y : Bounds) → divides_well (binary_named o) (Some y) ≡ op_divides_well o y
-op_well Add y = refl
-op_well Sub y = refl
-op_well Mul y = refl
-op_well Div y = refl
-op_well Min y = refl
-op_well Max y = refl
 
 pub and_true : (a b c : Bool) → a ≡ true → b ≡ true → c ≡ true → (a && (b && c)) ≡ true
 and_true a b c e f g = ap (λ x. x && (b && c)) e ∙ ap (λ x. x && c) f ∙ g
@@ -41,16 +31,16 @@ node_total b ts vs i (Constant p q) r f h e = refl
 node_total b ts vs i (Place j) r f h e = refl
 node_total b ts vs i (One o a) r f h e = h a r
 node_total b ts vs i (Two o a c) r f h e =
-    and_true (total_of b (term_at ts a)) (total_of b (term_at ts c)) (divides_well (binary_named o) (forward_of b (term_at ts c))) (h a r.0) (h c r.1)
-    (ap (divides_well (binary_named o)) (f c r.1) ∙ op_well o (at vs c) ∙ e)
+    and_true (total_of b (term_at ts a)) (total_of b (term_at ts c)) (divides_well o (forward_of b (term_at ts c))) (h a r.0) (h c r.1)
+    (ap (divides_well o) (f c r.1) ∙ e)
 
 node_partial : (b : List Bounds) (ts : List Term) (vs : List Bounds) (i : ℕ) (n : Node) → ReadsBelow i n → ((k : ℕ) → k < i → forward_of b (term_at ts k) ≡ Some (at vs k)) → node_divides_well vs n ≡ false → total_of b (node_term ts n) ≡ false
 node_partial b ts vs i (Constant p q) r f e = absurd (cc)
 node_partial b ts vs i (Place j) r f e = absurd (cc)
 node_partial b ts vs i (One o a) r f e = absurd (cc)
 node_partial b ts vs i (Two o a c) r f e =
-    and_last (total_of b (term_at ts a)) (total_of b (term_at ts c)) (divides_well (binary_named o) (forward_of b (term_at ts c)))
-    (ap (divides_well (binary_named o)) (f c r.1) ∙ op_well o (at vs c) ∙ e)
+    and_last (total_of b (term_at ts a)) (total_of b (term_at ts c)) (divides_well o (forward_of b (term_at ts c)))
+    (ap (divides_well o) (f c r.1) ∙ e)
 
 earlier : (b : List Bounds) (ns : List Node) (vs : List Bounds) (i : ℕ) → AreValues b ns vs → i < length ns → (k : ℕ) → k < i → forward_of b (term_at (terms ns) k) ≡ Some (at vs k)
 earlier b ns vs i av h k less = av.each k (omega arith)

@@ -22,7 +22,11 @@ use Rattle.pv_project.specs.Projections.{chain as chain_there, narrowed, factor_
 use Rattle.pv_expr.specs.Systems.{IsOver}
 use Rattle.pv_expr.specs.declared.constraint.Relation.{Relation}
 use Rattle.pv_expr.specs.declared.constraint.Relation.TheVariants.{Eq, Le, Ge, Lt, Gt}
-use Rattle.pv_expr.specs.Terms.{Unary, negation, absolute, power, Binary, sum, difference, product, quotient, least, greatest, Term, constant, place, one, two}
+use Rattle.pv_expr.specs.declared.operators.UnaryOp.{UnaryOp}
+use Rattle.pv_expr.specs.declared.operators.UnaryOp.TheVariants.{Neg, Abs, Pow}
+use Rattle.pv_expr.specs.declared.operators.BinaryOp.{BinaryOp}
+use Rattle.pv_expr.specs.declared.operators.BinaryOp.TheVariants.{Add, Sub, Mul, Div, Min, Max}
+use Rattle.pv_expr.specs.Terms.{Term, constant, place, one, two}
 use Rattle.pv_hc4.specs.Chain.{chain, at}
 use Rattle.pv_hc4.specs.Forward.{forward_of, unary_of, binary_of}
 use Rattle.pv_hc4.specs.Revise.{back_1, back_2, Target, joined, targets_of, place_of, places_from, Sides, ordered_of, swapped, related_of, both_targets, revised}
@@ -181,18 +185,18 @@ pow_inside z x n =
     (λ t. there_inside x (meet_of z (between nought PosInf)) (λ w. both_signs x (even_roots w n)) (λ w. signs_inside x (even_roots w n)))
     (λ t. meet_inside x (between (odd_low z.lo n) (odd_high z.hi n))))
 
-unary_inside : (u : Unary) (z x : Bounds) → Inside x (back_1 u z x)
-unary_inside negation z x = neg_inside z x
-unary_inside absolute z x = abs_inside z x
-unary_inside (power n) z x = pow_inside z x n
+unary_inside : (u : UnaryOp) (z x : Bounds) → Inside x (back_1 u z x)
+unary_inside Neg z x = neg_inside z x
+unary_inside Abs z x = abs_inside z x
+unary_inside (Pow n) z x = pow_inside z x n
 
-binary_inside : (k : Binary) (z x y : Bounds) → InsidePair x y (back_2 k z x y)
-binary_inside sum z x y = add_inside z x y
-binary_inside difference z x y = sub_inside z x y
-binary_inside product z x y = mul_inside z x y
-binary_inside quotient z x y = div_inside z x y
-binary_inside least z x y = min_inside z x y
-binary_inside greatest z x y = max_inside z x y
+binary_inside : (k : BinaryOp) (z x y : Bounds) → InsidePair x y (back_2 k z x y)
+binary_inside Add z x y = add_inside z x y
+binary_inside Sub z x y = sub_inside z x y
+binary_inside Mul z x y = mul_inside z x y
+binary_inside Div z x y = div_inside z x y
+binary_inside Min z x y = min_inside z x y
+binary_inside Max z x y = max_inside z x y
 
 -- ---- from its own forward interval an operation narrows nothing
 
@@ -208,12 +212,12 @@ pair_whole x y (Some r) h k p i all =
     ap (λ w. Some (w, r.1)) (bounds_same x r.0 h p.0 i.0 (λ f l. (all f (in_units n.number) l n.lies).0))
     ∙ ap (λ w. Some (x, w)) (bounds_same y r.1 k p.1 i.1 (λ g l. (all (in_units m.number) g m.lies l).1))
 
-unary_whole : (u : Unary) (x : Bounds) → IsInterval x → back_1 u (unary_of u x) x ≡ Some x
+unary_whole : (u : UnaryOp) (x : Bounds) → IsInterval x → back_1 u (unary_of u x) x ≡ Some x
 unary_whole u x h =
     single_whole x (back_1 u (unary_of u x) x) h (unary_back_fine u (unary_of u x) x (unary_fine u x h) h) (unary_inside u (unary_of u x) x)
     (λ f l. unary_back u f (unary_of u x) x l (unary_lies u f x l))
 
-binary_whole : (k : Binary) (x y z : Bounds) → IsInterval x → IsInterval y → IsInterval z → divides_well k (Some y) ≡ true → binary_of k x y ≡ Some z → back_2 k z x y ≡ Some (x, y)
+binary_whole : (k : BinaryOp) (x y z : Bounds) → IsInterval x → IsInterval y → IsInterval z → divides_well k (Some y) ≡ true → binary_of k x y ≡ Some z → back_2 k z x y ≡ Some (x, y)
 binary_whole k x y z h i j d e =
     pair_whole x y (back_2 k z x y) h i (binary_back_fine k z x y j h i) (binary_inside k z x y)
     (λ f g l m. let v = binary_defined k f g (Some y) m d in

@@ -18,7 +18,11 @@ use Rattle.pv_box.specs.Boxes.{IsBox}
 use Rattle.pv_expr.specs.Systems.{IsOver}
 use Rattle.pv_expr.specs.declared.constraint.Relation.{Relation}
 use Rattle.pv_expr.specs.declared.constraint.Relation.TheVariants.{Eq, Le, Ge, Lt, Gt}
-use Rattle.pv_expr.specs.Terms.{Unary, negation, absolute, power, Binary, sum, difference, product, quotient, least, greatest, Term, constant, place, one, two}
+use Rattle.pv_expr.specs.declared.operators.UnaryOp.{UnaryOp}
+use Rattle.pv_expr.specs.declared.operators.UnaryOp.TheVariants.{Neg, Abs, Pow}
+use Rattle.pv_expr.specs.declared.operators.BinaryOp.{BinaryOp}
+use Rattle.pv_expr.specs.declared.operators.BinaryOp.TheVariants.{Add, Sub, Mul, Div, Min, Max}
+use Rattle.pv_expr.specs.Terms.{Term, constant, place, one, two}
 use Rattle.pv_hc4.specs.Chain.{chain, at}
 use Rattle.pv_hc4.specs.Forward.{forward_of, unary_of, binary_of}
 use Rattle.pv_hc4.specs.Revise.{back_1, back_2, Target, joined, targets_of, place_of, places_from, Sides, ordered_of, swapped, related_of, both_targets, revised}
@@ -222,39 +226,39 @@ pow_fine z x n k h =
     (λ w j. signs_fine x (even_roots w n) h (root_down_open w.lo n, root_up_open w.hi n)))
     (λ t. meet_open x (between (odd_low z.lo n) (odd_high z.hi n)) h (odd_low_open z.lo n) (odd_high_open z.hi n)))
 
-pub unary_back_fine : (u : Unary) (z x : Bounds) → IsInterval z → IsInterval x → Fine (back_1 u z x)
-unary_back_fine negation z x k h = neg_fine z x k h
-unary_back_fine absolute z x k h = abs_fine z x k h
-unary_back_fine (power n) z x k h = pow_fine z x n k h
+pub unary_back_fine : (u : UnaryOp) (z x : Bounds) → IsInterval z → IsInterval x → Fine (back_1 u z x)
+unary_back_fine Neg z x k h = neg_fine z x k h
+unary_back_fine Abs z x k h = abs_fine z x k h
+unary_back_fine (Pow n) z x k h = pow_fine z x n k h
 
-pub binary_back_fine : (o : Binary) (z x y : Bounds) → IsInterval z → IsInterval x → IsInterval y → FinePair (back_2 o z x y)
-binary_back_fine sum z x y k h i = add_fine z x y k h i
-binary_back_fine difference z x y k h i = sub_fine z x y k h i
-binary_back_fine product z x y k h i = mul_fine z x y k h i
-binary_back_fine quotient z x y k h i = div_fine z x y k h i
-binary_back_fine least z x y k h i = min_fine z x y k h i
-binary_back_fine greatest z x y k h i = max_fine z x y k h i
+pub binary_back_fine : (o : BinaryOp) (z x y : Bounds) → IsInterval z → IsInterval x → IsInterval y → FinePair (back_2 o z x y)
+binary_back_fine Add z x y k h i = add_fine z x y k h i
+binary_back_fine Sub z x y k h i = sub_fine z x y k h i
+binary_back_fine Mul z x y k h i = mul_fine z x y k h i
+binary_back_fine Div z x y k h i = div_fine z x y k h i
+binary_back_fine Min z x y k h i = min_fine z x y k h i
+binary_back_fine Max z x y k h i = max_fine z x y k h i
 
 -- ---- the pass up
 
-pub unary_fine : (u : Unary) (x : Bounds) → IsInterval x → IsInterval (unary_of u x)
-unary_fine negation x h = negated_interval x h
-unary_fine absolute x h = absolute_interval x h
-unary_fine (power n) x h = power_interval x n h
+pub unary_fine : (u : UnaryOp) (x : Bounds) → IsInterval x → IsInterval (unary_of u x)
+unary_fine Neg x h = negated_interval x h
+unary_fine Abs x h = absolute_interval x h
+unary_fine (Pow n) x h = power_interval x n h
 
-binary_fine : (o : Binary) (x y : Bounds) → IsInterval x → IsInterval y → Fine (binary_of o x y)
-binary_fine sum x y h k = sum_interval x y h k
-binary_fine difference x y h k = difference_interval x y h k
-binary_fine product x y h k = product_interval x y h k
-binary_fine quotient x y h k = quotient_fine x y h k
-binary_fine least x y h k = least_interval x y h k
-binary_fine greatest x y h k = greatest_interval x y h k
+binary_fine : (o : BinaryOp) (x y : Bounds) → IsInterval x → IsInterval y → Fine (binary_of o x y)
+binary_fine Add x y h k = sum_interval x y h k
+binary_fine Sub x y h k = difference_interval x y h k
+binary_fine Mul x y h k = product_interval x y h k
+binary_fine Div x y h k = quotient_fine x y h k
+binary_fine Min x y h k = least_interval x y h k
+binary_fine Max x y h k = greatest_interval x y h k
 
-one_fine : (u : Unary) (o : Option Bounds) → Fine o → Fine (chain o (λ x. Some (unary_of u x)))
+one_fine : (u : UnaryOp) (o : Option Bounds) → Fine o → Fine (chain o (λ x. Some (unary_of u x)))
 one_fine u None h = tt
 one_fine u (Some x) h = unary_fine u x h
 
-two_fine : (k : Binary) (o p : Option Bounds) → Fine o → Fine p → Fine (chain o (λ x. chain p (λ y. binary_of k x y)))
+two_fine : (k : BinaryOp) (o p : Option Bounds) → Fine o → Fine p → Fine (chain o (λ x. chain p (λ y. binary_of k x y)))
 two_fine k None p h i = tt
 two_fine k (Some x) None h i = tt
 two_fine k (Some x) (Some y) h i = binary_fine k x y h i

@@ -1,25 +1,9 @@
 -- The terms that a list of numbered nodes stands for.
 use Rattle.std.specs.Prelude.{ℕ, ◌<◌, ◌≤◌, List, [], ◌∷◌, ◌++◌, length, slice_index_or}
-use Rattle.pv_expr.specs.Terms.{Unary, negation, absolute, power, Binary, sum, difference, product, quotient, least, greatest, Term, constant, place, one, two}
-use Rattle.pv_hc4.specs.declared.node.UnaryOp.{UnaryOp}
-use Rattle.pv_hc4.specs.declared.node.UnaryOp.TheVariants.{Neg, Abs, Pow}
-use Rattle.pv_hc4.specs.declared.node.BinaryOp.{BinaryOp}
-use Rattle.pv_hc4.specs.declared.node.BinaryOp.TheVariants.{Add, Sub, Mul, Div, Min, Max}
+use Rattle.pv_expr.specs.Terms.{Term, constant, place, one, two}
+use Rattle.pv_expr.specs.Systems.{IsUnary}
 use Rattle.pv_hc4.specs.declared.node.Node.{Node}
 use Rattle.pv_hc4.specs.declared.node.Node.TheVariants.{Constant, Place, One, Two}
-
-abbrev pub unary_named : UnaryOp → Unary
-unary_named Neg = negation
-unary_named Abs = absolute
-unary_named (Pow n) = power n
-
-abbrev pub binary_named : BinaryOp → Binary
-binary_named Add = sum
-binary_named Sub = difference
-binary_named Mul = product
-binary_named Div = quotient
-binary_named Min = least
-binary_named Max = greatest
 
 abbrev pub term_at : List Term → ℕ → Term
 term_at ts k = slice_index_or ts k (place 0)
@@ -31,8 +15,8 @@ node_at ns k = slice_index_or ns k (Place 0)
 abbrev pub node_term : List Term → Node → Term
 node_term ts (Constant p q) = constant p q
 node_term ts (Place i) = place i
-node_term ts (One o a) = one (unary_named o) (term_at ts a)
-node_term ts (Two o a b) = two (binary_named o) (term_at ts a) (term_at ts b)
+node_term ts (One o a) = one o (term_at ts a)
+node_term ts (Two o a b) = two o (term_at ts a) (term_at ts b)
 
 abbrev pub grown : List Term → List Node → List Term
 grown ts [] = ts
@@ -49,16 +33,11 @@ ReadsBelow k (Place i) = Unit {0}
 ReadsBelow k (One o a) = a < k
 ReadsBelow k (Two o a b) = (a < k) × (b < k)
 
-abbrev pub IsPower : UnaryOp → Type 0
-IsPower Neg = Unit {0}
-IsPower Abs = Unit {0}
-IsPower (Pow n) = n ≤ 32
-
 -- a variable of a node is below d, and an exponent at most 32
 abbrev pub FitsNode : ℕ → Node → Type 0
 FitsNode d (Constant p q) = Unit {0}
 FitsNode d (Place i) = i < d
-FitsNode d (One o a) = IsPower o
+FitsNode d (One o a) = IsUnary o
 FitsNode d (Two o a b) = Unit {0}
 
 pub record AreOrdered (ns : List Node) (d : ℕ) : Type 0 where

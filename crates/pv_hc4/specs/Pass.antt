@@ -1,23 +1,20 @@
 -- One pass over the nodes, in their order.
-use Rattle.std.specs.Prelude.{ℕ, ◌≡◌, ◌<◌, Bool, true, false, not, List, length, Option, Some, None}
-use Rattle.pv_interval.specs.Tables.{has_nought}
-use Rattle.pv_hc4.specs.declared.node.BinaryOp.{BinaryOp}
-use Rattle.pv_hc4.specs.declared.node.BinaryOp.TheVariants.{Add, Sub, Mul, Div, Min, Max}
-use Rattle.pv_hc4.specs.Totality.{total_of}
+use Rattle.std.specs.Prelude.{ℕ, ◌≡◌, ◌<◌, Bool, true, false, List, length, Option, Some, None}
+use Rattle.pv_hc4.specs.Totality.{divides_well, total_of}
 use Rattle.pv_interval.specs.Bounds.{Bounds}
 use Rattle.pv_hc4.specs.declared.node.Node.{Node}
 use Rattle.pv_hc4.specs.declared.node.Node.TheVariants.{Constant, Place, One, Two}
 use Rattle.pv_hc4.specs.Chain.{at}
 use Rattle.pv_hc4.specs.Forward.{forward_of, unary_of, binary_of}
-use Rattle.pv_hc4.specs.Nodes.{unary_named, binary_named, terms, term_at}
+use Rattle.pv_hc4.specs.Nodes.{terms, term_at}
 use Rattle.pv_hc4.specs.Graphs.{AreValues}
 
 -- the interval of a node over those of earlier ones
 abbrev pub node_value : List Bounds → List Bounds → Bounds → Node → Option Bounds
 node_value b vs own (Constant p q) = Some own
 node_value b vs own (Place i) = Some (at b i)
-node_value b vs own (One o a) = Some (unary_of (unary_named o) (at vs a))
-node_value b vs own (Two o a c) = binary_of (binary_named o) (at vs a) (at vs c)
+node_value b vs own (One o a) = Some (unary_of o (at vs a))
+node_value b vs own (Two o a c) = binary_of o (at vs a) (at vs c)
 
 -- some node's forward interval is empty
 pub record IsEmptyPass (b : List Bounds) (ns : List Node) : Type 0 where
@@ -29,20 +26,12 @@ abbrev pub IsPass : List Bounds → List Node → List Bounds → Bool → Type 
 IsPass b ns vs true = AreValues b ns vs
 IsPass b ns vs false = IsEmptyPass b ns
 
-abbrev pub op_divides_well : BinaryOp → Bounds → Bool
-op_divides_well Add y = true
-op_divides_well Sub y = true
-op_divides_well Mul y = true
-op_divides_well Div y = not (has_nought y)
-op_divides_well Min y = true
-op_divides_well Max y = true
-
 -- the node is no quotient by an interval that contains 0
 abbrev pub node_divides_well : List Bounds → Node → Bool
 node_divides_well vs (Constant p q) = true
 node_divides_well vs (Place i) = true
 node_divides_well vs (One o a) = true
-node_divides_well vs (Two o a c) = op_divides_well o (at vs c)
+node_divides_well vs (Two o a c) = divides_well o (Some (at vs c))
 
 -- some node's term has a divisor whose interval contains 0
 pub record IsPartial (b : List Bounds) (ns : List Node) : Type 0 where

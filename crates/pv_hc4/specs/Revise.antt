@@ -4,24 +4,28 @@ use Rattle.pv_num.specs.Order.{le, lt, lesser, greater}
 use Rattle.pv_interval.specs.Bounds.{Bounds}
 use Rattle.pv_interval.specs.Tables.{meet_of}
 use Rattle.pv_project.specs.Projections.{back_add_of, back_sub_of, back_mul_of, back_div_of, back_min_of, back_max_of, back_neg_of, back_abs_of, back_pow_of}
-use Rattle.pv_expr.specs.Terms.{Unary, negation, absolute, power, Binary, sum, difference, product, quotient, least, greatest, Term, constant, place, one, two}
+use Rattle.pv_expr.specs.declared.operators.UnaryOp.{UnaryOp}
+use Rattle.pv_expr.specs.declared.operators.UnaryOp.TheVariants.{Neg, Abs, Pow}
+use Rattle.pv_expr.specs.declared.operators.BinaryOp.{BinaryOp}
+use Rattle.pv_expr.specs.declared.operators.BinaryOp.TheVariants.{Add, Sub, Mul, Div, Min, Max}
+use Rattle.pv_expr.specs.Terms.{Term, constant, place, one, two}
 use Rattle.pv_expr.specs.declared.constraint.Relation.{Relation}
 use Rattle.pv_expr.specs.declared.constraint.Relation.TheVariants.{Eq, Le, Ge, Lt, Gt}
 use Rattle.pv_hc4.specs.Chain.{chain, at}
 use Rattle.pv_hc4.specs.Forward.{forward_of}
 
-abbrev pub back_1 : Unary → Bounds → Bounds → Option Bounds
-back_1 negation z x = back_neg_of z x
-back_1 absolute z x = back_abs_of z x
-back_1 (power n) z x = back_pow_of z x n
+abbrev pub back_1 : UnaryOp → Bounds → Bounds → Option Bounds
+back_1 Neg z x = back_neg_of z x
+back_1 Abs z x = back_abs_of z x
+back_1 (Pow n) z x = back_pow_of z x n
 
-abbrev pub back_2 : Binary → Bounds → Bounds → Bounds → Option (Bounds × Bounds)
-back_2 sum z x y = back_add_of z x y
-back_2 difference z x y = back_sub_of z x y
-back_2 product z x y = back_mul_of z x y
-back_2 quotient z x y = back_div_of z x y
-back_2 least z x y = back_min_of z x y
-back_2 greatest z x y = back_max_of z x y
+abbrev pub back_2 : BinaryOp → Bounds → Bounds → Bounds → Option (Bounds × Bounds)
+back_2 Add z x y = back_add_of z x y
+back_2 Sub z x y = back_sub_of z x y
+back_2 Mul z x y = back_mul_of z x y
+back_2 Div z x y = back_div_of z x y
+back_2 Min z x y = back_min_of z x y
+back_2 Max z x y = back_max_of z x y
 
 -- what an occurrence of a variable is narrowed to
 pub record Target : Type 0 where

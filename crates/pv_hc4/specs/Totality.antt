@@ -7,21 +7,23 @@ use Rattle.pv_interval.specs.Bounds.{Bounds}
 use Rattle.pv_interval.specs.Tables.{has_nought}
 use Rattle.pv_expr.specs.declared.constraint.Relation.{Relation}
 use Rattle.pv_expr.specs.declared.constraint.Relation.TheVariants.{Eq, Le, Ge, Lt, Gt}
-use Rattle.pv_expr.specs.Terms.{Binary, sum, difference, product, quotient, least, greatest, Term, constant, place, one, two}
+use Rattle.pv_expr.specs.declared.operators.BinaryOp.{BinaryOp}
+use Rattle.pv_expr.specs.declared.operators.BinaryOp.TheVariants.{Add, Sub, Mul, Div, Min, Max}
+use Rattle.pv_expr.specs.Terms.{Term, constant, place, one, two}
 use Rattle.pv_hc4.specs.declared.graph.Forward.{Forward}
 use Rattle.pv_hc4.specs.Chain.{chain}
 use Rattle.pv_hc4.specs.Forward.{forward_of}
 use Rattle.pv_hc4.specs.Revise.{Sides}
 
 -- a divisor's interval does not contain 0
-abbrev pub divides_well : Binary → Option Bounds → Bool
-divides_well sum y = true
-divides_well difference y = true
-divides_well product y = true
-divides_well quotient None = false
-divides_well quotient (Some y) = not (has_nought y)
-divides_well least y = true
-divides_well greatest y = true
+abbrev pub divides_well : BinaryOp → Option Bounds → Bool
+divides_well Add y = true
+divides_well Sub y = true
+divides_well Mul y = true
+divides_well Div None = false
+divides_well Div (Some y) = not (has_nought y)
+divides_well Min y = true
+divides_well Max y = true
 
 -- no divisor's interval contains 0
 abbrev pub total_of : List Bounds → Term → Bool

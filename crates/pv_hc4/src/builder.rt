@@ -3,15 +3,15 @@
 ghost use Rattle.std.specs.Prelude.{◌≡◌, ◌≢◌, ℕ, ◌<◌, ◌≤◌, length, IfOk, OnOk, [], Some, IfSome, IfNone, if◌then◌else◌};
 ghost use Rattle.std.specs.HashMap.{get};
 ghost use Rattle.pv_expr.specs.Terms.{term_of, one, two};
-ghost use Rattle.pv_expr.specs.Systems.{IsOver, IsFraction};
+ghost use Rattle.pv_expr.specs.Systems.{IsOver, IsFraction, IsUnary};
 ghost use Rattle.pv_hc4.specs.Forward.{constant_of};
-ghost use Rattle.pv_hc4.specs.Nodes.{AreOrdered, ReadsBelow, FitsNode, IsPower, node_at, unary_named, binary_named};
+ghost use Rattle.pv_hc4.specs.Nodes.{AreOrdered, ReadsBelow, FitsNode, node_at};
 ghost use Rattle.pv_hc4.specs.Graphs.{AreReady, IsReady};
 ghost use Rattle.pv_hc4.specs.Building.{Grows, Holds};
 ghost use Rattle.pv_hc4.specs.Numbers.{same_node, AreNumbered};
 
-use crate::node::{BinaryOp, Node, UnaryOp};
-use pv_expr::Expr;
+use crate::node::Node;
+use pv_expr::{BinaryOp, Expr, UnaryOp};
 use pv_interval::Interval;
 use pv_num::{End, Memory, Num};
 use std::alloc::Global;
@@ -115,11 +115,11 @@ impl Builder {
         requires ordered { AreOrdered self.old.nodes.items dims }
         requires ready { AreReady self.old.nodes.items self.old.ready.items }
         requires numbered { AreNumbered self.old.nodes.items self.old.numbers }
-        requires power { IsPower op }
+        requires power { IsUnary op }
         requires over { IsOver dims (term_of a.now) }
         ensures grows { IfOk result (λ i.
             Grows self.old.nodes.items self.new.nodes.items i
-            (one (unary_named op) (term_of a.now))) }
+            (one op (term_of a.now))) }
         ensures ordered { OnOk result (AreOrdered self.new.nodes.items dims) }
         ensures ready { OnOk result (AreReady self.new.nodes.items self.new.ready.items) }
         ensures numbered { OnOk result (AreNumbered self.new.nodes.items self.new.numbers) }
@@ -138,7 +138,7 @@ impl Builder {
         requires over_b { IsOver dims (term_of b.now) }
         ensures grows { IfOk result (λ i.
             Grows self.old.nodes.items self.new.nodes.items i
-            (two (binary_named op) (term_of a.now) (term_of b.now))) }
+            (two op (term_of a.now) (term_of b.now))) }
         ensures ordered { OnOk result (AreOrdered self.new.nodes.items dims) }
         ensures ready { OnOk result (AreReady self.new.nodes.items self.new.ready.items) }
         ensures numbered { OnOk result (AreNumbered self.new.nodes.items self.new.numbers) }

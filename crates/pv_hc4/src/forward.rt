@@ -2,19 +2,21 @@
 
 ghost use Rattle.std.specs.Prelude.{◌≡◌, ℕ, ◌+◌, ◌<◌, ◌≤◌, length, Some, IsTrue};
 ghost use Rattle.pv_hc4.specs.Forward.{unary_of, binary_of};
-ghost use Rattle.pv_hc4.specs.Nodes.{unary_named, binary_named, IsPower, AreOrdered, ReadsBelow, FitsNode};
+ghost use Rattle.pv_expr.specs.Systems.{IsUnary};
+ghost use Rattle.pv_hc4.specs.Nodes.{AreOrdered, ReadsBelow, FitsNode};
 ghost use Rattle.pv_hc4.specs.Graphs.{AreValues, AreReady};
 ghost use Rattle.pv_hc4.specs.Chain.{at};
 ghost use Rattle.pv_hc4.specs.Pass.{node_value, IsPass};
 
-use crate::node::{BinaryOp, Node, UnaryOp};
+use crate::node::Node;
 use pv_box::IBox;
+use pv_expr::{BinaryOp, UnaryOp};
 use pv_interval::Interval;
 
 /// The interval of an operation on an interval.
 pub fn unary(op: UnaryOp, x: Interval) -> Interval
-    requires { IsPower op }
-    ensures { result ≡ unary_of (unary_named op) x }
+    requires { IsUnary op }
+    ensures { result ≡ unary_of op x }
 {
     match op {
         UnaryOp::Neg => x.neg(),
@@ -25,7 +27,7 @@ pub fn unary(op: UnaryOp, x: Interval) -> Interval
 
 /// The interval of an operation on two intervals; None where a divisor is [0,0].
 pub fn binary(op: BinaryOp, x: Interval, y: Interval) -> Option<Interval>
-    ensures { result ≡ binary_of (binary_named op) x y }
+    ensures { result ≡ binary_of op x y }
 {
     match op {
         BinaryOp::Add => Some(x.add(y)),

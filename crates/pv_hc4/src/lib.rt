@@ -21,6 +21,6 @@ pub mod total;
 pub use graph::{Forward, Graph, Scratch, fill};
 pub use judge::Judged;
 pub use marks::{MOST_MARKS, Marks};
-pub use node::{BinaryOp, Node, UnaryOp};
+pub use node::Node;
 pub use revised::Revised;
 pub use steps::Steps;

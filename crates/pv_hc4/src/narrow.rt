@@ -3,20 +3,22 @@
 ghost use Rattle.std.specs.Prelude.{◌≡◌, IsTrue, ℕ, ◌+◌, ◌<◌, ◌≤◌, length, Some, [], ◌∷◌};
 ghost use Rattle.pv_hc4.specs.Chain.{Gives};
 ghost use Rattle.pv_hc4.specs.Revise.{back_1, back_2, went, applied};
-ghost use Rattle.pv_hc4.specs.Nodes.{unary_named, binary_named, IsPower, AreOrdered, terms, term_at};
+ghost use Rattle.pv_expr.specs.Systems.{IsUnary};
+ghost use Rattle.pv_hc4.specs.Nodes.{AreOrdered, terms, term_at};
 ghost use Rattle.pv_hc4.specs.Graphs.{AreValues};
 ghost use Rattle.pv_hc4.specs.Resting.{MayRest};
 
-use crate::node::{BinaryOp, Node, UnaryOp};
+use crate::node::Node;
 use pv_box::IBox;
+use pv_expr::{BinaryOp, UnaryOp};
 use pv_interval::Interval;
 use pv_project::{
     back_abs, back_add, back_div, back_max, back_min, back_mul, back_neg, back_pow, back_sub,
 };
 
 fn back_unary(op: UnaryOp, target: Interval, x: Interval) -> Option<Interval>
-    requires { IsPower op }
-    ensures { result ≡ back_1 (unary_named op) target x }
+    requires { IsUnary op }
+    ensures { result ≡ back_1 op target x }
 {
     match op {
         UnaryOp::Neg => back_neg(target, x),
@@ -31,7 +33,7 @@ fn back_binary(
     x: Interval,
     y: Interval,
 ) -> Option<(Interval, Interval)>
-    ensures { result ≡ back_2 (binary_named op) target x y }
+    ensures { result ≡ back_2 op target x y }
 {
     match op {
         BinaryOp::Add => back_add(target, x, y),

@@ -1,24 +1,6 @@
 //! The nodes of a graph.
 
-/// An operation of one argument.
-#[derive(Clone, Copy, Debug, PartialEq, Eq, Hash)]
-pub enum UnaryOp {
-    Neg,
-    Abs,
-    /// The exponent is at most 32.
-    Pow(u8),
-}
-
-/// An operation of two arguments.
-#[derive(Clone, Copy, Debug, PartialEq, Eq, Hash)]
-pub enum BinaryOp {
-    Add,
-    Sub,
-    Mul,
-    Div,
-    Min,
-    Max,
-}
+use pv_expr::{BinaryOp, UnaryOp};
 
 /// A node. Arguments are numbers of earlier nodes.
 #[derive(Clone, Copy, Debug, PartialEq, Eq, Hash)]

@@ -1,15 +1,15 @@
 //! Divisors that may be 0, and what the ends of two intervals decide.
 
-ghost use Rattle.std.specs.Prelude.{◌≡◌, ◌<◌, length};
+ghost use Rattle.std.specs.Prelude.{◌≡◌, ◌<◌, length, Some};
 ghost use Rattle.pv_interval.specs.Tables.{has_nought};
 ghost use Rattle.pv_hc4.specs.Nodes.{AreOrdered, ReadsBelow};
 ghost use Rattle.pv_hc4.specs.Graphs.{AreValues};
-ghost use Rattle.pv_hc4.specs.Pass.{node_divides_well, op_divides_well, IsTotality};
-ghost use Rattle.pv_hc4.specs.Totality.{ends_decide};
+ghost use Rattle.pv_hc4.specs.Pass.{node_divides_well, IsTotality};
+ghost use Rattle.pv_hc4.specs.Totality.{divides_well, ends_decide};
 
-use crate::node::{BinaryOp, Node};
+use crate::node::Node;
 use pv_box::IBox;
-use pv_expr::Relation;
+use pv_expr::{BinaryOp, Relation};
 use pv_interval::Interval;
 use pv_num::Num;
 
@@ -20,7 +20,7 @@ fn has_zero(x: Interval) -> bool
 }
 
 fn op_is_total(op: BinaryOp, y: Interval) -> bool
-    ensures { result ≡ op_divides_well op y }
+    ensures { result ≡ divides_well op (Some y) }
 {
     match op {
         BinaryOp::Div => !has_zero(y),

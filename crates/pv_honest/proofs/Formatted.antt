@@ -16,7 +16,11 @@ use Rattle.pv_box.specs.QHull as hulls
 use Rattle.pv_box.specs.Choice.{strictly_between, cut_below, cut_above, cut_between, cut_of, wider, widest_from, choice_of, at_or_later, first_from, or_else, round_from, choose_of, is_small_of}
 use Rattle.pv_box.specs.declared.choice.Bisector.{Bisector}
 use Rattle.pv_box.specs.declared.choice.Bisector.TheVariants.{Largest, Round}
-use Rattle.pv_expr.specs.Terms.{Unary, negation, absolute, power, Binary, sum, difference, product, quotient, least, greatest, Term, constant, place, one, two}
+use Rattle.pv_expr.specs.declared.operators.UnaryOp.{UnaryOp}
+use Rattle.pv_expr.specs.declared.operators.UnaryOp.TheVariants.{Neg, Abs, Pow}
+use Rattle.pv_expr.specs.declared.operators.BinaryOp.{BinaryOp}
+use Rattle.pv_expr.specs.declared.operators.BinaryOp.TheVariants.{Add, Sub, Mul, Div, Min, Max}
+use Rattle.pv_expr.specs.Terms.{Term, constant, place, one, two}
 use Rattle.pv_expr.specs.Searches.{search_bounds}
 use Rattle.pv_expr.specs.Searches as search_ends
 use Rattle.pv_expr.specs.declared.domain.Bound.{Bound}
@@ -53,18 +57,18 @@ at_is [] i h = everything_is
 at_is (x ∷ b) zero h = h.0
 at_is (x ∷ b) (suc i) h = at_is b i h.1
 
-unary_is : (u : Unary) (x : Bounds) → HasNumberEnds x → HasNumberEnds (unary_of u x)
-unary_is negation x h = negated_is x h
-unary_is absolute x h = absolute_is x h
-unary_is (power n) x h = power_is x n h
+unary_is : (u : UnaryOp) (x : Bounds) → HasNumberEnds x → HasNumberEnds (unary_of u x)
+unary_is Neg x h = negated_is x h
+unary_is Abs x h = absolute_is x h
+unary_is (Pow n) x h = power_is x n h
 
-binary_is : (o : Binary) (x y : Bounds) → HasNumberEnds x → HasNumberEnds y → Leaves HasNumberEnds (binary_of o x y)
-binary_is sum x y h k = sum_is x y
-binary_is difference x y h k = difference_is x y
-binary_is product x y h k = product_is x y
-binary_is quotient x y h k = quotient_is x y
-binary_is least x y h k = least_is x y h k
-binary_is greatest x y h k = greatest_is x y h k
+binary_is : (o : BinaryOp) (x y : Bounds) → HasNumberEnds x → HasNumberEnds y → Leaves HasNumberEnds (binary_of o x y)
+binary_is Add x y h k = sum_is x y
+binary_is Sub x y h k = difference_is x y
+binary_is Mul x y h k = product_is x y
+binary_is Div x y h k = quotient_is x y
+binary_is Min x y h k = least_is x y h k
+binary_is Max x y h k = greatest_is x y h k
 
 forward_is : (b : List Bounds) (t : Term) → HaveNumberEnds b → Leaves HasNumberEnds (forward_of b t)
 forward_is b (constant p q) h = record { lo = rounded_is Down _ q; hi = rounded_is Up _ q }
@@ -74,18 +78,18 @@ forward_is b (two o t u) h =
     chain_is HasNumberEnds HasNumberEnds (forward_of b t) (λ x. chain (forward_of b u) (λ y. binary_of o x y)) (forward_is b t h)
     (λ x n. chain_is HasNumberEnds HasNumberEnds (forward_of b u) (λ y. binary_of o x y) (forward_is b u h) (λ y m. binary_is o x y n m))
 
-back_1_is : (u : Unary) (z x : Bounds) → HasNumberEnds z → HasNumberEnds x → Leaves HasNumberEnds (back_1 u z x)
-back_1_is negation z x g h = back_neg_is z x g h
-back_1_is absolute z x g h = back_abs_is z x g h
-back_1_is (power n) z x g h = back_pow_is z x n g h
+back_1_is : (u : UnaryOp) (z x : Bounds) → HasNumberEnds z → HasNumberEnds x → Leaves HasNumberEnds (back_1 u z x)
+back_1_is Neg z x g h = back_neg_is z x g h
+back_1_is Abs z x g h = back_abs_is z x g h
+back_1_is (Pow n) z x g h = back_pow_is z x n g h
 
-back_2_is : (o : Binary) (z x y : Bounds) → HasNumberEnds z → HasNumberEnds x → HasNumberEnds y → Leaves HaveBoth (back_2 o z x y)
-back_2_is sum z x y g h k = back_add_is z x y h k
-back_2_is difference z x y g h k = back_sub_is z x y h k
-back_2_is product z x y g h k = back_mul_is z x y h k
-back_2_is quotient z x y g h k = back_div_is z x y h k
-back_2_is least z x y g h k = back_min_is z x y g h k
-back_2_is greatest z x y g h k = back_max_is z x y g h k
+back_2_is : (o : BinaryOp) (z x y : Bounds) → HasNumberEnds z → HasNumberEnds x → HasNumberEnds y → Leaves HaveBoth (back_2 o z x y)
+back_2_is Add z x y g h k = back_add_is z x y h k
+back_2_is Sub z x y g h k = back_sub_is z x y h k
+back_2_is Mul z x y g h k = back_mul_is z x y h k
+back_2_is Div z x y g h k = back_div_is z x y h k
+back_2_is Min z x y g h k = back_min_is z x y g h k
+back_2_is Max z x y g h k = back_max_is z x y g h k
 
 abbrev AreTargets : List Target → Type 0
 AreTargets [] = Unit {0}

@@ -2,8 +2,8 @@
 use Rattle.std.specs.Prelude.{◌≡◌, ℕ, List, [], ◌∷◌, Option, Some, None, slice_range}
 use Rattle.pv_expr.specs.declared.constraint.Relation.TheVariants.{Eq, Le, Ge, Lt, Gt}
 use Rattle.pv_code.specs.declared.code.Op.TheVariants.{One, Two}
-use Rattle.pv_code.specs.declared.code.Unary.TheVariants.{Abs, Pow}
-use Rattle.pv_code.specs.declared.code.Binary.TheVariants.{Min, Max}
+use Rattle.pv_expr.specs.declared.operators.UnaryOp.TheVariants.{Abs, Pow}
+use Rattle.pv_expr.specs.declared.operators.BinaryOp.TheVariants.{Min, Max}
 use Rattle.pv_grammar.specs.declared.cause.Cause.TheVariants.{BadByte, NumberTooWide, NotInProfile}
 use Rattle.pv_grammar.specs.declared.symbol.Fixed.TheVariants.{Plus, Minus, Star, Slash, Caret, Open, Close, OpenBracket, CloseBracket, Comma, Semicolon, Constants, Variables, Constraints, Function as FunctionWord, Return, End, In, Oo, EndOfText}
 use Rattle.pv_grammar.specs.declared.symbol.Symbol.{Symbol}

@@ -7,8 +7,8 @@ ghost use Rattle.pv_parse.specs.Meanings.{AreSame, KnowsVariables, is_taken, mea
 ghost use Rattle.pv_parse.specs.Sentences.{IsNumberSymbol, StandsFor, bytes_of, word_symbol};
 ghost use Rattle.pv_parse.specs.Views.{found, view};
 
-use pv_code::{Binary, Fraction, Op, Unary};
-use pv_expr::{Relation, System};
+use pv_code::{Fraction, Op};
+use pv_expr::{BinaryOp, Relation, System, UnaryOp};
 use pv_grammar::{Cause, Fixed, Phase, Symbol};
 use pv_num::Memory;
 use pv_tokens::{Kind, Token, Word, exponent_of, read_number, word_of};
@@ -215,10 +215,10 @@ fn symbol_of_word(word: Word) -> Symbol
         Word::End => Symbol::Fixed(Fixed::End),
         Word::In => Symbol::Fixed(Fixed::In),
         Word::Oo => Symbol::Fixed(Fixed::Oo),
-        Word::Abs => called(Op::One(Unary::Abs), 1),
-        Word::Sqr => called(Op::One(Unary::Pow(2)), 1),
-        Word::Min => called(Op::Two(Binary::Min), 2),
-        Word::Max => called(Op::Two(Binary::Max), 2),
+        Word::Abs => called(Op::One(UnaryOp::Abs), 1),
+        Word::Sqr => called(Op::One(UnaryOp::Pow(2)), 1),
+        Word::Min => called(Op::Two(BinaryOp::Min), 2),
+        Word::Max => called(Op::Two(BinaryOp::Max), 2),
         Word::Outside => Symbol::Never(Cause::NotInProfile),
     }
 }

@@ -12,7 +12,11 @@ use Rattle.pv_interval.proofs.Orders.{cond_keeps, meet_keeps}
 use Rattle.pv_interval.proofs.Quotients.{quotient_keeps}
 use Rattle.pv_box.specs.Boxes.{IsBox, LieIn, PointIn}
 use Rattle.pv_expr.specs.Systems.{IsOver}
-use Rattle.pv_expr.specs.Terms.{Unary, negation, absolute, power, Binary, sum, difference, product, quotient, least, greatest, Term, constant, place, one, two, unary_value, binary_value, coordinate, value_at}
+use Rattle.pv_expr.specs.declared.operators.UnaryOp.{UnaryOp}
+use Rattle.pv_expr.specs.declared.operators.UnaryOp.TheVariants.{Neg, Abs, Pow}
+use Rattle.pv_expr.specs.declared.operators.BinaryOp.{BinaryOp}
+use Rattle.pv_expr.specs.declared.operators.BinaryOp.TheVariants.{Add, Sub, Mul, Div, Min, Max}
+use Rattle.pv_expr.specs.Terms.{Term, constant, place, one, two, unary_value, binary_value, coordinate, value_at}
 use Rattle.pv_hc4.specs.Chain.{chain, at}
 use Rattle.pv_hc4.specs.Forward.{forward_of, unary_of, binary_of}
 use Rattle.pv_hc4.specs.Totality.{total_of}
@@ -72,37 +76,37 @@ coordinate_is (m ∷ ns) d zero e h = same_value (record { top = m; under = d })
 coordinate_is (m ∷ ns) d (suc i) e h = coordinate_is ns d i e h
 
 -- f and h are values at the point, g and j at the centre
-unary_joins : (o : Unary) (s : ℕ → Bounds) (f g p q : Fraction) (k : ℕ) (d : ℕ → ℤ) (u : ℕ) (x c : Bounds) → unary_value o f ≡ p → unary_value o g ≡ q
+unary_joins : (o : UnaryOp) (s : ℕ → Bounds) (f g p q : Fraction) (k : ℕ) (d : ℕ → ℤ) (u : ℕ) (x c : Bounds) → unary_value o f ≡ p → unary_value o g ≡ q
     → LiesIn f x → LiesIn g x → LiesIn g c → Joins s f g k d u → Joins (λ i. unary_slope o x c (s i)) p q k d u
-unary_joins negation s f g p q k d u x c ep eq fx gx gc a =
+unary_joins Neg s f g p q k d u x c ep eq fx gx gc a =
     subst (λ z. Joins (λ i. table.negated (s i)) z q k d u) ep (subst (λ z. Joins (λ i. table.negated (s i)) (opposite f) z k d u) eq (negation_joins s f g k d u a))
-unary_joins absolute s f g p q k d u x c ep eq fx gx gc a =
-    let t : ℕ → Bounds = λ i. unary_slope absolute x c (s i) in
+unary_joins Abs s f g p q k d u x c ep eq fx gx gc a =
+    let t : ℕ → Bounds = λ i. unary_slope Abs x c (s i) in
     subst (λ z. Joins t z q k d u) ep (subst (λ z. Joins t (size f) z k d u) eq (absolute_joins s f g k d u x fx gx a))
-unary_joins (power m) s f g p q k d u x c ep eq fx gx gc a =
-    let t : ℕ → Bounds = λ i. unary_slope (power m) x c (s i) in
+unary_joins (Pow m) s f g p q k d u x c ep eq fx gx gc a =
+    let t : ℕ → Bounds = λ i. unary_slope (Pow m) x c (s i) in
     subst (λ z. Joins t z q k d u) ep (subst (λ z. Joins t (raised f m) z k d u) eq (power_joins s f g k d u x c m fx gc a))
 
-binary_joins : (o : Binary) (s t : ℕ → Bounds) (f g h j p q : Fraction) (k : ℕ) (d : ℕ → ℤ) (u : ℕ) (x y c e : Bounds) → binary_value o f h ≡ Some p → binary_value o g j ≡ Some q
+binary_joins : (o : BinaryOp) (s t : ℕ → Bounds) (f g h j p q : Fraction) (k : ℕ) (d : ℕ → ℤ) (u : ℕ) (x y c e : Bounds) → binary_value o f h ≡ Some p → binary_value o g j ≡ Some q
     → LiesIn f x → LiesIn g x → LiesIn h y → LiesIn j y → LiesIn g c → LiesIn j e → Joins s f g k d u → Joins t h j k d u
     → Joins (λ i. binary_slope o x y c e (s i) (t i)) p q k d u
-binary_joins sum s t f g h j p q k d u x y c e ep eq fx gx hy jy gc je a b =
-    let r : ℕ → Bounds = λ i. binary_slope sum x y c e (s i) (t i) in
+binary_joins Add s t f g h j p q k d u x y c e ep eq fx gx hy jy gc je a b =
+    let r : ℕ → Bounds = λ i. binary_slope Add x y c e (s i) (t i) in
     subst (λ z. Joins r z q k d u) (same_value (plus f h) p ep) (subst (λ z. Joins r (plus f h) z k d u) (same_value (plus g j) q eq) (sum_joins s t f g h j k d u a b))
-binary_joins difference s t f g h j p q k d u x y c e ep eq fx gx hy jy gc je a b =
-    let r : ℕ → Bounds = λ i. binary_slope difference x y c e (s i) (t i) in
+binary_joins Sub s t f g h j p q k d u x y c e ep eq fx gx hy jy gc je a b =
+    let r : ℕ → Bounds = λ i. binary_slope Sub x y c e (s i) (t i) in
     subst (λ z. Joins r z q k d u) (same_value (minus f h) p ep) (subst (λ z. Joins r (minus f h) z k d u) (same_value (minus g j) q eq) (difference_joins s t f g h j k d u a b))
-binary_joins product s t f g h j p q k d u x y c e ep eq fx gx hy jy gc je a b =
-    let r : ℕ → Bounds = λ i. binary_slope product x y c e (s i) (t i) in
+binary_joins Mul s t f g h j p q k d u x y c e ep eq fx gx hy jy gc je a b =
+    let r : ℕ → Bounds = λ i. binary_slope Mul x y c e (s i) (t i) in
     subst (λ z. Joins r z q k d u) (same_value (times f h) p ep) (subst (λ z. Joins r (times f h) z k d u) (same_value (times g j) q eq) (product_joins s t f g h j k d u x e fx je a b))
-binary_joins quotient s t f g h j p q k d u x y c e ep eq fx gx hy jy gc je a b =
+binary_joins Div s t f g h j p q k d u x y c e ep eq fx gx hy jy gc je a b =
     quotient_row_joins s t f g h j p q k d u (known (table.quotient_of c e)) y ep eq
     (in_known q.top q.under (table.quotient_of c e) (quotient_keeps g j q c e eq gc je)) hy jy.some a b
-binary_joins least s t f g h j p q k d u x y c e ep eq fx gx hy jy gc je a b =
-    let r : ℕ → Bounds = λ i. binary_slope least x y c e (s i) (t i) in
+binary_joins Min s t f g h j p q k d u x y c e ep eq fx gx hy jy gc je a b =
+    let r : ℕ → Bounds = λ i. binary_slope Min x y c e (s i) (t i) in
     subst (λ z. Joins r z q k d u) (same_value (lesser f h) p ep) (subst (λ z. Joins r (lesser f h) z k d u) (same_value (lesser g j) q eq) (least_joins s t f g h j k d u x y fx gx hy jy a b))
-binary_joins greatest s t f g h j p q k d u x y c e ep eq fx gx hy jy gc je a b =
-    let r : ℕ → Bounds = λ i. binary_slope greatest x y c e (s i) (t i) in
+binary_joins Max s t f g h j p q k d u x y c e ep eq fx gx hy jy gc je a b =
+    let r : ℕ → Bounds = λ i. binary_slope Max x y c e (s i) (t i) in
     subst (λ z. Joins r z q k d u) (same_value (larger f h) p ep) (subst (λ z. Joins r (larger f h) z k d u) (same_value (larger g j) q eq) (greatest_joins s t f g h j k d u x y fx gx hy jy a b))
 
 pub joined : (x c : Point) (b : List Bounds) (t : Term) (p q : Fraction) → IsOver (length b) t → PointIn x b → PointIn c b → PointIn c (centres b)

@@ -9,13 +9,15 @@ use Rattle.pv_interval.specs.Bounds.{Bounds, IsInterval, between, everything}
 use Rattle.pv_interval.specs.Subsets.{IsSubset, IsSubsetSome}
 use Rattle.pv_interval.specs.Tables.{exactly, meet_of}
 use Rattle.pv_interval.proofs.Choices.{lesser_first, lesser_second, greater_first, greater_second}
-use Rattle.pv_expr.specs.Terms.{Unary, Binary, Term}
+use Rattle.pv_expr.specs.declared.operators.UnaryOp.{UnaryOp}
+use Rattle.pv_expr.specs.declared.operators.BinaryOp.{BinaryOp}
+use Rattle.pv_expr.specs.Terms.{Term}
 use Rattle.pv_hc4.specs.declared.node.Node.{Node}
 use Rattle.pv_hc4.specs.declared.node.Node.TheVariants.{Constant, Place, One, Two}
 use Rattle.pv_hc4.specs.Chain.{at, chain}
 use Rattle.pv_hc4.specs.Forward.{forward_of, unary_of, binary_of}
 use Rattle.pv_hc4.specs.Graphs.{AreValues}
-use Rattle.pv_hc4.specs.Nodes.{AreOrdered, ReadsBelow, unary_named, binary_named, node_at, node_term, terms, term_at}
+use Rattle.pv_hc4.specs.Nodes.{AreOrdered, ReadsBelow, node_at, node_term, terms, term_at}
 use Rattle.pv_hc4.proofs.Growth.{term_step}
 use Rattle.pv_hc4.proofs.Passing.{node_default}
 use Rattle.pv_slope.specs.Centres.{centre_of, known, met_with}
@@ -52,21 +54,21 @@ met_all w =
     met_ends everything w w.lo w.hi (greater_second NegInf w.lo (NegInf-le w.lo)) (lesser_second PosInf w.hi (le-PosInf w.hi))
     ∙ either_is (le w.lo w.hi) w
 
-pub one_in : (u : Unary) (c f w x : Bounds) → IsInterval c → IsSubset c f → w ≡ unary_of u f → x ≡ unary_of u c → IsSubset x w
+pub one_in : (u : UnaryOp) (c f w x : Bounds) → IsInterval c → IsSubset c f → w ≡ unary_of u f → x ≡ unary_of u c → IsSubset x w
 one_in u c f w x i h w_is x_is =
     subst (λ y. IsSubset y w) (sym x_is) (subst (IsSubset (unary_of u c)) (sym w_is) (unary_contained u c f i h))
 
-pub one_met : (u : Unary) (c f w x : Bounds) → IsInterval c → IsInterval x → IsSubset c f → w ≡ unary_of u f → x ≡ unary_of u c → x ≡ met_with (unary_of u c) w
+pub one_met : (u : UnaryOp) (c f w x : Bounds) → IsInterval c → IsInterval x → IsSubset c f → w ≡ unary_of u f → x ≡ unary_of u c → x ≡ met_with (unary_of u c) w
 one_met u c f w x i j h w_is x_is = sym (ap (λ y. met_with y w) (sym x_is) ∙ met_inside x w j (one_in u c f w x i h w_is x_is))
 
-pub two_in : (o : Binary) (c d f g w x : Bounds) → IsInterval c → IsInterval d → IsSubset c f → IsSubset d g → binary_of o f g ≡ Some w → binary_of o c d ≡ Some x → IsSubset x w
+pub two_in : (o : BinaryOp) (c d f g w x : Bounds) → IsInterval c → IsInterval d → IsSubset c f → IsSubset d g → binary_of o f g ≡ Some w → binary_of o c d ≡ Some x → IsSubset x w
 two_in o c d f g w x i j h k w_is x_is =
     subst (λ p. IsSubsetSome p (Some w)) x_is (subst (IsSubsetSome (binary_of o c d)) w_is (binary_contained o c d f g i j h k))
 
-pub two_met : (o : Binary) (c d w x : Bounds) → IsInterval x → IsSubset x w → binary_of o c d ≡ Some x → x ≡ met_with (known (binary_of o c d)) w
+pub two_met : (o : BinaryOp) (c d w x : Bounds) → IsInterval x → IsSubset x w → binary_of o c d ≡ Some x → x ≡ met_with (known (binary_of o c d)) w
 two_met o c d w x i h x_is = sym (ap (λ p. met_with (known p) w) x_is ∙ met_inside x w i h)
 
-pub none_met : (o : Binary) (c d w : Bounds) → binary_of o c d ≡ None → w ≡ met_with (known (binary_of o c d)) w
+pub none_met : (o : BinaryOp) (c d w : Bounds) → binary_of o c d ≡ None → w ≡ met_with (known (binary_of o c d)) w
 none_met o c d w e = sym (ap (λ p. met_with (known p) w) e ∙ met_all w)
 
 pub centre_in_place : (x y : Bounds) → IsInterval x → (is_finite x.lo && is_finite x.hi) ≡ true → y ≡ exactly (centre_of x) → IsSubset y x
@@ -92,10 +94,10 @@ whole_by : (b : List Bounds) (ts : List Term) (vs : List Bounds) (i : ℕ) (n : 
 whole_by b ts vs i (Constant p q) w r f e = tt
 whole_by b ts vs i (Place j) w r f e = some_same (at b j) w e
 whole_by b ts vs i (One u a) w r f e =
-    some_same (unary_of (unary_named u) (at vs a)) w (sym (ap (λ p. chain p (λ x. Some (unary_of (unary_named u) x))) (f a r)) ∙ e)
+    some_same (unary_of u (at vs a)) w (sym (ap (λ p. chain p (λ x. Some (unary_of u x))) (f a r)) ∙ e)
 whole_by b ts vs i (Two u a c) w r f e =
-    sym (ap (λ p. chain p (λ x. chain (forward_of b (term_at ts c)) (λ y. binary_of (binary_named u) x y))) (f a r.0)
-    ∙ ap (λ p. chain p (λ y. binary_of (binary_named u) (at vs a) y)) (f c r.1)) ∙ e
+    sym (ap (λ p. chain p (λ x. chain (forward_of b (term_at ts c)) (λ y. binary_of u x y))) (f a r.0)
+    ∙ ap (λ p. chain p (λ y. binary_of u (at vs a) y)) (f c r.1)) ∙ e
 
 pub whole_here : (b : List Bounds) (ns : List Node) (vs : List Bounds) (d i : ℕ) (n e : Node) (w : Bounds) → AreOrdered ns d → AreValues b ns vs → i < length ns
     → n ≡ get_or ns i e → w ≡ get_or vs i w → IsWholeOf b vs w n

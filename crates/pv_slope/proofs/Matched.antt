@@ -4,7 +4,11 @@ use Rattle.std.specs.Prelude.{ℤ, pos, negsuc, true, ◌&&◌, nat_eq, map, sli
 use Rattle.std.proofs.lemmas.Bool.Decides.{nat_tests}
 use Rattle.pv_expr.specs.declared.constraint.Relation.{Relation}
 use Rattle.pv_expr.specs.declared.constraint.Relation.TheVariants.{Eq, Le, Ge, Lt, Gt}
-use Rattle.pv_expr.specs.Terms.{Unary, negation, absolute, power, Binary, sum, difference, product, quotient, least, greatest, Term, constant, place, one, two}
+use Rattle.pv_expr.specs.declared.operators.UnaryOp.{UnaryOp}
+use Rattle.pv_expr.specs.declared.operators.UnaryOp.TheVariants.{Neg, Abs, Pow}
+use Rattle.pv_expr.specs.declared.operators.BinaryOp.{BinaryOp}
+use Rattle.pv_expr.specs.declared.operators.BinaryOp.TheVariants.{Add, Sub, Mul, Div, Min, Max}
+use Rattle.pv_expr.specs.Terms.{Term, constant, place, one, two}
 use Rattle.pv_hc4.specs.Revise.{Sides}
 use Rattle.pv_ctc.specs.Contracting.{side_at}
 use Rattle.pv_settle.proofs.Making.{take_more}
@@ -30,33 +34,33 @@ whole_self : (a : ℤ) → same_whole a a ≡ true
 whole_self (pos m) = equal_self m
 whole_self (negsuc m) = equal_self m
 
-unary_is : (u v : Unary) → same_unary u v ≡ true → u ≡ v
-unary_is negation negation e = refl
-unary_is absolute absolute e = refl
-unary_is (power m) (power n) e = ap power (equal m n e)
+unary_is : (u v : UnaryOp) → same_unary u v ≡ true → u ≡ v
+unary_is Neg Neg e = refl
+unary_is Abs Abs e = refl
+unary_is (Pow m) (Pow n) e = ap Pow (equal m n e)
 unary_is u v e = absurd (cc)
 
-unary_self : (u : Unary) → same_unary u u ≡ true
-unary_self negation = refl
-unary_self absolute = refl
-unary_self (power m) = equal_self m
+unary_self : (u : UnaryOp) → same_unary u u ≡ true
+unary_self Neg = refl
+unary_self Abs = refl
+unary_self (Pow m) = equal_self m
 
-binary_is : (o p : Binary) → same_binary o p ≡ true → o ≡ p
-binary_is sum sum e = refl
-binary_is difference difference e = refl
-binary_is product product e = refl
-binary_is quotient quotient e = refl
-binary_is least least e = refl
-binary_is greatest greatest e = refl
+binary_is : (o p : BinaryOp) → same_binary o p ≡ true → o ≡ p
+binary_is Add Add e = refl
+binary_is Sub Sub e = refl
+binary_is Mul Mul e = refl
+binary_is Div Div e = refl
+binary_is Min Min e = refl
+binary_is Max Max e = refl
 binary_is o p e = absurd (cc)
 
-binary_self : (o : Binary) → same_binary o o ≡ true
-binary_self sum = refl
-binary_self difference = refl
-binary_self product = refl
-binary_self quotient = refl
-binary_self least = refl
-binary_self greatest = refl
+binary_self : (o : BinaryOp) → same_binary o o ≡ true
+binary_self Add = refl
+binary_self Sub = refl
+binary_self Mul = refl
+binary_self Div = refl
+binary_self Min = refl
+binary_self Max = refl
 
 term_is : (t s : Term) → same_term t s ≡ true → t ≡ s
 term_is (constant p q) (constant r s) e =

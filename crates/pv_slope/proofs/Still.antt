@@ -11,12 +11,12 @@ use Rattle.pv_hc4.specs.declared.node.Node.TheVariants.{Constant, Place, One, Tw
 use Rattle.pv_hc4.specs.Chain.{at}
 use Rattle.pv_hc4.specs.Forward.{forward_of}
 use Rattle.pv_hc4.specs.Graphs.{AreValues}
-use Rattle.pv_hc4.specs.Nodes.{AreOrdered, ReadsBelow, binary_named, node_at, node_term, terms, term_at}
+use Rattle.pv_hc4.specs.Nodes.{AreOrdered, ReadsBelow, node_at, node_term, terms, term_at}
 use Rattle.pv_hc4.specs.Pass.{node_divides_well}
 use Rattle.pv_hc4.specs.Totality.{total_of, divides_well}
 use Rattle.pv_hc4.proofs.Growth.{term_step}
 use Rattle.pv_hc4.proofs.Passing.{node_default}
-use Rattle.pv_hc4.proofs.Totals.{part_partial, op_well}
+use Rattle.pv_hc4.proofs.Totals.{part_partial}
 use Rattle.pv_slope.specs.Centres.{at_centre, centre_of, known, on_box}
 use Rattle.pv_slope.specs.Centered.{from_centre, linear_of}
 use Rattle.pv_slope.specs.Flat.{IsFlat, AreOf, unary_slope_by, binary_slope_by}
@@ -89,9 +89,9 @@ node_well b ts vs i (Constant p q) r f h = refl
 node_well b ts vs i (Place j) r f h = refl
 node_well b ts vs i (One o a) r f h = refl
 node_well b ts vs i (Two o a c) r f h =
-    let p = both_true (total_of b (term_at ts a)) (total_of b (term_at ts c) && divides_well (binary_named o) (forward_of b (term_at ts c))) h in
-    let q = both_true (total_of b (term_at ts c)) (divides_well (binary_named o) (forward_of b (term_at ts c))) p.1 in
-    sym (ap (divides_well (binary_named o)) (f c r.1) ∙ op_well o (at vs c)) ∙ q.1
+    let p = both_true (total_of b (term_at ts a)) (total_of b (term_at ts c) && divides_well o (forward_of b (term_at ts c))) h in
+    let q = both_true (total_of b (term_at ts c)) (divides_well o (forward_of b (term_at ts c))) p.1 in
+    sym (ap (divides_well o) (f c r.1)) ∙ q.1
 
 -- where every node's term is total
 pub divides_node : (b : List Bounds) (ns : List Node) (vs : List Bounds) (d i : ℕ) → AreOrdered ns d → AreValues b ns vs → i < length ns

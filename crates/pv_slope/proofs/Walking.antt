@@ -3,17 +3,17 @@ use Rattle.std.proofs.Common.{◌≡◌, ◌≢◌, ℕ, zero, suc, ◌+◌, ◌
 use Rattle.std.proofs.lemmas.List.{get_or_read, get_or-set_same, get_or-set_other}
 use Rattle.std.specs.Prelude.{Bool, slice_set}
 use Rattle.pv_interval.specs.Bounds.{Bounds, everything}
+use Rattle.pv_expr.specs.declared.operators.UnaryOp.{UnaryOp}
+use Rattle.pv_expr.specs.declared.operators.UnaryOp.TheVariants.{Neg, Abs, Pow}
+use Rattle.pv_expr.specs.declared.operators.BinaryOp.{BinaryOp}
+use Rattle.pv_expr.specs.declared.operators.BinaryOp.TheVariants.{Add, Sub, Mul, Div, Min, Max}
 use Rattle.pv_expr.specs.Terms.{Term}
-use Rattle.pv_hc4.specs.declared.node.UnaryOp.{UnaryOp}
-use Rattle.pv_hc4.specs.declared.node.UnaryOp.TheVariants.{Neg, Abs, Pow}
-use Rattle.pv_hc4.specs.declared.node.BinaryOp.{BinaryOp}
-use Rattle.pv_hc4.specs.declared.node.BinaryOp.TheVariants.{Add, Sub, Mul, Div, Min, Max}
 use Rattle.pv_hc4.specs.declared.node.Node.{Node}
 use Rattle.pv_hc4.specs.declared.node.Node.TheVariants.{Constant, Place, One, Two}
 use Rattle.pv_hc4.specs.Chain.{at}
 use Rattle.pv_hc4.specs.Forward.{unary_of, binary_of}
 use Rattle.pv_hc4.specs.Graphs.{AreValues}
-use Rattle.pv_hc4.specs.Nodes.{AreOrdered, ReadsBelow, node_at, node_term, terms, term_at, unary_named, binary_named}
+use Rattle.pv_hc4.specs.Nodes.{AreOrdered, ReadsBelow, node_at, node_term, terms, term_at}
 use Rattle.pv_hc4.proofs.Growth.{term_step}
 use Rattle.pv_hc4.proofs.Passing.{node_default}
 use Rattle.pv_slope.specs.Centres.{known, met_with, on_box, at_centre}
@@ -45,11 +45,11 @@ centre_here : (b : List Bounds) (ts : List Term) (cs : List Bounds) (i : ℕ) (w
 centre_here b ts cs i whole (Constant p q) r h w = w
 centre_here b ts cs i whole (Place j) r h w = refl
 centre_here b ts cs i whole (One o a) r h w =
-    ap (λ x. met_with (unary_of (unary_named o) x) whole) (sym (h a r)) ∙ ap (met_with (unary_of (unary_named o) (at_centre b (term_at ts a)))) w
+    ap (λ x. met_with (unary_of o x) whole) (sym (h a r)) ∙ ap (met_with (unary_of o (at_centre b (term_at ts a)))) w
 centre_here b ts cs i whole (Two o a c) r h w =
-    ap (λ x. met_with (known (binary_of (binary_named o) x (at cs c))) whole) (sym (h a r.0))
-    ∙ ap (λ x. met_with (known (binary_of (binary_named o) (at_centre b (term_at ts a)) x)) whole) (sym (h c r.1))
-    ∙ ap (met_with (known (binary_of (binary_named o) (at_centre b (term_at ts a)) (at_centre b (term_at ts c))))) w
+    ap (λ x. met_with (known (binary_of o x (at cs c))) whole) (sym (h a r.0))
+    ∙ ap (λ x. met_with (known (binary_of o (at_centre b (term_at ts a)) x)) whole) (sym (h c r.1))
+    ∙ ap (met_with (known (binary_of o (at_centre b (term_at ts a)) (at_centre b (term_at ts c))))) w
 
 pub centre_then : (b : List Bounds) (ns : List Node) (vs cs : List Bounds) (d i : ℕ) (n e : Node) (whole x : Bounds) → AreOrdered ns d → AreValues b ns vs
     → i < length ns → ((k : ℕ) → k < i → at_centre b (term_at (terms ns) k) ≡ at cs k)
@@ -64,13 +64,13 @@ centre_then b ns vs cs d i n e whole x o v h done n_is whole_is x_is =
 
 -- ---- the slopes
 
-unary_row : (o : UnaryOp) (f c s : Bounds) → unary_slope_by o (unary_factor o f c) f s ≡ unary_slope (unary_named o) f c s
+unary_row : (o : UnaryOp) (f c s : Bounds) → unary_slope_by o (unary_factor o f c) f s ≡ unary_slope o f c s
 unary_row Neg f c s = refl
 unary_row Abs f c s = refl
 unary_row (Pow zero) f c s = refl
 unary_row (Pow (suc m)) f c s = refl
 
-binary_row : (o : BinaryOp) (f g c d s t : Bounds) → binary_slope_by o (binary_factor o c d) f g d s t ≡ binary_slope (binary_named o) f g c d s t
+binary_row : (o : BinaryOp) (f g c d s t : Bounds) → binary_slope_by o (binary_factor o c d) f g d s t ≡ binary_slope o f g c d s t
 binary_row Add f g c d s t = refl
 binary_row Sub f g c d s t = refl
 binary_row Mul f g c d s t = refl
@@ -78,16 +78,16 @@ binary_row Div f g c d s t = refl
 binary_row Min f g c d s t = refl
 binary_row Max f g c d s t = refl
 
-unary_same : (o : UnaryOp) (f c s x y z : Bounds) → x ≡ f → y ≡ c → z ≡ s → unary_slope (unary_named o) f c s ≡ unary_slope (unary_named o) x y z
+unary_same : (o : UnaryOp) (f c s x y z : Bounds) → x ≡ f → y ≡ c → z ≡ s → unary_slope o f c s ≡ unary_slope o x y z
 unary_same o f c s x y z e h k =
-    sym (ap (λ w. unary_slope (unary_named o) w y z) e ∙ ap (λ w. unary_slope (unary_named o) f w z) h ∙ ap (unary_slope (unary_named o) f c) k)
+    sym (ap (λ w. unary_slope o w y z) e ∙ ap (λ w. unary_slope o f w z) h ∙ ap (unary_slope o f c) k)
 
 binary_same : (o : BinaryOp) (f g c d s t p q r u v w : Bounds) → p ≡ f → q ≡ g → r ≡ c → u ≡ d → v ≡ s → w ≡ t
-    → binary_slope (binary_named o) f g c d s t ≡ binary_slope (binary_named o) p q r u v w
+    → binary_slope o f g c d s t ≡ binary_slope o p q r u v w
 binary_same o f g c d s t p q r u v w e h k l m n =
-    sym (ap (λ x. binary_slope (binary_named o) x q r u v w) e ∙ ap (λ x. binary_slope (binary_named o) f x r u v w) h
-    ∙ ap (λ x. binary_slope (binary_named o) f g x u v w) k ∙ ap (λ x. binary_slope (binary_named o) f g c x v w) l
-    ∙ ap (λ x. binary_slope (binary_named o) f g c d x w) m ∙ ap (binary_slope (binary_named o) f g c d s) n)
+    sym (ap (λ x. binary_slope o x q r u v w) e ∙ ap (λ x. binary_slope o f x r u v w) h
+    ∙ ap (λ x. binary_slope o f g x u v w) k ∙ ap (λ x. binary_slope o f g c x v w) l
+    ∙ ap (λ x. binary_slope o f g c d x w) m ∙ ap (binary_slope o f g c d s) n)
 
 slope_here : (b : List Bounds) (j : ℕ) (ts : List Term) (vs cs : List Bounds) (ms : List Bool) (ss : List Bounds) (i : ℕ) (n : Node) → ReadsBelow i n
     → ((k : ℕ) → k < i → on_box b (term_at ts k) ≡ at vs k) → ((k : ℕ) → k < i → at_centre b (term_at ts k) ≡ at cs k)

@@ -15,11 +15,11 @@ use Rattle.pv_num.proofs.Orders.{le-refl, le-trans, le-antisym}
 use Rattle.pv_num.proofs.Scales.{unit_pos}
 use Rattle.pv_interval.specs.Bounds.{Bounds, IsInterval}
 use Rattle.pv_interval.specs.Tables.{nought, is_from_nought, is_to_nought, has_nought, is_nought, least_of_four, greatest_of_four, of_ends, sum_of, difference_of, product_of, quotient_of, negated, hull_of}
-use Rattle.pv_hc4.specs.declared.node.UnaryOp.{UnaryOp}
-use Rattle.pv_hc4.specs.declared.node.UnaryOp.TheVariants.{Neg, Abs, Pow}
-use Rattle.pv_hc4.specs.declared.node.BinaryOp.{BinaryOp}
-use Rattle.pv_hc4.specs.declared.node.BinaryOp.TheVariants.{Add, Sub, Mul, Div, Min, Max}
-use Rattle.pv_hc4.specs.Pass.{op_divides_well}
+use Rattle.pv_expr.specs.declared.operators.UnaryOp.{UnaryOp}
+use Rattle.pv_expr.specs.declared.operators.UnaryOp.TheVariants.{Neg, Abs, Pow}
+use Rattle.pv_expr.specs.declared.operators.BinaryOp.{BinaryOp}
+use Rattle.pv_expr.specs.declared.operators.BinaryOp.TheVariants.{Add, Sub, Mul, Div, Min, Max}
+use Rattle.pv_hc4.specs.Totality.{divides_well}
 use Rattle.pv_slope.specs.Centres.{known}
 use Rattle.pv_slope.specs.Flat.{unary_slope_by, binary_slope_by}
 use Rattle.pv_slope.specs.SlopeTable.{zero_slope, either_slope, quotient_slope}
@@ -126,7 +126,7 @@ quotient_zero : (by g : Bounds) → IsInterval g → has_nought g ≡ false → 
 quotient_zero by g i h =
     ap (λ x. known (quotient_of (difference_of zero_slope x) g)) (times_zero by) ∙ ap (λ x. known (quotient_of x g)) difference_zero ∙ ap known (quotient_nought g i h)
 
-pub binary_zero : (o : BinaryOp) (by f g d : Bounds) → op_divides_well o g ≡ true → IsInterval g → binary_slope_by o by f g d zero_slope zero_slope ≡ zero_slope
+pub binary_zero : (o : BinaryOp) (by f g d : Bounds) → divides_well o (Some g) ≡ true → IsInterval g → binary_slope_by o by f g d zero_slope zero_slope ≡ zero_slope
 binary_zero Add by f g d h i = sum_zero
 binary_zero Sub by f g d h i = difference_zero
 binary_zero Mul by f g d h i = ap (λ x. sum_of x (product_of d zero_slope)) (times_zero f) ∙ ap (sum_of zero_slope) (times_zero d) ∙ sum_zero

@@ -6,7 +6,8 @@ use Rattle.pv_interval.specs.Fractions.{Fraction}
 use Rattle.pv_interval.specs.Points.{Point, LiesInSome}
 use Rattle.pv_interval.specs.Tables.{exactly, sum_of, difference_of, product_of, meet_of}
 use Rattle.pv_box.specs.Boxes.{IsBox, PointIn}
-use Rattle.pv_expr.specs.Terms.{Term, two, difference, value_at}
+use Rattle.pv_expr.specs.declared.operators.BinaryOp.TheVariants.{Sub}
+use Rattle.pv_expr.specs.Terms.{Term, two, value_at}
 use Rattle.pv_expr.specs.Systems.{IsOver}
 use Rattle.pv_hc4.specs.Chain.{chain, at}
 use Rattle.pv_hc4.specs.Forward.{forward_of}
@@ -48,7 +49,7 @@ centered_of b t = chain (forward_of b t) (centered_from b t)
 
 -- left - right of a constraint's two sides
 abbrev pub gap_of : Sides → Term
-gap_of s = two difference s.left s.right
+gap_of s = two Sub s.left s.right
 
 -- an expression's value lies in o at each rational point of the box where it is defined
 abbrev pub Encloses : Term → List Bounds → Option Bounds → Type 0

@@ -16,7 +16,8 @@ use Rattle.pv_interval.proofs.Values.{across, below_le, above_le}
 use Rattle.pv_box.specs.Boxes.{IsBox, PointIn}
 use Rattle.pv_expr.specs.declared.constraint.Relation.{Relation}
 use Rattle.pv_expr.specs.declared.constraint.Relation.TheVariants.{Eq, Le, Ge, Lt, Gt}
-use Rattle.pv_expr.specs.Terms.{difference, place, Stands, value_at, with_two}
+use Rattle.pv_expr.specs.declared.operators.BinaryOp.TheVariants.{Sub}
+use Rattle.pv_expr.specs.Terms.{place, Stands, value_at, with_two}
 use Rattle.pv_hc4.specs.Members.{HoldsAt, AreOver}
 use Rattle.pv_hc4.specs.Revise.{Sides}
 use Rattle.pv_hc4.specs.Totality.{total_of, same_number, sure_of}
@@ -92,7 +93,7 @@ all_some r a b d (Some x) l t = all_so r a b d x l t
 
 gap_value : (s : Sides) (x : Point) (f g : Fraction) → value_at s.left x.places x.under ≡ Some f → value_at s.right x.places x.under ≡ Some g
     → value_at (gap_of s) x.places x.under ≡ Some (minus f g)
-gap_value s x f g e h = ap (λ o. with_two difference o (value_at s.right x.places x.under)) e ∙ ap (with_two difference (Some f)) h
+gap_value s x f g e h = ap (λ o. with_two Sub o (value_at s.right x.places x.under)) e ∙ ap (with_two Sub (Some f)) h
 
 -- a constraint that is centered-none on a box holds at no point of it
 pub none_holds : CenteredEncloses → (s : Sides) (b : List Bounds) (x : Point) → AreOver (length b) s → IsBox b → PointIn x b → centered_none s b ≡ true → HoldsAt s x → ⊥

@@ -5,17 +5,17 @@ use Rattle.pv_interval.specs.Subsets.{IsSubset}
 use Rattle.pv_interval.specs.Tables as table
 use Rattle.pv_expr.specs.declared.constraint.Relation.{Relation}
 use Rattle.pv_expr.specs.Systems.{IsOver}
+use Rattle.pv_expr.specs.declared.operators.UnaryOp.{UnaryOp}
+use Rattle.pv_expr.specs.declared.operators.UnaryOp.TheVariants.{Neg, Abs, Pow}
+use Rattle.pv_expr.specs.declared.operators.BinaryOp.{BinaryOp}
+use Rattle.pv_expr.specs.declared.operators.BinaryOp.TheVariants.{Add, Sub, Mul, Div, Min, Max}
 use Rattle.pv_expr.specs.Terms.{Term}
-use Rattle.pv_hc4.specs.declared.node.UnaryOp.{UnaryOp}
-use Rattle.pv_hc4.specs.declared.node.UnaryOp.TheVariants.{Neg, Abs, Pow}
-use Rattle.pv_hc4.specs.declared.node.BinaryOp.{BinaryOp}
-use Rattle.pv_hc4.specs.declared.node.BinaryOp.TheVariants.{Add, Sub, Mul, Div, Min, Max}
 use Rattle.pv_hc4.specs.declared.node.Node.{Node}
 use Rattle.pv_hc4.specs.declared.node.Node.TheVariants.{Constant, Place, One, Two}
 use Rattle.pv_hc4.specs.Building.{IsPart}
 use Rattle.pv_hc4.specs.Chain.{at}
 use Rattle.pv_hc4.specs.Forward.{unary_of, binary_of}
-use Rattle.pv_hc4.specs.Nodes.{AreOrdered, terms, term_at, node_at, unary_named, binary_named}
+use Rattle.pv_hc4.specs.Nodes.{AreOrdered, terms, term_at, node_at}
 use Rattle.pv_slope.specs.Centres.{centre_of, known, met_with}
 use Rattle.pv_slope.specs.SlopeTable.{zero_slope, absolute_slope, power_factor, quotient_slope, least_slope, greatest_slope}
 
@@ -46,15 +46,15 @@ pub record AreOf (f : Term → Bounds) (ns : List Node) (xs : List Bounds) : Typ
 abbrev pub node_centre : List Bounds → List Bounds → Bounds → Node → Bounds
 node_centre b cs whole (Constant p q) = whole
 node_centre b cs whole (Place i) = table.exactly (centre_of (at b i))
-node_centre b cs whole (One o a) = met_with (unary_of (unary_named o) (at cs a)) whole
-node_centre b cs whole (Two o a c) = met_with (known (binary_of (binary_named o) (at cs a) (at cs c))) whole
+node_centre b cs whole (One o a) = met_with (unary_of o (at cs a)) whole
+node_centre b cs whole (Two o a c) = met_with (known (binary_of o (at cs a) (at cs c))) whole
 
 -- a node's forward interval w over those of earlier nodes
 abbrev pub IsWholeOf : List Bounds → List Bounds → Bounds → Node → Type 0
 IsWholeOf b vs w (Constant p q) = Unit {0}
 IsWholeOf b vs w (Place i) = w ≡ at b i
-IsWholeOf b vs w (One o a) = w ≡ unary_of (unary_named o) (at vs a)
-IsWholeOf b vs w (Two o a c) = binary_of (binary_named o) (at vs a) (at vs c) ≡ Some w
+IsWholeOf b vs w (One o a) = w ≡ unary_of o (at vs a)
+IsWholeOf b vs w (Two o a c) = binary_of o (at vs a) (at vs c) ≡ Some w
 
 -- the intervals at the centre of the nodes that a node reads lie in their forward intervals
 abbrev pub ArePartsInside : List Bounds → List Bounds → Node → Type 0

@@ -2,7 +2,11 @@
 use Rattle.std.specs.Prelude.{ℕ, ℤ, pos, negsuc, Bool, true, false, ◌&&◌, nat_eq, List, [], ◌∷◌}
 use Rattle.pv_expr.specs.declared.constraint.Relation.{Relation}
 use Rattle.pv_expr.specs.declared.constraint.Relation.TheVariants.{Eq, Le, Ge, Lt, Gt}
-use Rattle.pv_expr.specs.Terms.{Unary, negation, absolute, power, Binary, sum, difference, product, quotient, least, greatest, Term, constant, place, one, two}
+use Rattle.pv_expr.specs.declared.operators.UnaryOp.{UnaryOp}
+use Rattle.pv_expr.specs.declared.operators.UnaryOp.TheVariants.{Neg, Abs, Pow}
+use Rattle.pv_expr.specs.declared.operators.BinaryOp.{BinaryOp}
+use Rattle.pv_expr.specs.declared.operators.BinaryOp.TheVariants.{Add, Sub, Mul, Div, Min, Max}
+use Rattle.pv_expr.specs.Terms.{Term, constant, place, one, two}
 use Rattle.pv_hc4.specs.Revise.{Sides}
 use Rattle.pv_slope.specs.Centered.{gap_of}
 use Rattle.pv_slope.specs.Flat.{Parts, term_in}
@@ -13,19 +17,19 @@ same_whole (pos m) (negsuc n) = false
 same_whole (negsuc m) (pos n) = false
 same_whole (negsuc m) (negsuc n) = nat_eq m n
 
-abbrev pub same_unary : Unary → Unary → Bool
-same_unary negation negation = true
-same_unary absolute absolute = true
-same_unary (power m) (power n) = nat_eq m n
+abbrev pub same_unary : UnaryOp → UnaryOp → Bool
+same_unary Neg Neg = true
+same_unary Abs Abs = true
+same_unary (Pow m) (Pow n) = nat_eq m n
 same_unary u v = false
 
-abbrev pub same_binary : Binary → Binary → Bool
-same_binary sum sum = true
-same_binary difference difference = true
-same_binary product product = true
-same_binary quotient quotient = true
-same_binary least least = true
-same_binary greatest greatest = true
+abbrev pub same_binary : BinaryOp → BinaryOp → Bool
+same_binary Add Add = true
+same_binary Sub Sub = true
+same_binary Mul Mul = true
+same_binary Div Div = true
+same_binary Min Min = true
+same_binary Max Max = true
 same_binary o p = false
 
 abbrev pub same_term : Term → Term → Bool

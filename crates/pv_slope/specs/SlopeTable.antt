@@ -9,7 +9,11 @@ use Rattle.pv_num.specs.Arithmetic.{neg_of}
 use Rattle.pv_num.specs.Order.{le}
 use Rattle.pv_interval.specs.Bounds.{Bounds, between}
 use Rattle.pv_interval.specs.Tables as table
-use Rattle.pv_expr.specs.Terms.{Unary, negation, absolute, power, Binary, sum, difference, product, quotient, least, greatest, Term, constant, place, one, two}
+use Rattle.pv_expr.specs.declared.operators.UnaryOp.{UnaryOp}
+use Rattle.pv_expr.specs.declared.operators.UnaryOp.TheVariants.{Neg, Abs, Pow}
+use Rattle.pv_expr.specs.declared.operators.BinaryOp.{BinaryOp}
+use Rattle.pv_expr.specs.declared.operators.BinaryOp.TheVariants.{Add, Sub, Mul, Div, Min, Max}
+use Rattle.pv_expr.specs.Terms.{Term, constant, place, one, two}
 use Rattle.pv_slope.specs.Centres.{known, on_box, at_centre}
 
 abbrev pub zero_slope : Bounds
@@ -47,10 +51,10 @@ absolute_slope f s =
     else table.product_of either_slope s
 
 -- by the forward interval f, the interval c at the centre and the slope s of the part
-abbrev pub unary_slope : Unary → Bounds → Bounds → Bounds → Bounds
-unary_slope negation f c s = table.negated s
-unary_slope absolute f c s = absolute_slope f s
-unary_slope (power n) f c s = power_slope f c s n
+abbrev pub unary_slope : UnaryOp → Bounds → Bounds → Bounds → Bounds
+unary_slope Neg f c s = table.negated s
+unary_slope Abs f c s = absolute_slope f s
+unary_slope (Pow n) f c s = power_slope f c s n
 
 -- of the lesser of two parts with forward intervals f and g
 abbrev pub least_slope : Bounds → Bounds → Bounds → Bounds → Bounds
@@ -64,13 +68,13 @@ abbrev pub quotient_slope : Bounds → Bounds → Bounds → Bounds → Bounds
 quotient_slope by g s t = known (table.quotient_of (table.difference_of s (table.product_of by t)) g)
 
 -- by the forward intervals f and g, the intervals c and d at the centre and the slopes s and t of the two parts
-abbrev pub binary_slope : Binary → Bounds → Bounds → Bounds → Bounds → Bounds → Bounds → Bounds
-binary_slope sum f g c d s t = table.sum_of s t
-binary_slope difference f g c d s t = table.difference_of s t
-binary_slope product f g c d s t = table.sum_of (table.product_of f t) (table.product_of d s)
-binary_slope quotient f g c d s t = quotient_slope (known (table.quotient_of c d)) g s t
-binary_slope least f g c d s t = least_slope f g s t
-binary_slope greatest f g c d s t = greatest_slope f g s t
+abbrev pub binary_slope : BinaryOp → Bounds → Bounds → Bounds → Bounds → Bounds → Bounds → Bounds
+binary_slope Add f g c d s t = table.sum_of s t
+binary_slope Sub f g c d s t = table.difference_of s t
+binary_slope Mul f g c d s t = table.sum_of (table.product_of f t) (table.product_of d s)
+binary_slope Div f g c d s t = quotient_slope (known (table.quotient_of c d)) g s t
+binary_slope Min f g c d s t = least_slope f g s t
+binary_slope Max f g c d s t = greatest_slope f g s t
 
 -- the slope of an expression for variable i
 abbrev pub slope_of : List Bounds → ℕ → Term → Bounds

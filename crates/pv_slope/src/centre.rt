@@ -3,7 +3,8 @@
 ghost use Rattle.std.specs.Prelude.{◌≡◌, ◌≢◌, ◌<◌, ◌≤◌, ◌&&◌, true, length, Some};
 ghost use Rattle.pv_interval.specs.Subsets.{IsSubset};
 ghost use Rattle.pv_interval.specs.Tables.{exactly};
-ghost use Rattle.pv_hc4.specs.Nodes.{AreOrdered, ReadsBelow, FitsNode, IsPower, unary_named, binary_named};
+ghost use Rattle.pv_expr.specs.Systems.{IsUnary};
+ghost use Rattle.pv_hc4.specs.Nodes.{AreOrdered, ReadsBelow, FitsNode};
 ghost use Rattle.pv_hc4.specs.Forward.{unary_of, binary_of};
 ghost use Rattle.pv_hc4.specs.Graphs.{AreValues};
 ghost use Rattle.pv_slope.specs.Centres.{centre_of as centre_in, known, met_with, at_centre};
@@ -12,8 +13,9 @@ ghost use Rattle.pv_slope.specs.Flat.{AreOf, ArePartsInside, IsWholeOf, node_cen
 
 use crate::rows::learn;
 use pv_box::IBox;
+use pv_expr::{BinaryOp, UnaryOp};
+use pv_hc4::Node;
 use pv_hc4::forward::{binary, place, unary};
-use pv_hc4::{BinaryOp, Node, UnaryOp};
 use pv_interval::Interval;
 use pv_num::Num;
 
@@ -87,10 +89,10 @@ fn place_centre(x: Interval) -> Interval
 // interval `f`. It lies in the operation's forward interval, so it need not be met with that.
 #[tactic(auto, using(crate::proofs::Inside::one_in, crate::proofs::Inside::one_met))]
 fn unary_centre(op: UnaryOp, c: Interval, f: Interval, whole: Interval) -> Interval
-    requires fits { IsPower op }
+    requires fits { IsUnary op }
     requires part { IsSubset c f }
-    requires whole { whole ≡ unary_of (unary_named op) f }
-    ensures value { result ≡ met_with (unary_of (unary_named op) c) whole }
+    requires whole { whole ≡ unary_of op f }
+    ensures value { result ≡ met_with (unary_of op c) whole }
     ensures inside { IsSubset result whole }
 {
     learn(c);
@@ -111,8 +113,8 @@ fn binary_centre(
 ) -> Interval
     requires first { IsSubset c f }
     requires second { IsSubset d g }
-    requires whole { binary_of (binary_named op) f g ≡ Some whole }
-    ensures value { result ≡ met_with (known (binary_of (binary_named op) c d)) whole }
+    requires whole { binary_of op f g ≡ Some whole }
+    ensures value { result ≡ met_with (known (binary_of op c d)) whole }
     ensures inside { IsSubset result whole }
 {
     learn(c);

@@ -2,7 +2,8 @@
 
 ghost use Rattle.std.specs.Prelude.{◌≡◌, ℕ, ◌<◌, ◌≤◌, ◌-◌, true, length, if◌then◌else◌};
 ghost use Rattle.pv_interval.specs.Tables.{product_of, sum_of};
-ghost use Rattle.pv_hc4.specs.Nodes.{AreOrdered, ReadsBelow, FitsNode, IsPower, node_at, terms, term_at};
+ghost use Rattle.pv_expr.specs.Systems.{IsUnary};
+ghost use Rattle.pv_hc4.specs.Nodes.{AreOrdered, ReadsBelow, FitsNode, node_at, terms, term_at};
 ghost use Rattle.pv_hc4.specs.Chain.{at as place_of};
 ghost use Rattle.pv_hc4.specs.Graphs.{AreValues};
 ghost use Rattle.pv_hc4.specs.Pass.{node_divides_well};

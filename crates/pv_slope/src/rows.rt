@@ -5,11 +5,11 @@ ghost use Rattle.std.specs.Prelude.{◌≡◌, ◌≤◌, ◌-◌};
 ghost use Rattle.pv_num.specs.Parts.{IsNumber};
 ghost use Rattle.pv_interval.specs.Bounds.{IsInterval};
 ghost use Rattle.pv_interval.specs.Tables.{power_of};
-ghost use Rattle.pv_hc4.specs.Nodes.{IsPower};
+ghost use Rattle.pv_expr.specs.Systems.{IsUnary};
 ghost use Rattle.pv_slope.specs.Flat.{unary_factor as unary_factor_of, binary_factor as binary_factor_of, unary_slope_by, binary_slope_by};
 ghost use Rattle.pv_slope.specs.SlopeTable.{zero_slope, one_slope, either_slope, power_term as power_term_of, power_factor as power_factor_of, absolute_slope as absolute_slope_of, least_slope as least_slope_of, greatest_slope as greatest_slope_of, quotient_slope as quotient_slope_of};
 
-use pv_hc4::{BinaryOp, UnaryOp};
+use pv_expr::{BinaryOp, UnaryOp};
 use pv_interval::Interval;
 use pv_num::Num;
 use pv_num::laws::is_number;
@@ -99,7 +99,7 @@ fn power_factor(f: Interval, c: Interval, n: u8) -> Interval
 
 /// What the slopes of an operation for all variables have in common.
 pub(crate) fn unary_factor(op: UnaryOp, f: Interval, c: Interval) -> Interval
-    requires { IsPower op }
+    requires { IsUnary op }
     ensures { result ≡ unary_factor_of op f c }
 {
     match op {

@@ -1,7 +1,6 @@
-use Rattle.pv_hc4.specs.Nodes.{unary_named}
 use Rattle.pv_slope.proofs.Inside.{one_in}
 use Rattle.pv_slope.proofs.centre.unary_centre.Goals as goal
 
 pub returns-clause-inside : goal.returns-clause-inside
 returns-clause-inside c =
-    one_in (unary_named c.args.op) c.args.c c.args.f c.args.whole c.unary-at_centre.result c.learn.ensures.interval c.requires.part c.requires.whole c.unary-at_centre.ensures
+    one_in c.args.op c.args.c c.args.f c.args.whole c.unary-at_centre.result c.learn.ensures.interval c.requires.part c.requires.whole c.unary-at_centre.ensures
