@@ -18,6 +18,7 @@ use pv_scope::{Order, Share};
 use pv_slope::Form;
 use pv_tree::{LEAST_LIMIT, MOST_SETTLED, MOST_STEPS, MOST_WORKERS, NodeLimit};
 use pv_words::paver;
+use pv_workers::Budget;
 use std::alloc::Global;
 
 /// Reads the words of a command, of which the first is the program's name.
@@ -376,14 +377,14 @@ fn effort_in(found: &ArgMatches<'_>) -> Option<Effort>
 {
     let limit = limit_in(found)?;
     let workers = count_of(text_in(found, "workers", "4"), 1, MOST_WORKERS as u64)? as u32;
-    let boxes = count_of(text_in(found, "boxes", "20000"), 1, limit.nodes())?;
+    let nodes = count_of(text_in(found, "boxes", "20000"), 1, limit.nodes())?;
     let order = order_of(text_in(found, "order", "depth"))?;
-    Some(Effort {
+    let budget = Budget {
+        nodes,
         limit,
         workers,
-        order,
-        boxes,
-    })
+    };
+    Some(Effort { budget, order })
 }
 
 fn workers_in(found: &ArgMatches<'_>) -> Option<Workers>

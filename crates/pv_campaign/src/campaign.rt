@@ -9,7 +9,6 @@ ghost use Rattle.pv_product.specs.Products.{ComesOfCampaign, ComesOfRounds, Lear
 ghost use Rattle.pv_product.specs.Made.{made};
 ghost use Rattle.pv_tree.specs.Trees.{counts_of};
 
-use pv_box::IBox;
 use pv_honest::learn_honest;
 use pv_io::Folder;
 use pv_keep::{Campaign, Keeper};
@@ -18,7 +17,7 @@ use pv_pool::Gate;
 use pv_product::summary::summary;
 use pv_product::{Product, is_closed, told};
 use pv_request::{Effort, FileFault, Refusal, Rounds, Settings};
-use pv_rounds::{HoldRefused, Plan, hold, learn_rounds};
+use pv_rounds::{HoldRefused, Plan, Subject, learn_rounds, run_rounds};
 use pv_rule::settler_in;
 use pv_slope::FormSettler;
 use pv_tree::Paving;
@@ -50,24 +49,26 @@ pub fn campaign<'a, F: Folder, P: Keeper, G: Gate + Sync, R: Threads + Wait + Sy
         (files (F.content folder.old) (F.fetch_faults folder.old) (F.store_faults folder.old))
         (stock (P.kept keeper.old) (P.faults keeper.old))
         (stock (P.kept keeper.new) (P.faults keeper.new))
-        system.now settings.now effort.now.limit effort.now.order effort.now.boxes rounds.now (made p)) }
+        system.now settings.now effort.now.budget.limit effort.now.order effort.now.budget.nodes
+        rounds.now (made p)) }
     ensures refused { IfErr result
         (RefusesCampaign
         (files (F.content folder.old) (F.fetch_faults folder.old) (F.store_faults folder.old))
         (files (F.content folder.new) (F.fetch_faults folder.new) (F.store_faults folder.new))
         (stock (P.kept keeper.old) (P.faults keeper.old))
         (stock (P.kept keeper.new) (P.faults keeper.new))
-        system.now settings.now effort.now.limit effort.now.order effort.now.boxes rounds.now) }
+        system.now settings.now effort.now.budget.limit effort.now.order effort.now.budget.nodes
+        rounds.now) }
 {
     let settler = match settler_in(alloc, folder, system, settings) {
         Ok(settler) => settler,
         Err(refusal) => return Err(refusal),
     };
-    gone_on(rt, alloc, &settler, keeper, effort, rounds, gate)
+    continue_campaign(rt, alloc, &settler, keeper, effort, rounds, gate)
 }
 
 // What the rounds make of what is kept of a settler's paving.
-fn gone_on<'a, P: Keeper, G: Gate + Sync, R: Threads + Wait + Sync>(
+fn continue_campaign<'a, P: Keeper, G: Gate + Sync, R: Threads + Wait + Sync>(
     rt: &R,
     alloc: Global,
     settler: &FormSettler,
@@ -82,75 +83,66 @@ fn gone_on<'a, P: Keeper, G: Gate + Sync, R: Threads + Wait + Sync>(
     ensures comes { IfOk result
         (λ p. ComesOfRounds (method_of settler.now)
         (stock (P.kept keeper.old) (P.faults keeper.old))
-        (stock (P.kept keeper.new) (P.faults keeper.new)) effort.now.limit effort.now.order
-        effort.now.boxes rounds.now (made p)) }
+        (stock (P.kept keeper.new) (P.faults keeper.new)) effort.now.budget.limit effort.now.order
+        effort.now.budget.nodes rounds.now (made p)) }
     ensures refused { IfErr result
         (RefusesRounds (method_of settler.now)
         (stock (P.kept keeper.old) (P.faults keeper.old))
-        (stock (P.kept keeper.new) (P.faults keeper.new)) effort.now.limit effort.now.order
-        effort.now.boxes rounds.now) }
+        (stock (P.kept keeper.new) (P.faults keeper.new)) effort.now.budget.limit effort.now.order
+        effort.now.budget.nodes rounds.now) }
 {
     let identity = settler.identity(alloc)?;
     let root = settler.search_box(alloc)?;
     let plan = Plan {
         count: rounds.count,
-        boxes: effort.boxes,
-        workers: effort.workers,
+        budget: effort.budget,
         order: effort.order,
-        limit: effort.limit,
     };
-    let held = hold_by_form(
-        rt,
-        alloc,
-        settler,
-        keeper,
-        rounds.name,
+    let subject = Subject {
+        name: rounds.name,
         identity,
         root,
-        &plan,
-        gate,
-    );
-    match held {
-        Ok(campaign) => Ok(reported(alloc, settler, &campaign)?),
+    };
+    let kept = run_by_form(rt, alloc, settler, keeper, subject, &plan, gate);
+    match kept {
+        Ok(campaign) => Ok(report_on(alloc, settler, &campaign)?),
         Err(refused) => Err(refusal_by(rounds.name, refused)),
     }
 }
 
 // The rounds of a campaign by the settler of a system, of which nothing else is at hand.
-fn hold_by_form<P: Keeper, G: Gate + Sync, R: Threads + Wait + Sync>(
+fn run_by_form<P: Keeper, G: Gate + Sync, R: Threads + Wait + Sync>(
     rt: &R,
     alloc: Global,
     settler: &FormSettler,
     keeper: &mut P,
-    name: &str,
-    identity: [u8; 32],
-    root: IBox,
+    subject: Subject<'_>,
     plan: &Plan,
     gate: &G,
 ) -> Result<Campaign, HoldRefused>
-    requires dims { length root ≡ dims_of (method_of settler.now) }
-    ensures root { IfOk result (λ c. c.root ≡ root) }
+    requires dims { length subject.root ≡ dims_of (method_of settler.now) }
+    ensures root { IfOk result (λ c. c.root ≡ subject.root) }
     ensures held { IfOk result (λ c.
-        IsHeld plan.now.limit (settle_by (method_of settler.now))
-        (method_of settler.now).parts.depth root plan.now.order identity
-        (plan.now.count * plan.now.boxes)
-        (P.kept keeper.old name.now) (P.kept keeper.new name.now) c.tree) }
+        IsHeld plan.now.budget.limit (settle_by (method_of settler.now))
+        (method_of settler.now).parts.depth subject.root plan.now.order subject.identity
+        (plan.now.count * plan.now.budget.nodes)
+        (P.kept keeper.old subject.name.now) (P.kept keeper.new subject.name.now) c.tree) }
     ensures refused { IfErr result
-        (RefusesHold plan.now.limit (settle_by (method_of settler.now))
-        (method_of settler.now).parts.depth root plan.now.order identity
-        plan.now.boxes plan.now.count
-        (P.kept keeper.old name.now) (P.kept keeper.new name.now)) }
+        (RefusesHold plan.now.budget.limit (settle_by (method_of settler.now))
+        (method_of settler.now).parts.depth subject.root plan.now.order subject.identity
+        plan.now.budget.nodes plan.now.count
+        (P.kept keeper.old subject.name.now) (P.kept keeper.new subject.name.now)) }
     ensures others { (other : List ℕ)
-        → other ≢ name.now → P.kept keeper.new other ≡ P.kept keeper.old other }
+        → other ≢ subject.name.now → P.kept keeper.new other ≡ P.kept keeper.old other }
     ensures cause { IsErrOf result HoldRefused.Failed
         → Rose (P.faults keeper.old) (P.faults keeper.new) }
     ensures counts_on { P.faults keeper.old ≤ P.faults keeper.new }
 {
-    hold(rt, alloc, settler, keeper, name, identity, root, plan, gate)
+    run_rounds(rt, alloc, settler, keeper, subject, plan, gate)
 }
 
 // The summary of a campaign, which was cut short unless no leaf is open.
-fn reported(alloc: Global, settler: &FormSettler, campaign: &Campaign) -> Result<Product, Memory>
+fn report_on(alloc: Global, settler: &FormSettler, campaign: &Campaign) -> Result<Product, Memory>
     requires root { campaign.now.root ≡ search_box (method_of settler.now) }
     requires dims { length campaign.now.root ≡ dims_of (method_of settler.now) }
     ensures report { IfOk result

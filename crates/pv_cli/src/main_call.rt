@@ -137,8 +137,8 @@ fn workers_of<'a>(request: &Request<'a>) -> u32
     ensures few { result ≤ MOST_WORKERS }
 {
     match request {
-        Request::Run { effort, .. } => effort.workers,
-        Request::Resume { effort, .. } => effort.workers,
+        Request::Run { effort, .. } => effort.budget.workers,
+        Request::Resume { effort, .. } => effort.budget.workers,
         Request::Check { .. }
         | Request::Merge { .. }
         | Request::Audit { .. }

@@ -3,7 +3,7 @@ use crate::gates::{Meeting, Pace};
 use crate::pavings::{Poor, late_strips, square, strips, thin};
 use pv_pool::NoGate;
 use pv_tree::{Forgetful, NodeLimit, Paving};
-use pv_workers::{pave, pave_knowing};
+use pv_workers::{Budget, pave, pave_knowing};
 use std::alloc::Global;
 use std::sync::Wait;
 use std::thread::Threads;
@@ -55,14 +55,24 @@ fn goes_on_at_once<R: Threads + Wait + Clock + Sync>(rt: &R, alloc: Global) -> O
     let strips = strips(9);
     let settler = Forgetful { settler: &strips };
     let limit = NodeLimit::by_default();
+    let first = Budget {
+        nodes: 100,
+        limit,
+        workers: 1,
+    };
+    let second = Budget {
+        nodes: 2000,
+        limit,
+        workers: 4,
+    };
     let opening = square(alloc).ok()?;
-    let begun = pave_knowing(rt, alloc, &settler, opening, 100, limit, 1, &NoGate).ok()?;
+    let begun = pave_knowing(rt, alloc, &settler, opening, first, &NoGate).ok()?;
     let opening = begun.paving;
     if opening.dims() != 2 || opening.counts().settled() != 100 {
         return None;
     }
     let gate = Meeting::new(rt, 4, 6, 0);
-    let paved = pave_knowing(rt, alloc, &settler, opening, 2000, limit, 4, &gate).ok()?;
+    let paved = pave_knowing(rt, alloc, &settler, opening, second, &gate).ok()?;
     Some(gate.has_met() && has(&paved.paving, 1023, 0))
 }
 

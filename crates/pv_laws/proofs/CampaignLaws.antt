@@ -62,14 +62,14 @@ campaign_keeps before u v system s limit order boxes rounds r h kept =
 
 work_keeps : (before after : Files) (u v : Stock) (q : Request) (r : Refusal) → RefusesWork before after u v q r → LeavesStock (campaign_of q) u v → Keeps before u v q
 work_keeps before after u v (Campaign system settings effort rounds) r (inl h) kept = inl (same_rows u v h.1)
-work_keeps before after u v (Campaign system settings effort rounds) r (inr h) kept = campaign_keeps before u v system.now settings effort.limit effort.order effort.boxes rounds r h kept
+work_keeps before after u v (Campaign system settings effort rounds) r (inr h) kept = campaign_keeps before u v system.now settings effort.budget.limit effort.order effort.budget.nodes rounds r h kept
 work_keeps before after u v q r h kept = inl (same_rows u v kept)
 
 product_keeps : (before : Files) (u v : Stock) (q : Request) (p : Product) → ComesOf before u v q p → LeavesStock (campaign_of q) u v → Keeps before u v q
 product_keeps before u v (Campaign system settings effort rounds) p h kept = inr (record {
   rule = h.rule;
   read = h.read;
-  interrupted = inr (held_broken effort.limit (settle_by h.rule) h.rule.parts.depth (search_box h.rule) effort.order (identity_of h.rule) effort.boxes rounds.count (u.kept rounds.name.now)
+  interrupted = inr (held_broken effort.budget.limit (settle_by h.rule) h.rule.parts.depth (search_box h.rule) effort.order (identity_of h.rule) effort.budget.nodes rounds.count (u.kept rounds.name.now)
       (v.kept rounds.name.now) h.tree h.held);
 })
 product_keeps before u v q p h kept = inl (same_rows u v kept)
@@ -131,7 +131,7 @@ module _ (before after : Files) (u v : Stock) where
   work_failed (Run system settings effort out) n h = absurd h
   work_failed (Resume system pavings settings effort share out) n (inl h) = absurd h
   work_failed (Resume system pavings settings effort share out) n (inr (inl h)) =
-      absurd (no_files before after effort.limit h.rule (KeeperFault n) (fault_or_memory n) (λ m k. k) (names_in pavings.items) h.refused)
+      absurd (no_files before after effort.budget.limit h.rule (KeeperFault n) (fault_or_memory n) (λ m k. k) (names_in pavings.items) h.refused)
   work_failed (Resume system pavings settings effort share out) n (inr (inr h)) = absurd h.refused
   work_failed (Merge system pavings settings limit out) n (inl h) = absurd h
   work_failed (Merge system pavings settings limit out) n (inr (inl h)) =
@@ -145,7 +145,7 @@ module _ (before after : Files) (u v : Stock) where
   work_failed (Least system settings search) n h = absurd h
   work_failed (Campaign system settings effort rounds) n (inl h) = absurd h.0
   work_failed (Campaign system settings effort rounds) n (inr h) =
-      let both = campaign_failed before u v system.now settings effort.limit effort.order effort.boxes rounds n h in record { interrupted = both.0; rose = both.1 }
+      let both = campaign_failed before u v system.now settings effort.budget.limit effort.order effort.budget.nodes rounds n h in record { interrupted = both.0; rose = both.1 }
 
 abbrev IsFaultStatus : Status → Type 0
 IsFaultStatus status.KeeperFault = Unit {0}

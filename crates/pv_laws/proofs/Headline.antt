@@ -188,10 +188,10 @@ renamed before system name s t p n e h = subst (λ (x : Settings). IsWholePaving
 whole_paving : (before : Files) (u v : Stock) (q : Request) (name : Text) (s : Settings) (p : Product) → IsPavingOf before q name s → ComesOf before u v q p → HasStatus p Done
     → IsWholePaving before name s p
 whole_paving before u v (Run system settings effort out) name s p h c done =
-    renamed before system.now name settings s p h.0 h.1 (whole_run before system.now settings effort.order effort.boxes p c done)
+    renamed before system.now name settings s p h.0 h.1 (whole_run before system.now settings effort.order effort.budget.nodes p c done)
 whole_paving before u v (Resume system pavings settings effort share out) name s p h c done =
-    let all = subst (λ (part : Option Share). ComesOfResume before system.now (names_in pavings.items) settings effort.limit effort.order effort.boxes part p) h.2 c in
-    renamed before system.now name settings s p h.0 h.1 (whole_resume before system.now (names_in pavings.items) settings effort.limit effort.order effort.boxes p all h.3 done)
+    let all = subst (λ (part : Option Share). ComesOfResume before system.now (names_in pavings.items) settings effort.budget.limit effort.order effort.budget.nodes part p) h.2 c in
+    renamed before system.now name settings s p h.0 h.1 (whole_resume before system.now (names_in pavings.items) settings effort.budget.limit effort.order effort.budget.nodes p all h.3 done)
 whole_paving before u v (Merge system pavings settings limit out) name s p h c done =
     renamed before system.now name settings s p h.0 h.1 (whole_merge before system.now (names_in pavings.items) settings limit p c h.2 done)
 whole_paving before u v q name s p h c done = absurd h

@@ -376,7 +376,7 @@ module _ (before after : Files) (u v : Stock) where
   no_work_stored (Check system) m h = h
   no_work_stored (Run system settings effort out) m h = h
   no_work_stored (Resume system pavings settings effort share out) m (inl h) = h
-  no_work_stored (Resume system pavings settings effort share out) m (inr (inl h)) = no_files before after effort.limit h.rule (NotStored m) (stored_or_memory m) (λ n k. k) (names_in pavings.items) h.refused
+  no_work_stored (Resume system pavings settings effort share out) m (inr (inl h)) = no_files before after effort.budget.limit h.rule (NotStored m) (stored_or_memory m) (λ n k. k) (names_in pavings.items) h.refused
   no_work_stored (Resume system pavings settings effort share out) m (inr (inr h)) = h.refused
   no_work_stored (Merge system pavings settings limit out) m (inl h) = h
   no_work_stored (Merge system pavings settings limit out) m (inr (inl h)) = no_files before after limit h.rule (NotStored m) (stored_or_memory m) (λ n k. k) (names_in pavings.items) h.refused
@@ -397,7 +397,7 @@ module _ (before after : Files) (u v : Stock) where
   no_work_printed (Check system) h = h
   no_work_printed (Run system settings effort out) h = h
   no_work_printed (Resume system pavings settings effort share out) (inl h) = h
-  no_work_printed (Resume system pavings settings effort share out) (inr (inl h)) = no_files before after effort.limit h.rule NotPrinted printed_or_memory (λ n k. k) (names_in pavings.items) h.refused
+  no_work_printed (Resume system pavings settings effort share out) (inr (inl h)) = no_files before after effort.budget.limit h.rule NotPrinted printed_or_memory (λ n k. k) (names_in pavings.items) h.refused
   no_work_printed (Resume system pavings settings effort share out) (inr (inr h)) = h.refused
   no_work_printed (Merge system pavings settings limit out) (inl h) = h
   no_work_printed (Merge system pavings settings limit out) (inr (inl h)) = no_files before after limit h.rule NotPrinted printed_or_memory (λ n k. k) (names_in pavings.items) h.refused
@@ -604,9 +604,9 @@ boxes_are_good : (rows : List Row) (limit boxes : ℕ) → IsNodeLimit rows limi
 boxes_are_good rows limit boxes h k none = none boxes (subst (λ (n : ℕ). IsCount 1 n (boxes_text rows) boxes) h.number.value k)
 
 effort_is_good : (rows : List Row) (e : Effort) → IsEffort rows e → HasBadEffort rows → ⊥
-effort_is_good rows e h (bad_limit none) = none e.limit h.limit
-effort_is_good rows e h (bad_workers none) = none e.workers h.workers
-effort_is_good rows e h (bad_boxes none) = boxes_are_good rows e.limit e.boxes h.limit h.boxes none
+effort_is_good rows e h (bad_limit none) = none e.budget.limit h.limit
+effort_is_good rows e h (bad_workers none) = none e.budget.workers h.workers
+effort_is_good rows e h (bad_boxes none) = boxes_are_good rows e.budget.limit e.budget.nodes h.limit h.boxes none
 effort_is_good rows e h (bad_order none) = none e.order h.order
 
 search_is_good : (rows : List Row) (search : Search) → IsSearch rows search → HasBadBudget rows → ⊥

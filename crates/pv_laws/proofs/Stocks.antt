@@ -73,5 +73,5 @@ pub early_rows : (before after : Files) (u v : Stock) (q : Request) (r : Refusal
     → AllRowsStay u v
 early_rows before after u v (Campaign system settings effort rounds) r early (inl h) kept = same_rows u v h.1
 early_rows before after u v (Campaign system settings effort rounds) r early (inr h) kept =
-    all_rows rounds.name.now u v (rounds_rows h.rule u v effort.limit effort.order effort.boxes rounds r early h.refused) kept
+    all_rows rounds.name.now u v (rounds_rows h.rule u v effort.budget.limit effort.order effort.budget.nodes rounds r early h.refused) kept
 early_rows before after u v q r early h kept = same_rows u v kept

@@ -136,7 +136,7 @@ merge_stage before system names s most limit p few stages h = record {
   is = h.is;
 }
 
-boxes_fit : (found : Option (Text × List Row)) (system : _) (settings : Settings) (effort : Effort) (out : _) → IsAsked found (Run system settings effort out) → effort.boxes ≤ effort.limit
+boxes_fit : (found : Option (Text × List Row)) (system : _) (settings : Settings) (effort : Effort) (out : _) → IsAsked found (Run system settings effort out) → effort.budget.nodes ≤ effort.budget.limit
 boxes_fit None system settings effort out h = absurd h
 boxes_fit (Some p) system settings effort out h = h.2.boxes.to
 
@@ -145,12 +145,12 @@ stage_paving : (before : Files) (u v : Stock) (found : Option (Text × List Row)
 stage_paving before u v found (Run system settings effort out) name s limit p asked h stages c =
     let few = boxes_fit found system settings effort out asked in
     let most = h.2 in
-    run_stage before name s effort.order effort.boxes limit p (omega (arith, few, most))
-    (subst (λ (x : Settings). ComesOfRun before name x effort.order effort.boxes p) h.1 (subst (λ (n : Text). ComesOfRun before n settings effort.order effort.boxes p) h.0 c))
+    run_stage before name s effort.order effort.budget.nodes limit p (omega (arith, few, most))
+    (subst (λ (x : Settings). ComesOfRun before name x effort.order effort.budget.nodes p) h.1 (subst (λ (n : Text). ComesOfRun before n settings effort.order effort.budget.nodes p) h.0 c))
 stage_paving before u v found (Resume system pavings settings effort share out) name s limit p asked h stages c =
-    resume_stage before name (names_in pavings.items) s effort.limit effort.order effort.boxes share limit p h.2 (stages effort.limit)
-    (subst (λ (x : Settings). ComesOfResume before name (names_in pavings.items) x effort.limit effort.order effort.boxes share p) h.1
-    (subst (λ (n : Text). ComesOfResume before n (names_in pavings.items) settings effort.limit effort.order effort.boxes share p) h.0 c))
+    resume_stage before name (names_in pavings.items) s effort.budget.limit effort.order effort.budget.nodes share limit p h.2 (stages effort.budget.limit)
+    (subst (λ (x : Settings). ComesOfResume before name (names_in pavings.items) x effort.budget.limit effort.order effort.budget.nodes share p) h.1
+    (subst (λ (n : Text). ComesOfResume before n (names_in pavings.items) settings effort.budget.limit effort.order effort.budget.nodes share p) h.0 c))
 stage_paving before u v found (Merge system pavings settings most out) name s limit p asked h stages c =
     merge_stage before name (names_in pavings.items) s most limit p h.2 (stages most)
     (subst (λ (x : Settings). ComesOfMerge before name (names_in pavings.items) x most p) h.1 (subst (λ (n : Text). ComesOfMerge before n (names_in pavings.items) settings most p) h.0 c))

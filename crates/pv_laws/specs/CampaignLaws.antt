@@ -33,7 +33,7 @@ IsInterruptedIn before u v (Audit system paving settings limit workers) = ⊥
 IsInterruptedIn before u v (Svg system paving settings limit view) = ⊥
 IsInterruptedIn before u v (Sample circles) = ⊥
 IsInterruptedIn before u v (Least system settings search) = ⊥
-IsInterruptedIn before u v (Campaign system settings effort rounds) = HasInterrupted before u v system.now settings effort.limit effort.order effort.boxes rounds
+IsInterruptedIn before u v (Campaign system settings effort rounds) = HasInterrupted before u v system.now settings effort.budget.limit effort.order effort.budget.nodes rounds
 
 -- the words ask for a campaign, which was interrupted
 pub record IsBrokenOff (words : List Text) (before after : Outside) : Type 0 where

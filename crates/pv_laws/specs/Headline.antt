@@ -33,7 +33,7 @@ abbrev pub IsPavingOf : Files → Request → Text → Settings → Type 0
 IsPavingOf before (Check system) name s = ⊥
 IsPavingOf before (Run system settings effort out) name s = (system.now ≡ name) × (settings ≡ s)
 IsPavingOf before (Resume system pavings settings effort share out) name s =
-    (system.now ≡ name) × (settings ≡ s) × (share ≡ None) × FilesAreStages before system.now (names_in pavings.items) settings effort.limit
+    (system.now ≡ name) × (settings ≡ s) × (share ≡ None) × FilesAreStages before system.now (names_in pavings.items) settings effort.budget.limit
 IsPavingOf before (Merge system pavings settings limit out) name s =
     (system.now ≡ name) × (settings ≡ s) × FilesAreStages before system.now (names_in pavings.items) settings limit
 IsPavingOf before (Audit system paving settings limit workers) name s = ⊥

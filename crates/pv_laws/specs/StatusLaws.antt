@@ -103,13 +103,13 @@ abbrev pub IsWhole : Files → Stock → Stock → Request → Product → Type 
 IsWhole before u v (Check system) p = ComesOfCheck before system.now p
 IsWhole before u v (Run system settings effort out) p = IsFullRun before system.now settings p
 IsWhole before u v (Resume system pavings settings effort share out) p =
-    IsWholeResume before system.now (names_in pavings.items) settings effort.limit share p
+    IsWholeResume before system.now (names_in pavings.items) settings effort.budget.limit share p
 IsWhole before u v (Merge system pavings settings limit out) p = IsClosedJoin before system.now (names_in pavings.items) settings limit p
 IsWhole before u v (Audit system paving settings limit workers) p = ComesOfAudit before system.now paving.now settings limit p
 IsWhole before u v (Svg system paving settings limit view) p = ComesOfSvg before system.now paving.now settings limit view p
 IsWhole before u v (Sample circles) p = ComesOfSample circles p
 IsWhole before u v (Least system settings search) p = IsFinalLeast before system.now settings search p
-IsWhole before u v (Campaign system settings effort rounds) p = IsFullCampaign before u v system.now settings effort.limit rounds p
+IsWhole before u v (Campaign system settings effort rounds) p = IsFullCampaign before u v system.now settings effort.budget.limit rounds p
 
 -- what was asked for came to this, was stored and printed, and nothing was told
 pub record IsDelivery (says : Files → Stock → Stock → Request → Product → Type 0) (words : List Text) (before after : Outside) : Type 0 where
@@ -204,15 +204,15 @@ pub record IsPartCampaign (before : Files) (u v : Stock) (system : Text) (s : Se
 
 abbrev pub IsPart : Files → Stock → Stock → Request → Product → Type 0
 IsPart before u v (Check system) p = ⊥
-IsPart before u v (Run system settings effort out) p = IsPartRun before system.now settings effort.order effort.boxes p
+IsPart before u v (Run system settings effort out) p = IsPartRun before system.now settings effort.order effort.budget.nodes p
 IsPart before u v (Resume system pavings settings effort share out) p =
-    IsCutShortResume before system.now (names_in pavings.items) settings effort.limit effort.order effort.boxes share p
+    IsCutShortResume before system.now (names_in pavings.items) settings effort.budget.limit effort.order effort.budget.nodes share p
 IsPart before u v (Merge system pavings settings limit out) p = IsOpenJoin before system.now (names_in pavings.items) settings limit p
 IsPart before u v (Audit system paving settings limit workers) p = ⊥
 IsPart before u v (Svg system paving settings limit view) p = ⊥
 IsPart before u v (Sample circles) p = ⊥
 IsPart before u v (Least system settings search) p = IsPartLeast before system.now settings search p
-IsPart before u v (Campaign system settings effort rounds) p = IsPartCampaign before u v system.now settings effort.limit effort.order effort.boxes rounds p
+IsPart before u v (Campaign system settings effort rounds) p = IsPartCampaign before u v system.now settings effort.budget.limit effort.order effort.budget.nodes rounds p
 
 abbrev pub OpenLeftIsPart : Type 0
 OpenLeftIsPart = (words : List Text) (before after : Outside) → IsEnd words before after OpenLeft → IsDelivery IsPart words before after

@@ -25,8 +25,8 @@ use Rattle.pv_request.specs.declared.status.Status.TheVariants.{Done, OpenLeft}
 -- the system of this name is to be paved by these settings, with at most so many settled nodes
 abbrev pub Paves : Request → Text → Settings → ℕ → Type 0
 Paves (Check system) name s limit = ⊥
-Paves (Run system settings effort out) name s limit = (system.now ≡ name) × (settings ≡ s) × (effort.limit ≤ limit)
-Paves (Resume system pavings settings effort share out) name s limit = (system.now ≡ name) × (settings ≡ s) × (effort.limit ≤ limit)
+Paves (Run system settings effort out) name s limit = (system.now ≡ name) × (settings ≡ s) × (effort.budget.limit ≤ limit)
+Paves (Resume system pavings settings effort share out) name s limit = (system.now ≡ name) × (settings ≡ s) × (effort.budget.limit ≤ limit)
 Paves (Merge system pavings settings most out) name s limit = (system.now ≡ name) × (settings ≡ s) × (most ≤ limit)
 Paves (Audit system paving settings most workers) name s limit = ⊥
 Paves (Svg system paving settings most view) name s limit = ⊥

@@ -243,15 +243,15 @@ pub record ComesOfCampaign (before : Files) (u v : Stock) (system : Text) (s : S
 -- what comes of a request, over these files and of what was kept before and is kept then
 abbrev pub ComesOf : Files → Stock → Stock → Request → Product → Type 0
 ComesOf before u v (Check system) p = ComesOfCheck before system.now p
-ComesOf before u v (Run system settings effort out) p = ComesOfRun before system.now settings effort.order effort.boxes p
+ComesOf before u v (Run system settings effort out) p = ComesOfRun before system.now settings effort.order effort.budget.nodes p
 ComesOf before u v (Resume system pavings settings effort share out) p =
-    ComesOfResume before system.now (names_in pavings.items) settings effort.limit effort.order effort.boxes share p
+    ComesOfResume before system.now (names_in pavings.items) settings effort.budget.limit effort.order effort.budget.nodes share p
 ComesOf before u v (Merge system pavings settings limit out) p = ComesOfMerge before system.now (names_in pavings.items) settings limit p
 ComesOf before u v (Audit system paving settings limit workers) p = ComesOfAudit before system.now paving.now settings limit p
 ComesOf before u v (Svg system paving settings limit view) p = ComesOfSvg before system.now paving.now settings limit view p
 ComesOf before u v (Sample circles) p = ComesOfSample circles p
 ComesOf before u v (Least system settings search) p = ComesOfLeast before system.now settings search p
-ComesOf before u v (Campaign system settings effort rounds) p = ComesOfCampaign before u v system.now settings effort.limit effort.order effort.boxes rounds p
+ComesOf before u v (Campaign system settings effort rounds) p = ComesOfCampaign before u v system.now settings effort.budget.limit effort.order effort.budget.nodes rounds p
 
 -- ---- Why nothing comes of them
 
@@ -318,11 +318,11 @@ abbrev pub RefusesWork : Files → Files → Stock → Stock → Request → Ref
 RefusesWork before after u v (Check system) r = RefusesSystem before after system.now r
 RefusesWork before after u v (Run system settings effort out) r = RefusesRule before after system.now settings r
 RefusesWork before after u v (Resume system pavings settings effort share out) r =
-    RefusesJoined before after system.now (names_in pavings.items) settings effort.limit effort.boxes r
+    RefusesJoined before after system.now (names_in pavings.items) settings effort.budget.limit effort.budget.nodes r
 RefusesWork before after u v (Merge system pavings settings limit out) r =
     RefusesJoined before after system.now (names_in pavings.items) settings limit 0 r
 RefusesWork before after u v (Audit system paving settings limit workers) r = RefusesAudit before after system.now paving.now settings limit r
 RefusesWork before after u v (Svg system paving settings limit view) r = RefusesSvg before after system.now paving.now settings limit view r
 RefusesWork before after u v (Sample circles) r = RefusesSample r
 RefusesWork before after u v (Least system settings search) r = RefusesLeast before after system.now settings search.of.now r
-RefusesWork before after u v (Campaign system settings effort rounds) r = RefusesCampaign before after u v system.now settings effort.limit effort.order effort.boxes rounds r
+RefusesWork before after u v (Campaign system settings effort rounds) r = RefusesCampaign before after u v system.now settings effort.budget.limit effort.order effort.budget.nodes rounds r

@@ -158,9 +158,9 @@ AreWorkers rows w = IsCount 1 MOST_WORKERS (workers_text rows) w.count
 
 -- the threads, the budget, the limit and the order that the options give
 pub record IsEffort (rows : List Row) (e : Effort) : Type 0 where
-  pub limit : IsNodeLimit rows e.limit
-  pub workers : IsCount 1 MOST_WORKERS (workers_text rows) e.workers
-  pub boxes : IsCount 1 e.limit (boxes_text rows) e.boxes
+  pub limit : IsNodeLimit rows e.budget.limit
+  pub workers : IsCount 1 MOST_WORKERS (workers_text rows) e.budget.workers
+  pub boxes : IsCount 1 e.budget.limit (boxes_text rows) e.budget.nodes
   pub order : order_text rows ≡ order_name e.order
 
 -- The share that the text of `--share` gives, and none where it isn't given. A share has an order of its own, so another one

@@ -11,6 +11,7 @@ use pv_num::Num;
 use pv_scope::{Order, Share};
 use pv_slope::Form;
 use pv_tree::NodeLimit;
+use pv_workers::Budget;
 
 /// The most circles of a sample.
 pub const MOST_CIRCLES: u32 = 16;
@@ -35,16 +36,11 @@ pub struct Settings<'a> {
     ghost depth_fits: { (1 ≤ depth) × (depth ≤ MOST_STEPS) },
 }
 
-/// How much is settled at most, within a limit on the whole tree, by how many threads and in which
-/// order.
+/// How much is settled at most, and in which order.
 #[derive(Clone, Copy)]
 pub struct Effort {
-    pub limit: NodeLimit,
-    pub workers: u32,
+    pub budget: Budget,
     pub order: Order,
-    pub boxes: u64,
-    ghost workers_fit: { (1 ≤ workers) × (workers ≤ MOST_WORKERS) },
-    ghost boxes_fit: { (1 ≤ boxes) × (boxes ≤ limit) },
 }
 
 /// By how many threads a paving is checked.

@@ -40,28 +40,29 @@ pub fn resume<'a, F: Folder, G: Gate + Sync, R: Threads + Wait + Sync>(
     ensures comes { IfOk result
         (λ p. ComesOfResume
         (files (F.content folder.old) (F.fetch_faults folder.old) (F.store_faults folder.old))
-        system.now (names_in names.now) settings.now effort.now.limit effort.now.order
-        effort.now.boxes share (made p)) }
+        system.now (names_in names.now) settings.now effort.now.budget.limit effort.now.order
+        effort.now.budget.nodes share (made p)) }
     ensures refused { IfErr result
         (RefusesJoined
         (files (F.content folder.old) (F.fetch_faults folder.old) (F.store_faults folder.old))
         (files (F.content folder.new) (F.fetch_faults folder.new) (F.store_faults folder.new))
-        system.now (names_in names.now) settings.now effort.now.limit effort.now.boxes) }
+        system.now (names_in names.now) settings.now effort.now.budget.limit
+        effort.now.budget.nodes) }
 {
-    let opening = match opening_in(alloc, folder, system, names, settings, effort.limit) {
+    let opening = match opening_in(alloc, folder, system, names, settings, effort.budget.limit) {
         Ok(opening) => opening,
         Err(refusal) => return Err(refusal),
     };
     let settled = opening.paving.counts().settled();
-    let most = effort.limit.nodes();
-    if settled + effort.boxes > most {
+    let most = effort.budget.limit.nodes();
+    if settled + effort.budget.nodes > most {
         return Err(Refusal::TreeLimit { settled });
     }
-    Ok(resumed(rt, alloc, opening, effort, share, gate)?)
+    Ok(settle_opening(rt, alloc, opening, effort, share, gate)?)
 }
 
 // What the budget settles of an opening, or of a share of it.
-fn resumed<G: Gate + Sync, R: Threads + Wait + Sync>(
+fn settle_opening<G: Gate + Sync, R: Threads + Wait + Sync>(
     rt: &R,
     alloc: Global,
     opening: Opening,
@@ -71,16 +72,17 @@ fn resumed<G: Gate + Sync, R: Threads + Wait + Sync>(
 ) -> Result<Product, Memory>
     requires root { opening.paving.root ≡ search_box (method_of opening.settler) }
     requires dims { length opening.paving.root ≡ dims_of (method_of opening.settler) }
-    requires limit { settled_in opening.paving.tree + effort.now.boxes ≤ effort.now.limit }
+    requires limit { settled_in opening.paving.tree + effort.now.budget.nodes ≤
+        effort.now.budget.limit }
     ensures { IfOk result
         (λ p. GivesResumed (method_of opening.settler) opening.paving.tree effort.now.order
-        effort.now.boxes share (made p)) }
+        effort.now.budget.nodes share (made p)) }
 {
     let Opening { settler, paving } = opening;
     let identity = settler.identity(alloc)?;
     match share {
         Some(share) => {
-            let part = go_on_with(alloc, &settler, paving, share, effort.boxes, gate)?;
+            let part = go_on_with(alloc, &settler, paving, share, effort.budget.nodes, gate)?;
             Ok(Product::Paved {
                 identity,
                 paving: part.paving,
@@ -105,10 +107,11 @@ fn go_on<G: Gate + Sync, R: Threads + Wait + Sync>(
 ) -> Result<Paving, Memory>
     requires root { opening.root ≡ search_box (method_of settler.now) }
     requires dims { length opening.root ≡ dims_of (method_of settler.now) }
-    requires limit { settled_in opening.tree + effort.now.boxes ≤ effort.now.limit }
+    requires limit { settled_in opening.tree + effort.now.budget.nodes ≤ effort.now.budget.limit }
     ensures root { IfOk result (λ p. p.root ≡ search_box (method_of settler.now)) }
     ensures resumed { IfOk result
-        (λ p. IsResumed (method_of settler.now) opening.tree effort.now.order effort.now.boxes
+        (λ p. IsResumed (method_of settler.now) opening.tree effort.now.order
+        effort.now.budget.nodes
         p.tree) }
 {
     let paving = pave_in_order(
@@ -117,9 +120,7 @@ fn go_on<G: Gate + Sync, R: Threads + Wait + Sync>(
         settler,
         opening,
         effort.order,
-        effort.boxes,
-        effort.limit,
-        effort.workers,
+        effort.budget,
         gate,
     )?;
     learn_honest(&paving, settler);

@@ -62,6 +62,17 @@ impl From<IoRefused> for HoldRefused {
     }
 }
 
+/// What a campaign paves, and under which name it is kept.
+#[derive(Drop)]
+pub struct Subject<'a> {
+    /// The name for the keeper.
+    pub name: &'a str,
+    /// What the paving is a paving of.
+    pub identity: [u8; 32],
+    /// The box that is paved.
+    pub root: IBox,
+}
+
 /// Opens what is kept under a name, and goes on with it by a plan's rounds, each of which is saved
 /// before the next begins. Where all rounds could bring the tree above the plan's limit, none is
 /// begun.
@@ -70,40 +81,43 @@ impl From<IoRefused> for HoldRefused {
 ///
 /// What is kept is refused, the tree could become too large, memory was wanting, or the keeper
 /// failed in this call.
-pub fn hold<P: Keeper, S: KnowingSettler + Sync, G: Gate + Sync, R: Threads + Wait + Sync>(
+pub fn run_rounds<P: Keeper, S: KnowingSettler + Sync, G: Gate + Sync, R: Threads + Wait + Sync>(
     rt: &R,
     alloc: Global,
     settler: &S,
     keeper: &mut P,
-    name: &str,
-    identity: [u8; 32],
-    root: IBox,
+    subject: Subject<'_>,
     plan: &Plan,
     gate: &G,
 ) -> Result<Campaign, HoldRefused>
 where
     S::Room: Send,
     S::Known: Send,
-    requires dims { length root ≡ S.dims settler.now }
-    ensures root { IfOk result (λ c. c.root ≡ root) }
+    requires dims { length subject.root ≡ S.dims settler.now }
+    ensures root { IfOk result (λ c. c.root ≡ subject.root) }
     ensures held { IfOk result (λ c.
-        IsHeld plan.now.limit (S.settle_of settler.now) (S.depth_of settler.now) root plan.now.order
-        identity
-        (plan.now.count * plan.now.boxes)
-        (P.kept keeper.old name.now) (P.kept keeper.new name.now) c.tree) }
+        IsHeld plan.now.budget.limit (S.settle_of settler.now) (S.depth_of settler.now)
+        subject.root plan.now.order subject.identity
+        (plan.now.count * plan.now.budget.nodes)
+        (P.kept keeper.old subject.name.now) (P.kept keeper.new subject.name.now) c.tree) }
     ensures refused { IfErr result
-        (RefusesHold plan.now.limit (S.settle_of settler.now) (S.depth_of settler.now) root
-        plan.now.order identity
-        plan.now.boxes plan.now.count
-        (P.kept keeper.old name.now) (P.kept keeper.new name.now)) }
+        (RefusesHold plan.now.budget.limit (S.settle_of settler.now) (S.depth_of settler.now)
+        subject.root plan.now.order subject.identity
+        plan.now.budget.nodes plan.now.count
+        (P.kept keeper.old subject.name.now) (P.kept keeper.new subject.name.now)) }
     ensures others { (other : List ℕ)
-        → other ≢ name.now → P.kept keeper.new other ≡ P.kept keeper.old other }
+        → other ≢ subject.name.now → P.kept keeper.new other ≡ P.kept keeper.old other }
     ensures cause { IsErrOf result HoldRefused.Failed
         → Rose (P.faults keeper.old) (P.faults keeper.new) }
     ensures counts_on { P.faults keeper.old ≤ P.faults keeper.new }
 {
-    let budget = plan.budget();
-    let mut campaign = match opened(alloc, keeper, name, identity, root, budget, plan.limit) {
+    let Subject {
+        name,
+        identity,
+        root,
+    } = subject;
+    let (nodes, limit) = (plan.nodes(), plan.budget.limit);
+    let mut campaign = match open_kept(alloc, keeper, name, identity, root, nodes, limit) {
         Ok(campaign) => campaign,
         Err(refused) => return Err(refused),
     };
@@ -114,7 +128,7 @@ where
 }
 
 // Opens what is kept under a name, of which a budget is still to be settled.
-fn opened<P: Keeper>(
+fn open_kept<P: Keeper>(
     alloc: Global,
     keeper: &mut P,
     name: &str,

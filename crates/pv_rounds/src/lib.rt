@@ -6,6 +6,6 @@ mod campaign;
 mod plan;
 mod rounds;
 
-pub use campaign::{HoldRefused, hold};
+pub use campaign::{HoldRefused, Subject, run_rounds};
 pub use plan::Plan;
 pub use rounds::{go_on, learn_rounds};

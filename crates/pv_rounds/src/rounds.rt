@@ -53,8 +53,9 @@ where
     S::Room: Send,
     S::Known: Send,
     requires dims { length campaign.old.root ≡ S.dims settler.now }
-    requires limit { campaign.old.limit ≡ plan.now.limit }
-    requires few { settled_in campaign.old.tree + plan.now.count * plan.now.boxes ≤ plan.now.limit }
+    requires limit { campaign.old.limit ≡ plan.now.budget.limit }
+    requires few { settled_in campaign.old.tree + plan.now.count * plan.now.budget.nodes ≤
+        plan.now.budget.limit }
     requires begun { IsSome (P.begun keeper.old) }
     requires kept { (name : List ℕ) → P.begun keeper.old ≡ Some name
         → KeepsTree (P.kept keeper.old name) campaign.old.tree }
@@ -62,11 +63,13 @@ where
     ensures limit { campaign.new.limit ≡ campaign.old.limit }
     ensures gone { (name : List ℕ) → P.begun keeper.old ≡ Some name → OnOk result
         (HasGoneOn (S.settle_of settler.now) (S.depth_of settler.now) campaign.old.root
-        plan.now.order campaign.old.tree (plan.now.count * plan.now.boxes) (P.kept keeper.old name)
+        plan.now.order campaign.old.tree (plan.now.count * plan.now.budget.nodes)
+        (P.kept keeper.old name)
         (P.kept keeper.new name) campaign.new.tree) }
     ensures stopped { (name : List ℕ) → P.begun keeper.old ≡ Some name → OnErr result
         (HasStopped (S.settle_of settler.now) (S.depth_of settler.now) campaign.old.root
-        plan.now.order campaign.old.tree plan.now.boxes plan.now.count (P.kept keeper.old name)
+        plan.now.order campaign.old.tree plan.now.budget.nodes plan.now.count
+        (P.kept keeper.old name)
         (P.kept keeper.new name)) }
     ensures cause { IsErrOf result IoRefused.Failed
         → Rose (P.faults keeper.old) (P.faults keeper.new) }
@@ -101,8 +104,8 @@ where
     S::Room: Send,
     S::Known: Send,
     requires dims { length campaign.old.root ≡ S.dims settler.now }
-    requires limit { campaign.old.limit ≡ plan.now.limit }
-    requires few { settled_in campaign.old.tree + plan.now.boxes ≤ plan.now.limit }
+    requires limit { campaign.old.limit ≡ plan.now.budget.limit }
+    requires few { settled_in campaign.old.tree + plan.now.budget.nodes ≤ plan.now.budget.limit }
     requires begun { IsSome (P.begun keeper.old) }
     requires kept { (name : List ℕ) → P.begun keeper.old ≡ Some name
         → KeepsTree (P.kept keeper.old name) campaign.old.tree }
@@ -110,7 +113,7 @@ where
     ensures limit { campaign.new.limit ≡ campaign.old.limit }
     ensures paved { OnOk result
         (IsPaved (S.settle_of settler.now) (S.depth_of settler.now)
-        campaign.old.root campaign.old.tree plan.now.boxes campaign.new.tree) }
+        campaign.old.root campaign.old.tree plan.now.budget.nodes campaign.new.tree) }
     ensures ordered { OnOk result
         (IsInOrder plan.now.order campaign.old.tree campaign.new.tree) }
     ensures saved { (name : List ℕ) → P.begun keeper.old ≡ Some name
@@ -148,24 +151,13 @@ where
     S::Room: Send,
     S::Known: Send,
     requires dims { length opening.now.root ≡ S.dims settler.now }
-    requires few { settled_in opening.now.tree + plan.now.boxes ≤ plan.now.limit }
+    requires few { settled_in opening.now.tree + plan.now.budget.nodes ≤ plan.now.budget.limit }
     ensures root { IfOk result (λ p. p.root ≡ opening.now.root) }
     ensures paved { IfOk result
         (λ p. IsPaved (S.settle_of settler.now) (S.depth_of settler.now)
-        opening.now.root opening.now.tree plan.now.boxes p.tree) }
+        opening.now.root opening.now.tree plan.now.budget.nodes p.tree) }
     ensures ordered { IfOk result (λ p. IsInOrder plan.now.order opening.now.tree p.tree) }
 {
     let opening = opening.clone_of(alloc)?;
-    let (budget, limit) = (plan.boxes, plan.limit);
-    pave_in_order(
-        rt,
-        alloc,
-        settler,
-        opening,
-        plan.order,
-        budget,
-        limit,
-        plan.workers,
-        gate,
-    )
+    pave_in_order(rt, alloc, settler, opening, plan.order, plan.budget, gate)
 }

@@ -37,7 +37,7 @@ pub fn run<'a, F: Folder, G: Gate + Sync, R: Threads + Wait + Sync>(
     ensures comes { IfOk result
         (λ p. ComesOfRun
         (files (F.content folder.old) (F.fetch_faults folder.old) (F.store_faults folder.old))
-        system.now settings.now effort.now.order effort.now.boxes (made p)) }
+        system.now settings.now effort.now.order effort.now.budget.nodes (made p)) }
     ensures refused { IfErr result
         (RefusesRule (files (F.content folder.old) (F.fetch_faults folder.old)
         (F.store_faults folder.old))
@@ -50,13 +50,13 @@ pub fn run<'a, F: Folder, G: Gate + Sync, R: Threads + Wait + Sync>(
     };
     let identity = settler.identity(alloc)?;
     let root = settler.search_box(alloc)?;
-    let paving = paved(rt, alloc, &settler, root, effort, gate)?;
+    let paving = pave_box(rt, alloc, &settler, root, effort, gate)?;
     learn_honest(&paving, &settler);
     Ok(of_paving(identity, paving))
 }
 
 /// What the budget settles of an open box.
-pub(crate) fn paved<S: KnowingSettler + Sync, G: Gate + Sync, R: Threads + Wait + Sync>(
+pub(crate) fn pave_box<S: KnowingSettler + Sync, G: Gate + Sync, R: Threads + Wait + Sync>(
     rt: &R,
     alloc: Global,
     settler: &S,
@@ -70,7 +70,8 @@ where
     requires { length root ≡ S.dims settler.now }
     ensures root { IfOk result (λ p. p.root ≡ root) }
     ensures paved { IfOk result
-        (λ p. IsPaved (S.settle_of settler.now) (S.depth_of settler.now) root leaf effort.now.boxes
+        (λ p. IsPaved (S.settle_of settler.now) (S.depth_of settler.now) root leaf
+        effort.now.budget.nodes
         p.tree) }
     ensures ordered { IfOk result (λ p. IsInOrder effort.now.order leaf p.tree) }
 {
@@ -81,9 +82,7 @@ where
         settler,
         opening,
         effort.order,
-        effort.boxes,
-        effort.limit,
-        effort.workers,
+        effort.budget,
         gate,
     )
 }

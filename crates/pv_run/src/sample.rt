@@ -13,7 +13,7 @@ ghost use Rattle.pv_rule.specs.Systems.{IsRuleFor, search_box};
 ghost use Rattle.pv_request.specs.declared.request.Settings as declared;
 ghost use Rattle.pv_product.specs.Made.{made};
 
-use crate::run::paved;
+use crate::run::pave_box;
 use pv_box::Bisector;
 use pv_file::{hex_digits, write};
 use pv_honest::learn_honest;
@@ -29,6 +29,7 @@ use pv_rule::settler_for;
 use pv_scope::Order;
 use pv_slope::{Form, FormSettler};
 use pv_tree::{NodeLimit, Paving};
+use pv_workers::Budget;
 use sha2::{Digest, Sha256};
 use std::alloc::Global;
 use std::sync::Wait;
@@ -50,11 +51,11 @@ pub fn sample<'a, G: Gate + Sync, R: Threads + Wait + Sync>(
         Ok(settler) => settler,
         Err(refusal) => return Err(refusal),
     };
-    Ok(Product::Text(reported(rt, alloc, circles, &settler, gate)?))
+    Ok(Product::Text(report_full(rt, alloc, circles, &settler, gate)?))
 }
 
 // The report on what a settler makes of its search box.
-fn reported<G: Gate + Sync, R: Threads + Wait + Sync>(
+fn report_full<G: Gate + Sync, R: Threads + Wait + Sync>(
     rt: &R,
     alloc: Global,
     circles: &Circles,
@@ -71,14 +72,17 @@ fn reported<G: Gate + Sync, R: Threads + Wait + Sync>(
 {
     let identity = settler.identity(alloc)?;
     // A tree of at most 14 cuts on a path has fewer nodes.
-    let effort = Effort {
+    let budget = Budget {
+        nodes: 100_000,
         limit: NodeLimit::DEFAULT,
         workers: 4,
+    };
+    let effort = Effort {
+        budget,
         order: Order::Depth,
-        boxes: 100_000,
     };
     let root = settler.search_box(alloc)?;
-    let paving = paved(rt, alloc, settler, root, &effort, gate)?;
+    let paving = pave_box(rt, alloc, settler, root, &effort, gate)?;
     learn_honest(&paving, settler);
     report(alloc, circles, identity, &paving)
 }

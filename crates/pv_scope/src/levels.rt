@@ -6,10 +6,10 @@ ghost use Rattle.pv_board.specs.Rules.{settled_in};
 ghost use Rattle.pv_workers.specs.Pavings.{IsPaved};
 ghost use Rattle.pv_scope.specs.Settlings.{IsLevel, IsPass, IsSpent};
 
-use crate::kit::Kit;
 use crate::part::Came;
 use crate::scope::Scope;
 use crate::settling::settle_scope;
+use crate::workspace::Workspace;
 use pv_num::Memory;
 use pv_pool::Gate;
 use pv_tree::{KnowingSettler, Paving, Settler};
@@ -107,11 +107,19 @@ fn by_passes<S: KnowingSettler, G: Gate>(
     ensures level { IfOk result (λ s. IsLevel opening.tree s.paving.tree s.pass) }
 {
     let mut paving = opening;
-    let mut kit = Kit::of(alloc, settler, paving.dims())?;
+    let mut workspace = Workspace::of(alloc, settler, paving.dims())?;
     let mut settled = 0u64;
     for pass in 1..MOST_PASSES {
         let left = budget - settled;
-        let came = settle_pass(alloc, settler, gate, &mut paving, pass, left, &mut kit)?;
+        let came = settle_pass(
+            alloc,
+            settler,
+            gate,
+            &mut paving,
+            pass,
+            left,
+            &mut workspace,
+        )?;
         settled += came.settled;
         if is_over(&paving, came) {
             return Ok(Levelled {
@@ -123,7 +131,15 @@ fn by_passes<S: KnowingSettler, G: Gate>(
     }
     let left = budget - settled;
     let pass = MOST_PASSES;
-    let came = settle_pass(alloc, settler, gate, &mut paving, pass, left, &mut kit)?;
+    let came = settle_pass(
+        alloc,
+        settler,
+        gate,
+        &mut paving,
+        pass,
+        left,
+        &mut workspace,
+    )?;
     let _sides = paving.dims();
     Ok(Levelled {
         paving,
@@ -140,13 +156,13 @@ fn settle_pass<S: KnowingSettler, G: Gate>(
     paving: &mut Paving,
     pass: u32,
     left: u64,
-    kit: &mut Kit<S>,
+    workspace: &mut Workspace<S>,
 ) -> Result<Came, Memory>
     requires few { pass ≤ 51 }
     requires dims { length paving.old.root ≡ S.dims settler.now }
-    requires scratch { length kit.old.scratch ≡ S.dims settler.now }
+    requires scratch { length workspace.old.scratch ≡ S.dims settler.now }
     ensures root { paving.new.root ≡ paving.old.root }
-    ensures scratch { length kit.new.scratch ≡ S.dims settler.now }
+    ensures scratch { length workspace.new.scratch ≡ S.dims settler.now }
     ensures stage { OnOk result
         ((opening : Tree) → Paves paving.old.root opening
         → IsStage (S.settle_of settler.now)
@@ -159,7 +175,7 @@ fn settle_pass<S: KnowingSettler, G: Gate>(
     let scope = Scope::Above {
         steps: LEVELS * pass,
     };
-    let came = settle_scope(alloc, settler, gate, paving, scope, left, kit)?;
+    let came = settle_scope(alloc, settler, gate, paving, scope, left, workspace)?;
     Ok(came)
 }
 

@@ -2,7 +2,6 @@
 //! first; and all of them in one order or another.
 #![tactic(auto)]
 
-mod kit;
 mod leaves;
 mod levels;
 mod order;
@@ -10,6 +9,7 @@ mod part;
 mod scope;
 mod settling;
 mod share;
+mod workspace;
 
 pub use levels::{Levelled, settle_levels};
 pub use order::{Order, pave_in_order};

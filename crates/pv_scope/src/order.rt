@@ -5,13 +5,12 @@ ghost use Rattle.pv_tree.specs.Stages.{IsStage};
 ghost use Rattle.pv_board.specs.Rules.{settled_in};
 ghost use Rattle.pv_workers.specs.Pavings.{IsPaved};
 ghost use Rattle.pv_scope.specs.Orders.{IsInOrder};
-ghost use Rattle.pv_tree.specs.declared.limit.TheConstants.{MOST_WORKERS};
 
 use crate::levels::settle_levels;
 use pv_num::Memory;
 use pv_pool::Gate;
-use pv_tree::{KnowingSettler, NodeLimit, Paving};
-use pv_workers::pave_knowing;
+use pv_tree::{KnowingSettler, Paving};
+use pv_workers::{Budget, pave_knowing};
 use std::alloc::Global;
 use std::sync::Wait;
 use std::thread::Threads;
@@ -39,20 +38,14 @@ pub fn pave_in_order<S: KnowingSettler + Sync, G: Gate + Sync, R: Threads + Wait
     settler: &S,
     opening: Paving,
     order: Order,
-    budget: u64,
-    limit: NodeLimit,
-    workers: u32,
+    budget: Budget,
     gate: &G,
 ) -> Result<Paving, Memory>
 where
     S::Room: Send,
     S::Known: Send,
     requires dims { length opening.root ≡ S.dims settler.now }
-    requires some { 1 ≤ budget }
-    requires few { budget ≤ limit }
-    requires limit { settled_in opening.tree + budget ≤ limit }
-    requires one { 1 ≤ workers }
-    requires sixteen { workers ≤ MOST_WORKERS }
+    requires limit { settled_in opening.tree + budget.nodes ≤ budget.limit }
     ensures root { IfOk result (λ p. p.root ≡ opening.root) }
     ensures stages { IfOk result (λ p. (earlier : Tree) → Paves opening.root earlier →
         IsStage (S.settle_of settler.now)
@@ -61,16 +54,16 @@ where
         (S.depth_of settler.now) opening.root earlier p.tree) }
     ensures paved { IfOk result (λ p.
         IsPaved (S.settle_of settler.now)
-        (S.depth_of settler.now) opening.root opening.tree budget p.tree) }
+        (S.depth_of settler.now) opening.root opening.tree budget.nodes p.tree) }
     ensures ordered { IfOk result (λ p. IsInOrder order opening.tree p.tree) }
 {
     match order {
         Order::Depth => {
-            let paved = pave_knowing(rt, alloc, settler, opening, budget, limit, workers, gate)?;
+            let paved = pave_knowing(rt, alloc, settler, opening, budget, gate)?;
             Ok(paved.paving)
         }
         Order::Level => {
-            let levelled = settle_levels(alloc, settler, opening, budget, gate)?;
+            let levelled = settle_levels(alloc, settler, opening, budget.nodes, gate)?;
             Ok(levelled.paving)
         }
     }

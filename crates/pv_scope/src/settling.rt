@@ -5,10 +5,10 @@ ghost use Rattle.pv_tree.specs.Stages.{IsStage};
 ghost use Rattle.pv_scope.specs.Scopes.{is_in_scope, most_steps, picked, IsScope};
 ghost use Rattle.pv_scope.specs.Settlings.{IsEnded, IsSettled};
 
-use crate::kit::Kit;
 use crate::leaves::leaves_in;
-use crate::part::{Came, settle_at};
+use crate::part::{Came, Reach, settle_at};
 use crate::scope::Scope;
+use crate::workspace::Workspace;
 use pv_num::Memory;
 use pv_pool::Gate;
 use pv_tree::{KnowingSettler, Paving};
@@ -27,13 +27,13 @@ pub(crate) fn settle_scope<S: KnowingSettler, G: Gate>(
     paving: &mut Paving,
     scope: Scope,
     budget: u64,
-    kit: &mut Kit<S>,
+    workspace: &mut Workspace<S>,
 ) -> Result<Came, Memory>
     requires scope { IsScope scope }
     requires dims { length paving.old.root ≡ S.dims settler.now }
-    requires scratch { length kit.old.scratch ≡ S.dims settler.now }
+    requires scratch { length workspace.old.scratch ≡ S.dims settler.now }
     ensures root { paving.new.root ≡ paving.old.root }
-    ensures scratch { length kit.new.scratch ≡ S.dims settler.now }
+    ensures scratch { length workspace.new.scratch ≡ S.dims settler.now }
     ensures stage { OnOk result
         ((opening : Tree) → Paves paving.old.root opening
         → IsStage (S.settle_of settler.now)
@@ -53,7 +53,8 @@ pub(crate) fn settle_scope<S: KnowingSettler, G: Gate>(
     let mut settled = 0u64;
     while let Some(path) = leaves.pop() {
         let left = budget - settled;
-        let came = settle_at(alloc, settler, gate, paving, path, steps, left, kit)?;
+        let reach = Reach { at: path, steps };
+        let came = settle_at(alloc, settler, gate, paving, reach, left, workspace)?;
         settled += came.settled;
         if !came.done {
             return Ok(Came {

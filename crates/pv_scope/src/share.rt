@@ -6,9 +6,9 @@ ghost use Rattle.pv_board.specs.Rules.{settled_in};
 ghost use Rattle.pv_scope.specs.Settlings.{IsClosed, IsFullThere, LeavesOthers};
 ghost use Rattle.pv_scope.specs.declared.share.TheConstants.{MOST_SHARES};
 
-use crate::kit::Kit;
 use crate::scope::Scope;
 use crate::settling::settle_scope;
+use crate::workspace::Workspace;
 use pv_num::Memory;
 use pv_pool::Gate;
 use pv_tree::{KnowingSettler, Paving};
@@ -103,12 +103,20 @@ pub fn settle_share<S: KnowingSettler, G: Gate>(
         share.number share.of opening.tree s.paving.tree) }
 {
     let mut paving = opening;
-    let mut kit = Kit::of(alloc, settler, paving.dims())?;
+    let mut workspace = Workspace::of(alloc, settler, paving.dims())?;
     let scope = Scope::Shared {
         number: share.number,
         of: share.of,
     };
-    let came = settle_scope(alloc, settler, gate, &mut paving, scope, budget, &mut kit)?;
+    let came = settle_scope(
+        alloc,
+        settler,
+        gate,
+        &mut paving,
+        scope,
+        budget,
+        &mut workspace,
+    )?;
     let _sides = paving.dims();
     Ok(Shared {
         paving,

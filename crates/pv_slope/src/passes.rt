@@ -25,6 +25,19 @@ use pv_hc4::Node;
 use pv_hc4::forward::place;
 use pv_interval::Interval;
 
+/// A graph's nodes with a box, and what was found for each node on it.
+#[derive(Clone, Copy)]
+pub(crate) struct Tables<'a> {
+    pub(crate) nodes: &'a [Node],
+    pub(crate) bx: &'a IBox,
+    /// The interval on the box.
+    pub(crate) values: &'a [Interval],
+    /// The interval at the box's centre.
+    pub(crate) centres: &'a [Interval],
+    /// What the slopes for all variables have in common.
+    pub(crate) factors: &'a [Interval],
+}
+
 fn factor(node: Node, values: &[Interval], centres: &[Interval]) -> Interval
     requires values { ReadsBelow (length values.now) node }
     requires centres { ReadsBelow (length centres.now) node }
@@ -122,66 +135,56 @@ fn slope(
 
 // Gives one more node its slope for variable `i`, if it moves.
 #[tactic(auto, using(crate::proofs::Still::seen_other, crate::proofs::Still::flag_other))]
-fn step(
-    nodes: &[Node],
-    at: usize,
-    i: u8,
-    values: &[Interval],
-    centres: &[Interval],
-    factors: &[Interval],
-    bx: &IBox,
-    moving: &mut [bool],
-    slopes: &mut [Interval],
-)
-    requires node { at < length nodes.now }
-    requires ordered { AreOrdered nodes.now (length bx.now) }
-    requires values { length nodes.now ≤ length values.now }
-    requires centres { length nodes.now ≤ length centres.now }
-    requires factors { length nodes.now ≤ length factors.now }
-    requires moving { length nodes.now ≤ length moving.old }
-    requires slopes { length nodes.now ≤ length slopes.old }
-    requires divides { node_divides_well values.now (node_at nodes.now at) ≡ true }
-    ensures moving_in { length nodes.now ≤ length moving.new }
-    ensures slopes_in { length nodes.now ≤ length slopes.new }
+fn step(on: &Tables<'_>, at: usize, i: u8, moving: &mut [bool], slopes: &mut [Interval])
+    requires node { at < length on.now.nodes.now }
+    requires ordered { AreOrdered on.now.nodes.now (length on.now.bx.now) }
+    requires values { length on.now.nodes.now ≤ length on.now.values.now }
+    requires centres { length on.now.nodes.now ≤ length on.now.centres.now }
+    requires factors { length on.now.nodes.now ≤ length on.now.factors.now }
+    requires moving { length on.now.nodes.now ≤ length moving.old }
+    requires slopes { length on.now.nodes.now ≤ length slopes.old }
+    requires divides { node_divides_well on.now.values.now (node_at on.now.nodes.now at) ≡ true }
+    ensures moving_in { length on.now.nodes.now ≤ length moving.new }
+    ensures slopes_in { length on.now.nodes.now ≤ length slopes.new }
     ensures earlier { (k : ℕ) → k < at →
         seen moving.new slopes.new k ≡ seen moving.old slopes.old k }
     ensures here { seen moving.new slopes.new at ≡
-        moving_slope i (place_of factors.now at) values.now centres.now moving.old slopes.old
-        (node_at nodes.now at) }
+        moving_slope i (place_of on.now.factors.now at) on.now.values.now on.now.centres.now
+        moving.old slopes.old (node_at on.now.nodes.now at) }
 {
-    let node = nodes[at];
+    let node = on.nodes[at];
     if !has_variable(node, i, moving) {
-        learn_divisor(node, values);
+        learn_divisor(node, on.values);
         moving[at] = false;
         return;
     }
-    slopes[at] = slope(node, i, factors[at], values, centres, moving, slopes);
+    slopes[at] = slope(
+        node,
+        i,
+        on.factors[at],
+        on.values,
+        on.centres,
+        moving,
+        slopes,
+    );
     moving[at] = true;
 }
 
 // Gives each node that moves its slope for variable `i`, and tells of each whether it moves.
-pub(crate) fn slope_all(
-    nodes: &[Node],
-    i: u8,
-    values: &[Interval],
-    centres: &[Interval],
-    factors: &[Interval],
-    bx: &IBox,
-    moving: &mut [bool],
-    slopes: &mut [Interval],
-)
-    requires ordered { AreOrdered nodes.now (length bx.now) }
-    requires total { (k : ℕ) → k < length nodes.now →
-        total_of bx.now (term_at (terms nodes.now) k) ≡ true }
-    requires valued { AreValues bx.now nodes.now values.now }
-    requires centred { AreOf (at_centre bx.now) nodes.now centres.now }
-    requires factors { AreFactors values.now centres.now nodes.now factors.now }
-    requires moving { length nodes.now ≤ length moving.old }
-    requires slopes { length nodes.now ≤ length slopes.old }
-    ensures slopes { AreSlopes bx.now i nodes.now moving.new slopes.new }
+pub(crate) fn slope_all(on: &Tables<'_>, i: u8, moving: &mut [bool], slopes: &mut [Interval])
+    requires ordered { AreOrdered on.now.nodes.now (length on.now.bx.now) }
+    requires total { (k : ℕ) → k < length on.now.nodes.now →
+        total_of on.now.bx.now (term_at (terms on.now.nodes.now) k) ≡ true }
+    requires valued { AreValues on.now.bx.now on.now.nodes.now on.now.values.now }
+    requires centred { AreOf (at_centre on.now.bx.now) on.now.nodes.now on.now.centres.now }
+    requires factors { AreFactors on.now.values.now on.now.centres.now on.now.nodes.now
+        on.now.factors.now }
+    requires moving { length on.now.nodes.now ≤ length moving.old }
+    requires slopes { length on.now.nodes.now ≤ length slopes.old }
+    ensures slopes { AreSlopes on.now.bx.now i on.now.nodes.now moving.new slopes.new }
 {
-    for at in 0..nodes.len() {
-        step(nodes, at, i, values, centres, factors, bx, moving, slopes);
+    for at in 0..on.nodes.len() {
+        step(on, at, i, moving, slopes);
     }
 }
 
@@ -195,20 +198,20 @@ fn reads_place(node: Node, i: u8) -> bool
 }
 
 // How far variable `i` may be from its centre. The node of the variable has the centre.
-fn distance(nodes: &[Node], i: u8, values: &[Interval], centres: &[Interval], bx: &IBox) -> Interval
-    requires place { i < length bx.now }
-    requires finite { has_finite_ends bx.now ≡ true }
-    requires ordered { AreOrdered nodes.now (length bx.now) }
-    requires valued { AreValues bx.now nodes.now values.now }
-    requires centred { AreOf (at_centre bx.now) nodes.now centres.now }
-    ensures { result ≡ from_centre_of (place_of bx.now i) }
+fn distance(on: &Tables<'_>, i: u8) -> Interval
+    requires place { i < length on.now.bx.now }
+    requires finite { has_finite_ends on.now.bx.now ≡ true }
+    requires ordered { AreOrdered on.now.nodes.now (length on.now.bx.now) }
+    requires valued { AreValues on.now.bx.now on.now.nodes.now on.now.values.now }
+    requires centred { AreOf (at_centre on.now.bx.now) on.now.nodes.now on.now.centres.now }
+    ensures { result ≡ from_centre_of (place_of on.now.bx.now i) }
 {
-    for at in 0..nodes.len() {
-        if reads_place(nodes[at], i) {
-            return values[at].sub(centres[at]);
+    for at in 0..on.nodes.len() {
+        if reads_place(on.nodes[at], i) {
+            return on.values[at].sub(on.centres[at]);
         }
     }
-    from_centre(place(bx, i))
+    from_centre(place(on.bx, i))
 }
 
 // The slope, where the node moves.
@@ -220,67 +223,48 @@ pub(crate) fn seen_slope(moves: bool, slope: Interval) -> Interval
 
 // A sum and variable `i`'s slope times its distance from the centre, where the root moves.
 #[tactic(auto, using(crate::proofs::Numbers::add_still))]
-fn added(
-    sum: Interval,
-    moves: bool,
-    slope: Interval,
-    nodes: &[Node],
-    i: u8,
-    values: &[Interval],
-    centres: &[Interval],
-    bx: &IBox,
-) -> Interval
-    requires place { i < length bx.now }
-    requires finite { has_finite_ends bx.now ≡ true }
-    requires ordered { AreOrdered nodes.now (length bx.now) }
-    requires valued { AreValues bx.now nodes.now values.now }
-    requires centred { AreOf (at_centre bx.now) nodes.now centres.now }
+fn added(sum: Interval, moves: bool, slope: Interval, on: &Tables<'_>, i: u8) -> Interval
+    requires place { i < length on.now.bx.now }
+    requires finite { has_finite_ends on.now.bx.now ≡ true }
+    requires ordered { AreOrdered on.now.nodes.now (length on.now.bx.now) }
+    requires valued { AreValues on.now.bx.now on.now.nodes.now on.now.values.now }
+    requires centred { AreOf (at_centre on.now.bx.now) on.now.nodes.now on.now.centres.now }
     ensures { result ≡ sum_of sum
-        (product_of (if moves then slope else zero_slope) (from_centre_of (place_of bx.now i))) }
+        (product_of (if moves then slope else zero_slope)
+        (from_centre_of (place_of on.now.bx.now i))) }
 {
     if !moves {
         learn(sum);
         return sum;
     }
-    sum.add(slope.mul(distance(nodes, i, values, centres, bx)))
+    sum.add(slope.mul(distance(on, i)))
 }
 
 // The interval at the centre, and each slope times its variable's distance from there.
 pub(crate) fn linear(
-    nodes: &[Node],
+    on: &Tables<'_>,
     root: usize,
-    values: &[Interval],
-    centres: &[Interval],
-    factors: &[Interval],
-    bx: &IBox,
     moving: &mut [bool],
     slopes: &mut [Interval],
 ) -> Interval
-    requires ordered { AreOrdered nodes.now (length bx.now) }
-    requires root { root < length nodes.now }
-    requires finite { has_finite_ends bx.now ≡ true }
-    requires total { (k : ℕ) → k < length nodes.now →
-        total_of bx.now (term_at (terms nodes.now) k) ≡ true }
-    requires valued { AreValues bx.now nodes.now values.now }
-    requires centred { AreOf (at_centre bx.now) nodes.now centres.now }
-    requires factors { AreFactors values.now centres.now nodes.now factors.now }
-    requires moving { length nodes.now ≤ length moving.old }
-    requires slopes { length nodes.now ≤ length slopes.old }
-    ensures { result ≡ linear_of bx.now (term_at (terms nodes.now) root) (length bx.now) }
+    requires ordered { AreOrdered on.now.nodes.now (length on.now.bx.now) }
+    requires root { root < length on.now.nodes.now }
+    requires finite { has_finite_ends on.now.bx.now ≡ true }
+    requires total { (k : ℕ) → k < length on.now.nodes.now →
+        total_of on.now.bx.now (term_at (terms on.now.nodes.now) k) ≡ true }
+    requires valued { AreValues on.now.bx.now on.now.nodes.now on.now.values.now }
+    requires centred { AreOf (at_centre on.now.bx.now) on.now.nodes.now on.now.centres.now }
+    requires factors { AreFactors on.now.values.now on.now.centres.now on.now.nodes.now
+        on.now.factors.now }
+    requires moving { length on.now.nodes.now ≤ length moving.old }
+    requires slopes { length on.now.nodes.now ≤ length slopes.old }
+    ensures { result ≡ linear_of on.now.bx.now (term_at (terms on.now.nodes.now) root)
+        (length on.now.bx.now) }
 {
-    let mut sum = centres[root];
-    for i in 0..bx.dims() {
-        slope_all(nodes, i, values, centres, factors, bx, moving, slopes);
-        sum = added(
-            sum,
-            moving[root],
-            slopes[root],
-            nodes,
-            i,
-            values,
-            centres,
-            bx,
-        );
+    let mut sum = on.centres[root];
+    for i in 0..on.bx.dims() {
+        slope_all(on, i, moving, slopes);
+        sum = added(sum, moving[root], slopes[root], on, i);
     }
     sum
 }

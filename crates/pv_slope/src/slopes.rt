@@ -14,7 +14,7 @@ ghost use Rattle.pv_slope.specs.Ranges.{ranged_of};
 
 use crate::centre::{centre_all, has_finite_ends};
 use crate::columns::Columns;
-use crate::passes::{factor_all, linear, seen_slope, slope_all};
+use crate::passes::{Tables, factor_all, linear, seen_slope, slope_all};
 use pv_box::IBox;
 use pv_expr::{BinaryOp, Constraint, Relation};
 use pv_hc4::builder::Builder;
@@ -232,7 +232,14 @@ fn centered(
     }
     centre_all(nodes, bx, values, centres);
     factor_all(nodes, bx.dims(), values, centres, factors);
-    whole.meet(linear(nodes, root, values, centres, factors, bx, moving, slopes))
+    let on = Tables {
+        nodes,
+        bx,
+        values,
+        centres,
+        factors,
+    };
+    whole.meet(linear(&on, root, moving, slopes))
 }
 
 // The range of node `root` on a box. At the entry the first column has the constants' intervals, and
@@ -302,6 +309,13 @@ fn slope_at(
     }
     centre_all(nodes, bx, values, centres);
     factor_all(nodes, bx.dims(), values, centres, factors);
-    slope_all(nodes, i, values, centres, factors, bx, moving, slopes);
+    let on = Tables {
+        nodes,
+        bx,
+        values,
+        centres,
+        factors,
+    };
+    slope_all(&on, i, moving, slopes);
     Some(seen_slope(moving[root], slopes[root]))
 }

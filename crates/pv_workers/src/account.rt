@@ -5,7 +5,7 @@ ghost use Rattle.pv_workers.specs.Accounts.{parts_in, AllBelow};
 ghost use Rattle.pv_box.specs.declared.boxes.TheConstants.{MOST_PLACES};
 ghost use Rattle.pv_tree.specs.declared.limit.TheConstants.{MOST_WORKERS};
 
-use crate::kit::Kit;
+use crate::workspace::Workspace;
 use pv_board::{Naming, Told};
 use pv_num::Memory;
 use pv_tree::KnowingSettler;
@@ -16,7 +16,7 @@ use std::marker::Model;
 #[derive(Drop)]
 pub(crate) struct Account<N: Naming, S: KnowingSettler> {
     pub(crate) told: Told<N>,
-    pub(crate) kit: Kit<S>,
+    pub(crate) workspace: Workspace<S>,
     pub(crate) is_hungry: bool,
 }
 
@@ -30,19 +30,19 @@ impl<N: Naming, S: KnowingSettler> Model for Account<N, S> {
 
     ghost view = { λ a. a.told };
 
-    ghost invariant = { λ a. (length a.kit.scratch ≡ N.dims) × (a.kit.tickets ≡ []) };
+    ghost invariant = { λ a. (length a.workspace.scratch ≡ N.dims) × (a.workspace.tickets ≡ []) };
 }
 
 impl<N: Naming, S: KnowingSettler> Account<N, S> {
     // An account with these counts.
-    fn new(told: Told<N>, kit: Kit<S>) -> Account<N, S>
-        requires places { length kit.scratch ≡ N.dims }
-        requires none { kit.tickets ≡ [] }
+    fn new(told: Told<N>, workspace: Workspace<S>) -> Account<N, S>
+        requires places { length workspace.scratch ≡ N.dims }
+        requires none { workspace.tickets ≡ [] }
         ensures { result ≡ told }
     {
         Account {
             told,
-            kit,
+            workspace,
             is_hungry: false,
         }
     }
@@ -53,7 +53,7 @@ impl<N: Naming, S: KnowingSettler> Account<N, S> {
     {
         let Account {
             told,
-            kit: _,
+            workspace: _,
             is_hungry: _,
         } = self;
         told
@@ -81,16 +81,16 @@ pub(crate) fn split<N: Naming, S: KnowingSettler>(
     let mut told = told;
     let mut accounts = Vec::with_capacity(alloc, workers as usize)?;
     for _worker in 1..workers {
-        let kit = Kit::of(alloc, settler, places)?;
-        accounts.push_reserved(Account::new(told.split(), kit));
+        let workspace = Workspace::of(alloc, settler, places)?;
+        accounts.push_reserved(Account::new(told.split(), workspace));
     }
-    let kit = Kit::of(alloc, settler, places)?;
-    accounts.push_reserved(Account::new(told, kit));
+    let workspace = Workspace::of(alloc, settler, places)?;
+    accounts.push_reserved(Account::new(told, workspace));
     Ok(accounts)
 }
 
 /// The counts of all workers together.
-pub(crate) fn joined<N: Naming, S: KnowingSettler>(accounts: Vec<Account<N, S>>) -> Told<N>
+pub(crate) fn join_accounts<N: Naming, S: KnowingSettler>(accounts: Vec<Account<N, S>>) -> Told<N>
     requires one { 1 ≤ vec_len accounts }
     requires sixteen { vec_len accounts ≤ MOST_WORKERS }
     requires below { AllBelow (2 ^ 71) accounts.items }

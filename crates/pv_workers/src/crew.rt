@@ -8,10 +8,10 @@ ghost use Rattle.pv_workers.specs.Accounts.{numbers_of};
 ghost use Rattle.pv_board.specs.declared.told.TheConstants.{MOST_TICKET_NODES};
 
 use crate::account::Account;
-use crate::kit::Kit;
 use crate::ruled::Ruled;
-use crate::stage::stage_at;
-use crate::task::{Parts, Task, hand_out};
+use crate::stage::Stager;
+use crate::task::{Task, TaskParts, hand_out};
+use crate::workspace::Workspace;
 use pv_board::{Look, MOST_GRANT, Naming, Settled, Shared, Ticket, Told};
 use pv_box::IBox;
 use pv_num::Memory;
@@ -60,19 +60,19 @@ where
         self.begin(rt, account);
         let mut parts = task.into_parts();
         let told = &mut account.told;
-        let kit = &mut account.kit;
+        let workspace = &mut account.workspace;
         let want = wanted(&parts.ticket);
         let Some(left) = self
             .shared
-            .prepare(rt, &mut parts.ticket, want, &mut kit.scratch)
+            .prepare(rt, &mut parts.ticket, want, &mut workspace.scratch)
         else {
             self.shared.give_back(rt, parts.ticket, told);
             return;
         };
         if is_staged(&parts.ticket) {
-            self.settle_stage(rt, worker, parts, left, kit, told, children);
+            self.settle_stage(rt, worker, parts, left, workspace, told, children);
         } else {
-            self.settle(rt, worker, parts, &kit.scratch, told, children);
+            self.settle(rt, worker, parts, &workspace.scratch, told, children);
         }
     }
 
@@ -135,7 +135,7 @@ impl<'a, N: Naming, S: KnowingSettler, G: Gate> Crew<'a, N, S, G> {
         &self,
         rt: &R,
         worker: u64,
-        parts: Parts<'a, N, S>,
+        parts: TaskParts<'a, N, S>,
         leaf: &IBox,
         told: &mut Told<N>,
         children: &mut Batch<Task<'a, N, S>>,
@@ -149,7 +149,7 @@ impl<'a, N: Naming, S: KnowingSettler, G: Gate> Crew<'a, N, S, G> {
         requires none { children.old ≡ [] }
         ensures { numbers_of told.new ≡ after_work (length children.new) (numbers_of told.old) }
     {
-        let Parts {
+        let TaskParts {
             ticket,
             ruled,
             known: _,
@@ -162,57 +162,55 @@ impl<'a, N: Naming, S: KnowingSettler, G: Gate> Crew<'a, N, S, G> {
         }
     }
 
-    // Settles some nodes from the leaf of a ticket on, whose box is in the kit. The tasks of the
-    // stage's open leaves become `children`.
+    // Settles some nodes from the leaf of a ticket on, whose box is in the workspace. The tasks of
+    // the stage's open leaves become `children`.
     fn settle_stage<R: Wait>(
         &self,
         rt: &R,
         worker: u64,
-        parts: Parts<'a, N, S>,
+        parts: TaskParts<'a, N, S>,
         left: u64,
-        kit: &mut Kit<S>,
+        workspace: &mut Workspace<S>,
         told: &mut Told<N>,
         children: &mut Batch<Task<'a, N, S>>,
     )
         requires low { IsLow told.old }
-        requires places { length kit.old.scratch ≡ N.dims }
+        requires places { length workspace.old.scratch ≡ N.dims }
         requires there { IsSome (subtree (full_of N.rule N.depth N.root N.opening 0)
             parts.ticket.path) }
-        requires leaf { kit.old.scratch ≡ box_of N.root
+        requires leaf { workspace.old.scratch ≡ box_of N.root
             (full_of N.rule N.depth N.root N.opening 0) parts.ticket.path }
-        requires known { S.knows parts.ruled.now.settler.now parts.known kit.old.scratch }
-        requires tickets { kit.old.tickets ≡ [] }
+        requires known { S.knows parts.ruled.now.settler.now parts.known workspace.old.scratch }
+        requires tickets { workspace.old.tickets ≡ [] }
         requires none { children.old ≡ [] }
         ensures told { numbers_of told.new ≡
             after_work (length children.new) (numbers_of told.old) }
-        ensures places { length kit.new.scratch ≡ N.dims }
-        ensures tickets { kit.new.tickets ≡ [] }
+        ensures places { length workspace.new.scratch ≡ N.dims }
+        ensures tickets { workspace.new.tickets ≡ [] }
     {
-        let Parts {
+        let TaskParts {
             ticket,
             ruled,
             known,
         } = parts;
         let path = ticket.path();
         let most = most_of(ticket.grant(), left, self.workers);
-        match stage_at(
-            self.alloc,
+        let stager = Stager {
+            alloc: self.alloc,
             ruled,
-            self.shared,
-            self.gate,
+            shared: self.shared,
+            gate: self.gate,
             worker,
-            path,
-            known,
-            most,
-            kit,
-        ) {
+            at: path,
+        };
+        match stager.grow(known, most, workspace) {
             Ok(stage) => {
-                let tickets = &mut kit.tickets;
-                let leaves = kit.leaves.as_slice();
+                let tickets = &mut workspace.tickets;
+                let leaves = workspace.leaves.as_slice();
                 self.shared
                     .settle_stage(rt, ticket, &stage, leaves, told, tickets);
                 let _count = tickets.len();
-                hand_out(ruled, tickets, &mut kit.facts, children);
+                hand_out(ruled, tickets, &mut workspace.facts, children);
             }
             Err(Memory) => give_up(rt, self.shared, ticket, told),
         }

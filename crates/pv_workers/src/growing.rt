@@ -8,8 +8,8 @@ ghost use Rattle.pv_board.specs.Tallies.{one_if};
 ghost use Rattle.pv_workers.specs.Leaves.{AreOpen};
 ghost use Rattle.pv_workers.specs.Pavings.{IsSpent};
 
-use crate::kit::{Kit, blank};
 use crate::paving::Paved;
+use crate::workspace::{Workspace, blank};
 use pv_num::Memory;
 use pv_pool::Gate;
 use pv_tree::{Growth, KnowingSettler, Path, Paving};
@@ -40,12 +40,12 @@ pub(crate) fn grow<S: KnowingSettler, G: Gate>(
         settled_in p.paving.tree ≡ settled_in opening.now.tree + p.spent) }
 {
     let places = opening.dims();
-    let mut kit = Kit::of(alloc, settler, places)?;
-    kit.facts.push(settler.nothing())?;
+    let mut workspace = Workspace::of(alloc, settler, places)?;
+    workspace.facts.push(settler.nothing())?;
     let mut root = blank(alloc, places)?;
     opening.box_at(Path::root(), &mut root);
     let mut growth = Growth::open(alloc, root)?;
-    let own = grow_all(alloc, settler, &mut growth, &mut kit, budget, gate)?;
+    let own = grow_all(alloc, settler, &mut growth, &mut workspace, budget, gate)?;
     Ok(Paved {
         paving: growth.finish(),
         spent: u128::from(own),
@@ -57,14 +57,14 @@ fn grow_all<S: KnowingSettler, G: Gate>(
     alloc: Global,
     settler: &S,
     growth: &mut Growth,
-    kit: &mut Kit<S>,
+    workspace: &mut Workspace<S>,
     budget: u64,
     gate: &G,
 ) -> Result<u64, Memory>
     requires dims { length growth.old.root ≡ S.dims settler.now }
     requires facts { AreKnown (S.knows settler.now)
-        (reverse kit.old.facts.items) growth.old.holes }
-    requires scratch { length kit.old.scratch ≡ length growth.old.root }
+        (reverse workspace.old.facts.items) growth.old.holes }
+    requires scratch { length workspace.old.scratch ≡ length growth.old.root }
     requires open { AreOpen growth.old }
     ensures root { growth.new.root ≡ growth.old.root }
     ensures stage { OnOk result
@@ -78,7 +78,7 @@ fn grow_all<S: KnowingSettler, G: Gate>(
         settled_in growth.new.tree ≡ settled_in growth.old.tree + own) }
 {
     for settled in 0..budget {
-        if !grow_one(alloc, settler, growth, kit, gate)? {
+        if !grow_one(alloc, settler, growth, workspace, gate)? {
             return Ok(settled);
         }
     }
@@ -90,18 +90,18 @@ fn grow_one<S: KnowingSettler, G: Gate>(
     alloc: Global,
     settler: &S,
     growth: &mut Growth,
-    kit: &mut Kit<S>,
+    workspace: &mut Workspace<S>,
     gate: &G,
 ) -> Result<bool, Memory>
     requires dims { length growth.old.root ≡ S.dims settler.now }
     requires facts { AreKnown (S.knows settler.now)
-        (reverse kit.old.facts.items) growth.old.holes }
-    requires scratch { length kit.old.scratch ≡ length growth.old.root }
+        (reverse workspace.old.facts.items) growth.old.holes }
+    requires scratch { length workspace.old.scratch ≡ length growth.old.root }
     requires open { AreOpen growth.old }
     ensures root { growth.new.root ≡ growth.old.root }
-    ensures scratch { length kit.new.scratch ≡ length kit.old.scratch }
+    ensures scratch { length workspace.new.scratch ≡ length workspace.old.scratch }
     ensures facts { AreKnown (S.knows settler.now)
-        (reverse kit.new.facts.items) growth.new.holes }
+        (reverse workspace.new.facts.items) growth.new.holes }
     ensures open { OnOk result (AreOpen growth.new) }
     ensures stage { OnOk result
         ((opening : Tree) → Paves growth.old.root opening
@@ -120,10 +120,10 @@ fn grow_one<S: KnowingSettler, G: Gate>(
             growth.settle_knowing(
                 alloc,
                 settler,
-                &mut kit.room,
-                &mut kit.facts,
+                &mut workspace.room,
+                &mut workspace.facts,
                 path,
-                &mut kit.scratch,
+                &mut workspace.scratch,
             )?;
             Ok(true)
         }

@@ -3,14 +3,16 @@
 #![tactic(auto)]
 
 mod account;
+mod budget;
 mod crew;
 mod growing;
-mod kit;
 mod parts;
 mod paving;
 mod rest;
 mod ruled;
 mod stage;
 mod task;
+mod workspace;
 
+pub use budget::Budget;
 pub use paving::{Paved, pave, pave_knowing};

@@ -5,12 +5,12 @@ ghost use Rattle.pv_tree.specs.Stages.{IsStage};
 ghost use Rattle.pv_board.specs.Rules.{settled_in};
 ghost use Rattle.pv_workers.specs.Pavings.{IsSpent};
 ghost use Rattle.pv_board.specs.declared.told.TheConstants.{LOT_NODES};
-ghost use Rattle.pv_tree.specs.declared.limit.TheConstants.{MOST_WORKERS};
 
+use crate::budget::Budget;
 use crate::paving::{Paved, by_crew, learn_paved};
 use pv_num::Memory;
 use pv_pool::Gate;
-use pv_tree::{KnowingSettler, NodeLimit, Paving};
+use pv_tree::{KnowingSettler, Paving};
 use std::alloc::Global;
 use std::sync::Wait;
 use std::thread::Threads;
@@ -26,43 +26,42 @@ pub(crate) fn by_parts<S: KnowingSettler + Sync, G: Gate + Sync, R: Threads + Wa
     alloc: Global,
     settler: &S,
     opening: Paving,
-    budget: u64,
-    limit: NodeLimit,
-    workers: u32,
+    budget: Budget,
     gate: &G,
 ) -> Result<Paved, Memory>
 where
     S::Room: Send,
     S::Known: Send,
     requires dims { length opening.root ≡ S.dims settler.now }
-    requires some { 1 ≤ budget }
-    requires few { budget ≤ limit }
-    requires limit { settled_in opening.tree + budget ≤ limit }
-    requires one { 1 ≤ workers }
-    requires sixteen { workers ≤ MOST_WORKERS }
+    requires limit { settled_in opening.tree + budget.nodes ≤ budget.limit }
     ensures root { IfOk result (λ p. p.paving.root ≡ opening.root) }
     ensures stage { IfOk result (λ p.
         IsStage (S.settle_of settler.now)
         (S.depth_of settler.now) opening.root opening.tree p.paving.tree) }
-    ensures paved { IfOk result (λ p. IsSpent budget opening.tree p.paving.tree) }
+    ensures paved { IfOk result (λ p. IsSpent budget.nodes opening.tree p.paving.tree) }
     ensures spent { IfOk result (λ p.
         settled_in p.paving.tree ≤ settled_in opening.tree + LOT_NODES * p.spent) }
     ensures least { IfOk result (λ p.
         settled_in opening.tree + p.spent ≤ settled_in p.paving.tree) }
 {
     let _places = opening.dims();
-    let _most = limit.nodes();
+    let _most = budget.limit.nodes();
     let _depth = settler.depth();
     let mut paved = Paved {
         paving: opening,
         spent: 0,
     };
-    let mut left = budget;
-    for _round in 0..budget {
-        let part = part_of(&paved.paving, left);
-        let next = go_on(rt, alloc, settler, paved, part, limit, workers, gate)?;
+    let mut left = budget.nodes;
+    for _round in 0..budget.nodes {
+        let nodes = part_of(&paved.paving, left);
+        let part = Budget {
+            nodes,
+            limit: budget.limit,
+            workers: budget.workers,
+        };
+        let next = go_on(rt, alloc, settler, paved, part, gate)?;
         learn_paved(&next.paving, settler);
-        left -= part;
+        left -= nodes;
         if left == 0 {
             return Ok(next);
         }
@@ -100,26 +99,20 @@ fn go_on<S: KnowingSettler + Sync, G: Gate + Sync, R: Threads + Wait + Sync>(
     alloc: Global,
     settler: &S,
     before: Paved,
-    part: u64,
-    limit: NodeLimit,
-    workers: u32,
+    part: Budget,
     gate: &G,
 ) -> Result<Paved, Memory>
 where
     S::Room: Send,
     S::Known: Send,
     requires dims { length before.paving.root ≡ S.dims settler.now }
-    requires some { 1 ≤ part }
-    requires few { part ≤ limit }
-    requires limit { settled_in before.paving.tree + part ≤ limit }
-    requires one { 1 ≤ workers }
-    requires sixteen { workers ≤ MOST_WORKERS }
+    requires limit { settled_in before.paving.tree + part.nodes ≤ part.limit }
     requires low { before.spent + 2 ^ 84 < 2 ^ 128 }
     ensures root { IfOk result (λ p. p.paving.root ≡ before.paving.root) }
     ensures stage { IfOk result (λ p.
         IsStage (S.settle_of settler.now)
         (S.depth_of settler.now) before.paving.root before.paving.tree p.paving.tree) }
-    ensures paved { IfOk result (λ p. IsSpent part before.paving.tree p.paving.tree) }
+    ensures paved { IfOk result (λ p. IsSpent part.nodes before.paving.tree p.paving.tree) }
     ensures spent { IfOk result (λ p. settled_in p.paving.tree + LOT_NODES * before.spent ≤
         settled_in before.paving.tree + LOT_NODES * p.spent) }
     ensures least { IfOk result (λ p. settled_in before.paving.tree + p.spent ≤
@@ -127,7 +120,7 @@ where
     ensures low { IfOk result (λ p. p.spent ≤ before.spent + 2 ^ 84) }
 {
     let Paved { paving, spent } = before;
-    let next = by_crew(rt, alloc, settler, paving, part, limit, workers, gate)?;
+    let next = by_crew(rt, alloc, settler, paving, part, gate)?;
     Ok(Paved {
         paving: next.paving,
         spent: spent + next.spent,

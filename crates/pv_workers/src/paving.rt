@@ -6,16 +6,16 @@ ghost use Rattle.pv_board.specs.Marks.{issued};
 ghost use Rattle.pv_board.specs.Rules.{IsFitting, settled_in};
 ghost use Rattle.pv_workers.specs.Pavings.{IsPaved, IsSpent};
 ghost use Rattle.pv_board.specs.declared.told.TheConstants.{LOT_NODES};
-ghost use Rattle.pv_box.specs.declared.boxes.TheConstants.{MOST_PLACES};
 ghost use Rattle.pv_tree.specs.declared.limit.TheConstants.{LEAST_LIMIT, MOST_WORKERS};
 
-use crate::account::{joined, split};
+use crate::account::{join_accounts, split};
+use crate::budget::Budget;
 use crate::crew::Crew;
 use crate::growing::grow;
-use crate::kit::blank;
 use crate::parts::by_parts;
 use crate::rest::{close, settle_rest};
 use crate::ruled::Ruled;
+use crate::workspace::blank;
 use pv_board::{Board, Naming, OpenRefused, Shared};
 use pv_num::Memory;
 use pv_pool::{Gate, run_workers};
@@ -33,6 +33,13 @@ pub struct Paved {
     /// How many tickets it took, the caller's own settlings included. A ticket by which more than 16
     /// nodes were settled counts as one for each 16 of them, and one that settled none doesn't count.
     pub spent: u128,
+}
+
+/// The ledgers of a board, of which nothing is taken yet.
+#[derive(Drop)]
+struct Blanks {
+    settlings: Blank,
+    endings: Blank,
 }
 
 /// Settles open leaves of an opening by 1 to 16 workers, until none is left or the budget of 1 to
@@ -78,8 +85,12 @@ pub fn pave<S: Settler + Sync, G: Gate + Sync, R: Threads + Wait + Sync>(
 {
     let _places = opening.dims();
     let forgetful = Forgetful { settler };
-    let limit = NodeLimit::by_default();
-    let paved = by_crew(rt, alloc, &forgetful, opening, budget, limit, workers, gate)?;
+    let budget = Budget {
+        nodes: budget,
+        limit: NodeLimit::by_default(),
+        workers,
+    };
+    let paved = by_crew(rt, alloc, &forgetful, opening, budget, gate)?;
     learn_paved(&paved.paving, settler);
     Ok(paved)
 }
@@ -97,20 +108,14 @@ pub fn pave_knowing<S: KnowingSettler + Sync, G: Gate + Sync, R: Threads + Wait 
     alloc: Global,
     settler: &S,
     opening: Paving,
-    budget: u64,
-    limit: NodeLimit,
-    workers: u32,
+    budget: Budget,
     gate: &G,
 ) -> Result<Paved, Memory>
 where
     S::Room: Send,
     S::Known: Send,
     requires dims { length opening.root ≡ S.dims settler.now }
-    requires some { 1 ≤ budget }
-    requires few { budget ≤ limit }
-    requires limit { settled_in opening.tree + budget ≤ limit }
-    requires one { 1 ≤ workers }
-    requires sixteen { workers ≤ MOST_WORKERS }
+    requires limit { settled_in opening.tree + budget.nodes ≤ budget.limit }
     ensures root { IfOk result (λ p. p.paving.root ≡ opening.root) }
     ensures stages { IfOk result (λ p. (earlier : Tree) → Paves opening.root earlier →
         IsStage (S.settle_of settler.now)
@@ -119,52 +124,46 @@ where
         (S.depth_of settler.now) opening.root earlier p.paving.tree) }
     ensures paved { IfOk result (λ p.
         IsPaved (S.settle_of settler.now)
-        (S.depth_of settler.now) opening.root opening.tree budget p.paving.tree) }
+        (S.depth_of settler.now) opening.root opening.tree budget.nodes p.paving.tree) }
     ensures spent { IfOk result (λ p.
         settled_in p.paving.tree ≤ settled_in opening.tree + LOT_NODES * p.spent) }
     ensures least { IfOk result (λ p.
         settled_in opening.tree + p.spent ≤ settled_in p.paving.tree) }
 {
     let _places = opening.dims();
-    let paved = settled_by(rt, alloc, settler, opening, budget, limit, workers, gate)?;
+    let paved = settle(rt, alloc, settler, opening, budget, gate)?;
     learn_paved(&paved.paving, settler);
     Ok(paved)
 }
 
 // Settles by one worker alone, or by crews.
-fn settled_by<S: KnowingSettler + Sync, G: Gate + Sync, R: Threads + Wait + Sync>(
+fn settle<S: KnowingSettler + Sync, G: Gate + Sync, R: Threads + Wait + Sync>(
     rt: &R,
     alloc: Global,
     settler: &S,
     opening: Paving,
-    budget: u64,
-    limit: NodeLimit,
-    workers: u32,
+    budget: Budget,
     gate: &G,
 ) -> Result<Paved, Memory>
 where
     S::Room: Send,
     S::Known: Send,
     requires dims { length opening.root ≡ S.dims settler.now }
-    requires some { 1 ≤ budget }
-    requires few { budget ≤ limit }
-    requires limit { settled_in opening.tree + budget ≤ limit }
-    requires one { 1 ≤ workers }
-    requires sixteen { workers ≤ MOST_WORKERS }
+    requires limit { settled_in opening.tree + budget.nodes ≤ budget.limit }
     ensures root { IfOk result (λ p. p.paving.root ≡ opening.root) }
     ensures stage { IfOk result (λ p.
         IsStage (S.settle_of settler.now)
         (S.depth_of settler.now) opening.root opening.tree p.paving.tree) }
-    ensures paved { IfOk result (λ p. IsSpent budget opening.tree p.paving.tree) }
+    ensures paved { IfOk result (λ p. IsSpent budget.nodes opening.tree p.paving.tree) }
     ensures spent { IfOk result (λ p.
         settled_in p.paving.tree ≤ settled_in opening.tree + LOT_NODES * p.spent) }
     ensures least { IfOk result (λ p.
         settled_in opening.tree + p.spent ≤ settled_in p.paving.tree) }
 {
-    if workers == 1 && is_leaf(&opening) {
-        return grow(alloc, settler, &opening, budget, gate);
+    if budget.workers == 1 && is_leaf(&opening) {
+        return grow(alloc, settler, &opening, budget.nodes, gate);
     }
-    by_parts(rt, alloc, settler, opening, budget, limit, workers, gate)
+    by_parts(rt, alloc, settler, opening, budget, gate)
 }
 
 /// Settles by a crew of workers on a board, under a new name.
@@ -173,25 +172,19 @@ pub(crate) fn by_crew<S: KnowingSettler + Sync, G: Gate + Sync, R: Threads + Wai
     alloc: Global,
     settler: &S,
     opening: Paving,
-    budget: u64,
-    limit: NodeLimit,
-    workers: u32,
+    budget: Budget,
     gate: &G,
 ) -> Result<Paved, Memory>
 where
     S::Room: Send,
     S::Known: Send,
     requires dims { length opening.root ≡ S.dims settler.now }
-    requires some { 1 ≤ budget }
-    requires few { budget ≤ limit }
-    requires limit { settled_in opening.tree + budget ≤ limit }
-    requires one { 1 ≤ workers }
-    requires sixteen { workers ≤ MOST_WORKERS }
+    requires limit { settled_in opening.tree + budget.nodes ≤ budget.limit }
     ensures root { IfOk result (λ p. p.paving.root ≡ opening.root) }
     ensures stage { IfOk result (λ p.
         IsStage (S.settle_of settler.now)
         (S.depth_of settler.now) opening.root opening.tree p.paving.tree) }
-    ensures paved { IfOk result (λ p. IsSpent budget opening.tree p.paving.tree) }
+    ensures paved { IfOk result (λ p. IsSpent budget.nodes opening.tree p.paving.tree) }
     ensures spent { IfOk result (λ p.
         settled_in p.paving.tree ≤ settled_in opening.tree + LOT_NODES * p.spent) }
     ensures least { IfOk result (λ p.
@@ -205,11 +198,11 @@ where
         settler,
         opening,
         budget,
-        limit,
-        workers,
         gate,
-        Blank::new(32),
-        Blank::new(32),
+        Blanks {
+            settlings: Blank::new(32),
+            endings: Blank::new(32),
+        },
     )
 }
 
@@ -253,12 +246,9 @@ fn pave_named<
     alloc: Global,
     settler: &S,
     opening: Paving,
-    budget: u64,
-    limit: NodeLimit,
-    workers: u32,
+    budget: Budget,
     gate: &G,
-    settlings: Blank,
-    endings: Blank,
+    blanks: Blanks,
 ) -> Result<Paved, Memory>
 where
     S::Room: Send,
@@ -270,15 +260,11 @@ where
     requires root { opening.root ≡ N.root }
     requires tree { opening.tree ≡ N.opening }
     requires places { length N.root ≡ N.dims }
-    requires budget { budget ≡ N.budget }
-    requires most { limit ≡ N.limit }
-    requires some { 1 ≤ budget }
-    requires few { budget ≤ limit }
-    requires limit { settled_in N.opening + budget ≤ limit }
-    requires one { 1 ≤ workers }
-    requires sixteen { workers ≤ MOST_WORKERS }
-    requires settlings { (settlings.name ≡ N.settlings) × (settlings.parts ≡ 32) }
-    requires endings { (endings.name ≡ N.endings) × (endings.parts ≡ 32) }
+    requires budget { budget.nodes ≡ N.budget }
+    requires most { budget.limit ≡ N.limit }
+    requires limit { settled_in N.opening + budget.nodes ≤ budget.limit }
+    requires settlings { (blanks.settlings.name ≡ N.settlings) × (blanks.settlings.parts ≡ 32) }
+    requires endings { (blanks.endings.name ≡ N.endings) × (blanks.endings.parts ≡ 32) }
     ensures root { IfOk result (λ p. p.paving.root ≡ N.root) }
     ensures stage { IfOk result (λ p. IsStage N.rule N.depth N.root N.opening p.paving.tree) }
     ensures paved { IfOk result (λ p. IsSpent N.budget N.opening p.paving.tree) }
@@ -288,12 +274,10 @@ where
     ensures low { IfOk result (λ p. p.spent < 2 ^ 84) }
 {
     let places = opening.dims();
-    let ruled: Ruled<N, S> = Ruled::of(settler);
+    let ruled: Ruled<N, S> = Ruled::of(settler, places);
     let mut scratch = blank(alloc, places)?;
-    let board = opened(alloc, opening, budget, limit)?;
-    let (mut board, spent) = worked(
-        rt, alloc, &ruled, board, places, workers, gate, settlings, endings,
-    )?;
+    let board = open_board(alloc, opening, budget)?;
+    let (mut board, spent) = run_crew(rt, alloc, &ruled, board, budget.workers, gate, blanks)?;
     let own = settle_rest(alloc, &ruled, gate, &mut board, &mut scratch)?;
     let paving = close(board)?;
     Ok(Paved {
@@ -303,26 +287,19 @@ where
 }
 
 // A board on an opening.
-fn opened<N: Naming>(
-    alloc: Global,
-    opening: Paving,
-    budget: u64,
-    limit: NodeLimit,
-) -> Result<Board<N>, Memory>
+fn open_board<N: Naming>(alloc: Global, opening: Paving, budget: Budget) -> Result<Board<N>, Memory>
     requires fits { IsFitting N.rule N.depth N.dims }
     requires root { opening.root ≡ N.root }
     requires tree { opening.tree ≡ N.opening }
     requires places { length N.root ≡ N.dims }
-    requires budget { budget ≡ N.budget }
-    requires most { limit ≡ N.limit }
-    requires some { 1 ≤ budget }
-    requires few { budget ≤ limit }
-    requires limit { settled_in N.opening + budget ≤ limit }
+    requires budget { budget.nodes ≡ N.budget }
+    requires most { budget.limit ≡ N.limit }
+    requires limit { settled_in N.opening + budget.nodes ≤ budget.limit }
     ensures issued { IfOk result (λ b. issued b.marks ≡ 0) }
     ensures used { IfOk result (λ b. b.used ≡ 0) }
     ensures tree { IfOk result (λ b. b.tree ≡ N.opening) }
 {
-    match Board::open_within(alloc, opening, budget, limit) {
+    match Board::open_within(alloc, opening, budget.nodes, budget.limit) {
         Ok(board) => Ok(board),
         Err(OpenRefused::Memory(_)) => Err(Memory),
         Err(OpenRefused::TreeLimit { .. }) => unreachable!(),
@@ -330,7 +307,7 @@ fn opened<N: Naming>(
 }
 
 // Lets the workers settle, and answers how many lots of up to 16 nodes they settled.
-fn worked<
+fn run_crew<
     N: Naming + Send + Sync,
     S: KnowingSettler + Sync,
     G: Gate + Sync,
@@ -340,11 +317,9 @@ fn worked<
     alloc: Global,
     ruled: &Ruled<N, S>,
     board: Board<N>,
-    places: u8,
     workers: u32,
     gate: &G,
-    settlings: Blank,
-    endings: Blank,
+    blanks: Blanks,
 ) -> Result<(Board<N>, u128), Memory>
 where
     S::Room: Send,
@@ -352,18 +327,18 @@ where
     requires issued { issued board.marks ≡ 0 }
     requires used { board.used ≡ 0 }
     requires tree { board.tree ≡ N.opening }
-    requires places { (1 ≤ places) × (places ≤ MOST_PLACES) × (places ≡ N.dims) }
     requires one { 1 ≤ workers }
     requires sixteen { workers ≤ MOST_WORKERS }
-    requires settlings { (settlings.name ≡ N.settlings) × (settlings.parts ≡ 32) }
-    requires endings { (endings.name ≡ N.endings) × (endings.parts ≡ 32) }
+    requires settlings { (blanks.settlings.name ≡ N.settlings) × (blanks.settlings.parts ≡ 32) }
+    requires endings { (blanks.endings.name ≡ N.endings) × (blanks.endings.parts ≡ 32) }
     ensures settled { IfOk result (λ r. settled_in r.0.tree ≡ settled_in N.opening + r.0.used) }
     ensures few { IfOk result (λ r. r.0.used ≤ LOT_NODES * r.1) }
     ensures least { IfOk result (λ r. r.1 ≤ r.0.used) }
     ensures low { IfOk result (λ r. r.1 < 2 ^ 83) }
 {
+    let Blanks { settlings, endings } = blanks;
     let (shared, told) = Shared::new(board, settlings, endings);
-    let accounts = split(alloc, ruled.settler, told, workers, places)?;
+    let accounts = split(alloc, ruled.settler, told, workers, ruled.places)?;
     let crew = Crew {
         alloc,
         shared: &shared,
@@ -374,7 +349,7 @@ where
     let Ok(accounts) = run_workers(rt, alloc, &crew, accounts) else {
         return Err(Memory);
     };
-    let told = joined(accounts);
+    let told = join_accounts(accounts);
     let _settled = told.settled();
     let spent = told.lots();
     Ok((shared.into_board(told), spent))

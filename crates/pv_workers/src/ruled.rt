@@ -1,7 +1,8 @@
 //! A settler whose rule is the one that a board is named for.
-ghost use Rattle.std.specs.Prelude.{◌≡◌, ◌-◌, List, length, IfOk};
+ghost use Rattle.std.specs.Prelude.{◌≡◌, ◌-◌, ◌≤◌, List, length, IfOk};
 ghost use Rattle.pv_interval.specs.Bounds.{Bounds};
 ghost use Rattle.pv_tree.specs.KnownHalves.{HoldsOfHalves};
+ghost use Rattle.pv_box.specs.declared.boxes.TheConstants.{MOST_PLACES};
 
 use pv_board::Naming;
 use pv_box::IBox;
@@ -14,21 +15,30 @@ use std::marker::PhantomData;
 #[derive(Drop)]
 pub(crate) struct Ruled<'a, N: Naming, S: Settler> {
     pub(crate) settler: &'a S,
+    /// How many places its boxes have.
+    pub(crate) places: u8,
     of: PhantomData<N>,
     ghost rule: { N.rule ≡ S.settle_of settler.now },
     ghost depth: { N.depth ≡ S.depth_of settler.now },
     ghost dims: { N.dims ≡ S.dims settler.now },
+    ghost some: { 1 ≤ places },
+    ghost few: { places ≤ MOST_PLACES },
+    ghost sides: { places ≡ N.dims },
 }
 
 impl<'a, N: Naming, S: Settler> Ruled<'a, N, S> {
     /// The settler under the board's name.
-    pub(crate) fn of(settler: &'a S) -> Ruled<'a, N, S>
+    pub(crate) fn of(settler: &'a S, places: u8) -> Ruled<'a, N, S>
         requires rule { N.rule ≡ S.settle_of settler.now }
         requires depth { N.depth ≡ S.depth_of settler.now }
         requires dims { N.dims ≡ S.dims settler.now }
+        requires some { 1 ≤ places }
+        requires few { places ≤ MOST_PLACES }
+        requires places { places ≡ N.dims }
     {
         Ruled {
             settler,
+            places,
             of: PhantomData,
         }
     }

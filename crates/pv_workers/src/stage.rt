@@ -10,8 +10,8 @@ ghost use Rattle.pv_workers.specs.Facts.{AreFacts, AreLaid};
 ghost use Rattle.pv_workers.specs.Leaves.{AreOpen, with_handed};
 ghost use Rattle.pv_tree.specs.declared.path.TheConstants.{MOST_STEPS};
 
-use crate::kit::Kit;
 use crate::ruled::Ruled;
+use crate::workspace::Workspace;
 use pv_board::{Naming, Shared};
 use pv_num::Memory;
 use pv_pool::Gate;
@@ -21,108 +21,160 @@ use std::alloc::Global;
 /// From so many nodes on a stage is ended where another worker has nothing to do.
 const SHARED_FROM: u64 = 32;
 
-/// Settles up to `most` nodes of the box in `kit.scratch`, which is that of a leaf at a path, each
-/// time the first open leaf; fewer where another worker has nothing to do. What is known of a box is
-/// handed to its halves. The paths of the stage's open leaves from the root of all are left in
-/// `kit.leaves`, and what is known of them in `kit.facts`, that of the first one last.
-///
-/// # Errors
-///
-/// Want of memory.
-pub(crate) fn stage_at<N: Naming, S: KnowingSettler, G: Gate>(
-    alloc: Global,
-    ruled: &Ruled<N, S>,
-    shared: &Shared<N>,
-    gate: &G,
-    worker: u64,
-    at: Path,
-    known: S::Known,
-    most: u64,
-    kit: &mut Kit<S>,
-) -> Result<Paving, Memory>
-    requires some { 1 ≤ most }
-    requires places { length kit.old.scratch ≡ N.dims }
-    requires known { S.knows ruled.now.settler.now known kit.old.scratch }
-    ensures root { IfOk result (λ p. p.root ≡ kit.old.scratch) }
-    ensures stage { IfOk result (λ p.
-        IsStageBelow N.rule N.depth kit.old.scratch (length at) p.tree) }
-    ensures some { IfOk result (λ p. 1 ≤ settled_in p.tree) }
-    ensures few { IfOk result (λ p. settled_in p.tree ≤ most) }
-    ensures leaves { IfOk result (λ p. kit.new.leaves.items ≡ leaves_at at p.tree) }
-    ensures few_leaves { IfOk result (λ _. vec_len kit.new.leaves ≤ MOST_BATCH) }
-    ensures facts { IfOk result (λ p. AreFacts (S.knows ruled.now.settler.now)
-        (box_of kit.old.scratch (full_of N.rule N.depth kit.old.scratch leaf (length at)))
-        (opens p.tree) (reverse kit.new.facts.items)) }
-    ensures places { length kit.new.scratch ≡ N.dims }
-    ensures tickets { kit.new.tickets ≡ kit.old.tickets }
-{
-    let mut stage = Growth::open(alloc, kit.scratch.clone_of(alloc)?)?;
-    let _places = stage.dims();
-    let _steps = at.len();
-    kit.facts.clear();
-    kit.facts.push(known)?;
-    settle_next(
-        alloc,
-        ruled,
-        gate,
-        worker,
-        at,
-        Path::root(),
-        &mut stage,
-        kit,
-    )?;
-    grow_on(
-        alloc, ruled, shared, gate, worker, at, most, &mut stage, kit,
-    )?;
-    list_leaves(&mut stage, at, &mut kit.leaves)?;
-    Ok(stage.finish())
+/// A worker at a leaf, which it settles together with nodes below it.
+#[derive(Drop)]
+pub(crate) struct Stager<'a, N: Naming, S: KnowingSettler, G: Gate> {
+    pub(crate) alloc: Global,
+    pub(crate) ruled: &'a Ruled<'a, N, S>,
+    pub(crate) shared: &'a Shared<N>,
+    pub(crate) gate: &'a G,
+    /// The worker's number.
+    pub(crate) worker: u64,
+    /// The leaf's path from the root of all.
+    pub(crate) at: Path,
 }
 
-// Settles further leaves of a stage of one node.
-fn grow_on<N: Naming, S: KnowingSettler, G: Gate>(
-    alloc: Global,
-    ruled: &Ruled<N, S>,
-    shared: &Shared<N>,
-    gate: &G,
-    worker: u64,
-    at: Path,
-    most: u64,
-    stage: &mut Growth,
-    kit: &mut Kit<S>,
-) -> Result<(), Memory>
-    requires some { 1 ≤ most }
-    requires one { settled_in stage.old.tree ≡ 1 }
-    requires dims { length stage.old.root ≡ N.dims }
-    requires stage { IsStageBelow N.rule N.depth stage.old.root (length at) stage.old.tree }
-    requires facts { AreKnown (S.knows ruled.now.settler.now)
-        (reverse kit.old.facts.items) stage.old.holes }
-    requires few_facts { vec_len kit.old.facts ≤ MOST_BATCH }
-    requires laid { AreLaid
-        (full_of N.rule N.depth stage.old.root leaf (length at)) stage.old }
-    requires places { length kit.old.scratch ≡ N.dims }
-    ensures root { stage.new.root ≡ stage.old.root }
-    ensures stage { OnOk result (IsStageBelow N.rule N.depth stage.new.root
-        (length at) stage.new.tree) }
-    ensures some { OnOk result (1 ≤ settled_in stage.new.tree) }
-    ensures few { OnOk result (settled_in stage.new.tree ≤ most) }
-    ensures facts { OnOk result (AreKnown (S.knows ruled.now.settler.now)
-        (reverse kit.new.facts.items) stage.new.holes) }
-    ensures few_facts { OnOk result (vec_len kit.new.facts ≤ MOST_BATCH) }
-    ensures laid { OnOk result (AreLaid
-        (full_of N.rule N.depth stage.new.root leaf (length at)) stage.new) }
-    ensures places { length kit.new.scratch ≡ N.dims }
-    ensures tickets { kit.new.tickets ≡ kit.old.tickets }
-{
-    for settled in 1..most {
-        if is_long(settled, kit.facts.len(), shared) {
-            return Ok(());
-        }
-        let Some(path) = stage.next_leaf() else {
-            return Ok(());
-        };
-        settle_next(alloc, ruled, gate, worker, at, path, stage, kit)?;
+impl<'a, N: Naming, S: KnowingSettler, G: Gate> Stager<'a, N, S, G> {
+    /// Settles up to `most` nodes of the box in `workspace.scratch`, which is that of the leaf, each
+    /// time the first open leaf; fewer where another worker has nothing to do. What is known of a box
+    /// is handed to its halves. The paths of the stage's open leaves from the root of all are left in
+    /// `workspace.leaves`, and what is known of them in `workspace.facts`, that of the first one last.
+    ///
+    /// # Errors
+    ///
+    /// Want of memory.
+    pub(crate) fn grow(
+        &self,
+        known: S::Known,
+        most: u64,
+        workspace: &mut Workspace<S>,
+    ) -> Result<Paving, Memory>
+        requires some { 1 ≤ most }
+        requires places { length workspace.old.scratch ≡ N.dims }
+        requires known { S.knows self.now.ruled.now.settler.now known workspace.old.scratch }
+        ensures root { IfOk result (λ p. p.root ≡ workspace.old.scratch) }
+        ensures stage { IfOk result (λ p.
+            IsStageBelow N.rule N.depth workspace.old.scratch (length self.now.at) p.tree) }
+        ensures some { IfOk result (λ p. 1 ≤ settled_in p.tree) }
+        ensures few { IfOk result (λ p. settled_in p.tree ≤ most) }
+        ensures leaves { IfOk result (λ p.
+            workspace.new.leaves.items ≡ leaves_at self.now.at p.tree) }
+        ensures few_leaves { IfOk result (λ _. vec_len workspace.new.leaves ≤ MOST_BATCH) }
+        ensures facts { IfOk result (λ p. AreFacts (S.knows self.now.ruled.now.settler.now)
+            (box_of workspace.old.scratch
+            (full_of N.rule N.depth workspace.old.scratch leaf (length self.now.at)))
+            (opens p.tree) (reverse workspace.new.facts.items)) }
+        ensures places { length workspace.new.scratch ≡ N.dims }
+        ensures tickets { workspace.new.tickets ≡ workspace.old.tickets }
+    {
+        let mut stage = Growth::open(self.alloc, workspace.scratch.clone_of(self.alloc)?)?;
+        let _places = stage.dims();
+        let _steps = self.at.len();
+        workspace.facts.clear();
+        workspace.facts.push(known)?;
+        self.settle_next(Path::root(), &mut stage, workspace)?;
+        self.grow_on(most, &mut stage, workspace)?;
+        list_leaves(&mut stage, self.at, &mut workspace.leaves)?;
+        Ok(stage.finish())
     }
-    Ok(())
+
+    // Settles further leaves of a stage of one node.
+    fn grow_on(
+        &self,
+        most: u64,
+        stage: &mut Growth,
+        workspace: &mut Workspace<S>,
+    ) -> Result<(), Memory>
+        requires some { 1 ≤ most }
+        requires one { settled_in stage.old.tree ≡ 1 }
+        requires dims { length stage.old.root ≡ N.dims }
+        requires stage { IsStageBelow N.rule N.depth stage.old.root (length self.now.at)
+            stage.old.tree }
+        requires facts { AreKnown (S.knows self.now.ruled.now.settler.now)
+            (reverse workspace.old.facts.items) stage.old.holes }
+        requires few_facts { vec_len workspace.old.facts ≤ MOST_BATCH }
+        requires laid { AreLaid
+            (full_of N.rule N.depth stage.old.root leaf (length self.now.at)) stage.old }
+        requires places { length workspace.old.scratch ≡ N.dims }
+        ensures root { stage.new.root ≡ stage.old.root }
+        ensures stage { OnOk result (IsStageBelow N.rule N.depth stage.new.root
+            (length self.now.at) stage.new.tree) }
+        ensures some { OnOk result (1 ≤ settled_in stage.new.tree) }
+        ensures few { OnOk result (settled_in stage.new.tree ≤ most) }
+        ensures facts { OnOk result (AreKnown (S.knows self.now.ruled.now.settler.now)
+            (reverse workspace.new.facts.items) stage.new.holes) }
+        ensures few_facts { OnOk result (vec_len workspace.new.facts ≤ MOST_BATCH) }
+        ensures laid { OnOk result (AreLaid
+            (full_of N.rule N.depth stage.new.root leaf (length self.now.at)) stage.new) }
+        ensures places { length workspace.new.scratch ≡ N.dims }
+        ensures tickets { workspace.new.tickets ≡ workspace.old.tickets }
+    {
+        for settled in 1..most {
+            if is_long(settled, workspace.facts.len(), self.shared) {
+                return Ok(());
+            }
+            let Some(path) = stage.next_leaf() else {
+                return Ok(());
+            };
+            self.settle_next(path, stage, workspace)?;
+        }
+        Ok(())
+    }
+
+    // Settles the next leaf of a stage, with the cuts that its whole path leaves.
+    fn settle_next(
+        &self,
+        path: Path,
+        stage: &mut Growth,
+        workspace: &mut Workspace<S>,
+    ) -> Result<(), Memory>
+        requires next { IsNext stage.old path }
+        requires dims { length stage.old.root ≡ N.dims }
+        requires stage { IsStageBelow N.rule N.depth stage.old.root (length self.now.at)
+            stage.old.tree }
+        requires facts { AreKnown (S.knows self.now.ruled.now.settler.now)
+            (reverse workspace.old.facts.items) stage.old.holes }
+        requires laid { AreLaid
+            (full_of N.rule N.depth stage.old.root leaf (length self.now.at)) stage.old }
+        requires places { length workspace.old.scratch ≡ N.dims }
+        ensures root { stage.new.root ≡ stage.old.root }
+        ensures stage { OnOk result (IsStageBelow N.rule N.depth stage.new.root
+            (length self.now.at) stage.new.tree) }
+        ensures more { OnOk result (settled_in stage.new.tree ≡ settled_in stage.old.tree + 1) }
+        ensures facts { OnOk result (AreKnown (S.knows self.now.ruled.now.settler.now)
+            (reverse workspace.new.facts.items) stage.new.holes) }
+        ensures laid { OnOk result (AreLaid
+            (full_of N.rule N.depth stage.new.root leaf (length self.now.at)) stage.new) }
+        ensures few_facts { OnOk result
+            (vec_len workspace.new.facts ≤ vec_len workspace.old.facts + 1) }
+        ensures places { length workspace.new.scratch ≡ N.dims }
+        ensures tickets { workspace.new.tickets ≡ workspace.old.tickets }
+    {
+        let _places = stage.dims();
+        let _steps = self.at.len();
+        let whole = self.at.then(path);
+        self.gate.enter(self.worker, whole);
+        stage.write_box(&mut workspace.scratch);
+        let Some(known) = workspace.facts.pop() else {
+            unreachable!()
+        };
+        let Settled {
+            outcome,
+            known: below,
+        } = self.ruled.settle_knowing(
+            self.alloc,
+            &mut workspace.room,
+            &workspace.scratch,
+            known,
+            whole,
+        )?;
+        hand_on(&mut workspace.facts, &outcome, below)?;
+        match stage.settle(outcome) {
+            Ok(()) => {}
+            Err(_) => return Err(Memory),
+        }
+        Ok(())
+    }
 }
 
 // Whether a stage of so many nodes and open leaves is to end.
@@ -148,57 +200,6 @@ fn list_leaves(stage: &mut Growth, at: Path, leaves: &mut Vec<Path>) -> Result<(
     while let Some(path) = stage.next_leaf() {
         leaves.push(at.then(path))?;
         stage.pass();
-    }
-    Ok(())
-}
-
-// Settles the next leaf of a stage, with the cuts that its whole path leaves.
-fn settle_next<N: Naming, S: KnowingSettler, G: Gate>(
-    alloc: Global,
-    ruled: &Ruled<N, S>,
-    gate: &G,
-    worker: u64,
-    at: Path,
-    path: Path,
-    stage: &mut Growth,
-    kit: &mut Kit<S>,
-) -> Result<(), Memory>
-    requires next { IsNext stage.old path }
-    requires dims { length stage.old.root ≡ N.dims }
-    requires stage { IsStageBelow N.rule N.depth stage.old.root (length at) stage.old.tree }
-    requires facts { AreKnown (S.knows ruled.now.settler.now)
-        (reverse kit.old.facts.items) stage.old.holes }
-    requires laid { AreLaid
-        (full_of N.rule N.depth stage.old.root leaf (length at)) stage.old }
-    requires places { length kit.old.scratch ≡ N.dims }
-    ensures root { stage.new.root ≡ stage.old.root }
-    ensures stage { OnOk result (IsStageBelow N.rule N.depth stage.new.root
-        (length at) stage.new.tree) }
-    ensures more { OnOk result (settled_in stage.new.tree ≡ settled_in stage.old.tree + 1) }
-    ensures facts { OnOk result (AreKnown (S.knows ruled.now.settler.now)
-        (reverse kit.new.facts.items) stage.new.holes) }
-    ensures laid { OnOk result (AreLaid
-        (full_of N.rule N.depth stage.new.root leaf (length at)) stage.new) }
-    ensures few_facts { OnOk result (vec_len kit.new.facts ≤ vec_len kit.old.facts + 1) }
-    ensures places { length kit.new.scratch ≡ N.dims }
-    ensures tickets { kit.new.tickets ≡ kit.old.tickets }
-{
-    let _places = stage.dims();
-    let _steps = at.len();
-    let whole = at.then(path);
-    gate.enter(worker, whole);
-    stage.write_box(&mut kit.scratch);
-    let Some(known) = kit.facts.pop() else {
-        unreachable!()
-    };
-    let Settled {
-        outcome,
-        known: below,
-    } = ruled.settle_knowing(alloc, &mut kit.room, &kit.scratch, known, whole)?;
-    hand_on(&mut kit.facts, &outcome, below)?;
-    match stage.settle(outcome) {
-        Ok(()) => {}
-        Err(_) => return Err(Memory),
     }
     Ok(())
 }

@@ -37,7 +37,7 @@ impl<'a, N: Naming, S: KnowingSettler> Model for Task<'a, N, S> {
 
 /// What a task consists of.
 #[derive(Drop)]
-pub(crate) struct Parts<'a, N: Naming, S: KnowingSettler> {
+pub(crate) struct TaskParts<'a, N: Naming, S: KnowingSettler> {
     pub(crate) ticket: Ticket,
     pub(crate) ruled: &'a Ruled<'a, N, S>,
     pub(crate) known: S::Known,
@@ -65,7 +65,7 @@ impl<'a, N: Naming, S: KnowingSettler> Task<'a, N, S> {
     }
 
     /// What it consists of.
-    pub(crate) fn into_parts(self) -> Parts<'a, N, S>
+    pub(crate) fn into_parts(self) -> TaskParts<'a, N, S>
         ensures ticket { result.ticket ≡ self.entry }
         ensures known { S.knows result.ruled.now.settler.now result.known
             (box_of N.root (full_of N.rule N.depth N.root N.opening 0) self.entry.path) }
@@ -75,7 +75,7 @@ impl<'a, N: Naming, S: KnowingSettler> Task<'a, N, S> {
             ruled,
             known,
         } = self;
-        Parts {
+        TaskParts {
             ticket,
             ruled,
             known,

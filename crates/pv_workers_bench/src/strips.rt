@@ -8,7 +8,7 @@ use pv_num::{Memory, Num};
 use pv_pool::NoGate;
 use pv_sample::Above;
 use pv_tree::{Forgetful, NodeLimit, Paving};
-use pv_workers::{pave, pave_knowing};
+use pv_workers::{Budget, pave, pave_knowing};
 use std::alloc::Global;
 use std::sync::Wait;
 use std::thread::Threads;
@@ -43,8 +43,11 @@ pub fn pave_strips<R: Threads + Wait + Sync>(
     let quarter = Num::fin(1, -2).unwrap_or(Num::ZERO);
     let settler = Above::new(2, quarter, cuts, cuts + 2);
     let limit = NodeLimit::new(100_000_000).unwrap_or(NodeLimit::by_default());
-    let budget = limit.nodes() - 1;
-    let workers = workers.clamp(1, 16) as u32;
+    let budget = Budget {
+        nodes: limit.nodes() - 1,
+        limit,
+        workers: workers.clamp(1, 16) as u32,
+    };
     let begun = pave(rt, alloc, &settler, square(alloc)?, 1, 1, &NoGate)?;
     let opening = begun.paving;
     let before = opening.counts().settled();
@@ -52,9 +55,7 @@ pub fn pave_strips<R: Threads + Wait + Sync>(
         return Err(Memory);
     }
     let forgetful = Forgetful { settler: &settler };
-    let paved = pave_knowing(
-        rt, alloc, &forgetful, opening, budget, limit, workers, &NoGate,
-    )?;
+    let paved = pave_knowing(rt, alloc, &forgetful, opening, budget, &NoGate)?;
     Ok(Strips {
         nodes: paved.paving.counts().settled(),
         tickets: paved.spent,

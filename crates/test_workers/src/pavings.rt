@@ -9,7 +9,7 @@ use pv_num::{Memory, Num};
 use pv_pool::NoGate;
 use pv_sample::Above;
 use pv_tree::{Forgetful, NodeLimit, Outcome, Paving, Settler};
-use pv_workers::{Paved, pave, pave_knowing};
+use pv_workers::{Budget, Paved, pave, pave_knowing};
 use std::alloc::Global;
 use std::test::Fail;
 
@@ -183,9 +183,11 @@ fn a_higher_limit_lets_a_tree_grow(rt: HostRuntime) -> Result<(), Fail> {
             alloc,
             &settler,
             square(alloc)?,
-            100_002,
-            limit,
-            workers,
+            Budget {
+                nodes: 100_002,
+                limit,
+                workers,
+            },
             &NoGate,
         )?;
         assert_eq!(rt; paved.paving.counts().settled(), 100_002);

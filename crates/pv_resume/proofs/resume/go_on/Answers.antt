@@ -12,7 +12,7 @@ returns-clause-resumed g c =
     let rule = method_of c.args.settler.now in
     let t = c.in_ok-paving.paving.tree in
     record {
-      run = subst (λ (b : List Bounds). IsPaved (settle_by rule) rule.parts.depth b o c.args.effort.now.boxes t) c.requires.root c.in_ok-paving.ensures.paved;
+      run = subst (λ (b : List Bounds). IsPaved (settle_by rule) rule.parts.depth b o c.args.effort.now.budget.nodes t) c.requires.root c.in_ok-paving.ensures.paved;
       ordered = c.in_ok-paving.ensures.ordered;
       honest = λ system s is stage. c.learn_honest.ensures.honest system s is
           (subst (λ (b : List Bounds). IsStage (settle_by rule) rule.parts.depth b leaf t) c.requires.root

@@ -8,7 +8,7 @@ use Rattle.pv_resume.proofs.resume.resume.Goals as goal
 
 pub returns-in-Err-clause-refused : goal.returns-in-Err-clause-refused
 returns-in-Err-clause-refused g c =
-    opening_refused _ _ c.args.system.now (names_in c.args.names.now) c.args.settings.now c.args.effort.now.limit c.args.effort.now.boxes c.in-Err.refusal c.in-Err.ensures.refused
+    opening_refused _ _ c.args.system.now (names_in c.args.names.now) c.args.settings.now c.args.effort.now.budget.limit c.args.effort.now.budget.nodes c.in-Err.refusal c.in-Err.ensures.refused
 
 pub returns-then-settled-effort-clause-refused : goal.returns-then-settled-effort-clause-refused
 returns-then-settled-effort-clause-refused g c =
@@ -27,8 +27,8 @@ returns-clause-comes g c =
     let o = c.in-Ok.ensures.opened in
     let rule = method_of c.in-Ok.opening.settler in
     let first = c.in-Ok.opening.paving.tree in
-    let done = c.in_ok-resumed.ensures in
-    let few : settled_in first + c.args.effort.now.boxes ≤ c.args.effort.now.limit = search rules in
+    let done = c.in_ok-settle_opening.ensures in
+    let few : settled_in first + c.args.effort.now.budget.nodes ≤ c.args.effort.now.budget.limit = search rules in
     record {
       rule = rule;
       trees = o.trees;

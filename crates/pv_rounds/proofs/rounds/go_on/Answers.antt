@@ -19,16 +19,16 @@ loop-preserved g c =
     let opening = c.args.campaign.now.tree in
     let middle = c.loop.campaign.tree in
     let t = c.round.new.campaign.tree in
-    let spent = c.loop.counter * c.args.plan.now.boxes in
+    let spent = c.loop.counter * c.args.plan.now.budget.nodes in
     let up : AddUp settle depth b = subst (λ (p : Seen). AddUp settle depth p.root) c.paving.ensures.is c.learn_rounds.ensures.further in
     let nothing : IsPaved settle depth b opening 0 opening = subst (λ (p : Seen). IsPaved settle depth p.root p.tree 0 p.tree) c.paving.ensures.is c.learn_rounds.ensures.none in
     let found : c.first_open.result ≡ None → ⊥ = search rules in
     let open_left : opens middle ≢ [] =
     λ e. found (c.first_open.ensures.first ∙ ap (λ (p : Seen). first (opens p.tree)) c.paving-in-loop.ensures.is ∙ ap first e) in
-    let step : IsPaved settle depth b middle c.args.plan.now.boxes t =
-    subst (λ (r : List Bounds). IsPaved settle depth r middle c.args.plan.now.boxes t) c.loop.invariant.root c.in-Ok.ensures.paved in
-    let both : IsPaved settle depth b opening (spent + c.args.plan.now.boxes) t = up.paved opening middle t spent c.args.plan.now.boxes nothing.paving.paves c.loop.invariant.run open_left step in
-    let sum : spent + c.args.plan.now.boxes ≡ (c.loop.counter + 1) * c.args.plan.now.boxes = omega arith in
+    let step : IsPaved settle depth b middle c.args.plan.now.budget.nodes t =
+    subst (λ (r : List Bounds). IsPaved settle depth r middle c.args.plan.now.budget.nodes t) c.loop.invariant.root c.in-Ok.ensures.paved in
+    let both : IsPaved settle depth b opening (spent + c.args.plan.now.budget.nodes) t = up.paved opening middle t spent c.args.plan.now.budget.nodes nothing.paving.paves c.loop.invariant.run open_left step in
+    let sum : spent + c.args.plan.now.budget.nodes ≡ (c.loop.counter + 1) * c.args.plan.now.budget.nodes = omega arith in
     record {
       root = c.in-Ok.ensures.root ∙ c.loop.invariant.root;
       limit = c.in-Ok.ensures.limit ∙ c.loop.invariant.limit;

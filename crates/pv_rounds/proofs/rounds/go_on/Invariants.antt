@@ -9,7 +9,7 @@ abbrev pub invariant-loop : goal.invariant-loop
 invariant-loop g l = record {
   root : l.campaign.root ≡ l.fn.campaign.root;
   limit : l.campaign.limit ≡ l.fn.campaign.limit;
-  run : IsPaved (g.S.Settler.settle_of l.settler) (g.S.Settler.depth_of l.settler) l.fn.campaign.root l.fn.campaign.tree (l.counter * l.plan.boxes) l.campaign.tree;
+  run : IsPaved (g.S.Settler.settle_of l.settler) (g.S.Settler.depth_of l.settler) l.fn.campaign.root l.fn.campaign.tree (l.counter * l.plan.budget.nodes) l.campaign.tree;
   ordered : IsInOrder l.plan.order l.fn.campaign.tree l.campaign.tree;
   begun : g.P.Keeper.begun l.keeper ≡ g.P.Keeper.begun l.fn.keeper;
   kept : (name : List ℕ) → g.P.Keeper.begun l.fn.keeper ≡ Some name → KeepsTree (g.P.Keeper.kept l.keeper name) l.campaign.tree;

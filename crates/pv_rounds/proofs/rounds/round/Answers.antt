@@ -11,8 +11,8 @@ save_grown-requires-clause-grows g c =
     let settle = g.S.Settler.settle_of c.args.settler.now in
     let depth = g.S.Settler.depth_of c.args.settler.now in
     let stage = c.in_ok-stage.stage.tree in
-    let paved : IsPaved settle depth c.args.campaign.now.root c.args.campaign.now.tree c.args.plan.now.boxes stage =
-    subst (λ (p : Seen). IsPaved settle depth p.root p.tree c.args.plan.now.boxes stage) c.paving.ensures.is c.in_ok-stage.ensures.paved in
+    let paved : IsPaved settle depth c.args.campaign.now.root c.args.campaign.now.tree c.args.plan.now.budget.nodes stage =
+    subst (λ (p : Seen). IsPaved settle depth p.root p.tree c.args.plan.now.budget.nodes stage) c.paving.ensures.is c.in_ok-stage.ensures.paved in
     paved.stage.grown
 
 pub save_grown-requires-clause-few : goal.save_grown-requires-clause-few
@@ -22,11 +22,11 @@ save_grown-requires-clause-few g c =
     let b = c.args.campaign.now.root in
     let old = c.args.campaign.now.tree in
     let stage = c.in_ok-stage.stage.tree in
-    let paved : IsPaved settle depth b old c.args.plan.now.boxes stage =
-    subst (λ (p : Seen). IsPaved settle depth p.root p.tree c.args.plan.now.boxes stage) c.paving.ensures.is c.in_ok-stage.ensures.paved in
-    let few : settled_in stage ≤ settled_in old + c.args.plan.now.boxes = few_settled settle depth b old stage c.args.plan.now.boxes paved in
-    let room : settled_in old + c.args.plan.now.boxes ≤ c.args.plan.now.limit = c.requires.few in
-    let own : c.args.campaign.now.limit ≡ c.args.plan.now.limit = c.requires.limit in
+    let paved : IsPaved settle depth b old c.args.plan.now.budget.nodes stage =
+    subst (λ (p : Seen). IsPaved settle depth p.root p.tree c.args.plan.now.budget.nodes stage) c.paving.ensures.is c.in_ok-stage.ensures.paved in
+    let few : settled_in stage ≤ settled_in old + c.args.plan.now.budget.nodes = few_settled settle depth b old stage c.args.plan.now.budget.nodes paved in
+    let room : settled_in old + c.args.plan.now.budget.nodes ≤ c.args.plan.now.budget.limit = c.requires.few in
+    let own : c.args.campaign.now.limit ≡ c.args.plan.now.budget.limit = c.requires.limit in
     let all : settled_in stage ≤ c.args.campaign.now.limit = omega arith in
     all
 
@@ -37,9 +37,9 @@ returns-in-Ok-clause-paved g c =
     let b = c.args.campaign.now.root in
     let old = c.args.campaign.now.tree in
     let stage = c.in_ok-stage.stage.tree in
-    let paved : IsPaved settle depth b old c.args.plan.now.boxes stage =
-    subst (λ (p : Seen). IsPaved settle depth p.root p.tree c.args.plan.now.boxes stage) c.paving.ensures.is c.in_ok-stage.ensures.paved in
-    subst (λ (t : Tree). IsPaved settle depth b old c.args.plan.now.boxes t) (sym c.in-Ok.ensures.taken) paved
+    let paved : IsPaved settle depth b old c.args.plan.now.budget.nodes stage =
+    subst (λ (p : Seen). IsPaved settle depth p.root p.tree c.args.plan.now.budget.nodes stage) c.paving.ensures.is c.in_ok-stage.ensures.paved in
+    subst (λ (t : Tree). IsPaved settle depth b old c.args.plan.now.budget.nodes t) (sym c.in-Ok.ensures.taken) paved
 
 pub returns-in-Ok-clause-ordered : goal.returns-in-Ok-clause-ordered
 returns-in-Ok-clause-ordered g c =

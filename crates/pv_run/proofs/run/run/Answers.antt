@@ -12,7 +12,7 @@ returns-clause-comes g c =
     let read = c.in-Ok.ensures.rule in
     let t = c.in_ok-paving.paving.tree in
     let box = c.in_ok-root.ensures.intervals in
-    let run = subst (λ (b : List Bounds). IsPaved (settle_by rule) rule.parts.depth b leaf c.args.effort.now.boxes t) box c.in_ok-paving.ensures.paved in
+    let run = subst (λ (b : List Bounds). IsPaved (settle_by rule) rule.parts.depth b leaf c.args.effort.now.budget.nodes t) box c.in_ok-paving.ensures.paved in
     record {
       rule = rule;
       read = read;

@@ -13,6 +13,6 @@ returns-clause-comes g c =
       means = by.means;
       rule = method_of c.in-Ok.settler;
       rule_is = by.is;
-      honest = c.in_ok-reported.ensures.honest by.system c.settings-settings.result by.is;
-      is = ap text c.in_ok-reported.ensures.report;
+      honest = c.in_ok-report_full.ensures.honest by.system c.settings-settings.result by.is;
+      is = ap text c.in_ok-report_full.ensures.report;
     }

@@ -9,7 +9,7 @@ use Rattle.pv_scope.proofs.levels.by_passes.Goals as goal
 pub loop-pass-init : goal.loop-pass-init
 loop-pass-init g c = record {
   root = refl;
-  scratch = c.in_ok-kit.ensures.places ∙ c.dims.ensures.dims ∙ c.requires.dims;
+  scratch = c.in_ok-workspace.ensures.places ∙ c.dims.ensures.dims ∙ c.requires.dims;
   stage = λ earlier paves stage. stage;
   begun = begun_first c.args.opening.tree;
   count = omega arith;

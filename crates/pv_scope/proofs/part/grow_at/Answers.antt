@@ -30,7 +30,7 @@ loop-settled-init g c =
 pub returns-in_default-clause-stage : goal.returns-in_default-clause-stage
 returns-in_default-clause-stage g c =
     let s = c.args.settler.now in let l = c.loop-settled in let k = length c.args.at in
-    subst (λ (x : Tree). Grows x (full_of (g.S.Settler.settle_of s) (g.S.Settler.depth_of s) c.args.kit.now.scratch leaf k)) (sym (c.finish.ensures.tree ∙ c.next_short.ensures.tree))
+    subst (λ (x : Tree). Grows x (full_of (g.S.Settler.settle_of s) (g.S.Settler.depth_of s) c.args.workspace.now.scratch leaf k)) (sym (c.finish.ensures.tree ∙ c.next_short.ensures.tree))
     (subst (λ (b : List Bounds). Grows l.growth.tree (full_of (g.S.Settler.settle_of s) (g.S.Settler.depth_of s) b leaf k)) l.invariant.root l.invariant.stage)
 
 pub returns-in_default-clause-short : goal.returns-in_default-clause-short
@@ -50,7 +50,7 @@ settle_next-requires-clause-short g c =
 pub returns-clause-stage : goal.returns-clause-stage
 returns-clause-stage g c =
     let s = c.args.settler.now in let l = c.loop-settled in let k = length c.args.at in
-    subst (λ (x : Tree). Grows x (full_of (g.S.Settler.settle_of s) (g.S.Settler.depth_of s) c.args.kit.now.scratch leaf k)) (sym (c.finish-2.ensures.tree ∙ c.next_short-2.ensures.tree))
+    subst (λ (x : Tree). Grows x (full_of (g.S.Settler.settle_of s) (g.S.Settler.depth_of s) c.args.workspace.now.scratch leaf k)) (sym (c.finish-2.ensures.tree ∙ c.next_short-2.ensures.tree))
     (subst (λ (b : List Bounds). Grows l.growth.tree (full_of (g.S.Settler.settle_of s) (g.S.Settler.depth_of s) b leaf k)) l.invariant.root l.invariant.stage)
 
 pub returns-clause-short : goal.returns-clause-short

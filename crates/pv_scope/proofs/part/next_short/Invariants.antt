@@ -9,8 +9,8 @@ invariant-loop-path g l = record {
   root : l.growth.root ≡ l.fn.growth.root;
   tree : l.growth.tree ≡ l.fn.growth.tree;
   to_come : AreToCome l.steps (length l.at) l.growth;
-  facts : AreKnown (g.S.KnowingSettler.knows l._settler) (reverse l.kit.facts.items) l.growth.holes;
-  scratch : l.kit.scratch ≡ l.fn.kit.scratch;
+  facts : AreKnown (g.S.KnowingSettler.knows l._settler) (reverse l.workspace.facts.items) l.growth.holes;
+  scratch : l.workspace.scratch ≡ l.fn.workspace.scratch;
 }
 
 abbrev pub decreases-loop-path : goal.decreases-loop-path

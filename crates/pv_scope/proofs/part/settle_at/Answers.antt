@@ -10,14 +10,14 @@ pub graft-requires-clause-depth : goal.graft-requires-clause-depth
 graft-requires-clause-depth g c =
     let own = g.S.Settler in let m = g.met.S.Settler in let s = c.args.settler.now in
     let laws : IsFitting (own.settle_of s) (own.depth_of s) (own.dims s) = record { some = (m.depth_fits s).0; few = (m.depth_fits s).1; fits = m.fits s; keeps_box = m.keeps_box s; ends = m.ends s } in
-    stage_height (own.settle_of s) (own.depth_of s) (own.dims s) laws c.box_at.new.into c.in_ok-part.part.stage.tree (length c.args.path) c.dims-sides.ensures.is_box
+    stage_height (own.settle_of s) (own.depth_of s) (own.dims s) laws c.box_at.new.into c.in_ok-part.part.stage.tree (length c.args.reach.at) c.dims-sides.ensures.is_box
     (c.box_at.ensures.places ∙ c.requires.scratch) c.len-steps.ensures.few c.in_ok-part.ensures.stage
 
 pub returns-clause-stage : goal.returns-clause-stage
 returns-clause-stage g c opening paves stage =
     let own = g.S.Settler in let m = g.met.S.Settler in let s = c.args.settler.now in let rule = own.settle_of s in let depth = own.depth_of s in
     let laws : IsFitting rule depth (own.dims s) = record { some = (m.depth_fits s).0; few = (m.depth_fits s).1; fits = m.fits s; keeps_box = m.keeps_box s; ends = m.ends s } in
-    let b = c.args.paving.now.root in let t = c.args.paving.now.tree in let p = c.args.path in let part = c.in_ok-part.part.stage.tree in
+    let b = c.args.paving.now.root in let t = c.args.paving.now.tree in let p = c.args.reach.at in let part = c.in_ok-part.part.stage.tree in
     let tree : c.graft.new.self.tree ≡ graft t p part = c.graft.ensures.tree ∙ ap (λ (x : Tree). graft x p part) c.reserve.ensures.tree in
     let root : c.graft.new.self.root ≡ b = c.graft.ensures.root ∙ c.reserve.ensures.root in
     let grows : Grows part (full_of rule depth (box_of b t p) leaf (length p)) = subst (λ (x : List Bounds). Grows part (full_of rule depth x leaf (length p))) c.box_at.ensures.is c.in_ok-part.ensures.stage in
@@ -27,7 +27,7 @@ returns-clause-stage g c opening paves stage =
 
 pub returns-clause-grown : goal.returns-clause-grown
 returns-clause-grown g c =
-    let t = c.args.paving.now.tree in let p = c.args.path in let part = c.in_ok-part.part.stage.tree in
+    let t = c.args.paving.now.tree in let p = c.args.reach.at in let part = c.in_ok-part.part.stage.tree in
     record {
       stage = part;
       is = c.graft.ensures.tree ∙ ap (λ (x : Tree). graft x p part) c.reserve.ensures.tree;

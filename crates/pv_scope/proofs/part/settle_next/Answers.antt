@@ -15,14 +15,14 @@ then-whole-requires g c =
     let own = g.S.Settler in let m = g.met.S.Settler in let s = c.args.settler.now in
     let laws : IsFitting (own.settle_of s) (own.depth_of s) (own.dims s) = record { some = (m.depth_fits s).0; few = (m.depth_fits s).1; fits = m.fits s; keeps_box = m.keeps_box s; ends = m.ends s } in
     let now = c.args.growth.now in
-    path_fits (own.settle_of s) (own.depth_of s) (own.dims s) laws now.root now.tree c.args.path c.args.at c.dims-places.ensures.is_box c.requires.dims c.len-steps.ensures.few c.requires.stage (next_is_leaf now c.args.path c.requires.next)
+    path_fits (own.settle_of s) (own.depth_of s) (own.dims s) laws now.root now.tree c.args.path c.args.reach.at c.dims-places.ensures.is_box c.requires.dims c.len-steps.ensures.few c.requires.stage (next_is_leaf now c.args.path c.requires.next)
 
 pub returns-clause-stage : goal.returns-clause-stage
 returns-clause-stage g c =
     let own = g.S.Settler in let m = g.met.S.Settler in let s = c.args.settler.now in
     let rule = own.settle_of s in let depth = own.depth_of s in
     let laws : IsFitting rule depth (own.dims s) = record { some = (m.depth_fits s).0; few = (m.depth_fits s).1; fits = m.fits s; keeps_box = m.keeps_box s; ends = m.ends s } in
-    let now = c.args.growth.now in let b = now.root in let t = now.tree in let p = c.args.path in let at = c.args.at in let o = c.in_ok-outcome.field-0.outcome in
+    let now = c.args.growth.now in let b = now.root in let t = now.tree in let p = c.args.path in let at = c.args.reach.at in let o = c.in_ok-outcome.field-0.outcome in
     let next = c.requires.next in let e = c.then-whole.ensures in
     let same : c.write_box.new.into ≡ box_of b t p = sym (next_box_of now p c.write_box.new.into next c.write_box.ensures.is) in
     let due : o ≡ rule (box_of b t p) (depth - length (at ++ p)) (length (at ++ p)) = c.in_ok-outcome.ensures.outcome ∙ (λ i. rule (same i) (depth - length (e i)) (length (e i))) in
@@ -40,9 +40,9 @@ returns-clause-more g c =
 pub returns-clause-to_come : goal.returns-clause-to_come
 returns-clause-to_come g c =
     let now = c.args.growth.now in let o = c.in_ok-outcome.field-0.outcome in
-    subst (AreToCome c.args.steps (length c.args.at)) (sym c.in-Ok.ensures.settled) (still_to_come c.args.steps (length c.args.at) now c.args.path o c.requires.next c.requires.to_come)
+    subst (AreToCome c.args.reach.steps (length c.args.reach.at)) (sym c.in-Ok.ensures.settled) (still_to_come c.args.reach.steps (length c.args.reach.at) now c.args.path o c.requires.next c.requires.to_come)
 
 pub returns-clause-short : goal.returns-clause-short
 returns-clause-short g c =
     let now = c.args.growth.now in let o = c.in_ok-outcome.field-0.outcome in
-    subst (λ (x : Growing). AreShort c.args.steps (length c.args.at) x.tree) (sym c.in-Ok.ensures.settled) (still_short c.args.steps (length c.args.at) now c.args.path o c.requires.next c.requires.few c.requires.short)
+    subst (λ (x : Growing). AreShort c.args.reach.steps (length c.args.reach.at) x.tree) (sym c.in-Ok.ensures.settled) (still_short c.args.reach.steps (length c.args.reach.at) now c.args.path o c.requires.next c.requires.few c.requires.short)

@@ -17,7 +17,7 @@ loop-i-preserved c =
       end = c.loop-i.invariant.end;
       moving_in = found.moving_in;
       slopes_in = found.slopes_in;
-      sum = linear_more c.args.bx.now (term_at (terms c.args.nodes.now) c.args.root) c.loop-i.i c.loop-i.sum (if flag_at c.slope_all.new.moving c.args.root then c.index-slopes-root.result else zero_slope) c.added-sum.result c.loop-i.invariant.sum
+      sum = linear_more c.args.on.now.bx.now (term_at (terms c.args.on.now.nodes.now) c.args.root) c.loop-i.i c.loop-i.sum (if flag_at c.slope_all.new.moving c.args.root then c.index-slopes-root.result else zero_slope) c.added-sum.result c.loop-i.invariant.sum
           (ap (λ s. if flag_at c.slope_all.new.moving c.args.root then s else zero_slope) (read_at c.slope_all.new.slopes c.args.root c.index-slopes-root.result inside c.index-slopes-root.is) ∙ sym (found.each c.args.root root))
           c.added-sum.ensures;
     }

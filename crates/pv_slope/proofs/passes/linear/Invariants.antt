@@ -5,8 +5,8 @@ use Rattle.pv_slope.proofs.passes.linear.Given as goal
 
 abbrev pub invariant-loop-i : goal.invariant-loop-i
 invariant-loop-i l = record {
-  end : l.i-end ≡ length l.bx;
-  moving_in : length l.nodes ≤ length l.moving;
-  slopes_in : length l.nodes ≤ length l.slopes;
-  sum : l.sum ≡ linear_of l.bx (term_at (terms l.nodes) l.root) l.i;
+  end : l.i-end ≡ length l.on.bx.now;
+  moving_in : length l.on.nodes.now ≤ length l.moving;
+  slopes_in : length l.on.nodes.now ≤ length l.slopes;
+  sum : l.sum ≡ linear_of l.on.bx.now (term_at (terms l.on.nodes.now) l.root) l.i;
 }

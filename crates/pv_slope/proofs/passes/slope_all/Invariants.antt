@@ -6,7 +6,7 @@ use Rattle.pv_slope.proofs.passes.slope_all.Given as goal
 
 abbrev pub invariant-loop-at : goal.invariant-loop-at
 invariant-loop-at l = record {
-  moving_in : length l.nodes ≤ length l.moving;
-  slopes_in : length l.nodes ≤ length l.slopes;
-  done : (k : ℕ) → k < l.at → slope_of l.bx l.i (term_at (terms l.nodes) k) ≡ seen l.moving l.slopes k;
+  moving_in : length l.on.nodes.now ≤ length l.moving;
+  slopes_in : length l.on.nodes.now ≤ length l.slopes;
+  done : (k : ℕ) → k < l.at → slope_of l.on.bx.now l.i (term_at (terms l.on.nodes.now) k) ≡ seen l.moving l.slopes k;
 }

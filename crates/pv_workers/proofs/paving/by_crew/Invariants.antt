@@ -7,8 +7,8 @@ ghosts-pave_named g a = record {
   depth = g.S.Settler.depth_of a.settler.now;
   root = a.opening.root;
   opening = a.opening.tree;
-  budget = a.budget;
-  limit = a.limit;
-  settlings = a.settlings.name;
-  endings = a.endings.name;
+  budget = a.budget.nodes;
+  limit = a.budget.limit;
+  settlings = a.blanks.settlings.name;
+  endings = a.blanks.endings.name;
 }

@@ -1,13 +1,13 @@
 use Rattle.std.proofs.Common.{◌<◌, sym, ◌∙◌, subst}
 use Rattle.pv_workers.proofs.Counts.{Served, served, each_below}
-use Rattle.pv_workers.proofs.paving.worked.Goals as goal
+use Rattle.pv_workers.proofs.paving.run_crew.Goals as goal
 
 pub run_workers-requires-clause-room : goal.run_workers-requires-clause-room
 run_workers-requires-clause-room g c κs within = λ i t l.
     each_below c.in_ok-accounts.accounts.items c.in_ok-accounts.ensures.none i t (subst (λ n. i < n) c.in_ok-accounts.accounts.ok.0 l)
 
-pub joined-told-requires-clause-below : goal.joined-told-requires-clause-below
-joined-told-requires-clause-below g c =
+pub join_accounts-told-requires-clause-below : goal.join_accounts-told-requires-clause-below
+join_accounts-told-requires-clause-below g c =
     let before = c.in_ok-accounts.accounts in let after = c.in-Ok.accounts in
     let all : Served before.items after.items = served before.items after.items (sym after.ok.0 ∙ c.in-Ok.ensures.count ∙ before.ok.0) c.in_ok-accounts.ensures.none
     (λ i t l. c.in-Ok.ensures.served i t (subst (λ n. i < n) (sym before.ok.0) l)) in
@@ -18,4 +18,4 @@ into_board-requires g c =
     let before = c.in_ok-accounts.accounts in let after = c.in-Ok.accounts in
     let all : Served before.items after.items = served before.items after.items (sym after.ok.0 ∙ c.in-Ok.ensures.count ∙ before.ok.0) c.in_ok-accounts.ensures.none
     (λ i t l. c.in-Ok.ensures.served i t (subst (λ n. i < n) (sym before.ok.0) l)) in
-    c.joined-told.ensures.parts ∙ all.parts ∙ c.in_ok-accounts.ensures.parts
+    c.join_accounts-told.ensures.parts ∙ all.parts ∙ c.in_ok-accounts.ensures.parts

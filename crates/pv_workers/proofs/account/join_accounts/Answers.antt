@@ -2,7 +2,7 @@ use Rattle.std.proofs.Common.{◌≡◌, ◌+◌, ◌^◌, ◌≤◌, [], ◌∷
 use Rattle.pv_board.specs.Tallies.{Tally, joined}
 use Rattle.pv_workers.specs.Accounts.{parts_in, AllBelow, HasRoom}
 use Rattle.pv_workers.proofs.Counts.{parts_push, below_first, room_first, room_more, can_join}
-use Rattle.pv_workers.proofs.account.joined.Goals as goal
+use Rattle.pv_workers.proofs.account.join_accounts.Goals as goal
 
 pub loop-account-init : goal.loop-account-init
 loop-account-init g c =

@@ -11,19 +11,19 @@ use Rattle.pv_workers.proofs.Facts.{still_laid}
 use Rattle.pv_workers.proofs.GrownLeaves.{one_more}
 use Rattle.pv_workers.proofs.Laws.{fitting_of}
 use Rattle.pv_workers.proofs.Below.{path_fits, settled_below, depth_below}
-use Rattle.pv_workers.proofs.stage.settle_next.Goals as goal
+use Rattle.pv_workers.proofs.stage.Stager.settle_next.Goals as goal
 
 pub then-whole-requires : goal.then-whole-requires
 then-whole-requires g c =
-    let n = g.N.Naming in let own = g.S.Settler in let m = g.met.S.Settler in let r = c.args.ruled.now in let s = r.settler.now in
+    let n = g.N.Naming in let own = g.S.Settler in let m = g.met.S.Settler in let r = c.args.self.now.ruled.now in let s = r.settler.now in
     let laws : IsFitting n.rule n.depth n.dims = fitting_of n.rule (own.settle_of s) n.depth (own.depth_of s) n.dims (own.dims s) r.rule r.depth r.dims
     (record { some = (m.depth_fits s).0; few = (m.depth_fits s).1; fits = m.fits s; keeps_box = m.keeps_box s; ends = m.ends s }) in
     let now = c.args.stage.now in
-    path_fits n.rule n.depth n.dims laws now.root now.tree c.args.path c.args.at c.dims-places.ensures.is_box c.requires.dims c.len-steps.ensures.few c.requires.stage (next_is_leaf now c.args.path c.requires.next)
+    path_fits n.rule n.depth n.dims laws now.root now.tree c.args.path c.args.self.now.at c.dims-places.ensures.is_box c.requires.dims c.len-steps.ensures.few c.requires.stage (next_is_leaf now c.args.path c.requires.next)
 
 pub settle-requires : goal.settle-requires
 settle-requires g c =
-    let n = g.N.Naming in let own = g.S.Settler in let m = g.met.S.Settler in let r = c.args.ruled.now in let s = r.settler.now in
+    let n = g.N.Naming in let own = g.S.Settler in let m = g.met.S.Settler in let r = c.args.self.now.ruled.now in let s = r.settler.now in
     let laws : IsFitting n.rule n.depth n.dims = fitting_of n.rule (own.settle_of s) n.depth (own.depth_of s) n.dims (own.dims s) r.rule r.depth r.dims
     (record { some = (m.depth_fits s).0; few = (m.depth_fits s).1; fits = m.fits s; keeps_box = m.keeps_box s; ends = m.ends s }) in
     let now = c.args.stage.now in let p = c.args.path in let next = c.requires.next in let first = c.write_box.ensures.is in
@@ -34,14 +34,14 @@ settle-requires g c =
     let fits : Fits bx o = subst (Fits bx) (sym due) (laws.fits bx (n.depth - length w) (length w) is_box sides) in
     let cuts : CutsAbove (n.depth - length w) o = subst (CutsAbove (n.depth - length w)) (sym due) (laws.ends bx (n.depth - length w) (length w) is_box sides) in
     next_takes now p bx o next first fits
-    (depth_below n.rule n.depth n.dims laws p c.args.at o (subst (λ (q : List Bool). CutsAbove (n.depth - length q) o) c.then-whole.ensures cuts))
+    (depth_below n.rule n.depth n.dims laws p c.args.self.now.at o (subst (λ (q : List Bool). CutsAbove (n.depth - length q) o) c.then-whole.ensures cuts))
 
 pub returns-clause-stage : goal.returns-clause-stage
 returns-clause-stage g c =
-    let n = g.N.Naming in let own = g.S.Settler in let m = g.met.S.Settler in let r = c.args.ruled.now in let s = r.settler.now in
+    let n = g.N.Naming in let own = g.S.Settler in let m = g.met.S.Settler in let r = c.args.self.now.ruled.now in let s = r.settler.now in
     let laws : IsFitting n.rule n.depth n.dims = fitting_of n.rule (own.settle_of s) n.depth (own.depth_of s) n.dims (own.dims s) r.rule r.depth r.dims
     (record { some = (m.depth_fits s).0; few = (m.depth_fits s).1; fits = m.fits s; keeps_box = m.keeps_box s; ends = m.ends s }) in
-    let now = c.args.stage.now in let b = now.root in let t = now.tree in let p = c.args.path in let at = c.args.at in let o = c.in_ok-outcome.field-0.outcome in
+    let now = c.args.stage.now in let b = now.root in let t = now.tree in let p = c.args.path in let at = c.args.self.now.at in let o = c.in_ok-outcome.field-0.outcome in
     let next = c.requires.next in let e = c.then-whole.ensures in
     let same : c.write_box.new.into ≡ box_of b t p = sym (next_box_of now p c.write_box.new.into next c.write_box.ensures.is) in
     let due : o ≡ n.rule (box_of b t p) (n.depth - length (at ++ p)) (length (at ++ p)) = c.in_ok-outcome.ensures.outcome ∙ (λ i. n.rule (same i) (n.depth - length (e i)) (length (e i))) in
@@ -53,10 +53,10 @@ returns-clause-stage g c =
 
 pub returns-clause-laid : goal.returns-clause-laid
 returns-clause-laid g c =
-    let n = g.N.Naming in let own = g.S.Settler in let m = g.met.S.Settler in let r = c.args.ruled.now in let s = r.settler.now in
+    let n = g.N.Naming in let own = g.S.Settler in let m = g.met.S.Settler in let r = c.args.self.now.ruled.now in let s = r.settler.now in
     let laws : IsFitting n.rule n.depth n.dims = fitting_of n.rule (own.settle_of s) n.depth (own.depth_of s) n.dims (own.dims s) r.rule r.depth r.dims
     (record { some = (m.depth_fits s).0; few = (m.depth_fits s).1; fits = m.fits s; keeps_box = m.keeps_box s; ends = m.ends s }) in
-    let now = c.args.stage.now in let b = now.root in let t = now.tree in let p = c.args.path in let at = c.args.at in let o = c.in_ok-outcome.field-0.outcome in
+    let now = c.args.stage.now in let b = now.root in let t = now.tree in let p = c.args.path in let at = c.args.self.now.at in let o = c.in_ok-outcome.field-0.outcome in
     let next = c.requires.next in let e = c.then-whole.ensures in
     let same : c.write_box.new.into ≡ box_of b t p = sym (next_box_of now p c.write_box.new.into next c.write_box.ensures.is) in
     let due : o ≡ n.rule (box_of b t p) (n.depth - length (at ++ p)) (length (at ++ p)) = c.in_ok-outcome.ensures.outcome ∙ (λ i. n.rule (same i) (n.depth - length (e i)) (length (e i))) in

@@ -13,7 +13,7 @@ use Rattle.pv_workers.proofs.Below.{path_fits}
 use Rattle.pv_workers.proofs.Facts.{few_facts, laid_first, stage_facts}
 use Rattle.pv_workers.proofs.Laws.{fitting_of}
 use Rattle.pv_workers.proofs.Leaves.{next_at_root}
-use Rattle.pv_workers.proofs.stage.stage_at.Goals as goal
+use Rattle.pv_workers.proofs.stage.Stager.grow.Goals as goal
 
 pub settle_next-requires-clause-next : goal.settle_next-requires-clause-next
 settle_next-requires-clause-next g c =
@@ -21,53 +21,53 @@ settle_next-requires-clause-next g c =
 
 pub settle_next-requires-clause-stage : goal.settle_next-requires-clause-stage
 settle_next-requires-clause-stage g c =
-    let n = g.N.Naming in let full = full_of n.rule n.depth c.in_ok-stage.stage.root leaf (length c.args.at) in
+    let n = g.N.Naming in let full = full_of n.rule n.depth c.in_ok-stage.stage.root leaf (length c.args.self.now.at) in
     subst (λ (t : Tree). Grows t full) (sym (ap (λ x. x.tree) c.in_ok-stage.ensures)) (grows_leaf full)
 
 pub settle_next-requires-clause-laid : goal.settle_next-requires-clause-laid
 settle_next-requires-clause-laid g c =
     let n = g.N.Naming in
-    laid_first c.in_ok-clone_of.field-0 (full_of n.rule n.depth c.in_ok-stage.stage.root leaf (length c.args.at)) c.in_ok-stage.stage c.in_ok-stage.ensures
+    laid_first c.in_ok-clone_of.field-0 (full_of n.rule n.depth c.in_ok-stage.stage.root leaf (length c.args.self.now.at)) c.in_ok-stage.stage c.in_ok-stage.ensures
 
 pub list_leaves-requires-clause-short : goal.list_leaves-requires-clause-short
 list_leaves-requires-clause-short g c =
-    let n = g.N.Naming in let own = g.S.Settler in let m = g.met.S.Settler in let r = c.args.ruled.now in let s = r.settler.now in
+    let n = g.N.Naming in let own = g.S.Settler in let m = g.met.S.Settler in let r = c.args.self.now.ruled.now in let s = r.settler.now in
     let laws : IsFitting n.rule n.depth n.dims = fitting_of n.rule (own.settle_of s) n.depth (own.depth_of s) n.dims (own.dims s) r.rule r.depth r.dims
     (record { some = (m.depth_fits s).0; few = (m.depth_fits s).1; fits = m.fits s; keeps_box = m.keeps_box s; ends = m.ends s }) in
     let st = c.grow_on.new.stage in
     let same : st.root ≡ c.in_ok-stage.stage.root = c.in_ok-grow_on.ensures.root ∙ c.in_ok-settle_next.ensures.root in
     let sides : length c.in_ok-stage.stage.root ≡ n.dims = search rules in
-    λ p e. path_fits n.rule n.depth n.dims laws st.root st.tree p c.args.at (subst IsBox (sym same) c.dims-places.ensures.is_box) (ap length same ∙ sides) c.len-steps.ensures.few c.in_ok-grow_on.ensures.stage e
+    λ p e. path_fits n.rule n.depth n.dims laws st.root st.tree p c.args.self.now.at (subst IsBox (sym same) c.dims-places.ensures.is_box) (ap length same ∙ sides) c.len-steps.ensures.few c.in_ok-grow_on.ensures.stage e
 
 pub returns-clause-stage : goal.returns-clause-stage
 returns-clause-stage g c =
     let n = g.N.Naming in
     let st = c.grow_on.new.stage in
     let same : st.root ≡ c.in_ok-stage.stage.root = c.in_ok-grow_on.ensures.root ∙ c.in_ok-settle_next.ensures.root in
-    let from : c.in_ok-stage.stage.root ≡ c.args.kit.now.scratch = search rules in
-    let root : st.root ≡ c.args.kit.now.scratch = same ∙ from in
+    let from : c.in_ok-stage.stage.root ≡ c.args.workspace.now.scratch = search rules in
+    let root : st.root ≡ c.args.workspace.now.scratch = same ∙ from in
     let tree : c.finish.result.tree ≡ st.tree = c.finish.ensures.tree ∙ c.in_ok-list_leaves.ensures.tree in
-    subst (λ (x : Tree). Grows x (full_of n.rule n.depth c.args.kit.now.scratch leaf (length c.args.at))) (sym tree)
-    (subst (λ (b : List Bounds). Grows st.tree (full_of n.rule n.depth b leaf (length c.args.at))) root c.in_ok-grow_on.ensures.stage)
+    subst (λ (x : Tree). Grows x (full_of n.rule n.depth c.args.workspace.now.scratch leaf (length c.args.self.now.at))) (sym tree)
+    (subst (λ (b : List Bounds). Grows st.tree (full_of n.rule n.depth b leaf (length c.args.self.now.at))) root c.in_ok-grow_on.ensures.stage)
 
 pub returns-clause-facts : goal.returns-clause-facts
 returns-clause-facts g c =
     let n = g.N.Naming in
     let st = c.grow_on.new.stage in
     let same : st.root ≡ c.in_ok-stage.stage.root = c.in_ok-grow_on.ensures.root ∙ c.in_ok-settle_next.ensures.root in
-    let from : c.in_ok-stage.stage.root ≡ c.args.kit.now.scratch = search rules in
-    let root : st.root ≡ c.args.kit.now.scratch = same ∙ from in
+    let from : c.in_ok-stage.stage.root ≡ c.args.workspace.now.scratch = search rules in
+    let root : st.root ≡ c.args.workspace.now.scratch = same ∙ from in
     let tree : c.finish.result.tree ≡ st.tree = c.finish.ensures.tree ∙ c.in_ok-list_leaves.ensures.tree in
-    stage_facts (g.S.KnowingSettler.knows c.args.ruled.now.settler.now) n.rule n.depth (length c.args.at) st c.args.kit.now.scratch c.finish.result.tree (reverse c.grow_on.new.kit.facts.items)
+    stage_facts (g.S.KnowingSettler.knows c.args.self.now.ruled.now.settler.now) n.rule n.depth (length c.args.self.now.at) st c.args.workspace.now.scratch c.finish.result.tree (reverse c.grow_on.new.workspace.facts.items)
     tree root c.in_ok-grow_on.ensures.laid c.in_ok-grow_on.ensures.facts
 
 pub returns-clause-few_leaves : goal.returns-clause-few_leaves
 returns-clause-few_leaves g c =
-    let n = g.N.Naming in let knows = g.S.KnowingSettler.knows c.args.ruled.now.settler.now in
-    let st = c.grow_on.new.stage in let ks = c.grow_on.new.kit.facts in let ps = c.list_leaves.new.leaves in let k = length c.args.at in
+    let n = g.N.Naming in let knows = g.S.KnowingSettler.knows c.args.self.now.ruled.now.settler.now in
+    let st = c.grow_on.new.stage in let ks = c.grow_on.new.workspace.facts in let ps = c.list_leaves.new.leaves in let k = length c.args.self.now.at in
     let known = stage_facts knows n.rule n.depth k st st.root st.tree (reverse ks.items) refl refl c.in_ok-grow_on.ensures.laid c.in_ok-grow_on.ensures.facts in
     let few = few_facts knows (box_of st.root (full_of n.rule n.depth st.root leaf k)) (opens st.tree) (reverse ks.items) known in
-    let count = ap length c.in_ok-list_leaves.ensures.leaves ∙ leaves_count c.args.at st.tree in
+    let count = ap length c.in_ok-list_leaves.ensures.leaves ∙ leaves_count c.args.self.now.at st.tree in
     let back = length-reverse ks.items in let most = c.in_ok-grow_on.ensures.few_facts in
     let leaves = ps.ok.0 in let facts = ks.ok.0 in
     omega (arith, few, count, back, most, leaves, facts)

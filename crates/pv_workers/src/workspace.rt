@@ -12,7 +12,7 @@ use std::alloc::Global;
 /// What a worker keeps from one settling to the next, so that settling takes no memory but for the
 /// tree.
 #[derive(Drop)]
-pub(crate) struct Kit<S: KnowingSettler> {
+pub(crate) struct Workspace<S: KnowingSettler> {
     /// The box that is settled.
     pub(crate) scratch: IBox,
     pub(crate) room: S::Room,
@@ -24,16 +24,16 @@ pub(crate) struct Kit<S: KnowingSettler> {
     pub(crate) tickets: Batch<Ticket>,
 }
 
-impl<S: KnowingSettler> Kit<S> {
-    /// A kit for boxes of `places` places.
-    pub(crate) fn of(alloc: Global, settler: &S, places: u8) -> Result<Kit<S>, Memory>
+impl<S: KnowingSettler> Workspace<S> {
+    /// A workspace for boxes of `places` places.
+    pub(crate) fn of(alloc: Global, settler: &S, places: u8) -> Result<Workspace<S>, Memory>
         requires some { 1 ≤ places }
         requires few { places ≤ MOST_PLACES }
         ensures places { IfOk result (λ k. length k.scratch ≡ places) }
         ensures none { IfOk result (λ k. k.facts.items ≡ []) }
         ensures tickets { IfOk result (λ k. k.tickets ≡ []) }
     {
-        Ok(Kit {
+        Ok(Workspace {
             scratch: blank(alloc, places)?,
             room: settler.room(alloc),
             facts: Vec::new(alloc),

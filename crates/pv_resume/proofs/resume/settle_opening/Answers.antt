@@ -5,7 +5,7 @@ use Rattle.pv_slope.specs.Methods.{method_of}
 use Rattle.pv_scope.specs.declared.share.Share.{Share}
 use Rattle.pv_product.specs.Campaigns.{is_done}
 use Rattle.pv_product.specs.Products.{paved, paved_as, IsSettledSo}
-use Rattle.pv_resume.proofs.resume.resumed.Goals as goal
+use Rattle.pv_resume.proofs.resume.settle_opening.Goals as goal
 
 pub returns-in-Some : goal.returns-in-Some
 returns-in-Some g c =
@@ -15,7 +15,7 @@ returns-in-Some g c =
     record {
       tree = t;
       done = done;
-      run = subst (λ (share : Option Share). IsSettledSo rule c.args.opening.paving.tree c.args.effort.now.order c.args.effort.now.boxes share t done) (sym c.in-Some.is)
+      run = subst (λ (share : Option Share). IsSettledSo rule c.args.opening.paving.tree c.args.effort.now.order c.args.effort.now.budget.nodes share t done) (sym c.in-Some.is)
           c.in_ok-part-in-Some.ensures.resumed.run;
       honest = c.in_ok-part-in-Some.ensures.resumed.honest;
       is = ap₂ (λ (i : List ℕ) (b : List Bounds). paved_as i b t done) c.in_ok-identity.ensures c.in_ok-part-in-Some.ensures.root;
@@ -29,7 +29,7 @@ returns g c =
     record {
       tree = t;
       done = is_done t;
-      run = subst (λ (share : Option Share). IsSettledSo rule c.args.opening.paving.tree c.args.effort.now.order c.args.effort.now.boxes share t (is_done t)) (sym c.in-None.is)
+      run = subst (λ (share : Option Share). IsSettledSo rule c.args.opening.paving.tree c.args.effort.now.order c.args.effort.now.budget.nodes share t (is_done t)) (sym c.in-None.is)
           (resumed.run, resumed.ordered, refl);
       honest = resumed.honest;
       is = c.of_paving.ensures ∙ ap₂ (λ (i : List ℕ) (b : List Bounds). paved i b t) c.in_ok-identity.ensures c.in_ok-paving-in-None.ensures.root;

@@ -1,6 +1,6 @@
 use Rattle.std.proofs.Common.{◌≡◌, ◌+◌, ◌^◌, length}
 use Rattle.pv_workers.specs.Accounts.{parts_in, AllBelow, HasRoom}
-use Rattle.pv_workers.proofs.account.joined.Given as goal
+use Rattle.pv_workers.proofs.account.join_accounts.Given as goal
 
 abbrev pub invariant-loop-account : goal.invariant-loop-account
 invariant-loop-account g l = record {

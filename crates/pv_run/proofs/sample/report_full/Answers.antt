@@ -6,7 +6,7 @@ use Rattle.pv_slope.specs.Methods.{method_of, settle_by}
 use Rattle.pv_rule.specs.Pavings.{IsPaved}
 use Rattle.pv_product.specs.Products.{IsHonest, full_by, report_of}
 use Rattle.pv_run.proofs.Sampled.{is_full, on_ok}
-use Rattle.pv_run.proofs.sample.reported.Goals as goal
+use Rattle.pv_run.proofs.sample.report_full.Goals as goal
 
 pub returns-clause-report : goal.returns-clause-report
 returns-clause-report g c =
