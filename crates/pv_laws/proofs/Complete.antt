@@ -358,14 +358,14 @@ work_excused : RowsMakeTheirs → (before after : Files) (u v : Stock) (q : Requ
 work_excused make before after u v (Check system) r told h k = inl (system_excused before after system.now h.0 r (told system.now) h.1 k)
 work_excused make before after u v (Run system settings effort out) r told h k = inl (rule_excused before after system.now settings h.0 r (told system.now) h.1 k)
 work_excused make before after u v (Resume system pavings settings effort share out) r told h k =
-    inl (joined_excused before after system.now (names_in pavings.items) settings effort.limit effort.boxes told h r k)
+    inl (joined_excused before after system.now (names_in pavings.items) settings effort.budget.limit effort.budget.nodes told h r k)
 work_excused make before after u v (Merge system pavings settings limit out) r told h k = inl (joined_excused before after system.now (names_in pavings.items) settings limit 0 told h r k)
 work_excused make before after u v (Audit system paving settings limit workers) r told h k = inl (audit_excused before after system.now paving.now settings limit r told h k)
 work_excused make before after u v (Svg system paving settings limit view) r told h k = inl (svg_excused before after system.now paving.now settings limit view r told h k)
 work_excused make before after u v (Sample circles) r told h k = inl (sample_excused before after r k)
 work_excused make before after u v (Least system settings search) r told h k = inl (least_excused before after system.now settings search.of.now r told h k)
 work_excused make before after u v (Campaign system settings effort rounds) r told h k =
-    campaign_excused make before after u v system.now settings effort.limit effort.order effort.boxes rounds told h r k
+    campaign_excused make before after u v system.now settings effort.budget.limit effort.order effort.budget.nodes rounds told h r k
 
 -- ---- The whole command
 

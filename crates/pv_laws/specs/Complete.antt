@@ -95,13 +95,13 @@ pub record HasCampaign (before : Files) (u : Stock) (system : Text) (s : Setting
 abbrev pub IsRight : Files → Stock → Request → Type 0
 IsRight before u (Check system) = (s : Parts) × HasSystem before system.now s
 IsRight before u (Run system settings effort out) = (rule : Method) × HasRule before system.now settings rule
-IsRight before u (Resume system pavings settings effort share out) = AreJoinable before system.now (names_in pavings.items) settings effort.limit effort.boxes
+IsRight before u (Resume system pavings settings effort share out) = AreJoinable before system.now (names_in pavings.items) settings effort.budget.limit effort.budget.nodes
 IsRight before u (Merge system pavings settings limit out) = AreJoinable before system.now (names_in pavings.items) settings limit 0
 IsRight before u (Audit system paving settings limit workers) = HoldsStageOf before system.now paving.now settings limit
 IsRight before u (Svg system paving settings limit view) = HasPicture before system.now paving.now settings limit view
 IsRight before u (Sample circles) = Unit {0}
 IsRight before u (Least system settings search) = HasObjective before system.now settings search.of.now
-IsRight before u (Campaign system settings effort rounds) = HasCampaign before u system.now settings effort.limit effort.boxes rounds
+IsRight before u (Campaign system settings effort rounds) = HasCampaign before u system.now settings effort.budget.limit effort.budget.nodes rounds
 
 -- ---- What comes of it
 
