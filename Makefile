@@ -30,8 +30,8 @@ paver: $(SOURCES)
 	cp crates/paver/out/paver paver
 
 bench: paver
-	cd crates/pv_bench && rt run -- add 1000 >/dev/null 2>&1
-	cd crates/pv_tree_bench && rt run -- none 0 >/dev/null 2>&1
+	cd crates/bench_numbers && rt run -- add 1000 >/dev/null 2>&1
+	cd crates/bench_trees && rt run -- none 0 >/dev/null 2>&1
 	python3 bench/run.py
 
 # Nothing is proved here, and not every slip would stop the run.

@@ -92,7 +92,7 @@ def yardstick(folder, name):
 
 
 def numbers(folder):
-    programs = {"pv_num": TOP / "crates/pv_bench/out/pv_bench", "lean Rust": yardstick(folder, "numbers"),
+    programs = {"pv_num": TOP / "crates/bench_numbers/out/bench_numbers", "lean Rust": yardstick(folder, "numbers"),
                 "same code": yardstick(folder, "same")}
     for name, program in programs.items():
         if program and program.exists():
@@ -103,7 +103,7 @@ def numbers(folder):
 
 
 def calls(_):
-    program = TOP / "crates/pv_bench/out/pv_bench"
+    program = TOP / "crates/bench_numbers/out/bench_numbers"
     fed, _ = seconds([program, "fed", STEPS // 10])
     for operation in ("neg", "abs", "cmp", "pow3", "root2", "root3", "root31", "middle", "floor", "ratio", "fin",
                       "parts", "text"):
@@ -347,7 +347,7 @@ def rounds(folder):
 
 
 def trees(_):
-    program = TOP / "crates/pv_tree_bench/out/pv_tree_bench"
+    program = TOP / "crates/bench_trees/out/bench_trees"
     built, _ = seconds([program, "none", 0])
     for work, times in ("settle", 1), ("count", 1000), ("clone", 20), ("join", 5), ("audit", 5):
         spent, _ = seconds([program, work, times])
@@ -356,12 +356,12 @@ def trees(_):
 
 def tickets(_):
     """What jobs and tickets cost where the work itself costs next to nothing."""
-    program = TOP / "crates/pv_pool_bench/out/pv_pool_bench"
+    program = TOP / "crates/bench_pool/out/bench_pool"
     for count in (1, 2, 4, 16):
         spent, _ = seconds([program, 1_000_000, count])
         used = min(processor_seconds([program, 1_000_000, count])[0] for _ in range(3))
         print(f"a million jobs by {count:2} workers {spent * 1000:6.1f} ms, {used * 1000:6.1f} of processors")
-    program = TOP / "crates/pv_workers_bench/out/pv_workers_bench"
+    program = TOP / "crates/bench_workers/out/bench_workers"
     empty, _ = seconds([program, 1, 1])
     for cuts in (6, 8, 10, 12, 14):
         spent, printed = seconds([program, cuts, 1])

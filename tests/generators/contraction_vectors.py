@@ -3,7 +3,7 @@
 computes on whole numbers, knows no marks and shares nothing with the program. It finds which constraints are clean
 anew from the whole history of revisions.
 
-Writes crates/pv_programs/src/table.rt.
+Writes crates/test_programs/src/table.rt.
 """
 from tests.generators.case_table import ends, write
 from tests.reference import minibex
@@ -78,4 +78,4 @@ HEADING = (
 )
 
 if __name__ == "__main__":
-    write("pv_programs", HEADING, GROUPS, row)
+    write("test_programs", HEADING, GROUPS, row)

@@ -5,7 +5,7 @@ The known value was worked out by hand. What the search tells comes from the ref
 is looked at that the known value lies between both bounds, and that no member that is drawn has a
 value below the lower one.
 
-Writes crates/pv_values/src/table.rt.
+Writes crates/test_values/src/table.rt.
 """
 import random
 from fractions import Fraction
@@ -145,4 +145,4 @@ use crate::values::Known::{At, Huge, Nowhere, Unbounded};
 
 if __name__ == "__main__":
     groups = {name: [worked(*case) for case in cases] for name, cases in GROUPS.items()}
-    write("pv_values", HEADING, groups, row)
+    write("test_values", HEADING, groups, row)

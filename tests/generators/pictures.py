@@ -3,7 +3,7 @@
 slice, a rectangle and a pixel are. Of tests/reference only the rounding of fractions and the lines of pavings serve;
 nothing is shared with the program.
 
-Writes crates/pv_pictures/src/table.rt.
+Writes crates/test_pictures/src/table.rt.
 """
 import random
 from fractions import Fraction
@@ -205,4 +205,4 @@ use crate::pictures::Case;
 """
 
 if __name__ == "__main__":
-    write("pv_pictures", HEADING, GROUPS, row)
+    write("test_pictures", HEADING, GROUPS, row)

@@ -5,7 +5,7 @@ A reader of its own, by Earley's method over the tokens: at each token it keeps 
 in the grammar's rules that the tokens so far can stand at, so "the grammar does not allow it there"
 is that no position is left. Ranges, the node limit and the programs of a `qinter` are looked at beside.
 
-Usage: program_vectors.py > crates/pv_programs/src/texts/programs.rt
+Usage: program_vectors.py > crates/test_programs/src/texts/programs.rt
 """
 import re
 import sys

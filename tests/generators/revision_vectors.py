@@ -2,7 +2,7 @@
 """Cases of HC4-revise and of the sure test, on boxes of two variables, worked out by the plain paver of
 tests/reference, which computes on whole numbers and shares nothing with the program.
 
-Writes crates/pv_revisions/src/table.rt.
+Writes crates/test_revisions/src/table.rt.
 """
 from tests.generators.case_table import ends, write
 from tests.reference import minibex
@@ -131,4 +131,4 @@ HEADING = (
 )
 
 if __name__ == "__main__":
-    write("pv_revisions", HEADING, GROUPS, row)
+    write("test_revisions", HEADING, GROUPS, row)

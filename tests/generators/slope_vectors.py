@@ -2,7 +2,7 @@
 """Cases of slopes and centered forms, on boxes of two variables, and of boxes settled by them, worked out by the plain paver of
 tests/reference, which computes on whole numbers and shares nothing with the program.
 
-Writes crates/pv_ranges/src/table.rt.
+Writes crates/test_ranges/src/table.rt.
 """
 from fractions import Fraction
 
@@ -176,7 +176,7 @@ def main():
     cases = [case for group in GROUPS.values() for case in group]
     slopes = table("SLOPES", "Slope", [slope_row(k % 2, *case) for k, case in enumerate(cases)])
     settled = table("SETTLED", "Settled", [settled_row(*case) for case in SETTLED])
-    write("pv_ranges", HEADING, GROUPS, row, slopes, settled)
+    write("test_ranges", HEADING, GROUPS, row, slopes, settled)
 
 
 if __name__ == "__main__":

@@ -7,11 +7,11 @@ use crate::tickets::{has, settle_by, unit_box};
 use pv_board::{Board, Look, Naming, OpenRefused, Settled};
 use pv_box::IBox;
 use pv_num::{Memory, Num};
-use pv_sample::{Above, settle_first};
 use pv_tree::{NodeLimit, Paving, Settler};
 use std::alloc::Global;
 use std::marker::Brand;
 use std::test::Fail;
+use test_sample::{Above, settle_first};
 
 /// Which worked board is played.
 #[derive(Clone, Copy)]

@@ -8,11 +8,11 @@ use pv_board::{Board, Look, Naming, Settled, Ticket};
 use pv_box::IBox;
 use pv_interval::Interval;
 use pv_num::{Memory, Num};
-use pv_sample::Above;
 use pv_tree::{Outcome, Path, Paving, Settler, Shape};
 use std::alloc::Global;
 use std::marker::Brand;
 use std::test::Fail;
+use test_sample::Above;
 
 /// An open leaf, with its grant where it is issued.
 #[derive(Clone, Copy)]

@@ -10,11 +10,11 @@ use pv_board::{AbsorbRefused, Board, Handed, Naming, Settled, Ticket};
 use pv_box::IBox;
 use pv_join::{Audit, audit};
 use pv_num::{Memory, Num};
-use pv_sample::{Above, settle_first};
 use pv_tree::{Batch, Path, Paving, Settler, Shape};
 use std::alloc::Global;
 use std::marker::Brand;
 use std::test::Fail;
+use test_sample::{Above, settle_first};
 
 /// What came of absorbing a paving.
 #[derive(Clone, Copy, PartialEq, Eq)]

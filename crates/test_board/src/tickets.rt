@@ -7,7 +7,6 @@ use pv_board::{Board, Look, Naming, Settled, Shared, Ticket};
 use pv_box::IBox;
 use pv_interval::Interval;
 use pv_num::{Memory, Num};
-use pv_sample::Above;
 use pv_tree::{Paving, Settler};
 use std::alloc::Global;
 use std::marker::Brand;
@@ -15,6 +14,7 @@ use std::sync::Wait;
 use std::sync::ledger::Blank;
 use std::test::Fail;
 use std::thread::{Threads, join};
+use test_sample::Above;
 
 /// The box [0,1].
 pub(crate) fn unit_box(alloc: Global) -> Result<IBox, Memory>

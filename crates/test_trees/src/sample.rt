@@ -7,10 +7,10 @@ use pv_box::IBox;
 use pv_interval::Interval;
 use pv_join::{Audit, JoinRefused, audit, join};
 use pv_num::{Memory, Num};
-use pv_sample::{Above, grow, settle_first, settle_in_room};
 use pv_tree::{Path, Paving, Shape, Walk};
 use std::alloc::Global;
 use std::test::Fail;
+use test_sample::{Above, grow, settle_first, settle_in_room};
 
 /// The tree of the points from 1/4 on, as far as two cuts.
 const QUARTER: &str = "C 0 1:-1 0:0 1:0\nC 0 1:-2 0:0 1:-1\nS 0:0 1:-2\nI 1:-2 1:-1\nI 1:-1 1:0\n";

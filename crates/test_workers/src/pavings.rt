@@ -7,11 +7,11 @@ use pv_interval::Interval;
 use pv_join::join;
 use pv_num::{Memory, Num};
 use pv_pool::NoGate;
-use pv_sample::Above;
 use pv_tree::{Forgetful, NodeLimit, Outcome, Paving, Settler};
 use pv_workers::{Budget, Paved, pave, pave_knowing};
 use std::alloc::Global;
 use std::test::Fail;
+use test_sample::Above;
 
 // The interval [0,1].
 fn unit() -> Interval {

@@ -1,6 +1,6 @@
 use Rattle.std.proofs.Common.{ap, ◌∙◌, arith}
 use Rattle.pv_tree.specs.Trees.{settled_of}
-use Rattle.pv_sample.proofs.Heights.{height_few}
+use Rattle.test_sample.proofs.Heights.{height_few}
 use Rattle.test_trees.proofs.sample.graft_short.Goals as goal
 
 pub graft-requires-clause-depth : goal.graft-requires-clause-depth

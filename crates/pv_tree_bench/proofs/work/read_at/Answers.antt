@@ -1,6 +1,0 @@
-use Rattle.std.proofs.Common.{sym, ◌∙◌}
-use Rattle.pv_tree_bench.proofs.Keeping.{path_kept}
-use Rattle.pv_tree_bench.proofs.work.read_at.Goals as goal
-
-pub to_at-requires-clause-there : goal.to_at-requires-clause-there
-to_at-requires-clause-there c = path_kept c.args.tree.now.tree c.args.path c.shape_at-shape.result c.shape_at-shape.ensures (sym c.keeps.ensures ∙ c.if-keeps.true)

@@ -1,0 +1,8 @@
+use Rattle.std.proofs.Common.{◌≡◌, length}
+use Rattle.test_sample.proofs.steps.settle_first.Given as goal
+
+abbrev pub invariant-loop : goal.invariant-loop
+invariant-loop g l = record {
+  root : l.paving.root ≡ l.initial.paving.root;
+  scratch : length l.scratch ≡ length l.initial.scratch;
+}
