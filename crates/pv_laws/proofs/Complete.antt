@@ -68,7 +68,7 @@ use Rattle.pv_request.specs.declared.status.Status.{Status}
 use Rattle.pv_opening.proofs.Joined.{any_left, any_right}
 use Rattle.pv_laws.proofs.Merges.{AreSameRules, same_fetched, same_held}
 use Rattle.pv_laws.proofs.Headline.{AreOneRule, few_constraints, read_one_rule}
-use Rattle.pv_laws.proofs.StatusLaws.{asking_is_not_refused}
+use Rattle.pv_laws.proofs.WordLaws.{asking_is_not_refused}
 use Rattle.pv_laws.proofs.Stored.{no_file_fault, stage_moves}
 
 -- ---- The system and its settings

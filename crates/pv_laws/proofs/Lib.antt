@@ -2,6 +2,7 @@ pub mod JoinedShares
 pub mod Merges
 pub mod Stocks
 pub mod StatusLaws
+pub mod WordLaws
 pub mod SampleLaws
 pub mod CampaignLaws
 pub mod Headline

@@ -16,7 +16,7 @@ use Rattle.pv_request.specs.declared.status.Status.{Status}
 use Rattle.pv_request.specs.declared.status.Status.TheVariants as status
 use Rattle.pv_slope.specs.declared.form.Form.{Form}
 use Rattle.pv_slope.specs.declared.form.Form.TheVariants.{Plain}
-use Rattle.pv_laws.proofs.StatusLaws.{AreOneCommand, ask_alike, asking_is_not_refused, command_of}
+use Rattle.pv_laws.proofs.WordLaws.{AreOneCommand, ask_alike, asking_is_not_refused, command_of}
 
 abbrev IsOfSample : Status → Type 0
 IsOfSample s = (s ≡ status.Done) ⊎ ((s ≡ status.WriteFault) ⊎ (s ≡ status.WantOfMemory))

@@ -1,4 +1,4 @@
-use Rattle.pv_laws.proofs.StatusLaws.{asking_is_not_refused, refused_words_end, usage_is_of_words}
+use Rattle.pv_laws.proofs.WordLaws.{asking_is_not_refused, refused_words_end, usage_is_of_words}
 use Rattle.pv_laws.proofs.laws.words.Goals as goal
 
 pub returns : goal.returns
