@@ -1,28 +1,12 @@
 //! What a growing paving, a walk over one and a settling promise.
-ghost use Rattle.std.specs.Prelude.{◌≡◌, if◌then◌else◌, is_ok, [], length, IfSome, Some, None};
+ghost use Rattle.std.specs.Prelude.{◌≡◌, if◌then◌else◌, is_ok, length, Some};
 ghost use Rattle.pv_tree.specs.Trees.{leaf, subtree};
-ghost use Rattle.pv_tree.specs.Holes.{IsNext};
-ghost use Rattle.pv_tree.specs.Pieces.{IsVisit};
 ghost use Rattle.pv_tree.specs.Stages.{settled_by};
 
 use pv_box::IBox;
 use pv_num::Memory;
-use pv_tree::{Growth, Path, Paving, Settler, Shape, Walk};
+use pv_tree::{Path, Paving, Settler, Walk};
 use std::alloc::Global;
-
-/// The leaf that comes next.
-pub fn next_leaf(growth: &Growth) -> Option<Path>
-    ensures { IfSome result (λ p. IsNext growth.now p) }
-{
-    growth.next_leaf()
-}
-
-/// Goes on to the next node in preorder.
-pub fn visit(walk: &mut Walk<'_>) -> Option<Shape>
-    ensures { IfSome result (λ s. IsVisit walk.old walk.new s) }
-{
-    walk.next()
-}
 
 /// Where a walk is.
 pub fn place(walk: &Walk<'_>) -> Path

@@ -1,33 +1,8 @@
 //! What pavings and their paths promise.
-ghost use Rattle.std.specs.Prelude.{◌≡◌, ◌+◌, ◌<◌, ◌≤◌, ◌++◌, [], ◌∷◌, if◌then◌else◌, is_ok, true, length, IfSome, OnErr, IsSome, Some};
-ghost use Rattle.pv_tree.specs.Trees.{leaf, subtree, graft, settled, Fits, HasDepth, box_of, shape_of, counts_of, settled_of, height, opens, first};
+ghost use Rattle.std.specs.Prelude.{◌≡◌, ◌+◌, ◌<◌, ◌++◌, [], ◌∷◌, true, length, IfSome};
+ghost use Rattle.pv_tree.specs.Trees.{leaf, subtree, shape_of, counts_of, opens, first};
 
-use pv_box::IBox;
-use pv_tree::{Counts, NodeLimit, Outcome, Path, Paving, PutRefused, Shape};
-
-/// Settles an open leaf.
-pub fn put(paving: &mut Paving, path: Path, outcome: Outcome) -> Result<(), PutRefused>
-    requires open { subtree paving.old.tree path ≡ Some leaf }
-    requires fits { Fits (box_of paving.old.root paving.old.tree path) outcome }
-    requires depth { HasDepth path outcome }
-    ensures tree { paving.new.tree ≡ (if is_ok result
-        then graft paving.old.tree path (settled outcome)
-        else paving.old.tree) }
-    ensures refused { OnErr result (paving.new.spare ≡ paving.old.spare) }
-{
-    paving.put(path, outcome)
-}
-
-/// Settles an open leaf and all below it as another paving has them.
-pub fn take_in(paving: &mut Paving, path: Path, stage: &Paving)
-    requires open { subtree paving.old.tree path ≡ Some leaf }
-    requires root { stage.now.root ≡ box_of paving.old.root paving.old.tree path }
-    requires depth { length path + height stage.now.tree ≤ 200 }
-    requires room { settled_of (counts_of stage.now.tree) ≤ paving.old.spare }
-    ensures { paving.new.tree ≡ graft paving.old.tree path stage.now.tree }
-{
-    paving.graft(path, stage);
-}
+use pv_tree::{Counts, NodeLimit, Path, Paving, Shape};
 
 /// The shape of a node.
 pub fn shape(paving: &Paving, path: Path) -> Shape
@@ -48,15 +23,6 @@ pub fn first_leaf(paving: &Paving) -> Option<Path>
     ensures { result ≡ first (opens paving.now.tree) }
 {
     paving.first_open()
-}
-
-/// The box of a node.
-pub fn write_box(paving: &Paving, path: Path, into: &mut IBox)
-    requires there { IsSome (subtree paving.now.tree path) }
-    requires dims { length into.old ≡ length paving.now.root }
-    ensures { into.new ≡ box_of paving.now.root paving.now.tree path }
-{
-    paving.box_at(path, into);
 }
 
 /// The path to the high child.
