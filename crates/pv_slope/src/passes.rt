@@ -153,20 +153,13 @@ fn step(on: &Tables<'_>, at: usize, i: u8, moving: &mut [bool], slopes: &mut [In
         moving.old slopes.old (node_at on.now.nodes.now at) }
 {
     let node = on.nodes[at];
+    let factors = on.factors;
     if !has_variable(node, i, moving) {
         learn_divisor(node, on.values);
         moving[at] = false;
         return;
     }
-    slopes[at] = slope(
-        node,
-        i,
-        on.factors[at],
-        on.values,
-        on.centres,
-        moving,
-        slopes,
-    );
+    slopes[at] = slope(node, i, factors[at], on.values, on.centres, moving, slopes);
     moving[at] = true;
 }
 
@@ -206,9 +199,10 @@ fn distance(on: &Tables<'_>, i: u8) -> Interval
     requires centred { AreOf (at_centre on.now.bx.now) on.now.nodes.now on.now.centres.now }
     ensures { result ≡ from_centre_of (place_of on.now.bx.now i) }
 {
+    let (values, centres) = (on.values, on.centres);
     for at in 0..on.nodes.len() {
         if reads_place(on.nodes[at], i) {
-            return on.values[at].sub(on.centres[at]);
+            return values[at].sub(centres[at]);
         }
     }
     from_centre(place(on.bx, i))

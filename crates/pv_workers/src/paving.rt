@@ -274,10 +274,11 @@ where
     ensures low { IfOk result (λ p. p.spent < 2 ^ 84) }
 {
     let places = opening.dims();
+    let workers = budget.workers;
     let ruled: Ruled<N, S> = Ruled::of(settler, places);
     let mut scratch = blank(alloc, places)?;
     let board = open_board(alloc, opening, budget)?;
-    let (mut board, spent) = run_crew(rt, alloc, &ruled, board, budget.workers, gate, blanks)?;
+    let (mut board, spent) = run_crew(rt, alloc, &ruled, board, workers, gate, blanks)?;
     let own = settle_rest(alloc, &ruled, gate, &mut board, &mut scratch)?;
     let paving = close(board)?;
     Ok(Paved {
