@@ -9,6 +9,7 @@ use crate::deque::{Owner, Thief};
 use pv_num::Memory;
 use pv_tree::Batch;
 use std::alloc::Global;
+use std::thread;
 
 /// What one worker works with: the end of its own deque, a way to each deque of the others, and the
 /// batch for the jobs that a job gives.
@@ -147,4 +148,21 @@ pub fn steal_once_round<J: Drop>(thieves: &mut [Thief<J>]) -> Option<J>
         }
     }
     None
+}
+
+/// Tries each thief once, and where all tried in vain up to `more` times again, with a pause before
+/// each.
+pub fn steal<J: Drop>(thieves: &mut [Thief<J>], more: u32) -> Option<J>
+    requires { MaySteal thieves.old }
+    ensures same { SameThieves thieves.old thieves.new }
+    ensures stolen { sum_by stolen_by thieves.new ≡
+        sum_by stolen_by thieves.old + length (option_to_list result) }
+{
+    for _turn in 0..more {
+        if let Some(job) = steal_once_round(thieves) {
+            return Some(job);
+        }
+        thread::yield_now();
+    }
+    steal_once_round(thieves)
 }

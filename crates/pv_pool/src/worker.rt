@@ -7,7 +7,7 @@ ghost use Rattle.pv_pool.specs.Benches.{own, drawn, put, MayWork, SameBench};
 ghost use Rattle.pv_tree.specs.declared.batch.TheConstants.{MOST_BATCH};
 ghost use Rattle.pv_tree.specs.Limits.{told_room};
 
-use crate::bench::{Bench, steal_once_round};
+use crate::bench::{Bench, steal};
 use crate::deque::Owner;
 use crate::work::{Idle, Work};
 use pv_tree::Batch;
@@ -15,6 +15,10 @@ use std::sync::Wait;
 
 // So many rounds a worker makes at most.
 const MOST_ROUNDS: u64 = 1 << 63;
+
+// So many times more a worker that has no job tries to steal one before it waits, some 50
+// microseconds: to wait and to be told costs about as much.
+const MORE_TRIES: u32 = 100;
 
 /// Works the jobs that it finds until it is told that all is done.
 pub fn run<W: Work, R: Wait>(
@@ -31,14 +35,21 @@ pub fn run<W: Work, R: Wait>(
         (drawn bench.new) (put bench.old) (put bench.new) }
 {
     let mut seen = 0;
+    let mut more = 0;
     let mut rounds: u64 = 0;
     for _ in rt.forever() {
         if rounds == MOST_ROUNDS {
             return;
         }
-        match find(rt, work, seen, bench, told) {
-            Idle::Job(job) => work_one(rt, work, number, job, bench, told),
-            Idle::Look(steps) => seen = steps,
+        match find(rt, work, seen, more, bench, told) {
+            Idle::Job(job) => {
+                work_one(rt, work, number, job, bench, told);
+                more = 0;
+            }
+            Idle::Look(steps) => {
+                seen = steps;
+                more = MORE_TRIES;
+            }
             Idle::Done => return,
         }
         rounds += 1;
@@ -46,11 +57,13 @@ pub fn run<W: Work, R: Wait>(
     unreachable!()
 }
 
-// A job of its own, or else one that it steals, or else one that it is handed.
+// A job of its own, or else one that it steals in `more` tries beside the first, or else one that
+// it is handed.
 fn find<W: Work, R: Wait>(
     rt: &R,
     work: &W,
     seen: u64,
+    more: u32,
     bench: &mut Bench<W::Job>,
     told: &mut W::Told,
 ) -> Idle<W::Job>
@@ -67,7 +80,7 @@ fn find<W: Work, R: Wait>(
     if let Some(job) = bench.owner.pop() {
         return Idle::Job(job);
     }
-    if let Some(job) = steal_once_round(&mut bench.thieves) {
+    if let Some(job) = steal(&mut bench.thieves, more) {
         return Idle::Job(job);
     }
     work.idle(rt, seen, told)
