@@ -133,5 +133,8 @@ where
     let frontier = Frontier::of(alloc, campaign.paving())?;
     let opening = campaign.into_paving();
     let grown = pave_in_order(rt, alloc, settler, opening, plan.order, plan.budget, gate)?;
-    Campaign::save_from(alloc, keeper, &frontier, grown, plan.budget.limit)
+    match Campaign::save_from(alloc, keeper, &frontier, grown, plan.budget.limit) {
+        Ok(next) => Ok(next),
+        Err(refused) => Err(refused),
+    }
 }
