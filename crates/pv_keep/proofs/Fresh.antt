@@ -1,6 +1,7 @@
 -- Where one tree grew from another, the rows that are new stand at and below the leaves that were open.
-use Rattle.std.proofs.Common.{◌≡◌, ℕ, suc, ◌+◌, ◌<◌, ◌≤◌, Bool, true, false, cond, Option, Some, None, List, [], ◌∷◌, ◌++◌, map, length, refl, sym, ◌∙◌, ap, subst, inl, arith, append_assoc, append-nil}
+use Rattle.std.proofs.Common.{◌≡◌, ℕ, suc, take, ◌+◌, ◌<◌, ◌≤◌, Bool, true, false, cond, Option, Some, None, List, [], ◌∷◌, ◌++◌, map, length, get_or, refl, sym, ◌∙◌, ap, subst, inl, arith, append_assoc, append-nil}
 use Rattle.std.specs.Prelude.{IsTrue}
+use Rattle.std.proofs.lemmas.List.{take_more}
 use Rattle.pv_interval.specs.Bounds.{Bounds}
 use Rattle.pv_num.specs.Extended.{Extended}
 use Rattle.pv_tree.specs.Trees.{Tree, leaf, removed, inner, small, cut, top, outcome_at, subtree, opens, first, behind, precedes, shape_of, to_at, height, box_of, to_of, Paves}
@@ -15,7 +16,7 @@ use Rattle.pv_join.proofs.Shapes.{top_there, outcome_top}
 use Rattle.pv_join.proofs.JoinFacts.{subtree_low, subtree_high}
 use Rattle.pv_keep.specs.declared.row.Row.{Row}
 use Rattle.pv_keep.specs.Rows.{rows_below, rows_of, row_at, row_of, IsShuffle}
-use Rattle.pv_keep.specs.Below.{is_a_cut, rows_there, rows_at}
+use Rattle.pv_keep.specs.Below.{is_a_cut, rows_there, rows_at, rows_from}
 use Rattle.pv_keep.proofs.Orders.{precedes_trans, not_back, itself_not}
 use Rattle.pv_keep.proofs.Shuffles.{shuffle_first, shuffle_second, shuffle_append}
 
@@ -105,11 +106,6 @@ from_next p (x ∷ xs) h = by (precedes p x) refl (from_next p xs h.1)
 
 -- ---- The rows below the leaves that were open are the new ones
 
--- the rows of a tree that stands at a path, at and below some paths in it
-abbrev pub rows_from : List Bool → Tree → List (List Bool) → List Row
-rows_from r t [] = []
-rows_from r t (p ∷ ps) = rows_there (r ++ p) (subtree t p) ++ rows_from r t ps
-
 module _ (r : List Bool) (to : List Bounds) (var : ℕ) (at : Extended) (low high : Tree) where
   rows_high : (ys : List (List Bool)) → rows_from r (cut to var at low high) (map (λ q. true ∷ q) ys) ≡ rows_from (r ++ true ∷ []) high ys
   rows_high [] = refl
@@ -154,25 +150,28 @@ shuffled r (cut to var at low high) (cut to' var' at' low' high') g =
           (shuffle_append _ _ _ _ _ _ (shuffled (r ++ false ∷ []) low low' (λ p o e. g (false ∷ p) o e)) (shuffled (r ++ true ∷ []) high high' (λ p o e. g (true ∷ p) o e))),
     )
 
+-- the rows below these leaves are the new ones, where they are the open leaves of what grew
+pub new_below : (s t : Tree) (ps : List (List Bool)) (rows : List Row) → Grows s t → ps ≡ opens s → rows ≡ rows_from [] t ps → IsShuffle (rows_of s) rows (rows_of t)
+new_below s t ps rows g e h = subst (λ (ys : List Row). IsShuffle (rows_of s) ys (rows_of t)) (sym (h ∙ ap (rows_from [] t) e)) (shuffled [] s t g)
+
 -- ---- One open leaf after the other
 
--- The rows so far, and those from the next open leaf on, are the new ones.
-abbrev pub AreSoFar : Tree → Tree → List Row → Option (List Bool) → Type 0
-AreSoFar s t rows next = rows ++ rows_from [] t (from next (opens s)) ≡ rows_from [] t (opens s)
+-- The leaves so far, and those from the next one on, are all.
+abbrev pub AreSoFar : Tree → List (List Bool) → Option (List Bool) → Type 0
+AreSoFar s so_far next = so_far ++ from next (opens s) ≡ opens s
 
-pub so_far_first : (s t : Tree) (rows : List Row) (next : Option (List Bool)) → rows ≡ [] → next ≡ first (opens s) → AreSoFar s t rows next
-so_far_first s t rows next e f =
-    (λ i. e i ++ rows_from [] t (from (f i) (opens s))) ∙ ap (rows_from [] t) (from_first (opens s) (opens_sorted s))
+pub so_far_first : (s : Tree) (so_far : List (List Bool)) (next : Option (List Bool)) → so_far ≡ [] → next ≡ first (opens s) → AreSoFar s so_far next
+so_far_first s so_far next e f = (λ i. e i ++ from (f i) (opens s)) ∙ from_first (opens s) (opens_sorted s)
 
-pub behind_is : (s : Tree) (p : List Bool) (next : Option (List Bool)) → next ≡ first (behind p (opens s)) → from next (opens s) ≡ behind p (opens s)
+behind_is : (s : Tree) (p : List Bool) (next : Option (List Bool)) → next ≡ first (behind p (opens s)) → from next (opens s) ≡ behind p (opens s)
 behind_is s p next e = ap (λ (o : Option (List Bool)). from o (opens s)) e ∙ from_next p (opens s) (opens_sorted s)
 
-pub so_far_next : (s t : Tree) (rows more : List Row) (now next : Option (List Bool)) (p : List Bool) → AreSoFar s t rows now → now ≡ Some p → more ≡ rows ++ rows_at t p → next ≡ first (behind p (opens s))
-    → AreSoFar s t more next
-so_far_next s t rows more now next p h n m e =
-    (λ i. m i ++ rows_from [] t (behind_is s p next e i))
-    ∙ append_assoc rows (rows_at t p) (rows_from [] t (behind p (opens s)))
-    ∙ subst (λ (o : Option (List Bool)). AreSoFar s t rows o) n h
+pub so_far_next : (s : Tree) (so_far more : List (List Bool)) (now next : Option (List Bool)) (p : List Bool) → AreSoFar s so_far now → now ≡ Some p → more ≡ so_far ++ p ∷ [] → next ≡ first (behind p (opens s))
+    → AreSoFar s more next
+so_far_next s so_far more now next p h n m e =
+    (λ i. m i ++ behind_is s p next e i)
+    ∙ append_assoc so_far (p ∷ []) (behind p (opens s))
+    ∙ subst (λ (o : Option (List Bool)). AreSoFar s so_far o) n h
 
 pub fewer_left : (s : Tree) (now next : Option (List Bool)) (p : List Bool) → now ≡ Some p → next ≡ first (behind p (opens s)) → length (from next (opens s)) < length (from now (opens s))
 fewer_left s now next p n e =
@@ -180,10 +179,21 @@ fewer_left s now next p n e =
     let more : length (from now (opens s)) ≡ suc (length (behind p (opens s))) = ap (λ (o : Option (List Bool)). length (from o (opens s))) n in
     omega (arith, less, more)
 
-pub all_so_far : (s t : Tree) (rows : List Row) (next : Option (List Bool)) → Grows s t → AreSoFar s t rows next → next ≡ None → IsShuffle (rows_of s) rows (rows_of t)
-all_so_far s t rows next g h e =
-    let last : rows ++ [] ≡ rows_from [] t (opens s) = subst (λ (o : Option (List Bool)). AreSoFar s t rows o) e h in
-    subst (λ (ys : List Row). IsShuffle (rows_of s) ys (rows_of t)) (sym last ∙ append-nil rows) (shuffled [] s t g)
+pub all_so_far : (s : Tree) (so_far : List (List Bool)) (next : Option (List Bool)) → AreSoFar s so_far next → next ≡ None → so_far ≡ opens s
+all_so_far s so_far next h e = sym (append-nil so_far) ∙ subst (λ (o : Option (List Bool)). AreSoFar s so_far o) e h
+
+-- the rows of one leaf more
+pub rows_on : (t : Tree) (ps : List (List Bool)) (p : List Bool) → rows_from [] t (ps ++ p ∷ []) ≡ rows_from [] t ps ++ rows_at t p
+rows_on t [] p = append-nil (rows_at t p)
+rows_on t (q ∷ qs) p = ap (λ (ws : List Row). rows_at t q ++ ws) (rows_on t qs p) ∙ sym (append_assoc (rows_at t q) (rows_from [] t qs) (rows_at t p))
+
+-- the rows below the first leaves, with those below one leaf more
+pub rows_next : (t : Tree) (ps qs : List (List Bool)) (p : List Bool) (i : ℕ) (rows more : List Row) → qs ≡ ps → i < length qs → p ≡ get_or qs i p → rows ≡ rows_from [] t (take i ps) → more ≡ rows ++ rows_at t p
+    → more ≡ rows_from [] t (take (i + 1) ps)
+rows_next t ps qs p i rows more same l at h m =
+    let next : take (i + 1) qs ≡ take i qs ++ p ∷ [] = take_more qs i p l ∙ ap (λ (q : List Bool). take i qs ++ q ∷ []) (sym at) in
+    let all : take (i + 1) ps ≡ take i ps ++ p ∷ [] = subst (λ (rs : List (List Bool)). take (i + 1) rs ≡ take i rs ++ p ∷ []) same next in
+    m ∙ ap (λ (ws : List Row). ws ++ rows_at t p) h ∙ sym (rows_on t (take i ps) p) ∙ ap (rows_from [] t) (sym all)
 
 -- ---- The rows at and below a path
 

@@ -1,8 +1,8 @@
 -- What opening a campaign and saving a round leave of a name.
-use Rattle.std.specs.Prelude.{◌≡◌, ◌⊎◌, ℕ, ◌<◌, ◌≤◌, List, [], length}
+use Rattle.std.specs.Prelude.{◌≡◌, ◌⊎◌, ℕ, ◌<◌, ◌≤◌, Bool, List, [], length, Option, Some}
 use Rattle.pv_interval.specs.Bounds.{Bounds}
-use Rattle.pv_tree.specs.Trees.{Tree, leaf}
-use Rattle.pv_tree.specs.Stages.{Rule, IsStage}
+use Rattle.pv_tree.specs.Trees.{Tree, leaf, opens}
+use Rattle.pv_tree.specs.Stages.{Rule, Grows, IsStage}
 use Rattle.pv_keep.specs.Rows.{rows_of}
 use Rattle.pv_keep.specs.Keeping.{Kept, untold, absent, holds}
 use Rattle.pv_keep.specs.Rebuilding.{Make, IsFirstBad}
@@ -52,3 +52,10 @@ pub record AreStages (b : List Bounds) (s t : Tree) : Type 0 where
   pub opening : Tree
   pub first : IsStage rule depth b opening s
   pub second : IsStage rule depth b opening t
+
+-- A tree grew from one whose open leaves were these and whose rows are told of the name that is begun.
+pub record HasGrown (begun : Option (List ℕ)) (kept : List ℕ → Kept) (open_leaves : List (List Bool)) (t : Tree) : Type 0 where
+  pub earlier : Tree
+  pub leaves : open_leaves ≡ opens earlier
+  pub grows : Grows earlier t
+  pub keeps : (name : List ℕ) → begun ≡ Some name → KeepsTree (kept name) earlier

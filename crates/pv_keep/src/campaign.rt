@@ -1,15 +1,16 @@
 //! Campaigns.
 ghost use Rattle.std.specs.Prelude.{◌≡◌, ◌≢◌, ◌+◌, ◌≤◌, ℕ, List, Some, Err, IsSome, IfOk, OnOk, OnErr, IsErrOf};
 ghost use Rattle.pv_io.specs.Outside.{Rose};
-ghost use Rattle.pv_tree.specs.Trees.{Tree};
+ghost use Rattle.pv_tree.specs.Trees.{Tree, opens};
 ghost use Rattle.pv_tree.specs.Stages.{Grows, Rule, IsStage};
 ghost use Rattle.pv_file.specs.Readings.{settled_count};
 ghost use Rattle.pv_join.specs.Joins.{IsJoin};
 ghost use Rattle.pv_keep.specs.Holdings.{seen_of};
 ghost use Rattle.pv_keep.specs.Keeping.{HasOther};
-ghost use Rattle.pv_keep.specs.Campaigns.{IsOpened, IsLeft, HasTooMany, HasBadRow, KeepsTree, IsSaved, AreStages};
+ghost use Rattle.pv_keep.specs.Campaigns.{IsOpened, IsLeft, HasTooMany, HasBadRow, KeepsTree, IsSaved, AreStages, HasGrown};
 ghost use Rattle.pv_tree.specs.declared.limit.TheConstants.{LEAST_LIMIT};
 
+use crate::frontier::Frontier;
 use crate::keeper::Keeper;
 use crate::new_rows::new_rows;
 use crate::rebuild::rebuild;
@@ -172,7 +173,8 @@ impl Campaign {
             Ok(joined) => joined,
             Err(refused) => return Err(refused),
         };
-        let count = match keep_new(alloc, keeper, &self.paving, &joined) {
+        let frontier = Frontier::of(alloc, &self.paving)?;
+        let count = match keep_new(alloc, keeper, &frontier, &joined) {
             Ok(count) => count,
             Err(refused) => return Err(refused),
         };
@@ -180,34 +182,34 @@ impl Campaign {
         Ok(count)
     }
 
-    /// Takes a paving that the campaign's grew to in its place, which is the join of the two, keeps the
-    /// rows of the nodes that are settled in it and were open, and answers their number. It takes time for these nodes and for
-    /// the leaves that were open, and none for what was settled. After a refusal the campaign and the
+    /// The paving, which may grow then. The campaign ends: `save_from` goes on with what it grew to.
+    pub fn into_paving(self) -> Paving
+        ensures is { result ≡ seen_of self }
+    {
+        self.paving
+    }
+
+    /// The campaign of a paving that grew from the tree whose rows are kept. It keeps the rows of the
+    /// nodes that are settled in it and were open, which stand at and below the leaves that were open.
+    /// It takes time for these nodes and leaves, and none for what was settled. After a refusal the
     /// kept rows are as before.
-    #[tactic(auto, using(crate::proofs::Opening::grown_join))]
-    pub fn save_grown<P: Keeper>(
-        &mut self,
+    pub fn save_from<P: Keeper>(
         alloc: Global,
         keeper: &mut P,
+        frontier: &Frontier,
         grown: Paving,
-    ) -> Result<u64, IoRefused>
-        requires root { grown.root ≡ self.old.root }
-        requires grows { Grows self.old.tree grown.tree }
-        requires few { settled_count grown.tree ≤ self.old.limit }
+        limit: NodeLimit,
+    ) -> Result<Campaign, IoRefused>
+        requires few { settled_count grown.tree ≤ limit }
         requires begun { IsSome (P.begun keeper.old) }
-        requires kept { (name : List ℕ) → P.begun keeper.old ≡ Some name
-            → KeepsTree (P.kept keeper.old name) self.old.tree }
-        ensures root { self.new.root ≡ self.old.root }
-        ensures limit { self.new.limit ≡ self.old.limit }
-        ensures taken { OnOk result (self.new.tree ≡ grown.tree) }
-        ensures joined { OnOk result (IsJoin self.old.tree grown.tree self.new.tree) }
-        ensures count { IfOk result (λ n. settled_count self.new.tree ≡
-            settled_count self.old.tree + n) }
-        ensures unchanged { OnErr result (self.new ≡ self.old) }
+        requires grown { HasGrown (P.begun keeper.old) (P.kept keeper.old) frontier.now grown.tree }
+        ensures root { IfOk result (λ c. c.root ≡ grown.root) }
+        ensures limit { IfOk result (λ c. c.limit ≡ limit) }
+        ensures taken { IfOk result (λ c. c.tree ≡ grown.tree) }
         ensures saved { (name : List ℕ) → P.begun keeper.old ≡ Some name
-            → OnOk result (IsSaved (P.kept keeper.old name) (P.kept keeper.new name) self.new.tree) }
+            → OnOk result (IsSaved (P.kept keeper.old name) (P.kept keeper.new name) grown.tree) }
         ensures kept { (name : List ℕ) → P.begun keeper.old ≡ Some name
-            → KeepsTree (P.kept keeper.new name) self.new.tree }
+            → OnOk result (KeepsTree (P.kept keeper.new name) grown.tree) }
         ensures kept_on { (name : List ℕ) → P.begun keeper.old ≡ Some name
             → OnErr result (P.kept keeper.new name ≡ P.kept keeper.old name) }
         ensures others { (name other : List ℕ) → P.begun keeper.old ≡ Some name
@@ -217,12 +219,14 @@ impl Campaign {
             → Rose (P.faults keeper.old) (P.faults keeper.new) }
         ensures counts_on { P.faults keeper.old ≤ P.faults keeper.new }
     {
-        let count = match keep_new(alloc, keeper, &self.paving, &grown) {
-            Ok(count) => count,
+        match keep_new(alloc, keeper, frontier, &grown) {
+            Ok(_) => {}
             Err(refused) => return Err(refused),
-        };
-        self.paving = grown;
-        Ok(count)
+        }
+        Ok(Campaign {
+            paving: grown,
+            limit,
+        })
     }
 
     #[tactic(auto, using(crate::proofs::Opening::joined_grows))]
@@ -246,20 +250,19 @@ impl Campaign {
     }
 }
 
-// Keeps the rows of the nodes that are settled in a paving and were open in an earlier stage of it,
-// and answers their number.
+// Keeps the rows of the nodes of a paving that stand at and below leaves that were open when its
+// earlier stage was kept, and answers their number.
 fn keep_new<P: Keeper>(
     alloc: Global,
     keeper: &mut P,
-    earlier: &Paving,
+    frontier: &Frontier,
     later: &Paving,
 ) -> Result<u64, IoRefused>
-    requires grows { Grows earlier.now.tree later.now.tree }
     requires begun { IsSome (P.begun keeper.old) }
-    requires kept { (name : List ℕ) → P.begun keeper.old ≡ Some name
-        → KeepsTree (P.kept keeper.old name) earlier.now.tree }
-    ensures count { IfOk result (λ n. settled_count later.now.tree ≡
-        settled_count earlier.now.tree + n) }
+    requires grown { HasGrown (P.begun keeper.old) (P.kept keeper.old) frontier.now later.now.tree }
+    ensures count { IfOk result (λ n. (earlier : Tree) → frontier.now ≡ opens earlier
+        → Grows earlier later.now.tree
+        → settled_count later.now.tree ≡ settled_count earlier + n) }
     ensures saved { (name : List ℕ) → P.begun keeper.old ≡ Some name
         → OnOk result (IsSaved (P.kept keeper.old name) (P.kept keeper.new name) later.now.tree) }
     ensures kept { (name : List ℕ) → P.begun keeper.old ≡ Some name
@@ -273,7 +276,7 @@ fn keep_new<P: Keeper>(
         → Rose (P.faults keeper.old) (P.faults keeper.new) }
     ensures counts_on { P.faults keeper.old ≤ P.faults keeper.new }
 {
-    let rows = new_rows(alloc, earlier, later)?;
+    let rows = new_rows(alloc, frontier, later)?;
     match keeper.save(&rows) {
         Ok(()) => {}
         Err(refused) => return Err(refused),

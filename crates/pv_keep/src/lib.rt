@@ -6,6 +6,7 @@
 #![tactic(auto)]
 
 mod campaign;
+mod frontier;
 mod keeper;
 mod kept_rows;
 pub mod laws;
@@ -18,6 +19,7 @@ mod refusal;
 mod row;
 
 pub use campaign::Campaign;
+pub use frontier::Frontier;
 pub use keeper::{BeginRefused, KeepRefused, Keeper, LoadRefused};
 pub use line::Line;
 pub use mem_keeper::MemKeeper;

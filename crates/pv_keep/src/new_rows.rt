@@ -1,14 +1,14 @@
 //! The rows of nodes that a round settled.
-ghost use Rattle.std.specs.Prelude.{◌≡◌, ◌<◌, ◌≤◌, ◌++◌, IfOk, IfSome, IsSome, OnOk, Some, length, drop};
+ghost use Rattle.std.specs.Prelude.{◌≡◌, [], ◌<◌, ◌≤◌, ◌++◌, IfOk, IfSome, IsSome, OnOk, Some, length, drop};
 ghost use Rattle.pv_tree.specs.Trees.{outcome_at, subtree, to_at, shape_of};
-ghost use Rattle.pv_tree.specs.Stages.{Grows};
 ghost use Rattle.pv_file.specs.Lines.{outcome_line};
 ghost use Rattle.pv_file.specs.Readings.{HaveNumberEnds};
-ghost use Rattle.pv_keep.specs.Rows.{IsShuffle, rows_of, row_of};
-ghost use Rattle.pv_keep.specs.Below.{is_a_cut, rows_at};
+ghost use Rattle.pv_keep.specs.Rows.{row_of};
+ghost use Rattle.pv_keep.specs.Below.{is_a_cut, rows_at, rows_from};
 ghost use Rattle.pv_box.specs.declared.boxes.TheConstants.{MOST_PLACES};
 ghost use Rattle.pv_file.specs.declared.writer.TheConstants.{LONGEST_LINE};
 
+use crate::frontier::Frontier;
 use crate::line::Line;
 use crate::row::{Row, Rows};
 use pv_box::IBox;
@@ -19,18 +19,14 @@ use pv_num::laws::is_number;
 use pv_tree::{Outcome, Path, Paving, Shape};
 use std::alloc::Global;
 
-/// The rows of the nodes that are settled in a paving and were open in an earlier stage of it. It
-/// takes time for these nodes and for the earlier stage's open leaves, and none for what was settled.
-pub(crate) fn new_rows(alloc: Global, earlier: &Paving, later: &Paving) -> Result<Rows, Memory>
-    requires { Grows earlier.now.tree later.now.tree }
-    ensures { IfOk result (λ rows.
-        IsShuffle (rows_of earlier.now.tree) rows (rows_of later.now.tree)) }
+/// The rows of the settled nodes of a paving at and below the leaves that were open in an earlier
+/// stage of it. It takes time for these nodes and leaves, and none for what was settled.
+pub(crate) fn new_rows(alloc: Global, frontier: &Frontier, later: &Paving) -> Result<Rows, Memory>
+    ensures { IfOk result (λ rows. rows ≡ rows_from [] later.now.tree frontier.now) }
 {
     let mut rows = Rows::new(alloc);
-    let mut open = earlier.first_open();
-    while let Some(path) = open {
-        push_below(alloc, later, path, &mut rows)?;
-        open = earlier.next_open(path);
+    for path in frontier.leaves() {
+        push_below(alloc, later, *path, &mut rows)?;
     }
     Ok(rows)
 }

@@ -117,12 +117,12 @@ where
         root,
     } = subject;
     let (nodes, limit) = (plan.nodes(), plan.budget.limit);
-    let mut campaign = match open_kept(alloc, keeper, name, identity, root, nodes, limit) {
+    let campaign = match open_kept(alloc, keeper, name, identity, root, nodes, limit) {
         Ok(campaign) => campaign,
         Err(refused) => return Err(refused),
     };
-    match go_on(rt, alloc, settler, &mut campaign, keeper, plan, gate) {
-        Ok(()) => Ok(campaign),
+    match go_on(rt, alloc, settler, campaign, keeper, plan, gate) {
+        Ok(campaign) => Ok(campaign),
         Err(refused) => Err(refused.into()),
     }
 }

@@ -10,8 +10,7 @@ ghost use Rattle.pv_rounds.specs.Going.{AddUp, HasGoneOn, HasStopped};
 
 use crate::plan::Plan;
 use pv_io::IoRefused;
-use pv_keep::{Campaign, Keeper};
-use pv_num::Memory;
+use pv_keep::{Campaign, Frontier, Keeper};
 use pv_pool::Gate;
 use pv_scope::pave_in_order;
 use pv_tree::{KnowingSettler, Paving, Settler};
@@ -35,7 +34,8 @@ pub fn learn_rounds<S: Settler>(paving: &Paving, settler: &S)
 
 /// Goes on with a campaign, round by round, until the plan's rounds are over or no leaf is open.
 /// Each round is saved before the next one begins, so what is kept after a refusal is what the
-/// rounds before it left.
+/// rounds before it left. A refusal ends the campaign, since its paving grows in place: who opens
+/// it again goes on from what is kept.
 ///
 /// # Errors
 ///
@@ -44,31 +44,31 @@ pub fn go_on<P: Keeper, S: KnowingSettler + Sync, G: Gate + Sync, R: Threads + W
     rt: &R,
     alloc: Global,
     settler: &S,
-    campaign: &mut Campaign,
+    campaign: Campaign,
     keeper: &mut P,
     plan: &Plan,
     gate: &G,
-) -> Result<(), IoRefused>
+) -> Result<Campaign, IoRefused>
 where
     S::Room: Send,
     S::Known: Send,
-    requires dims { length campaign.old.root ≡ S.dims settler.now }
-    requires limit { campaign.old.limit ≡ plan.now.budget.limit }
-    requires few { settled_in campaign.old.tree + plan.now.count * plan.now.budget.nodes ≤
+    requires dims { length campaign.root ≡ S.dims settler.now }
+    requires limit { campaign.limit ≡ plan.now.budget.limit }
+    requires few { settled_in campaign.tree + plan.now.count * plan.now.budget.nodes ≤
         plan.now.budget.limit }
     requires begun { IsSome (P.begun keeper.old) }
     requires kept { (name : List ℕ) → P.begun keeper.old ≡ Some name
-        → KeepsTree (P.kept keeper.old name) campaign.old.tree }
-    ensures root { campaign.new.root ≡ campaign.old.root }
-    ensures limit { campaign.new.limit ≡ campaign.old.limit }
-    ensures gone { (name : List ℕ) → P.begun keeper.old ≡ Some name → OnOk result
-        (HasGoneOn (S.settle_of settler.now) (S.depth_of settler.now) campaign.old.root
-        plan.now.order campaign.old.tree (plan.now.count * plan.now.budget.nodes)
+        → KeepsTree (P.kept keeper.old name) campaign.tree }
+    ensures root { IfOk result (λ c. c.root ≡ campaign.root) }
+    ensures limit { IfOk result (λ c. c.limit ≡ campaign.limit) }
+    ensures gone { (name : List ℕ) → P.begun keeper.old ≡ Some name → IfOk result (λ c.
+        HasGoneOn (S.settle_of settler.now) (S.depth_of settler.now) campaign.root
+        plan.now.order campaign.tree (plan.now.count * plan.now.budget.nodes)
         (P.kept keeper.old name)
-        (P.kept keeper.new name) campaign.new.tree) }
+        (P.kept keeper.new name) c.tree) }
     ensures stopped { (name : List ℕ) → P.begun keeper.old ≡ Some name → OnErr result
-        (HasStopped (S.settle_of settler.now) (S.depth_of settler.now) campaign.old.root
-        plan.now.order campaign.old.tree plan.now.budget.nodes plan.now.count
+        (HasStopped (S.settle_of settler.now) (S.depth_of settler.now) campaign.root
+        plan.now.order campaign.tree plan.now.budget.nodes plan.now.count
         (P.kept keeper.old name)
         (P.kept keeper.new name)) }
     ensures cause { IsErrOf result IoRefused.Failed
@@ -78,16 +78,17 @@ where
     ensures counts_on { P.faults keeper.old ≤ P.faults keeper.new }
 {
     learn_rounds(campaign.paving(), settler);
+    let mut held = campaign;
     for _ in 0..plan.count {
-        if campaign.paving().first_open().is_none() {
-            return Ok(());
+        if held.paving().first_open().is_none() {
+            return Ok(held);
         }
-        match round(rt, alloc, settler, campaign, keeper, plan, gate) {
-            Ok(()) => {}
+        match round(rt, alloc, settler, held, keeper, plan, gate) {
+            Ok(next) => held = next,
             Err(refused) => return Err(refused),
         }
     }
-    Ok(())
+    Ok(held)
 }
 
 // Settles what the budget allows of a campaign's paving, and saves it.
@@ -95,33 +96,31 @@ fn round<P: Keeper, S: KnowingSettler + Sync, G: Gate + Sync, R: Threads + Wait 
     rt: &R,
     alloc: Global,
     settler: &S,
-    campaign: &mut Campaign,
+    campaign: Campaign,
     keeper: &mut P,
     plan: &Plan,
     gate: &G,
-) -> Result<(), IoRefused>
+) -> Result<Campaign, IoRefused>
 where
     S::Room: Send,
     S::Known: Send,
-    requires dims { length campaign.old.root ≡ S.dims settler.now }
-    requires limit { campaign.old.limit ≡ plan.now.budget.limit }
-    requires few { settled_in campaign.old.tree + plan.now.budget.nodes ≤ plan.now.budget.limit }
+    requires dims { length campaign.root ≡ S.dims settler.now }
+    requires limit { campaign.limit ≡ plan.now.budget.limit }
+    requires few { settled_in campaign.tree + plan.now.budget.nodes ≤ plan.now.budget.limit }
     requires begun { IsSome (P.begun keeper.old) }
     requires kept { (name : List ℕ) → P.begun keeper.old ≡ Some name
-        → KeepsTree (P.kept keeper.old name) campaign.old.tree }
-    ensures root { campaign.new.root ≡ campaign.old.root }
-    ensures limit { campaign.new.limit ≡ campaign.old.limit }
-    ensures paved { OnOk result
-        (IsPaved (S.settle_of settler.now) (S.depth_of settler.now)
-        campaign.old.root campaign.old.tree plan.now.budget.nodes campaign.new.tree) }
-    ensures ordered { OnOk result
-        (IsInOrder plan.now.order campaign.old.tree campaign.new.tree) }
+        → KeepsTree (P.kept keeper.old name) campaign.tree }
+    ensures root { IfOk result (λ c. c.root ≡ campaign.root) }
+    ensures limit { IfOk result (λ c. c.limit ≡ campaign.limit) }
+    ensures paved { IfOk result (λ c.
+        IsPaved (S.settle_of settler.now) (S.depth_of settler.now)
+        campaign.root campaign.tree plan.now.budget.nodes c.tree) }
+    ensures ordered { IfOk result (λ c. IsInOrder plan.now.order campaign.tree c.tree) }
     ensures saved { (name : List ℕ) → P.begun keeper.old ≡ Some name
-        → OnOk result
-        (IsSaved (P.kept keeper.old name) (P.kept keeper.new name) campaign.new.tree) }
+        → IfOk result (λ c.
+        IsSaved (P.kept keeper.old name) (P.kept keeper.new name) c.tree) }
     ensures kept { (name : List ℕ) → P.begun keeper.old ≡ Some name
-        → KeepsTree (P.kept keeper.new name) campaign.new.tree }
-    ensures unchanged { OnErr result (campaign.new ≡ campaign.old) }
+        → IfOk result (λ c. KeepsTree (P.kept keeper.new name) c.tree) }
     ensures kept_on { (name : List ℕ) → P.begun keeper.old ≡ Some name
         → OnErr result (P.kept keeper.new name ≡ P.kept keeper.old name) }
     ensures others { (name other : List ℕ) → P.begun keeper.old ≡ Some name
@@ -131,33 +130,11 @@ where
         → Rose (P.faults keeper.old) (P.faults keeper.new) }
     ensures counts_on { P.faults keeper.old ≤ P.faults keeper.new }
 {
-    let stage = stage_of(rt, alloc, settler, campaign.paving(), plan, gate)?;
-    match campaign.save_grown(alloc, keeper, stage) {
-        Ok(_) => Ok(()),
+    let frontier = Frontier::of(alloc, campaign.paving())?;
+    let opening = campaign.into_paving();
+    let grown = pave_in_order(rt, alloc, settler, opening, plan.order, plan.budget, gate)?;
+    match Campaign::save_from(alloc, keeper, &frontier, grown, plan.budget.limit) {
+        Ok(next) => Ok(next),
         Err(refused) => Err(refused),
     }
-}
-
-// What the budget settles of a paving, in the plan's order.
-fn stage_of<S: KnowingSettler + Sync, G: Gate + Sync, R: Threads + Wait + Sync>(
-    rt: &R,
-    alloc: Global,
-    settler: &S,
-    opening: &Paving,
-    plan: &Plan,
-    gate: &G,
-) -> Result<Paving, Memory>
-where
-    S::Room: Send,
-    S::Known: Send,
-    requires dims { length opening.now.root ≡ S.dims settler.now }
-    requires few { settled_in opening.now.tree + plan.now.budget.nodes ≤ plan.now.budget.limit }
-    ensures root { IfOk result (λ p. p.root ≡ opening.now.root) }
-    ensures paved { IfOk result
-        (λ p. IsPaved (S.settle_of settler.now) (S.depth_of settler.now)
-        opening.now.root opening.now.tree plan.now.budget.nodes p.tree) }
-    ensures ordered { IfOk result (λ p. IsInOrder plan.now.order opening.now.tree p.tree) }
-{
-    let opening = opening.clone_of(alloc)?;
-    pave_in_order(rt, alloc, settler, opening, plan.order, plan.budget, gate)
 }

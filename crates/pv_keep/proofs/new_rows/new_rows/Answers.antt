@@ -1,21 +1,6 @@
-use Rattle.pv_keep.proofs.Fresh.{so_far_first, so_far_next, fewer_left, all_so_far}
+use Rattle.pv_keep.proofs.Fresh.{rows_next}
 use Rattle.pv_keep.proofs.new_rows.new_rows.Goals as goal
 
-pub loop-open-init : goal.loop-open-init
-loop-open-init c = record {
-  there = c.first_open-open.ensures.is_open;
-  so_far = so_far_first c.args.earlier.now.tree c.args.later.now.tree c.new-rows.result c.first_open-open.result c.new-rows.ensures c.first_open-open.ensures.first;
-}
-
-pub loop-open-preserved : goal.loop-open-preserved
-loop-open-preserved c = record {
-  there = c.next_open-open.ensures.is_open;
-  so_far = so_far_next c.args.earlier.now.tree c.args.later.now.tree c.loop-open.rows c.push_below.new.rows c.loop-open.open c.next_open-open.result c.in-Some.path
-      c.loop-open.invariant.so_far c.in-Some.is c.in_ok-push_below.ensures c.next_open-open.ensures.next;
-}
-
-pub returns : goal.returns
-returns c = all_so_far c.args.earlier.now.tree c.args.later.now.tree c.loop-open.rows c.loop-open.open c.requires c.loop-open.invariant.so_far c.in_default.is
-
-pub loop-open-smaller : goal.loop-open-smaller
-loop-open-smaller c = fewer_left c.args.earlier.now.tree c.loop-open.open c.next_open-open.result c.in-Some.path c.in-Some.is c.next_open-open.ensures.next
+pub loop-path-preserved : goal.loop-path-preserved
+loop-path-preserved c = rows_next c.args.later.now.tree c.args.frontier.now c.leaves-path-items.result.now c.path-item.result c.loop-path.path-index c.loop-path.rows c.push_below.new.rows
+    c.leaves-path-items.ensures c.loop-path-test.true c.path-item.is c.loop-path.invariant c.in_ok-push_below.ensures

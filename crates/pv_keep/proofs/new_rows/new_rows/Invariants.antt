@@ -1,14 +1,6 @@
-use Rattle.std.proofs.Common.{◌≡◌, Some, length}
-use Rattle.std.specs.Prelude.{IfSome}
-use Rattle.pv_tree.specs.Trees.{leaf, subtree, opens}
-use Rattle.pv_keep.proofs.Fresh.{from, AreSoFar}
+use Rattle.std.proofs.Common.{◌≡◌, [], take}
+use Rattle.pv_keep.specs.Below.{rows_from}
 use Rattle.pv_keep.proofs.new_rows.new_rows.Given as goal
 
-abbrev pub invariant-loop-open : goal.invariant-loop-open
-invariant-loop-open l = record {
-  there : IfSome l.open (λ p. subtree l.earlier.tree p ≡ Some leaf);
-  so_far : AreSoFar l.earlier.tree l.later.tree l.rows l.open;
-}
-
-abbrev pub decreases-loop-open : goal.decreases-loop-open
-decreases-loop-open l = length (from l.open (opens l.earlier.tree))
+abbrev pub invariant-loop-path : goal.invariant-loop-path
+invariant-loop-path l = l.rows ≡ rows_from [] l.later.tree (take l.path-index l.frontier)

@@ -15,10 +15,10 @@ pub loop-preserved : goal.loop-preserved
 loop-preserved g c =
     let settle = g.S.Settler.settle_of c.args.settler.now in
     let depth = g.S.Settler.depth_of c.args.settler.now in
-    let b = c.args.campaign.now.root in
-    let opening = c.args.campaign.now.tree in
-    let middle = c.loop.campaign.tree in
-    let t = c.round.new.campaign.tree in
+    let b = c.args.campaign.root in
+    let opening = c.args.campaign.tree in
+    let middle = c.loop.held.tree in
+    let t = c.in-Ok.next.tree in
     let spent = c.loop.counter * c.args.plan.now.budget.nodes in
     let up : AddUp settle depth b = subst (λ (p : Seen). AddUp settle depth p.root) c.paving.ensures.is c.learn_rounds.ensures.further in
     let nothing : IsPaved settle depth b opening 0 opening = subst (λ (p : Seen). IsPaved settle depth p.root p.tree 0 p.tree) c.paving.ensures.is c.learn_rounds.ensures.none in
