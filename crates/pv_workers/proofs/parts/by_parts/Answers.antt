@@ -15,7 +15,7 @@ loop-round-init g c =
       root = refl;
       stage = record { grown = grows_self o; grows = full_grows (g.S.Settler.settle_of s) (g.S.Settler.depth_of s) c.args.opening.root o 0 };
       count = refl;
-      some = c.requires.some;
+      some = c.args.budget.some;
       few = omega arith;
       spent = omega arith;
       least = omega arith;
@@ -27,7 +27,7 @@ loop-round-preserved g c =
     let s = c.args.settler.now in let rule = g.S.Settler.settle_of s in let depth = g.S.Settler.depth_of s in
     let b = c.args.opening.root in let o = c.args.opening.tree in
     let m = c.loop-round.paved.paving.tree in let t = c.in_ok-next.next.paving.tree in
-    let h = c.loop-round.invariant in let n = c.in_ok-next.ensures in let part = c.part_of-part.ensures in
+    let h = c.loop-round.invariant in let n = c.in_ok-next.ensures in let part = c.part_of-nodes.ensures in
     let same : c.in_ok-next.next.paving.root ≡ b = n.root ∙ h.root in
     let z = c.if-left-eq0.false in let f = part.few in let k = part.some in let w = h.few in let u = h.spent in let v = n.spent in let l = h.low in let x = n.low in let e = h.least in let d = n.least in
     record {
@@ -36,7 +36,7 @@ loop-round-preserved g c =
           (c.learn_paved.ensures.stages o m (subst (λ (y : List Bounds). Paves y o) (sym same) c.dims-places.ensures.paving.paves)
           (subst (λ (y : List Bounds). IsStage rule depth y o m) (sym same) h.stage)
           (subst (λ (y : List Bounds). IsStage rule depth y m t) (sym n.root) n.stage));
-      count = more_parts c.part_of-part.result c.loop-round.left c.args.budget.nodes o m t n.paved h.count part.few (c.is_done.ensures.open c.if-is_done.false);
+      count = more_parts c.part_of-nodes.result c.loop-round.left c.args.budget.nodes o m t n.paved h.count part.few (c.is_done.ensures.open c.if-is_done.false);
       some = omega (arith, z);
       few = omega (arith, w, f, k);
       spent = omega (arith, u, v);
@@ -59,7 +59,7 @@ returns-then-left-eq0-clause-stage g c =
 pub returns-then-left-eq0-clause-paved : goal.returns-then-left-eq0-clause-paved
 returns-then-left-eq0-clause-paved g c =
     let n = c.in_ok-next.ensures in
-    last_part c.part_of-part.result c.loop-round.left c.args.budget.nodes c.args.opening.tree c.loop-round.paved.paving.tree c.in_ok-next.next.paving.tree n.paved c.loop-round.invariant.count c.part_of-part.ensures.few c.if-left-eq0.true
+    last_part c.part_of-nodes.result c.loop-round.left c.args.budget.nodes c.args.opening.tree c.loop-round.paved.paving.tree c.in_ok-next.next.paving.tree n.paved c.loop-round.invariant.count c.part_of-nodes.ensures.few c.if-left-eq0.true
 
 pub returns-then-is_done-clause-stage : goal.returns-then-is_done-clause-stage
 returns-then-is_done-clause-stage g c =
@@ -76,7 +76,7 @@ returns-then-is_done-clause-stage g c =
 pub returns-then-is_done-clause-paved : goal.returns-then-is_done-clause-paved
 returns-then-is_done-clause-paved g c =
     let n = c.in_ok-next.ensures in
-    done_part c.part_of-part.result c.loop-round.left c.args.budget.nodes c.args.opening.tree c.loop-round.paved.paving.tree c.in_ok-next.next.paving.tree n.paved c.loop-round.invariant.count c.part_of-part.ensures.few (c.is_done.ensures.done c.if-is_done.true)
+    done_part c.part_of-nodes.result c.loop-round.left c.args.budget.nodes c.args.opening.tree c.loop-round.paved.paving.tree c.in_ok-next.next.paving.tree n.paved c.loop-round.invariant.count c.part_of-nodes.ensures.few (c.is_done.ensures.done c.if-is_done.true)
 
 pub returns-clause-paved : goal.returns-clause-paved
 returns-clause-paved g c =
