@@ -94,19 +94,21 @@ where
     S::Room: Send,
     S::Known: Send,
     requires dims { length subject.root ≡ S.dims settler.now }
-    ensures root { IfOk result (λ c. c.root ≡ subject.root) }
+    ensures root { IfOk result (λ c. c.root ≡ subject.entry.root) }
     ensures held { IfOk result (λ c.
         IsHeld plan.now.budget.limit (S.settle_of settler.now) (S.depth_of settler.now)
-        subject.root plan.now.order subject.identity
+        subject.entry.root plan.now.order subject.entry.identity
         (plan.now.count * plan.now.budget.nodes)
-        (P.kept keeper.old subject.name.now) (P.kept keeper.new subject.name.now) c.tree) }
+        (P.kept keeper.old subject.entry.name.now)
+        (P.kept keeper.new subject.entry.name.now) c.tree) }
     ensures refused { IfErr result
         (RefusesHold plan.now.budget.limit (S.settle_of settler.now) (S.depth_of settler.now)
-        subject.root plan.now.order subject.identity
+        subject.entry.root plan.now.order subject.entry.identity
         plan.now.budget.nodes plan.now.count
-        (P.kept keeper.old subject.name.now) (P.kept keeper.new subject.name.now)) }
+        (P.kept keeper.old subject.entry.name.now)
+        (P.kept keeper.new subject.entry.name.now)) }
     ensures others { (other : List ℕ)
-        → other ≢ subject.name.now → P.kept keeper.new other ≡ P.kept keeper.old other }
+        → other ≢ subject.entry.name.now → P.kept keeper.new other ≡ P.kept keeper.old other }
     ensures cause { IsErrOf result HoldRefused.Failed
         → Rose (P.faults keeper.old) (P.faults keeper.new) }
     ensures counts_on { P.faults keeper.old ≤ P.faults keeper.new }
