@@ -121,19 +121,21 @@ fn run_by_form<P: Keeper, G: Gate + Sync, R: Threads + Wait + Sync>(
     gate: &G,
 ) -> Result<Campaign, HoldRefused>
     requires dims { length subject.root ≡ dims_of (method_of settler.now) }
-    ensures root { IfOk result (λ c. c.root ≡ subject.root) }
+    ensures root { IfOk result (λ c. c.root ≡ subject.entry.root) }
     ensures held { IfOk result (λ c.
         IsHeld plan.now.budget.limit (settle_by (method_of settler.now))
-        (method_of settler.now).parts.depth subject.root plan.now.order subject.identity
+        (method_of settler.now).parts.depth subject.entry.root plan.now.order subject.entry.identity
         (plan.now.count * plan.now.budget.nodes)
-        (P.kept keeper.old subject.name.now) (P.kept keeper.new subject.name.now) c.tree) }
+        (P.kept keeper.old subject.entry.name.now)
+        (P.kept keeper.new subject.entry.name.now) c.tree) }
     ensures refused { IfErr result
         (RefusesHold plan.now.budget.limit (settle_by (method_of settler.now))
-        (method_of settler.now).parts.depth subject.root plan.now.order subject.identity
+        (method_of settler.now).parts.depth subject.entry.root plan.now.order subject.entry.identity
         plan.now.budget.nodes plan.now.count
-        (P.kept keeper.old subject.name.now) (P.kept keeper.new subject.name.now)) }
+        (P.kept keeper.old subject.entry.name.now)
+        (P.kept keeper.new subject.entry.name.now)) }
     ensures others { (other : List ℕ)
-        → other ≢ subject.name.now → P.kept keeper.new other ≡ P.kept keeper.old other }
+        → other ≢ subject.entry.name.now → P.kept keeper.new other ≡ P.kept keeper.old other }
     ensures cause { IsErrOf result HoldRefused.Failed
         → Rose (P.faults keeper.old) (P.faults keeper.new) }
     ensures counts_on { P.faults keeper.old ≤ P.faults keeper.new }
