@@ -1,6 +1,6 @@
 -- Leaves to come, in preorder, and the open leaves of a tree.
 use Rattle.std.proofs.lemmas.List.{drop_more, take-append-drop, length-take-le}
-use Rattle.std.proofs.Common.{◌≡◌, ◌≢◌, ℕ, zero, suc, ◌+◌, ◌<◌, ◌≤◌, length, take, drop, add-one, arith, Bool, true, false, List, [], ◌∷◌, ◌++◌, Option, Some, None, refl, sym, ◌∙◌, ap, subst, inl, inr, ◌⊎◌, append_assoc}
+use Rattle.std.proofs.Common.{◌≡◌, ◌≢◌, ℕ, zero, suc, ◌+◌, ◌<◌, ◌≤◌, length, take, drop, add-one, arith, Bool, true, false, List, [], ◌∷◌, ◌++◌, Some, refl, sym, ◌∙◌, ap, subst, inl, inr, ◌⊎◌, append_assoc}
 use Rattle.std.specs.Prelude.{IsTrue, slice_index_or, Result, Ok, Err}
 use Rattle.pv_keep.specs.declared.refusal.CampaignRefused.{CampaignRefused}
 use Rattle.pv_keep.specs.declared.refusal.CampaignRefused.TheVariants as refused

@@ -1,5 +1,5 @@
 -- Rows that make a tree are that tree's rows.
-use Rattle.std.proofs.Common.{◌≡◌, ℕ, zero, suc, ◌+◌, Bool, true, false, List, [], ◌∷◌, ◌++◌, length, Option, Some, refl, sym, ◌∙◌, ap, subst, inl, inr, arith, append_assoc, append-nil}
+use Rattle.std.proofs.Common.{◌≡◌, ◌+◌, Bool, true, false, List, [], ◌∷◌, ◌++◌, length, Some, refl, sym, ◌∙◌, ap, subst, inl, inr, arith, append_assoc, append-nil}
 use Rattle.pv_interval.specs.Bounds.{Bounds}
 use Rattle.pv_tree.specs.Trees.{Tree, leaf, removed, inner, small, cut, subtree, graft, settled}
 use Rattle.pv_tree.specs.declared.outcome.Outcome.{Outcome}
@@ -11,7 +11,7 @@ use Rattle.pv_keep.specs.declared.row.Row.{Row}
 use Rattle.pv_keep.specs.Rows.{rows_below, rows_of, row_at, InPreorder, placed, all_placed, IsShuffle}
 use Rattle.pv_keep.specs.Rebuilding.{Make, IsGoodRow}
 use Rattle.pv_keep.proofs.RowOrder.{ordered_rows}
-use Rattle.pv_keep.proofs.Shuffles.{shuffle_first, shuffle_second, shuffle_append, placed_shuffle, shuffle_alone, all_placed_shuffle}
+use Rattle.pv_keep.proofs.Shuffles.{shuffle_first, shuffle_second, shuffle_append, all_placed_shuffle}
 
 pub make_more : (b : List Bounds) (s : Tree) (front : List Row) (t : Tree) (row : Row) (o : Outcome) → Make b s front t → IsGoodRow b t row o
     → Make b s (front ++ row ∷ []) (graft t row.path (settled o))

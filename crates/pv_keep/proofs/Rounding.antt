@@ -1,11 +1,9 @@
 -- Rounds hold stages of an opening.
-use Rattle.std.proofs.Common.{◌≡◌, ℕ, List, [], ◌∷◌, refl, sym, ◌∙◌, ap, subst, inl, inr}
+use Rattle.std.proofs.Common.{ℕ, List, [], ◌∷◌, refl, sym, subst, inl, inr}
 use Rattle.pv_interval.specs.Bounds.{Bounds}
 use Rattle.pv_tree.specs.Trees.{Tree}
 use Rattle.pv_tree.specs.Stages.{Rule, IsStage}
-use Rattle.pv_join.specs.Joins.{IsJoin}
 use Rattle.pv_join.proofs.JoinLaws.{join_laws}
-use Rattle.pv_keep.specs.Rows.{rows_of}
 use Rattle.pv_keep.specs.Keeping.{Kept, untold, absent, holds}
 use Rattle.pv_keep.specs.Campaigns.{KeepsTree, IsSaved}
 use Rattle.pv_keep.specs.Rounds.{Held, IsHeldStage, IsRound, AreRounds, AllHeldStages}

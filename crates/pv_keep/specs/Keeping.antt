@@ -1,5 +1,5 @@
 -- What a keeper tells of a name, and what its calls do.
-use Rattle.std.specs.Prelude.{◌≡◌, ◌≢◌, ℕ, ◌+◌, ◌<◌, ◌≤◌, List, [], ◌∷◌, length, take, Option, Some, None}
+use Rattle.std.specs.Prelude.{◌≡◌, ◌≢◌, ℕ, ◌+◌, ◌<◌, ◌≤◌, List, [], length, take}
 use Rattle.pv_keep.specs.declared.row.Row.{Row}
 use Rattle.pv_keep.specs.Rows.{InPreorder, AreNew, all_placed}
 

@@ -1,7 +1,6 @@
 -- Rows of a paving's settled nodes, and rows in preorder of their paths.
 use Rattle.std.specs.Prelude.{◌≡◌, ◌≢◌, ◌⊎◌, ℕ, zero, suc, Bool, true, false, IsTrue, Option, Some, None, List, [], ◌∷◌, ◌++◌, if◌then◌else◌}
 use Rattle.pv_tree.specs.Trees.{Tree, leaf, removed, inner, small, cut, top, precedes}
-use Rattle.pv_tree.specs.Pieces.{Piece}
 use Rattle.pv_tree.specs.declared.outcome.Outcome.{Outcome}
 use Rattle.pv_file.specs.Lines.{outcome_line}
 use Rattle.pv_keep.specs.declared.row.Row.{Row}

@@ -1,5 +1,5 @@
 -- The keeper in memory, seen from outside.
-use Rattle.std.specs.Prelude.{ℕ, List, Option, Some, None, ◌≡◌}
+use Rattle.std.specs.Prelude.{ℕ, List, Option, Some, None}
 use Rattle.std.specs.Option.{option_map}
 use Rattle.std.specs.BTreeMap.{get_by_text, BTreeMap}
 use Rattle.std.specs.declared.alloc.Global.{Global}

@@ -1,5 +1,4 @@
 use Rattle.std.proofs.Common.{arith}
-use Rattle.pv_keep.specs.Campaigns.{HasGrown}
 use Rattle.pv_keep.proofs.Fresh.{new_below}
 use Rattle.pv_keep.proofs.RowOrder.{ordered_rows}
 use Rattle.pv_keep.proofs.Shuffles.{second_distinct}

@@ -1,6 +1,6 @@
 use Rattle.std.proofs.Common.{◌≡◌, subst, sym, ◌∙◌, rules}
 use Rattle.std.specs.Prelude.{insert}
-use Rattle.pv_keep.specs.Rows.{IsSplit, InPreorder, placed}
+use Rattle.pv_keep.specs.Rows.{IsSplit, InPreorder}
 use Rattle.pv_keep.proofs.Placing.{split_placed, ordered_placed}
 use Rattle.pv_keep.proofs.kept_rows.place.Goals as goal
 

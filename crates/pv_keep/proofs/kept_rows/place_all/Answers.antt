@@ -1,5 +1,5 @@
 use Rattle.std.proofs.Common.{◌≡◌, ◌++◌, ◌∷◌, [], reverse, sym, ap, subst, ◌∙◌, rules}
-use Rattle.pv_keep.specs.Rows.{AreDistinct, AreNew, all_placed, placed}
+use Rattle.pv_keep.specs.Rows.{AreDistinct, AreNew, all_placed}
 use Rattle.pv_keep.proofs.Placing.{popped_last, new_placed}
 use Rattle.pv_keep.proofs.kept_rows.place_all.Goals as goal
 

@@ -1,4 +1,4 @@
-use Rattle.std.proofs.Common.{◌≡◌, ◌≤◌, ◌+◌, ℕ, reverse, vec_len, vec_capacity}
+use Rattle.std.proofs.Common.{◌≡◌, ◌≤◌, ◌+◌, reverse, vec_len, vec_capacity}
 use Rattle.pv_keep.specs.Rows.{InPreorder, AreDistinct, AreNew, all_placed}
 use Rattle.pv_keep.proofs.kept_rows.place_all.Given as goal
 

@@ -1,8 +1,6 @@
 use Rattle.std.proofs.Common.{◌≡◌, ◌<◌, ◌+◌, ◌++◌, ◌∷◌, [], List, true, false, length, length-append, ap, sym, ◌∙◌, arith}
-use Rattle.pv_tree.specs.Trees.{subtree, shape_of}
 use Rattle.pv_join.proofs.Overlays.{on_ok_map}
 use Rattle.pv_keep.specs.declared.row.Row.{Row}
-use Rattle.pv_keep.specs.Below.{is_a_cut}
 use Rattle.pv_keep.proofs.Fresh.{short_at, end_rows, cut_rows}
 use Rattle.pv_keep.proofs.new_rows.+push_below.Goals as goal
 

@@ -1,4 +1,4 @@
-use Rattle.std.proofs.Common.{◌≡◌, ◌≤◌, ◌⊎◌, inl, inr, length, ltb, arith, rules, ◌∙◌}
+use Rattle.std.proofs.Common.{◌≡◌, ◌≤◌, ◌⊎◌, length, ltb, rules, ◌∙◌}
 use Rattle.pv_keep.proofs.Stepping.{one_ends}
 use Rattle.pv_keep.proofs.order.is_before.Goals as goal
 

@@ -1,5 +1,4 @@
-use Rattle.std.proofs.Common.{◌≡◌, ap, sym, ◌∙◌, rules}
-use Rattle.pv_tree.specs.Holes.{rest_of}
+use Rattle.std.proofs.Common.{◌≡◌, rules}
 use Rattle.pv_keep.proofs.Leaves.{pass_more, pass_none}
 use Rattle.pv_keep.proofs.rebuild.pass_to.Goals as goal
 

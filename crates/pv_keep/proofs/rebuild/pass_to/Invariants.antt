@@ -1,5 +1,4 @@
-use Rattle.std.proofs.Common.{◌≡◌, ◌++◌, List, length}
-use Rattle.pv_tree.specs.Holes.{Hole}
+use Rattle.std.proofs.Common.{◌≡◌, length}
 use Rattle.pv_keep.specs.Rebuilding.{IsPassed, IsToCome}
 use Rattle.pv_keep.proofs.rebuild.pass_to.Given as goal
 

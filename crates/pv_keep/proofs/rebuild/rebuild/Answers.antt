@@ -1,7 +1,5 @@
-use Rattle.std.proofs.Common.{◌≡◌, ◌<◌, ◌≤◌, ◌+◌, ◌∙◌, ap, sym, subst, length, take, true, false, refl, arith, rules}
+use Rattle.std.proofs.Common.{◌≡◌, ◌<◌, ◌≤◌, sym, subst, length, take, true, false, arith, rules}
 use Rattle.pv_tree.specs.Trees.{Tree, leaf}
-use Rattle.pv_file.specs.Readings.{settled_count}
-use Rattle.pv_keep.specs.Rows.{rows_of}
 use Rattle.pv_keep.specs.Rebuilding.{Make, IsFirstBad}
 use Rattle.pv_keep.proofs.Leaves.{open_begun, order_begun, was_put, grown_on, first_bad, same_bad_row, take_whole}
 use Rattle.pv_keep.proofs.Making.{made_rows, make_count}

@@ -1,5 +1,4 @@
 use Rattle.std.proofs.Common.{◌≡◌, length}
-use Rattle.pv_keep.specs.Rows.{InPreorder}
 use Rattle.pv_keep.proofs.Leaves.{IsGrown}
 use Rattle.pv_keep.proofs.rebuild.rebuild.Given as goal
 

@@ -1,4 +1,4 @@
-use Rattle.std.proofs.Common.{◌≡◌, ap, ◌∙◌, subst, ℕ}
+use Rattle.std.proofs.Common.{ap, ◌∙◌, subst, ℕ}
 use Rattle.std.specs.Prelude.{Err}
 use Rattle.pv_keep.specs.Keeping.{AreAll}
 use Rattle.pv_keep.proofs.Opening.{bad_row_now, same_refusal}
