@@ -7,13 +7,17 @@ prints a line per example: its name, for each of the two commands the settled no
 and how many nodes `run` settles, with eps halved as often as needed, to leave no greater volume undecided than
 `run-centered` does; `-` where 100,000 are too few. tests/generators/gallery.py makes a table of it.
 """
+from __future__ import annotations
+
 import os
 import sys
 import time
+from collections.abc import Callable
 from fractions import Fraction
 from pathlib import Path
 
 import paver
+from paver.box import Exact
 from tests.data.examples import EXAMPLES, settings_of
 
 TOP = Path(__file__).resolve().parents[1]
@@ -23,22 +27,21 @@ TIMES = 5
 MOST = 100_000
 
 
-def measured(command, system, eps):
+def measured(command: Callable[..., paver.Answer], system: Path, eps: Fraction) -> tuple[paver.Answer, float]:
     """The answer, and the least seconds of several runs."""
-    best = None
+    best = float("inf")
     for _ in range(TIMES):
         begun = time.perf_counter()
         answer = command(system, eps=eps, boxes=MOST, workers=1)
-        spent = time.perf_counter() - begun
-        best = spent if best is None else min(best, spent)
+        best = min(best, time.perf_counter() - begun)
     return answer, best
 
 
-def undecided(answer):
+def undecided(answer: paver.Answer) -> Exact:
     return answer.paving().volumes()["small"]
 
 
-def nodes_for(system, eps, volume):
+def nodes_for(system: Path, eps: Fraction, volume: Exact) -> int | str:
     """How many nodes `run` settles to leave at most this volume undecided."""
     while True:
         answer = paver.run(system, eps=eps, boxes=MOST, workers=1)
@@ -49,7 +52,7 @@ def nodes_for(system, eps, volume):
         eps /= 2
 
 
-def main():
+def main() -> None:
     os.environ["PAVER"] = os.path.abspath(sys.argv[1])
     words = dict(EXAMPLES)
     for name in SHOWN:

@@ -20,6 +20,8 @@
 
 Each figure is the best of five runs or more. Needs rustc for the yardstick; without it only paver's own figures are printed.
 """
+from __future__ import annotations
+
 import os
 import re
 import resource
@@ -29,14 +31,17 @@ import subprocess
 import sys
 import tempfile
 import time
+from collections.abc import Sequence
 from pathlib import Path
-from typing import List, Optional, Tuple
+from typing import List, Optional, Tuple, Union
 
 TOP = Path(__file__).parent.parent
 EXAMPLES = TOP / "examples"
 SYSTEMS = TOP / "bench" / "systems"
 STEPS = 10_000_000
 TURNS = 6
+Word = Union[str, int, Path]
+Words = Sequence[Word]
 PAVINGS: List[Tuple[str, Optional[Path], Optional[List[str]]]] = [
     ("ring", EXAMPLES / "ring.mbx", ["--eps", "0.00390625"]),
     ("agnesi", SYSTEMS / "agnesi.mbx", None),
@@ -70,18 +75,17 @@ ROUNDS = [("ring", "0.0009765625"), ("torus", "0.0625")]
 ORDER = "Variables x in [0,9999999], y in [0,9999999]; Constraints x < y; end\n"
 
 
-def seconds(words):
+def seconds(words: Words) -> tuple[float, bytes]:
     """The best of five runs, and what was printed."""
-    best, printed = None, b""
+    best, printed = float("inf"), b""
     for _ in range(5):
         start = time.perf_counter()
         printed = subprocess.run([str(word) for word in words], stdout=subprocess.PIPE, check=False).stdout
-        spent = time.perf_counter() - start
-        best = spent if best is None else min(best, spent)
+        best = min(best, time.perf_counter() - start)
     return best, printed
 
 
-def yardstick(folder, name):
+def yardstick(folder: str, name: str) -> Path | None:
     if not shutil.which("rustc"):
         return None
     program = Path(folder) / name
@@ -91,7 +95,7 @@ def yardstick(folder, name):
     return program
 
 
-def numbers(folder):
+def numbers(folder: str) -> None:
     programs = {"pv_num": TOP / "crates/bench_numbers/out/bench_numbers", "lean Rust": yardstick(folder, "numbers"),
                 "same code": yardstick(folder, "same")}
     for name, program in programs.items():
@@ -102,7 +106,7 @@ def numbers(folder):
                 print(f"{name:10} {operation}: {(spent - empty) / STEPS * 1e9:6.1f} ns")
 
 
-def calls(_):
+def calls(_folder: str) -> None:
     program = TOP / "crates/bench_numbers/out/bench_numbers"
     fed, _ = seconds([program, "fed", STEPS // 10])
     for operation in ("neg", "abs", "cmp", "pow3", "root2", "root3", "root31", "middle", "floor", "ratio", "fin",
@@ -111,18 +115,18 @@ def calls(_):
         print(f"{operation:7} {(spent - fed) / STEPS * 1e10:8.1f} ns")
 
 
-def paving_of(folder, file, words):
+def paving_of(folder: str, file: Path | None, words: list[str] | None) -> list[Word]:
     """The words that follow `run`. A system of bench/systems/ has its options in its comment."""
     if file is None:
         file = Path(folder) / "order.mbx"
         file.write_text(ORDER)
     if words is None:
-        words = re.search(r"^//   (--.*)$", file.read_text(), re.MULTILINE).group(1).split()
+        words = re.findall(r"^//   (--.*)$", file.read_text(), re.MULTILINE)[0].split()
     budget = [] if file.name != "order.mbx" else ["--boxes", "20000"]
     return [file, *words, *(budget or ["--boxes", "100000"])]
 
 
-def processor_seconds(words):
+def processor_seconds(words: Words) -> tuple[float, bytes]:
     """The processor time of a run, and what it printed."""
     before = resource.getrusage(resource.RUSAGE_CHILDREN)
     printed = subprocess.run([str(word) for word in words], stdout=subprocess.PIPE, check=False).stdout
@@ -130,12 +134,13 @@ def processor_seconds(words):
     return after.ru_utime + after.ru_stime - before.ru_utime - before.ru_stime, printed
 
 
-def paving(folder):
+def paving(folder: str) -> None:
     """Thousand settled nodes a second, the programs in turn, and the best time of each."""
     lean = yardstick(folder, "paver")
-    for title, file, words in PAVINGS:
-        words = paving_of(folder, file, words)
-        runs = [[TOP / "paver", "run", *words, "--workers", "1"]] + ([[lean, *words]] if lean else [])
+    for title, file, options in PAVINGS:
+        words = paving_of(folder, file, options)
+        runs: list[list[Word]] = [[TOP / "paver", "run", *words, "--workers", "1"]]
+        runs += [[lean, *words]] if lean else []
         best, printed = [float("inf")] * len(runs), [b""] * len(runs)
         for _ in range(TURNS):
             for i, run in enumerate(runs):
@@ -149,7 +154,7 @@ def paving(folder):
         print(line, flush=True)
 
 
-def side_by_side(words, count, turns=TURNS):
+def side_by_side(words: Words, count: int, turns: int = TURNS) -> float:
     """The best time in which so many runs of one worker end that start together, each storing under a name of its own."""
     best = float("inf")
     for _ in range(turns):
@@ -162,10 +167,10 @@ def side_by_side(words, count, turns=TURNS):
     return best
 
 
-def grown(title, words):
+def grown(title: str, words: Words) -> None:
     """Milliseconds from start to end by so many workers, those of processors in brackets, and how many times as fast as one
     they are; and how much four runs of one worker get done side by side, which is all that the machine can do."""
-    alone, parts = None, []
+    alone, parts = 0.0, []
     for count in (1, 2, 3, 4, 16):
         spent, printed = seconds([*words, "--workers", count])
         used = min(processor_seconds([*words, "--workers", count])[0] for _ in range(TURNS))
@@ -175,11 +180,11 @@ def grown(title, words):
     print(f"{title:34} {int(printed.split()[1]):7} nodes, {', '.join(parts)}, four runs at once x{limit:.2f}", flush=True)
 
 
-def workers(folder):
+def workers(folder: str) -> None:
     """Several workers on six systems and on those whose nodes cost more. Nothing is printed but the summary."""
     chosen = ("ring", "Gough slice, 12 constraints", "rate law, 8 measurements", "torus", "planar arm",
               "strict order, a deep tree")
-    stored = ["--out", Path(folder) / "paving"]
+    stored: List[Word] = ["--out", Path(folder) / "paving"]
     for title, file, words in PAVINGS:
         if title in chosen:
             grown(title, [TOP / "paver", "run", *paving_of(folder, file, words), *stored])
@@ -188,7 +193,7 @@ def workers(folder):
         grown(f"{name}, {command}", [TOP / "paver", command, system, "--eps", eps, "--boxes", "100000", *stored])
 
 
-def of_size(folder, title, eps, nodes):
+def of_size(folder: str, title: str, eps: str | None, nodes: int) -> list[Word]:
     """The words that follow a command to settle that system's first so many nodes, with this eps."""
     file = next(file for name, file, _ in PAVINGS if name == title)
     words = paving_of(folder, file, None if file and file.parent == SYSTEMS else [])[:-2]
@@ -198,7 +203,7 @@ def of_size(folder, title, eps, nodes):
     return [*words, *(["--eps", eps] if eps else []), "--boxes", str(nodes), "--limit", str(max(nodes, 100_000))]
 
 
-def by_clock(words, turns=3):
+def by_clock(words: Words, turns: int = 3) -> tuple[float, bytes]:
     """The best time by the clock of some runs, and what the last one printed."""
     best, printed = float("inf"), b""
     for _ in range(turns):
@@ -208,10 +213,10 @@ def by_clock(words, turns=3):
     return best, printed
 
 
-def millions(folder):
+def millions(folder: str) -> None:
     """How many times as fast as one worker 2, 4 and 16 are, as a part of what two and four runs of one worker get done."""
     for title, eps in MILLIONS:
-        words = [TOP / "paver", "run", *of_size(folder, title, eps, 1_000_000), "--out", Path(folder) / "paving"]
+        words: list[Word] = [TOP / "paver", "run", *of_size(folder, title, eps, 1_000_000), "--out", Path(folder) / "paving"]
         alone, printed = by_clock([*words, "--workers", 1])
         used = processor_seconds([*words, "--workers", 1])[0]
         parts = [f"1: {alone:.2f} s"]
@@ -223,37 +228,39 @@ def millions(folder):
         print(f"{title:28} {int(printed.split()[1]):8} nodes, {'; '.join(parts)}", flush=True)
 
 
-def small(folder):
+def small(folder: str) -> None:
     """How many times as fast as one worker 4 are where there is little to do: the best of twenty runs each, in turn."""
     for title, eps in MILLIONS:
         parts = []
         for nodes in (1000, 3000, 10_000, 30_000):
-            words = [TOP / "paver", "run", *of_size(folder, title, eps, nodes), "--out", Path(folder) / "paving", "--workers"]
+            words: list[Word] = [TOP / "paver", "run", *of_size(folder, title, eps, nodes), "--out", Path(folder) / "paving",
+                                 "--workers"]
             turns = [[by_clock([*words, count], 1)[0] for count in (1, 4)] for _ in range(20)]
             one, four = (min(turn[k] for turn in turns) for k in (0, 1))
             parts.append(f"{nodes}: {one * 1000:.1f} ms x{one / four:.2f}")
         print(f"{title:28} {', '.join(parts)}", flush=True)
 
 
-def used_by(words):
+def used_by(words: Words) -> tuple[int, float, int]:
     """The settled nodes of a run, its processor seconds and its greatest memory in bytes."""
     with subprocess.Popen([*map(str, words)], stdout=subprocess.PIPE) as run:
+        assert run.stdout is not None
         settled = int(run.stdout.read().split()[1])
         _, _, used = os.wait4(run.pid, 0)
     return settled, used.ru_utime + used.ru_stime, used.ru_maxrss * 1024
 
 
-def sizes(folder):
+def sizes(folder: str) -> None:
     """Seconds, microseconds a node without the program's start, and bytes a node of memory and file, by one worker that
     stores: the least of some runs, the sizes in turn, since a machine may change its speed. Up to some 100,000 nodes the
     memory told is this script's own, of which a child begins as a copy."""
     turns_of = {1: 20, 10_000: 20, 100_000: 10, 1_000_000: 4, 10_000_000: 1}
     for title in SIZES:
         eps, out = dict(MILLIONS)[title] and "1e-9", Path(folder) / "paving"
-        runs = {nodes: [] for nodes in turns_of}
+        runs: dict[int, list[tuple[int, float, int, int]]] = {nodes: [] for nodes in turns_of}
         for turn in range(max(turns_of.values())):
             for nodes in (nodes for nodes, turns in turns_of.items() if turn < turns):
-                words = [TOP / "paver", "run", *of_size(folder, title, eps, nodes), "--workers", 1, "--out", out]
+                words: list[Word] = [TOP / "paver", "run", *of_size(folder, title, eps, nodes), "--workers", 1, "--out", out]
                 runs[nodes].append((*used_by(words), out.stat().st_size))
         start = min(spent for _, spent, _, _ in runs[1])
         for settled, spent, memory, stored in (min(some, key=lambda run: run[1]) for some in runs.values()):
@@ -261,7 +268,7 @@ def sizes(folder):
                   f"{memory / settled:5.0f} bytes a node, file {stored / settled:5.1f}", flush=True)
 
 
-def printing(folder):
+def printing(folder: str) -> None:
     if not shutil.which("valgrind"):
         return
     counts = Path(folder) / "counts"
@@ -275,7 +282,7 @@ def printing(folder):
         print(f"{title:28} 5,000 nodes, printing {share.strip()} of the instructions")
 
 
-def growth(_):
+def growth(_folder: str) -> None:
     for name, eps in [("ring", 2**-k) for k in range(4, 10)] + [("torus", 2**-k) for k in range(1, 5)]:
         spent, printed = seconds([TOP / "paver", "run", EXAMPLES / f"{name}.mbx", "--eps", f"{eps:.10f}", "--boxes",
                                   "100000"])
@@ -283,17 +290,17 @@ def growth(_):
         print(f"{name:6} eps {eps:.6f} {settled:7} nodes {spent:7.3f} s {spent / settled * 1e6:6.2f} us a node")
 
 
-def files(folder):
+def files(folder: str) -> None:
     """A file of 100,000 settled nodes in 4 variables, and eight stages of it."""
     paver, system, eps = TOP / "paver", EXAMPLES / "planar_arm.mbx", ["--eps", "0.0625"]
-    names = []
+    names: list[Path] = []
     for part in range(1, 9):
         names.append(Path(folder) / f"part{part}")
         subprocess.run([paver, "run", system, *eps, "--boxes", str(12_500 * part), "--out", names[-1]], check=False,
                        stdout=subprocess.DEVNULL)
     whole, joined = names[-1], Path(folder) / "joined"
     size = whole.stat().st_size / 1e6
-    works = {
+    works: dict[str, list[Word]] = {
         "run with --out": ["run", system, *eps, "--boxes", "100000", "--out", joined],
         "run, printing": ["run", system, *eps, "--boxes", "100000"],
         "merge of one (read and write)": ["merge", system, whole, *eps, "--out", joined],
@@ -305,21 +312,22 @@ def files(folder):
         print(f"{work:30} {seconds([paver, *words])[0] * 1000:8.1f} ms")
 
 
-def campaigns(folder):
+def campaigns(folder: str) -> None:
     """Processor milliseconds of rounds beside plain runs of as many nodes, and of a campaign that only opens its file."""
     kept = Path(folder) / "kept"
-    for title, file, words in PAVINGS:
+    for title, file, options in PAVINGS:
         if title not in ("Gough slice, 12 constraints", "planar arm", "strict order, a deep tree"):
             continue
-        words = paving_of(folder, file, words)[:-1]
+        words = paving_of(folder, file, options)[:-1]
         for boxes in (1000, 20_000, 50_000):
             best = dict.fromkeys(("plain", "round", "opening"), float("inf"))
             for _ in range(TURNS):
                 for name in (kept, Path(f"{kept}-wal")):
                     name.unlink(missing_ok=True)
-                campaign = ["campaign", *words, str(boxes), "--keep", kept]
-                runs = {"plain": ["run", *words, str(boxes), "--out", Path(folder) / "paving"], "round": campaign,
-                        "opening": [*campaign[:-3], "1", "--keep", kept]}
+                campaign: list[Word] = ["campaign", *words, str(boxes), "--keep", kept]
+                runs: dict[str, list[Word]] = {
+                    "plain": ["run", *words, str(boxes), "--out", Path(folder) / "paving"], "round": campaign,
+                    "opening": [*campaign[:-3], "1", "--keep", kept]}
                 for work, run in runs.items():
                     best[work] = min(best[work], processor_seconds([TOP / "paver", *run, "--workers", "1"])[0])
             settled = len(sqlite3.connect(kept).execute("SELECT path FROM node").fetchall())
@@ -327,26 +335,28 @@ def campaigns(folder):
             print(f"{title:28} {settled:6} rows: {costs}, {kept.stat().st_size / 1e6:.1f} MB", flush=True)
 
 
-def rounds(folder):
+def rounds(folder: str) -> None:
     """Seconds of a campaign of 100 rounds of 1,000 nodes beside one round of 100,000: of processors, and by the clock."""
     kept = Path(folder) / "kept"
     for title, eps in ROUNDS:
-        file = next(file for name, file, _ in PAVINGS if name == title)
-        best = {}
+        campaign: list[Word] = [TOP / "paver", "campaign", EXAMPLES / f"{title}.mbx", "--eps", eps, "--keep", kept,
+                                "--workers", "1"]
+        best: dict[int, tuple[float, float]] = {}
         for _ in range(TURNS):
             for count, boxes in (1, 100_000), (100, 1000):
                 for name in (kept, Path(f"{kept}-wal")):
                     name.unlink(missing_ok=True)
                 start = time.perf_counter()
-                spent, _ = processor_seconds([TOP / "paver", "campaign", file, "--eps", eps, "--boxes", boxes, "--rounds", count,
-                                              "--keep", kept, "--workers", "1"])
+                spent, _ = processor_seconds([*campaign, "--boxes", boxes, "--rounds", count])
                 took = (spent, time.perf_counter() - start)
-                best[count] = tuple(map(min, best.get(count, took), took))
+                before = best.get(count, took)
+                best[count] = min(before[0], took[0]), min(before[1], took[1])
         print(f"{title:10} one round {best[1][0]:5.2f} s, {best[1][1]:5.2f} by the clock; 100 rounds {best[100][0]:5.2f} and "
-              f"{best[100][1]:5.2f}: {best[100][0] / best[1][0]:4.2f} times, {best[100][1] / best[1][1]:4.2f} by the clock", flush=True)
+              f"{best[100][1]:5.2f}: {best[100][0] / best[1][0]:4.2f} times, {best[100][1] / best[1][1]:4.2f} by the clock",
+              flush=True)
 
 
-def trees(_):
+def trees(_folder: str) -> None:
     program = TOP / "crates/bench_trees/out/bench_trees"
     built, _ = seconds([program, "none", 0])
     for work, times in ("settle", 1), ("count", 1000), ("clone", 20), ("join", 5), ("audit", 5):
@@ -354,7 +364,7 @@ def trees(_):
         print(f"{work:7} {max(spent - built, 0) / times * 1000:8.1f} ms")
 
 
-def tickets(_):
+def tickets(_folder: str) -> None:
     """What jobs and tickets cost where the work itself costs next to nothing."""
     program = TOP / "crates/bench_pool/out/bench_pool"
     for count in (1, 2, 4, 16):
@@ -369,7 +379,7 @@ def tickets(_):
         print(f"{nodes:6} nodes by {tickets:6} tickets of one worker {(spent - empty) / tickets * 1e9:7.0f} ns a ticket")
 
 
-def main():
+def main() -> None:
     parts = {"numbers": numbers, "calls": calls, "paving": paving, "printing": printing, "growth": growth, "files": files,
              "workers": workers, "campaigns": campaigns, "rounds": rounds,
              "tickets": tickets, "trees": trees, "millions": millions, "small": small, "sizes": sizes}

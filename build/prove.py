@@ -5,8 +5,8 @@
 
 at the top of the repository. It works by the kit's own rtlib, so what it leaves in each out/ is what `rt check` and `rt run`
 take up. Unlike `rt all check` it proves no crate of tests or measurements, and makes no quick pass over all crates first.
-What a check says stands in its crate's out/prove.log. Edit nothing while it runs. Status 0: all are proved. 1: one is not, and the end of its log is
-shown. 3: this kit has no rtlib that is known here, and nothing was done.
+What a check says stands in its crate's out/prove.log. Edit nothing while it runs. Status 0: all are proved. 1: one is not,
+and the end of its log is shown. 3: this kit has no rtlib that is known here, and nothing was done.
 """
 import argparse
 import importlib.util

@@ -1,10 +1,13 @@
 """Builds the package for pip with stock Python alone, so that `pip install ./python` needs no network: a wheel is a zip
 of the modules with three files that describe it."""
+from __future__ import annotations
+
 import base64
 import hashlib
 import re
 import tarfile
 import zipfile
+from collections.abc import Mapping
 from pathlib import Path
 
 HERE = Path(__file__).parent
@@ -23,13 +26,14 @@ WHEEL = "Wheel-Version: 1.0\nGenerator: wheel_of_package\nRoot-Is-Purelib: true\
 SCRIPTS = "[console_scripts]\npaver-tools = paver.__main__:main\n"
 
 
-def modules():
+def modules() -> list[Path]:
     """The modules, the sign that they are typed, and the parts of the page that the viewer is."""
     endings = (".py", ".typed", ".js", ".css", ".html")
     return sorted(path for path in (HERE / NAME).rglob("*") if path.suffix in endings)
 
 
-def build_wheel(wheel_directory, config_settings=None, metadata_directory=None):
+def build_wheel(wheel_directory: str, config_settings: Mapping[str, object] | None = None, metadata_directory: str | None = None
+                ) -> str:
     """Writes the wheel into a folder and gives its name."""
     files = {path.relative_to(HERE).as_posix(): path.read_bytes() for path in modules()}
     files[f"{ABOUT}/METADATA"] = METADATA.encode()
@@ -47,7 +51,7 @@ def build_wheel(wheel_directory, config_settings=None, metadata_directory=None):
     return name
 
 
-def build_sdist(sdist_directory, config_settings=None):
+def build_sdist(sdist_directory: str, config_settings: Mapping[str, object] | None = None) -> str:
     """Writes the sources into a folder and gives their name."""
     name = f"{NAME}-{VERSION}.tar.gz"
     with tarfile.open(Path(sdist_directory) / name, "w:gz") as sources:

@@ -1,14 +1,18 @@
 """python3 -m paver COMMAND: tools around the program. Each is a function of the package too."""
+from __future__ import annotations
+
 import argparse
 import os
 import sys
+from collections.abc import Callable, Iterable, Iterator, Mapping
 from contextlib import contextmanager
 from fractions import Fraction
 from pathlib import Path
+from typing import TYPE_CHECKING, Any, TextIO
 
 from . import beside, errors, explain, levels_command, program, robust_command, scale, sweep_command
 from .advice import limits_of, stored_sentences, warnings_of
-from .cover import KEPT
+from .cover import KEPT, Cover, Name
 from .ibex import translate
 from .identity import UNSAID
 from .kept import is_database
@@ -28,17 +32,21 @@ from .widen import claim_of_roots, roots_width, widened, widened_file
 UNCOMPARED = "the paving has no identity, as printed text has none: that it is this system's is not compared."
 MOST_BYTES = 1 << 22  # of a file for IBEX
 
+if TYPE_CHECKING:
+    Commands = argparse._SubParsersAction[argparse.ArgumentParser]
 
-def run_options(parser, names=program.OPTIONS):
+
+def run_options(parser: argparse.ArgumentParser, names: Iterable[str] = program.OPTIONS) -> None:
     for name in names:
         parser.add_argument(f"--{name}", help=f"as the program's --{name}")
 
 
-def options_of(arguments, known=program.OPTIONS):
+def options_of(arguments: argparse.Namespace, known: Iterable[str] = program.OPTIONS) -> dict[str, Any]:
     return {name: getattr(arguments, name) for name in known if getattr(arguments, name, None) is not None}
 
 
-def paving_of(arguments, sentences=warnings_of):
+def paving_of(arguments: argparse.Namespace, sentences: Callable[[program.Answer, Cover], list[str]] = warnings_of
+              ) -> tuple[Paving, list[str]]:
     """The paving of a command, a file's or that of a run, and the sentences on it. A file is compared with the system under the
     given settings, or those kept beside it; all its numbers are read."""
     if not arguments.paving:
@@ -55,7 +63,7 @@ def paving_of(arguments, sentences=warnings_of):
     return paving, [UNCOMPARED, *found] if paving.identity is None else found
 
 
-def roots(arguments):
+def roots(arguments: argparse.Namespace) -> int:
     """Prints each cluster of undecided boxes of a square system with its verdict. Status 1 where one is undecided or a leaf is
     open."""
     system = program.check(arguments.system, program=arguments.program)
@@ -76,12 +84,12 @@ def roots(arguments):
     return 1 if counts["undecided"] or paving.counts()["open"] else 0
 
 
-def report(warnings):
+def report(warnings: Iterable[str]) -> None:
     for sentence in warnings:
         print(f"note: {printable(sentence)}", file=sys.stderr)
 
 
-def from_ibex(arguments):
+def from_ibex(arguments: argparse.Namespace) -> int:
     """Prints the profile's text of an IBEX file; status 3, and each form by its line, where something is refused."""
     with open(arguments.file, "rb") as file:
         text = file.read(MOST_BYTES + 1)
@@ -97,7 +105,7 @@ def from_ibex(arguments):
     return 0
 
 
-def explain_command(arguments):
+def explain_command(arguments: argparse.Namespace) -> int:
     """Says in sentences what is refused of a call of the program, or lists the constraints by number. Status 2 where something
     is refused."""
     own = explain.own_options(arguments.words)
@@ -118,7 +126,7 @@ def explain_command(arguments):
     return 0 if good else 2
 
 
-def least_command(arguments):
+def least_command(arguments: argparse.Namespace) -> int:
     """Prints the bounds of an expression's least value as floats that are rounded outward, and the point as exact fractions.
     Status 1 where the budget ended the search."""
     levels_command.refuse_words(arguments)
@@ -128,7 +136,7 @@ def least_command(arguments):
     with widened_file(arguments.system, arguments.widen, options_of(arguments), arguments.program) as (system, options):
         found = least(system, arguments.of, program=arguments.program, **options)
     print(f"lower {as_float(found.lower, False)!r}")
-    print("upper none" if found.point is None else f"upper {as_float(found.upper, True)!r}")
+    print("upper none" if found.upper is None else f"upper {as_float(found.upper, True)!r}")
     for name, value in zip(names, found.point or ()):
         print(f"  {name} = {value}" + ("" if value.denominator == 1 else f", about {float(value):.9g}"))
     if not found.complete:
@@ -136,7 +144,7 @@ def least_command(arguments):
     return found.status
 
 
-def summary(arguments):
+def summary(arguments: argparse.Namespace) -> int:
     """Prints counts, volumes, hull and the widest small box of a paving, and on demand its clusters."""
     paving, warnings = paving_of(arguments)
     print_summary(paving, arguments.clusters)
@@ -145,7 +153,7 @@ def summary(arguments):
     return 0
 
 
-def print_summary(paving, clusters=False, file=None):
+def print_summary(paving: Cover, clusters: bool = False, file: TextIO | None = None) -> None:
     print(" ".join(f"{name} {count}" for name, count in paving.counts().items()), file=file)
     for kind, volume in paving.volumes().items():
         print(f"volume {kind} {as_float(volume, False):.9g}", file=file)
@@ -158,18 +166,18 @@ def print_summary(paving, clusters=False, file=None):
         print(f"widest small box {as_float(widest.width, True):.9g}: {widest!r}", file=file)
 
 
-def export(arguments):
+def export(arguments: argparse.Namespace) -> int:
     """Prints the paving of a campaign's database as a stored file, which the program's audit, merge, resume and svg take."""
     sys.stdout.write(Paving.read(arguments.paving).file_text())
     return 0
 
 
-def robust_of(arguments):
+def robust_of(arguments: argparse.Namespace) -> int:
     """Says for which values of a system's other variables all constraints hold for all values of some."""
     return robust_command.work(arguments, values_of)
 
 
-def csv_command(arguments):
+def csv_command(arguments: argparse.Namespace) -> int:
     """Prints the kept boxes of a paving as CSV."""
     paving, warnings = paving_of(arguments)
     paving.write_csv(sys.stdout, KEPT, arguments.exactly)
@@ -177,9 +185,9 @@ def csv_command(arguments):
     return 0
 
 
-def values_of(words):
+def values_of(words: Iterable[str]) -> dict[str, Fraction]:
     """The numbers that words as z=0.5 give for names; ValueError where one is no such word."""
-    found = {}
+    found: dict[str, Fraction] = {}
     for word in words:
         name, equals, number = word.partition("=")
         try:
@@ -191,27 +199,28 @@ def values_of(words):
     return found
 
 
-def plot_command(arguments):
+def plot_command(arguments: argparse.Namespace) -> int:
     """Draws a slice, or the projection on two variables, into a picture file: SVG by the package itself, other forms by
     matplotlib where it is installed."""
     paving, warnings = paving_of(arguments)
-    at = values_of(arguments.at or [])
-    names = [int(word) if word.isdigit() else word for word in (arguments.x, arguments.y)]
+    at: dict[Name, Fraction] = {name: value for name, value in values_of(arguments.at or []).items()}
+    x, y = (int(word) if word.isdigit() else word for word in (arguments.x, arguments.y))
     title = Path(arguments.system).stem
     if not arguments.project:
-        rectangles(paving, *names, at)  # which refuses what can't be drawn
+        rectangles(paving, x, y, at)  # which refuses what can't be drawn
     if arguments.picture.endswith(".svg"):
-        Path(arguments.picture).write_text(svg(paving, *names, at, arguments.project, title, not arguments.stretch,
-                                               arguments.near), encoding="utf-8")
+        drawn = svg(paving, x, y, at, arguments.project, title, not arguments.stretch, arguments.near)
+        Path(arguments.picture).write_text(drawn, encoding="utf-8")
     else:
-        draw_by_matplotlib(paving, names, at, title, arguments)
+        draw_by_matplotlib(paving, (x, y), at, title, arguments)
     report(warnings)
     return 0
 
 
-def draw_by_matplotlib(paving, names, at, title, arguments):
+def draw_by_matplotlib(paving: Paving, names: tuple[Name, Name], at: Mapping[Name, Fraction], title: str,
+                       arguments: argparse.Namespace) -> None:
     pyplot = drawing()[0]
-    how = {"title": title, "equal": not arguments.stretch, "near": arguments.near}
+    how: dict[str, Any] = {"title": title, "equal": not arguments.stretch, "near": arguments.near}
     if arguments.project:
         plot_projection(paving, *names, **how)
     else:
@@ -219,13 +228,13 @@ def draw_by_matplotlib(paving, names, at, title, arguments):
     pyplot.savefig(arguments.picture, dpi=200, bbox_inches="tight")
 
 
-def page_command(arguments):
+def page_command(arguments: argparse.Namespace) -> int:
     """Prints one page of HTML that shows pavings of the system in a browser; with no paving the system is run."""
     sys.stdout.write(view_command(arguments))
     return 0
 
 
-def split_command(arguments):
+def split_command(arguments: argparse.Namespace) -> int:
     """Writes the sub-systems of the parts of a search box, and prints their names."""
     variables = arguments.variables.split(",") if arguments.variables else None
     for path in split(arguments.system, arguments.parts, arguments.folder, variables=variables,
@@ -234,7 +243,7 @@ def split_command(arguments):
     return 0
 
 
-def gather_command(arguments):
+def gather_command(arguments: argparse.Namespace) -> int:
     """Puts the answers to a folder's parts together: a summary, or CSV. The answers have to be those of the parts that split
     wrote, under one group of settings."""
     identity = None if arguments.any_identity else UNSAID
@@ -251,7 +260,7 @@ def gather_command(arguments):
 
 
 @contextmanager
-def whole(name):
+def whole(name: str | None) -> Iterator[TextIO]:
     """Standard output, or a file that is there whole or not at all."""
     if name is None:
         yield sys.stdout
@@ -266,7 +275,7 @@ def whole(name):
             os.unlink(made)
 
 
-def parser():
+def parser() -> argparse.ArgumentParser:
     main_parser = argparse.ArgumentParser(prog="python3 -m paver", description=__doc__)
     main_parser.add_argument("--program", help="the program's path; else the variable PAVER, else PATH")
     commands = main_parser.add_subparsers(dest="command", required=True)
@@ -293,12 +302,12 @@ def parser():
     return main_parser
 
 
-def compared(command):
+def compared(command: argparse.ArgumentParser) -> None:
     command.add_argument("--any-identity", action="store_true", help="take a file without comparing its identity")
 
 
-def more_commands(commands):
-    def add(name, work):
+def more_commands(commands: Commands) -> None:
+    def add(name: str, work: Callable[[argparse.Namespace], int]) -> argparse.ArgumentParser:
         command = commands.add_parser(name, help=work.__doc__, description=work.__doc__)
         command.set_defaults(work=work)
         return command
@@ -338,13 +347,13 @@ def more_commands(commands):
     compared(gathered)
 
 
-def on_refused_contract(arguments, fault):
+def on_refused_contract(arguments: argparse.Namespace, fault: errors.ContractRefused) -> list[str]:
     """The lines on the refused contractor text of a command that runs the program."""
     system = program.check(arguments.system, program=arguments.program)
     return explain.of_refused_contract(arguments.contract, fault.byte, len(system.constraints))
 
 
-def parsed(words):
+def parsed(words: list[str]) -> argparse.Namespace:
     """The arguments of words. Those after `explain` are the program's, and are left as they are."""
     before = words[:words.index("explain")] if "explain" in words else None
     if before is None or len(before) > 2 or words[-1] in ("-h", "--help"):
@@ -354,7 +363,7 @@ def parsed(words):
     return arguments
 
 
-def main(words=None):
+def main(words: Iterable[str] | None = None) -> int:
     arguments = parsed(sys.argv[1:] if words is None else list(words))
     if sys.stdout is None:
         sys.stdout = open(os.devnull, "w", encoding="utf-8")  # so that nothing else fails
@@ -385,17 +394,17 @@ def main(words=None):
         return 2
 
 
-def refused_name(arguments):
+def refused_name(arguments: argparse.Namespace) -> str:
     """The system's file of a command."""
     return getattr(arguments, "system", None) or arguments.words[0]
 
 
-def one_line(text):
+def one_line(text: str) -> str:
     """A text of errors in one line that steers no terminal."""
     return printable(text.replace("\n", " "))[:2000]
 
 
-def silent():
+def silent() -> None:
     """Lets Python's own writing at its end go nowhere, so that it says nothing more."""
     try:
         os.dup2(os.open(os.devnull, os.O_WRONLY), sys.stdout.fileno())

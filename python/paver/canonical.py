@@ -11,7 +11,8 @@ from typing import Any, List, Optional, Sequence, Tuple
 
 from .numbers import counted, decimal
 
-Steps = List[Tuple[Any, ...]]
+Step = Tuple[Any, ...]
+Steps = List[Step]
 
 PRECEDENCE = {"+": 1, "-": 1, "*": 2, "/": 2, "neg": 2, "^": 3}
 

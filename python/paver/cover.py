@@ -5,15 +5,11 @@ import math
 from collections import namedtuple
 from fractions import Fraction
 from itertools import islice
-from typing import (
-    TYPE_CHECKING, Any, Dict, Iterable, Iterator, List, Mapping, Optional, Protocol, Sequence, Set, TextIO, Tuple, Union)
+from typing import Any, Dict, Iterable, Iterator, List, Mapping, Optional, Protocol, Sequence, Set, TextIO, Tuple, Union
 
 from .box import Box, Cluster, Exact, Number, exact_number, hull_of
 from .numbers import INFINITE, as_float, wide
 from .tree import Ends, Leaves, Tree, columns_of_ends
-
-if TYPE_CHECKING:
-    from .paving import Paving
 
 KEPT = ("inner", "small", "open")
 KINDS = (*KEPT, "removed")
@@ -80,15 +76,15 @@ class Cover:
         if self.root is None:
             raise ValueError("this needs the search box: give root= or system=")
 
-    def roots(self) -> Sequence[Paving]:
-        """The pavings of which this one is made."""
+    def roots(self) -> Sequence[Cover]:
+        """The pavings of which this one is made, or itself where it is made of none."""
         raise NotImplementedError
 
     def counts(self) -> Dict[str, int]:
         """How many nodes are settled, cut, removed, inner, small and open."""
         raise NotImplementedError
 
-    def pieces(self) -> Iterable[Any]:
+    def pieces(self) -> Iterable[Cover]:
         """The same, or where they are too large to be held at once their nodes in pieces, for questions that take one node
         after the other."""
         return self.roots()
@@ -334,7 +330,7 @@ def shown(value: Exact) -> str:
     return wide(value)
 
 
-def kept_ends(paving: Paving, wanted: Sequence[str]) -> List[Tuple[str, Ends]]:
+def kept_ends(paving: Cover, wanted: Sequence[str]) -> List[Tuple[str, Ends]]:
     """The class and ends of each kept box of one paving, in preorder. Where the root's box is not known, it is none."""
     tree, letters = paving.tree, {LETTERS[kind] for kind in wanted}
     return [(NAMED[kind], ends) for kind, box, to in zip(tree.kinds, tree.boxes, tree.tos) if kind in letters
@@ -347,7 +343,7 @@ def width_in(values: Sequence[int], ends: Ends) -> int:
     return min(widest, INFINITE >> 1)
 
 
-def volumes_of(paving: Paving) -> Dict[str, Exact]:
+def volumes_of(paving: Cover) -> Dict[str, Exact]:
     """The volumes of one paving: what is removed is what the kept boxes leave of the search box, as its parts meet in faces
     alone; where an end is infinite each part is measured by itself."""
     paving.need_root()

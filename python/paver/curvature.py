@@ -9,7 +9,7 @@ from __future__ import annotations
 from fractions import Fraction
 from typing import Optional, Tuple
 
-from .canonical import Constraint
+from .canonical import Constraint, Step, Steps
 
 FREE, AFFINE, CONVEX, CONCAVE = "free", "affine", "convex", "concave"
 TURNED = {FREE: FREE, AFFINE: AFFINE, CONVEX: CONCAVE, CONCAVE: CONVEX, None: None}
@@ -18,7 +18,7 @@ DOWNWARD = (FREE, AFFINE, CONCAVE)
 Bend = Tuple[Optional[str], Optional[Fraction]]  # with the value of a constant
 
 
-def bend_of(steps: list, variable: int) -> str | None:
+def bend_of(steps: Steps, variable: int) -> str | None:
     """The bend of an expression (see canonical.py) in a variable."""
     stack: list[Bend] = []
     for step in steps:
@@ -35,7 +35,7 @@ def bend_of(steps: list, variable: int) -> str | None:
     return stack[0][0]
 
 
-def of_one(step: tuple, base: Bend) -> Bend:
+def of_one(step: Step, base: Bend) -> Bend:
     bend, value = base
     kind = step[0]
     if bend == FREE:

@@ -7,12 +7,12 @@ from __future__ import annotations
 import math
 import random
 from collections.abc import Callable, Sequence
+from fractions import Fraction
 from time import process_time
 from typing import List
 
-from .canonical import Constraint, System
+from .canonical import Constraint, Step, Steps, System
 
-Steps = list  # an expression as canonical.py has it
 Point = List[float]
 SPAN = 10.0  # of a start where a domain has no end
 TINY = 1e-13
@@ -39,7 +39,7 @@ def source_of(expressions: Sequence[Steps]) -> str:
     return "\n".join(["def values(x):", *lines, f" return [{', '.join(results)}]"])
 
 
-def line_of(step: tuple, stack: list[str]) -> str:
+def line_of(step: Step, stack: list[str]) -> str:
     kind = step[0]
     if kind == "const":
         return repr(float_of(step[1]))
@@ -52,7 +52,7 @@ def line_of(step: tuple, stack: list[str]) -> str:
     return f"{kind}({a}, {b})" if kind in ("min", "max") else f"{a} {kind} {b}"
 
 
-def float_of(value) -> float:
+def float_of(value: Fraction) -> float:
     try:
         return value.numerator / value.denominator
     except OverflowError:
@@ -69,10 +69,10 @@ class Field:
     """An objective and a system's constraints as one function of floats: the objective's value, then for each constraint a
     number that is at most 0 where it holds. Domains are constraints, too."""
 
-    def __init__(self, system: System, objective: Steps, domains: Sequence[tuple[float, float]]):
+    def __init__(self, system: System, objective: Steps, domains: Sequence[tuple[float, float]]) -> None:
         self.domains = list(domains)
         expressions = [objective, *(slack for c in system.constraints for slack in slack_of(c))]
-        scope: dict[str, Callable] = {}
+        scope: dict[str, Callable[[Point], list[float]]] = {}
         exec(source_of(expressions), {"abs": abs, "min": min, "max": max}, scope)  # the text is made of numbers and signs
         self.values = scope["values"]
 

@@ -2,8 +2,15 @@
 
 An interval is a pair (low, high) of Fractions. Long fractions are rounded outward to keep them short.
 """
-from fractions import Fraction
+from __future__ import annotations
 
+from collections.abc import Sequence
+from fractions import Fraction
+from typing import Tuple
+
+from .canonical import Step, Steps
+
+Interval = Tuple[Fraction, Fraction]
 BITS = 400  # of the numerators and denominators that are kept
 
 
@@ -11,7 +18,7 @@ class Undefined(Exception):
     """A divisor's interval holds 0."""
 
 
-def short(x):
+def short(x: Interval) -> Interval:
     """The interval, or one around it whose ends have few bits."""
     low, high = x
     if max(low.denominator.bit_length(), high.denominator.bit_length()) <= BITS:
@@ -21,34 +28,34 @@ def short(x):
         Fraction(-(-high.numerator * scale // high.denominator), scale)
 
 
-def point(value):
+def point(value: Fraction) -> Interval:
     return value, value
 
 
-def plus(x, y):
+def plus(x: Interval, y: Interval) -> Interval:
     return x[0] + y[0], x[1] + y[1]
 
 
-def minus(x, y):
+def minus(x: Interval, y: Interval) -> Interval:
     return x[0] - y[1], x[1] - y[0]
 
 
-def opposite(x):
+def opposite(x: Interval) -> Interval:
     return -x[1], -x[0]
 
 
-def times(x, y):
+def times(x: Interval, y: Interval) -> Interval:
     products = [a * b for a in x for b in y]
     return short((min(products), max(products)))
 
 
-def over(x, y):
+def over(x: Interval, y: Interval) -> Interval:
     if y[0] <= 0 <= y[1]:
         raise Undefined
     return times(x, (1 / y[1], 1 / y[0]))
 
 
-def power(x, n):
+def power(x: Interval, n: int) -> Interval:
     if n == 0:
         return point(Fraction(1))
     low, high = x[0] ** n, x[1] ** n
@@ -57,17 +64,17 @@ def power(x, n):
     return short((Fraction(0) if x[0] <= 0 <= x[1] else min(low, high), max(low, high)))
 
 
-def hull(x, y):
+def hull(x: Interval, y: Interval) -> Interval:
     return min(x[0], y[0]), max(x[1], y[1])
 
 
-def meet(x, y):
+def meet(x: Interval, y: Interval) -> Interval | None:
     """The common part, or None."""
     low, high = max(x[0], y[0]), min(x[1], y[1])
     return (low, high) if low <= high else None
 
 
-def absolute(x):
+def absolute(x: Interval) -> Interval:
     if x[0] >= 0:
         return x
     return opposite(x) if x[1] <= 0 else (Fraction(0), max(-x[0], x[1]))
@@ -76,17 +83,18 @@ def absolute(x):
 class Dual:
     """The values of an expression on a box, and the slopes that it can have there in each variable."""
 
-    def __init__(self, values, slopes):
+    def __init__(self, values: Interval, slopes: Sequence[Interval]) -> None:
         self.values, self.slopes = values, slopes
 
-    def scaled(self, factor):
+    def scaled(self, factor: Interval) -> list[Interval]:
         return [times(slope, factor) for slope in self.slopes]
 
 
-def chosen(kind, x, y):
+def chosen(kind: str, x: Dual, y: Dual) -> Dual:
     """min or max: where the order of the arguments is open, the slopes of both are possible."""
     first, second = (x, y) if kind == "min" else (y, x)  # first is taken where x lies below y
-    values = tuple((min if kind == "min" else max)(a, b) for a, b in zip(x.values, y.values))
+    work = min if kind == "min" else max
+    values = work(x.values[0], y.values[0]), work(x.values[1], y.values[1])
     if x.values[1] <= y.values[0]:
         return Dual(values, first.slopes)
     if y.values[1] <= x.values[0]:
@@ -94,7 +102,7 @@ def chosen(kind, x, y):
     return Dual(values, [hull(a, b) for a, b in zip(x.slopes, y.slopes)])
 
 
-def of_one(step, x):
+def of_one(step: Step, x: Dual) -> Dual:
     kind = step[0]
     if kind == "neg":
         return Dual(opposite(x.values), [opposite(s) for s in x.slopes])
@@ -108,7 +116,7 @@ def of_one(step, x):
     return Dual(absolute(x.values), x.scaled(turn))
 
 
-def of_two(kind, x, y):
+def of_two(kind: str, x: Dual, y: Dual) -> Dual:
     if kind in ("min", "max"):
         return chosen(kind, x, y)
     if kind in "+-":
@@ -121,7 +129,7 @@ def of_two(kind, x, y):
     return Dual(values, [over(minus(a, b), y.values) for a, b in zip(x.slopes, y.scaled(values))])
 
 
-def on_box(steps, box):
+def on_box(steps: Steps, box: Sequence[Interval]) -> Dual:
     """The Dual of an expression (see canonical.py) on a box; Undefined where a divisor's interval holds 0."""
     zero, stack = [point(Fraction(0))] * len(box), []
     for step in steps:
@@ -140,5 +148,5 @@ def on_box(steps, box):
     return stack[0]
 
 
-def widest(box):
+def widest(box: Sequence[Interval]) -> Fraction:
     return max(high - low for low, high in box)

@@ -6,10 +6,13 @@ import shutil
 import tempfile
 from contextlib import contextmanager
 from pathlib import Path
-from typing import Any, Iterator, List, Optional, Tuple, Union
+from typing import TYPE_CHECKING, Iterator, List, Optional, Tuple, Union
 from urllib.parse import quote
 
 from .errors import PavingError
+
+if TYPE_CHECKING:
+    import sqlite3
 
 HEADER = b"SQLite format 3\0"
 PathName = Union[str, "os.PathLike[str]"]
@@ -25,7 +28,7 @@ def is_database(path: PathName) -> bool:
 
 
 @contextmanager
-def opened(path: PathName) -> Iterator[Any]:
+def opened(path: PathName) -> Iterator[sqlite3.Connection]:
     """A connection that changes nothing: the database itself where it has no log beside it, else a copy of both."""
     import sqlite3  # a Python without it reads all else
     log = Path(f"{os.fspath(path)}-wal")
@@ -61,7 +64,7 @@ def said_of(fault: Exception) -> str:
     return "no database of a campaign"
 
 
-def need_tables(connection: Any) -> None:
+def need_tables(connection: sqlite3.Connection) -> None:
     """PavingError where what is read is not two plain tables: a view may be without end."""
     found = dict(connection.execute("SELECT name, type FROM sqlite_master WHERE name IN ('head', 'node')").fetchall())
     for name in TABLES:
@@ -69,7 +72,7 @@ def need_tables(connection: Any) -> None:
             raise PavingError(1, f"no database of a campaign: it has no table `{name}`")
 
 
-def identity_in(connection: Any) -> Optional[str]:
+def identity_in(connection: sqlite3.Connection) -> Optional[str]:
     """The identity in hexadecimal digits; None where there is none."""
     found = connection.execute("SELECT identity FROM head WHERE id = 1").fetchone()
     if found is not None and not (isinstance(found[0], bytes) and len(found[0]) == 32):

@@ -17,7 +17,7 @@ from time import monotonic
 from typing import Any, Union
 
 from . import canonical, errors, numbers, program
-from .canonical import System
+from .canonical import Steps, System
 from .cover import Box
 from .descent import Field, low_point
 from .levels_kept import Proof, command_words, stored
@@ -77,7 +77,7 @@ class Question:
     """A system, an expression and settings: what is asked of the program."""
 
     def __init__(self, system: str | Path, of: str, *, widen: Width | None, contract: str | None, centered: bool, boxes: int,
-                 limit: str | int | None, path: str | None):
+                 limit: str | int | None, path: str | None) -> None:
         self.of, self.boxes, self.limit, self.path = of, boxes, limit, path
         self.command = "run-centered" if centered else "run"
         known = program.check(system, program=path)
@@ -103,7 +103,7 @@ class Question:
             path.write_bytes(text.encode(ENCODING, "xmlcharrefreplace"))
             return program.check(path, program=self.path)
 
-    def _objective(self) -> list:
+    def _objective(self) -> Steps:
         """The expression's steps. ObjectiveRefused where the text is none, at its own byte."""
         text = self.at_level(Fraction(0))
         start = text.rindex(f"{self.of}\n<= 0;\nend")
@@ -131,7 +131,7 @@ class Question:
         ends = {name: (word, word) for name, word in zip(self.base.names, words)}
         return self.text.written(constraints, ends)
 
-    def settings(self, level: Fraction | None, eps: Fraction, boxes: int) -> dict:
+    def settings(self, level: Fraction | None, eps: Fraction, boxes: int) -> dict[str, Any]:
         found = {"eps": numbers.minibex(eps), "depth": DEPTH, "boxes": boxes}
         contract = self.given if level is None else self.contract
         return {**found, **{name: word for name, word in (("contract", contract), ("limit", self.limit)) if word is not None}}
@@ -154,7 +154,7 @@ class Question:
 class Search:
     """A search that is under way: its bounds are right at every moment."""
 
-    def __init__(self, question: Question, within: Fraction, seconds: float, tell: Callable[[Levels], None] | None):
+    def __init__(self, question: Question, within: Fraction, seconds: float, tell: Callable[[Levels], None] | None) -> None:
         self.question, self.tell = question, tell
         self.until = monotonic() + seconds
         self.found = Levels(list(question.base.names), within)
@@ -167,7 +167,7 @@ class Search:
 
     # ---- calls of the program
 
-    def call(self, command: str, level: Fraction | None, eps: Fraction, boxes: int, point: tuple | None = None
+    def call(self, command: str, level: Fraction | None, eps: Fraction, boxes: int, point: tuple[Fraction, ...] | None = None
              ) -> tuple[Proof, Paving]:
         """A run, and its paving. Stopped where the time is used up or memory was wanting."""
         left = self.until - monotonic()
@@ -220,7 +220,7 @@ class Search:
                 return True
         return False
 
-    def raise_point(self, bound: Fraction, point: tuple, proof: Proof) -> None:
+    def raise_point(self, bound: Fraction, point: tuple[Fraction, ...], proof: Proof) -> None:
         self.found.upper, self.found.point, self.found.proofs["upper"] = bound, point, proof
         self.told()
 

@@ -7,6 +7,7 @@ import signal
 import sys
 from collections.abc import Iterator, Mapping
 from fractions import Fraction
+from typing import Any
 
 from . import errors, explain
 from .levels import BOXES, ENDINGS, Levels, least_by_levels
@@ -92,7 +93,7 @@ def raise_interrupt(_number: int, _frame: object) -> None:
 
 def work(arguments: argparse.Namespace) -> int:
     """Prints bounds of the least value by levels. Status 1 where they are not as near as asked."""
-    options: Mapping = {
+    options: Mapping[str, Any] = {
         "within": number_of("within", arguments.within or "0.001"),
         "seconds": float(number_of("seconds", arguments.seconds or "60")),
         "tries": [point_of(word) for word in arguments.try_points or ()], "widen": arguments.widen, "keep": arguments.keep,

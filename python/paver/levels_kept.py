@@ -6,6 +6,7 @@ from collections.abc import Mapping
 from dataclasses import dataclass
 from fractions import Fraction
 from pathlib import Path
+from typing import Any
 
 from . import program
 from .numbers import decimal
@@ -16,14 +17,14 @@ from .texts import ENCODING
 class Proof:
     """A run of the program: its command and settings, the system's text, the stored paving, the level, and the counts."""
     command: str
-    settings: dict
+    settings: dict[str, Any]
     text: str
     paving: bytes
     level: Fraction | None
     counts: dict[str, int]
 
 
-def command_words(command: str, system: str | Path, settings: Mapping, out: str | Path | None) -> list[str]:
+def command_words(command: str, system: str | Path, settings: Mapping[str, Any], out: str | Path | None) -> list[str]:
     """The words of a run, as the program takes them."""
     stores = [] if out is None else [f"--out={out}"]
     return [command, *program.option_words(settings), *stores, "--", str(system)]

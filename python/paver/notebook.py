@@ -2,14 +2,15 @@
 from __future__ import annotations
 
 from html import escape
-from typing import TYPE_CHECKING, Any, Dict, List, Optional, Sequence, Tuple
+from typing import TYPE_CHECKING, Any, Dict, Iterable, List, Optional, Sequence
 
 from .numbers import as_float
 from .picture import SIZE, picture_of
-from .plots import FILL, PAINTED, Pair, axes_of, finite_axes, grouped, projection
+from .plots import FILL, PAINTED, Shown, axes_of, finite_axes, grouped, projection
 
 if TYPE_CHECKING:
     from .cover import Cover
+    from .tree import Tree
 
 MOST = 6000  # rectangles of a picture
 
@@ -27,7 +28,7 @@ def svg_of(cover: Cover) -> Optional[str]:
     return picture_of(cover, (0, 1), shown)
 
 
-def coarse(cover: Cover, pixels: float) -> Any:
+def coarse(cover: Cover, pixels: float) -> Iterable[Shown]:
     """The rectangles of the projection on the first two variables, where what is kept in a part smaller than this is drawn as
     one small box around it. Of few boxes each is drawn as it is."""
     counts = cover.counts()
@@ -38,7 +39,7 @@ def coarse(cover: Cover, pixels: float) -> Any:
     return dict.fromkeys(rectangle for paving in cover.roots() for rectangle in coarse_of(paving, least))
 
 
-def coarse_of(paving: Any, least: Sequence[float]) -> List[Tuple[str, Pair, Pair]]:
+def coarse_of(paving: Cover, least: Sequence[float]) -> List[Shown]:
     """The same of one paving."""
     tree, found = paving.tree, []
     lows, highs = tree.table.floats(False), tree.table.floats(True)
@@ -46,7 +47,7 @@ def coarse_of(paving: Any, least: Sequence[float]) -> List[Tuple[str, Pair, Pair
     while waiting:
         k = waiting.pop()
         kind, ends = tree.kinds[k], tree.boxes[k] if tree.kinds[k] in "XO" else tree.tos[k]
-        if not kept[k]:
+        if not kept[k] or ends is None:
             continue
         x, y = (lows[ends[0]], highs[ends[1]]), (lows[ends[2]], highs[ends[3]])
         if kind == "C" and (x[1] - x[0] > least[0] or y[1] - y[0] > least[1]):
@@ -56,7 +57,7 @@ def coarse_of(paving: Any, least: Sequence[float]) -> List[Tuple[str, Pair, Pair
     return found
 
 
-def kept_below(tree: Any) -> List[bool]:
+def kept_below(tree: Tree) -> List[bool]:
     """Whether something is kept at or below each node."""
     found = [kind in "ISO" for kind in tree.kinds]
     for k in range(len(found) - 1, -1, -1):

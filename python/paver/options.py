@@ -134,7 +134,8 @@ def out_fault(name: Optional[str], files: Sequence[str]) -> List[str]:
     if name is not None and files[:1] == [name]:
         return [f"`--out {name}` is the system itself, which would be lost: name another file."]
     if name in OUTPUTS:
-        return [f"`--out {name}` is the standard output, where the counts are printed: without `--out` the nodes are printed, too."]
+        return [f"`--out {name}` is the standard output, where the counts are printed: without `--out` the nodes are printed, "
+                "too."]
     return []
 
 

@@ -15,26 +15,29 @@ import math
 import sys
 import zlib
 from array import array
+from collections.abc import Sequence
 from fractions import Fraction
+from typing import List, Tuple
 
 from .errors import PavingError
-from .numbers import INFINITE, SCALE, NumberError, grid, width
+from .numbers import INFINITE, SCALE, Exact, NumberError, grid, width
 from .paving import Paving
 
 INFINITE_EXPONENT = 32767
 CODES = {"X": 0, "I": 1, "S": 2, "O": 3}
 FIRST_CUT = 4
+Ends = Tuple[List[str], List[int]]  # of a box: their texts and their grid forms
 
 
 class Columns:
     """The columns as they grow. Each number is compared with the box that it stands in."""
 
-    def __init__(self):
+    def __init__(self) -> None:
         self.mantissas, self.exponents = array("q"), array("h")
         self.changed, self.codes = array("I"), array("B")
         self.sizes = dict.fromkeys("ISO", 0)
 
-    def number(self, word):
+    def number(self, word: str) -> int:
         """Adds a number and gives its grid form."""
         value = grid(word)
         if abs(value) == INFINITE:
@@ -46,7 +49,7 @@ class Columns:
             self.exponents.append(int(exponent))
         return value
 
-    def ends(self, words, box, same):
+    def ends(self, words: Sequence[str], box: Ends, same: str | None) -> Ends:
         """Adds the ends that differ from a box, given as grid forms with their texts, and gives the box of the ends."""
         if same and words.count(same) == len(words):
             self.changed.append(0)
@@ -68,7 +71,7 @@ class Columns:
         self.changed.append(changed)
         return texts, values
 
-    def cut(self, words, box, same):
+    def cut(self, words: Sequence[str], box: Ends, same: str | None) -> tuple[Ends, Ends]:
         """Adds a cut node and gives its halves' boxes, the low one last."""
         variable = int(words[1])
         value = self.number(words[2])
@@ -84,7 +87,7 @@ class Columns:
         high[0][place], high[1][place] = words[2], value
         return high, low
 
-    def leaf(self, words, box, same):
+    def leaf(self, words: Sequence[str], box: Ends, same: str | None) -> None:
         """Adds a leaf, and its size where it is kept."""
         kind = words[0]
         self.codes.append(CODES[kind])
@@ -95,7 +98,7 @@ class Columns:
         if kind != "X":
             self.sizes[kind] += math.prod(map(width, box[1][::2], box[1][1::2]))
 
-    def bytes(self):
+    def bytes(self) -> bytes:
         """All columns in one string of bytes."""
         parts = []
         for column in (self.mantissas, self.changed, self.exponents, self.codes):
@@ -105,7 +108,7 @@ class Columns:
         return b"".join(parts)
 
 
-def columns_of(paving):
+def columns_of(paving: Paving) -> Columns:
     """The columns of a paving whose search box is known; PavingError at the first line that is no node of its box."""
     if paving.root is None:
         raise ValueError("the search box is not known: read the paving with system=")
@@ -123,17 +126,17 @@ def columns_of(paving):
     return columns
 
 
-def volumes_of(paving, columns):
+def volumes_of(paving: Paving, columns: Columns) -> dict[str, Exact]:
     """The exact volume of each kind, as Cover.volumes has them: what is not kept of a finite search box is removed."""
-    ends = [grid(word) for word in paving.root]
-    if INFINITE in map(abs, ends):
+    ends = [grid(word) for word in paving.root or ()]
+    if any(abs(end) == INFINITE for end in ends):
         return paving.volumes()
     sizes = {"inner": columns.sizes["I"], "small": columns.sizes["S"], "open": columns.sizes["O"]}
     sizes["removed"] = math.prod(map(width, ends[::2], ends[1::2])) - sum(sizes.values())
-    return {kind: Fraction(size, 1 << SCALE * paving.dims) for kind, size in sizes.items()}
+    return {kind: Fraction(size, 1 << SCALE * (len(ends) // 2)) for kind, size in sizes.items()}
 
 
-def packed(paving: Paving) -> tuple[str, int, int, dict]:
+def packed(paving: Paving) -> tuple[str, int, int, dict[str, Exact]]:
     """The text of a paving's columns, deflated and in base64; the counts of its nodes and of its numbers; its volumes."""
     columns = columns_of(paving)
     text = base64.b64encode(zlib.compress(columns.bytes(), 6)).decode("ascii")

@@ -1,10 +1,10 @@
 """A paving that was printed or stored, read lazily: its lines stay texts until a question needs their numbers."""
 from __future__ import annotations
 
+import os
 import re
 from itertools import accumulate, repeat
 from operator import indexOf
-from pathlib import Path
 from typing import Any, BinaryIO, Dict, Iterable, List, Mapping, Optional, Sequence, Tuple, Union
 
 from . import kept
@@ -20,7 +20,7 @@ SUMMARY = re.compile(r"settled (\d+) cut (\d+) removed (\d+) inner (\d+) small (
 FIELDS = ("settled", "cut", "removed", "inner", "small", "open")
 STEPS = {"C ": 1, "X": -1, "I ": -1, "S ": -1, "O": -1}  # how a line changes the number of nodes that are to come
 CHUNK = 1 << 20  # bytes that are read at a time; a line has some hundreds at most
-PathName = Union[str, "Path"]
+PathName = Union[str, "os.PathLike[str]"]
 Root = Union[Sequence[str], Sequence[Tuple[Any, Any]]]
 
 
@@ -86,7 +86,7 @@ class Paving(Cover):
         Settings that aren't given are those that run kept beside the file, else the program's own. identity is the one that is
         wanted; identity=None compares nothing, which printed text needs, as it has none."""
         from . import beside
-        if isinstance(system, (str, Path)):
+        if isinstance(system, (str, os.PathLike)):
             from .program import check
             system = check(system, program=program)
         with open(path, "rb") as file:
@@ -268,7 +268,7 @@ class Parts(Cover):
         Files of more than 64 MB together are read again for each question, and some 50,000 nodes of them are held at a time;
         clusters and pictures alone have to hold all. Disagree where two stages tell different things of a node."""
         from .stages import stages_of
-        if isinstance(system, (str, Path)):
+        if isinstance(system, (str, os.PathLike)):
             from .program import check
             system = check(system, program=program)
         given = {"eps": eps, "depth": depth, "bisect": bisect, "contract": contract, "form": form}

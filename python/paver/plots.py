@@ -1,7 +1,7 @@
 """Plots of two variables, with matplotlib where it is installed. What is drawn is worked out without it."""
 from __future__ import annotations
 
-from typing import TYPE_CHECKING, Any, Dict, Iterator, List, Mapping, Optional, Sequence, Tuple
+from typing import TYPE_CHECKING, Any, Dict, Iterable, Iterator, List, Mapping, Optional, Sequence, Tuple
 
 from .box import Box, Number, hull_of
 from .cover import KEPT, KINDS, LETTERS, Name, kept_ends, kinds_of
@@ -49,7 +49,7 @@ def rectangles(cover: Cover, x: Name, y: Name, at: Optional[Mapping[Name, Number
     return ((box.kind, floats[first], floats[second]) for box in seen for floats in [box.floats])
 
 
-def kept_rectangles(paving: Any, kinds: Sequence[str], x: int, y: int) -> Iterator[Shown]:
+def kept_rectangles(paving: Cover, kinds: Sequence[str], x: int, y: int) -> Iterator[Shown]:
     """The kept boxes of one paving in two variables, in order."""
     lows, highs = paving.tree.table.floats(False), paving.tree.table.floats(True)
     a, b, c, d = 2 * x, 2 * x + 1, 2 * y, 2 * y + 1
@@ -65,7 +65,7 @@ def projection(cover: Cover, x: Name, y: Name, kinds: Sequence[str] = KEPT) -> I
     return (shadow for kind in wanted for paving in cover.roots() for shadow in shadows_of(paving, kind, first, second))
 
 
-def shadows_of(paving: Any, kind: str, x: int, y: int) -> Iterator[Shown]:
+def shadows_of(paving: Cover, kind: str, x: int, y: int) -> Iterator[Shown]:
     """The distinct shadows of one paving's boxes of a class."""
     if kind == "removed":
         yield from dict.fromkeys((kind, box.floats[x], box.floats[y]) for box in paving.boxes(kind))
@@ -150,7 +150,7 @@ def finite_axes(axes: Sequence[Pair]) -> List[Pair]:
     return low_high
 
 
-def grouped(shown: Iterator[Shown]) -> Dict[str, List[Rectangle]]:
+def grouped(shown: Iterable[Shown]) -> Dict[str, List[Rectangle]]:
     """The rectangles of each class, in the order in which the classes are painted."""
     found: Dict[str, List[Rectangle]] = {kind: [] for kind in PAINTED}
     with without_collection():

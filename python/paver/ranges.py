@@ -6,18 +6,16 @@ value form. It is tested and not proved.
 from __future__ import annotations
 
 from collections.abc import Sequence
-from fractions import Fraction
-from typing import Tuple
 
 from . import intervals as iv
-from .canonical import Constraint, value
+from .canonical import Constraint, Steps, value
+from .intervals import Interval
 
-Interval = Tuple[Fraction, Fraction]
 TWO = {"+": iv.plus, "-": iv.minus, "*": iv.times, "/": iv.over,
        "min": lambda x, y: (min(x[0], y[0]), min(x[1], y[1])), "max": lambda x, y: (max(x[0], y[0]), max(x[1], y[1]))}
 
 
-def range_of(steps: list, box: Sequence[Interval]) -> Interval:
+def range_of(steps: Steps, box: Sequence[Interval]) -> Interval:
     """The values of an expression on a box of finite ends; Undefined where a divisor's interval holds 0."""
     stack: list[Interval] = []
     for step in steps:
@@ -38,10 +36,13 @@ def range_of(steps: list, box: Sequence[Interval]) -> Interval:
     return stack[0]
 
 
-def mean_value(steps: list, box: Sequence[Interval]) -> Interval:
+def mean_value(steps: Steps, box: Sequence[Interval]) -> Interval:
     """The value at the centre, and the slopes times how far the box reaches from there."""
     centre = [(low + high) / 2 for low, high in box]
-    found = iv.point(value(steps, centre))
+    there = value(steps, centre)
+    if there is None:
+        raise iv.Undefined
+    found = iv.point(there)
     for slope, (low, high) in zip(iv.on_box(steps, box).slopes, box):
         half = (high - low) / 2
         found = iv.plus(found, iv.times(slope, (-half, half)))

@@ -19,7 +19,7 @@ from pathlib import Path
 from typing import Any, Dict, TextIO, Union
 
 from . import program
-from .canonical import Constraint, System, infix, value
+from .canonical import Constraint, Steps, System, infix, value
 from .cover import Box, Cover, Node
 from .curvature import at_vertices
 from .numbers import as_float, grid, spelling
@@ -58,7 +58,7 @@ class Negation:
 class Vertices:
     """A system's constraints with some variables at the ends of their domains."""
 
-    def __init__(self, source: SystemText, known: System, for_all: Sequence[str], use: bool = True):
+    def __init__(self, source: SystemText, known: System, for_all: Sequence[str], use: bool = True) -> None:
         self.source, self.known, self.for_all = source, known, list(for_all)
         self.able = [[name for name in self.for_all if use and known.variable(name) in variables_of(c)
                       and at_vertices(c, known.variable(name))] for c in known.constraints]
@@ -89,7 +89,7 @@ def variables_of(c: Constraint) -> set[int]:
     return {step[1] for step in [*c.left, *c.right] if step[0] == "var"}
 
 
-def divisors_of(system: System) -> Iterator[list]:
+def divisors_of(system: System) -> Iterator[Steps]:
     """The divisors of all constraints, each once; a constant that is not 0 is none."""
     seen = set()
     for c in system.constraints:
@@ -102,7 +102,7 @@ def divisors_of(system: System) -> Iterator[list]:
                     yield divisor
 
 
-def of_expression(steps: list) -> Iterator[list]:
+def of_expression(steps: Steps) -> Iterator[Steps]:
     """The divisors of an expression, innermost first."""
     starts: list[int] = []  # where the expressions on the stack begin
     for at, step in enumerate(steps):
@@ -226,7 +226,7 @@ class Robust(Cover):
     def counts(self) -> dict[str, int]:
         return {kind: len(self.of_kind(kind)) for kind in SHOWN}
 
-    def roots(self) -> list:
+    def roots(self) -> list[Robust]:
         return [self]
 
     def boxes_known(self) -> bool:
@@ -265,7 +265,7 @@ def written(end: Fraction | float, up: bool, exactly: bool) -> str:
 class Classifier:
     """Tells the regions from the paving of a negated system."""
 
-    def __init__(self, negation: Negation, system: System, paving: Paving, for_all: Sequence[str], source: SystemText):
+    def __init__(self, negation: Negation, system: System, paving: Paving, for_all: Sequence[str], source: SystemText) -> None:
         self.negation, self.system, self.paving = negation, system, paving
         self.gains = [system.variable(name) for name in negation.gains]
         self.rest = {name: system.variable(name) for name in negation.parameters}

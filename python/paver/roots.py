@@ -9,12 +9,13 @@ from __future__ import annotations
 
 from dataclasses import dataclass
 from fractions import Fraction
-from typing import Any, List, Optional, Tuple
+from typing import List, Optional, Sequence, Tuple
 
 from . import intervals as iv
-from .box import Box, Number
-from .canonical import System, value
+from .box import Box, Exact, Number, Pair
+from .canonical import Constraint, System, value
 from .cover import Cover
+from .intervals import Interval
 
 TESTED = "this step is tested and not proved, as the paving is"
 ONE, NONE, UNDECIDED = "one root, here", "none", "undecided"
@@ -32,13 +33,13 @@ class Root:
     else it is the cluster's hull; within is the box that holds no other root; boxes is how many the cluster has;
     remark says what else is to be known, or is empty."""
     verdict: str
-    box: Tuple[Tuple[Any, Any], ...]
+    box: Tuple[Pair, ...]
     boxes: int
     remark: str = ""
-    within: Optional[Tuple[Tuple[Any, Any], ...]] = None
+    within: Optional[Tuple[Pair, ...]] = None
 
     @property
-    def middle(self) -> Tuple[Any, ...]:
+    def middle(self) -> Tuple[Exact, ...]:
         """The middle of the box, in Fractions."""
         return tuple((low + high) / 2 for low, high in self.box)
 
@@ -46,7 +47,7 @@ class Root:
 class Equations:
     """The equations and the other constraints of a system, and its search box as pairs of exact values."""
 
-    def __init__(self, system: System, root: Any) -> None:
+    def __init__(self, system: System, root: Sequence[Pair]) -> None:
         self.equations = [c for c in system.constraints if c.relation == "="]
         self.others = [c for c in system.constraints if c.relation != "="]
         self.root = root
@@ -54,7 +55,7 @@ class Equations:
             raise NotSquare(f"{len(self.equations)} equations in {len(system.names)} variables: roots are tested where "
                             "there are as many equations as variables")
 
-    def at(self, point):
+    def at(self, point: Sequence[Fraction]) -> Optional[List[Fraction]]:
         """The exact values of f at a point; None where one is undefined."""
         found = []
         for equation in self.equations:
@@ -64,13 +65,13 @@ class Equations:
             found.append(left - right)
         return found
 
-    def on(self, box):
+    def on(self, box: Sequence[Interval]) -> List[iv.Dual]:
         """f's values and slopes on a box."""
         pairs = [(iv.on_box(e.left, box), iv.on_box(e.right, box)) for e in self.equations]
         return [iv.of_two("-", left, right) for left, right in pairs]
 
 
-def inverse(rows):
+def inverse(rows: Sequence[Sequence[Fraction]]) -> Optional[List[List[Fraction]]]:
     """The exact inverse of a matrix of Fractions; None where it has none."""
     size = len(rows)
     work = [list(row) + [Fraction(int(i == j)) for j in range(size)] for i, row in enumerate(rows)]
@@ -88,18 +89,18 @@ def inverse(rows):
     return [row[size:] for row in work]
 
 
-def near(entry):
+def near(entry: Fraction) -> Fraction:
     """A fraction with few bits near one: the matrix Y may be any."""
     return Fraction(round(entry * (1 << 80)), 1 << 80)
 
 
-def middle_of(low, high):
+def middle_of(low: Fraction, high: Fraction) -> Fraction:
     """A number with few bits near the middle of a place: it has to lie within, as the slopes hold there alone."""
     middle = (low + high) / 2
     return near(middle) if low <= near(middle) <= high else middle
 
 
-def krawczyk(equations, box):
+def krawczyk(equations: Equations, box: Sequence[Interval]) -> Optional[List[Interval]]:
     """K on a box; None where it can't be worked out; Undefined where a divisor's interval holds 0."""
     duals = equations.on(box)
     middle = [middle_of(low, high) for low, high in box]
@@ -121,22 +122,22 @@ def krawczyk(equations, box):
     return found
 
 
-def is_inside(inner, outer):
+def is_inside(inner: Sequence[Interval], outer: Sequence[Interval]) -> bool:
     return all(b[0] < a[0] and a[1] < b[1] for a, b in zip(inner, outer))
 
 
-def is_missed(equations, box):
+def is_missed(equations: Equations, box: Sequence[Interval]) -> bool:
     """Whether f has no root in a box by its values alone."""
     return any(not dual.values[0] <= 0 <= dual.values[1] for dual in equations.on(box))
 
 
-def inflated(box):
+def inflated(box: Sequence[Interval]) -> List[Interval]:
     """A somewhat larger box, so that a root on the edge lies within."""
     margin = iv.widest(box) / 8 + Fraction(1, 1 << 60)
     return [(low - margin, high + margin) for low, high in box]
 
 
-def tested(equations, hull):
+def tested(equations: Equations, hull: Sequence[Interval]) -> Tuple[str, Sequence[Interval], Optional[Sequence[Interval]]]:
     """The verdict on a box, with the box that holds the root and the box that holds no other: what is undecided keeps
     its hull, which may have become smaller."""
     box = list(hull)
@@ -150,8 +151,8 @@ def tested(equations, hull):
                 return UNDECIDED, hull, None
             if is_inside(image, wide):
                 return ONE, refined(equations, image), wide
-            smaller = [iv.meet(a, b) for a, b in zip(image, wide)]
-            if None in smaller or not all(iv.meet(a, b) for a, b in zip(smaller, box)):
+            smaller = meet_all(image, wide)
+            if smaller is None or meet_all(smaller, box) is None:
                 return NONE, hull, None
             if iv.widest(smaller) > iv.widest(wide) * Fraction(15, 16):
                 return UNDECIDED, hull, None
@@ -161,24 +162,31 @@ def tested(equations, hull):
     return UNDECIDED, hull, None
 
 
-def refined(equations, box):
+def refined(equations: Equations, box: Sequence[Interval]) -> Sequence[Interval]:
     """A narrow box around the one root of a box."""
     for _ in range(TURNS):
         if iv.widest(box) <= FINE:
             break
         image = krawczyk(equations, box)
-        smaller = image and [iv.meet(a, b) for a, b in zip(image, box)]
-        if not smaller or None in smaller or iv.widest(smaller) > iv.widest(box) / 2:
+        smaller = image and meet_all(image, box)
+        if not smaller or iv.widest(smaller) > iv.widest(box) / 2:
             break
         box = smaller
     return box
 
 
-def meet_all(first, second):
-    return all(iv.meet(a, b) for a, b in zip(first, second))
+def meet_all(first: Sequence[Interval], second: Sequence[Interval]) -> Optional[List[Interval]]:
+    """The common part of two boxes, or None."""
+    found = []
+    for a, b in zip(first, second):
+        common = iv.meet(a, b)
+        if common is None:
+            return None
+        found.append(common)
+    return found
 
 
-def held(constraint, box):
+def held(constraint: Constraint, box: Sequence[Interval]) -> Optional[bool]:
     """Whether a constraint holds everywhere on a box (True), nowhere (False), or neither is known (None)."""
     left, right = iv.on_box(constraint.left, box).values, iv.on_box(constraint.right, box).values
     if constraint.relation in (">", ">="):
@@ -188,7 +196,7 @@ def held(constraint, box):
     return True if left[1] <= right[0] else False if left[0] > right[1] else None
 
 
-def judged(equations, boxes, hull):
+def judged(equations: Equations, boxes: Sequence[Sequence[Interval]], hull: Sequence[Interval]) -> Root:
     """The Root of a cluster."""
     count = len(boxes)
     verdict, where, within = tested(equations, hull)
@@ -199,18 +207,18 @@ def judged(equations, boxes, hull):
         if len(left) < count:
             hull = [(min(b[k][0] for b in left), max(b[k][1] for b in left)) for k in range(len(hull))]
             verdict, where, within = tested(equations, hull)
-    if verdict != ONE:
+    if verdict != ONE or within is None:
         return Root(verdict, tuple(hull), count)
-    if not any(meet_all(where, box) for box in boxes):
+    if all(meet_all(where, box) is None for box in boxes):
         return Root(NONE, tuple(hull), count, "the root nearby lies in no box of this cluster")
-    return with_constraints(equations, Root(ONE, tuple(where), count, within=tuple(within)))
+    return with_constraints(equations, Root(ONE, tuple(where), count, within=tuple(within)), where)
 
 
-def with_constraints(equations, root):
-    """The other constraints and the search box have their say on one root."""
+def with_constraints(equations: Equations, root: Root, box: Sequence[Interval]) -> Root:
+    """The other constraints and the search box have their say on one root, which lies in a box."""
     for constraint in equations.others:
         try:
-            answer = held(constraint, root.box)
+            answer = held(constraint, box)
         except iv.Undefined:
             answer = None
         if answer is False:
@@ -222,23 +230,35 @@ def with_constraints(equations, root):
     return root
 
 
+def finite(box: Sequence[Pair]) -> Optional[List[Interval]]:
+    """A box, or None where an end is infinite."""
+    found: List[Interval] = []
+    for low, high in box:
+        if isinstance(low, float) or isinstance(high, float):
+            return None
+        found.append((low, high))
+    return found
+
+
 def find_roots(system: System, paving: Cover, gap: Number = 0) -> List[Root]:
     """A Root for each cluster of the paving's boxes that are not removed. The system is what program.check gave.
     NotSquare where it has not as many equations as variables; ValueError where a kept box is unbounded."""
     equations = Equations(system, Box("open", system.root).exact)
     found = []
     for cluster in paving.clusters(gap):
-        if any(isinstance(end, float) for pair in cluster.hull for end in pair):
+        hull = finite(cluster.hull)
+        if hull is None:
             found.append(Root(UNDECIDED, cluster.hull, len(cluster.boxes), "unbounded: give the variables domains"))
             continue
-        root = judged(equations, [list(box.exact) for box in cluster.boxes], list(cluster.hull))
+        boxes = [finite(box.exact) for box in cluster.boxes]
+        root = judged(equations, [box for box in boxes if box is not None], hull)
         if root.verdict != ONE or not any(is_same(root, other) for other in found):
             found.append(root)
     return found
 
 
-def is_same(root, other):
+def is_same(root: Root, other: Root) -> bool:
     """Whether two clusters have one root: that of the one lies in the box where the other has no second."""
-    if other.verdict != ONE:
+    if other.verdict != ONE or other.within is None:
         return False
     return all(b[0] <= a[0] and a[1] <= b[1] for a, b in zip(root.box, other.within))

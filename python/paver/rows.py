@@ -27,7 +27,7 @@ def csv_rows(cover: Cover, kinds: Sequence[str], exactly: bool) -> Iterator[str]
         yield from kept_rows(paving, kinds)
 
 
-def kept_rows(paving: Any, kinds: Sequence[str]) -> Iterator[str]:
+def kept_rows(paving: Cover, kinds: Sequence[str]) -> Iterator[str]:
     """The lines of the kept boxes of one paving, whose numbers are spelled a column at a time."""
     found, spelled = kept_ends(paving, kinds), paving.tree.table.spelled
     columns = enumerate(columns_of_ends([ends for _, ends in found]))
@@ -48,7 +48,7 @@ def numpy_of(cover: Cover, kinds: Sequence[str], exactly: bool) -> Any:
     return numpy.concatenate(arrays) if arrays else numpy.empty((0, dims, 2))
 
 
-def floats_of(paving: Any, kinds: Sequence[str], dims: int) -> Any:
+def floats_of(paving: Cover, kinds: Sequence[str], dims: int) -> Any:
     """The array of one paving, in floats that are rounded outward."""
     import numpy
     if "removed" in kinds:
@@ -69,7 +69,7 @@ def frame_of(cover: Cover, kinds: Sequence[str], exactly: bool) -> Any:
     return frame
 
 
-def classes_of(paving: Any, kinds: Sequence[str]) -> List[str]:
+def classes_of(paving: Cover, kinds: Sequence[str]) -> List[str]:
     """The class of each box, in order."""
     if "removed" in kinds:
         return [box.kind for box in paving.boxes(*kinds)]

@@ -128,7 +128,7 @@ class Piece(Cover):
         self.names, self.dims, self.root = names, len(root) // 2, root
         self._kept["tree"] = tree
 
-    def roots(self) -> Sequence[Any]:
+    def roots(self) -> Sequence[Piece]:
         """The piece itself."""
         return [self]
 

@@ -7,7 +7,7 @@ import signal
 import sys
 import time
 from pathlib import Path
-from typing import Any, Dict, Iterator
+from typing import Any, Dict, Iterable, Iterator, List
 
 from .options import KEPT_SETTINGS
 from .sweep import Progress, Sweep, sweep
@@ -81,11 +81,11 @@ def lines_of(found: Sweep) -> Iterator[str]:
         yield "honest"
 
 
-def joins_of(tasks: Dict[str, Dict[str, Any]]) -> Any:
+def joins_of(tasks: Dict[str, Dict[str, Any]]) -> List[Dict[str, Any]]:
     return [record for name, record in tasks.items() if not is_share(name)]
 
 
-def most_memory(records: Any) -> int:
+def most_memory(records: Iterable[Dict[str, Any]]) -> int:
     """The most memory of a task, in MB."""
     return int(max((record["memory"] for record in records), default=0) // 1024)
 

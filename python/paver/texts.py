@@ -6,7 +6,7 @@ from dataclasses import dataclass
 from fractions import Fraction
 from pathlib import Path
 
-from .minibex import tokens
+from .minibex import Token, tokens
 
 RELATIONS = ("=", "<=", ">=", "<", ">")
 ENCODING = "latin-1"  # every byte is one character, so places are bytes
@@ -16,7 +16,7 @@ ENCODING = "latin-1"  # every byte is one character, so places are bytes
 class Side:
     """An expression of a text as its tokens."""
     text: str
-    tokens: list
+    tokens: list[Token]
 
     def written(self, instead: Mapping[str, str] | None = None) -> str:
         """Its text, with other texts in the place of some names."""
@@ -53,7 +53,7 @@ class SystemText:
     """The parts of a text that the program takes: `before` the variables, the variables' names with the texts of their
     bounds (None where there is no domain), what stands `between` them and the constraints, and the constraints."""
 
-    def __init__(self, text: str):
+    def __init__(self, text: str) -> None:
         self.text, words = text, tokens(text)
         at = next(i for i, token in enumerate(words) if token.word == "Variables")
         self.before = text[:words[at].at]
@@ -70,7 +70,7 @@ class SystemText:
     def read(cls, path: str | Path) -> SystemText:
         return cls(Path(path).read_bytes().decode(ENCODING))
 
-    def _variable(self, words: list, at: int) -> int:
+    def _variable(self, words: list[Token], at: int) -> int:
         name, at = words[at].text, at + 1
         self.variables[name] = None
         if words[at].text == "in":
@@ -80,7 +80,7 @@ class SystemText:
             at = close + 1
         return at + 1 if words[at].text in (",", ";") else at
 
-    def _constraints(self, words: list) -> Iterable[Related]:
+    def _constraints(self, words: list[Token]) -> Iterable[Related]:
         begun, relation, depth = 0, None, 0
         for i, token in enumerate(words):
             depth += (token.text == "(") - (token.text == ")")
@@ -115,11 +115,11 @@ class SystemText:
                           "Constraints", *lines, "end", ""])
 
 
-def text_of(words: list) -> str:
+def text_of(words: list[Token]) -> str:
     return "".join(token.text for token in words)
 
 
-def constants_of(words: list) -> dict[str, Fraction]:
+def constants_of(words: list[Token]) -> dict[str, Fraction]:
     """The constants that stand before the variables, by their names: a name, `=`, and a number with an optional sign."""
     found: dict[str, Fraction] = {}
     at = 1 if words and words[0].word == "Constants" else len(words)

@@ -1,6 +1,7 @@
 """One page of HTML that shows pavings of a system in any browser, with no network: see viewer/ for its parts."""
 from __future__ import annotations
 
+import argparse
 import base64
 import copy
 import hashlib
@@ -8,13 +9,13 @@ import json
 import os
 from html import escape
 from pathlib import Path
-from typing import Iterable, Sequence, Union
+from typing import Any, Callable, Dict, Iterable, Mapping, Sequence, Tuple, Union
 
 from . import beside
 from . import program as calls
 from .canonical import System
 from .errors import PavingError
-from .numbers import as_float
+from .numbers import Exact, as_float
 from .options import CHOICES, DEFAULTS, SETTINGS
 from .packed import packed
 from .paving import Paving
@@ -25,6 +26,7 @@ SCRIPTS = ("numbers.js", "tree.js", "paint.js", "search.js", "constraints.js", "
 UNKNOWN = "not compared"
 OF_RUN = ("boxes", "workers", "limit")
 COMMANDS = {"plain": "run", "centered": "run-centered"}  # that make pavings of each form
+Entry = Tuple[Dict[str, Any], str]  # what the page tells of a paving, and its packed nodes
 
 
 class View:
@@ -44,13 +46,14 @@ class View:
         return f"<view of {len(self.html)} bytes: save it as an .html file>"
 
 
-def named_settings(settings):
+def named_settings(settings: Mapping[str, Any]) -> dict[str, str]:
     """The settings that make an identity but for the form, as texts, with the program's defaults."""
     given = {name: calls.spelled(name, value) for name, value in settings.items() if value is not None}
     return {name: given.get(name, DEFAULTS[name]) for name in SETTINGS}
 
 
-def command_of(paving, system, settings, form, unchecked, name):
+def command_of(paving: Paving, system: System, settings: Mapping[str, Any], form: str | None, unchecked: bool, name: str
+               ) -> str:
     """Which command's paving this is, by its identity; of either form, where none is given. PavingError where it is not this
     system's under these settings."""
     for known in [form] if form else CHOICES["form"]:
@@ -66,11 +69,11 @@ def command_of(paving, system, settings, form, unchecked, name):
                          "the system that it is of")
 
 
-def shown_number(value):
+def shown_number(value: Exact) -> str:
     return "infinite" if value == float("inf") else f"{as_float(value, False):.12g}"
 
 
-def entry(paving, settings, command, name):
+def entry(paving: Paving, settings: Mapping[str, str], command: str, name: str) -> Entry:
     """What the page tells of a paving, and its packed nodes."""
     text, nodes, numbers, volumes = packed(paving)
     whole = sum(volumes.values())
@@ -82,18 +85,18 @@ def entry(paving, settings, command, name):
     return about, text
 
 
-def for_script(value):
+def for_script(value: object) -> str:
     """JSON that can stand within a script element: nothing in it can end the element."""
     text = json.dumps(value, ensure_ascii=True, separators=(",", ":"))
     return text.replace("<", "\\u003c").replace(">", "\\u003e").replace("&", "\\u0026")
 
 
-def digest(text):
+def digest(text: str) -> str:
     """A part's digest, as a content security policy names it."""
     return "sha256-" + base64.b64encode(hashlib.sha256(text.encode()).digest()).decode()
 
 
-def page(system, source, entries, title):
+def page(system: System, source: str, entries: Sequence[Entry], title: str) -> str:
     """The text of the page: its parts, what is known of the system and the pavings, and the packed nodes."""
     script = "\n" + "".join((PARTS / name).read_text(encoding="utf-8") for name in SCRIPTS)
     style = "\n" + (PARTS / "style.css").read_text(encoding="utf-8")
@@ -115,7 +118,7 @@ def page_of_text(canonical: str, pavings: list[Paving], title: str = "paving", s
     return View(page(system, source, [entry(paving, {}, UNKNOWN, f"paving {k}") for k, paving in enumerate(pavings)], title))
 
 
-def read_one(given, system, settings):
+def read_one(given: One, system: System, settings: dict[str, Any]) -> tuple[Paving, str, dict[str, Any]]:
     """A paving, its name and the settings under which its identity is to be compared: of a file, a Paving, or an Answer.
     Nothing is compared here."""
     if isinstance(given, Paving):
@@ -134,16 +137,19 @@ One = Union[str, "os.PathLike[str]", Paving, calls.Answer]
 Pavings = Union[One, Iterable[One], None]
 
 
-def run_one(path, system, settings, centered, options, program):
+def run_one(path: Path, system: System, settings: Mapping[str, Any], centered: bool, options: Mapping[str, Any],
+            program: str | None) -> Entry:
     """An entry of the system's own run."""
-    work = calls.run_centered if centered else calls.run
+    work: Callable[..., calls.Answer] = calls.run
+    if centered:
+        work = calls.run_centered
     answer = work(path, program=program, **settings, **options)
     paving, command, known = read_one(answer, system, {})
     named, form = named_settings(known), known.get("form", "plain")
     return entry(paving, named, command_of(paving, system, named, form, False, command), command)
 
 
-def view(system: str | Path, pavings: Pavings = None, *, settings: list[dict] | None = None, title: str | None = None,
+def view(system: str | Path, pavings: Pavings = None, *, settings: list[dict[str, Any]] | None = None, title: str | None = None,
          unchecked: bool = False, centered: bool = False, program: str | None = None, **options: object) -> View:
     """A page that shows pavings of a system: stored files, databases of campaigns, Pavings or Answers, one or several; with
     none the system is run (or run by centered forms).
@@ -173,9 +179,9 @@ def view(system: str | Path, pavings: Pavings = None, *, settings: list[dict] | 
     return View(page(known, source, entries, title))
 
 
-def settings_of_words(arguments, count):
+def settings_of_words(arguments: argparse.Namespace, count: int) -> list[dict[str, str]]:
     """The settings of each paving of a command line: an option that is given once holds for all."""
-    found = [{} for _ in range(count)]
+    found: list[dict[str, str]] = [{} for _ in range(count)]
     for name in beside.KEPT_SETTINGS:
         values = getattr(arguments, name) or []
         if len(values) not in (0, 1, count):
@@ -185,19 +191,20 @@ def settings_of_words(arguments, count):
     return found
 
 
-def view_command(arguments):
+def view_command(arguments: argparse.Namespace) -> str:
     """Prints one page of HTML that shows pavings of the system in a browser; with no paving the system is run."""
     settings = settings_of_words(arguments, max(1, len(arguments.paving)))
-    how = {"title": arguments.title, "program": arguments.program}
+    how: dict[str, Any] = {"title": arguments.title, "program": arguments.program}
     if arguments.paving:
         made = view(arguments.system, arguments.paving, settings=settings, unchecked=arguments.unchecked, **how)
     else:
-        run = {name: getattr(arguments, name) for name in OF_RUN if getattr(arguments, name) is not None}
-        made = view(arguments.system, centered=arguments.centered, **settings[0], **run, **how)
+        how.update(settings[0])
+        how.update({name: getattr(arguments, name) for name in OF_RUN if getattr(arguments, name) is not None})
+        made = view(arguments.system, centered=arguments.centered, **how)
     return made.html
 
 
-def add_words(parser):
+def add_words(parser: argparse.ArgumentParser) -> None:
     """The words of the command `view`."""
     parser.add_argument("system")
     parser.add_argument("paving", nargs="*", help="stored pavings or databases of campaigns, as one film or side by side")

@@ -12,7 +12,7 @@ import tempfile
 from collections.abc import Iterator, Sequence
 from fractions import Fraction
 from pathlib import Path
-from typing import Union
+from typing import Any, Union
 
 from . import numbers
 from .canonical import System
@@ -63,8 +63,8 @@ def widened_contract(contract: str, relations: Sequence[str]) -> str:
 
 
 @contextlib.contextmanager
-def widened_file(system: str | Path, by: Width | None, options: dict | None = None, program: str | None = None
-                 ) -> Iterator[tuple[Path, dict]]:
+def widened_file(system: str | Path, by: Width | None, options: dict[str, Any] | None = None, program: str | None = None
+                 ) -> Iterator[tuple[Path, dict[str, Any]]]:
     """The path of a file of the widened system, and the options of its run, in which the contractor text counts the new
     constraints. Without `by` both are as they were given."""
     options = dict(options or {})

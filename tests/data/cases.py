@@ -1,5 +1,6 @@
 """The cases of the end-to-end tests: words and files, and what has to come of them."""
 from dataclasses import dataclass, field
+from typing import Dict, List
 
 USAGE = b"usage: paver COMMAND SYSTEM [OPTIONS] [PAVING..]\n"
 
@@ -7,24 +8,24 @@ USAGE = b"usage: paver COMMAND SYSTEM [OPTIONS] [PAVING..]\n"
 @dataclass
 class Case:
     name: str
-    words: list
+    words: List[str]
     status: int
-    files: dict = field(default_factory=dict)
+    files: Dict[str, bytes] = field(default_factory=dict)
     stdout: bytes = b""
     begins: bool = False  # standard output only begins with stdout
     stderr: bytes = b""
-    folders: list = field(default_factory=list)
+    folders: List[str] = field(default_factory=list)
     full_disk: bool = False
 
-    def accepts(self, printed):
+    def accepts(self, printed: bytes) -> bool:
         return printed.startswith(self.stdout) if self.begins else printed == self.stdout
 
 
-def system(domains, constraints):
+def system(domains: str, constraints: str) -> bytes:
     return f"Variables {domains}; Constraints {constraints}; end\n".encode()
 
 
-def lines(*texts):
+def lines(*texts: str) -> bytes:
     return "".join(f"{text}\n" for text in texts).encode()
 
 

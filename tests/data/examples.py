@@ -1,14 +1,19 @@
 """The example systems and the options that each is run with."""
+from __future__ import annotations
+
+from collections.abc import Sequence
 from fractions import Fraction
 from pathlib import Path
 
+from tests.reference.kinds import Settings
 
-def pairs(count):
+
+def pairs(count: int) -> str:
     """Programs that ask for constraints 2k and 2k + 1 together."""
     return ",".join(f"compose(hc4({2 * k}),hc4({2 * k + 1}))" for k in range(count))
 
 
-EXAMPLES = [
+EXAMPLES: list[tuple[str, list[str]]] = [
     ("tolerance", ["--eps", "0.5"]),
     ("ring", []),
     ("two_discs", []),
@@ -40,16 +45,16 @@ LEAST = [(name, ["--of", of, "--eps", eps, "--boxes", boxes]) for name, of, sear
 ) for eps, boxes in searches]
 
 
-def least_answers():
+def least_answers() -> dict[tuple[str, tuple[str, ...]], str]:
     """What each search of LEAST has to come to: its status and the printed words, by its name and words."""
     rows = (line.split(" | ") for line in (Path(__file__).parent / "least.txt").read_text().splitlines())
     return {(name, tuple(words.split())): answer for name, words, answer in rows}
 
 
-def settings_of(words):
+def settings_of(words: Sequence[str]) -> tuple[Settings, int]:
     """The reference settler's arguments, and the budget."""
     options = dict(zip(words[::2], words[1::2]))
-    settings = {}
+    settings: Settings = {}
     if "--eps" in options:
         settings["eps"] = Fraction(options["--eps"])
     if "--depth" in options:
@@ -68,7 +73,7 @@ ROBUST = [
 ]
 
 
-def robust_answers():
+def robust_answers() -> dict[str, list[str]]:
     """The printed lines that each command of ROBUST has to come to, by its name."""
     blocks = (Path(__file__).parent / "robust.txt").read_text().split("\n\n")
     return {lines[0]: lines[1:] for lines in (block.strip().splitlines() for block in blocks) if lines}
@@ -81,12 +86,12 @@ LEVELS = [
 ]
 
 
-def level_answers():
+def level_answers() -> dict[str, str]:
     """The summary of `run-centered` of each system of LEVELS with its level, by its name."""
     rows = (line.split(" ", 1) for line in (Path(__file__).parent / "levels.txt").read_text().splitlines())
-    return dict(rows)
+    return {name: summary for name, summary in rows}
 
 
-def at_level(text, of, level):
+def at_level(text: str, of: str, level: str) -> str:
     """A system's text with the level's constraint."""
     return f"{text.rstrip().removesuffix('end')}  {of} <= {level};\nend\n"

@@ -11,6 +11,7 @@ from pathlib import Path
 
 from tests.reference import minibex, numbers
 from tests.reference.faults import first_fault
+from tests.reference.kinds import Expression
 from tests.reference.paver import bound
 
 V = "Variables x in [0,4], y; "
@@ -135,12 +136,12 @@ GOOD = [
 ]
 
 
-def place(text, byte):
+def place(text: bytes, byte: int) -> tuple[int, int]:
     line = text.count(b"\n", 0, byte) + 1
     return line, byte - (text.rfind(b"\n", 0, byte) + 1) + 1
 
 
-def spelled(e):
+def spelled(e: Expression) -> str:
     if e[0] == "const":
         return f"{e[1].numerator}/{e[1].denominator}"
     if e[0] == "var":
@@ -150,7 +151,7 @@ def spelled(e):
     return f"({e[0]} {' '.join(spelled(part) for part in e[1:])})"
 
 
-def canonical(text):
+def canonical(text: str) -> bytes:
     system = minibex.read(text)
     lines = [f"vars {len(system.names)}"]
     for name, (low, high) in zip(system.names, system.domains):
@@ -160,7 +161,7 @@ def canonical(text):
     return "".join(line + "\n" for line in lines).encode()
 
 
-def literal(text):
+def literal(text: bytes) -> str:
     out = ""
     for b in text:
         c = chr(b)
@@ -168,7 +169,7 @@ def literal(text):
     return f'b"{out}"'
 
 
-def main():
+def main() -> int:
     folder = Path(__file__).resolve().parents[2] / "crates/test_reader/src/parse"
     wrong = 0
     for cause, marked in FAULTS:

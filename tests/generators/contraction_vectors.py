@@ -61,7 +61,7 @@ GROUPS = {
 }
 
 
-def row(x, y, constraints, program):
+def row(x: str, y: str, constraints: str, program: str) -> str:
     system = f"Variables x in {x}, y in {y}; Constraints {constraints}; End"
     settler = Settler(minibex.read(system), contract=program)
     left = settler.contract(settler.program, settler.root)

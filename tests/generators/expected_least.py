@@ -7,6 +7,7 @@ prints a line per search: the example's name, the words, and the status with the
 holds what it printed; tests/runners/least_values.py compares the program with that.
 """
 import sys
+from collections.abc import Sequence
 from pathlib import Path
 
 from tests.data.examples import LEAST, settings_of
@@ -16,7 +17,7 @@ from tests.reference.paver import Settler
 TOP = Path(__file__).resolve().parents[2]
 
 
-def answer_to(name, words):
+def answer_to(name: str, words: Sequence[str]) -> str:
     system = minibex.read((TOP / "examples" / f"{name}.mbx").read_text())
     e = least.expression(system, dict(zip(words[::2], words[1::2]))["--of"])
     settings, budget = settings_of(words)
@@ -24,7 +25,7 @@ def answer_to(name, words):
     return " ".join(["0" if done else "1", *least.printed(lower, found)])
 
 
-def main():
+def main() -> None:
     for name, words in LEAST:
         if name in (sys.argv[1:] or [name]):
             print(name, " ".join(words), answer_to(name, words), sep=" | ", flush=True)

@@ -6,8 +6,11 @@
 
 writes tests/data/levels.txt and robust.txt. The program serves to read systems alone.
 """
+from __future__ import annotations
+
 import os
 import sys
+from collections.abc import Sequence
 from fractions import Fraction
 from pathlib import Path
 
@@ -22,7 +25,7 @@ from tests.reference.slopes import CenteredSettler
 TOP = Path(__file__).resolve().parents[2]
 
 
-def answer_of(name, words):
+def answer_of(name: str, words: Sequence[str]) -> list[str]:
     """The answer of robust with the reference's paving in place of the program's."""
     text, (settings, budget) = (TOP / "examples" / f"{name}.mbx").read_text(), settings_of(words)
     names = words[1].split(",")
@@ -34,13 +37,13 @@ def answer_of(name, words):
     return lines_of(classified(negation, system, paving, names, SystemText(text), int(paving.counts()["open"] > 0)), names)
 
 
-def summary_of(name, of, level, eps):
+def summary_of(name: str, of: str, level: str, eps: str) -> str:
     """The summary of the reference's run by centered forms of a system with a level."""
     text = at_level((TOP / "examples" / f"{name}.mbx").read_text(), of, level)
     return plain.pave(CenteredSettler(minibex.read(text), eps=Fraction(eps)), 20000)[0]
 
 
-def main():
+def main() -> None:
     os.environ["PAVER"], data = os.path.abspath(sys.argv[1]), TOP / "tests" / "data"
     levels = [f"{name} {summary_of(name, of, level, eps)}\n" for name, of, level, eps, _ in LEVELS]
     (data / "levels.txt").write_text("".join(levels))

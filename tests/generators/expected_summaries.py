@@ -16,7 +16,7 @@ from tests.reference import minibex, paver
 from tests.reference.slopes import CenteredSettler
 
 
-def main():
+def main() -> None:
     centered = "--centered" in sys.argv
     settler = CenteredSettler if centered else paver.Settler
     wanted = [word for word in sys.argv[1:] if word != "--centered"] or (

@@ -6,9 +6,12 @@
 The summaries are those of tests/data/summaries.txt, which the plain paver worked out; the pictures are drawn by
 examples/pictures.sh, and bench/centered.py measured the times of tests/data/centered_times.txt.
 """
+from __future__ import annotations
+
 import math
 import re
 import shlex
+from collections.abc import Mapping, Sequence
 from fractions import Fraction
 from itertools import groupby, takewhile
 from pathlib import Path
@@ -142,23 +145,23 @@ $ python3 -m paver explain run examples/ring.mbx --boxes 1000000
 TITLES = {"pi_gains": "PI gains", "robust_pid": "Robust PID", "three_rpr": "3-RPR platform", "uncertain_pid": "Uncertain PID"}
 
 
-def title_of(name):
+def title_of(name: str) -> str:
     return TITLES.get(name, name.replace("_", " ").capitalize())
 
 
-def question_of(name):
+def question_of(name: str) -> str:
     """The comment at the head of the file without its command, quoted line by line."""
     text = (TOP / "examples" / f"{name}.mbx").read_text()
     lines = [line[2:] for line in takewhile(lambda line: line.startswith("//"), text.splitlines())]
     return "\n".join(f"> {line.strip()}  " for line in lines if "  paver " not in line and "  python3 -m " not in line)
 
 
-def summaries():
+def summaries() -> dict[str, str]:
     rows = (line.split(" ", 2) for line in (TOP / "tests" / "data" / "summaries.txt").read_text().splitlines())
     return {name: summary for name, _, summary in rows}
 
 
-def drawings():
+def drawings() -> dict[str, list[str]]:
     """The words that draw each picture, from the script that draws them all."""
     script = (TOP / "examples" / "pictures.sh").read_text()
     script = re.sub(r"\$\(pairs (\d+) (\d+)\)", lambda found: f"qinter({found[1]},{pairs(int(found[2]))})", script)
@@ -166,11 +169,11 @@ def drawings():
     return {name: words for _, name, *words in lines}
 
 
-def command_of(*words):
+def command_of(*words: str) -> str:
     return " ".join(f"'{word}'" if "(" in word else word for word in words)
 
 
-def entry(name, words, summary, drawn):
+def entry(name: str, words: Sequence[str], summary: str, drawn: Sequence[str]) -> str:
     system = f"examples/{name}.mbx"
     return f"""
 ## {title_of(name)}
@@ -188,7 +191,7 @@ Drawn by `{command_of("python3", "-m", "paver", "plot", system, *drawn, "--pictu
 {viewed(name, words)}"""
 
 
-def viewed(name, words):
+def viewed(name: str, words: Sequence[str]) -> str:
     """A line on the page of an example, where that is kept."""
     if name != VIEWED:
         return ""
@@ -196,7 +199,7 @@ def viewed(name, words):
     return f"\nTo move in, box by box: [a page for any browser](view/{name}.html), written by `{command} > {name}.html`.\n"
 
 
-def side_by_side():
+def side_by_side() -> str:
     """`run` and `run-centered` on some examples, with one worker."""
     text = SIDE_BY_SIDE
     for line in (TOP / "tests" / "data" / "centered_times.txt").read_text().splitlines():
@@ -205,7 +208,7 @@ def side_by_side():
     return text
 
 
-def decimal(word, up):
+def decimal(word: str, up: bool) -> str:
     """A printed number to six digits behind the point, rounded down or up."""
     if word in ("none", "-oo", "+oo"):
         return word
@@ -215,18 +218,18 @@ def decimal(word, up):
     return f"{'-' if whole < 0 else ''}{abs(whole) // 10**6}.{abs(whole) % 10**6:06}"
 
 
-def search_row(words, answer):
+def search_row(words: Sequence[str], answer: str) -> str:
     options, (status, _, lower, _, upper) = dict(zip(words[::2], words[1::2])), answer.split()[:5]
     end = "ended" if status == "0" else "budget spent"
     return f"| {options['--eps']} | {options['--boxes']} | {decimal(lower, False)} | {decimal(upper, True)} | {end} |\n"
 
 
-def lines_of(answer):
+def lines_of(answer: str) -> str:
     """The printed lines of an answer's words."""
     return answer.split(" ", 1)[1].replace(" upper ", "\nupper ").replace(" point ", "\npoint ")
 
 
-def least_entry(name, searches, answers):
+def least_entry(name: str, searches: Sequence[Sequence[str]], answers: Mapping[tuple[str, tuple[str, ...]], str]) -> str:
     words = searches[-1]
     rows = "".join(search_row(words, answers[name, tuple(words)]) for words in searches)
     return f"""
@@ -244,7 +247,7 @@ $ paver least examples/{name}.mbx {" ".join(words)}
 {rows}"""
 
 
-def levels_part():
+def levels_part() -> str:
     """What the levels of two examples show."""
     text, answers = LEVELS_HEAD, level_answers()
     for name, of, level, eps, point in LEVELS:
@@ -253,16 +256,16 @@ def levels_part():
     return text
 
 
-def robust_entry(name, words, lines):
-    script, words, shown = (TOP / "examples" / "pictures.sh").read_text(), " ".join(words), "\n".join(lines)
-    drawn = re.search(rf"^robust {name} (.*)$", script, re.M)[1]
+def robust_entry(name: str, words: Sequence[str], lines: Sequence[str]) -> str:
+    script, shown = (TOP / "examples" / "pictures.sh").read_text(), "\n".join(lines)
+    drawn = re.findall(rf"^robust {name} (.*)$", script, re.M)[0]
     return f"""
 ### {title_of(name)}
 
 {question_of(name)}
 
 ```
-$ python3 -m paver robust examples/{name}.mbx {words}
+$ python3 -m paver robust examples/{name}.mbx {" ".join(words)}
 {shown}
 ```
 
@@ -272,7 +275,7 @@ Drawn by `python3 -m paver robust examples/{name}.mbx {drawn} --picture {name}.s
 """
 
 
-def main():
+def main() -> None:
     found, drawn, answers = summaries(), drawings(), least_answers()
     text = HEAD + "".join(entry(name, words, found[name], drawn[name]) for name, words in EXAMPLES)
     text += side_by_side() + LEAST_HEAD

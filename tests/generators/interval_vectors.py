@@ -4,9 +4,12 @@
 An end is a Fraction, or -inf or +inf. The tables are those of interval arithmetic with outward rounding to the numbers
 m * 2^e with |m| < 2^62 and e from -512 to 450.
 """
+from __future__ import annotations
+
 import math
 import random
 from fractions import Fraction
+from typing import Tuple, Union
 
 from tests.generators.case_table import CRATES, table
 
@@ -14,8 +17,11 @@ INF = math.inf
 TOP = Fraction((2**62 - 1) * 2**450)
 LEAST = Fraction(1, 2**512)
 
+Number = Union[Fraction, float]  # a float where it is infinite
+Interval = Tuple[Number, Number]
 
-def grid_below(x):
+
+def grid_below(x: Number) -> Number:
     """The greatest number that is at most x."""
     if x > TOP:
         return TOP
@@ -29,7 +35,7 @@ def grid_below(x):
     return Fraction((whole >> shift) << shift, 2**512)
 
 
-def grid_above(x):
+def grid_above(x: Number) -> Number:
     """The least number that is at least x."""
     if x > TOP:
         return INF
@@ -44,19 +50,19 @@ def grid_above(x):
     return Fraction(whole, 2**512)
 
 
-def rounded(x, side):
+def rounded(x: Number, side: int) -> Number:
     return grid_below(x) if side < 0 else grid_above(x)
 
 
-def sign(x):
+def sign(x: Number) -> int:
     return (x > 0) - (x < 0)
 
 
-def infinite(x):
+def infinite(x: Number) -> bool:
     return x in (INF, -INF)
 
 
-def add(a, b, side):
+def add(a: Number, b: Number, side: int) -> Number:
     if infinite(a) and infinite(b) and a != b:
         return INF if side > 0 else -INF
     if infinite(a) or infinite(b):
@@ -64,7 +70,7 @@ def add(a, b, side):
     return rounded(a + b, side)
 
 
-def mul(a, b, side):
+def mul(a: Number, b: Number, side: int) -> Number:
     if a == 0 or b == 0:
         return Fraction(0)
     if infinite(a) or infinite(b):
@@ -72,7 +78,7 @@ def mul(a, b, side):
     return rounded(a * b, side)
 
 
-def div(a, b, side):
+def div(a: Number, b: Number, side: int) -> Number:
     if infinite(b):
         return Fraction(0)
     if infinite(a):
@@ -80,7 +86,7 @@ def div(a, b, side):
     return rounded(a / b, side)
 
 
-def power(a, n, side):
+def power(a: Number, n: int, side: int) -> Number:
     if n == 0:
         return Fraction(1)
     result = a
@@ -92,24 +98,24 @@ def power(a, n, side):
 DOWN, UP = -1, 1
 
 
-def plus(x, y):
+def plus(x: Interval, y: Interval) -> Interval:
     return (add(x[0], y[0], DOWN), add(x[1], y[1], UP))
 
 
-def minus(x, y):
+def minus(x: Interval, y: Interval) -> Interval:
     return (add(x[0], -y[1], DOWN), add(x[1], -y[0], UP))
 
 
-def times(x, y):
+def times(x: Interval, y: Interval) -> Interval:
     pairs = [(a, b) for a in x for b in y]
     return (min(mul(a, b, DOWN) for a, b in pairs), max(mul(a, b, UP) for a, b in pairs))
 
 
-def opposite(x):
+def opposite(x: Interval) -> Interval:
     return (-x[1], -x[0])
 
 
-def size(x):
+def size(x: Interval) -> Interval:
     if x[0] >= 0:
         return x
     if x[1] <= 0:
@@ -117,15 +123,15 @@ def size(x):
     return (Fraction(0), max(-x[0], x[1]))
 
 
-def least(x, y):
+def least(x: Interval, y: Interval) -> Interval:
     return (min(x[0], y[0]), min(x[1], y[1]))
 
 
-def greatest(x, y):
+def greatest(x: Interval, y: Interval) -> Interval:
     return (max(x[0], y[0]), max(x[1], y[1]))
 
 
-def raised(x, n):
+def raised(x: Interval, n: int) -> Interval:
     a, b = x
     if n == 0:
         return (Fraction(1), Fraction(1))
@@ -140,7 +146,7 @@ def raised(x, n):
     return (Fraction(0), max(power(-a, n, UP), power(b, n, UP)))
 
 
-def quotient(x, y):
+def quotient(x: Interval, y: Interval) -> Interval | None:
     a, b = x
     c, d = y
     everything = (-INF, INF)
@@ -166,16 +172,16 @@ def quotient(x, y):
     return everything
 
 
-def meet(x, y):
+def meet(x: Interval, y: Interval) -> Interval | None:
     low, high = max(x[0], y[0]), min(x[1], y[1])
     return (low, high) if low <= high else None
 
 
-def hull(x, y):
+def hull(x: Interval, y: Interval) -> Interval:
     return (min(x[0], y[0]), max(x[1], y[1]))
 
 
-def spelled(x):
+def spelled(x: Number) -> str:
     """The canonical mantissa and exponent; the exponent 999 stands for an infinite end."""
     if infinite(x):
         return f"({sign(x)}, 999)"
@@ -188,11 +194,11 @@ def spelled(x):
     return f"({whole >> exponent}, {exponent - 512})"
 
 
-def pair(x):
+def pair(x: Interval) -> str:
     return f"({spelled(x[0])}, {spelled(x[1])})"
 
 
-def answer(x):
+def answer(x: Interval | None) -> str:
     return "None" if x is None else f"Some({pair(x)})"
 
 
@@ -200,7 +206,7 @@ ENDS = [Fraction(0), Fraction(1), Fraction(-1), Fraction(4), Fraction(-3), Fract
         grid_below(Fraction(1, 3)), -grid_above(Fraction(7, 10)), TOP, -TOP, LEAST, -LEAST, Fraction(2**40 + 1), INF, -INF]
 
 
-def intervals():
+def intervals() -> list[Interval]:
     result = []
     for a in ENDS:
         for b in ENDS:
@@ -213,12 +219,13 @@ BINARY = {"Add": plus, "Sub": minus, "Mul": times, "Min": least, "Max": greatest
           "Meet": meet}
 
 
-def cases():
+def cases() -> list[tuple[str, int, Interval, Interval]]:
     chance = random.Random(20)
     pool = intervals()
-    found = [("Quotient", 0, (Fraction(1), Fraction(2)), (Fraction(0), Fraction(4))),
-             ("Quotient", 0, (Fraction(0), Fraction(0)), (Fraction(-1), Fraction(1))),
-             ("Quotient", 0, (Fraction(1), Fraction(1)), (Fraction(0), Fraction(0)))]
+    found: list[tuple[str, int, Interval, Interval]] = [
+        ("Quotient", 0, (Fraction(1), Fraction(2)), (Fraction(0), Fraction(4))),
+        ("Quotient", 0, (Fraction(0), Fraction(0)), (Fraction(-1), Fraction(1))),
+        ("Quotient", 0, (Fraction(1), Fraction(1)), (Fraction(0), Fraction(0)))]
     counts = [("Add", 30), ("Sub", 30), ("Mul", 60), ("Min", 15), ("Max", 15), ("Hull", 15), ("Quotient", 70), ("Meet", 25)]
     for name, count in counts:
         for _ in range(count):
@@ -232,7 +239,7 @@ def cases():
     return found
 
 
-def result_of(name, n, x, y):
+def result_of(name: str, n: int, x: Interval, y: Interval) -> Interval | None:
     if name == "Neg":
         return opposite(x)
     if name == "Abs":
@@ -249,7 +256,7 @@ use crate::interval::Operation::{self, Abs, Add, Hull, Max, Meet, Min, Mul, Neg,
 """
 
 
-def main():
+def main() -> None:
     rows = [f"    ({name}, {n}, {pair(x)}, {pair(y)}, {answer(result_of(name, n, x, y))})," for name, n, x, y in cases()]
     text = HEADING + table("CASES", "(Operation, u8, Ends, Ends, Option<Ends>)", rows, "super")
     (CRATES / "test_numbers/src/interval/vectors.rt").write_text(text)

@@ -7,14 +7,20 @@ value below the lower one.
 
 Writes crates/test_values/src/table.rt.
 """
+from __future__ import annotations
+
 import random
 from fractions import Fraction
-from typing import Any
+from typing import Any, Union
 
 from tests.generators.case_table import write
 from tests.reference import least, minibex
+from tests.reference.kinds import Expression, Value
 from tests.reference.numbers import NEG_INF, POS_INF, as_fraction, is_finite, spelling
 from tests.reference.paver import Settler
+
+Known = Union[int, Fraction, str]  # the least value, or what there is in its place
+Answer = Any  # what a search found, as least.least gives it
 
 NONE, UNBOUNDED, HUGE = "Nowhere", "Unbounded", "Huge"
 X4, X10 = "x in [-4,4]", "x in [-10,10]"
@@ -84,7 +90,7 @@ GROUPS: dict[str, list[tuple[Any, ...]]] = {
 }
 
 
-def members(system, count, spread=Fraction(40)):
+def members(system: minibex.System, count: int, spread: Fraction = Fraction(40)) -> list[list[Fraction]]:
     """Rational members, drawn from the domains."""
     source, found = random.Random(7), []
     for _ in range(count):
@@ -98,7 +104,7 @@ def members(system, count, spread=Fraction(40)):
     return found
 
 
-def looked_at(text, system, e, known, answer):
+def looked_at(text: str, system: minibex.System, e: Expression, known: Known, answer: Answer) -> None:
     lower, found = answer[0], answer[1]
     for point in members(system, 10_000):
         v = minibex.value(e, point)
@@ -114,7 +120,7 @@ def looked_at(text, system, e, known, answer):
         assert found[0] == POS_INF, text
 
 
-def told(lower, found, settled, done):
+def told(lower: Value, found: tuple[Value, list[Value]] | None, settled: int, done: bool) -> str:
     """What a search found, as a line of words."""
     words = ["lower", spelling(lower)]
     if found is not None:
@@ -122,14 +128,14 @@ def told(lower, found, settled, done):
     return " ".join([*words, "settled", str(settled), "done" if done else "open"])
 
 
-def row(text, of, budget, known, answer):
+def row(text: str, of: str, budget: int, known: Known, answer: Answer) -> str:
     if isinstance(known, (int, Fraction)):
         known = f"At({Fraction(known).numerator}, {Fraction(known).denominator})"
     fields = [f'"{text}"', f'"{of}"', str(budget), known, f'"{told(*answer)}"']
     return "    (\n" + "".join(f"        {field},\n" for field in fields) + "    ),"
 
 
-def worked(domains, constraints, of, budget, known):
+def worked(domains: str, constraints: str, of: str, budget: int, known: Known) -> tuple[str, str, int, Known, Answer]:
     text = f"Variables {domains}; Constraints {constraints}; end"
     system = minibex.read(text)
     e = least.expression(system, of)

@@ -3,13 +3,17 @@
 Boxes are pairs of whole numbers times 2^-SHIFT; cuts are in the middle or anywhere, and some nodes are contracted to ends
 with many bits.
 """
+from __future__ import annotations
+
 import random
+from collections.abc import Iterable, Sequence
+from typing import Any
 
 SHIFT = 60
 KINDS = "XISSO"
 
 
-def spelled(value):
+def spelled(value: int) -> str:
     """The text of value·2^-SHIFT."""
     if value == 0:
         return "0:0"
@@ -17,7 +21,7 @@ def spelled(value):
     return f"{value >> trailing}:{trailing - SHIFT}"
 
 
-def contracted(chance, box):
+def contracted(chance: random.Random, box: Sequence[int]) -> list[int]:
     """A box within a box, some of whose ends are moved."""
     to = list(box)
     for place in range(0, len(box), 2):
@@ -29,11 +33,11 @@ def contracted(chance, box):
     return to
 
 
-def words_of(box, to):
+def words_of(box: Iterable[int], to: Iterable[int]) -> str:
     return " ".join("=" if old == new else spelled(new) for old, new in zip(box, to))
 
 
-def place_of_cut(chance, to, any_place):
+def place_of_cut(chance: random.Random, to: Sequence[int], any_place: bool) -> tuple[int, int] | None:
     """The place of the widest variable and where it is cut; None where it is too narrow."""
     place = max(range(0, len(to), 2), key=lambda place: to[place + 1] - to[place])
     low, high = to[place], to[place + 1]
@@ -42,7 +46,8 @@ def place_of_cut(chance, to, any_place):
     return place, chance.randint(low + 1, high - 1) if any_place else (low + high) // 2
 
 
-def made_lines(seed, ends, depth, leaf=0.0, contract=0.2, any_place=True):
+def made_lines(seed: int, ends: Iterable[int], depth: int, leaf: float = 0.0, contract: float = 0.2, any_place: bool = True
+               ) -> list[str]:
     """The node lines of a paving in preorder, of a box with whole ends: cut down to the depth, but for some leaves before."""
     chance = random.Random(seed)
     waiting, lines = [([end << SHIFT for end in ends], 0)], []
@@ -62,12 +67,12 @@ def made_lines(seed, ends, depth, leaf=0.0, contract=0.2, any_place=True):
     return lines
 
 
-def made_text(*made, **how):
+def made_text(*made: Any, **how: Any) -> str:
     """The text of a stored file of such a paving."""
     return "".join(f"{line}\n" for line in ("paving 2", f"identity {'0' * 64}", *made_lines(*made, **how)))
 
 
-def canonical(ends):
+def canonical(ends: Sequence[int]) -> str:
     """The canonical text of a system over a box with whole ends."""
     names = "xyzuvw"[:len(ends) // 2]
     rows = [f"{name} {spelled(low << SHIFT)} {spelled(high << SHIFT)}" for name, low, high in
@@ -75,13 +80,13 @@ def canonical(ends):
     return "".join(f"{line}\n" for line in (f"vars {len(names)}", *rows, "ctrs 1", "<= v0 1/1"))
 
 
-def grid_text(levels, half, seed=1):
+def grid_text(levels: int, half: int, seed: int = 1) -> str:
     """The text of a paving of [-half, half]^2, half a power of two: cut in the middle down to 2^levels leaves of one size,
     of kinds by chance."""
     chance, leaves = random.Random(seed), ["X", "I = = = =", "S = = = =", "O"]
     kinds = iter(chance.choices(leaves, k=1 << levels))
     lines, waiting = [], [(0, -half << SHIFT, half << SHIFT, -half << SHIFT, half << SHIFT)]
-    known = {}
+    known: dict[int, str] = {}
     while waiting:
         level, a, b, c, d = waiting.pop()
         if level == levels:

@@ -5,42 +5,53 @@ nothing is shared with the program.
 
 Writes crates/test_pictures/src/table.rt.
 """
+from __future__ import annotations
+
 import random
+from collections.abc import Iterator, Sequence
 from fractions import Fraction
 from math import floor
+from typing import Tuple
 
 from tests.generators.case_table import ends, spelled, write
 from tests.reference import files
+from tests.reference.kinds import Box, Interval, Tree, Value
 from tests.reference.numbers import DOWN, TOP, UP, as_fraction, from_fraction, is_finite
 from tests.reference.paver import halves
 
 FILLS = {"X": "#cfd8dc", "I": "#43a047", "S": "#fdd835", "O": "#ffffff"}
+Case = Tuple[Box, Tree, int, int, Sequence[Value]]
 HEAD = '<svg xmlns="http://www.w3.org/2000/svg" width="1000" height="1000" viewBox="0 0 1000 1000">\n'
 
 
-def rounded(value, side):
+def rounded(value: Fraction, side: str) -> Fraction | None:
     """A fraction rounded to a number, as a fraction again; None for an infinite end."""
     number = from_fraction(value, side)
     return as_fraction(number) if is_finite(number) else None
 
 
-def lower_pixel(axis, v):
+def below(value: Fraction) -> Fraction:
+    """A fraction from 0 on rounded down, which is finite."""
+    return as_fraction(from_fraction(value, DOWN))
+
+
+def lower_pixel(axis: Interval, v: Value) -> int:
     """How many pixels from the lower end on end at or below a number, by steps that are each rounded down."""
     lo, hi, v = as_fraction(axis[0]), as_fraction(axis[1]), as_fraction(v)
     if v == hi:
         return 1000
     length = rounded(hi - lo, UP)
-    share = Fraction(0) if length is None else rounded(rounded(v - lo, DOWN) / length, DOWN)
-    return floor(rounded(share * 1000, DOWN))
+    share = Fraction(0) if length is None else below(below(v - lo) / length)
+    return floor(below(share * 1000))
 
 
-def upper_pixel(axis, v):
+def upper_pixel(axis: Interval, v: Value) -> int:
     """How many pixels from the lower end on begin below a number: by the same steps from the upper end down."""
     lo, hi = axis
     return 1000 - lower_pixel((-hi, -lo), -v)
 
 
-def side(kind, axis, part):
+def side(kind: str, axis: Interval, part: Interval) -> tuple[int, int]:
     """The first pixel of a part of an axis, and the first behind it."""
     if axis[0] == axis[1]:
         return 0, 1
@@ -54,17 +65,18 @@ def side(kind, axis, part):
     return first, past
 
 
-def exact(axis, v):
+def exact(axis: Interval, v: Value) -> Fraction:
     """Where a number lies on an axis with a length, in pixels."""
     lo, hi, v = as_fraction(axis[0]), as_fraction(axis[1]), as_fraction(v)
     return 1000 * (v - lo) / (hi - lo)
 
 
-def rectangles(tree, box, x, y, at):
+def rectangles(tree: Tree, box: Box, x: int, y: int, at: Sequence[Value]) -> Iterator[tuple[Box, str]]:
     """Pairs of a box and a class, by recursion on the tree."""
-    def is_seen(b):
+    def is_seen(b: Box) -> bool:
         others = [b[i] for i in range(len(b)) if i not in (x, y)]
-        return all(lo <= n <= hi for (lo, hi), n in zip(others, at, strict=True))
+        assert len(others) == len(at)
+        return all(lo <= n <= hi for (lo, hi), n in zip(others, at))
 
     kind = tree[0]
     if not is_seen(box):
@@ -82,7 +94,7 @@ def rectangles(tree, box, x, y, at):
         yield to, kind
 
 
-def picture(tree, root, x, y, at):
+def picture(tree: Tree, root: Box, x: int, y: int, at: Sequence[Value]) -> str:
     text = HEAD
     for box, kind in rectangles(tree, root, x, y, at):
         (left, right), (bottom, top) = (side(kind, root[i], box[i]) for i in (x, y))
@@ -92,15 +104,15 @@ def picture(tree, root, x, y, at):
     return text + "</svg>\n"
 
 
-def end(value):
+def end(value: Fraction | int) -> Value:
     return from_fraction(Fraction(value), DOWN)
 
 
-def boxed(*ends):
+def boxed(*ends: tuple[Fraction | int, Fraction | int]) -> Box:
     return [(end(lo), end(hi)) for lo, hi in ends]
 
 
-def part_of(chance, interval):
+def part_of(chance: random.Random, interval: Interval) -> Interval:
     """The interval, or a part of it with ends on a grid of sevenths of its length."""
     lo, hi = interval
     if chance.random() < 0.6:
@@ -109,7 +121,7 @@ def part_of(chance, interval):
     return tuple(min(max(from_fraction(as_fraction(lo + (hi - lo) * k // 7), DOWN), lo), hi) for k in cuts)
 
 
-def grown(chance, box, cuts):
+def grown(chance: random.Random, box: Box, cuts: int) -> Tree:
     """A tree over a box with at most so many cuts on a path."""
     kind = chance.choice("OXISCCCC" if cuts else "OXIS")
     if kind in "OX":
@@ -124,25 +136,25 @@ def grown(chance, box, cuts):
     return ("C", to, variable, at, grown(chance, low, cuts - 1), grown(chance, high, cuts - 1))
 
 
-def end_between(lo, hi):
+def end_between(lo: Value, hi: Value) -> Value:
     return from_fraction(as_fraction(lo) / 3 + 2 * as_fraction(hi) / 3, DOWN)
 
 
-def cut_numbers(tree, place):
+def cut_numbers(tree: Tree, place: int) -> list[Value]:
     if tree[0] != "C":
         return []
     here = [tree[3]] if tree[2] == place else []
     return here + cut_numbers(tree[4], place) + cut_numbers(tree[5], place)
 
 
-def on_faces(chance, tree, root, x, y):
+def on_faces(chance: random.Random, tree: Tree, root: Box, x: int, y: int) -> Iterator[Value]:
     """A number for each other place: where it is cut there, or an end, or some number between."""
     for i, (lo, hi) in enumerate(root):
         if i not in (x, y):
             yield chance.choice(cut_numbers(tree, i) or [lo, hi, end_between(lo, hi)])
 
 
-def by_chance(seed, root, x, y, cuts):
+def by_chance(seed: int, root: Box, x: int, y: int, cuts: int) -> Case:
     """A case with some five to ten nodes and at least three rectangles."""
     chance = random.Random(seed)
     while True:
@@ -162,7 +174,7 @@ TINY = [(-1, 1), (1, 8)]
 CUBE = boxed((0, 1), (-1, 1), (Fraction(-3, 4), 5))
 TWELVE = boxed(*[(-k, 2 * k + 1) for k in range(12)])
 
-GROUPS = {
+GROUPS: dict[str, list[Case]] = {
     "PLAIN": [
         (SQUARE, ("I", boxed((0, 1), (0, 2))), 0, 1, []),
         (SQUARE, ("I", boxed((0, 1), (0, 2))), 1, 0, []),
@@ -189,11 +201,11 @@ GROUPS = {
 }
 
 
-def text(value):
+def text(value: str) -> str:
     return '"' + value.replace('"', '\\"').replace("\n", "\\n") + '"'
 
 
-def row(root, tree, x, y, at):
+def row(root: Box, tree: Tree, x: int, y: int, at: Sequence[Value]) -> str:
     lines = "".join(line + "\n" for line in files.lines(tree, root, 1))
     body = picture(tree, root, x, y, at).removeprefix(HEAD).removesuffix("</svg>\n")
     return (f"Case {{ root: &[{', '.join(map(ends, root))}], lines: {text(lines)}, x: {x}, y: {y}, "

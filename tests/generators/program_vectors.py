@@ -7,8 +7,12 @@ is that no position is left. Ranges, the node limit and the programs of a `qinte
 
 Usage: program_vectors.py > crates/test_programs/src/texts/programs.rt
 """
+from __future__ import annotations
+
 import re
 import sys
+from collections.abc import Iterable, Sequence
+from typing import Tuple
 
 RULES = {
     "program": [
@@ -21,19 +25,20 @@ RULES = {
     ],
     "list": [["program"], ["list", ",", "program"]],
 }
+Item = Tuple[str, Tuple[str, ...], int, int]  # a rule and its name, how much of it is read, and from where
 WORDS = ("hc4", "compose", "union", "qinter", "fix", "prop")
 
 
-def tokens(text):
+def tokens(text: str) -> list[tuple[int, str]]:
     """Pairs of a token's start and its characters."""
     return [(m.start(), m.group()) for m in re.finditer(r"[a-z][a-z0-9]*|[0-9]+|.", text, re.S)]
 
 
-def kind(token):
+def kind(token: str) -> str:
     return "num" if token.isdigit() else token
 
 
-def closed(items, chart):
+def closed(items: Iterable[Item], chart: Sequence[set[Item]]) -> set[Item]:
     """Earley's prediction and completion at the chart's end."""
     work, seen = list(items), set(items)
     at = len(chart)
@@ -51,7 +56,7 @@ def closed(items, chart):
     return seen
 
 
-def out_of_range(before, token, count):
+def out_of_range(before: Sequence[str], token: str, count: int) -> bool:
     if not token.isdigit():
         return False
     if len(token) > 1 and token[0] == "0":
@@ -61,7 +66,7 @@ def out_of_range(before, token, count):
     return not low <= int(token) <= high
 
 
-def too_few(before, token):
+def too_few(before: Sequence[str], token: str) -> bool:
     """Whether the token closes a qinter with fewer programs than it wants."""
     if token != ")":
         return False
@@ -73,11 +78,12 @@ def too_few(before, token):
     return before[i] == "qinter" and commas < int(before[i + 2])
 
 
-def refused_at(text, count):
+def refused_at(text: str, count: int) -> int | None:
     """None where the text is right, else the byte."""
     if len(text) > 4096:
         return 4096
-    chart, before = [], []
+    chart: list[set[Item]] = []
+    before: list[str] = []
     items = closed([("start", ("program",), 0, 0)], chart)
     for start, token in tokens(text):
         chart.append(items)
@@ -134,11 +140,11 @@ MORE_BAD = [
 ]
 
 
-def literal(text):
+def literal(text: str) -> str:
     return '"' + text.replace("\u007f", "\\x7f").replace("\n", "\\n") + '"'
 
 
-def main():
+def main() -> None:
     out = ["//! Made by tests/generators/program_vectors.py.", "",
            "pub const ACCEPTED: &[(u32, &str)] = &["]
     for count, text in GOOD:

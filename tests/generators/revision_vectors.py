@@ -110,7 +110,7 @@ GROUPS = {
 }
 
 
-def row(x, y, text):
+def row(x: str, y: str, text: str) -> str:
     system = f"Variables x in {x}, y in {y}; Constraints {text}; End"
     read = minibex.read(system)
     box = [(bound(low, DOWN), bound(high, UP)) for low, high in read.domains]

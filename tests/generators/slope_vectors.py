@@ -4,10 +4,13 @@ tests/reference, which computes on whole numbers and shares nothing with the pro
 
 Writes crates/test_ranges/src/table.rt.
 """
+from __future__ import annotations
+
 from fractions import Fraction
 
 from tests.generators.case_table import ends, table, write
 from tests.reference import minibex
+from tests.reference.kinds import Box, Interval
 from tests.reference.numbers import DOWN, UP, as_fraction, is_finite
 from tests.reference.paver import Constraint, bound
 from tests.reference.slopes import Centered, CenteredSettler, gap, ranged
@@ -113,12 +116,12 @@ SETTLED = [
 ]
 
 
-def held(value, interval):
+def held(value: Fraction, interval: Interval) -> bool:
     low, high = interval
     return not (is_finite(low) and value < as_fraction(low)) and not (is_finite(high) and value > as_fraction(high))
 
 
-def check(constraint, box, found):
+def check(constraint: Constraint, box: Box, found: tuple[Interval, bool] | None) -> None:
     """The values at some rational points lie in what was found."""
     steps = [Fraction(k, 7) for k in range(8)]
     if not all(is_finite(end) for x in box for end in x):
@@ -130,14 +133,14 @@ def check(constraint, box, found):
             assert value is None or (found is not None and held(value, found[0])), (constraint, point)
 
 
-def asked(x, y, text):
+def asked(x: str, y: str, text: str) -> tuple[str, Constraint, Box]:
     """The text of a system, its constraint and its box."""
     system = f"Variables x in {x}, y in {y}; Constraints {text}; End"
     read = minibex.read(system)
     return system, Constraint(read.constraints[0]), [(bound(low, DOWN), bound(high, UP)) for low, high in read.domains]
 
 
-def slope_row(i, x, y, text):
+def slope_row(i: int, x: str, y: str, text: str) -> str:
     """The slope for variable i; None where an end is infinite or a divisor's interval holds 0."""
     system, constraint, box = asked(x, y, text)
     found = ranged(constraint, box)
@@ -146,7 +149,7 @@ def slope_row(i, x, y, text):
     return f'    ("{system}", {i}, Some({ends(Centered(constraint, box).slope(gap(constraint), i))})),'
 
 
-def row(x, y, text):
+def row(x: str, y: str, text: str) -> str:
     system, constraint, box = asked(x, y, text)
     found = ranged(constraint, box)
     check(constraint, box, found)
@@ -154,7 +157,7 @@ def row(x, y, text):
     return f'    ("{system}", {answer}),'
 
 
-def settled_row(x, text, program, depth_left):
+def settled_row(x: str, text: str, program: str, depth_left: int) -> str:
     system = f"Variables x in {x}; Constraints {text}; End"
     settler = CenteredSettler(minibex.read(system), eps=Fraction(0), contract=program)
     outcome = settler.settle(settler.root, depth_left, 0)
@@ -172,7 +175,7 @@ HEADING = (
 )
 
 
-def main():
+def main() -> None:
     cases = [case for group in GROUPS.values() for case in group]
     slopes = table("SLOPES", "Slope", [slope_row(k % 2, *case) for k, case in enumerate(cases)])
     settled = table("SETTLED", "Settled", [settled_row(*case) for case in SETTLED])

@@ -4,6 +4,8 @@
 The tokens come from regular expressions, the values from fractions, and none from the program.
 Run it at the top of the repository: python3 -m tests.generators.token_vectors > crates/test_reader/src/tokens/lexical.rt
 """
+from __future__ import annotations
+
 import re
 from fractions import Fraction
 
@@ -17,7 +19,7 @@ MARKS = [
 ]
 
 
-def next_token(text, start):
+def next_token(text: bytes, start: int) -> tuple[str, int, int]:
     start = GAP.match(text, start).end()
     if start == len(text):
         return "End", start, start
@@ -31,7 +33,7 @@ def next_token(text, start):
     return "Bad", start, start + 1
 
 
-def value(text):
+def value(text: bytes) -> Fraction | None:
     found = NUMBER.fullmatch(text)
     if not found:
         return None
@@ -58,12 +60,12 @@ TEXTS = [
 ]
 
 
-def literal(text):
+def literal(text: bytes) -> str:
     out = "".join(chr(b) if 32 <= b < 127 and b not in b'"\\' else "\\x%02x" % b for b in text)
     return 'b"%s"' % out
 
 
-def main():
+def main() -> None:
     print("// Written by tests/generators/token_vectors.py.\n")
     print("use pv_tokens::Kind;\n")
     print("/// Texts and the value of the number that each is, where it is one that is not too wide.")
@@ -97,4 +99,5 @@ def main():
     print("];")
 
 
-main()
+if __name__ == "__main__":
+    main()

@@ -18,7 +18,7 @@ STEPS = ["document.getElementById('equal').click()", "paverView.showKept()", "pa
          "document.activeElement.blur()"]
 
 
-def main():
+def main() -> None:
     PAGE.parent.mkdir(exist_ok=True)
     paver.view(TOP / "examples" / "pi_gains.mbx", eps="0.0625", workers=1, program=sys.argv[1]).save(PAGE)
     if find_browser() is None:

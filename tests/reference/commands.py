@@ -1,21 +1,23 @@
 """What the commands on paving files answer, by the reference's own files and settler."""
 import hashlib
-from typing import Any, Callable, Optional
+from typing import Any, Callable, Dict, Optional
 
 from . import files
 from .kinds import Answer, Outcome, Tree
+from .minibex import System
 from .numbers import spelling
 from .paver import Settler, node_line
 from .slopes import CenteredSettler
 
 
-ORDERS = {"depth": files.go_on, "level": files.go_on_by_levels}
+ORDERS: Dict[str, Callable[[Settler, Tree, int], Tree]] = {"depth": files.go_on, "level": files.go_on_by_levels}
 
 
 class Call:
     """A system's text and its settings, as the options spell them, and the limit on a tree's settled nodes."""
 
-    def __init__(self, system, canonical, centered=False, limit=files.MOST_SETTLED, **settings):
+    def __init__(self, system: System, canonical: bytes, centered: bool = False, limit: int = files.MOST_SETTLED,
+                 **settings: Any) -> None:
         self.limit = limit
         self.settler = (CenteredSettler if centered else Settler)(system, **settings)
         depth, bisector = self.settler.depth, self.settler.bisector
@@ -43,7 +45,7 @@ class Call:
                 raise Stopped(9, line_of("disagree", apart.path, apart.one, apart.other)) from None
         return whole
 
-    def delivered(self, tree: Tree, out: bool, done: Optional[bool] = None) -> Answer:
+    def delivered(self, tree: Tree, out: Optional[str], done: Optional[bool] = None) -> Answer:
         """What comes of a tree, with status 0 where this or, by itself, no open leaf says that all is done."""
         summary = (files.summary(tree) + "\n").encode()
         status = 0 if (not files.counts(tree)["O"] if done is None else done) else 1
@@ -52,10 +54,10 @@ class Call:
         body = "".join(line + "\n" for line in files.lines(tree, self.settler.root, 1))
         return status, summary + body.encode(), b"", None
 
-    def run(self, budget: int, out: bool, order: str = "depth") -> Answer:
+    def run(self, budget: int, out: Optional[str], order: str = "depth") -> Answer:
         return self.delivered(ORDERS[order](self.settler, ("O",), budget), out)
 
-    def resume(self, named: Any, budget: int, out: bool, order: str = "depth", share: Any = None) -> Answer:
+    def resume(self, named: Any, budget: int, out: Optional[str], order: str = "depth", share: Any = None) -> Answer:
         """What is gone on with: all open leaves in an order, or those of a share, a number and of how many."""
         tree = self.opening(named)
         settled = files.settled(tree)
@@ -66,7 +68,7 @@ class Call:
         tree, done = files.go_on_with_share(self.settler, tree, budget, *share)
         return self.delivered(tree, out, done)
 
-    def merge(self, named: Any, out: bool) -> Answer:
+    def merge(self, named: Any, out: Optional[str]) -> Answer:
         tree = self.opening(named)
         settled = files.settled(tree)
         if settled > self.limit:

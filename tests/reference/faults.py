@@ -3,9 +3,15 @@ text goes on. Written from the description of the profile alone, in another shap
 
     first_fault(text) is None for a system, else (byte, cause).
 """
+from __future__ import annotations
+
 import re
 import sys
+from collections.abc import Callable, Collection, Iterable, Sequence
 from fractions import Fraction
+from typing import NoReturn
+
+from .kinds import Bound
 
 TOKEN = re.compile(
     rb"(?P<blank>[ \t\r\n]+|//[^\n]*|/\*.*?(?:\*/|\Z))|(?P<name>[A-Za-z_][A-Za-z0-9_]*)"
@@ -23,19 +29,23 @@ sys.set_int_max_str_digits(0)
 
 
 class Fault(Exception):
-    pass
+    """The first fault of a text: its byte and its cause."""
+
+    def __init__(self, byte: int, cause: str) -> None:
+        super().__init__(byte, cause)
+        self.byte, self.cause = byte, cause
 
 
 class Token:
-    def __init__(self, kind, text, at):
+    def __init__(self, kind: str, text: str, at: int) -> None:
         self.kind, self.text, self.at = kind, text, at
         self.word = WORDS.get(text, text)
 
-    def is_free_name(self):
+    def is_free_name(self) -> bool:
         return self.kind == "name" and self.text not in RESERVED
 
 
-def tokens(text):
+def tokens(text: bytes) -> list[Token]:
     found, at = [], 0
     while at < len(text):
         match = TOKEN.match(text, at)
@@ -44,12 +54,12 @@ def tokens(text):
             at += 1
             continue
         if match.lastgroup != "blank":
-            found.append(Token(match.lastgroup, match.group().decode(), at))
+            found.append(Token(match.lastgroup or "", match.group().decode(), at))
         at = match.end()
     return found + [Token("end", "<end>", len(text))]
 
 
-def is_too_wide(number):
+def is_too_wide(number: str) -> bool:
     mantissa, _, exponent = number.lower().partition("e")
     whole, _, part = mantissa.partition(".")
     power = int(exponent or "0") - len(part)
@@ -60,29 +70,37 @@ def is_too_wide(number):
 class Size:
     """Nodes of an expanded expression, and how deep it is; of a parameter, by what is put in its place."""
 
-    def __init__(self, nodes, depth):
+    def __init__(self, nodes: int, depth: int) -> None:
         self.nodes, self.depth = min(nodes, 10**9), min(depth, 10**9)
 
 
-def joined(*parts):
+Sizes = Sequence[Callable[[], Size]]  # of a function's arguments
+Measure = Callable[[Sizes], Size]  # the size of an expression, once those of the parameters in it are known
+
+
+def joined(*parts: Size) -> Size:
     return Size(1 + sum(p.nodes for p in parts), 1 + max(p.depth for p in parts))
 
 
 class Reader:
-    def __init__(self, text):
+    def __init__(self, text: bytes) -> None:
         self.tokens, self.at = tokens(text), 0
-        self.constants, self.variables, self.functions = {}, [], {}
-        self.parameters, self.in_body, self.own_name = [], False, None
-        self.level = self.operations = self.constraints = 0
-        self.nodes, self.late = 0, None
+        self.constants: dict[str, Fraction] = {}
+        self.variables: list[str] = []
+        self.functions: dict[str, tuple[int, Measure]] = {}  # how many parameters each has, and the size of its body
+        self.parameters: list[str] = []
+        self.in_body, self.own_name = False, ""
+        self.level = self.operations = self.constraints = self.nodes = 0
+        self.late: Fault | None = None
+        self.late_size: Fault | None = None
 
     # ---- tokens and refusals
 
     @property
-    def token(self):
+    def token(self) -> Token:
         return self.tokens[self.at]
 
-    def refuse(self, cause="Unexpected"):
+    def refuse(self, cause: str = "Unexpected") -> NoReturn:
         token = self.token
         if token.kind == "bad":
             cause = "BadByte"
@@ -94,37 +112,37 @@ class Reader:
             cause = "EndOfText"
         raise Fault(token.at, cause)
 
-    def step(self):
+    def step(self) -> Token:
         self.at += 1
         return self.tokens[self.at - 1]
 
-    def meets(self, *words):
+    def meets(self, *words: str) -> bool:
         return self.token.kind in ("name", "sign") and self.token.word in words
 
-    def take(self, *words):
+    def take(self, *words: str) -> Token | None:
         return self.step() if self.meets(*words) else None
 
-    def expect(self, *words):
+    def expect(self, *words: str) -> Token:
         return self.take(*words) or self.refuse()
 
-    def number(self):
+    def number(self) -> Fraction:
         if self.token.kind != "number" or is_too_wide(self.token.text):
             self.refuse()
         return Fraction(self.step().text)
 
     # ---- declarations
 
-    def declared(self, taken):
+    def declared(self, taken: Collection[str]) -> str:
         if self.token.text in taken and self.token.kind == "name":
             self.refuse("DuplicateName")
         if not self.token.is_free_name():
             self.refuse()
         return self.step().text
 
-    def names(self):
+    def names(self) -> set[str]:
         return {*self.constants, *self.variables, *self.functions}
 
-    def system(self):
+    def system(self) -> None:
         if self.take("Constants"):
             self.constant()
             while self.take(",", ";") and self.token.kind == "name" and not self.meets("Function", "Variables"):
@@ -143,14 +161,14 @@ class Reader:
         if self.token.kind != "end":
             self.refuse()
 
-    def constant(self):
+    def constant(self) -> None:
         name = self.declared(self.names())
         self.expect("=")
         sign = self.take("+", "-")
         value = self.number()
         self.constants[name] = -value if sign and sign.text == "-" else value
 
-    def variable(self):
+    def variable(self) -> None:
         if len(self.variables) == 12 and self.token.is_free_name():
             self.refuse("TooManyVariables")
         self.variables.append(self.declared(self.names()))
@@ -164,10 +182,10 @@ class Reader:
             if (low > high or low == infinity or high == -infinity) and self.late is None:
                 self.late = Fault(opening.at, "BadBounds")
 
-    def bound(self):
+    def bound(self) -> Bound:
         sign = self.take("+", "-")
         if self.take("oo"):
-            value = float("inf")
+            value: Bound = float("inf")
         elif self.token.text in self.constants:
             value = self.constants[self.step().text]
         elif self.token.is_free_name():
@@ -176,14 +194,14 @@ class Reader:
             value = self.number()
         return -value if sign and sign.text == "-" else value
 
-    def function_blocks(self):
+    def function_blocks(self) -> None:
         while self.meets("Function"):
             if len(self.functions) == 64:
                 self.refuse("TooManyFunctions")
             self.step()
             self.function()
 
-    def function(self):
+    def function(self) -> None:
         name = self.declared(self.names())
         self.expect("(")
         self.parameters, self.own_name = [], name
@@ -203,7 +221,7 @@ class Reader:
 
     # ---- expressions: each call gives a function from the parameters' sizes to a Size
 
-    def constraint(self):
+    def constraint(self) -> None:
         token = self.token
         self.operations = 0
         if self.constraints == 64 and self.begins_expression():
@@ -217,28 +235,26 @@ class Reader:
         if (self.nodes > 65536 or max(size.depth for size in sizes) > 2000) and self.late_size is None:
             self.late_size = Fault(token.at, "TooLarge")
 
-    late_size = None
-
-    def begins_expression(self):
+    def begins_expression(self) -> bool:
         token = self.token
         if token.kind == "number":
             return not is_too_wide(token.text)
         return self.meets("+", "-", "(") or token.text in FUNCTION_WORDS or token.is_free_name()
 
-    def operation(self):
+    def operation(self) -> Token:
         if self.operations == 1000:
             self.refuse("TooDeep")
         self.operations += 1
         return self.step()
 
-    def expression(self):
+    def expression(self) -> Measure:
         left = self.term()
         while self.meets("+", "-"):
             self.operation()
             left = self.pair(left, self.term())
         return left
 
-    def term(self):
+    def term(self) -> Measure:
         left = self.factor()
         while self.meets("*", "/"):
             self.operation()
@@ -246,10 +262,10 @@ class Reader:
         return left
 
     @staticmethod
-    def pair(left, right):
+    def pair(left: Measure, right: Measure) -> Measure:
         return lambda sizes: joined(left(sizes), right(sizes))
 
-    def factor(self):
+    def factor(self) -> Measure:
         signs = 0
         while self.meets("+", "-"):
             signs += self.operation().text == "-"
@@ -261,19 +277,19 @@ class Reader:
         if signs == 0:
             return base
 
-        def signed(sizes):
+        def signed(sizes: Sizes) -> Size:
             size = base(sizes)
             return Size(size.nodes + signs, size.depth + signs)
 
         return signed
 
-    def exponent(self):
+    def exponent(self) -> None:
         token = self.token
         if token.kind != "number" or is_too_wide(token.text) or not token.text.isdigit() or int(token.text) > 32:
             self.refuse("BadExponent")
         self.step()
 
-    def opened(self):
+    def opened(self) -> None:
         if not self.meets("("):
             self.refuse()
         if self.level == 100:
@@ -281,7 +297,7 @@ class Reader:
         self.level += 1
         self.step()
 
-    def primary(self):
+    def primary(self) -> Measure:
         token = self.token
         if token.kind == "number":
             self.number()
@@ -299,7 +315,7 @@ class Reader:
             self.refuse()
         return self.named(token.text)
 
-    def named(self, name):
+    def named(self, name: str) -> Measure:
         if self.in_body and name in self.parameters:
             at = self.parameters.index(name)
             self.step()
@@ -313,7 +329,7 @@ class Reader:
             return lambda sizes: body([once(argument, sizes) for argument in arguments])
         return self.refuse("UnknownName")
 
-    def arguments(self, count):
+    def arguments(self, count: int) -> list[Measure]:
         if self.level == 100 and self.operations < 1000:
             self.refuse()
         self.operation()
@@ -327,11 +343,11 @@ class Reader:
         return found
 
 
-def once(argument, sizes):
+def once(argument: Measure, sizes: Sizes) -> Callable[[], Size]:
     """The size of an argument, worked out when it is first used."""
-    known = []
+    known: list[Size] = []
 
-    def size():
+    def size() -> Size:
         if not known:
             known.append(argument(sizes))
         return known[0]
@@ -339,19 +355,19 @@ def once(argument, sizes):
     return size
 
 
-def first_fault(text):
+def first_fault(text: bytes) -> tuple[int, str] | None:
     if len(text) > 65536:
         return 65536, "TextTooLong"
     reader = Reader(text)
     try:
         reader.system()
     except Fault as fault:
-        return fault.args
+        return fault.byte, fault.cause
     late = reader.late or reader.late_size
-    return late.args if late else None
+    return (late.byte, late.cause) if late else None
 
 
-def first_expression_fault(text, variables):
+def first_expression_fault(text: bytes, variables: Iterable[str]) -> tuple[int, str] | None:
     """The same for the text of an expression over these variables."""
     if len(text) > 65536:
         return 65536, "TextTooLong"
@@ -362,11 +378,11 @@ def first_expression_fault(text, variables):
         if reader.token.kind != "end":
             reader.refuse()
     except Fault as fault:
-        return fault.args
+        return fault.byte, fault.cause
     return None
 
 
-def line_of(text):
+def line_of(text: bytes) -> str | None:
     """The line that the program has to print for a refused text, or None."""
     found = first_fault(text)
     if found is None:

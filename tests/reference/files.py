@@ -3,9 +3,9 @@
 A tree is a tuple: ("O",), ("X",), ("I", to), ("S", to) or ("C", to, variable, at, low, high).
 """
 import re
-from typing import Any, Callable, Dict, Iterator
+from typing import Any, Callable, Dict, Iterator, List, NoReturn, Optional, Tuple
 
-from .kinds import Box, Outcome, Tree
+from .kinds import Box, Outcome, Tree, Value
 from .numbers import NEG_INF, POS_INF, TOP, is_grid, spelling
 from .paver import halves, node_line
 
@@ -76,7 +76,7 @@ def write(tree: Tree, root: Box, identity: str, version: int = 2) -> bytes:
     return "".join(line + "\n" for line in [*head, *lines(tree, root, version)]).encode()
 
 
-def number(word):
+def number(word: str) -> Value:
     """The number of its one spelling; None where the word is none."""
     if word in ("-oo", "+oo"):
         return NEG_INF if word == "-oo" else POS_INF
@@ -90,14 +90,14 @@ def number(word):
     return value if abs(value) <= TOP and is_grid(value) and spelling(value) == word else None
 
 
-def new_end(word, old, version):
+def new_end(word: str, old: Value, version: int) -> Value:
     if version == 2 and word == "=":
         return old
     value = number(word)
     return None if version == 2 and value == old else value
 
 
-def outcome_of(line, box, version):
+def outcome_of(line: str, box: Box, version: int) -> Outcome:
     """The outcome that a line gives for a box, ("O",) included; None where it gives none."""
     words = line.split(" ")
     if line in ("O", "X"):
@@ -108,8 +108,8 @@ def outcome_of(line, box, version):
     if len(ends) != 2 * len(box):
         return None
     to = []
-    for (low, high), (old_low, old_high) in zip(zip(ends[::2], ends[1::2]), box):
-        low, high = new_end(low, old_low, version), new_end(high, old_high, version)
+    for low_word, high_word, (old_low, old_high) in zip(ends[::2], ends[1::2], box):
+        low, high = new_end(low_word, old_low, version), new_end(high_word, old_high, version)
         if low is None or high is None or low > high or low == POS_INF or high == NEG_INF:
             return None
         if low < old_low or high > old_high:
@@ -129,7 +129,7 @@ class Reader:
     def __init__(self, data: bytes) -> None:
         self.data, self.at, self.line = data, 0, 0
 
-    def next(self):
+    def next(self) -> Optional[str]:
         """The next line without its line feed; None where there is none."""
         self.line += 1
         end = self.data.find(b"\n", self.at)
@@ -138,7 +138,7 @@ class Reader:
         line, self.at = self.data[self.at:end], end + 1
         return line.decode("latin-1")
 
-    def bad(self):
+    def bad(self) -> NoReturn:
         raise Refused(f"bad line {self.line}")
 
 
@@ -146,7 +146,7 @@ def read(data: bytes, root: Box, identity: str, limit: int = MOST_SETTLED) -> Tr
     if len(data) > 662 * limit + 3_800_000:
         raise Refused("too long")
     reader = Reader(data)
-    version = {"paving 1": 1, "paving 2": 2}.get(reader.next()) or reader.bad()
+    version = {"paving 1": 1, "paving 2": 2}.get(reader.next() or "") or reader.bad()
     second = reader.next()
     if second is None or not re.fullmatch("identity [0-9a-f]{64}", second):
         reader.bad()
@@ -174,7 +174,7 @@ def read(data: bytes, root: Box, identity: str, limit: int = MOST_SETTLED) -> Tr
 
 def tree_of(nodes: Any) -> Tree:
     """The tree of outcomes in preorder."""
-    stack = []
+    stack: List[Tree] = []
     for node in reversed(nodes):
         stack.append((*node, stack.pop(), stack.pop()) if node[0] == "C" else node)
     return stack[0]
@@ -203,16 +203,18 @@ def go_on(settler: Any, tree: Tree, budget: int, within: int = MOST_STEPS + 1) -
     return settle_chosen(settler, tree, budget, lambda number, steps: steps < within)[0]
 
 
-def go_on_with_share(settler: Any, tree: Tree, budget: int, number: int, of: int) -> Any:
+def go_on_with_share(settler: Any, tree: Tree, budget: int, number: int, of: int) -> Tuple[Tree, bool]:
     """The tree with so many more nodes settled at or below the open leaves that have this number modulo `of`, counted from 0
     in preorder; and whether none is open there."""
     return settle_chosen(settler, tree, budget, lambda leaf, steps: leaf % of == number)
 
 
-def settle_chosen(settler: Any, tree: Tree, budget: int, is_chosen: Callable[[str], bool]) -> Any:
+def settle_chosen(settler: Any, tree: Tree, budget: int, is_chosen: Callable[[int, int], bool]
+                  ) -> Tuple[Tree, bool]:
     """The tree with so many more nodes settled, in preorder, where the number of the opening's leaf at or above a leaf and the
     steps to it are chosen; and whether no chosen leaf is open."""
-    found, waiting, leaves, done = [], [(tree, settler.root, 0, None)], 0, True
+    found, leaves, done = [], 0, True
+    waiting: List[Tuple[Tree, Box, int, Optional[int]]] = [(tree, settler.root, 0, None)]
     while waiting:
         node, box, steps, leaf = waiting.pop()
         if node[0] == "O":
@@ -241,14 +243,14 @@ def go_on_by_levels(settler: Any, tree: Tree, budget: int) -> Tree:
     return tree
 
 
-def open_paths(tree: Tree, path: str = "") -> Any:
+def open_paths(tree: Tree, path: str = "") -> List[str]:
     """The paths of the open leaves, in preorder."""
     if tree[0] == "O":
         return [path]
     return open_paths(tree[4], path + "0") + open_paths(tree[5], path + "1") if tree[0] == "C" else []
 
 
-def settled_paths(tree: Tree, path: str = "") -> Any:
+def settled_paths(tree: Tree, path: str = "") -> List[str]:
     """The paths of the settled nodes, in preorder."""
     if tree[0] == "O":
         return []

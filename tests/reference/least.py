@@ -10,7 +10,7 @@ from .kinds import Box, Expression, Interval, Value
 from .numbers import POS_INF, is_finite, middle, spelling
 from .paver import Constraint, Empty, halves
 
-ANY = Constraint((None, None, None))
+ANY = Constraint(("=", (), ()))
 
 
 def forward(e: Expression, box: Box) -> Any:
@@ -93,7 +93,7 @@ def expression(system: Any, text: str) -> Expression:
     return minibex.Reader(text).expression({name: ("var", i) for i, name in enumerate(system.names)})
 
 
-def printed(lower: Value, found: Any) -> str:
+def printed(lower: Value, found: Any) -> List[str]:
     """The lines that `least` prints."""
     if found is None:
         return [f"lower {spelling(lower)}", "upper none"]

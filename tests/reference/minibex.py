@@ -3,15 +3,21 @@
 It knows no limits and names no faults: an assertion fails where a text is not in the profile.
 Expressions are tuples: ("const", Fraction), ("var", i), (operation, left, right), ("neg", e), ("abs", e), ("^", e, n).
 """
+from __future__ import annotations
+
 import re
+from collections.abc import Callable, Collection, Mapping, Sequence
 from fractions import Fraction
+from typing import TypeVar
+
+from .kinds import Bound, Expression, Relation
 
 TOKEN = re.compile(
     r"(?P<blank>[ \t\r\n]+|//[^\n]*|/\*.*?(?:\*/|\Z))|(?P<name>[A-Za-z_][A-Za-z0-9_]*)"
     r"|(?P<number>[0-9]+(?:\.[0-9]*)?(?:[eE][+-]?[0-9]+)?)|(?P<sign><=|>=|[<>=+*/^()\[\],;-])", re.S)
 
 
-def tokens(text):
+def tokens(text: str) -> list[str]:
     found, at = [], 0
     while at < len(text):
         match = TOKEN.match(text, at)
@@ -22,33 +28,41 @@ def tokens(text):
     return found + ["<end>"]
 
 
+Number = TypeVar("Number", Fraction, Bound)
+Scope = Mapping[str, Expression]
+
+
 class System:
-    def __init__(self):
-        self.names, self.domains, self.constraints = [], [], []
+    def __init__(self) -> None:
+        self.names: list[str] = []
+        self.domains: list[tuple[Bound, Bound]] = []
+        self.constraints: list[Relation] = []
 
 
 class Reader:
-    def __init__(self, text):
+    def __init__(self, text: str) -> None:
         self.tokens, self.at = tokens(text), 0
-        self.constants, self.functions, self.system = {}, {}, System()
+        self.constants: dict[str, Fraction] = {}
+        self.functions: dict[str, Expression] = {}
+        self.system = System()
 
-    def peek(self):
+    def peek(self) -> str:
         return self.tokens[self.at]
 
-    def next(self):
+    def next(self) -> str:
         self.at += 1
         return self.tokens[self.at - 1]
 
-    def take(self, *words):
+    def take(self, *words: str) -> str | None:
         if self.peek() in words:
             return self.next()
         return None
 
-    def expect(self, *words):
+    def expect(self, *words: str) -> str:
         assert self.peek() in words, f"token {self.at}: {self.peek()!r} in place of {words}"
         return self.next()
 
-    def read(self):
+    def read(self) -> System:
         if self.take("Constants", "constants"):
             self.listed(self.constant, ("function", "Function", "variables", "Variables"))
         self.read_functions()
@@ -64,30 +78,30 @@ class Reader:
         self.expect("<end>")
         return self.system
 
-    def listed(self, item, stops):
+    def listed(self, item: Callable[[], None], stops: Collection[str]) -> None:
         item()
         while self.take(",", ";") and self.peek() not in stops:
             item()
 
-    def constant(self):
+    def constant(self) -> None:
         name = self.next()
         self.expect("=")
         self.constants[name] = self.signed(lambda: Fraction(self.next()))
 
-    def signed(self, value):
+    def signed(self, value: Callable[[], Number]) -> Number:
         return -value() if self.take("-") else (self.take("+"), value())[1]
 
-    def bound(self):
-        def value():
+    def bound(self) -> Bound:
+        def value() -> Bound:
             word = self.next()
             if word == "oo":
                 return float("inf")
             return self.constants[word] if word in self.constants else Fraction(word)
         return self.signed(value)
 
-    def variable(self):
+    def variable(self) -> None:
         self.system.names.append(self.next())
-        domain = (float("-inf"), float("inf"))
+        domain: tuple[Bound, Bound] = (float("-inf"), float("inf"))
         if self.take("in"):
             self.expect("[")
             low = self.bound()
@@ -96,7 +110,7 @@ class Reader:
             self.expect("]")
         self.system.domains.append(domain)
 
-    def read_functions(self):
+    def read_functions(self) -> None:
         while self.take("Function", "function"):
             name = self.next()
             self.expect("(")
@@ -111,24 +125,24 @@ class Reader:
             self.take(";")
             self.functions[name] = body
 
-    def constraint(self, scope):
+    def constraint(self, scope: Scope) -> None:
         left = self.expression(scope)
         relation = self.expect("=", "<=", ">=", "<", ">")
         self.system.constraints.append((relation, left, self.expression(scope)))
 
-    def expression(self, scope):
+    def expression(self, scope: Scope) -> Expression:
         left = self.term(scope)
         while sign := self.take("+", "-"):
             left = (sign, left, self.term(scope))
         return left
 
-    def term(self, scope):
+    def term(self, scope: Scope) -> Expression:
         left = self.factor(scope)
         while sign := self.take("*", "/"):
             left = (sign, left, self.factor(scope))
         return left
 
-    def factor(self, scope):
+    def factor(self, scope: Scope) -> Expression:
         if self.take("-"):
             return ("neg", self.factor(scope))
         if self.take("+"):
@@ -136,7 +150,7 @@ class Reader:
         base = self.primary(scope)
         return ("^", base, int(self.next())) if self.take("^") else base
 
-    def arguments(self, scope):
+    def arguments(self, scope: Scope) -> list[Expression]:
         self.expect("(")
         found = [self.expression(scope)]
         while self.take(","):
@@ -144,7 +158,7 @@ class Reader:
         self.expect(")")
         return found
 
-    def primary(self, scope):
+    def primary(self, scope: Scope) -> Expression:
         if self.peek() == "(":
             return self.arguments(scope)[0]
         word = self.next()
@@ -161,25 +175,26 @@ class Reader:
         return replaced(self.functions[word], self.arguments(scope))
 
 
-def replaced(body, arguments):
+def replaced(body: Expression, arguments: Sequence[Expression]) -> Expression:
     if body[0] == "parameter":
         return arguments[body[1]]
     return tuple(replaced(part, arguments) if isinstance(part, tuple) else part for part in body)
 
 
-def read(text):
+def read(text: str) -> System:
     return Reader(text).read()
 
 
-def value(e, point):
+def value(e: Expression, point: Sequence[Fraction]) -> Fraction | None:
     """The value at a point, a list of fractions; None where it is undefined."""
     kind = e[0]
     if kind == "const":
         return e[1]
     if kind == "var":
         return point[e[1]]
-    parts = [value(part, point) for part in e[1:] if isinstance(part, tuple)]
-    if None in parts:
+    found = [value(part, point) for part in e[1:] if isinstance(part, tuple)]
+    parts = [part for part in found if part is not None]
+    if len(parts) < len(found):
         return None
     if kind == "/":
         return parts[0] / parts[1] if parts[1] else None
@@ -188,7 +203,7 @@ def value(e, point):
             "abs": lambda: abs(parts[0]), "^": lambda: parts[0] ** e[2]}[kind]()
 
 
-def holds(constraint, point):
+def holds(constraint: Relation, point: Sequence[Fraction]) -> bool:
     relation, left, right = constraint
     a, b = value(left, point), value(right, point)
     if a is None or b is None:

@@ -1,14 +1,15 @@
 """Contraction, settling and paving straight from their definitions, slow and plain."""
 import re
 from fractions import Fraction
-from typing import Any, List, Tuple
+from typing import Any, List, Set, Tuple
 
 from . import intervals as iv
-from .kinds import Box, Expression, Interval, Outcome, Parts, Program, Value
+from .kinds import Bound, Box, Expression, Interval, Outcome, Parts, Program, Relation, Value
+from .minibex import System
 from .numbers import DOWN, UP, from_fraction, middle, spelling, sub
 
 
-def bound(value: Any, side: str) -> Value:
+def bound(value: Bound, side: str) -> Value:
     return value if isinstance(value, float) else from_fraction(value, side)
 
 
@@ -28,7 +29,7 @@ BACKWARD = {"+": iv.back_add, "-": iv.back_sub, "*": iv.back_mul, "/": iv.back_d
 
 
 class Constraint:
-    def __init__(self, constraint):
+    def __init__(self, constraint: Relation) -> None:
         self.relation, self.left, self.right = constraint
 
     def forward(self, e: Expression, box: Box) -> Tuple[Interval, bool]:
@@ -62,7 +63,7 @@ class Constraint:
             raise Empty
         return (left[0], min(left[1], right[1])), (max(right[0], left[0]), right[1])
 
-    def targets(self, e, z, box, found):
+    def targets(self, e: Expression, z: Interval, box: Box, found: List[Tuple[int, Interval]]) -> None:
         kind = e[0]
         if kind == "var":
             found.append((e[1], z))
@@ -78,7 +79,7 @@ class Constraint:
 
     def revise(self, box: Box) -> Box:
         left, right = self.related(self.forward(self.left, box)[0], self.forward(self.right, box)[0])
-        found = []
+        found: List[Tuple[int, Interval]] = []
         self.targets(self.left, left, box, found)
         self.targets(self.right, right, box, found)
         result = list(box)
@@ -86,8 +87,8 @@ class Constraint:
             result[i] = kept(iv.meet(result[i], z))
         return result
 
-    def variables(self) -> Any:
-        def found(e):
+    def variables(self) -> Set[int]:
+        def found(e: Expression) -> Set[int]:
             return {e[1]} if e[0] == "var" else set().union(*(found(part) for part in e[1:] if isinstance(part, tuple)))
         return found(self.left) | found(self.right)
 
@@ -106,7 +107,7 @@ def read_program(text: str) -> Program:
     """A good contractor text as nested tuples: ("hc4", i), ("fix", n, p), ("qinter", q, [p]), ("union", [p]) .."""
     words = re.findall(r"[a-z0-9]+|[(),]", text)
 
-    def program():
+    def program() -> Program:
         name = words.pop(0)
         assert words.pop(0) == "("
         parts = []
@@ -126,7 +127,7 @@ def read_program(text: str) -> Program:
 def q_hull(q: int, boxes: Any) -> Box:
     result = []
     for place in zip(*boxes):
-        def covered(end):
+        def covered(end: Value) -> bool:
             return sum(x[0] <= end <= x[1] for x in place) >= q
         lows, highs = [x[0] for x in place if covered(x[0])], [x[1] for x in place if covered(x[1])]
         if not lows or not highs:
@@ -136,7 +137,8 @@ def q_hull(q: int, boxes: Any) -> Box:
 
 
 class Settler:
-    def __init__(self, system, eps=Fraction(1, 8), depth=60, bisector="largest", contract="prop(8)"):
+    def __init__(self, system: System, eps: Fraction = Fraction(1, 8), depth: int = 60, bisector: str = "largest",
+                 contract: str = "prop(8)") -> None:
         self.constraints = [Constraint(c) for c in system.constraints]
         self.root = [(bound(lo, DOWN), bound(hi, UP)) for lo, hi in system.domains]
         self.eps, self.depth, self.bisector = from_fraction(eps, DOWN), depth, bisector
@@ -177,7 +179,7 @@ class Settler:
                 break
         return box
 
-    def revisions(self, program: Program, box: Box) -> Any:
+    def revisions(self, program: Program, box: Box) -> int:
         """How many revisions the contraction of the box needs."""
         kind = program[0]
         if kind == "hc4":
@@ -198,9 +200,9 @@ class Settler:
                 break
         return count
 
-    def revisions_of_unclean(self, most: int, box: Box) -> Any:
+    def revisions_of_unclean(self, most: int, box: Box) -> int:
         """The pairs of a turn and a constraint that is not clean when its place comes, up to and with the first empty one."""
-        history = []
+        history: List[Tuple[int, Box, Box]] = []
         for _ in range(most):
             before = box
             for i in range(len(self.constraints)):
@@ -215,7 +217,7 @@ class Settler:
                 break
         return len(history)
 
-    def is_clean(self, i: int, history: Any) -> bool:
+    def is_clean(self, i: int, history: List[Tuple[int, Box, Box]]) -> bool:
         """Whether constraint i once kept the box, and no place of one of its variables changed from then on."""
         places = self.constraints[i].variables()
         return any(number == i and old == new and all(b[k] == c[k] for _, b, c in history[at:] for k in places)

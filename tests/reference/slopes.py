@@ -2,7 +2,8 @@
 from typing import Any
 
 from . import intervals as iv
-from .kinds import Box, Expression, Interval, Outcome, Program, Relation, Value
+from .kinds import Box, Expression, Interval, Outcome, Program, Value
+from .minibex import System
 from .numbers import UNIT, is_finite, middle
 from .paver import FORWARD, Constraint, Empty, Settler
 
@@ -18,7 +19,7 @@ def centre(x: Interval) -> Value:
 class Centered:
     """An expression's parts on one box with finite ends, where no divisor's interval holds 0."""
 
-    def __init__(self, constraint: Relation, box: Box) -> None:
+    def __init__(self, constraint: Constraint, box: Box) -> None:
         self.constraint, self.box = constraint, box
         self.centre = [(centre(x), centre(x)) for x in box]
 
@@ -82,12 +83,12 @@ class Centered:
         return total
 
 
-def gap(constraint: Relation) -> Any:
+def gap(constraint: Constraint) -> Any:
     """The left side minus the right one."""
     return ("-", constraint.left, constraint.right)
 
 
-def ranged(constraint: Relation, box: Box) -> Any:
+def ranged(constraint: Constraint, box: Box) -> Any:
     """The centered form of left - right, and whether no divisor's interval holds 0; None where it is empty."""
     try:
         whole, total = constraint.forward(gap(constraint), box)
@@ -98,7 +99,7 @@ def ranged(constraint: Relation, box: Box) -> Any:
     return iv.meet(whole, Centered(constraint, box).linear(gap(constraint))), total
 
 
-def is_none(constraint: Relation, box: Box) -> bool:
+def is_none(constraint: Constraint, box: Box) -> bool:
     found = ranged(constraint, box)
     if found is None:
         return True
@@ -106,7 +107,7 @@ def is_none(constraint: Relation, box: Box) -> bool:
     return {"<=": lo > 0, "<": lo >= 0, ">=": hi < 0, ">": hi <= 0, "=": not lo <= 0 <= hi}[constraint.relation]
 
 
-def is_sure(constraint: Relation, box: Box) -> bool:
+def is_sure(constraint: Constraint, box: Box) -> bool:
     found = ranged(constraint, box)
     if found is None or not found[1]:
         return False
@@ -122,7 +123,7 @@ class CenteredConstraint(Constraint):
 
 
 class CenteredSettler(Settler):
-    def __init__(self, system, **settings):
+    def __init__(self, system: System, **settings: Any) -> None:
         super().__init__(system, **settings)
         self.constraints = [CenteredConstraint(c) for c in system.constraints]
 

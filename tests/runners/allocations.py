@@ -12,33 +12,35 @@ import shutil
 import subprocess
 import tempfile
 import unittest
+from collections.abc import Iterable
 from pathlib import Path
 
 from tests.data.cases import HALF_LINE, RECIPROCAL, system
 from tests.runners.paving_files import A, B, QUARTER, TWO_DISCS, file_of
-from tests.runners.running import FolderTest, main, rows
+from tests.runners.running import Answered, FolderTest, main, rows
 
 # By these the lines are so many that several workers make them.
+Command = tuple[int, list[str], str]  # the status where nothing is refused, the words, and the file that is stored or ""
 FINE = ["--eps", "0.0078125"]
 HALF_SQUARE = system("x in [0,2], y in [0,2]", "x <= 1")
 SOLID = system("x in [-2,2], y in [-2,2]", "x^2 + y^2 <= 2; x * y >= 0")
 
 
-def by(workers, words, stored=None):
+def by(workers: int, words: list[str], stored: str = "") -> Command:
     """The status of a command with so many workers, its words, and the file that it stores."""
     return 0, [*words, *QUARTER, "--workers", str(workers), *(["--out", stored] if stored else [])], stored
 
 
-def commands():
+def commands() -> dict[str, Command]:
     """The status of each where nothing is refused, its words, and the file that it stores."""
     return {
-        "check": (0, ["check", "s"], None),
-        "check of a refused text": (3, ["check", "bad"], None),
-        "a half line": (0, ["run", "h"], None),
-        "a quotient": (0, ["run", "r", *QUARTER], None),
+        "check": (0, ["check", "s"], ""),
+        "check of a refused text": (3, ["check", "bad"], ""),
+        "a half line": (0, ["run", "h"], ""),
+        "a quotient": (0, ["run", "r", *QUARTER], ""),
         "run by one": by(1, ["run", "s", "--boxes", "400"]),
         "run by four": by(4, ["run", "s", "--boxes", "400"]),
-        "two discs by two": (0, ["run", "d", "--workers", "2"], None),
+        "two discs by two": (0, ["run", "d", "--workers", "2"], ""),
         "run out by one": by(1, ["run", "s"], "new"),
         "run out by four": by(4, ["run", "s"], "new"),
         "run-centered by one": by(1, ["run-centered", "s"]),
@@ -46,24 +48,24 @@ def commands():
         "run-centered out": by(4, ["run-centered", "s"], "new"),
         "resume by one": by(1, ["resume", "r", "part", "--boxes", "4"], "new"),
         "resume by four": by(4, ["resume", "r", "part", "--boxes", "4"], "new"),
-        "many lines by four": (0, ["resume", "s", "many", *FINE, "--workers", "4"], None),
+        "many lines by four": (0, ["resume", "s", "many", *FINE, "--workers", "4"], ""),
         "many lines out by four": (0, ["resume", "s", "many", *FINE, "--workers", "4", "--out", "new"], "new"),
         "merge": (1, ["merge", "r", "part", "other", *QUARTER, "--out", "new"], "new"),
         "merge to the whole": (0, ["merge", "r", "A", "B", *QUARTER, "--out", "new"], "new"),
-        "merge of two that disagree": (9, ["merge", "r", "other", "foul", *QUARTER], None),
-        "audit": (0, ["audit", "r", "whole", *QUARTER], None),
-        "audit that differs": (9, ["audit", "r", "foul", *QUARTER], None),
-        "audit-centered": (0, ["audit-centered", "s", "centered", *QUARTER], None),
-        "a bad file": (4, ["audit", "r", "bad", *QUARTER], None),
-        "no file": (11, ["run", "no"], None),
-        "svg": (0, ["svg", "s", "plane", *QUARTER, "--x", "x", "--y", "y"], None),
-        "svg of a half": (0, ["svg", "q", "half", "--x", "x", "--y", "y"], None),
-        "sample": (0, ["sample", "--seed", "1", "--count", "2"], None),
-        "least": (0, ["least", "s", *QUARTER, "--boxes", "400", "--of", "x+y*y"], None),
-        "least with no end": (1, ["least", "s", *QUARTER, "--boxes", "3", "--of", "x+y*y"], None),
-        "a refused expression": (2, ["least", "s", "--of", "x+"], None),
-        "words": (2, ["run", "s", "--eps"], None),
-        "a contract": (2, ["run", "s", "--contract", "union(hc4(0),prop(3),q)"], None),
+        "merge of two that disagree": (9, ["merge", "r", "other", "foul", *QUARTER], ""),
+        "audit": (0, ["audit", "r", "whole", *QUARTER], ""),
+        "audit that differs": (9, ["audit", "r", "foul", *QUARTER], ""),
+        "audit-centered": (0, ["audit-centered", "s", "centered", *QUARTER], ""),
+        "a bad file": (4, ["audit", "r", "bad", *QUARTER], ""),
+        "no file": (11, ["run", "no"], ""),
+        "svg": (0, ["svg", "s", "plane", *QUARTER, "--x", "x", "--y", "y"], ""),
+        "svg of a half": (0, ["svg", "q", "half", "--x", "x", "--y", "y"], ""),
+        "sample": (0, ["sample", "--seed", "1", "--count", "2"], ""),
+        "least": (0, ["least", "s", *QUARTER, "--boxes", "400", "--of", "x+y*y"], ""),
+        "least with no end": (1, ["least", "s", *QUARTER, "--boxes", "3", "--of", "x+y*y"], ""),
+        "a refused expression": (2, ["least", "s", "--of", "x+"], ""),
+        "words": (2, ["run", "s", "--eps"], ""),
+        "a contract": (2, ["run", "s", "--contract", "union(hc4(0),prop(3),q)"], ""),
     }
 
 
@@ -84,7 +86,7 @@ class RefusingTest(FolderTest):
         source = Path(__file__).with_name("refuse_allocation.c")
         subprocess.run([compiler, "-O1", "-shared", "-fPIC", str(source), "-o", str(cls.shim)], check=True)
 
-    def try_all(self, listed: dict[str, tuple[int, list[str], str | None]]) -> None:
+    def try_all(self, listed: dict[str, Command]) -> None:
         """Each command in a folder of its own."""
         for name, command in rows(listed.items()):
             with self.subTest(name), tempfile.TemporaryDirectory() as made:
@@ -92,12 +94,12 @@ class RefusingTest(FolderTest):
                 folder.prepare()
                 folder.try_command(*command)
 
-    def refusing(self, words, **refuse):
+    def refusing(self, words: list[str], **refuse: int) -> Answered:
         environment = {"LD_PRELOAD": str(self.shim), "REFUSE_COUNT": str(self.counted),
                        **{name.upper(): str(value) for name, value in refuse.items()}}
         return self.answered(*words, env=environment)
 
-    def prepare(self):
+    def prepare(self) -> None:
         for name, text in (("s", SOLID), ("r", RECIPROCAL), ("d", TWO_DISCS), ("h", HALF_LINE), ("q", HALF_SQUARE),
                            ("A", file_of(1, A)), ("B", file_of(1, B)),
                            ("bad", b"Variables x in [0,4]; Constraints x <= ; end\n")):
@@ -111,7 +113,7 @@ class RefusingTest(FolderTest):
         head = self.get("whole").split(b"\n")[:2]
         self.put("foul", b"\n".join([*head, b"I = =", b""]))
 
-    def try_command(self, status, words, stored):
+    def try_command(self, status: int, words: list[str], stored: str) -> None:
         before = self.files()
         wanted = self.refusing(words)
         count, after = int(self.counted.read_text()), self.files()
@@ -124,24 +126,25 @@ class RefusingTest(FolderTest):
                 got = self.refusing(words, **{how: n})
                 self.judge(words, f"{how} {n}", got, wanted, before, stored, new)
 
-    def refused(self, count):
+    def refused(self, count: int) -> Iterable[int]:
         """Which of so many allocations are refused."""
         return range(1, count + 1)
 
-    def remove(self, stored):
+    def remove(self, stored: str) -> None:
         if stored:
             (self.path / stored).unlink(missing_ok=True)
 
-    def judge(self, words, how, got, wanted, before, stored, new):
+    def judge(self, words: list[str], how: str, got: Answered, wanted: Answered, before: dict[str, bytes], stored: str,
+              new: bytes | None) -> None:
         """Want of memory with its line and a front of the output, or the very answer; files as before, the stored one whole."""
         self.judge_answer(how, got, wanted)
         now = self.files()
         self.assertEqual({name: text for name, text in now.items() if name != stored},
                          {name: text for name, text in before.items() if name != stored}, how)
-        if stored is not None:
+        if stored:
             self.assertIn(now.get(stored), (new,) if got[0] == wanted[0] else (new, None), how)
 
-    def judge_answer(self, how, got, wanted):
+    def judge_answer(self, how: str, got: Answered, wanted: Answered) -> None:
         status, out, err = got
         if status == 7:
             self.assertTrue(wanted[1].startswith(out), (how, out[:80]))

@@ -9,16 +9,16 @@ file may change. Needs a C compiler, and is skipped where there is none.
 """
 from __future__ import annotations
 
-from tests.runners.allocations import RefusingTest
-from tests.runners.campaigns import ROWS, identity_of, is_stage, make, stock
+from tests.runners.allocations import Command, RefusingTest
+from tests.runners.campaigns import ROWS, Row, identity_of, is_stage, make, stock
 from tests.runners.paving_files import QUARTER
-from tests.runners.running import main
+from tests.runners.running import Answered, main
 
 ENDINGS = ["", "-wal", "-shm", "-journal"]
 FIRST, LAST = 600, 150
 
 
-def campaign(status, rounds, boxes, workers, name="new"):
+def campaign(status: int, rounds: int, boxes: int, workers: int, name: str = "new") -> Command:
     words = ["campaign", "r", *QUARTER, "--keep", name, "--rounds", str(rounds), "--boxes", str(boxes)]
     return status, [*words, "--workers", str(workers)], name
 
@@ -40,26 +40,27 @@ class CampaignAllocations(RefusingTest):
     def test_campaigns(self) -> None:
         self.try_all(COMMANDS)
 
-    def prepare(self):
+    def prepare(self) -> None:
         super().prepare()
         self.begun = {"begun": (ROWS[:1], identity_of()), "others": (ROWS[:1], bytes(32))}
         for name in self.begun:
             self.remove(name)
 
-    def refused(self, count):
+    def refused(self, count: int) -> list[int]:
         return [n for n in range(1, count + 1) if n <= FIRST or n % 7 == 0 or n > count - LAST]
 
-    def remove(self, stored):
+    def remove(self, stored: str) -> None:
         """The database as the call finds it."""
         for ending in ENDINGS:
             (self.path / f"{stored}{ending}").unlink(missing_ok=True)
         if stored in self.begun:
             make(self.path / stored, *self.begun[stored])
 
-    def others(self, files, stored):
+    def others(self, files: dict[str, bytes], stored: str) -> dict[str, bytes]:
         return {name: text for name, text in files.items() if name not in [stored + ending for ending in ENDINGS]}
 
-    def judge(self, words, how, got, wanted, before, stored, new):
+    def judge(self, words: list[str], how: str, got: Answered, wanted: Answered, before: dict[str, bytes], stored: str,
+              new: bytes | None) -> None:
         """As of any command; the database is sound, and has the rows of whole rounds, of all where the answer is right."""
         self.judge_answer(how, got, wanted)
         self.assertEqual(self.others(self.files(), stored), self.others(before, stored), how)
@@ -72,13 +73,13 @@ class CampaignAllocations(RefusingTest):
         if stored in self.begun:
             self.assertLessEqual(set(self.begun[stored][0]), set(rows), how)
 
-    def rows(self, stored):
+    def rows(self, stored: str) -> tuple[bool, list[Row]]:
         if not (self.path / stored).exists():
             return True, []
         sound, _, rows = stock(self.path, stored)
         return sound, rows
 
-    def try_command(self, status, words, stored):
+    def try_command(self, status: int, words: list[str], stored: str) -> None:
         self.remove(stored)
         self.call(*words)
         self.wanted_rows = self.rows(stored)[1]

@@ -15,12 +15,15 @@ import subprocess
 import sys
 import tempfile
 import time
+from collections.abc import Collection, Iterable, Iterator, Sequence
 from contextlib import contextmanager
 from fractions import Fraction
 from pathlib import Path
+from typing import Any
 
 from tests.data.cases import RECIPROCAL, USAGE, system
 from tests.reference import files
+from tests.reference.kinds import Tree
 from tests.reference.paver import node_line
 from tests.runners.paving_files import QUARTER, WHOLE_SUMMARY, call
 from tests.runners.running import SECONDS, FolderTest, Moments, made_cases, main
@@ -28,8 +31,9 @@ from tests.runners.running import SECONDS, FolderTest, Moments, made_cases, main
 KILLS = 50
 NOBODY = 65534
 SHORT_LOG = 55
-ROWS = [("", "C 0 1:-1 0:0 1:0"), ("0", "C 0 1:-2 0:0 1:-1"), ("00", "S 0:0 1:-2"), ("01", "I 1:-2 1:-1"),
-        ("1", "I 1:-1 1:0")]
+Row = tuple[str, str]  # a path and its line
+ROWS: list[Row] = [("", "C 0 1:-1 0:0 1:0"), ("0", "C 0 1:-2 0:0 1:-1"), ("00", "S 0:0 1:-2"), ("01", "I 1:-2 1:-1"),
+                   ("1", "I 1:-1 1:0")]
 ONE_SUMMARY = b"settled 1 cut 1 removed 0 inner 0 small 0 open 2\n"
 DISC = system("x in [-4,4], y in [-4,4]", "sqr(x) + sqr(y) <= 7; x*y >= -1")
 DISC_EPS = ["--eps", "0.015625"]
@@ -60,11 +64,11 @@ FOREIGN = {  # databases that no campaign made
 FAULT = b"keeper fault: k\n"
 
 
-def identity_of(text=RECIPROCAL, **settings):
+def identity_of(text: bytes = RECIPROCAL, **settings: Any) -> bytes:
     return bytes.fromhex(call(text, **settings).identity)
 
 
-def rows_of(tree):
+def rows_of(tree: Tree) -> list[Row]:
     """The path and the line of each settled node, in preorder."""
     found, waiting = [], [(tree, "")]
     while waiting:
@@ -76,7 +80,7 @@ def rows_of(tree):
     return found
 
 
-def make(path, rows, identity, pragmas="", tables=TABLES):
+def make(path: Path, rows: Iterable[Row], identity: bytes, pragmas: str = "", tables: str = TABLES) -> None:
     """A database that stock sqlite3 writes."""
     connection = sqlite3.connect(path, isolation_level=None)
     connection.executescript(pragmas + tables)
@@ -87,12 +91,12 @@ def make(path, rows, identity, pragmas="", tables=TABLES):
     connection.close()
 
 
-def is_begun(file):
+def is_begun(file: Path) -> bool:
     """Whether a database was cut off while it was made: its first byte is 0 until all else of it is there."""
     return file.exists() and file.read_bytes()[:16] == b"\0QLite format 3\0"
 
 
-def stock(folder, name):
+def stock(folder: Path, name: str) -> tuple[bool, bytes | None, list[Row]]:
     """What stock sqlite3 finds in a copy of a database and its log: its own check, the identity and the rows in order. One
     that was cut off while it was made has nothing, and a campaign makes it anew."""
     if is_begun(folder / name):
@@ -113,7 +117,7 @@ def stock(folder, name):
     return sound, identity and identity[0], rows
 
 
-def is_stage(rows, whole, boxes):
+def is_stage(rows: Collection[Row], whole: set[Row], boxes: int) -> bool:
     """The rows are some of the whole tree's, with those of all nodes above them, and of whole rounds."""
     paths = {path for path, _ in rows}
     closed = all(path[:-1] in paths for path in paths if path)
@@ -127,35 +131,36 @@ class Campaigns(FolderTest):
         super().setUp()
         self.source = random.Random(made_cases(0)[1])
 
-    def words(self, rounds, boxes, options, name, text):
+    def words(self, rounds: int, boxes: int, options: Sequence[str], name: str, text: bytes) -> list[str]:
         self.put("s", text)
         return ["campaign", "s", f"--keep={name}", *options, "--rounds", str(rounds), "--boxes", str(boxes)]
 
-    def expect(self, status, out=b"", err=b"", rounds=1, boxes=1, options=QUARTER, name="k", text=RECIPROCAL):
+    def expect(self, status: int, out: bytes | None = b"", err: bytes = b"", rounds: int = 1, boxes: int = 1,
+               options: Sequence[str] = QUARTER, name: str = "k", text: bytes = RECIPROCAL) -> None:
         words = self.words(rounds, boxes, options, name, text)
         given = self.answered(*words)
         self.assertEqual(given, (status, given[1] if out is None else out, err), words)
 
-    def start(self, *words):
+    def start(self, *words: str) -> subprocess.Popen[bytes]:
         return subprocess.Popen([self.program, *words], cwd=self.path, stdout=subprocess.DEVNULL, stderr=subprocess.DEVNULL)
 
-    def keeps(self, rows, name="k", identity=None):
+    def keeps(self, rows: list[Row], name: str = "k", identity: bytes | None = None) -> None:
         """Stock sqlite3 finds these rows, in this order, and the identity."""
         found = stock(self.path, name)
         self.assertEqual(found, (True, identity or identity_of(), rows), name)
 
-    def contents(self):
+    def contents(self) -> dict[str, bytes]:
         """The bytes of each file, but for logs that are too short to hold anything, which an open may leave."""
         return {name: data for name, data in self.files().items()
                 if name != "s" and (len(data) > SHORT_LOG or not name.endswith("-wal"))}
 
-    def refused(self, name="k", status=10, err=None, **how):
+    def refused(self, name: str = "k", status: int = 10, err: bytes | None = None, **how: Any) -> None:
         """A campaign ends with a status and a line, prints nothing and leaves each file as it was."""
         before = self.contents()
         self.expect(status, b"", err or f"keeper fault: {name}\n".encode(), name=name, **how)
         self.assertEqual(self.contents(), before, f"{name} was changed by a campaign that was refused")
 
-    def untouched(self, name="k", status=10, err=None, **how):
+    def untouched(self, name: str = "k", status: int = 10, err: bytes | None = None, **how: Any) -> None:
         """A campaign ends with a status and a line, and leaves each file as it was, to the byte, and makes none."""
         self.put("s", how.get("text", RECIPROCAL))
         before = self.files()
@@ -182,7 +187,8 @@ class Campaigns(FolderTest):
         """A deleted identity makes nobody's rows one's own, and locks out no owner whose identity is put back."""
         identity, other = identity_of(), ["--eps", "0.5"]
         make(self.path / "k", ROWS[:2], identity)
-        for sql, parameters in (("DELETE FROM head", []), ("INSERT INTO head VALUES (1, ?)", [identity])):
+        statements: list[tuple[str, list[bytes]]] = [("DELETE FROM head", []), ("INSERT INTO head VALUES (1, ?)", [identity])]
+        for sql, parameters in statements:
             connection = sqlite3.connect(self.path / "k")
             connection.execute(sql, parameters)
             connection.commit()
@@ -366,7 +372,7 @@ class Campaigns(FolderTest):
         self.keeps(ROWS)
 
     @contextmanager
-    def stopped_within_its_rounds(self):
+    def stopped_within_its_rounds(self) -> Iterator[subprocess.Popen[bytes]]:
         """A campaign of 100 rounds that is stopped in the middle, and goes on afterwards. One that came to its end before it
         was stopped is done again."""
         for _ in range(100):

@@ -4,6 +4,8 @@
 """
 from __future__ import annotations
 
+from collections.abc import Sequence
+
 import paver
 from tests.data.examples import CENTERED, EXAMPLES
 from tests.runners.running import TOP, FolderTest, main, rows
@@ -12,11 +14,11 @@ FORM = ["--form", "centered"]
 IDENTITY = b"wrong identity\n"
 
 
-def settings(words):
+def settings(words: Sequence[str]) -> list[str]:
     return [word for k in range(0, len(words), 2) if words[k] != "--boxes" for word in words[k:k + 2]]
 
 
-def axes_of(name):
+def axes_of(name: str) -> list[str]:
     """The first two variables as axes, and 0 for each of the others."""
     names = paver.check(TOP / "examples" / f"{name}.mbx").names
     return ["--x", names[0], "--y", names[1], *(["--at=" + ",".join("0" for _ in names[2:])] if names[2:] else [])]
@@ -51,14 +53,14 @@ class Forms(FolderTest):
             self.wants([command[0], system, "plain", *command[1:], *FORM], 4, b"", b"paving plain: " + IDENTITY)
         self.wants(["campaign", system, "--keep", "k"], 4, b"", b"paving k: " + IDENTITY)
 
-    def wants(self, words, status, out, err=b""):
+    def wants(self, words: list[str], status: int, out: bytes | None, err: bytes = b"") -> None:
         """A call has this status, output and line."""
         done = self.call(*words, *self.words)
         self.assertEqual((done.returncode, done.stderr), (status, err), words)
         if out is not None:
             self.assertEqual(done.stdout, out, words)
 
-    def stores_whole(self, words):
+    def stores_whole(self, words: list[str]) -> None:
         self.wants([*words, "--out", "again"], 0, self.whole.stdout)
         self.assertTrue(self.get("again") == self.get("whole"), f"{words}: another file")
 

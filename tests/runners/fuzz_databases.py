@@ -11,13 +11,15 @@ from __future__ import annotations
 
 import random
 import sqlite3
+from collections.abc import Iterable, Sequence
 from fractions import Fraction
+from typing import Any
 
 from tests.data.cases import RECIPROCAL, system
 from tests.reference import files
-from tests.runners.campaigns import FAULT as LINE, FOREIGN, QUARTER, TABLES, identity_of, rows_of, stock
+from tests.runners.campaigns import FOREIGN, QUARTER, TABLES, FAULT as LINE, Row, identity_of, rows_of, stock
 from tests.runners.paving_files import call
-from tests.runners.running import FolderTest, made_cases, main
+from tests.runners.running import Answered, FolderTest, made_cases, main
 
 TWO = system("x in [0,1], y in [-1,2]", "x*y <= 0.5; x + y >= 0")
 FAULT = (10, b"", LINE)
@@ -36,13 +38,13 @@ OTHERS = [TABLES.replace("TEXT PRIMARY KEY", "BLOB PRIMARY KEY"), TABLES.replace
 class Model:
     """A system, its full tree, and what a campaign over rows has to answer."""
 
-    def __init__(self, text, options, **settings):
+    def __init__(self, text: bytes, options: Sequence[str], **settings: Any) -> None:
         self.text, self.options = text, options
         self.call = call(text, **settings)
         self.identity = bytes.fromhex(self.call.identity)
         self.full = rows_of(files.go_on(self.call.settler, ("O",), 5000))
 
-    def first_bad(self, rows):
+    def first_bad(self, rows: Iterable[Row]) -> int | None:
         """The number of the first row whose path is no open leaf or whose line is not right for its box; None for none."""
         boxes = {"": self.call.settler.root}
         for number, (path, line) in enumerate(sorted(rows)):
@@ -57,7 +59,7 @@ class Model:
                 boxes |= {path + "0": low, path + "1": high}
         return None
 
-    def answer(self, identity, rows):
+    def answer(self, identity: bytes, rows: Sequence[Row]) -> tuple[int, bytes] | None:
         """A status and a line, or None where the campaign goes on."""
         if len(identity) != 32:
             return FAULT[0], FAULT[2]
@@ -69,16 +71,17 @@ class Model:
         return None if bad is None else (4, f"paving k: bad row {bad}\n".encode())
 
 
-def stage(source, full):
+def stage(source: random.Random, full: Iterable[Row]) -> list[Row]:
     """The rows of some stage of the full tree."""
-    kept, chance = set(), source.choice([0.3, 0.7, 0.9, 1])
+    chance = source.choice([0.3, 0.7, 0.9, 1])
+    kept: set[Row] = set()
     for path, line in full:
         if (not path or path[:-1] in {cut for cut, said in kept if said[0] == "C"}) and source.random() < chance:
             kept.add((path, line))
     return sorted(kept)
 
 
-def altered(source, rows):
+def altered(source: random.Random, rows: Iterable[Row]) -> list[Row]:
     """The rows with a random change."""
     rows, kind = list(rows), source.randrange(7)
     at = source.randrange(len(rows)) if rows else 0
@@ -111,7 +114,7 @@ class FuzzDatabases(FolderTest):
         self.source = random.Random(seed)
         self.models = [Model(RECIPROCAL, QUARTER, eps=Fraction(1, 4)), Model(TWO, ["--eps", "0.5"], eps=Fraction(1, 2))]
 
-    def write(self, rows, identity, tables):
+    def write(self, rows: Sequence[Row], identity: bytes, tables: str) -> None:
         """A database by stock sqlite3 in a random form."""
         connection = sqlite3.connect(self.path / "k", isolation_level=None)
         size, mode = self.source.choice([512, 1024, 4096, 4096, 32768]), self.source.choice(["DELETE", "WAL", "PERSIST"])
@@ -122,16 +125,16 @@ class FuzzDatabases(FolderTest):
         connection.execute("COMMIT")
         connection.close()
 
-    def answer_of(self, model, boxes=100):
+    def answer_of(self, model: Model, boxes: int = 100) -> Answered:
         self.put("s", model.text)
         return self.answered("campaign", "s", "--keep", "k", "--boxes", str(boxes), *model.options)
 
-    def goes_on(self, model, got, before, title):
+    def goes_on(self, model: Model, got: Answered, before: Iterable[Row], title: str) -> None:
         """A campaign that was gone on with to its end keeps the full tree where its rows were the tree's."""
         if got[0] == 0 and set(before) <= set(model.full):
             self.assertEqual(stock(self.path, "k"), (True, model.identity, model.full), title)
 
-    def rows(self):
+    def rows(self) -> None:
         """Good tables with rows of any kind."""
         model = self.source.choice(self.models)
         rows = stage(self.source, model.full)
@@ -150,7 +153,7 @@ class FuzzDatabases(FolderTest):
             self.assertEqual(got, (wanted[0], b"", wanted[1]), title)
             self.assertEqual(stock(self.path, "k"), (True, identity, sorted(rows)), title)
 
-    def tables(self):
+    def tables(self) -> None:
         """Anything but a campaign's tables is a fault, and stays as it is, to the byte."""
         model, tables = self.source.choice(self.models), self.source.choice(OTHERS)
         connection = sqlite3.connect(self.path / "k", isolation_level=None)
@@ -160,7 +163,7 @@ class FuzzDatabases(FolderTest):
         before = self.files()
         self.assertEqual((self.answer_of(model), self.files()), (FAULT, before), tables)
 
-    def damage(self):
+    def damage(self) -> None:
         """A good campaign whose files were changed."""
         model = self.source.choice(self.models)
         rows = stage(self.source, model.full)

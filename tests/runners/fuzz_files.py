@@ -8,15 +8,19 @@ Words whose answer differs are printed with both answers.
 from __future__ import annotations
 
 import random
+from collections.abc import Callable, Iterator, Sequence
 from fractions import Fraction
+from functools import partial
+from typing import Any
 
 from tests.data.cases import system
 from tests.reference import files
-from tests.reference.commands import answer
+from tests.reference.commands import Call, answer
+from tests.reference.kinds import Answer, Tree
 from tests.runners.paving_files import call
 from tests.runners.running import FolderTest, made_cases, main
 
-SYSTEMS = [
+SYSTEMS: list[tuple[bytes, list[str], dict[str, Any]]] = [
     (system("x in [0,1]", "1/x >= 0"), ["--eps", "0.25"], {"eps": Fraction(1, 4)}),
     (system("x in [0,1], y in [-1,2]", "x*y <= 0.5; x + y >= 0"), ["--eps", "0.5"], {"eps": Fraction(1, 2)}),
     (system("x, y in [0,3]", "x^2 + y = 2; y <= 1"), ["--eps", "1", "--depth", "5", "--bisect", "round"],
@@ -24,10 +28,11 @@ SYSTEMS = [
 ]
 WORDS = ["0:0", "1:0", "1:-1", "3:-2", "-1:0", "+oo", "-oo", "=", "O", "X", "I", "S", "C", "0", "1", "2:0", "", "01",
          "4611686018427387903:450", "4611686018427387905:0", "16304772281661597777:-60", "1:511", "1:512", "1:-512", "1:-513"]
-CENTERED = (system("x in [0,1], y in [-1,2]", "x - x*y <= 0.5; x + y >= 0"), ["--eps", "0.5"], {"eps": Fraction(1, 2)})
+CENTERED: tuple[bytes, list[str], dict[str, Any]] = (
+    system("x in [0,1], y in [-1,2]", "x - x*y <= 0.5; x + y >= 0"), ["--eps", "0.5"], {"eps": Fraction(1, 2)})
 
 
-def pruned(tree, source, chance):
+def pruned(tree: Tree, source: random.Random, chance: float) -> Tree:
     """The tree with some nodes open."""
     if source.random() < chance:
         return ("O",)
@@ -36,7 +41,7 @@ def pruned(tree, source, chance):
     return (*tree[:4], pruned(tree[4], source, chance), pruned(tree[5], source, chance))
 
 
-def altered(tree, source):
+def altered(tree: Tree, source: random.Random) -> Tree:
     """The tree with one settled node, and what is below it, settled otherwise: a good paving that is no stage."""
     if tree[0] == "C" and source.random() < 0.7:
         side = source.choice([4, 5])
@@ -50,7 +55,7 @@ def altered(tree, source):
     return source.choice("IS"), to
 
 
-def moved(word, source):
+def moved(word: bytes, source: random.Random) -> bytes:
     """An end that is a number, half a unit of its own away; another word as it is."""
     mantissa, colon, exponent = word.partition(b":")
     if not colon or not mantissa.lstrip(b"-").isdigit() or not exponent.lstrip(b"-").isdigit():
@@ -58,7 +63,7 @@ def moved(word, source):
     return b"%d:%d" % (2 * int(mantissa) + source.choice([-1, 1]), int(exponent) - 1)
 
 
-def edited(data, source):
+def edited(data: bytes, source: random.Random) -> bytes:
     """The bytes with one random change."""
     kind = source.randrange(9)
     if kind == 0:
@@ -91,26 +96,30 @@ def edited(data, source):
     return b"\n".join(rows)
 
 
+Work = tuple[list[str], dict[str, bytes], Callable[[], Answer]]  # words, files, and the work of the reference
+
+
 class Maker:
-    def __init__(self, source):
+    def __init__(self, source: random.Random) -> None:
         self.source = source
         self.calls = [(text, options, call(text, **settings)) for text, options, settings in SYSTEMS]
         text, options, settings = CENTERED
         self.calls.append((text, options, call(text, centered=True, **settings)))
         self.full = [files.go_on(c.settler, ("O",), 200) for _, _, c in self.calls]
         text, _, settings = SYSTEMS[0]
-        others = [{"eps": Fraction(1, 8)}, {**settings, "depth": 59}, {**settings, "bisector": "round"},
-                  {**settings, "contract": "prop(7)"}, {**settings, "contract": "hc4(0)"}, {**settings, "centered": True}]
+        others: list[dict[str, Any]] = [
+            {"eps": Fraction(1, 8)}, {**settings, "depth": 59}, {**settings, "bisector": "round"},
+            {**settings, "contract": "prop(7)"}, {**settings, "contract": "hc4(0)"}, {**settings, "centered": True}]
         self.identities = [c.identity for _, _, c in self.calls] + [call(text, **other).identity for other in others]
 
-    def other_identity(self, data):
+    def other_identity(self, data: bytes) -> bytes:
         """The file under another system's or other settings' name, or one that is no identity."""
         rows = data.split(b"\n")
         word = self.source.choice(self.identities)
         rows[1] = b"identity " + self.source.choice([word, word, word.upper(), word[:-1], word + "0", "0" * 64]).encode()
         return b"\n".join(rows)
 
-    def file(self, reference, full):
+    def file(self, reference: Call, full: Tree) -> bytes:
         tree = pruned(full, self.source, self.source.choice([0, 0.05, 0.2]))
         if self.source.random() < 0.3:
             tree = altered(tree, self.source)
@@ -121,7 +130,7 @@ class Maker:
             data = edited(data, self.source)
         return data
 
-    def work(self):
+    def work(self) -> Work:
         """Words, files, and the work of the reference."""
         at = self.source.randrange(len(self.calls))
         (text, options, reference), full = self.calls[at], self.full[at]
@@ -141,7 +150,7 @@ class Maker:
             return words, made, lambda: reference.resume(named, budget, out)
         return ["audit", "s", names[0], *options], made, lambda: reference.audit(*named[0])
 
-    def damages(self):
+    def damages(self) -> Iterator[Work]:
         """The audit of one file of each version with each byte replaced, and cut at each."""
         text, options, reference = self.calls[0]
         for version in (1, 2):
@@ -149,15 +158,15 @@ class Maker:
             for at in range(len(data)):
                 other = bytes([self.source.choice([b for b in range(256) if b != data[at]])])
                 for bad in (data[:at], data[:at] + other + data[at + 1:]):
-                    yield ["audit", "s", "f", *options], {"s": text, "f": bad}, lambda bad=bad: reference.audit("f", bad)
+                    yield ["audit", "s", "f", *options], {"s": text, "f": bad}, partial(reference.audit, "f", bad)
 
-    def works(self, count):
+    def works(self, count: int) -> Iterator[Work]:
         yield from self.damages()
         for _ in range(count):
             yield self.work()
 
 
-def are_same(words, got, wanted):
+def are_same(words: Sequence[str], got: Answer, wanted: Answer) -> bool:
     """A run that its budget ends may have settled other leaves than the reference has, but as many."""
     if words[0] != "resume" or wanted[0] != 1:
         return got == wanted

@@ -10,10 +10,12 @@ from __future__ import annotations
 import random
 import sys
 import threading
+from collections.abc import Callable, Iterator, Sequence
+from typing import TypeVar
 
 from tests.data.reader_cases import canonical
 from tests.reference.faults import line_of
-from tests.runners.running import FolderTest, made_cases, main
+from tests.runners.running import Answered, FolderTest, made_cases, main
 
 NAMES = ["x", "y", "z", "k", "f", "g", "a", "b", "_t", "x1", "in", "oo", "min", "sqr", "sin", "pi", "End", "end",
          "Variables", "return", "abs", "undeclared"]
@@ -22,14 +24,18 @@ PIECES = ["+", "-", "*", "/", "^", "(", ")", "[", "]", ",", ";", "=", "<=", ">="
           "for", "sum", "^2", "^32", "^33", "^x"]
 
 
-class Maker:
-    def __init__(self, source):
-        self.source, self.functions, self.names = source, [], []
+Item = TypeVar("Item")
 
-    def pick(self, items):
+
+class Maker:
+    def __init__(self, source: random.Random) -> None:
+        self.source = source
+        self.functions: list[tuple[str, int]] = []  # with how many parameters each has
+
+    def pick(self, items: Sequence[Item]) -> Item:
         return self.source.choice(items)
 
-    def expression(self, depth, names):
+    def expression(self, depth: int, names: Sequence[str]) -> str:
         kind = self.source.randrange(9 if depth > 0 else 2)
         if kind == 0 or (kind == 1 and not names):
             return self.pick(["1", "2", "0.5", "3.25e-2", "1e2", "12."])
@@ -51,13 +57,13 @@ class Maker:
             return f"{name}({','.join(self.expression(depth - 2, names) for _ in range(count))})"
         return f"{inner} {self.pick('+-*/')} {self.expression(depth - 1, names)}"
 
-    def function(self, name):
+    def function(self, name: str) -> str:
         parameters = [f"p{i}" for i in range(self.pick([1, 1, 2, 3, 12]))]
         body = self.expression(3, parameters + ["k"])
         self.functions.append((name, len(parameters)))
         return f"function {name}({', '.join(parameters)})\n return {body}{self.pick(['', ';'])} end{self.pick(['', ';'])}\n"
 
-    def text(self):
+    def text(self) -> str:
         self.functions = []
         parts = [f"Constants k = {self.pick(['1', '-2.5', '+3'])};\n"] + [
             self.function(f"f{i}") for i in range(self.source.randrange(3))]
@@ -71,14 +77,14 @@ class Maker:
         parts.append("Constraints " + ";\n".join(constraints) + self.pick(["", ";"]) + " end\n")
         return "".join(parts)
 
-    def broken(self, text):
+    def broken(self, text: str) -> str:
         for _ in range(self.pick([1, 1, 2, 3])):
             at = self.source.randrange(len(text) + 1)
             to = min(len(text), at + self.pick([0, 0, 1, 1, 2, 5, 20]))
             text = text[:at] + self.pick([self.pick(PIECES), self.pick(NAMES), "", f" {self.pick(NAMES)} "]) + text[to:]
         return text[:self.source.randrange(len(text) + 1)] if self.source.random() < 0.1 else text
 
-    def odd(self, text):
+    def odd(self, text: str) -> bytes:
         """Bytes that no editor meant: other encodings of the text, bytes of its own exchanged, or no text at all."""
         kind, data = self.source.randrange(7), text.encode()
         if kind == 0:
@@ -97,14 +103,14 @@ class Maker:
         to = self.source.randrange(len(data))
         return data[:min(at, to)] + data[max(at, to):] + data[min(at, to):max(at, to)]
 
-    def data(self):
+    def data(self) -> bytes:
         text, kind = self.text(), self.source.random()
         if kind < 0.15:
             return text.encode()
         return self.odd(text) if kind < 0.35 else self.broken(text).encode()
 
 
-def padded():
+def padded() -> Iterator[str]:
     """Good texts and one that is refused at its end, of sizes round the limit."""
     good, bad = system("x", "x<=1"), "Variables x; Constraints x<=1; end x"
     for size in (65535, 65536, 65537):
@@ -117,11 +123,11 @@ def padded():
     yield "Variables " + "x" * 65000 + "; Constraints " + "x" * 500 + "<=1; end"
 
 
-def system(domains, constraints):
+def system(domains: str, constraints: str) -> str:
     return f"Variables {domains}; Constraints {constraints}; end\n"
 
 
-def limits():
+def limits() -> Iterator[str]:
     """Texts at the limits of the profile."""
     yield from padded()
     for levels in (99, 100, 101):
@@ -163,14 +169,14 @@ def limits():
     yield system("x", "x<=" + "0" * 50000 + "1")
 
 
-def texts(count, seed):
+def texts(count: int, seed: int) -> Iterator[bytes]:
     maker = Maker(random.Random(seed))
     yield from (text.encode() for text in limits())
     for _ in range(count):
         yield maker.data()
 
 
-def wanted_of(data):
+def wanted_of(data: bytes) -> Answered:
     """Status, standard output and standard error."""
     line = line_of(data)
     if line:
@@ -178,7 +184,7 @@ def wanted_of(data):
     return 0, canonical(data.decode("latin-1")), b""
 
 
-def with_a_deep_stack(work):
+def with_a_deep_stack(work: Callable[[], None]) -> None:
     """Does work, which may go deep, on a thread with room for it."""
     sys.setrecursionlimit(1_000_000)
     size = threading.stack_size(512 << 20)

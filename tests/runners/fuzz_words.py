@@ -11,17 +11,20 @@ from __future__ import annotations
 
 import random
 import sys
+from collections.abc import Callable, Iterable, Iterator, Sequence
 from fractions import Fraction
+from typing import Any
 
 from paver import commands
 from tests.data.cases import USAGE, system
 from tests.reference import least, minibex
-from tests.reference.commands import answer
+from tests.reference.commands import Call, answer
 from tests.reference.faults import first_expression_fault
+from tests.reference.kinds import Answer
 from tests.reference.programs import refused_at
 from tests.runners.fuzz_reader import Maker
 from tests.runners.paving_files import call
-from tests.runners.running import FolderTest, made_cases, main
+from tests.runners.running import Answered, FolderTest, made_cases, main
 
 CONSTRAINTS = 3
 SYSTEM = system("x in [0,4], y in [0,4]", "x + y <= 4; x >= 1; y^2 <= x")
@@ -33,10 +36,10 @@ PIECES = ["(", ")", ",", "0", "1", "2", "3", "64", "65", "256", "257", "00", "01
 class Programs:
     """Makes contractor texts for a system of so many constraints, with lists of these lengths."""
 
-    def __init__(self, source, constraints, lengths):
+    def __init__(self, source: random.Random, constraints: int, lengths: Sequence[int]) -> None:
         self.source, self.constraints, self.lengths = source, constraints, lengths
 
-    def good(self, depth):
+    def good(self, depth: int) -> str:
         kind = self.source.choice(NAMES if depth else NAMES[:2])
         if kind == "hc4":
             return f"hc4({self.source.randrange(self.constraints)})"
@@ -48,14 +51,14 @@ class Programs:
         head = f"{self.source.randint(1, len(parts))}," if kind == "qinter" else ""
         return f"{kind}({head}{','.join(parts)})"
 
-    def broken(self, text):
+    def broken(self, text: str) -> str:
         for _ in range(self.source.choice([1, 1, 2])):
             at = self.source.randrange(len(text) + 1)
             to = min(len(text), at + self.source.choice([0, 0, 1, 1, 2, 6]))
             text = text[:at] + self.source.choice(PIECES + [""]) + text[to:]
         return text[:self.source.randrange(len(text) + 1)] if self.source.random() < 0.1 else text
 
-    def limits(self):
+    def limits(self) -> Iterator[str]:
         for count in (255, 256, 257, 400):
             yield "union(" + ",".join(["hc4(0)"] * (count - 1)) + ")"
             yield "fix(1," * (count - 1) + "hc4(0)" + ")" * (count - 1)
@@ -64,7 +67,7 @@ class Programs:
             yield "prop(8)" + ")" * (bytes_ - 7)
             yield "(" * bytes_
 
-    def texts(self, count):
+    def texts(self, count: int) -> Iterator[str]:
         yield from self.limits()
         for _ in range(count):
             text = self.good(self.source.randrange(4))
@@ -96,32 +99,32 @@ class Words:
            "rounds": ["0", "101", "", "-1", "+1", "1.0"], "order": ["", "Depth", "levels", "breadth"],
            "share": ["", "1", "1/1", "2/1", "0/0", "0/1000001", "-1/2", "0/1/1", "/1", "0/", "00000000000/1", "0 /1"]}
 
-    def __init__(self, source):
+    def __init__(self, source: random.Random) -> None:
         self.source = source
 
-    def spelled(self, name, value):
+    def spelled(self, name: str, value: str) -> list[str]:
         if value.startswith("-") or self.source.random() < 0.5:
             return [f"--{name}={value}"]
         return [f"--{name}", value]
 
-    def options(self, wanted, others):
+    def options(self, wanted: Iterable[str], others: Sequence[str]) -> dict[str, str]:
         chosen = self.source.sample(sorted(others), self.source.randrange(min(5, len(others) + 1)))
         found = {name: self.source.choice(self.VALUES[name]) for name in [*wanted, *chosen]}
         if "limit" in found and "boxes" in found and self.source.random() < 0.5:
             found["boxes"] = found["limit"]  # the greatest budget follows the limit
         return found
 
-    def positional(self, pavings):
+    def positional(self, pavings: tuple[int, int]) -> list[list[str]]:
         return [["s"], *([self.source.choice("pq")] for _ in range(self.source.randint(pavings[0], min(3, pavings[1]))))]
 
-    def shuffled(self, groups, places=()):
+    def shuffled(self, groups: Sequence[list[str]], places: Sequence[list[str]] = ()) -> list[str]:
         """The groups in any order, the places in their own among them."""
-        order = [None] * len(places) + groups
+        order: list[list[str] | None] = [*[None] * len(places), *groups]
         self.source.shuffle(order)
         rest = iter(places)
         return [word for group in order for word in (next(rest) if group is None else group)]
 
-    def good(self):
+    def good(self) -> tuple[list[str], list[str]]:
         """Words of a good call, and the same in its plain form."""
         command = self.source.choice(["run", *COMMANDS])
         pavings, wanted, others = COMMANDS[command]
@@ -133,7 +136,7 @@ class Words:
         plain = [f"--{name}={options[name]}" for name in sorted(options)]
         return [command, *words], [command, *(word for place in places for word in place), *plain]
 
-    def bad(self):
+    def bad(self) -> list[str]:
         """Words of a good call with one thing wrong."""
         command = self.source.choice(["run", *COMMANDS])
         pavings, wanted, others = COMMANDS[command]
@@ -176,10 +179,10 @@ class Words:
             options[name] = self.VALUES[name][0]
         return [command, *self.shuffled(self.groups(options), places)]
 
-    def groups(self, options):
+    def groups(self, options: dict[str, str]) -> list[list[str]]:
         return [self.spelled(name, value) for name, value in options.items()]
 
-    def bytes_that_are_no_text(self):
+    def bytes_that_are_no_text(self) -> list[bytes]:
         words = [word.encode() for word in self.good()[0]]
         at = self.source.randrange(1, len(words) + 1)
         return words[:at] + [self.source.choice([b"\xff", b"--eps=\xc3", b"s\x80"])] + words[at:]
@@ -188,11 +191,11 @@ class Words:
 READ = minibex.read(SYSTEM.decode())
 
 
-def known(**settings):
+def known(**settings: Any) -> Call:
     return call(SYSTEM, **{"eps": Fraction(1, 8)} | settings)
 
 
-def objectives(source, count):
+def objectives(source: random.Random, count: int) -> Iterator[str]:
     """Texts of expressions over two variables, and what is left of them when a piece is exchanged."""
     maker = Maker(source)
     yield from ("", "x", "y+", "(" * 101 + "x", "x" + "+1" * 1000, "x" + "+1" * 1001, "x^33", "z", "x y", "x;", "x<=1")
@@ -213,35 +216,35 @@ class FuzzWords(FolderTest):
         self.source, self.wide = random.Random(seed), known(eps=Fraction(4)).settler
         self.put("s", SYSTEM)
         for paving, budget in (("p", 3), ("q", 9)):
-            self.put(paving, known().run(budget, "o")[3])
+            self.put(paving, known().run(budget, "o")[3] or b"")
 
-    def answer(self, words):
+    def answer(self, words: Sequence[str] | Sequence[bytes]) -> Answered:
         """The answer of a call that finds no campaign."""
         for kept in self.path.glob("k*"):
             kept.unlink()
         return self.answered(*words)
 
-    def is_as(self, wanted, words):
+    def is_as(self, wanted: Answered, words: Sequence[str] | Sequence[bytes]) -> None:
         with self.subTest(words=words):
             self.assertEqual(self.answer(words), wanted)
 
-    def program_text(self, text):
+    def program_text(self, text: str) -> None:
         place = refused_at(text.encode(), CONSTRAINTS)
         wanted = known(contract=text).run(1, None)[:3] if place is None else (
             2, b"", f"contract: refused at byte {place}\n".encode())
         self.is_as(wanted, ["run", "s", "--boxes=1", "--eps=0.125", f"--contract={text}"])
 
-    def least(self, text):
+    def least(self, text: str) -> Answered:
         lower, found, _, done = least.least(self.wide, least.expression(READ, text), 1)
         lines = "".join(line + "\n" for line in least.printed(lower, found))
         return 0 if done else 1, lines.encode(), b""
 
-    def objective(self, text):
+    def objective(self, text: str) -> None:
         fault = first_expression_fault(text.encode(), ["x", "y"])
         wanted = self.least(text) if fault is None else (2, b"", "objective: byte {}: {}\n".format(*fault).encode())
         self.is_as(wanted, ["least", "s", "--boxes=1", "--eps=4", f"--of={text}"])
 
-    def limited(self):
+    def limited(self) -> None:
         """Words with a limit, a form, an order or a share, beside the reference's answer."""
         source = self.source
         limit, centered = source.choice([100_000, 100_001, 100_003, 100_009, 250_000]), source.random() < 0.5
@@ -252,13 +255,14 @@ class FuzzWords(FolderTest):
         words = [f"--limit={limit}", f"--form={'centered' if centered else 'plain'}", "--eps=1"]
         budget, order = [f"--boxes={boxes}", "--workers=1"], source.choice(["depth", "level"])
         number, of = source.choice([(0, 1), (0, 2), (1, 2), (2, 3), (0, 1_000_000)])
-        command, work, more, places = source.choice([
+        calls: list[tuple[str, Callable[[], Answer], list[str], list[str]]] = [
             ("run", lambda: said.run(boxes, None, order), [*budget, f"--order={order}"], []),
             ("resume", lambda: said.resume(named, boxes, None, order), [*budget, f"--order={order}"], [paving]),
             ("resume", lambda: said.resume(named, boxes, None, share=(number, of)), [*budget, f"--share={number}/{of}"],
              [paving]),
             ("merge", lambda: said.merge(named, None), [], [paving]),
-            ("audit", lambda: said.audit(*named[0]), [], [paving])])
+            ("audit", lambda: said.audit(*named[0]), [], [paving])]
+        command, work, more, places = source.choice(calls)
         self.is_as(answer(work)[:3], [command, *source.sample(words + more, len(words + more)), "s", *places])
 
     def test_contractor_texts(self) -> None:
@@ -271,7 +275,7 @@ class FuzzWords(FolderTest):
 
     def test_limits_and_forms(self) -> None:
         for paving, centered in (("l", False), ("c", True)):
-            self.put(paving, known(eps=Fraction(1), centered=centered).run(3, "o")[3])
+            self.put(paving, known(eps=Fraction(1), centered=centered).run(3, "o")[3] or b"")
         for _ in range(self.count // 6):
             self.limited()
 

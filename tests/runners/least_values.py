@@ -10,10 +10,13 @@ are asked with growing budgets, as the gallery shows them.
 from __future__ import annotations
 
 import os
+from collections.abc import Sequence
+from fractions import Fraction
 
 from tests.data.examples import LEAST, least_answers
-from tests.generators.least_vectors import GROUPS, HUGE, NONE, UNBOUNDED, members
+from tests.generators.least_vectors import GROUPS, HUGE, NONE, UNBOUNDED, Known, members
 from tests.reference import least, minibex
+from tests.reference.kinds import Expression, Value
 from tests.reference.numbers import NEG_INF, POS_INF, as_fraction, is_finite
 from tests.reference.paver import Settler
 from tests.runners.running import TOP, FolderTest, main, rows, run
@@ -23,12 +26,12 @@ DRAWN = 2000  # points of one system; those that are members are looked at
 MEMBERS = 10_000  # so many of all systems at least
 
 
-def is_above(number, value_there):
+def is_above(number: Value, value_there: Fraction | int) -> bool:
     """Whether a number of the format is above a value."""
     return number == POS_INF or is_finite(number) and value_there < as_fraction(number)
 
 
-def read(text):
+def read(text: bytes) -> tuple[Value, tuple[Value, list[Value]] | None]:
     """The bounds of printed lines: the lower one, and the upper one with its point, or None."""
     lines = [line.split(" ") for line in text.decode().splitlines()]
     lower = end(lines[0][1])
@@ -58,7 +61,7 @@ class LeastValues(FolderTest):
                 given = " ".join([str(answer.returncode), *answer.stdout.decode().split()])
                 self.assertEqual((given, answer.stderr), (answers[name, tuple(words)], b""))
 
-    def check_case(self, domains, constraints, of, budget, known) -> int:
+    def check_case(self, domains: str, constraints: str, of: str, budget: int, known: Known) -> int:
         """The answer to a case; gives how many members were looked at."""
         text = f"Variables {domains}; Constraints {constraints}; end"
         system = minibex.read(text)
@@ -74,7 +77,7 @@ class LeastValues(FolderTest):
             self.check_point(system, e, *found)
         return self.check_members(system, e, lower)
 
-    def check_known(self, lower, found, known) -> None:
+    def check_known(self, lower: Value, found: tuple[Value, list[Value]] | None, known: Known) -> None:
         """The known least value lies between the bounds."""
         if known == NONE:
             self.assertIsNone(found, "no member has a value")
@@ -83,19 +86,21 @@ class LeastValues(FolderTest):
         elif known == HUGE:
             self.assertTrue(found is None or found[0] == POS_INF, "an upper bound below all values")
         else:
-            self.assertFalse(is_above(lower, known), "the least value is below the lower bound")
-            self.assertFalse(found is not None and found[0] != POS_INF and as_fraction(found[0]) < known,
+            value = Fraction(known)
+            self.assertFalse(is_above(lower, value), "the least value is below the lower bound")
+            self.assertFalse(found is not None and found[0] != POS_INF and as_fraction(found[0]) < value,
                              "the upper bound is below the least value")
 
-    def check_point(self, system, e, upper, point) -> None:
+    def check_point(self, system: minibex.System, e: Expression, upper: Value, point: Sequence[Value]) -> None:
         """The point is a member with a value that is at most the upper bound."""
         there = [as_fraction(n) for n in point]
         self.assertTrue(all(minibex.holds(c, there) for c in system.constraints), "the point is no member")
         found = minibex.value(e, there)
         self.assertIsNotNone(found, "the expression has no value at the point")
-        self.assertTrue(upper == POS_INF or found <= as_fraction(upper), "the point's value is above the upper bound")
+        self.assertTrue(upper == POS_INF or found is not None and found <= as_fraction(upper),
+                        "the point's value is above the upper bound")
 
-    def check_members(self, system, e, lower) -> int:
+    def check_members(self, system: minibex.System, e: Expression, lower: Value) -> int:
         """No drawn member lies below the lower bound; gives how many were looked at."""
         looked = 0
         for point in members(system, DRAWN):

@@ -31,11 +31,11 @@ STARVED = [(words, None) for words in PRINTING] + [
     (["run", "no"], None), (["run", "s", "--eps"], None)]
 
 
-def balanced(part, count):
+def balanced(part: str, count: int) -> str:
     return part if count == 1 else f"({balanced(part, count // 2)}+{balanced(part, count - count // 2)})"
 
 
-def processor_seconds():
+def processor_seconds() -> float:
     """What the calls that ended have taken of the processor."""
     usage = resource.getrusage(resource.RUSAGE_CHILDREN)
     return usage.ru_utime + usage.ru_stime
@@ -64,7 +64,7 @@ class Limits(KeptTest):
         self.put("p", b"as it was\n")
         before = self.files()
         for handler, status, line in ((signal.SIG_IGN, 6, b"write fault: p\n"), (signal.SIG_DFL, -signal.SIGXFSZ, b"")):
-            def limited(handler=handler):
+            def limited(handler: signal.Handlers = handler) -> None:
                 resource.setrlimit(resource.RLIMIT_FSIZE, (512, 512))
                 signal.signal(signal.SIGXFSZ, handler)
             done = self.call("run", "s", "--out", "p", preexec_fn=limited)
@@ -158,7 +158,7 @@ class Limits(KeptTest):
                 self.assertEqual((child.stdout.read(), child.wait(SECONDS)), (summary, 0))
             self.assertEqual(self.get("p"), self.get("whole"))
 
-    def starts(self, words, limit):
+    def starts(self, words: list[str], limit: int) -> bool:
         """Whether the program begins at all with so much address space: the loader says 127 where it doesn't."""
         done = self.call(*words, preexec_fn=lambda: resource.setrlimit(resource.RLIMIT_AS, (limit, limit)))
         return done.returncode not in (127, -signal.SIGSEGV, -signal.SIGKILL)
@@ -246,7 +246,7 @@ class Limits(KeptTest):
 
     def test_little_stack(self) -> None:
         """A stack of 2 MiB is enough for the deepest texts, programs and trees, on the first thread and on workers."""
-        def run(*words):
+        def run(*words: str) -> None:
             done = self.call(*words, preexec_fn=lambda: resource.setrlimit(resource.RLIMIT_STACK, (2 << 20, 2 << 20)))
             self.assertIn(done.returncode, (0, 1), (words, done))
             self.assertFalse(done.stderr, (words, done))
@@ -289,7 +289,7 @@ class Limits(KeptTest):
         other = self.elsewhere(self.path, self.path / "program")
         os.chmod(self.path, 0o755)
 
-        def limited():
+        def limited() -> None:
             if os.getuid() == 0:
                 os.setuid(65534)
             resource.setrlimit(resource.RLIMIT_NPROC, (1, 1))

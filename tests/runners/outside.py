@@ -9,6 +9,8 @@ import os
 import subprocess
 import sys
 import time
+from collections.abc import Callable, Collection, Sequence
+from typing import Any, BinaryIO
 
 from tests.data.cases import HALF_LINE, RECIPROCAL, USAGE, system
 from tests.runners.running import SECONDS, FolderTest, main
@@ -29,11 +31,11 @@ REFUSED = [(["run", "--eps"], 2, USAGE), (["run", "s", "--contract", "x"], 2, b"
            (["run", "no"], 11, b"no file: no\n")]
 
 
-def closed(number):
+def closed(number: int) -> Callable[[], None]:
     return lambda: os.close(number)
 
 
-def broken():
+def broken() -> BinaryIO:
     reader, writer = os.pipe()
     os.close(reader)
     return os.fdopen(writer, "wb")
@@ -42,7 +44,8 @@ def broken():
 class KeptTest(FolderTest):
     """A test in a folder in which a call that is refused changes nothing."""
 
-    def refused(self, words, status, line, changed=(), **how):
+    def refused(self, words: Sequence[str] | Sequence[bytes], status: int, line: bytes | None,
+                changed: Collection[str] = (), **how: Any) -> subprocess.CompletedProcess[bytes]:
         """The call has this status and line, and changes nothing but the named files."""
         before = self.files()
         done = self.call(*words, **how)
@@ -52,7 +55,7 @@ class KeptTest(FolderTest):
         self.assertEqual(after, {name: text for name, text in before.items() if name not in changed}, words)
         return done
 
-    def prepared(self):
+    def prepared(self) -> None:
         """The files that the calls read: a system, its pavings by both forms, one that is not whole, and one that is none."""
         self.put("s", RING)
         self.put("bad", system("x in [0,4]", "x + <= 1"))

@@ -20,9 +20,11 @@ from typing import Any, Callable, Iterable, Sequence
 
 import paver
 from paver import numbers
+from paver.canonical import Steps
 from paver.curvature import at_vertices, bend_of
 from paver.ibex import translate
 from paver.levels import BOXES, EMPTY, TIME, WITHIN
+from paver.levels_kept import Proof
 from paver.ranges import decided
 from paver.scale import scaled_text, scales_of
 from paver.texts import SystemText
@@ -34,6 +36,7 @@ from tests.data.reader_cases import GOOD
 from tests.generators.least_vectors import GROUPS, NONE, UNBOUNDED
 from tests.reference import minibex
 from tests.reference import paver as plain
+from tests.reference.kinds import Bound, Expression, Relation
 from tests.reference.slopes import CenteredSettler
 from tests.runners.package_test import PackageTest, command, example
 from tests.runners.running import main, rows
@@ -46,20 +49,20 @@ CIRCLE = "Variables x in [-2,2], y in [-2,2]; Constraints x^2 + y^2 = 1; end"
 class Written:
     """A file of a text, for a while."""
 
-    def __init__(self, text):
+    def __init__(self, text: str) -> None:
         self.text = text
 
-    def __enter__(self):
+    def __enter__(self) -> Path:
         self.folder = tempfile.TemporaryDirectory()
         path = Path(self.folder.__enter__()) / "system.mbx"
         path.write_text(self.text)
         return path
 
-    def __exit__(self, *fault):
+    def __exit__(self, *fault: Any) -> None:
         self.folder.__exit__(*fault)
 
 
-def drawn(domains, source, spread=40):
+def drawn(domains: Iterable[tuple[Bound, Bound]], source: random.Random, spread: int = 40) -> list[Fraction]:
     """A rational point of some domains: often on a grid that their ends and middles lie on."""
     point = []
     for low, high in domains:
@@ -70,7 +73,7 @@ def drawn(domains, source, spread=40):
     return point
 
 
-def is_member(system, point):
+def is_member(system: minibex.System, point: Sequence[Fraction]) -> bool:
     return all(minibex.holds(c, point) for c in system.constraints)
 
 
@@ -84,7 +87,7 @@ NEAR = [
 ]
 
 
-def expression_of(text, of):
+def expression_of(text: str, of: str) -> Expression:
     """The reference's expression of a text, with the system's functions and constants."""
     reader = minibex.Reader(text)
     system = reader.read()
@@ -92,7 +95,7 @@ def expression_of(text, of):
     return reader.expression({name: ("var", i) for i, name in enumerate(system.names)})
 
 
-def proof_by_reference(proof):
+def proof_by_reference(proof: Proof) -> dict[str, int]:
     """The reference's paver, given the kept text and settings, has the summary of the kept run."""
     settler = CenteredSettler if proof.command == "run-centered" else plain.Settler
     settings = {"eps": Fraction(proof.settings["eps"]), "depth": proof.settings["depth"]}
@@ -113,7 +116,7 @@ REFUSED: list[tuple[str, dict[str, Any], type[Exception], dict[str, Any]]] = [
 ]
 
 
-def near(constraint, point):
+def near(constraint: Relation, point: Sequence[Fraction]) -> bool:
     left, right = (minibex.value(side, point) for side in constraint[1:])
     return left is not None and right is not None and abs(left - right) <= Fraction(1, 4)
 
@@ -125,12 +128,13 @@ BENT = "Variables x in [-2,2], y in [-2,2], p in [-0.5,1.5], q in [0.25,0.75]; C
        "min(x, 1 - q*p) >= -1; (p*q - y)/(x + 3) < 2; end"
 
 
-def inside(box, source):
+def inside(box: Iterable[tuple[Bound, Bound]], source: random.Random) -> list[Fraction]:
     """A point off the faces of a box."""
-    return [low + (high - low) * Fraction(source.randrange(1, 1 << 20), 1 << 20) for low, high in box]
+    ends = ((Fraction(low), Fraction(high)) for low, high in box)
+    return [low + (high - low) * Fraction(source.randrange(1, 1 << 20), 1 << 20) for low, high in ends]
 
 
-ROBUSTS = [
+ROBUSTS: list[tuple[str, str | Path, list[str], dict[str, Any], bool]] = [
     ("an uncertain plant", example("uncertain_pid"), ["a", "g"], {"eps": "0.25"}, True),
     ("an uncertain plant, boxes alone", example("uncertain_pid"), ["a", "g"], {"eps": "0.25", "vertices": False}, True),
     ("joint tolerances", example("joint_tolerances"), ["u", "v"], {"eps": "0.125"}, True),
@@ -143,12 +147,12 @@ ROBUSTS = [
 ]
 
 
-def value_at(steps, point):
+def value_at(steps: Steps, point: Sequence[Fraction]) -> Fraction | None:
     from paver.canonical import value
     return value(steps, point)
 
 
-def made_expression(source, depth):
+def made_expression(source: random.Random, depth: int) -> str:
     """The canonical text of an expression over two variables."""
     if depth == 0 or source.random() < 0.2:
         return source.choice(["v0", "v1", "v1", "2/1", "-3/2", "1/3"])
@@ -166,7 +170,7 @@ SCALED = "Constants c = 0.000005;\nVariables x in [0, c], y in [-10, 10], z in [
 class Answers(PackageTest):
     """The answers around the program."""
 
-    def check_bounds(self, text, of, found, draws):
+    def check_bounds(self, text: str, of: str, found: paver.Bounds | paver.Levels, draws: int) -> None:
         """Each drawn member's value is above the lower bound; the point is a member, and its value at most the upper one."""
         system, source, e = minibex.read(text), random.Random(5), expression_of(text, of)
         for _ in range(draws):
@@ -177,9 +181,10 @@ class Answers(PackageTest):
         if found.point is not None:
             self.assertTrue(is_member(system, found.point), (of, found.point))
             self.assertTrue(all(low <= x <= high for x, (low, high) in zip(found.point, system.domains)), found.point)
-            self.assertLessEqual(minibex.value(e, found.point), found.upper, (of, found))
+            value = minibex.value(e, found.point)
+            self.assertTrue(value is not None and found.upper is not None and value <= found.upper, (of, found))
 
-    def check_near(self, system, of, known):
+    def check_near(self, system: str | Path, of: str, known: Fraction | int | None) -> None:
         """A gap of 1e-3 in little time, bounds that hold, and two runs that the reference makes alike."""
         text = system.read_text() if isinstance(system, Path) else system
         with Written(text) as path:
@@ -189,7 +194,7 @@ class Answers(PackageTest):
         self.assertEqual(found.ended, WITHIN, found)
         self.assertLessEqual(found.gap, Fraction(1, 1000), found)
         self.assertLess(taken, 2, taken)  # processor seconds; a quarter of one on a quiet machine
-        self.assertTrue(known is None or found.lower < known <= found.upper, found)
+        self.assertTrue(known is None or found.upper is not None and found.lower < known <= found.upper, found)
         self.check_bounds(text, of, found, DRAWS)
         for name, proof in found.proofs.items():
             counts = proof.counts
@@ -198,7 +203,7 @@ class Answers(PackageTest):
             kept = counts["inner"] + counts["small"] + counts["open"]
             self.assertTrue(kept == 0 if name == "lower" else counts["inner"] > 0, (name, counts))
 
-    def check_levels_of_gallery(self, name, of, level, eps, point):
+    def check_levels_of_gallery(self, name: str, of: str, level: str, eps: str, point: dict[str, str]) -> None:
         """What the gallery shows: the program's run is the reference's, with nothing kept; the point is in the set."""
         text = example(name).read_text()
         with Written(at_level(text, of, level)) as path:
@@ -245,7 +250,8 @@ class Answers(PackageTest):
         for _ in range(DRAWS // 5):
             point = drawn(system.domains, source)
             if sum(minibex.holds(c, point) for c in system.constraints) >= 9:
-                self.assertGreater(minibex.value(e, point), outlier.lower, (point, outlier.lower))
+                value = minibex.value(e, point)
+                self.assertTrue(value is not None and value > outlier.lower, (point, outlier.lower))
 
     def test_tries(self) -> None:
         """A point of the user's begins the upper bound where it is in the set, and is no harm where it isn't."""
@@ -405,7 +411,7 @@ class Answers(PackageTest):
                 path.write_text(file, encoding="latin-1")
                 status, out, _ = command("from-ibex", path, "--widen", "1e-6")
             self.assertEqual(status, 0, name)
-            self.assertEqual(out, widened(translate(file).text, "1e-6"), name)
+            self.assertEqual(out, widened(translate(file).text or "", "1e-6"), name)
             self.assertFalse(re.search("[^<>]=", out.split("Constraints")[1]), out)
 
     def test_roots_widened(self) -> None:
@@ -441,7 +447,7 @@ class Answers(PackageTest):
             step = Fraction(source.choice((1, -1)), 1 << 200)
             self.assertTrue((paving.where((x, root)) | paving.where((x, root + step))) & {"inner", "small"}, (x, root))
 
-    def check_stored(self, name, options):
+    def check_stored(self, name: str, options: dict[str, Any]) -> None:
         """What a stored file says of drawn points is so: those of inner boxes are members, those of removed parts alone not."""
         system, source = minibex.read(example(name).read_text()), random.Random(14)
         counts = dict.fromkeys(("inner", "removed"), 0)
@@ -461,7 +467,7 @@ class Answers(PackageTest):
                 counts[kind] += 1
         self.assertTrue(all(count > DRAWS // 100 for count in counts.values()), counts)
 
-    def shown_by_draws(self, text, found, for_all, draws):
+    def shown_by_draws(self, text: str, found: paver.Robust, for_all: Sequence[str], draws: int) -> dict[str, int]:
         """No drawn point of a sure box fails a constraint for any drawn values; of a refuted one each fails at its witness."""
         system, source = minibex.read(text), random.Random(17)
         places = {name: i for i, name in enumerate(system.names)}
@@ -474,17 +480,17 @@ class Answers(PackageTest):
                                    inside(region.box.exact, source)):
                 point[places[name]] = value
             if region.kind == "refuted":
-                self.assertEqual(set(region.witness), set(for_all), region)
-                for name, value in region.witness.items():
+                self.assertEqual(set(region.witness or ()), set(for_all), region)
+                for name, chosen_end in (region.witness or {}).items():
                     low, high = system.domains[places[name]]
-                    self.assertLessEqual(low, value)
-                    self.assertLessEqual(value, high)
-                    point[places[name]] = value
+                    self.assertLessEqual(low, chosen_end)
+                    self.assertLessEqual(chosen_end, high)
+                    point[places[name]] = Fraction(chosen_end)
             self.assertEqual(is_member(system, point), region.kind == "sure", (region, point))
             counts[region.kind] += 1
         return counts
 
-    def covers_all(self, found):
+    def covers_all(self, found: paver.Robust) -> None:
         """The regions have the search box's volume together, and drawn points lie in one at least, in two on a face alone."""
         self.assertEqual(sum(found.shares().values()), paver.Box("open", found.root).volume)
         source, root = random.Random(4), paver.Box("open", found.root).exact
@@ -492,7 +498,7 @@ class Answers(PackageTest):
             point = [low + (high - low) * Fraction(source.randrange(1, 10 ** 9), 10 ** 9) for low, high in root]
             self.assertTrue(any(region.box.holds(point) for region in found.regions))
 
-    def check_robust(self, system, for_all, options, done):
+    def check_robust(self, system: str | Path, for_all: Sequence[str], options: dict[str, Any], done: bool) -> None:
         text = system.read_text() if isinstance(system, Path) else system
         with Written(text) as path:
             found = paver.robust(path, for_all, **options)
@@ -505,7 +511,7 @@ class Answers(PackageTest):
     def test_robust_known(self) -> None:
         """x^2 + y^2 <= r^2 for all r in [1, 2] is the disc of radius 1; 1/(k - p) <= 4 for all p in [-1, 1] asks for k above
         1.25 or below -1, as k = p must not be."""
-        with Written(ROBUSTS[-1][1]) as path:
+        with Written(str(ROBUSTS[-1][1])) as path:
             found = paver.robust(path, ["r"], eps="0.0625")
         shares = {kind: float(volume) for kind, volume in found.shares().items()}
         self.assertLessEqual(shares["sure"], math.pi, shares)
@@ -530,7 +536,7 @@ class Answers(PackageTest):
         self.assertEqual(lines, [*self.printed_lines(found.paving)])
         self.assertTrue(summary.startswith(f"settled {found.paving.counts()['settled']} "))
 
-    def printed_lines(self, paving):
+    def printed_lines(self, paving: paver.Paving) -> list[str]:
         self.assertIsNone(paving.version)
         return paving.lines
 
@@ -567,10 +573,9 @@ class Answers(PackageTest):
             seen += 1
             low, high = sorted((drawn([(-2, 2)], source)[0], drawn([(-2, 2)], source)[0]))
             x, share = drawn([(-2, 2)], source)[0], Fraction(source.randrange(0, 65), 64)
-            ends = [value_at(c.left, (x, p)) for p in (low, high, low + (high - low) * share)]
-            if None not in ends[:2]:
-                self.assertIsNotNone(ends[2], (text, x, low, high))
-                self.assertLessEqual(ends[2], max(ends[:2]), (text, x, low, high))
+            first, last, between = (value_at(c.left, (x, p)) for p in (low, high, low + (high - low) * share))
+            if first is not None and last is not None:
+                self.assertTrue(between is not None and between <= max(first, last), (text, x, low, high))
         self.assertGreater(seen, DRAWS // 4, seen)
 
     def test_refused_robust(self) -> None:
@@ -588,7 +593,7 @@ class Answers(PackageTest):
         self.assertEqual((status, out), (2, ""), err)
         self.assertIn("constraint 0", err, err)
 
-    def check_robust_command(self, name, words):
+    def check_robust_command(self, name: str, words: Sequence[str]) -> None:
         """What it prints is what the reference's paving comes to; CSV and picture have the regions."""
         with tempfile.TemporaryDirectory() as folder:
             table, drawing = Path(folder) / "r.csv", Path(folder) / "r.svg"
@@ -613,7 +618,7 @@ class Answers(PackageTest):
 
     # ---- what is undecided, and scales
 
-    def check_undecided(self, name, options):
+    def check_undecided(self, name: str, options: dict[str, Any]) -> None:
         """A constraint that isn't named holds at all drawn points of a box, or at none; one that is named is none that the
         reference is sure of. The greatest boxes come first."""
         answer, source = paver.run(example(name), **options), random.Random(3)
@@ -647,8 +652,9 @@ class Answers(PackageTest):
                 said = decided(c, box, slopes)
                 for point in ([drawn(box, source) for _ in range(4)] if said is not None else ()):
                     left, right = value_at(c.left, point), value_at(c.right, point)
-                    holds = {"<=": left <= right, "<": left < right, ">=": left >= right, ">": left > right,
-                             "=": left == right}[c.relation]
+                    holds = left is not None and right is not None and {
+                        "<=": left <= right, "<": left < right, ">=": left >= right, ">": left > right,
+                        "=": left == right}[c.relation]
                     self.assertEqual(holds, said, (text, box, point))
                     seen += 1
         self.assertGreater(seen, DRAWS // 8, seen)
@@ -719,7 +725,9 @@ class Answers(PackageTest):
                 self.check_stored(name, options)
 
     def test_undecided(self) -> None:
-        for name, options in (("ring", {}), ("three_rpr", {"eps": "0.25"}), ("best_fit", {"eps": "0.05", "boxes": 3000})):
+        questions: list[tuple[str, dict[str, Any]]] = [
+            ("ring", {}), ("three_rpr", {"eps": "0.25"}), ("best_fit", {"eps": "0.05", "boxes": 3000})]
+        for name, options in questions:
             with self.subTest(name):
                 self.check_undecided(name, options)
 

@@ -2,6 +2,7 @@
 and the package for pip."""
 from __future__ import annotations
 
+import ast
 import os
 import pty
 import re
@@ -29,7 +30,7 @@ LINES = ["usage: paver COMMAND SYSTEM [OPTIONS] [PAVING..]", "contract: refused 
          "differs PATH: A | B", "no file: NAME", "honest"]
 
 
-def said_within(terminal, seconds):
+def said_within(terminal: int, seconds: float) -> str:
     """What comes from a terminal until it is silent for that long."""
     said = b""
     while select.select([terminal], [], [], seconds)[0]:
@@ -37,7 +38,7 @@ def said_within(terminal, seconds):
     return said.decode()
 
 
-def zsh_makes_of(typed):
+def zsh_makes_of(typed: str) -> str:
     """What stands on zsh's line after these keys and a tab."""
     child, terminal = pty.fork()
     if child == 0:
@@ -58,7 +59,7 @@ def zsh_makes_of(typed):
 def commands_of(text: str) -> Iterator[tuple[str, list[str], list[str]]]:
     """Of each command that a document shows behind `$` its words, the status in its comment, and the lines shown below it."""
     for block in re.findall(r"^```\n(.*?)^```", text, re.M | re.S):
-        found = []
+        found: list[tuple[str, list[str], list[str]]] = []
         for line in block.splitlines():
             words, _, comment = line.partition("   #")
             if line.startswith("$ "):
@@ -68,7 +69,18 @@ def commands_of(text: str) -> Iterator[tuple[str, list[str], list[str]]]:
         yield from found
 
 
-def anchors_of(text):
+def untyped_in(path: Path) -> Iterator[str]:
+    """The functions of a module that leave an argument or their result without a type."""
+    for node in ast.walk(ast.parse(path.read_text())):
+        if isinstance(node, (ast.FunctionDef, ast.AsyncFunctionDef)):
+            given = node.args
+            named = [*given.posonlyargs, *given.args, *given.kwonlyargs, *filter(None, (given.vararg, given.kwarg))]
+            bare = [one for one in named if one.annotation is None and one.arg not in ("self", "cls")]
+            if bare or node.returns is None:
+                yield f"{path.relative_to(TOP)} {node.lineno}: {node.name}"
+
+
+def anchors_of(text: str) -> set[str]:
     """The anchors that the headings of a document have."""
     return {re.sub(r"[^\w -]", "", heading.lower()).replace(" ", "-") for heading in re.findall(r"^#+ (.*)$", text, re.M)}
 
@@ -86,7 +98,7 @@ def completed(*words: str) -> list[str]:
 class Around(PackageTest):
     """What lies around the program."""
 
-    def needs_tool(self, name):
+    def needs_tool(self, name: str) -> None:
         if shutil.which(name) is None:
             self.skipTest(f"there is no {name} here")
 
@@ -132,7 +144,7 @@ class Around(PackageTest):
         cases = re.findall(r"^  ([a-z|-]+)\) _arguments", zsh, re.M)
         self.assertEqual(sorted("|".join(cases).split("|")), sorted(COMMANDS))
 
-    def fish_offers(self, line):
+    def fish_offers(self, line: str) -> list[str]:
         script = f"source '{TOP}/completions/paver.fish'; complete -C '{line}'"
         done = subprocess.run(["fish", "-c", script], capture_output=True, text=True, timeout=60, check=False)
         self.assertEqual(done.returncode, 0, done.stderr)
@@ -225,6 +237,11 @@ class Around(PackageTest):
                                   timeout=60, check=False)
             with self.subTest(python):
                 self.assertEqual((done.returncode, done.stderr), (0, ""))
+
+    def test_types(self) -> None:
+        """Each function of the repository's Python names the types of its arguments and of its result."""
+        files = [path for folder in ("bench", "build", "python", "tests") for path in sorted((TOP / folder).rglob("*.py"))]
+        self.assertEqual([function for path in files for function in untyped_in(path)], [])
 
     def test_vim(self) -> None:
         """The errorformat finds the refused place, also in another folder than the one where vim runs."""

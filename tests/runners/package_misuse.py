@@ -13,7 +13,7 @@ import time
 import warnings
 from fractions import Fraction
 from pathlib import Path
-from typing import Any
+from typing import Any, Sequence
 
 import paver
 from paver import beside
@@ -28,7 +28,7 @@ DAMAGE = [("S ", "S 2:0 ", None), (" =\n", " 1:999\n", None), ("C 0 ", "C 0 1:20
 
 # ---- strangers
 
-def tool(*words, **how):
+def tool(*words: Any, **how: Any) -> tuple[subprocess.CompletedProcess[bytes], float]:
     """A command of the package in a process of its own, with the processor seconds that it took."""
     begun = sum(os.times()[2:4])
     how = {"stdout": subprocess.PIPE, "timeout": 60} | how
@@ -37,7 +37,7 @@ def tool(*words, **how):
     return done, sum(os.times()[2:4]) - begun
 
 
-def database(path, *statements):
+def database(path: str | Path, *statements: str | tuple[str, Sequence[Any]]) -> None:
     connection = sqlite3.connect(path)
     connection.execute("CREATE TABLE head (id INTEGER PRIMARY KEY, identity BLOB)")
     connection.execute("INSERT INTO head VALUES (1, ?)", [bytes(32)])
@@ -196,7 +196,7 @@ class Misuse(PackageTest):
             self.assertEqual(refused, 3 * len(DAMAGE))
             self.assertFalse(Path(folder, "x.svg").exists())
 
-    def refuses(self, *words, **how):
+    def refuses(self, *words: Any, **how: Any) -> None:
         """That a command ends with one line on standard error, soon, and without a traceback."""
         done, seconds = tool(*words, **how)
         lines = done.stderr.decode().splitlines()

@@ -15,7 +15,7 @@ from tests.runners.running import main
 splitting: Any = importlib.import_module("paver.split")  # the package has a function of this name
 
 
-def answered(folder, count=4, **settings):
+def answered(folder: str | Path, count: int = 4, **settings: Any) -> list[Path]:
     """The parts of the ring in a folder, each with its stored answer."""
     paths = paver.split(example("ring"), count, folder, **settings)
     for path in paths:
@@ -76,29 +76,29 @@ class Parts(PackageTest):
 
     def test_spoiled_parts(self) -> None:
         """Each way to spoil a folder is refused, by the name of what is wrong."""
-        def without_answer(paths):
+        def without_answer(paths: list[Path]) -> None:
             paths[1].with_suffix(".paving").unlink()
 
-        def empty_answer(paths):
+        def empty_answer(paths: list[Path]) -> None:
             paths[1].with_suffix(".paving").write_bytes(b"")
 
-        def without_part(paths):
+        def without_part(paths: list[Path]) -> None:
             paths[1].unlink()
 
-        def changed_part(paths):
+        def changed_part(paths: list[Path]) -> None:
             paths[1].write_text(paths[1].read_text().replace("4;", "5;"))
 
-        def other_settings(paths):
+        def other_settings(paths: list[Path]) -> None:
             paver.run(paths[1], eps=0.25, out=paths[1].with_suffix(".paving"))
 
-        def other_part(paths):
+        def other_part(paths: list[Path]) -> None:
             paths[1].with_suffix(".paving").write_bytes(paths[2].with_suffix(".paving").read_bytes())
 
-        def cut_short(paths):
+        def cut_short(paths: list[Path]) -> None:
             answer = paths[1].with_suffix(".paving")
             answer.write_bytes(answer.read_bytes()[:-9])
 
-        def without_manifest(paths):
+        def without_manifest(paths: list[Path]) -> None:
             paths[1].with_name("manifest.json").unlink()
 
         spoilers: list[tuple[Callable[[list[Path]], None], type[Exception], str]] = [

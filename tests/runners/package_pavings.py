@@ -8,14 +8,15 @@ import random
 import re
 import xml.dom.minidom
 from fractions import Fraction
-from itertools import zip_longest
-from typing import Callable, Iterable
+from typing import Callable, Iterable, Iterator, Sequence, Union
 
 import paver
 from paver import picture, plots
-from paver.cover import KEPT
+from paver.box import Exact, Pair
+from paver.cover import KEPT, Pairs
 from tests.data.examples import EXAMPLES, settings_of
 from tests.reference import files, minibex
+from tests.reference.kinds import Box, Value
 from tests.reference.numbers import UNIT, spelling
 from tests.reference.paver import Settler, halves
 from tests.runners.package_test import PackageTest, example, options_of
@@ -27,11 +28,11 @@ KINDS = {"I": "inner", "S": "small", "O": "open"}
 IDENTITY = "identity " + "0123456789abcdef" * 4
 
 
-def exact_of(x):
+def exact_of(x: Value) -> Exact:
     return x if isinstance(x, float) else Fraction(x, UNIT)
 
 
-def walked(lines, root):
+def walked(lines: Iterable[str], root: Box) -> Iterator[tuple[str, Box, Box]]:
     """Of each node its letter, box and `to`, in the reference's numbers."""
     waiting = [root]
     for line in lines:
@@ -43,7 +44,7 @@ def walked(lines, root):
             waiting += reversed(halves(to, int(words[0]), end(words[1])))
 
 
-def second_version(lines, root):
+def second_version(lines: Iterable[str], root: Box) -> str:
     """The text of version 2: an end that equals the box's is `=`."""
     text = [f"paving 2\n{IDENTITY}\n"]
     for line, box, to in walked(lines, root):
@@ -61,7 +62,7 @@ class Known:
     """An example's paving as printed, and the reference's reading of it."""
     found: dict[tuple[str, ...], Known] = {}
 
-    def __init__(self, name, words):
+    def __init__(self, name: str, words: list[str]) -> None:
         self.system = minibex.read(example(name).read_text())
         self.settler = Settler(self.system, **settings_of(words)[0])
         self.answer = paver.run(example(name), **options_of(words))
@@ -70,21 +71,21 @@ class Known:
         self.nodes = list(walked(self.lines, self.settler.root))
 
     @classmethod
-    def of(cls, name, words):
+    def of(cls, name: str, words: list[str]) -> Known:
         key = (name, *words)
         if key not in cls.found:
             cls.found[key] = cls(name, words)
         return cls.found[key]
 
-    def kept(self):
+    def kept(self) -> Iterator[tuple[str, Pairs]]:
         """(class, pairs of exact values) of each kept box."""
         for line, box, to in self.nodes:
             if line[0] in KINDS:
                 yield KINDS[line[0]], tuple((exact_of(a), exact_of(b)) for a, b in (to or box))
 
 
-def brute_clusters(boxes, gap):
-    groups = []
+def brute_clusters(boxes: Sequence[Pairs], gap: Fraction) -> list[list[int]]:
+    groups: list[list[int]] = []
     for number, box in enumerate(boxes):
         touched = [group for group in groups if any(
             all(max(a[0], b[0]) - min(a[1], b[1]) <= gap for a, b in zip(box, boxes[other])) for other in group)]
@@ -105,7 +106,7 @@ BAD = [
 ]
 
 
-def mutated(text, source):
+def mutated(text: str, source: random.Random) -> str:
     """A text with one or two slips."""
     pieces = ["=", "0:0", "1:0", "-oo", "+oo", " ", "\n", "X\n", "O\n", "S", "I", "C", "1:3", "-", "3:0", "02", "\r"]
     for _ in range(source.randrange(1, 3)):
@@ -122,7 +123,7 @@ def mutated(text, source):
     return text
 
 
-def is_read(text, root):
+def is_read(text: str, root: Sequence[Pair]) -> bool:
     try:
         paving = paver.Paving.from_text(text, root=root)
         paving.check_numbers()
@@ -131,7 +132,7 @@ def is_read(text, root):
     return paving.identity == IDENTITY.split()[1]
 
 
-def way_to_first_open(lines):
+def way_to_first_open(lines: Iterable[str]) -> str | None:
     """The way to the first open leaf of node lines, followed from the root."""
     waiting = [""]
     for line in lines:
@@ -143,7 +144,8 @@ def way_to_first_open(lines):
     return None
 
 
-TRUTHS = {
+Points = list[tuple[Union[int, Fraction], ...]]
+TRUTHS: dict[str, tuple[Points, Points]] = {
     "arm_configurations": ([(1, 0), (1, 1), (1, -1)], [(Fraction(1, 4), 0), (0, 0)]),
     "robust_pid": ([(3, 1, 1), (2, 1, 2)], [(8, 8, Fraction(-3, 2)), (Fraction(17, 2), Fraction(15, 2), Fraction(1, 10))]),
     "outlier_decay": ([(5, Fraction(4, 5))], [(5, Fraction(1, 2)), (9, Fraction(4, 5))]),
@@ -155,7 +157,7 @@ TRUTHS = {
 class Pavings(PackageTest):
     """What is read of pavings."""
 
-    def check_boxes(self, name, words):
+    def check_boxes(self, name: str, words: list[str]) -> None:
         """The kept boxes, the removed parts, the counts and the hull."""
         known = Known.of(name, words)
         kept = list(known.kept())
@@ -171,12 +173,12 @@ class Pavings(PackageTest):
                 self.assertLessEqual(a, low)
                 self.assertLessEqual(high, b)
 
-    def check_versions(self, name, words):
+    def check_versions(self, name: str, words: list[str]) -> None:
         """Both versions of the file say the same as the printed text."""
         known = Known.of(name, words)
         first = f"paving 1\n{IDENTITY}\n" + "".join(f"{line}\n" for line in known.lines)
         second = second_version(known.lines, known.settler.root)
-        root = [tuple(exact_of(x) for x in pair) for pair in known.settler.root]
+        root = [(exact_of(low), exact_of(high)) for low, high in known.settler.root]
         for version, text in ((1, first), (2, second)):
             paving = paver.Paving.from_text(text, root=root)
             self.assertEqual(paving.version, version)
@@ -187,7 +189,7 @@ class Pavings(PackageTest):
         self.assertEqual([box.words for box in bare.inner()], [box.words for box in known.paving.inner()])
         self.assert_raised(ValueError, lambda: list(paver.Paving.from_text(second).inner()))
 
-    def check_volumes(self, name, words):
+    def check_volumes(self, name: str, words: list[str]) -> None:
         known = Known.of(name, words)
         volumes = known.paving.volumes()
         if any(isinstance(x, float) for pair in known.settler.root for x in pair):
@@ -195,20 +197,14 @@ class Pavings(PackageTest):
             self.assertEqual(volumes["small"], float("inf"))
             return
         for kind in KINDS.values():
-            total = Fraction(0)
-            for found, box in known.kept():
-                if found == kind:
-                    volume = Fraction(1)
-                    for low, high in box:
-                        volume *= high - low
-                    total += volume
+            total = sum(math.prod(high - low for low, high in box) for found, box in known.kept() if found == kind)
             self.assertEqual(volumes[kind], total, kind)
         whole = Fraction(1)
         for low, high in known.settler.root:
             whole *= Fraction(high - low, UNIT)
         self.assertEqual(sum(volumes.values()), whole)
 
-    def check_points(self, name, words):
+    def check_points(self, name: str, words: list[str]) -> None:
         """Random points lie in the parts in which the reference sees them."""
         known, source = Known.of(name, words), random.Random(5)
         claims = list(parts(known.lines, known.settler.root))
@@ -217,10 +213,10 @@ class Pavings(PackageTest):
             point = [Fraction(source.randrange(-3 << 20, 6 << 20), 1 << 20) for _ in known.system.names]
             grid = [x * UNIT for x in point]
 
-            def within(box, grid=grid):
+            def within(box: Box, grid: list[Fraction] = grid) -> bool:
                 return all(low <= x <= high for x, (low, high) in zip(grid, box))
 
-            def strictly(box, grid=grid):
+            def strictly(box: Box, grid: list[Fraction] = grid) -> bool:
                 return all(low < x < high for x, (low, high) in zip(grid, box))
 
             if not within(known.settler.root):
@@ -230,11 +226,11 @@ class Pavings(PackageTest):
             self.assertTrue(seen, (point, wanted, seen))
             self.assertLessEqual(wanted, seen, (point, wanted, seen))
 
-    def check_clusters(self, name, words):
+    def check_clusters(self, name: str, words: list[str]) -> None:
         known = Known.of(name, words)
-        boxes = [(kind, box) for kind, box in known.kept() if kind in ("small", "inner")]
-        kinds = ("small", "inner") if len(boxes) <= BRUTE else ("small",)
-        boxes = [box for kind, box in boxes if kind in kinds]
+        both = [(kind, box) for kind, box in known.kept() if kind in ("small", "inner")]
+        kinds = ("small", "inner") if len(both) <= BRUTE else ("small",)
+        boxes = [box for kind, box in both if kind in kinds]
         if len(boxes) > BRUTE or any(isinstance(end, float) for box in boxes for pair in box for end in pair):
             self.assertEqual(sum(len(cluster.boxes) for cluster in known.paving.clusters(0, kinds)), len(boxes))
             return
@@ -243,7 +239,7 @@ class Pavings(PackageTest):
             found = sorted(sorted(order[box.exact] for box in cluster.boxes) for cluster in known.paving.clusters(gap, kinds))
             self.assertEqual(found, brute_clusters(boxes, gap), gap)
 
-    def check_csv(self, name, words):
+    def check_csv(self, name: str, words: list[str]) -> None:
         known, file = Known.of(name, words), io.StringIO()
         known.paving.write_csv(file, exactly=True)
         rows = list(csv.reader(io.StringIO(file.getvalue())))
@@ -253,26 +249,27 @@ class Pavings(PackageTest):
             self.assertEqual(row[0], kind)
             self.assertEqual([float(w) if "inf" in w else Fraction(w) for w in row[1:]], [end for pair in box for end in pair])
 
-    def check_slices(self, name, words):
+    def check_slices(self, name: str, words: list[str]) -> None:
         """What a slice and a projection draw."""
         known = Known.of(name, words)
         names, source = known.system.names, random.Random(9)
         for _ in range(3):
             x, y = source.sample(names, 2)
-            at = {name: Fraction(source.randrange(-8, 16), 8) for name in names if name not in (x, y)}
-            fixed = {names.index(name): value for name, value in at.items()}
+            at: dict[str | int, Fraction] = {
+                name: Fraction(source.randrange(-8, 16), 8) for name in names if name not in (x, y)}
+            fixed = {k: at[name] for k, name in enumerate(names) if name in at}
             root = known.settler.root
             if not all(root[k][0] <= v * UNIT <= root[k][1] for k, v in fixed.items()):
                 self.assert_raised(ValueError, lambda at=at, x=x, y=y: plots.rectangles(known.paving, x, y, at))
-                at = {name: 0 for name in at}
-                fixed = dict.fromkeys(fixed, Fraction(0))
+                at, fixed = dict.fromkeys(at, Fraction(0)), dict.fromkeys(fixed, Fraction(0))
             wanted = [kind for kind, box in known.kept() if all(box[k][0] <= v <= box[k][1] for k, v in fixed.items())]
             found = [kind for kind, *_ in plots.rectangles(known.paving, x, y, at)]
             self.assertEqual([kind for kind in found if kind != "removed"], wanted)
-            kept = [(kind, *[box[names.index(name)] for name in (x, y)]) for kind, box in known.kept()
+            kept = [(kind, box[names.index(x)], box[names.index(y)]) for kind, box in known.kept()
                     if all(box[k][0] <= v <= box[k][1] for k, v in fixed.items())]
-            for rectangle, box in zip_longest(plots.rectangles(known.paving, x, y, at, KEPT), kept, fillvalue=()):
-                self.assertEqual(rectangle[0], box[0])
+            shown = list(plots.rectangles(known.paving, x, y, at, KEPT))
+            self.assertEqual([kind for kind, *_ in shown], [kind for kind, *_ in kept])
+            for rectangle, box in zip(shown, kept):
                 for (low, high), pair in zip(rectangle[1:], box[1:]):
                     self.assertTrue(low <= pair[0] and pair[1] <= high, (rectangle, box))
                     self.assertTrue(math.nextafter(low, math.inf) > pair[0] and math.nextafter(high, -math.inf) < pair[1])
@@ -281,11 +278,11 @@ class Pavings(PackageTest):
         self.assertEqual(len(drawn), len(shadows))
         self.assert_raised(ValueError, lambda: list(plots.rectangles(known.paving, names[0], names[0])))
 
-    def check_svg(self, name, words):
+    def check_svg(self, name: str, words: list[str]) -> None:
         """The picture is XML with a part of a path for each box that is seen, and has the names of its axes."""
         known = Known.of(name, words)
         names = known.system.names
-        at = {name: 0 for name in names[2:]}
+        at: dict[str | int, int] = {name: 0 for name in names[2:]}
         fixed = {k: Fraction(0) for k in range(2, len(names))}
         seen = sum(all(box[k][0] <= v <= box[k][1] for k, v in fixed.items()) for _, box in known.kept())
         shadows = len({(kind, box[0], box[1]) for kind, box in known.kept()})
@@ -337,7 +334,7 @@ class Pavings(PackageTest):
         known, source, taken = Known.of("tolerance", ["--eps", "2"]), random.Random(8), 0
         first = f"paving 1\n{IDENTITY}\n" + "".join(f"{line}\n" for line in known.lines)
         texts = [first, second_version(known.lines, known.settler.root)]
-        root = [tuple(exact_of(x) for x in pair) for pair in known.settler.root]
+        root = [(exact_of(low), exact_of(high)) for low, high in known.settler.root]
         for _ in range(4000):
             text = mutated(source.choice(texts), source)
             try:
@@ -376,12 +373,13 @@ class Pavings(PackageTest):
         shown, beside = near.get_window_extent(), near.get_legend().get_window_extent()
         self.assertGreaterEqual(beside.x0, shown.x1, "the legend hides nothing of the picture")
 
-    def check_truth(self, name, words):
+    def check_truth(self, name: str, words: list[str]) -> None:
         """Points that are known to be in the set lie in no inner part of what is removed, and the others in no inner box."""
         known = Known.of(name, words)
         members, others = TRUTHS[name]
         for point in [*members, *others]:
-            held = known.settler.member(known.settler.program, [minibex.holds(c, point) for c in known.system.constraints])
+            exactly = [Fraction(x) for x in point]
+            held = known.settler.member(known.settler.program, [minibex.holds(c, exactly) for c in known.system.constraints])
             self.assertEqual(held, point in members, f"{point} by its own constraints")
         for point in members:
             self.assertTrue(known.paving.where(point) - {"removed"}, f"{point} is lost")

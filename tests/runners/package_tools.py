@@ -16,6 +16,7 @@ from tests.data.ibex_cases import REFUSED, TAKEN
 from tests.data.reader_cases import FAULTS, GOOD
 from tests.reference import minibex
 from tests.reference.faults import first_fault
+from tests.reference.kinds import Relation
 from tests.runners.package_test import PackageTest, command, example
 from tests.runners.running import main, rows
 
@@ -71,7 +72,13 @@ TOKENS = {"a sign": "-", "a number": "1", "an operator": "+", "a relation (= <= 
           "a whole exponent from 0 to 32, in digits alone": "2"}
 
 
-def token_of(phrase):
+def difference(constraint: Relation, point: Sequence[Fraction]) -> Fraction | None:
+    """How far apart both sides are at a point; None where one has no value."""
+    left, right = (minibex.value(side, point) for side in constraint[1:])
+    return None if left is None or right is None else left - right
+
+
+def token_of(phrase: str) -> str | None:
     """A token that a phrase of what is expected stands for; None where it stands for none here."""
     if phrase in TOKENS:
         return TOKENS[phrase]
@@ -93,7 +100,7 @@ SPLIT = [
 class Tools(PackageTest):
     """The tools around the program."""
 
-    def check_roots(self, text, wanted, none, undecided):
+    def check_roots(self, text: str, wanted: Sequence[tuple[float, ...]], none: int | None, undecided: int | None) -> None:
         with tempfile.TemporaryDirectory() as folder:
             path = Path(folder) / "s.mbx"
             path.write_text(text)
@@ -139,8 +146,8 @@ class Tools(PackageTest):
         self.assertEqual(sum(all(low <= x <= high for (low, high), x in zip(root.box, known)) for root in found), 1)
         for root in found:
             for constraint in minibex.read(example("puma_poses").read_text()).constraints:
-                left, right = (minibex.value(side, root.middle) for side in constraint[1:])
-                self.assertLess(abs(left - right), Fraction(1, 10 ** 20))
+                apart = difference(constraint, [Fraction(x) for x in root.middle])
+                self.assertTrue(apart is not None and abs(apart) < Fraction(1, 10 ** 20), apart)
 
     def test_roots_of_no_square(self) -> None:
         system = paver.check(example("ring"))
@@ -157,23 +164,22 @@ class Tools(PackageTest):
 
     # ---- from IBEX
 
-    def check_taken(self, file, wanted):
+    def check_taken(self, file: str, wanted: str) -> None:
         found = translate(file)
-        self.assertIsNotNone(found.text, [str(refusal) for refusal in found.refusals])
-        self.assertIsNone(first_fault(found.text.encode()), found.text)
-        paver.check_text(found.text)
-        ours, theirs, source = minibex.read(found.text), minibex.read(wanted), random.Random(3)
+        text = found.text or ""
+        self.assertTrue(text, [str(refusal) for refusal in found.refusals])
+        self.assertIsNone(first_fault(text.encode()), text)
+        paver.check_text(text)
+        ours, theirs, source = minibex.read(text), minibex.read(wanted), random.Random(3)
         self.assertEqual(ours.names, theirs.names, (ours.names, ours.domains))
         self.assertEqual(ours.domains, theirs.domains, (ours.names, ours.domains))
-        self.assertEqual([c[0] for c in ours.constraints], [c[0] for c in theirs.constraints], found.text)
+        self.assertEqual([c[0] for c in ours.constraints], [c[0] for c in theirs.constraints], text)
         for _ in range(40):
             point = [Fraction(source.randrange(-40, 41), 16) or Fraction(1, 7) for _ in ours.names]
             for mine, other in zip(ours.constraints, theirs.constraints):
-                values = [[minibex.value(side, point) for side in constraint[1:]] for constraint in (mine, other)]
-                differences = [None if None in pair else pair[0] - pair[1] for pair in values]
-                self.assertEqual(differences[0], differences[1], (mine, other))
+                self.assertEqual(difference(mine, point), difference(other, point), (mine, other))
 
-    def check_refused(self, file, wanted):
+    def check_refused(self, file: str, wanted: Sequence[tuple[int, str]]) -> None:
         found = translate(file)
         self.assertIsNone(found.text)
         seen = [(refusal.line, refusal.form) for refusal in found.refusals]
@@ -196,7 +202,7 @@ class Tools(PackageTest):
             self.assertEqual(out, "")
             self.assertIn("line 4: `cos` can't be written. Instead: two variables c and s", err)
 
-    def check_explained(self, text, words, phrases):
+    def check_explained(self, text: str, words: Sequence[str], phrases: Sequence[str]) -> None:
         with tempfile.TemporaryDirectory() as folder:
             path = Path(folder) / "s.mbx"
             path.write_text(text)
@@ -237,7 +243,7 @@ class Tools(PackageTest):
                       ("--groups", "2", "--agree", "6")):
             self.assertEqual(command("explain", example("localisation"), *words)[0], 2, words)
 
-    def check_split(self, name, count, options, variables):
+    def check_split(self, name: str, count: int, options: dict[str, Any], variables: list[str] | None) -> None:
         """The parts have no gap and overlap in faces alone; the sum of the answers is an answer to the whole."""
         whole = paver.run(example(name), **options).paving()
         with tempfile.TemporaryDirectory() as folder:
@@ -246,7 +252,7 @@ class Tools(PackageTest):
             roots = [paver.Box("open", paver.check(path).root) for path in paths]
             self.assertTrue(all(paver.check(path).constraints[0].left == paver.check(example(name)).constraints[0].left
                                 for path in paths))
-            self.assertEqual(sum(root.volume for root in roots), paver.Box("open", whole.root).volume)
+            self.assertEqual(sum(root.volume for root in roots), paver.Box("open", whole.root or ()).volume)
             for k, first in enumerate(roots):
                 for second in roots[k + 1:]:
                     self.assertTrue(any(a[1] <= b[0] or b[1] <= a[0] for a, b in zip(first.exact, second.exact)))

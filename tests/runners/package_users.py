@@ -11,6 +11,7 @@ import subprocess
 import sys
 import tempfile
 import time
+from collections.abc import Iterator
 from fractions import Fraction
 from pathlib import Path
 from typing import Any
@@ -29,15 +30,15 @@ class Squares(Cover):
     """A cover with boxes of its own."""
     names, dims, root = ["x", "y"], 2, ("0:0", "1:2", "0:0", "1:2")
 
-    def boxes(self, *kinds):
+    def boxes(self, *kinds: str) -> Iterator[paver.Box]:
         made = [("inner", ("0:0", "1:0", "0:0", "1:0")), ("small", ("1:0", "1:1", "0:0", "1:0")),
                 ("removed", ("1:1", "1:2", "0:0", "1:2"))]
         return (paver.Box(kind, words) for kind, words in made if not kinds or kind in kinds)
 
-    def roots(self):
+    def roots(self) -> list[Squares]:
         return [self]
 
-    def counts(self):
+    def counts(self) -> dict[str, int]:
         return {"settled": 3, "cut": 0, "removed": 1, "inner": 1, "small": 1, "open": 0}
 
 
@@ -75,14 +76,14 @@ assert len(axes.collections) == 2, "one collection a class"
 """
 
 
-def ring_text(depth):
+def ring_text(depth: int) -> tuple[str, list[str]]:
     """The text of a paving of a ring by halves, made here: of version 2, and how many nodes it has of each letter."""
     size = 1 << (depth // 2)
     least, most = int(size * 0.23) ** 2, int(size * 0.47) ** 2
     spelled = [numbers.spelling((k << numbers.SCALE) // size) for k in range(size + 1)]
     lines = []
 
-    def grow(k, ends):
+    def grow(k: int, ends: list[tuple[int, int]]) -> None:
         squares = [((low - size // 2) ** 2, (high - size // 2) ** 2, low <= size // 2 <= high) for low, high in ends]
         near = sum(0 if within else min(a, b) for a, b, within in squares)
         far = sum(max(a, b) for a, b, _ in squares)
@@ -218,7 +219,7 @@ class Users(PackageTest):
         self.assertIn("<div>", paver.run(example("torus"), eps=2)._repr_html_())
         self.assertIsNone(paver.run_text("Variables x in [0,1]; Constraints x <= 2; end").paving()._repr_svg_())
 
-    def python_with(self, module):
+    def python_with(self, module: str) -> str:
         """A Python that has a module; the test is skipped where none has."""
         for name in (sys.executable, "/usr/bin/python3"):
             words = [name, "-c", f"import {module}"]
@@ -226,7 +227,7 @@ class Users(PackageTest):
                 return name
         self.skipTest(f"no Python here has {module}")
 
-    def check_with(self, module, script):
+    def check_with(self, module: str, script: str) -> None:
         """A script by a Python that has a module."""
         environment = {**os.environ, "PYTHONPATH": str(TOP / "python")}
         done = subprocess.run([self.python_with(module), "-c", script], cwd=TOP, env=environment, capture_output=True,

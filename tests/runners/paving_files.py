@@ -7,7 +7,9 @@ from __future__ import annotations
 
 import hashlib
 import subprocess
+from collections.abc import Collection, Iterable, Sequence
 from fractions import Fraction
+from typing import Any
 
 from tests.data.cases import HALF_LINE, NO_MORE, RECIPROCAL, USAGE, lines, system
 from tests.data.reader_cases import canonical
@@ -39,7 +41,7 @@ PART = ["C 0 1:-1 = =", "O", "O"]
 WHOLE_SUMMARY = b"settled 5 cut 2 removed 0 inner 2 small 1 open 0\n"
 
 
-def call(text=RECIPROCAL, **settings):
+def call(text: bytes = RECIPROCAL, **settings: Any) -> Call:
     settings.setdefault("eps", Fraction(1, 4))
     return Call(minibex.read(text.decode()), canonical(text.decode()), **settings)
 
@@ -47,11 +49,11 @@ def call(text=RECIPROCAL, **settings):
 IDENTITY = call().identity
 
 
-def file_of(version, nodes, identity=IDENTITY):
+def file_of(version: int, nodes: Iterable[str], identity: str = IDENTITY) -> bytes:
     return lines(f"paving {version}", f"identity {identity}", *nodes)
 
 
-def complete(levels, box, leaf="X"):
+def complete(levels: int, box: tuple[int, int], leaf: str = "X") -> list[str]:
     """The version 1 node lines of complete cuts in halves."""
     if not levels:
         return [leaf]
@@ -61,11 +63,11 @@ def complete(levels, box, leaf="X"):
     return [here, *complete(levels - 1, (low, at), leaf), *complete(levels - 1, (at, high), leaf)]
 
 
-def rect(x, y, width, height, fill):
+def rect(x: int, y: int, width: int, height: int, fill: str) -> str:
     return f'<rect x="{x}" y="{y}" width="{width}" height="{height}" fill="{fill}"/>'
 
 
-def picture(*rects):
+def picture(*rects: str) -> bytes:
     head = '<svg xmlns="http://www.w3.org/2000/svg" width="1000" height="1000" viewBox="0 0 1000 1000">'
     return lines(head, *rects, "</svg>")
 
@@ -73,7 +75,8 @@ def picture(*rects):
 class PavingFiles(FolderTest):
     """Calls on paving files: what they answer, and which files they change."""
 
-    def expect(self, words, status, out=b"", err=b"", changed=(), **how):
+    def expect(self, words: Sequence[str | bytes], status: int, out: bytes | None = b"", err: bytes = b"",
+               changed: Collection[str] = (), **how: Any) -> None:
         """A command has this status and output, and changes no other file; `out` None says that it may be anything."""
         before = self.files()
         got = self.call(*words, **how)
@@ -85,10 +88,10 @@ class PavingFiles(FolderTest):
         moved = {name for name in before | after if before.get(name) != after.get(name)}
         self.assertFalse(moved - set(changed), f"{words}: changed {sorted(moved)}")
 
-    def same(self, one, other):
+    def same(self, one: str, other: str) -> None:
         self.assertFalse(subprocess.run(["cmp", "--silent", one, other], cwd=self.path).returncode, f"{one} and {other} differ")
 
-    def holds(self, name, data):
+    def holds(self, name: str, data: bytes | None) -> None:
         self.assertEqual(self.get(name), data, f"{name} holds {self.get(name)[:300]!r}")
 
     def test_stored_runs(self) -> None:

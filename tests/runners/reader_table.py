@@ -62,7 +62,7 @@ GOOD_LIMITS = [
 ]
 
 
-def line_of(cause, text, byte):
+def line_of(cause: str, text: bytes, byte: int) -> bytes:
     line, column = place(text, byte)
     return f"system: line {line} column {column} byte {byte}: {cause}\n".encode()
 

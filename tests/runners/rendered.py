@@ -13,13 +13,18 @@ import shutil
 import struct
 import subprocess
 import zlib
+from collections.abc import Iterator, Mapping, Sequence
 from fractions import Fraction
+from pathlib import Path
+from typing import Any
 
 import paver as package
+from paver.box import Exact, Pair
 from tests.runners.running import TOP, FolderTest, main, rows
 
 FILL = {"removed": (0xCF, 0xD8, 0xDC), "inner": (0x43, 0xA0, 0x47), "small": (0xFD, 0xD8, 0x35)}
-BARE = (0, 0, 0)
+Colour = tuple[int, ...]  # red, green and blue
+BARE: Colour = (0, 0, 0)
 RECTANGLE = re.compile(r'<rect x="(\d+)" y="(\d+)" width="(\d+)" height="(\d+)" fill="#(..)(..)(..)"/>')
 SIDE, PIXELS, CELLS = 1000, 1000, 300
 CIRCLE = b"Variables x in [-2,2], y in [-2,2]; Constraints x^2 + y^2 = 1; end"
@@ -33,7 +38,7 @@ PICTURES = [
 ]
 
 
-def pixels_of(png):
+def pixels_of(png: bytes) -> list[list[Colour]]:
     """Rows of (red, green, blue) of a PNG file of 8 bits a channel that is not interlaced."""
     at, data = 8, b""
     while at < len(png):
@@ -50,7 +55,7 @@ def pixels_of(png):
     return rows_of(zlib.decompress(data), width * size, height, size)
 
 
-def rows_of(data, stride, height, size):
+def rows_of(data: bytes, stride: int, height: int, size: int) -> list[list[Colour]]:
     rows, before = [], bytearray(stride)
     for y in range(height):
         start = y * (stride + 1)
@@ -60,7 +65,7 @@ def rows_of(data, stride, height, size):
     return rows
 
 
-def unfiltered(how, line, before, size):
+def unfiltered(how: int, line: bytearray, before: bytearray, size: int) -> bytearray:
     """A line of a PNG file without its filter."""
     for x in range(len(line)):
         left = line[x - size] if x >= size else 0
@@ -72,7 +77,7 @@ def unfiltered(how, line, before, size):
     return line
 
 
-def painted(text):
+def painted(text: str) -> list[list[Colour]]:
     """Rows of (red, green, blue) of a picture's text; what no rectangle covers is black."""
     rows = [[BARE] * SIDE for _ in range(SIDE)]
     for found in RECTANGLE.finditer(text):
@@ -86,33 +91,33 @@ def painted(text):
 class Plane:
     """The kept boxes of a slice, in pixels of the picture, to the right and down."""
 
-    def __init__(self, paving, names, axes, at):
+    def __init__(self, paving: Read, names: list[str], axes: Sequence[str], at: Mapping[str, str]) -> None:
         places = [names.index(name) for name in axes]
         numbers = {names.index(name): Fraction(text) for name, text in at.items()}
-        root = [tuple(map(Fraction, pair)) for pair in paving.root_exact]
+        root = [(Fraction(low), Fraction(high)) for low, high in paving.root_exact]
         (left, right), (bottom, top) = (root[place] for place in places)
         self.left, self.wide, self.bottom, self.high = left, right - left, bottom, top - bottom
         self.kept = {kind: [self.in_pixels(*(box[place] for place in places)) for box in (found.exact for found in boxes())
                             if all(box[place][0] <= number <= box[place][1] for place, number in numbers.items())]
                      for kind, boxes in (("inner", paving.inner), ("small", paving.small))}
 
-    def in_pixels(self, x, y):
+    def in_pixels(self, x: Pair, y: Pair) -> tuple[Exact, ...]:
         """From the left, to the right, from the top, to the bottom."""
         across = (SIDE * (end - self.left) / self.wide for end in x)
         down = (SIDE - SIDE * (end - self.bottom) / self.high for end in reversed(y))
         return (*across, *down)
 
-    def touches(self, kind, column, row, around=0):
+    def touches(self, kind: str, column: int, row: int, around: int = 0) -> bool:
         """Whether a kept box and a pixel, with some pixels around it, have more than edges in common."""
         return any(left < column + 1 + around and column - around < right and top < row + 1 + around and row - around < bottom
                    for left, right, top, bottom in self.kept[kind])
 
-    def fills(self, column, row, around=0):
+    def fills(self, column: int, row: int, around: int = 0) -> bool:
         """Whether an inner box holds all of a pixel, with some pixels around it."""
         return any(left <= column - around and column + 1 + around <= right
                    and top <= row - around and row + 1 + around <= bottom for left, right, top, bottom in self.kept["inner"])
 
-    def is_right(self, column, row, colour):
+    def is_right(self, column: int, row: int, colour: Colour) -> bool:
         """Whether a pixel says nothing but the truth, and as much as it can but at the distance of a pixel."""
         if colour == FILL["small"]:
             return self.touches("small", column, row, around=1)
@@ -122,7 +127,7 @@ class Plane:
             return self.fills(column, row)
         return colour in (FILL["removed"], BARE) and not self.fills(column, row, around=1)
 
-    def cells(self):
+    def cells(self) -> Iterator[tuple[int, int]]:
         """The pixel of the corner of each small box."""
         for left, _, top, _ in self.kept["small"]:
             yield min(int(left), SIDE - 1), min(int(top), SIDE - 1)
@@ -131,9 +136,9 @@ class Plane:
 class Read:
     """A stored paving with the exact search box."""
 
-    def __init__(self, path, system, settings):
+    def __init__(self, path: Path, system: package.System, settings: Mapping[str, Any]) -> None:
         self.paving = package.Paving.read(path, system=system, **settings)
-        ends = [package.numbers.exact(text) for text in self.paving.root]
+        ends = [package.numbers.exact(text) for text in self.paving.root or ()]
         self.root_exact = list(zip(ends[::2], ends[1::2]))
         self.inner, self.small = self.paving.inner, self.paving.small
 
@@ -146,7 +151,7 @@ class Rendered(FolderTest):
             with self.subTest(name, axes=axes):
                 self.compare(name, words, axes, at)
 
-    def compare(self, name, words, axes, at) -> None:
+    def compare(self, name: str, words: list[str], axes: Sequence[str], at: Mapping[str, str]) -> None:
         system, stored = TOP / "examples" / f"{name}.mbx", self.path / "stored"
         if name == "circle":
             system = self.path / "circle.mbx"

@@ -25,6 +25,8 @@ TOP = Path(__file__).resolve().parents[2]
 PROGRAM = os.path.abspath(os.environ.get("PAVER") or TOP / "paver")
 os.environ["PAVER"] = PROGRAM  # for the package, and for what it starts
 
+Answered = tuple[int, bytes, bytes]  # the status of a call, its standard output and its standard error
+
 SECONDS = 300  # of one call
 SLOW = 20  # seconds of a test that is told
 SHOWN, WIDTH = 10, 1500  # faults of a test that are shown, and the bytes of each
@@ -102,7 +104,7 @@ class FolderTest(unittest.TestCase):
         how = {"stdin": subprocess.DEVNULL, "stdout": subprocess.PIPE, "stderr": subprocess.PIPE, "timeout": SECONDS} | how
         return subprocess.run([self.program, *words], cwd=self.path, check=False, **how)
 
-    def answered(self, *words: Any, **how: Any) -> tuple[int, bytes, bytes]:
+    def answered(self, *words: Any, **how: Any) -> Answered:
         """The status of a call, its standard output and its standard error."""
         done = self.call(*words, **how)
         return done.returncode, done.stdout, done.stderr

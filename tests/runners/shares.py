@@ -37,7 +37,7 @@ class Deal(FolderTest):
     words: list[str]
     reference: Call
 
-    def begin(self, name: str, text: bytes, settings: dict[str, Fraction]) -> None:
+    def begin(self, name: str, text: bytes, settings: dict[str, Any]) -> None:
         self.put(name, text)
         self.system, self.words = name, [word for key, value in settings.items() for word in (f"--{key}", str(float(value)))]
         self.reference = Call(minibex.read(text.decode()), canonical(text.decode()), **settings)
@@ -122,7 +122,7 @@ class Shares(Deal):
         whole, _ = files.go_on_with_share(self.reference.settler, opening, 10 ** 6, number, of)
         needed = files.settled(whole) - files.settled(opening)
         for budget in sorted({1, needed - 1, needed, needed + 1} - {0, -1}):
-            wanted = answer(lambda: self.reference.resume([("first", self.get("first"))], budget, True, share=(number, of)))
+            wanted = answer(lambda: self.reference.resume([("first", self.get("first"))], budget, "o", share=(number, of)))
             self.answers(wanted, "resume", ["first"], "--share", f"{number}/{of}", "--boxes", str(budget), "--workers", "3")
 
     def test_a_share_without_leaves_is_done(self) -> None:
@@ -202,14 +202,14 @@ class Levels(Deal):
             self.begin(name, text, settings)
             for budget in (1, 2, 3, 7, 15, 16, 31, 40, 100, 255, 256, 300, 400):
                 with self.subTest(name, budget=budget):
-                    wanted = answer(lambda: self.reference.run(budget, True, order="level"))
+                    wanted = answer(lambda: self.reference.run(budget, "o", order="level"))
                     self.answers(wanted, "run", [], "--boxes", str(budget), "--order", "level", "--workers", "4")
                     self.check_levels(self.tree("answer"), set())
             self.wants(1, "run", [], "--boxes", "3", out="first")
             opening = set(files.settled_paths(self.tree("first")))
             for budget in (1, 5, 20, 90):
                 with self.subTest(name, budget=budget, opening=3):
-                    wanted = answer(lambda: self.reference.resume([("first", self.get("first"))], budget, True, order="level"))
+                    wanted = answer(lambda: self.reference.resume([("first", self.get("first"))], budget, "o", order="level"))
                     self.answers(wanted, "resume", ["first"], "--boxes", str(budget), "--order", "level")
                     self.check_levels(self.tree("answer"), opening)
 

@@ -42,18 +42,18 @@ class Sizes(FolderTest):
         self.assertEqual(self.done.returncode, 0, self.done.stderr)
         self.assertTrue(self.summary.startswith(f"settled {NODES} ".encode()), self.summary)
 
-    def wants(self, words, status, out=None, err=b""):
+    def wants(self, words: list[str], status: int, out: bytes | None = None, err: bytes = b"") -> None:
         """A call has this status, output and line."""
         done = self.call(*words)
         self.assertEqual((done.returncode, done.stderr), (status, err),
                          f"{words}: {done.returncode} {done.stdout[:200]!r} {done.stderr!r}")
         self.assertIn(out, (None, done.stdout), f"{words}: {done.returncode} {done.stdout[:200]!r} {done.stderr!r}")
 
-    def is_whole(self, name):
+    def is_whole(self, name: str) -> None:
         self.assertEqual((self.path / name).read_bytes(), (self.path / "whole").read_bytes(),
                          f"{name} differs from what one worker wrote")
 
-    def most_memory(self, *words):
+    def most_memory(self, *words: str) -> int:
         """The most memory in KiB that a call took, which was done."""
         with subprocess.Popen([self.program, *words], cwd=self.path, stdout=subprocess.DEVNULL) as child:
             _, status, usage = os.wait4(child.pid, 0)
@@ -82,7 +82,7 @@ class Sizes(FolderTest):
             self.assertLessEqual(eight, two * 1.1, f"{words}: {two} and {eight} KiB")
             self.is_whole("joined")
 
-    def starved(self, words, target, right):
+    def starved(self, words: list[str], target: str, right: str) -> None:
         """Calls with address space in steps until the answer stands: before that each wants memory, and leaves its target as it
         was, which then has the bytes of a file."""
         known, wanted, status = (self.path / right).read_bytes(), 0, 7

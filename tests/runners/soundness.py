@@ -1,29 +1,33 @@
 """Checks a printed paving at random rational points by exact fractions: every sampled point of an inner box is a
 member of the set, and none of a removed part is."""
+from __future__ import annotations
+
 import random
+from collections.abc import Iterable, Iterator, Sequence
 from fractions import Fraction
 
 from tests.data.examples import settings_of
 from tests.reference import minibex, paver
+from tests.reference.kinds import Box, Interval, Value
 from tests.reference.numbers import NEG_INF, POS_INF, UNIT
 
 POINTS = 4000  # of one paving
 FAR = 1 << 540  # how far a point goes where a box has no end
 
 
-def end(text):
+def end(text: str) -> Value:
     if text in ("-oo", "+oo"):
         return NEG_INF if text == "-oo" else POS_INF
     mantissa, exponent = text.split(":")
     return int(mantissa) << (int(exponent) + 512)
 
 
-def ends(words):
+def ends(words: Iterable[str]) -> list[Interval]:
     values = [end(word) for word in words]
     return list(zip(values[::2], values[1::2]))
 
 
-def parts(lines, root):
+def parts(lines: Iterable[str], root: Box) -> Iterator[tuple[str, Box, Box]]:
     """Each box of which something is claimed: ("inner", to, None), or ("removed", box, to) for what is not in to."""
     waiting = [root]
     for line in lines:
@@ -43,7 +47,7 @@ def parts(lines, root):
             waiting += reversed(paver.halves(to, int(words[0]), end(words[1])))
 
 
-def point_of(box, source):
+def point_of(box: Box, source: random.Random) -> list[Fraction]:
     point = []
     for lo, hi in box:
         low = max(lo, -FAR) if hi > -FAR else hi - FAR
@@ -53,11 +57,11 @@ def point_of(box, source):
     return point
 
 
-def is_in(point, box):
+def is_in(point: Sequence[Fraction], box: Box) -> bool:
     return all((lo == NEG_INF or lo <= x * UNIT) and (hi == POS_INF or x * UNIT <= hi) for x, (lo, hi) in zip(point, box))
 
 
-def faults_of_paving(text, words, printed):
+def faults_of_paving(text: str, words: Sequence[str], printed: str) -> list[str]:
     settings, _ = settings_of(words)
     system = minibex.read(text)
     settler = paver.Settler(system, **settings)

@@ -15,6 +15,7 @@ import resource
 import shutil
 import signal
 import subprocess
+from collections.abc import Iterable, Sequence
 
 from tests.runners.outside import RING
 from tests.runners.running import SECONDS, FolderTest, Moments, made_cases, main
@@ -27,7 +28,7 @@ FAULT = b"write fault: p\n"
 NOBODY = 65534
 
 
-def umask():
+def umask() -> int:
     """The mode bits that a new file doesn't get."""
     now = os.umask(0)
     os.umask(now)
@@ -48,21 +49,21 @@ class Stores(FolderTest):
         if not shutil.which("strace") or subprocess.run(words, capture_output=True, check=False).returncode:
             self.skipTest("no system call can be watched here")
 
-    def made(self, *words, name="p"):
+    def made(self, *words: str, name: str = "p") -> bytes:
         """The content that a run stores."""
         done = self.call("run", "s", *words, "--out", name)
         self.assertIn(done.returncode, (0, 1), done)
         return self.get(name)
 
-    def beside(self):
+    def beside(self) -> list[str]:
         """The files that a store left beside its target."""
         return [name for name in self.files() if BESIDE.fullmatch(name)]
 
-    def held(self):
+    def held(self) -> bytes | None:
         """What the target holds; None where it isn't there."""
         return self.get("p") if (self.path / "p").exists() else None
 
-    def restore(self, old):
+    def restore(self, old: bytes | None) -> None:
         """The folder as before a store: the target holds this, or isn't there, and nothing lies beside it."""
         for name in self.beside():
             (self.path / name).unlink()
@@ -71,18 +72,19 @@ class Stores(FolderTest):
         else:
             self.put("p", old)
 
-    def traced(self, inject, words):
+    def traced(self, inject: Iterable[str], words: Sequence[str]) -> subprocess.CompletedProcess[bytes]:
         """A call under strace that changes one of its system calls."""
         options = [word for change in inject for word in ("-e", f"inject={change}")]
         watched = ["strace", "-f", "-qq", "-o", "/dev/null", *options, self.program, *words]
         return subprocess.run(watched, cwd=self.path, capture_output=True, check=False, timeout=SECONDS)
 
-    def calls_of_store(self, words):
+    def calls_of_store(self, words: Sequence[str]) -> list[tuple[str, int]]:
         """Each system call of a run from the first that names the target on: its name, and its number among those."""
         log = self.path / "log"
         subprocess.run(["strace", "-f", "-qq", "-o", str(log), self.program, *words], cwd=self.path, capture_output=True,
                        check=True)
-        counts, found = {}, []
+        counts: dict[str, int] = {}
+        found: list[tuple[str, int]] = []
         for line in log.read_text().splitlines():
             if called := re.match(r"\d+ +(\w+)\(", line):
                 name = called[1]
@@ -116,9 +118,9 @@ class Stores(FolderTest):
                                      FAULT) and (self.held() == old or ((name, number) == syncs[1] and self.held() == new))
                     printed = done.returncode == 6 and done.stderr == b"write fault: standard output\n" and self.held() == new
                     good = told == (0, True, b"") and self.held() == new
-                    self.assertTrue(fault or good or printed,
-                                    f"{name} {number} {error}: {done.returncode} {done.stderr} {self.beside()}")
-                    self.assertFalse(self.beside(), f"{name} {number} {error}: {done.returncode} {done.stderr} {self.beside()}")
+                    seen = f"{name} {number} {error}: {done.returncode} {done.stderr!r} {self.beside()}"
+                    self.assertTrue(fault or good or printed, seen)
+                    self.assertFalse(self.beside(), seen)
 
     def test_faults_of_the_sync(self) -> None:
         """What a disk tells late, at the sync, is a fault, and the old content stands."""
@@ -128,9 +130,9 @@ class Stores(FolderTest):
             self.restore(old)
             done = self.traced([f"fsync:error={error}:when=1"], words)
             self.assertEqual((done.returncode, done.stdout, done.stderr), (6, b"", FAULT),
-                             f"{error}: {done.returncode} {done.stderr} {self.beside()}")
-            self.assertEqual(self.held(), old, f"{error}: {done.returncode} {done.stderr} {self.beside()}")
-            self.assertFalse(self.beside(), f"{error}: {done.returncode} {done.stderr} {self.beside()}")
+                             f"{error}: {done.returncode} {done.stderr!r} {self.beside()}")
+            self.assertEqual(self.held(), old, f"{error}: {done.returncode} {done.stderr!r} {self.beside()}")
+            self.assertFalse(self.beside(), f"{error}: {done.returncode} {done.stderr!r} {self.beside()}")
 
     def test_killed_at_each_call(self) -> None:
         """A SIGKILL at each system call of a store: the target is whole, and the next run to it is not disturbed by what is
@@ -158,7 +160,7 @@ class Stores(FolderTest):
             self.assertTrue(turned, "no run came to its end")
         self.assertTrue(left, "no run was killed within its store")
 
-    def chain_of(self, step):
+    def chain_of(self, step: int) -> tuple[list[str], list[bytes]]:
         """What `resume` over itself stores, from the first call to the last."""
         options = ["--eps", "0.0625", "--workers", "1", "--boxes", str(step)]
         chain = [self.made(*options)]
@@ -175,7 +177,7 @@ class Stores(FolderTest):
             wholes.append(self.get("p"))
         moments = [Moments(self.source), Moments(self.source)]
         kills = changed = 0
-        held = wholes[1]
+        held: bytes | None = wholes[1]
         while kills < KILLS or not changed:
             turn = self.source.randrange(2)
             kills += self.killed(words[turn], moments[turn])
@@ -199,7 +201,7 @@ class Stores(FolderTest):
             else:
                 at = chain.index(now)
 
-    def killed(self, words, moments):
+    def killed(self, words: Sequence[str], moments: Moments) -> bool:
         """Whether a call was ended by a kill at a random moment."""
         with subprocess.Popen([self.program, *words], cwd=self.path, stdout=subprocess.DEVNULL) as child:
             moments.wait()
@@ -224,7 +226,7 @@ class Stores(FolderTest):
             old = inner.made("--workers", "1", "--boxes", "500", "--eps", "0.015625")
             self.assertLess(len(old), 30_000)
 
-            def limited():
+            def limited() -> None:
                 signal.signal(signal.SIGXFSZ, signal.SIG_IGN)
                 resource.setrlimit(resource.RLIMIT_FSIZE, (64 << 10, 64 << 10))
             for words in (["run", "s", *FINE, "0.015625"], ["resume", "s", "p", "--eps", "0.015625", "--boxes", "90000"]):
@@ -247,9 +249,9 @@ class Stores(FolderTest):
         for turn in range(60):
             children = [subprocess.Popen([self.program, *call], cwd=self.path, stdout=subprocess.DEVNULL) for call in words]
             statuses = [child.wait(SECONDS) for child in children]
-            self.assertEqual(statuses, [0, 0], f"turn {turn}: {statuses}, {len(self.held())} bytes, {self.beside()}")
-            self.assertIn(self.held(), wholes, f"turn {turn}: {statuses}, {len(self.held())} bytes, {self.beside()}")
-            self.assertFalse(self.beside(), f"turn {turn}: {statuses}, {len(self.held())} bytes, {self.beside()}")
+            self.assertEqual(statuses, [0, 0], f"turn {turn}: {statuses}, {len(self.held() or b'')} bytes, {self.beside()}")
+            self.assertIn(self.held(), wholes, f"turn {turn}: {statuses}, {len(self.held() or b'')} bytes, {self.beside()}")
+            self.assertFalse(self.beside(), f"turn {turn}: {statuses}, {len(self.held() or b'')} bytes, {self.beside()}")
 
     def test_readers_see_whole_files(self) -> None:
         """Who reads a name while runs store under it reads one of the pavings, whole."""

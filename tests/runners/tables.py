@@ -143,8 +143,8 @@ class Tables(FolderTest):
             with self.subTest(f"README's default of {name}"):
                 self.assertEqual(given, value if name in options.COMMANDS["run"] else None)
             start = re.search(rf'^\.B[IR] --{name} "', MANUAL, re.M)
-            told = re.search(r"default\s+(?:\.BR )?([\w().]*[\w)])", MANUAL[start.start():] if start else "")
-            given = told and told.group(1)
+            default = re.search(r"default\s+(?:\.BR )?([\w().]*[\w)])", MANUAL[start.start():] if start else "")
+            given = default and default.group(1)
             with self.subTest(f"the manual's default of {name}"):
                 self.assertEqual(given, value)
 

@@ -15,6 +15,7 @@ import tempfile
 import unittest
 import xml.etree.ElementTree
 import zipfile
+from collections.abc import Iterable, Sequence
 from fractions import Fraction
 from pathlib import Path
 from typing import Any
@@ -22,6 +23,8 @@ from typing import Any
 import paver
 import wheel_of_package
 from paver import intervals, numbers
+from paver.box import Pair
+from paver.canonical import Constraint
 from paver.packed import packed
 from paver.view import page_of_text, view
 from tests.generators.made_pavings import canonical, grid_text, made_text
@@ -40,19 +43,20 @@ MADE = [  # seed, variables, depth, level of the third variable, whether it is a
 
 # ---- boxes
 
-def facts(browser):
+def facts(browser: Browser) -> str:
     return browser.value("document.getElementById('box').innerText")
 
 
-def verdict(constraint, box):
+def verdict(constraint: Constraint, box: Sequence[Pair]) -> str:
     """What a constraint comes to on a box by the package's intervals of fractions."""
-    (a, b), (c, d) = (intervals.on_box(side, box).values for side in (constraint.left, constraint.right))
+    ends = [(Fraction(low), Fraction(high)) for low, high in box]
+    (a, b), (c, d) = (intervals.on_box(side, ends).values for side in (constraint.left, constraint.right))
     sure, fails = {"<=": (b <= c, a > d), ">=": (a >= d, b < c), "<": (b < c, a >= d), ">": (a > d, b <= c),
                    "=": (a == b == c == d, a > d or b < c)}[constraint.relation]
     return "holds" if sure else "fails" if fails else "undecided"
 
 
-def rectangles_of(path):
+def rectangles_of(path: str) -> list[tuple[int, int, int, int]]:
     """(left, right, top, bottom) of each rectangle of a path of cells."""
     found = []
     for part in path.split("z")[:-1]:
@@ -69,7 +73,7 @@ HOSTILE = "</title><script>window.broken = 1</script>"
 
 
 # How linear red, green and blue are seen without one kind of cones (Machado, Oliveira and Fernandes, 2009), and in grey.
-SEEN = {
+SEEN: dict[str, list[list[float]]] = {
     "all": [[1, 0, 0], [0, 1, 0], [0, 0, 1]],
     "no red": [[0.152286, 1.052583, -0.204868], [0.114503, 0.786281, 0.099216], [-0.003882, -0.048116, 1.051998]],
     "no green": [[0.367322, 0.860646, -0.227968], [0.280085, 0.672501, 0.047413], [-0.011820, 0.042940, 0.968881]],
@@ -78,7 +82,7 @@ SEEN = {
 }
 
 
-def lab(colour, matrix):
+def lab(colour: str, matrix: Sequence[Sequence[float]]) -> tuple[float, float, float]:
     """A colour as it is seen, in CIELAB under D65."""
     parts = [int(colour[k:k + 2], 16) / 255 for k in (1, 3, 5)]
     linear = [part / 12.92 if part <= 0.04045 else ((part + 0.055) / 1.055) ** 2.4 for part in parts]
@@ -122,25 +126,26 @@ class Page(unittest.TestCase):
         self.browser.faults.clear()
         self.assertEqual(faults, [])
 
-    def page(self, name, *words, **settings):
+    def page(self, name: str, *words: Any, **settings: Any) -> Path:
         """The path of an example's page."""
         path = self.folder / f"{name}.html"
         view(TOP / "examples" / f"{name}.mbx", *words, **settings).save(path)
         return path
 
-    def open(self, *words, **settings):
+    def open(self, *words: Any, **settings: Any) -> Browser:
         self.browser.open(self.page(*words, **settings))
         self.browser.drawn()
         return self.browser
 
-    def place(self, x, y, pane=0):
+    def place(self, x: float | str, y: float | str, pane: int = 0) -> tuple[float, float, int, int]:
         """The place in the window of two values, and the pixel."""
-        return self.browser.value(f"""(() => {{
+        across, down, column, row = self.browser.value(f"""(() => {{
           const {{ axes, panes }} = paverView, box = panes[{pane}].cells.getBoundingClientRect();
           const [c, r] = [[axes.x, {x}], [axes.y, {y}]].map(([axis, value]) => Math.floor(axis.pixel(value, 0)));
           return [box.left + c + 0.5, box.top + r + 0.5, c, r]; }})()""")
+        return across, down, column, row
 
-    def colours_at(self, places):
+    def colours_at(self, places: Iterable[tuple[float, float]]) -> list[str]:
         """The classes of pixels at some values."""
         return Window(self.browser).classes([self.place(x, y)[2:] for x, y in places])
 
@@ -423,7 +428,7 @@ class Page(unittest.TestCase):
         words = [one.text for one in top.iter("{http://www.w3.org/2000/svg}text")]
         self.assertLessEqual({"x", "y", "inner", "removed", "undecided", "−2", "0"}, set(words), words)
         self.assertNotIn("open", words)
-        cells = {one.get("class"): rectangles_of(one.get("d")) for one in top.iter("{http://www.w3.org/2000/svg}path")
+        cells = {one.attrib["class"]: rectangles_of(one.attrib["d"]) for one in top.iter("{http://www.w3.org/2000/svg}path")
                  if one.get("class")}
         window, scene, chance = Window(browser), Scene(paving), random.Random(6)
         seen, faults = set(), []

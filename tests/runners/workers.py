@@ -8,6 +8,7 @@ output too.
 """
 from __future__ import annotations
 
+from collections.abc import Sequence
 from pathlib import Path
 
 from tests.data.examples import EXAMPLES
@@ -16,7 +17,7 @@ from tests.runners.running import TOP, FolderTest, made_cases, main, rows
 BUDGET = "150"
 
 
-def settings(words):
+def settings(words: Sequence[str]) -> list[str]:
     """The words of a run that are settings of its file."""
     return [word for k in range(0, len(words), 2) if words[k] not in ("--boxes", "--workers", "--out")
             for word in words[k:k + 2]]

@@ -1,12 +1,17 @@
 """What the expressions of a file mean: arrays of scalar terms."""
+from __future__ import annotations
+
 import math
+from collections.abc import Iterable, Sequence
 from fractions import Fraction
+from typing import Tuple
 
 from .. import minibex as profile
-from ..numbers import wide
+from ..numbers import Exact, wide
 from . import terms
 from .refusals import INSTEAD, Overrun, Refusal, Work, refused_word
-from .terms import Array, scalar
+from .syntax import Expression, Local, Parameter
+from .terms import Array, Term, scalar
 
 ARGUMENTS = {"abs": 1, "sqr": 1}
 MOST_PARAMETERS = 12
@@ -18,24 +23,35 @@ SQUARE_ROOT = ("is the variable {name} with {name}^2 = its argument: an equation
                "no real solution in its interior; squared by hand, sqrt(a) <= b is a <= b^2; a >= 0; b >= 0")
 
 
+Ends = Tuple[Exact, Exact]
+Domain = Tuple[str, Exact, Exact, int]  # a variable, its ends and its line
+
+
 class IntervalConstant:
     """low and high are exact values, Fractions or ±math.inf."""
 
-    def __init__(self, low, high):
+    def __init__(self, low: Exact, high: Exact) -> None:
         self.low, self.high = low, high
 
 
 class Scope:
     """What names mean: constants, variables and functions of the file, and the loops and parameters around."""
 
-    def __init__(self, declared=()):
-        self.names, self.functions = {}, {}
+    def __init__(self, declared: Iterable[str] = ()) -> None:
+        self.names: dict[str, Array | IntervalConstant] = {}
+        self.functions: dict[str, Function] = {}
         self.declared, self.taken = set(declared), set(profile.RESERVED)
-        self.variables, self.variable_names = [], set()
-        self.extra, self.written, self.notes = [], {}, []
-        self.more, self.keeping, self.work = [], False, Work(MOST_STEPS)
+        self.variables: list[Domain] = []
+        self.variable_names: set[str] = set()
+        self.extra: list[Domain] = []  # of the variables that stand for intervals and roots
+        self.intervals: dict[str, str] = {}  # the variable of an interval's name
+        self.roots: dict[str, str] = {}  # the variable of the root of an argument's text
+        self.more: list[tuple[int, str]] = []  # constraints by their lines
+        self.kept: list[str] = []  # the texts of functions
+        self.notes: list[str] = []
+        self.keeping, self.work = False, Work(MOST_STEPS)
 
-    def fresh(self, wanted, own=None):
+    def fresh(self, wanted: str, own: str | None = None) -> str:
         """A name that is not taken, near the wanted one: own is the declared name that may be taken."""
         name = wanted
         while name in self.taken or (name in self.declared and name != own):
@@ -43,7 +59,7 @@ class Scope:
         self.taken.add(name)
         return name
 
-    def without_variables(self):
+    def without_variables(self) -> Scope:
         """The scope of a function's body."""
         bare = Scope.__new__(Scope)
         bare.__dict__.update(self.__dict__)
@@ -52,15 +68,15 @@ class Scope:
 
 
 class Evaluator:
-    def __init__(self, scope, local=None):
+    def __init__(self, scope: Scope, local: dict[str, Array] | None = None) -> None:
         self.scope, self.local = scope, local or {}
 
-    def within(self, name, value):
+    def within(self, name: str, value: Array) -> Evaluator:
         return Evaluator(self.scope, {**self.local, name: value})
 
     # ---- constants
 
-    def number(self, e):
+    def number(self, e: Expression) -> Fraction:
         """The exact value of a constant scalar expression; Refusal of every other."""
         term = self.scalar(e)
         value = terms.value_of(term)
@@ -68,22 +84,22 @@ class Evaluator:
             raise Refusal(e[1], "a value that is not constant here", "a number, or an expression of constants")
         return value
 
-    def whole(self, e):
+    def whole(self, e: Expression) -> int:
         value = self.number(e)
         if value.denominator != 1:
             raise Refusal(e[1], f"{value} as a whole number", "a whole number")
         return int(value)
 
-    def turns(self, line, low, high):
+    def turns(self, line: int, low: Expression, high: Expression) -> range:
         """The numbers that an index runs through."""
-        low, high = self.whole(low), self.whole(high)
-        if high - low > MOST_TURNS:
-            raise Refusal(line, f"a loop of {high - low + 1} turns", f"at most {MOST_TURNS} turns")
-        for _ in range(low, high + 1):
+        first, last = self.whole(low), self.whole(high)
+        if last - first > MOST_TURNS:
+            raise Refusal(line, f"a loop of {last - first + 1} turns", f"at most {MOST_TURNS} turns")
+        for _ in range(first, last + 1):
             self.scope.work.step(line)
-        return range(low, high + 1)
+        return range(first, last + 1)
 
-    def end(self, e):
+    def end(self, e: Expression) -> Exact:
         """A bound: an exact value, which may be infinite."""
         if e[0] == "oo":
             return math.inf
@@ -91,7 +107,7 @@ class Evaluator:
             return -math.inf
         return self.number(e)
 
-    def interval(self, e):
+    def interval(self, e: Expression) -> Ends | None:
         """The two ends of an interval literal or constant, or None where e is neither."""
         if e[0] == "interval":
             low, high = self.end(e[2]), self.end(e[3])
@@ -104,7 +120,7 @@ class Evaluator:
                 return found.low, found.high
         return None
 
-    def scalar(self, e):
+    def scalar(self, e: Expression) -> Term:
         found = self.value(e)
         if not found.is_scalar:
             raise Refusal(e[1], f"{found.rows} x {found.columns} entries where one is needed", "an index")
@@ -112,7 +128,7 @@ class Evaluator:
 
     # ---- expressions
 
-    def value(self, e):
+    def value(self, e: Expression) -> Array:
         """The Array of an expression."""
         self.scope.work.step(e[1])
         kind = e[0]
@@ -131,13 +147,13 @@ class Evaluator:
             raise Refusal(e[1], form, "a number or an index")
         return work(e)
 
-    def literal(self, e):
+    def literal(self, e: Expression) -> Array:
         return scalar(terms.number(e[2]))
 
-    def negated(self, e):
+    def negated(self, e: Expression) -> Array:
         return self.value(e[2]).each(lambda term: terms.number(-term[1]) if term[0] == "number" else ("neg", term))
 
-    def named(self, e):
+    def named(self, e: Expression) -> Array:
         name = e[2]
         found = self.local.get(name, self.scope.names.get(name))
         if isinstance(found, IntervalConstant):
@@ -148,22 +164,24 @@ class Evaluator:
             raise refused_word(e[1], name)
         raise Refusal(e[1], f"the name `{name}`, which is not declared", "a declaration of it")
 
-    def chosen(self, e):
+    def chosen(self, e: Expression) -> Array:
         """An interval in an expression is a new variable: the constraint is met where it is for some value of it."""
-        low, high = self.interval(e)
+        ends = self.interval(e)
+        assert ends is not None
+        low, high = ends
         if low == high:
             return scalar(terms.number(low))
         known = e[2] if e[0] == "name" else None
-        if known in self.scope.written:
-            return scalar(("name", self.scope.written[known]))
+        if known in self.scope.intervals:
+            return scalar(("name", self.scope.intervals[known]))
         name = self.scope.fresh(known or f"interval_{len(self.scope.extra) + 1}", known)
         self.scope.extra.append((name, low, high, e[1]))
         if known:
-            self.scope.written[known] = name
+            self.scope.intervals[known] = name
         self.scope.notes.append(f"line {e[1]}: the interval is the variable {name}, with one value for all constraints")
         return scalar(("name", name))
 
-    def power(self, e):
+    def power(self, e: Expression) -> Array:
         base, n = self.scalar(e[2]), self.number_of_exponent(e)
         if abs(n) > MOST_TURNS:
             raise Refusal(e[1], f"the exponent {wide(n)}", f"one up to {MOST_TURNS}")
@@ -171,7 +189,7 @@ class Evaluator:
             raise Refusal(e[1], f"the exponent {n}, which is no whole number", INSTEAD["root"])
         return scalar(terms.raised(base, int(n)))
 
-    def number_of_exponent(self, e):
+    def number_of_exponent(self, e: Expression) -> Fraction:
         try:
             return self.number(e[3])
         except Overrun:
@@ -180,18 +198,15 @@ class Evaluator:
             raise Refusal(e[1], "an exponent that is not constant", "a constant whole exponent, or a variable for the "
                           "whole power") from fault
 
-    def summed(self, e):
+    def summed(self, e: Expression) -> Array:
         _, line, name, low, high, body = e
-        turns = self.turns(line, low, high)
-        if not turns:
-            return scalar(terms.number(0))
-        total = None
-        for k in turns:
+        total: Array | None = None
+        for k in self.turns(line, low, high):
             part = self.within(name, scalar(terms.number(k))).value(body)
             total = part if total is None else terms.by_entries("+", total, part, line)
-        return total
+        return scalar(terms.number(0)) if total is None else total
 
-    def listed(self, e):
+    def listed(self, e: Expression) -> Array:
         """`(a, b)` is a row, `(a; b)` a column; a list of rows, or of columns, is a matrix."""
         _, line, separator, entries = e
         parts = [self.value(entry) for entry in entries]
@@ -209,13 +224,13 @@ class Evaluator:
 
     # ---- indices and calls
 
-    def indexed(self, e):
+    def indexed(self, e: Expression) -> Array:
         _, line, base, indices, first = e
         if base[0] == "at" and first == 0 and len(indices) == 1 and base[4] == 0 and len(base[3]) == 1:
             return self.picked(self.value(base[2]), [base[3][0], indices[0]], 0, line)
         return self.picked(self.value(base), indices, first, line)
 
-    def picked(self, array, indices, first, line):
+    def picked(self, array: Array, indices: Sequence[Expression], first: int, line: int) -> Array:
         if len(indices) == 1 and array.rows == 1 and array.columns > 1:
             indices = [("number", line, Fraction(first)), *indices]
         if len(indices) == 1:
@@ -226,7 +241,7 @@ class Evaluator:
         columns = self.places(indices[1], array.columns, first, line)
         return Array(len(rows), len(columns), [array.row(i)[j] for i in rows for j in columns])
 
-    def places(self, index, count, first, line):
+    def places(self, index: Expression, count: int, first: int, line: int) -> list[int]:
         """The places, from 0, that an index names."""
         if index[0] == "all":
             return list(range(count))
@@ -237,7 +252,7 @@ class Evaluator:
                           f"one from {first} to {count + first - 1}: `x(i)` counts from 1, `x[i]` from 0")
         return list(range(low - first, high - first + 1))
 
-    def applied(self, e):
+    def applied(self, e: Expression) -> Array:
         _, line, name, arguments = e
         if name in self.local or name in self.scope.names:
             return self.picked(self.named(("name", line, name)), arguments, 1, line)
@@ -257,7 +272,7 @@ class Evaluator:
             raise Refusal(line, f"the function `{name}` of {len(found)}", "its definition by + - * / ^ abs sqr min max")
         return self.called(line, name, found)
 
-    def rooted(self, term, line):
+    def rooted(self, term: Term, line: int) -> Term:
         """A square root is a new variable with an equation; of a square of a number it is that number."""
         value = terms.value_of(term)
         if value is not None and value >= 0:
@@ -265,15 +280,15 @@ class Evaluator:
             if root * root == value:
                 return terms.number(root)
         text = terms.text_of(term, line)
-        if ("sqrt", text) not in self.scope.written:
-            name = self.scope.fresh(f"sqrt_{1 + sum(key[:1] == ('sqrt',) for key in self.scope.written)}")
+        if text not in self.scope.roots:
+            name = self.scope.fresh(f"sqrt_{1 + len(self.scope.roots)}")
             self.scope.extra.append((name, Fraction(0), math.inf, line))
             self.scope.more.append((line, f"{name}^2 = {text}"))
-            self.scope.written["sqrt", text] = name
+            self.scope.roots[text] = name
             self.scope.notes.append(f"line {line}: sqrt {SQUARE_ROOT.format(name=name)}")
-        return ("name", self.scope.written["sqrt", text])
+        return ("name", self.scope.roots[text])
 
-    def called(self, line, name, arguments):
+    def called(self, line: int, name: str, arguments: Sequence[Array]) -> Array:
         function = self.scope.functions[name]
         if len(arguments) != len(function.parameters):
             raise Refusal(line, f"{len(arguments)} arguments of `{name}`", f"{len(function.parameters)}")
@@ -285,12 +300,12 @@ class Evaluator:
 class Function:
     """A function of the file: it is kept as one where its parameters and value are scalars, and else written out."""
 
-    def __init__(self, name, line, parameters, local, body):
+    def __init__(self, name: str, line: int, parameters: Sequence[Parameter], local: Sequence[Local], body: Expression) -> None:
         self.name, self.line, self.parameters, self.local, self.body = name, line, parameters, local, body
-        self.kept_name = self.kept = None
+        self.kept_name: str | None = None
         self.tried = False
 
-    def body_for(self, evaluator, arguments):
+    def body_for(self, evaluator: Evaluator, arguments: Sequence[Array]) -> Array:
         """The body with arguments in place of the parameters. No variable and no loop is known there."""
         inner = Evaluator(evaluator.scope.without_variables(), {})
         for (name, dims), argument in zip(self.parameters, arguments):
@@ -303,17 +318,17 @@ class Function:
             inner.local[name] = inner.value(e)
         return inner.value(self.body)
 
-    def is_kept(self, evaluator):
+    def is_kept(self, evaluator: Evaluator) -> bool:
         """Whether it is kept; its text is worked out once."""
         if not self.tried:
             self.tried = True
             self.keep(evaluator)
-        return self.kept is not None
+        return self.kept_name is not None
 
-    def keep(self, evaluator):
+    def keep(self, evaluator: Evaluator) -> None:
         if len(self.parameters) > MOST_PARAMETERS or any(dims for _, dims in self.parameters):
             return
-        names = []
+        names: list[str] = []
         for name, _ in self.parameters:
             while name in profile.RESERVED or name in evaluator.scope.functions or name in names:
                 name += "_"
@@ -331,11 +346,10 @@ class Function:
         finally:
             evaluator.scope.keeping = False
         self.kept_name = evaluator.scope.fresh(self.name, self.name)
-        self.kept = f"function {self.kept_name}({', '.join(names)})\n  return {text};\nend"
-        evaluator.scope.written[("function", self.name)] = self
+        evaluator.scope.kept.append(f"function {self.kept_name}({', '.join(names)})\n  return {text};\nend")
 
 
-def shape_of(evaluator, dims):
+def shape_of(evaluator: Evaluator, dims: Sequence[Expression]) -> tuple[int, int]:
     """Rows and columns of a declaration: x[n] is a column."""
     sizes = [evaluator.whole(e) for e in dims]
     if len(sizes) > 2 or any(size < 1 for size in sizes):

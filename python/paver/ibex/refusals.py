@@ -32,7 +32,7 @@ INSTEAD = {
 class Refusal(Exception):
     """A form that can't be written: .line from 1, .form names it, .instead says what to do."""
 
-    def __init__(self, line, form, instead):
+    def __init__(self, line: int, form: str, instead: str) -> None:
         super().__init__(f"line {line}: {form} can't be written. Instead: {instead}.")
         self.line, self.form, self.instead = line, form, instead
 
@@ -44,15 +44,15 @@ class Overrun(Refusal):
 class Work:
     """How much has been done for one file, in steps; Overrun beyond the most."""
 
-    def __init__(self, most):
+    def __init__(self, most: int) -> None:
         self.left = most
 
-    def step(self, line):
+    def step(self, line: int) -> None:
         self.left -= 1
         if self.left < 0:
             raise Overrun(line, "what stands here, written out,", "a text of at most 65,536 bytes once loops, sums and "
                           "assignments are written out")
 
 
-def refused_word(line, word):
+def refused_word(line: int, word: str) -> Refusal:
     return Refusal(line, f"`{word}`", INSTEAD[word.lower() if word.lower() in ("minimize", "maximize") else word])

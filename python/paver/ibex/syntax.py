@@ -6,8 +6,12 @@ Expressions: ("number", line, Fraction), ("oo", line), ("name", line, name), ("a
 ("list", line, separator, entries), ("interval", line, low, high), ("sum", line, name, low, high, body).
 Constraints: ("chain", line, [e, relation, e, ..]), ("member", line, e, set), ("for", line, name, low, high, constraints).
 """
+from __future__ import annotations
+
 import re
+from collections.abc import Callable
 from fractions import Fraction
+from typing import Any, List, NamedTuple, NoReturn, Optional, Tuple, TypeVar
 
 from .refusals import INSTEAD, Refusal, refused_word
 
@@ -19,17 +23,50 @@ BLOCKS = {"constants", "variables", "constraints", "function", "return", "end", 
 MOST_DIGITS = 1000  # of a number, with its exponent
 RELATIONS = ("=", "<=", ">=", "<", ">")
 
+Expression = Tuple[Any, ...]
+Constraint = Tuple[Any, ...]
+Parameter = Tuple[str, List[Expression]]  # its name, and how many entries it has
+Local = Tuple[int, str, Expression]  # an assignment in a function: its line, the name and the value
+Found = TypeVar("Found")
+
+
+class Constant(NamedTuple):
+    """A declared constant; dims are the expressions in brackets behind its name."""
+    name: str
+    line: int
+    dims: List[Expression]
+    value: Expression
+
+
+class Variable(NamedTuple):
+    """A declared variable."""
+    name: str
+    line: int
+    dims: List[Expression]
+    domain: Optional[Expression]
+
+
+class Definition(NamedTuple):
+    """A declared function."""
+    name: str
+    line: int
+    parameters: List[Parameter]
+    local: List[Local]
+    body: Expression
+
 
 class Token:
-    def __init__(self, kind, text, line):
+    def __init__(self, kind: str, text: str, line: int) -> None:
         self.kind, self.text, self.line = kind, text, line
         self.block = text.lower() if kind == "name" and text.lower() in BLOCKS else None
 
 
-def tokens(text):
+def tokens(text: str) -> list[Token]:
     found, at, line = [], 0, 1
     while at < len(text):
         match = TOKEN.match(text, at)
+        if match is None or match.lastgroup is None:
+            raise ValueError(f"no token at byte {at}")
         if match.lastgroup != "blank":
             found.append(Token(match.lastgroup, match.group(), line))
         line += match.group().count("\n")
@@ -37,7 +74,7 @@ def tokens(text):
     return found + [Token("end", "the end of the text", line)]
 
 
-def exact_value(token):
+def exact_value(token: Token) -> Fraction:
     """The exact value of a number; Refusal where it is so long that it would take room and time and be refused all the same."""
     exponent = token.text.lower().partition("e")[2].lstrip("+-0")
     if len(token.text) > MOST_DIGITS or len(exponent) > 3:
@@ -49,43 +86,47 @@ def exact_value(token):
 class File:
     """What a file declares, each in its order, and the refusals of what could not be read."""
 
-    def __init__(self):
-        self.constants, self.variables, self.functions, self.constraints, self.refusals = [], [], [], [], []
+    def __init__(self) -> None:
+        self.constants: list[Constant] = []
+        self.variables: list[Variable] = []
+        self.functions: list[Definition] = []
+        self.constraints: list[Constraint] = []
+        self.refusals: list[Refusal] = []
 
 
 class Reader:
-    def __init__(self, text):
+    def __init__(self, text: str) -> None:
         self.tokens, self.at, self.file = tokens(text), 0, File()
 
     @property
-    def token(self):
+    def token(self) -> Token:
         return self.tokens[self.at]
 
-    def meets(self, *texts):
+    def meets(self, *texts: str) -> bool:
         return self.token.kind in ("sign", "name") and self.token.text in texts
 
-    def step(self):
+    def step(self) -> Token:
         self.at += 1
         return self.tokens[self.at - 1]
 
-    def take(self, *texts):
+    def take(self, *texts: str) -> Token | None:
         return self.step() if self.meets(*texts) else None
 
-    def expect(self, *texts):
+    def expect(self, *texts: str) -> Token:
         return self.take(*texts) or self.fail(" or ".join(f"`{text}`" for text in texts))
 
-    def fail(self, wanted):
+    def fail(self, wanted: str) -> NoReturn:
         token = self.token
         raise Refusal(token.line, f"`{token.text}`", f"here {wanted} is expected, as far as this reader knows Minibex")
 
-    def name(self):
+    def name(self) -> str:
         if self.token.kind != "name" or self.token.block:
             self.fail("a name")
         return self.step().text
 
     # ---- blocks
 
-    def read(self):
+    def read(self) -> File:
         """The File. A refused entry is noted, and reading goes on behind the next `;`."""
         while self.token.kind != "end":
             block = self.token.block
@@ -104,10 +145,13 @@ class Reader:
                 self.file.constraints += self.constraints()
                 self.take_end()
             else:
-                self.guarded(lambda: self.fail("a block: constants, variables, function or constraints"))
+                self.guarded(self.no_block)
         return self.file
 
-    def guarded(self, work):
+    def no_block(self) -> None:
+        self.fail("a block: constants, variables, function or constraints")
+
+    def guarded(self, work: Callable[[], Found]) -> Found | None:
         before = self.at
         try:
             return work()
@@ -118,41 +162,41 @@ class Reader:
                 self.step()
             return None
 
-    def skip(self):
+    def skip(self) -> None:
         """Goes behind the next `;`, or to the next block."""
         while self.token.kind != "end" and not self.token.block:
             if self.step().text == ";":
                 return
 
-    def entries(self, entry):
+    def entries(self, entry: Callable[[], None]) -> None:
         self.step()
         while self.token.kind != "end" and not self.token.block:
             self.guarded(entry)
             while self.take(",", ";"):
                 pass
 
-    def dims(self):
+    def dims(self) -> list[Expression]:
         found = []
         while self.take("["):
             found.append(self.expression())
             self.expect("]")
         return found
 
-    def constant(self):
+    def constant(self) -> None:
         line, name, dims = self.token.line, self.name(), self.dims()
         self.expect("=", "in")
-        self.file.constants.append((name, line, dims, self.expression()))
+        self.file.constants.append(Constant(name, line, dims, self.expression()))
 
-    def variable(self):
+    def variable(self) -> None:
         line, name, dims = self.token.line, self.name(), self.dims()
         domain = self.expression() if self.take("in") else None
         if self.token.text in INSTEAD and self.token.kind == "name":
             raise refused_word(self.token.line, self.token.text)
-        self.file.variables.append((name, line, dims, domain))
+        self.file.variables.append(Variable(name, line, dims, domain))
         if not self.meets(",", ";") and not self.token.block and self.token.kind != "end":
             self.fail("`,` or `;`")
 
-    def function(self):
+    def function(self) -> None:
         line = self.step().line
         name = self.name()
         self.expect("(")
@@ -160,19 +204,19 @@ class Reader:
         while self.take(","):
             parameters.append((self.name(), self.dims()))
         self.expect(")")
-        local = []
+        local: list[Local] = []
         while self.token.block != "return":
-            local.append((self.token.line, self.name()))
+            at, assigned = self.token.line, self.name()
             self.expect("=")
-            local[-1] += (self.expression(),)
+            local.append((at, assigned, self.expression()))
             self.take(";")
         self.step()
         body = self.expression()
         self.take(";")
         self.take_end()
-        self.file.functions.append((name, line, parameters, local, body))
+        self.file.functions.append(Definition(name, line, parameters, local, body))
 
-    def take_end(self):
+    def take_end(self) -> None:
         if self.token.block != "end":
             self.fail("`end`")
         self.step()
@@ -180,7 +224,7 @@ class Reader:
 
     # ---- constraints
 
-    def constraints(self):
+    def constraints(self) -> list[Constraint]:
         found = []
         while self.token.block not in BLOCKS and self.token.kind != "end":
             if self.take(";"):
@@ -190,7 +234,7 @@ class Reader:
                 found.append(constraint)
         return found
 
-    def loop(self):
+    def loop(self) -> Constraint:
         line = self.step().line
         name, low, high = self.range()
         self.take(";", "do")
@@ -198,16 +242,16 @@ class Reader:
         self.take_end()
         return ("for", line, name, low, high, body)
 
-    def range(self):
+    def range(self) -> tuple[str, Expression, Expression]:
         name = self.name()
         self.expect("=")
         low = self.sum()
         self.expect(":")
         return name, low, self.sum()
 
-    def constraint(self):
+    def constraint(self) -> Constraint:
         line = self.token.line
-        chain = [self.expression()]
+        chain: list[Expression | str] = [self.expression()]
         if self.take("in"):
             return ("member", line, chain[0], self.expression())
         while self.meets(*RELATIONS):
@@ -221,24 +265,24 @@ class Reader:
 
     # ---- expressions
 
-    def expression(self):
+    def expression(self) -> Expression:
         return self.sum()
 
-    def sum(self):
+    def sum(self) -> Expression:
         left = self.product()
         while self.meets("+", "-"):
             sign = self.step()
             left = (sign.text, sign.line, left, self.product())
         return left
 
-    def product(self):
+    def product(self) -> Expression:
         left = self.factor()
         while self.meets("*", "/"):
             sign = self.step()
             left = (sign.text, sign.line, left, self.factor())
         return left
 
-    def factor(self):
+    def factor(self) -> Expression:
         if self.meets("+", "-"):
             sign = self.step()
             inner = self.factor()
@@ -249,14 +293,14 @@ class Reader:
             return ("^", line, base, self.exponent())
         return base
 
-    def exponent(self):
+    def exponent(self) -> Expression:
         if self.meets("-", "+"):
             sign = self.step()
             inner = self.exponent()
             return ("neg", sign.line, inner) if sign.text == "-" else inner
         return self.postfix()
 
-    def postfix(self):
+    def postfix(self) -> Expression:
         found = self.primary()
         while True:
             if self.meets("'"):
@@ -271,14 +315,14 @@ class Reader:
             else:
                 return found
 
-    def indices(self):
+    def indices(self) -> list[Expression]:
         found = [self.index()]
         while self.take(","):
             found.append(self.index())
         self.expect(")")
         return found
 
-    def index(self):
+    def index(self) -> Expression:
         if self.meets(":"):
             return ("all", self.step().line)
         low = self.expression()
@@ -286,7 +330,7 @@ class Reader:
             return ("span", self.step().line, low, self.expression())
         return low
 
-    def primary(self):
+    def primary(self) -> Expression:
         token = self.token
         if token.kind == "number":
             return ("number", token.line, exact_value(self.step()))
@@ -310,7 +354,7 @@ class Reader:
             return ("apply", token.line, token.text, self.indices())
         return ("name", token.line, token.text)
 
-    def summed(self):
+    def summed(self) -> Expression:
         line = self.step().line
         self.expect("(")
         name, low, high = self.range()
@@ -319,7 +363,7 @@ class Reader:
         self.expect(")")
         return ("sum", line, name, low, high, body)
 
-    def group(self):
+    def group(self) -> Expression:
         line = self.step().line
         entries = [self.expression()]
         separator = None
@@ -332,6 +376,6 @@ class Reader:
         return entries[0] if separator is None else ("list", line, separator, entries)
 
 
-def read(text):
+def read(text: str) -> File:
     """The File of a text."""
     return Reader(text).read()

@@ -3,23 +3,31 @@
 A term is ("number", Fraction), ("constant", name, Fraction), ("name", name), ("neg", a), (sign, a, b) for + - * /,
 ("^", a, n) with n from 0 to 32, or ("call", function, arguments).
 """
-from fractions import Fraction
+from __future__ import annotations
 
-from ..numbers import minibex, wide
+from collections.abc import Callable, Sequence
+from fractions import Fraction
+from operator import add, mul, neg, sub, truediv
+from typing import Any, Tuple
+
+from ..numbers import Exact, minibex, wide
 from .refusals import Refusal, Work
 
 MOST_POWER = 32
 MOST_STEPS = 200_000  # of writing and working out terms; a text of the profile has at most 65,536 bytes
 WORK = [Work(MOST_STEPS)]  # of the file that is translated
 RANK = {"+": 1, "-": 1, "*": 2, "/": 2, "neg": 3, "^": 4}
-CALLS = {"abs": abs, "sqr": lambda x: x * x, "min": min, "max": max}
+CALLS: dict[str, Callable[..., Fraction]] = {"abs": abs, "sqr": lambda x: x * x, "min": min, "max": max}
+SIGNS: dict[str, Callable[..., Fraction]] = {"neg": neg, "+": add, "-": sub, "*": mul, "/": truediv}
+
+Term = Tuple[Any, ...]
 
 
-def number(value):
+def number(value: Exact | int) -> Term:
     return ("number", Fraction(value))
 
 
-def value_of(term):
+def value_of(term: Term) -> Fraction | None:
     """The value of a constant term; None of every other, and where a divisor is 0."""
     kind = term[0]
     if kind == "number":
@@ -35,11 +43,10 @@ def value_of(term):
         return CALLS[term[1]](*parts)
     if kind == "^":
         return parts[0] ** term[2]
-    return {"neg": lambda x: -x, "+": lambda x, y: x + y, "-": lambda x, y: x - y, "*": lambda x, y: x * y,
-            "/": lambda x, y: x / y}[kind](*parts)
+    return SIGNS[kind](*parts)
 
 
-def raised(base, n):
+def raised(base: Term, n: int) -> Term:
     """A term for base^n: a power above 32 is a power of a power where n has a divisor, else a product."""
     if n < 0:
         return ("/", number(1), raised(base, -n))
@@ -51,12 +58,12 @@ def raised(base, n):
     return ("*", base, raised(base, n - 1))
 
 
-def text_of(term, line):
+def text_of(term: Term, line: int) -> str:
     """The term in Minibex with few parentheses; Refusal where a number is too long."""
     return written(term, line)[0]
 
 
-def written(term, line):
+def written(term: Term, line: int) -> tuple[str, int]:
     WORK[0].step(line)
     kind = term[0]
     if kind == "number":
@@ -76,22 +83,22 @@ def written(term, line):
     return f"{left} {kind} {right}" if rank == 1 else f"{left}{kind}{right}", rank
 
 
-def wrapped(term, rank, line):
+def wrapped(term: Term, rank: int, line: int) -> str:
     text, own = written(term, line)
     return text if own >= rank else f"({text})"
 
 
-def number_text(value, line):
+def number_text(value: Fraction, line: int) -> tuple[str, int]:
     text = minibex(value)
     if text is not None:
         return text, 5 if value >= 0 else 3
-    parts = [minibex(part) for part in (value.numerator, value.denominator)]
-    if None in parts:
+    above, below = minibex(value.numerator), minibex(value.denominator)
+    if above is None or below is None:
         raise Refusal(line, f"the number {wide(value)}, which has more than 37 digits", "round it")
-    return "/".join(parts), 2
+    return f"{above}/{below}", 2
 
 
-def has_names(term):
+def has_names(term: Term) -> bool:
     """Whether a term depends on a variable or parameter. A part that stands in several places is looked at once."""
     waiting, seen = [term], set()
     while waiting:
@@ -109,33 +116,33 @@ def has_names(term):
 class Array:
     """Rows and columns of terms, row by row; a scalar has one of each."""
 
-    def __init__(self, rows, columns, terms):
+    def __init__(self, rows: int, columns: int, terms: list[Term]) -> None:
         self.rows, self.columns, self.terms = rows, columns, terms
 
     @property
-    def shape(self):
+    def shape(self) -> tuple[int, int]:
         return self.rows, self.columns
 
     @property
-    def is_scalar(self):
+    def is_scalar(self) -> bool:
         return self.shape == (1, 1)
 
-    def row(self, i):
+    def row(self, i: int) -> list[Term]:
         return self.terms[i * self.columns:(i + 1) * self.columns]
 
-    def transposed(self):
+    def transposed(self) -> Array:
         return Array(self.columns, self.rows, [self.terms[i * self.columns + j] for j in range(self.columns)
                                                for i in range(self.rows)])
 
-    def each(self, work):
+    def each(self, work: Callable[[Term], Term]) -> Array:
         return Array(self.rows, self.columns, [work(term) for term in self.terms])
 
 
-def scalar(term):
+def scalar(term: Term) -> Array:
     return Array(1, 1, [term])
 
 
-def product(a, b, line):
+def product(a: Array, b: Array, line: int) -> Array:
     """The product of arrays: scalar times array, or of matrices."""
     if a.is_scalar:
         return b.each(lambda term: ("*", a.terms[0], term))
@@ -149,14 +156,14 @@ def product(a, b, line):
                                      for i in range(a.rows) for column in columns])
 
 
-def summed(terms):
+def summed(terms: Sequence[Term]) -> Term:
     total = terms[0]
     for term in terms[1:]:
         total = ("+", total, term)
     return total
 
 
-def by_entries(sign, a, b, line):
+def by_entries(sign: str, a: Array, b: Array, line: int) -> Array:
     if a.is_scalar and not b.is_scalar:
         a = Array(b.rows, b.columns, a.terms * len(b.terms))
     if b.is_scalar and not a.is_scalar:

@@ -1,12 +1,15 @@
 """Writes the profile's text of a file in IBEX's Minibex: vectors become variables, loops are written out."""
+from __future__ import annotations
+
 import math
+from collections.abc import Callable, Sequence
 from fractions import Fraction
 
-from ..numbers import minibex
+from ..numbers import Exact, minibex
 from . import terms
-from .evaluate import Evaluator, Function, IntervalConstant, Scope, shape_of
+from .evaluate import Ends, Evaluator, Function, IntervalConstant, Scope, shape_of
 from .refusals import Overrun, Refusal, Work
-from .syntax import read
+from .syntax import Constraint, Expression, Local, Parameter, read
 from .terms import Array, scalar
 
 GREATEST = 10 ** 37 - 1  # of the whole numbers of the profile
@@ -17,19 +20,20 @@ class Translation:
     """text is the profile's text, or None where something was refused; refusals are those, in the order of their
     lines; notes say what was changed and is worth a look."""
 
-    def __init__(self, text, refusals, notes):
+    def __init__(self, text: str | None, refusals: list[Refusal], notes: list[str]) -> None:
         self.text, self.refusals, self.notes = text, refusals, notes
 
 
 class Translator:
-    def __init__(self, text):
+    def __init__(self, text: str) -> None:
         self.file = file = read(text)
         self.scope = Scope(name for name, *_ in file.constants + file.variables + file.functions)
         self.evaluator = Evaluator(self.scope)
         self.refusals = list(self.file.refusals)
-        self.constants, self.constraints = [], []
+        self.constants: list[tuple[str, Fraction]] = []
+        self.constraints: list[tuple[int, str]] = []
 
-    def guarded(self, work, *arguments):
+    def guarded(self, work: Callable[..., None], *arguments: object) -> None:
         try:
             work(*arguments)
         except Overrun:
@@ -37,14 +41,14 @@ class Translator:
         except Refusal as refusal:
             self.refusals.append(refusal)
 
-    def translated(self):
+    def translated(self) -> Translation:
         file = self.file
-        for entry in file.constants:
-            self.guarded(self.constant, *entry)
-        for entry in file.variables:
-            self.guarded(self.variable, *entry)
-        for entry in file.functions:
-            self.guarded(self.function, *entry)
+        for constant in file.constants:
+            self.guarded(self.constant, *constant)
+        for variable in file.variables:
+            self.guarded(self.variable, *variable)
+        for function in file.functions:
+            self.guarded(self.function, *function)
         for constraint in file.constraints:
             self.guarded(self.constraint, self.evaluator, constraint)
         self.constraints += self.scope.more
@@ -58,28 +62,28 @@ class Translator:
             return Translation(None, sorted(self.unique(), key=lambda refusal: refusal.line), notes)
         return Translation(self.text(notes), [], notes)
 
-    def unique(self):
+    def unique(self) -> list[Refusal]:
         return list({(refusal.line, refusal.form): refusal for refusal in self.refusals}.values())
 
     # ---- declarations
 
-    def new(self, name, line):
+    def new(self, name: str, line: int) -> None:
         if name in self.scope.names or name in self.scope.functions:
             raise Refusal(line, f"a second declaration of `{name}`", "another name")
 
-    def function(self, name, line, *rest):
+    def function(self, name: str, line: int, parameters: Sequence[Parameter], local: Sequence[Local], body: Expression) -> None:
         self.new(name, line)
-        self.scope.functions[name] = Function(name, line, *rest)
+        self.scope.functions[name] = Function(name, line, parameters, local, body)
 
-    def constant(self, name, line, dims, e):
+    def constant(self, name: str, line: int, dims: Sequence[Expression], e: Expression) -> None:
         self.new(name, line)
         ends = self.evaluator.interval(e)
         if ends is not None:
             self.scope.names[name] = scalar(terms.number(ends[0])) if ends[0] == ends[1] else IntervalConstant(*ends)
             return
         array = self.evaluator.value(e)
-        values = [terms.value_of(term) for term in array.terms]
-        if None in values:
+        values = known_values(array)
+        if values is None:
             raise Refusal(line, f"the constant `{name}`", "a number, or an interval")
         shape = shape_of(self.evaluator, dims) if dims else array.shape
         if len(values) != shape[0] * shape[1]:
@@ -91,7 +95,7 @@ class Translator:
         self.constants.append((written, values[0]))
         self.scope.names[name] = scalar(("constant", written, values[0]))
 
-    def variable(self, name, line, dims, domain):
+    def variable(self, name: str, line: int, dims: Sequence[Expression], domain: Expression | None) -> None:
         self.new(name, line)
         shape = shape_of(self.evaluator, dims)
         count = shape[0] * shape[1]
@@ -106,7 +110,7 @@ class Translator:
         self.scope.names[name] = Array(*shape, [("name", written) for written in names])
         self.scope.variable_names.add(name)
 
-    def domains(self, domain, count, line):
+    def domains(self, domain: Expression | None, count: int, line: int) -> list[Ends]:
         if domain is None:
             return [(-math.inf, math.inf)] * count
         ends = self.evaluator.interval(domain)
@@ -118,8 +122,8 @@ class Translator:
                 return found
             raise Refusal(line, f"{len(found)} domains for {count} entries", "one for each, or one for all")
         if count > 1 and domain[0] == "name":
-            values = [terms.value_of(term) for term in self.evaluator.value(domain).terms]
-            if None in values:
+            values = known_values(self.evaluator.value(domain))
+            if values is None:
                 raise Refusal(line, f"`{domain[2]}` as a set", "an interval, or constants")
             if len(values) == count:
                 return [(value, value) for value in values]
@@ -128,7 +132,7 @@ class Translator:
 
     # ---- constraints
 
-    def constraint(self, evaluator, c):
+    def constraint(self, evaluator: Evaluator, c: Constraint) -> None:
         kind, line = c[0], c[1]
         if kind == "for":
             for k in evaluator.turns(line, c[3], c[4]):
@@ -140,7 +144,7 @@ class Translator:
             for left, relation, right in zip(c[2][::2], c[2][1::2], c[2][2::2]):
                 self.related(evaluator, line, left, relation, right)
 
-    def related(self, evaluator, line, left, relation, right):
+    def related(self, evaluator: Evaluator, line: int, left: Expression, relation: str, right: Expression) -> None:
         sides = evaluator.interval(left), evaluator.interval(right)
         if relation == "=" and sides[1] is not None and sides[0] is None:
             self.member(evaluator, line, left, right)
@@ -152,7 +156,7 @@ class Translator:
         for _, a, b in pairs.terms:
             self.constraints.append((line, f"{terms.text_of(a, line)} {relation} {terms.text_of(b, line)}"))
 
-    def member(self, evaluator, line, e, domain):
+    def member(self, evaluator: Evaluator, line: int, e: Expression, domain: Expression) -> None:
         array = evaluator.value(e)
         for term, (low, high) in zip(array.terms, self.domains(domain, len(array.terms), line)):
             text = terms.text_of(term, line)
@@ -166,7 +170,7 @@ class Translator:
 
     # ---- the text
 
-    def limits(self):
+    def limits(self) -> None:
         variables = len(self.scope.variables) + len(self.scope.extra)
         if variables > MOST["variables"]:
             name, _, _, line = (self.scope.variables + self.scope.extra)[MOST["variables"]]
@@ -177,8 +181,8 @@ class Translator:
                                          f"at most {MOST['constraints']}: join some by min and max: a <= 0 and b <= 0 "
                                          "is max(a, b) <= 0"))
 
-    def bound(self, value, up, line, name):
-        if value in (math.inf, -math.inf):
+    def bound(self, value: Exact, up: bool, line: int, name: str) -> str:
+        if isinstance(value, float):
             return "oo" if value > 0 else "-oo"
         text = minibex(value)
         if text is None:
@@ -186,13 +190,12 @@ class Translator:
             self.scope.notes.append(f"line {line}: the {'upper' if up else 'lower'} bound of {name} is rounded outward")
         return text
 
-    def text(self, notes):
+    def text(self, notes: list[str]) -> str:
         lines = []
         if self.constants:
             lines.append("Constants")
             lines += [f"  {name} = {minibex(value)};" for name, value in self.constants]
-        lines += [function.kept for key, function in self.scope.written.items() if key[0] == "function"
-                  and isinstance(function, Function)]
+        lines += self.scope.kept
         lines.append("Variables")
         for name, low, high, line in self.scope.variables + self.scope.extra:
             ends = "" if (low, high) == (-math.inf, math.inf) else \
@@ -205,17 +208,23 @@ class Translator:
         return "\n".join([*head, *lines, "end"]) + "\n"
 
 
-def outward(value, up):
+def known_values(array: Array) -> list[Fraction] | None:
+    """The values of an array's terms, or None where one is not constant."""
+    values = [value for value in map(terms.value_of, array.terms) if value is not None]
+    return values if len(values) == len(array.terms) else None
+
+
+def outward(value: Fraction, up: bool) -> str:
     """A number of few digits next to a value on its side; an infinite end, or the greatest number, beyond all numbers."""
     if abs(value) > GREATEST:
         return ("-" if value < 0 else "") + ("oo" if (value > 0) == up else str(GREATEST))
     places = 30
     scaled, rest = divmod(value.numerator * 10 ** places, value.denominator)
     found = minibex(Fraction(scaled + (1 if up and rest else 0), 10 ** places))
-    return found or minibex(Fraction(value.__ceil__() if up else value.__floor__()))
+    return found or str(math.ceil(value) if up else math.floor(value))
 
 
-def translate(text):
+def translate(text: str) -> Translation:
     """The Translation of a file's text."""
     terms.WORK[0] = Work(terms.MOST_STEPS)
     try:
