@@ -2,6 +2,7 @@
 ghost use Rattle.std.specs.Prelude.{◌≡◌, IfOk, IfErr, length};
 ghost use Rattle.pv_tree.specs.Trees.{leaf};
 ghost use Rattle.pv_scope.specs.Orders.{IsInOrder};
+ghost use Rattle.pv_slope.specs.Methods.{method_of, dims_of, settle_by};
 ghost use Rattle.pv_rule.specs.Systems.{files, AreOnlyRead, RefusesRule};
 ghost use Rattle.pv_rule.specs.Pavings.{IsPaved};
 ghost use Rattle.pv_product.specs.Products.{ComesOfRun};
@@ -16,7 +17,8 @@ use pv_product::{Product, of_paving};
 use pv_request::{Effort, Refusal, Settings};
 use pv_rule::settler_in;
 use pv_scope::pave_in_order;
-use pv_tree::{KnowingSettler, Paving};
+use pv_slope::FormSettler;
+use pv_tree::Paving;
 use std::alloc::Global;
 use std::sync::Wait;
 use std::thread::Threads;
@@ -56,23 +58,19 @@ pub fn run<'a, F: Folder, G: Gate + Sync, R: Threads + Wait + Sync>(
 }
 
 /// What the budget settles of an open box.
-pub(crate) fn pave_box<S: KnowingSettler + Sync, G: Gate + Sync, R: Threads + Wait + Sync>(
+pub(crate) fn pave_box<G: Gate + Sync, R: Threads + Wait + Sync>(
     rt: &R,
     alloc: Global,
-    settler: &S,
+    settler: &FormSettler,
     root: IBox,
     effort: &Effort,
     gate: &G,
 ) -> Result<Paving, Memory>
-where
-    S::Room: Send,
-    S::Known: Send,
-    requires { length root ≡ S.dims settler.now }
+    requires { length root ≡ dims_of (method_of settler.now) }
     ensures root { IfOk result (λ p. p.root ≡ root) }
     ensures paved { IfOk result
-        (λ p. IsPaved (S.settle_of settler.now) (S.depth_of settler.now) root leaf
-        effort.now.budget.nodes
-        p.tree) }
+        (λ p. IsPaved (settle_by (method_of settler.now)) (method_of settler.now).parts.depth root
+        leaf effort.now.budget.nodes p.tree) }
     ensures ordered { IfOk result (λ p. IsInOrder effort.now.order leaf p.tree) }
 {
     let opening = Paving::open(alloc, root)?;
