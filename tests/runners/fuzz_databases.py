@@ -181,7 +181,7 @@ class FuzzDatabases(FolderTest):
             self.put(name, self.source.choice([b"", self.source.randbytes(600),
                                                b"\x37\x7f\x06\x82" + self.source.randbytes(5000),
                                                bytes.fromhex("d9d505f920a163d7") + self.source.randbytes(600)]))
-        self.put("k", data)
+        self.put("k", bytes(data))
         got, title = self.answer_of(model), f"damage {kind}"
         if got[0] in (0, 1):
             self.assertEqual(got[2], b"", title)
