@@ -11,6 +11,7 @@ use pv_num::Memory;
 use pv_tree::{Paving, Walk};
 use std::alloc::Global;
 use std::marker::Model;
+use std::mem;
 
 /// Goes over a paving's nodes in preorder, and makes the lines of some of them.
 #[derive(Drop)]
@@ -20,6 +21,8 @@ pub struct Scribe<'a> {
     to: IBox,
     text: Vec<u8>,
     whole: bool,
+    // Far from the next scribe's fields in memory, so that no two scribes write to one cache line.
+    _apart: [u64; 16],
 }
 
 impl<'a> Model for Scribe<'a> {
@@ -49,6 +52,7 @@ impl<'a> Scribe<'a> {
             to,
             text: Vec::new(alloc),
             whole: true,
+            _apart: [0; 16],
         })
     }
 
@@ -77,15 +81,17 @@ impl<'a> Scribe<'a> {
         self.whole = made.is_ok();
     }
 
-    /// The lines made last. There are none where memory was wanting.
-    pub fn text(&self) -> Result<&[u8], Memory>
-        ensures { IfOk result (λ t. self.now.text ≡ Some t.now) }
+    /// Hands over the lines made last, and gets a text in exchange whose room serves the next ones.
+    /// There are none where memory was wanting.
+    pub fn take_text(&mut self, into: &mut Vec<u8>) -> Result<(), Memory>
+        ensures come { self.new.pending ≡ self.old.pending }
+        ensures text { OnOk result (self.old.text ≡ Some into.new.items) }
     {
-        if self.whole {
-            Ok(&self.text)
-        } else {
-            Err(Memory)
+        if !self.whole {
+            return Err(Memory);
         }
+        mem::swap(&mut self.text, into);
+        Ok(())
     }
 }
 

@@ -3,7 +3,7 @@ use Rattle.std.proofs.Common.{◌≡◌, ℕ, zero, suc, ◌+◌, ◌-◌, ◌*�
 use Rattle.std.proofs.Math.Nat.{mul-suc}
 use Rattle.std.proofs.lemmas.List.{drop_more}
 use Rattle.std.proofs.lemmas.Option.{IfSome_then}
-use Rattle.std.specs.Prelude.{IfSome, IsSome}
+use Rattle.std.specs.Prelude.{IfSome}
 use Rattle.pv_interval.specs.Bounds.{Bounds}
 use Rattle.pv_io.specs.Outside.{appended, AppendsFront}
 use Rattle.pv_io.proofs.Fronts.{held_front}
@@ -14,7 +14,7 @@ use Rattle.pv_file.specs.declared.version.Version.{Version}
 use Rattle.pv_file.specs.Lines.{lines_of}
 use Rattle.pv_file.specs.Walks.{pending_text, after_steps, AreWritten}
 use Rattle.pv_file.specs.Scribes.{Scribed}
-use Rattle.pv_lines.specs.Turns.{AreSpread, HasTurned, before_text, texts_of, HaveTexts}
+use Rattle.pv_lines.specs.Turns.{AreSpread, HasTurned, AreTaken, AreStill, joined}
 use Rattle.pv_file.proofs.Handing.{none_after}
 
 -- ---- Steps
@@ -52,69 +52,79 @@ spread_more share ps (y ∷ ys) x spread e =
 
 -- ---- The texts of one round
 
-first_written : (v : Version) (share gap : ℕ) (ps : List Piece) (x y : Scribed) (o : Option (List ℕ)) (texts rest : List ℕ) → x.pending ≡ ps
-    → IfSome o (λ t. (pending_text v x.pending ≡ t ++ pending_text v (after_steps share x.pending)) × (y.pending ≡ after_steps gap (after_steps share x.pending)))
-    → pending_text v (after_steps share ps) ≡ texts ++ rest → (more : List ℕ) × (pending_text v ps ≡ before_text o texts ++ more)
-first_written v share gap ps x y None texts rest e h r = (pending_text v ps, refl)
-first_written v share gap ps x y (Some t) texts rest e h r =
-    let first : pending_text v ps ≡ t ++ pending_text v (after_steps share ps) =
-    subst (λ (q : List Piece). pending_text v q ≡ t ++ pending_text v (after_steps share q)) e h.0 in
-    (rest, first ∙ ap (λ (l : List ℕ). t ++ l) r ∙ sym (append_assoc t texts rest))
+-- what a scribe did whose text was there
+done : (v : Version) (share gap : ℕ) (x y : Scribed) (t : List ℕ) → HasTurned v share gap x y → y.text ≡ Some t
+    → (pending_text v x.pending ≡ t ++ pending_text v (after_steps share x.pending)) × (y.pending ≡ after_steps gap (after_steps share x.pending))
+done v share gap x y t h e =
+    subst (λ (o : Option (List ℕ)). IfSome o (λ t. (pending_text v x.pending ≡ t ++ pending_text v (after_steps share x.pending))
+    × (y.pending ≡ after_steps gap (after_steps share x.pending)))) e h
 
-first_whole : (v : Version) (share gap : ℕ) (ps : List Piece) (x y : Scribed) (o : Option (List ℕ)) (texts rest : List ℕ) → x.pending ≡ ps → IsSome o
-    → IfSome o (λ t. (pending_text v x.pending ≡ t ++ pending_text v (after_steps share x.pending)) × (y.pending ≡ after_steps gap (after_steps share x.pending)))
-    → pending_text v (after_steps share ps) ≡ texts ++ rest → pending_text v ps ≡ before_text o texts ++ rest
-first_whole v share gap ps x y None texts rest e there h r = cc
-first_whole v share gap ps x y (Some t) texts rest e there h r =
+first_whole : (v : Version) (share gap : ℕ) (ps : List Piece) (x y : Scribed) (t texts rest : List ℕ) → x.pending ≡ ps → HasTurned v share gap x y → y.text ≡ Some t
+    → pending_text v (after_steps share ps) ≡ texts ++ rest → pending_text v ps ≡ (t ++ texts) ++ rest
+first_whole v share gap ps x y t texts rest e h s r =
     let first : pending_text v ps ≡ t ++ pending_text v (after_steps share ps) =
-    subst (λ (q : List Piece). pending_text v q ≡ t ++ pending_text v (after_steps share q)) e h.0 in
+    subst (λ (q : List Piece). pending_text v q ≡ t ++ pending_text v (after_steps share q)) e (done v share gap x y t h s).0 in
     first ∙ ap (λ (l : List ℕ). t ++ l) r ∙ sym (append_assoc t texts rest)
 
-first_on : (v : Version) (share gap : ℕ) (ps : List Piece) (x y : Scribed) (o : Option (List ℕ)) → x.pending ≡ ps → IsSome o
-    → IfSome o (λ t. (pending_text v x.pending ≡ t ++ pending_text v (after_steps share x.pending)) × (y.pending ≡ after_steps gap (after_steps share x.pending)))
+first_on : (v : Version) (share gap : ℕ) (ps : List Piece) (x y : Scribed) (t : List ℕ) → x.pending ≡ ps → HasTurned v share gap x y → y.text ≡ Some t
     → y.pending ≡ after_steps (share + gap) ps
-first_on v share gap ps x y None e there h = cc
-first_on v share gap ps x y (Some t) e there h = h.1 ∙ ap (λ (q : List Piece). after_steps gap (after_steps share q)) e ∙ sym (steps_add share gap ps)
+first_on v share gap ps x y t e h s =
+    (done v share gap x y t h s).1 ∙ ap (λ (q : List Piece). after_steps gap (after_steps share q)) e ∙ sym (steps_add share gap ps)
 
--- what is handed over begins the text that is to come
-pub texts_begin : (v : Version) (share gap : ℕ) (ps : List Piece) (xs ys : List Scribed) → length ys ≡ length xs → AreSpread share ps xs
-    → ((i : ℕ) (d : Scribed) → i < length xs → HasTurned v share gap (get_or xs i d) (get_or ys i d))
-    → (rest : List ℕ) × (pending_text v ps ≡ texts_of ys ++ rest)
-texts_begin v share gap ps xs [] same spread turned = (pending_text v ps, refl)
-texts_begin v share gap ps [] (y ∷ ys) same spread turned = let no : ⊥ = omega arith in absurd no
-texts_begin v share gap ps (x ∷ xs) (y ∷ ys) same spread turned =
-    let more = texts_begin v share gap (after_steps share ps) xs ys (let w : length ys ≡ length xs = omega arith in w) spread.1
-    (λ i d there. turned (suc i) d (let w : suc i < suc (length xs) = omega arith in w)) in
-    first_written v share gap ps x y y.text (texts_of ys) more.0 spread.0 (turned 0 x (let w : 0 < suc (length xs) = omega arith in w)) more.1
-
--- where no text is missing, each of the scribes' shares is handed over
-pub texts_whole : (v : Version) (share gap : ℕ) (ps : List Piece) (xs ys : List Scribed) → length ys ≡ length xs → AreSpread share ps xs
-    → ((i : ℕ) (d : Scribed) → i < length xs → HasTurned v share gap (get_or xs i d) (get_or ys i d)) → HaveTexts ys
-    → pending_text v ps ≡ texts_of ys ++ pending_text v (after_steps (share * length ys) ps)
-texts_whole v share gap ps xs [] same spread turned there = let none : share * 0 ≡ 0 = omega arith in ap (λ (n : ℕ). pending_text v (after_steps n ps)) (sym none)
-texts_whole v share gap ps [] (y ∷ ys) same spread turned there = let no : ⊥ = omega arith in absurd no
-texts_whole v share gap ps (x ∷ xs) (y ∷ ys) same spread turned there =
-    let more = texts_whole v share gap (after_steps share ps) xs ys (let w : length ys ≡ length xs = omega arith in w) spread.1
-    (λ i d there. turned (suc i) d (let w : suc i < suc (length xs) = omega arith in w)) there.1 in
+-- what was taken is the text of all shares
+texts_whole : (v : Version) (share gap : ℕ) (ps : List Piece) (xs ys : List Scribed) (ts : List (List ℕ)) → length ys ≡ length xs → length ts ≡ length ys
+    → AreSpread share ps xs → ((i : ℕ) (d : Scribed) → i < length xs → HasTurned v share gap (get_or xs i d) (get_or ys i d)) → AreTaken ys ts
+    → pending_text v ps ≡ joined ts ++ pending_text v (after_steps (share * length ys) ps)
+texts_whole v share gap ps xs [] [] same count spread turned taken =
+    let none : share * 0 ≡ 0 = omega arith in ap (λ (n : ℕ). pending_text v (after_steps n ps)) (sym none)
+texts_whole v share gap ps xs [] (t ∷ ts) same count spread turned taken = let no : ⊥ = omega arith in absurd no
+texts_whole v share gap ps [] (y ∷ ys) ts same count spread turned taken = let no : ⊥ = omega arith in absurd no
+texts_whole v share gap ps (x ∷ xs) (y ∷ ys) [] same count spread turned taken = let no : ⊥ = omega arith in absurd no
+texts_whole v share gap ps (x ∷ xs) (y ∷ ys) (t ∷ ts) same count spread turned taken =
+    let more = texts_whole v share gap (after_steps share ps) xs ys ts (let w : length ys ≡ length xs = omega arith in w)
+    (let w : length ts ≡ length ys = omega arith in w) spread.1
+    (λ i d there. turned (suc i) d (let w : suc i < suc (length xs) = omega arith in w))
+    (λ i d e there. taken (suc i) d e (let w : suc i < suc (length ys) = omega arith in w)) in
     let far : share + share * length ys ≡ share * suc (length ys) = omega (arith, mul-suc share (length ys)) in
-    first_whole v share gap ps x y y.text (texts_of ys) (pending_text v (after_steps (share * suc (length ys)) ps)) spread.0 there.0
-    (turned 0 x (let w : 0 < suc (length xs) = omega arith in w))
-    (more ∙ ap (λ (q : List Piece). texts_of ys ++ pending_text v q) (sym (steps_add share (share * length ys) ps) ∙ ap (λ (n : ℕ). after_steps n ps) far))
+    first_whole v share gap ps x y t (joined ts) (pending_text v (after_steps (share * suc (length ys)) ps)) spread.0
+    (turned 0 x (let w : 0 < suc (length xs) = omega arith in w)) (taken 0 y t (let w : 0 < suc (length ys) = omega arith in w))
+    (more ∙ ap (λ (q : List Piece). joined ts ++ pending_text v q) (sym (steps_add share (share * length ys) ps) ∙ ap (λ (n : ℕ). after_steps n ps) far))
 
-pub spread_on : (v : Version) (share gap : ℕ) (ps : List Piece) (xs ys : List Scribed) → length ys ≡ length xs → AreSpread share ps xs
-    → ((i : ℕ) (d : Scribed) → i < length xs → HasTurned v share gap (get_or xs i d) (get_or ys i d)) → HaveTexts ys
+pub round_whole : (v : Version) (share gap : ℕ) (ps : List Piece) (xs ys : List Scribed) (ts : List (List ℕ)) → length ys ≡ length xs → length ts ≡ length ys
+    → share * length ys ≡ share + gap → AreSpread share ps xs
+    → ((i : ℕ) (d : Scribed) → i < length xs → HasTurned v share gap (get_or xs i d) (get_or ys i d)) → AreTaken ys ts
+    → pending_text v ps ≡ joined ts ++ pending_text v (after_steps (share + gap) ps)
+round_whole v share gap ps xs ys ts same count far spread turned taken =
+    texts_whole v share gap ps xs ys ts same count spread turned taken ∙ ap (λ (n : ℕ). joined ts ++ pending_text v (after_steps n ps)) far
+
+-- and what is to come then is spread as it was
+pub spread_on : (v : Version) (share gap : ℕ) (ps : List Piece) (xs ys : List Scribed) (ts : List (List ℕ)) → length ys ≡ length xs → length ts ≡ length ys
+    → AreSpread share ps xs → ((i : ℕ) (d : Scribed) → i < length xs → HasTurned v share gap (get_or xs i d) (get_or ys i d)) → AreTaken ys ts
     → AreSpread share (after_steps (share + gap) ps) ys
-spread_on v share gap ps xs [] same spread turned there = tt
-spread_on v share gap ps [] (y ∷ ys) same spread turned there = let no : ⊥ = omega arith in absurd no
-spread_on v share gap ps (x ∷ xs) (y ∷ ys) same spread turned there =
-    let more = spread_on v share gap (after_steps share ps) xs ys (let w : length ys ≡ length xs = omega arith in w) spread.1
-    (λ i d there. turned (suc i) d (let w : suc i < suc (length xs) = omega arith in w)) there.1 in
+spread_on v share gap ps xs [] ts same count spread turned taken = tt
+spread_on v share gap ps [] (y ∷ ys) ts same count spread turned taken = let no : ⊥ = omega arith in absurd no
+spread_on v share gap ps (x ∷ xs) (y ∷ ys) [] same count spread turned taken = let no : ⊥ = omega arith in absurd no
+spread_on v share gap ps (x ∷ xs) (y ∷ ys) (t ∷ ts) same count spread turned taken =
+    let more = spread_on v share gap (after_steps share ps) xs ys ts (let w : length ys ≡ length xs = omega arith in w)
+    (let w : length ts ≡ length ys = omega arith in w) spread.1
+    (λ i d there. turned (suc i) d (let w : suc i < suc (length xs) = omega arith in w))
+    (λ i d e there. taken (suc i) d e (let w : suc i < suc (length ys) = omega arith in w)) in
     let turn : share + (share + gap) ≡ (share + gap) + share = omega arith in
     let next : after_steps (share + gap) (after_steps share ps) ≡ after_steps share (after_steps (share + gap) ps) =
     sym (steps_add share (share + gap) ps) ∙ ap (λ (n : ℕ). after_steps n ps) turn ∙ steps_add (share + gap) share ps in (
-      first_on v share gap ps x y y.text spread.0 there.0 (turned 0 x (let w : 0 < suc (length xs) = omega arith in w)),
+      first_on v share gap ps x y t spread.0 (turned 0 x (let w : 0 < suc (length xs) = omega arith in w)) (taken 0 y t (let w : 0 < suc (length ys) = omega arith in w)),
       subst (λ (q : List Piece). AreSpread share q ys) next more,
     )
+
+-- scribes that stand where others stood are spread as they were
+pub spread_still : (share : ℕ) (ps : List Piece) (ys zs : List Scribed) → length zs ≡ length ys → AreSpread share ps ys → AreStill ys zs → AreSpread share ps zs
+spread_still share ps ys [] same spread still = tt
+spread_still share ps [] (z ∷ zs) same spread still = let no : ⊥ = omega arith in absurd no
+spread_still share ps (y ∷ ys) (z ∷ zs) same spread still = (
+  still 0 y (let w : 0 < suc (length ys) = omega arith in w) ∙ spread.0,
+  spread_still share (after_steps share ps) ys zs (let w : length zs ≡ length ys = omega arith in w) spread.1
+      (λ i d there. still (suc i) d (let w : suc i < suc (length ys) = omega arith in w)),
+)
 
 pub turned : (v : Version) (share gap : ℕ) (old mid new : Scribed) → IfSome mid.text (λ t. AreWritten v share old.pending mid.pending t)
     → new.pending ≡ after_steps gap mid.pending → new.text ≡ mid.text → HasTurned v share gap old new
@@ -126,10 +136,8 @@ turned v share gap old mid new made come same =
 
 -- ---- Handing texts over
 
-pub texts_from : (xs : List Scribed) (i : ℕ) (d : Scribed) (t : List ℕ) → i < length xs → (get_or xs i d).text ≡ Some t
-    → texts_of (drop i xs) ≡ t ++ texts_of (drop (i + 1) xs)
-texts_from xs i d t there e =
-    ap texts_of (drop_more xs i d there) ∙ ap (λ (o : Option (List ℕ)). before_text o (texts_of (drop (i + 1) xs))) e
+pub texts_from : (ts : List (List ℕ)) (i : ℕ) (d t : List ℕ) → i < length ts → get_or ts i d ≡ t → joined (drop i ts) ≡ t ++ joined (drop (i + 1) ts)
+texts_from ts i d t there e = ap joined (drop_more ts i d there) ∙ ap (λ (x : List ℕ). x ++ joined (drop (i + 1) ts)) e
 
 -- ---- All rounds
 

@@ -1,5 +1,5 @@
 -- Scribes that stand one behind the other, and what they do in a turn.
-use Rattle.std.specs.Prelude.{◌≡◌, ℕ, List, [], ◌∷◌, ◌++◌, Option, Some, None, IfSome, IsSome}
+use Rattle.std.specs.Prelude.{◌≡◌, ℕ, ◌<◌, List, [], ◌∷◌, ◌++◌, length, get_or, Some, IfSome}
 use Rattle.pv_tree.specs.Pieces.{Piece}
 use Rattle.pv_file.specs.declared.version.Version.{Version}
 use Rattle.pv_file.specs.Walks.{pending_text, after_steps}
@@ -16,16 +16,15 @@ HasTurned v share gap old new =
     IfSome new.text (λ t. (pending_text v old.pending ≡ t ++ pending_text v (after_steps share old.pending))
     × (new.pending ≡ after_steps gap (after_steps share old.pending)))
 
-abbrev pub before_text : Option (List ℕ) → List ℕ → List ℕ
-before_text None text = []
-before_text (Some t) text = t ++ text
+-- the texts are those that the scribes made
+abbrev pub AreTaken : List Scribed → List (List ℕ) → Type 0
+AreTaken scribes texts = (i : ℕ) (d : Scribed) (t : List ℕ) → i < length scribes → (get_or scribes i d).text ≡ Some (get_or texts i t)
 
--- the texts of scribes, as far as none is missing
-abbrev pub texts_of : List Scribed → List ℕ
-texts_of [] = []
-texts_of (scribe ∷ scribes) = before_text scribe.text (texts_of scribes)
+-- each scribe stands where it stood
+abbrev pub AreStill : List Scribed → List Scribed → Type 0
+AreStill old new = (i : ℕ) (d : Scribed) → i < length old → (get_or new i d).pending ≡ (get_or old i d).pending
 
--- none is missing
-abbrev pub HaveTexts : List Scribed → Type 0
-HaveTexts [] = Unit {0}
-HaveTexts (scribe ∷ scribes) = IsSome scribe.text × HaveTexts scribes
+-- the texts, one after the other
+abbrev pub joined : List (List ℕ) → List ℕ
+joined [] = []
+joined (text ∷ texts) = text ++ joined texts

@@ -5,6 +5,7 @@ mod rounds;
 mod spread;
 #[cfg(test)]
 mod tests;
+mod texts;
 mod writer;
 
 pub use writer::{write_by, write_lines_by};

@@ -1,26 +1,31 @@
 //! A paving's lines, in rounds.
-ghost use Rattle.std.specs.Prelude.{◌≡◌, ◌+◌, ◌*◌, ◌<◌, ◌≤◌, ◌^◌, OnOk, OnErr, IsErrOf, length, [], ◌∷◌};
+ghost use Rattle.std.specs.Prelude.{◌≡◌, ℕ, ◌+◌, ◌*◌, ◌<◌, ◌≤◌, ◌^◌, OnOk, OnErr, IsErrOf, length, get_or, [], ◌∷◌};
 ghost use Rattle.pv_io.specs.Outside.{Rose, appended, AppendsFront};
 ghost use Rattle.pv_tree.specs.Pieces.{root_piece, all_nodes};
 ghost use Rattle.pv_file.specs.Lines.{lines_of};
-ghost use Rattle.pv_lines.specs.Turns.{AreSpread};
+ghost use Rattle.pv_file.specs.Scribes.{Scribed};
+ghost use Rattle.pv_lines.specs.Turns.{AreSpread, HasTurned, joined};
 ghost use Rattle.pv_tree.specs.declared.limit.TheConstants.{MOST_WORKERS};
 
-use crate::spread::{hand_from, spread, turn_all};
+use crate::spread::{spread, turn_all};
+use crate::texts::{Text, hand_from, no_texts, take_texts};
 use pv_file::{Scribe, Version};
 use pv_io::{FileWriteRefused, Sink};
 use pv_tree::Paving;
 use std::alloc::Global;
-use std::thread::Threads;
+use std::thread::{Threads, join_mut};
 
 // The lines of at most some more nodes are held at once.
-const MOST_HELD: u64 = 16_384;
+const MOST_HELD: u64 = 65_536;
 
 /// A scribe takes at most so many nodes at a turn.
-pub const MOST_SHARE: u64 = 20_000;
+pub const MOST_SHARE: u64 = 70_000;
 
 /// The others take at most so many nodes between two turns of a scribe.
-pub const MOST_GAP: u64 = 300_000;
+pub const MOST_GAP: u64 = 1_050_000;
+
+// Each scribe passes the nodes of all others, so that with more of them more is passed than made.
+const MOST_SCRIBES: u32 = 8;
 
 /// Hands the lines of all nodes to a sink, made by `workers` workers.
 pub(crate) fn write_nodes<K: Sink, R: Threads + Sync>(
@@ -44,9 +49,20 @@ pub(crate) fn write_nodes<K: Sink, R: Threads + Sync>(
     ensures counts_on { K.faults sink.old ≤ K.faults sink.new }
 {
     let nodes = nodes_of(p);
-    let share = share_of(nodes, workers);
-    let mut scribes = spread(alloc, p, workers, share)?;
-    write_rounds(rt, p, version, nodes, share, scribes.as_mut_slice(), sink)
+    let count = workers.min(MOST_SCRIBES);
+    let share = share_of(nodes, count);
+    let mut scribes = spread(alloc, p, count, share)?;
+    let mut texts = no_texts(alloc, count)?;
+    write_rounds(
+        rt,
+        p,
+        version,
+        nodes,
+        share,
+        scribes.as_mut_slice(),
+        texts.as_mut_slice(),
+        sink,
+    )
 }
 
 /// How many nodes a paving has.
@@ -78,6 +94,7 @@ pub(crate) fn write_rounds<K: Sink, R: Threads + Sync>(
     nodes: u64,
     share: u64,
     scribes: &mut [Scribe<'_>],
+    texts: &mut [Text],
     sink: &mut K,
 ) -> Result<(), FileWriteRefused>
     requires nodes { nodes ≡ all_nodes p.now.tree }
@@ -86,6 +103,7 @@ pub(crate) fn write_rounds<K: Sink, R: Threads + Sync>(
     requires small { share ≤ MOST_SHARE }
     requires some { 0 < length scribes.old }
     requires few { length scribes.old ≤ MOST_WORKERS }
+    requires texts { length texts.old ≡ length scribes.old }
     requires spread { AreSpread share (root_piece p.now.root p.now.tree ∷ []) scribes.old }
     ensures whole { OnOk result
         (K.written sink.new
@@ -98,13 +116,48 @@ pub(crate) fn write_rounds<K: Sink, R: Threads + Sync>(
     ensures counts_on { K.faults sink.old ≤ K.faults sink.new }
 {
     let gap = gap_of(share, scribes.len());
+    turn_all(rt, version, share, gap, scribes);
     let mut at = 0;
     while at < nodes {
-        turn_all(rt, version, share, gap, scribes);
-        hand_from(scribes, 0, sink)?;
+        take_texts(scribes, texts)?;
+        turn_and_hand(rt, version, share, gap, scribes, texts, sink)?;
         at += share + gap;
     }
     Ok(())
+}
+
+// While the scribes take a turn, this thread hands over what they made at the one before.
+fn turn_and_hand<K: Sink, R: Threads + Sync>(
+    rt: &R,
+    version: Version,
+    share: u64,
+    gap: u64,
+    scribes: &mut [Scribe<'_>],
+    texts: &[Text],
+    sink: &mut K,
+) -> Result<(), FileWriteRefused>
+    requires some { 0 < length scribes.old }
+    ensures count { length scribes.new ≡ length scribes.old }
+    ensures turned { (i : ℕ) (d : Scribed) → i < length scribes.old →
+        HasTurned version share gap (get_or scribes.old i d) (get_or scribes.new i d) }
+    ensures whole { OnOk result
+        (K.written sink.new ≡ appended (K.written sink.old) (joined texts.now)) }
+    ensures front { OnErr result
+        (AppendsFront (K.written sink.old) (K.written sink.new) (joined texts.now)) }
+    ensures cause { IsErrOf result FileWriteRefused.WriteFailed
+        → Rose (K.faults sink.old) (K.faults sink.new) }
+    ensures counts_on { K.faults sink.old ≤ K.faults sink.new }
+{
+    let mut turn = ||
+        requires { 0 < length scribes.now }
+        ensures count { length scribes.exit.now ≡ length scribes.entry.now }
+        ensures turned { (i : ℕ) (d : Scribed) → i < length scribes.entry.now →
+            HasTurned version share gap (get_or scribes.entry.now i d)
+            (get_or scribes.exit.now i d) }
+    { turn_all(rt, version, share, gap, scribes) };
+    let mut hand = || hand_from(texts, 0, sink);
+    let (_, handed) = join_mut(rt, &mut turn, &mut hand);
+    handed
 }
 
 // How many nodes the others take.

@@ -1,14 +1,12 @@
 //! Scribes that stand one after the other, and their turns.
-ghost use Rattle.std.specs.Prelude.{◌≡◌, ℕ, ◌+◌, ◌-◌, ◌<◌, ◌≤◌, [], ◌∷◌, IfOk, length, get_or, vec_len, drop, OnOk, OnErr, IsErrOf};
-ghost use Rattle.pv_io.specs.Outside.{Rose, appended, AppendsFront};
+ghost use Rattle.std.specs.Prelude.{◌≡◌, ℕ, ◌<◌, ◌≤◌, [], ◌∷◌, IfOk, length, get_or, vec_len};
 ghost use Rattle.pv_tree.specs.Pieces.{root_piece};
 ghost use Rattle.pv_file.specs.Scribes.{Scribed};
-ghost use Rattle.pv_lines.specs.Turns.{AreSpread, HasTurned, HaveTexts, texts_of};
+ghost use Rattle.pv_lines.specs.Turns.{AreSpread, HasTurned};
 ghost use Rattle.pv_lines.specs.declared.rounds.TheConstants.{MOST_SHARE};
 ghost use Rattle.pv_tree.specs.declared.limit.TheConstants.{MOST_WORKERS};
 
 use pv_file::{Scribe, Version};
-use pv_io::{FileWriteRefused, Sink, hand_over};
 use pv_num::Memory;
 use pv_tree::Paving;
 use std::alloc::Global;
@@ -65,28 +63,4 @@ fn turn(version: Version, share: u64, gap: u64, scribe: &mut Scribe<'_>)
 {
     scribe.make(version, share);
     scribe.pass(gap);
-}
-
-/// Hands the texts of the scribes from the i-th on to a sink.
-pub(crate) fn hand_from<K: Sink>(
-    scribes: &[Scribe<'_>],
-    i: usize,
-    sink: &mut K,
-) -> Result<(), FileWriteRefused>
-    requires { i ≤ length scribes.now }
-    ensures whole { OnOk result
-        (K.written sink.new ≡ appended (K.written sink.old) (texts_of (drop i scribes.now))) }
-    ensures texts { OnOk result (HaveTexts (drop i scribes.now)) }
-    ensures front { OnErr result
-        (AppendsFront (K.written sink.old) (K.written sink.new) (texts_of (drop i scribes.now))) }
-    ensures cause { IsErrOf result FileWriteRefused.WriteFailed
-        → Rose (K.faults sink.old) (K.faults sink.new) }
-    ensures counts_on { K.faults sink.old ≤ K.faults sink.new }
-{
-    if i == scribes.len() {
-        return Ok(());
-    }
-    let text = scribes[i].text()?;
-    hand_over(text, sink)?;
-    hand_from(scribes, i + 1, sink)
 }

@@ -7,7 +7,7 @@ abbrev pub invariant-loop-worker : goal.invariant-loop-worker
 invariant-loop-worker l = record {
   count : length l.scribes.items ≡ l._worker;
   room : l.fn.workers ≤ vec_capacity l.scribes;
-  small : l.behind ≤ 20000 * l._worker;
+  small : l.behind ≤ 70000 * l._worker;
   behind : l.behind ≡ l.fn.share * length l.scribes.items;
   spread : AreSpread l.fn.share (root_piece l.fn.p.root l.fn.p.tree ∷ []) l.scribes.items;
 }
