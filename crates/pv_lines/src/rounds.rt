@@ -24,8 +24,17 @@ pub const MOST_SHARE: u64 = 70_000;
 /// The others take at most so many nodes between two turns of a scribe.
 pub const MOST_GAP: u64 = 1_050_000;
 
+// A few rounds more than that are made of at least so many nodes: where the scribes begin is found by
+// one thread, and lies a share further for each.
+const LEAST_ROUND: u64 = 8_192;
+
+const MORE_ROUNDS: u64 = 5;
+
 // Each scribe passes the nodes of all others, so that with more of them more is passed than made.
-const MOST_SCRIBES: u32 = 8;
+const MOST_SCRIBES: u64 = 8;
+
+// A scribe for fewer nodes is not worth its thread.
+const LEAST_NODES: u64 = 1_000;
 
 /// Hands the lines of all nodes to a sink, made by `workers` workers.
 pub(crate) fn write_nodes<K: Sink, R: Threads + Sync>(
@@ -49,7 +58,7 @@ pub(crate) fn write_nodes<K: Sink, R: Threads + Sync>(
     ensures counts_on { K.faults sink.old ≤ K.faults sink.new }
 {
     let nodes = nodes_of(p);
-    let count = workers.min(MOST_SCRIBES);
+    let count = scribes_for(nodes, workers);
     let share = share_of(nodes, count);
     let mut scribes = spread(alloc, p, count, share)?;
     let mut texts = no_texts(alloc, count)?;
@@ -74,6 +83,17 @@ pub(crate) fn nodes_of(p: &Paving) -> u64
     counts.settled() + counts.open_leaves
 }
 
+// How many scribes make the lines of so many nodes.
+fn scribes_for(nodes: u64, workers: u32) -> u32
+    requires one { 1 ≤ workers }
+    requires few { workers ≤ MOST_WORKERS }
+    ensures one { 1 ≤ result }
+    ensures few { result ≤ MOST_WORKERS }
+{
+    let worth = (nodes / LEAST_NODES).clamp(1, MOST_SCRIBES) as u32;
+    workers.min(worth)
+}
+
 // How many nodes a scribe takes at a turn: as many in each round.
 fn share_of(nodes: u64, workers: u32) -> u64
     requires fits { nodes < 2 ^ 63 }
@@ -82,7 +102,7 @@ fn share_of(nodes: u64, workers: u32) -> u64
     ensures some { 1 ≤ result }
     ensures small { result ≤ MOST_SHARE }
 {
-    let rounds = nodes / MOST_HELD + 1;
+    let rounds = nodes / MOST_HELD + (nodes / LEAST_ROUND).min(MORE_ROUNDS) + 1;
     MOST_HELD.min(nodes / (rounds * u64::from(workers))) + 1
 }
 

@@ -99,7 +99,7 @@ fn lines_in_shares<K: Sink, R: Threads + Sync>(
 fn shares_that_divide_the_nodes_and_others(rt: HostRuntime) -> Result<(), Fail> {
     let alloc = rt.alloc();
     let p = paving(alloc)?;
-    for (scribes, share) in [(1u32, 1u64), (2, 1), (2, 3), (3, 2), (4, 7), (7, 1)] {
+    for (scribes, share) in [(1u32, 1u64), (2, 1), (2, 3), (3, 2), (4, 7), (16, 1)] {
         let mut sink = PlainSink::new(alloc);
         lines_in_shares(&rt, alloc, &p, scribes, share, &mut sink)?;
         assert_eq!(rt; sink.bytes(), ONE.as_bytes(), "{scribes} {share}");

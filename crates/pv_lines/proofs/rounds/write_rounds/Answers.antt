@@ -54,7 +54,7 @@ loop-at-preserved g c =
     let count : length ts ≡ length ys = c.in_ok-take_texts.ensures.texts ∙ so_far.texts ∙ sym so_far.count in
     let far : share * length ys ≡ share + gap = ap (λ n. share * n) so_far.count ∙ sym c.gap_of-gap.ensures.is in
     let whole : pending_text c.args.version now ≡ joined ts ++ pending_text c.args.version (after_steps (share + gap) now) =
-    round_whole c.args.version share gap now so_far.before ys ts so_far.same count far so_far.spread so_far.turned c.in_ok-take_texts.ensures.taken in 
+    round_whole c.args.version share gap now so_far.before ys ts so_far.same count far so_far.spread so_far.turned c.in_ok-take_texts.ensures.taken in
     let zs = c.take_texts.new.scribes in record {
       count = c.in_ok-turn_and_hand.ensures.count ∙ c.in_ok-take_texts.ensures.scribes ∙ so_far.count;
       texts = count ∙ so_far.count;
