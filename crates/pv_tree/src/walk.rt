@@ -8,7 +8,7 @@ use crate::cell::Node;
 use crate::outcome::Shape;
 use crate::path::{MOST_LEVELS, Path};
 use crate::paving::Paving;
-use crate::stop::{Stop, push_kids, write_stop_box};
+use crate::stop::{Stop, copy_stops, push_kids, write_stop_box};
 use pv_box::IBox;
 use pv_interval::Interval;
 use pv_num::Memory;
@@ -57,6 +57,17 @@ impl<'a> Walk<'a> {
             here: Stop::ROOT,
             stops,
         })
+    }
+
+    /// Goes to where another walk stands, over its paving. Takes no memory.
+    pub fn go_to(&mut self, other: &Walk<'a>)
+        ensures { self.new ≡ other.now }
+    {
+        copy_stops(&other.stops, &mut self.stops);
+        self.root = other.root;
+        self.ends = other.ends;
+        self.nodes = other.nodes;
+        self.here = other.here;
     }
 
     /// Goes to the next node in preorder and answers its shape. None exactly where the walk is
