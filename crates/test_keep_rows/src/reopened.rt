@@ -3,12 +3,13 @@
 ghost use Rattle.std.specs.Prelude.{IsTrue, IfOk};
 ghost use Rattle.sqlite_disk.specs.Memory.{memory_is_usable};
 
-use crate::calling::{ALL, campaign, rows};
+use crate::calling::{campaign, rows};
 use pv_keep_sql::ConnectionKeeper;
 use sqlite::{Alter, Connection, Error, FileStore, Files, Options};
 use sqlite_disk::Memory;
 use std::alloc::Global;
 use std::test::Fail;
+use test_calls::texts::ALL_ROWS;
 
 fn open(alloc: Global, files: Files<Memory>) -> Result<Connection<FileStore<Memory>>, Fail>
     requires log { IsTrue (memory_is_usable files.log) }
@@ -57,7 +58,7 @@ fn a_campaign_goes_on_in_files_that_were_closed(rt: HostRuntime) -> Result<(), F
     assert_eq!(rt; second.status, 0);
     let wanted = "settled 5 cut 2 removed 0 inner 2 small 1 open 0\n";
     assert_eq!(rt; second.out.bytes(), wanted.as_bytes());
-    assert_eq!(rt; rows(alloc, &mut keeper)?.as_slice(), ALL.as_bytes());
+    assert_eq!(rt; rows(alloc, &mut keeper)?.as_slice(), ALL_ROWS.as_bytes());
     Ok(())
 }
 

@@ -1,13 +1,9 @@
 //! Worked examples of settling by centered forms: one box where intervals of the sides need many,
 //! and files that neither form takes from the other.
-use crate::steps::Comes::{Prints, Stores, Tells};
-use crate::steps::{Step, USAGE, follow};
 use std::test::Fail;
-
-pub(crate) const LESS: &str = "Variables x in [0,1]; Constraints x - x <= 0; end\n";
-
-pub(crate) const SPLIT: &str =
-    "paving 2\nidentity df1247b5236ce368755210df1ac0081883e161d27a2b9072d6f4c9ac7c963f0a\nC 0 1:-1 = =\nO\nO\n";
+use test_calls::Comes::{Prints, Stores, Tells};
+use test_calls::texts::{INNER, INNER_NODE, LESS, REMOVED_NODE, SOLID, SPLIT};
+use test_calls::{Step, USAGE, follow};
 
 const FILES: [(&str, &str); 4] = [
     ("less", LESS),
@@ -22,25 +18,16 @@ const FILES: [(&str, &str); 4] = [
     ("open", SPLIT),
 ];
 
-pub(crate) const WHOLE: &str =
-    "paving 2\nidentity df1247b5236ce368755210df1ac0081883e161d27a2b9072d6f4c9ac7c963f0a\nI = =\n";
-
-pub(crate) const INNER: &str = "settled 1 cut 0 removed 0 inner 1 small 0 open 0\n";
-
-pub(crate) const INNER_NODE: &str = "settled 1 cut 0 removed 0 inner 1 small 0 open 0\nI 0:0 1:0\n";
-
-pub(crate) const REMOVED_NODE: &str = "settled 1 cut 0 removed 1 inner 0 small 0 open 0\nX\n";
-
 const STEPS: [Step; 14] = [
     ("run-centered less --workers 1", Prints(0, INNER_NODE)),
     ("run-centered less --workers 8", Prints(0, INNER_NODE)),
     (
         "run-centered less --workers 1 --out p",
-        Stores(0, INNER, "p", WHOLE),
+        Stores(0, INNER, "p", SOLID),
     ),
     (
         "run-centered less --workers 8 --out q",
-        Stores(0, INNER, "q", WHOLE),
+        Stores(0, INNER, "q", SOLID),
     ),
     ("audit-centered less p", Prints(0, "honest\n")),
     ("audit less p", Tells(4, "paving p: wrong identity\n")),
@@ -90,7 +77,7 @@ const HALVES: &str =
 const FORMS: [Step; 13] = [
     (
         "run less --form centered --out p",
-        Stores(0, INNER, "p", WHOLE),
+        Stores(0, INNER, "p", SOLID),
     ),
     ("run less --form=centered", Prints(0, INNER_NODE)),
     ("resume less open --form centered", Prints(0, HALVES)),
@@ -141,7 +128,7 @@ const FAULTS: [Step; 3] = [
     ("run-centered less --out m", Tells(6, "write fault: m\n")),
     (
         "run-centered less --out m --boxes 1",
-        Stores(0, INNER, "m", WHOLE),
+        Stores(0, INNER, "m", SOLID),
     ),
 ];
 

@@ -1,12 +1,12 @@
 //! Paving files that are damaged or too large, as commands meet them.
-use crate::calling::{Answer, NONE, call, lacks, shelf};
-use crate::files::{SYSTEM, WHOLE, WHOLE_1};
 use pv_io::{Folder, MemFolder};
 use std::alloc::Global;
 use std::process::Abort;
 use std::sync::Wait;
 use std::test::Fail;
 use std::thread::Threads;
+use test_calls::texts::{SYSTEM, WHOLE, WHOLE_1};
+use test_calls::{Answer, NONE, call, lacks, shelf};
 
 // A call over the system and these files, and the folder behind it.
 fn call_over<R: Threads + Wait + Sync>(

@@ -1,85 +1,13 @@
 //! Worked examples of paving files: runs that are stored, gone on with, joined and audited.
-use crate::centered::{LESS, SPLIT, WHOLE as SOLID};
-use crate::steps::Comes::{Prints, Stores, Tells};
-use crate::steps::{Step, follow};
-use crate::table::HALF_LINE;
 use std::test::Fail;
-
-pub(crate) const SYSTEM: &str = "Variables x in [0,1]; Constraints 1/x >= 0; end\n";
-
-pub(crate) const WHOLE: &str =
-    "paving 2\nidentity be80eb05bcbc91b70b7ad422c002b378eff58622ab1c9a053f3fcbdf6852f81a\nC 0 1:-1 = =\nC 0 1:-2 = =\nS = =\nI = =\nI = =\n";
-
-pub(crate) const WHOLE_1: &str =
-    "paving 1\nidentity be80eb05bcbc91b70b7ad422c002b378eff58622ab1c9a053f3fcbdf6852f81a\nC 0 1:-1 0:0 1:0\nC 0 1:-2 0:0 1:-1\nS 0:0 1:-2\nI 1:-2 1:-1\nI 1:-1 1:0\n";
-
-pub(crate) const PART: &str =
-    "paving 2\nidentity be80eb05bcbc91b70b7ad422c002b378eff58622ab1c9a053f3fcbdf6852f81a\nC 0 1:-1 = =\nO\nO\n";
-
-const FILE_A: &str =
-    "paving 1\nidentity be80eb05bcbc91b70b7ad422c002b378eff58622ab1c9a053f3fcbdf6852f81a\nC 0 1:-1 0:0 1:0\nC 0 1:-2 0:0 1:-1\nO\nO\nI 1:-1 1:0\n";
+use test_calls::Comes::{Prints, Stores, Tells};
+use test_calls::texts::{FILES, HALF_LINE, ONE_SETTLED, SUMMARY, SYSTEM, WHOLE};
+use test_calls::{Step, follow};
 
 const FILE_A_2: &str =
     "paving 2\nidentity be80eb05bcbc91b70b7ad422c002b378eff58622ab1c9a053f3fcbdf6852f81a\nC 0 1:-1 = =\nC 0 1:-2 = =\nO\nO\nI = =\n";
 
-const FILE_B: &str =
-    "paving 1\nidentity be80eb05bcbc91b70b7ad422c002b378eff58622ab1c9a053f3fcbdf6852f81a\nC 0 1:-1 0:0 1:0\nC 0 1:-2 0:0 1:-1\nS 0:0 1:-2\nI 1:-2 1:-1\nO\n";
-
-const FILE_F: &str =
-    "paving 1\nidentity be80eb05bcbc91b70b7ad422c002b378eff58622ab1c9a053f3fcbdf6852f81a\nC 0 1:-1 0:0 1:0\nI 0:0 1:-1\nO\n";
-
-const FILE_G: &str =
-    "paving 1\nidentity be80eb05bcbc91b70b7ad422c002b378eff58622ab1c9a053f3fcbdf6852f81a\nC 0 1:-1 0:0 1:0\nO\nS 1:-1 1:0\n";
-
-const ONE_LINE_MORE: &str =
-    "paving 1\nidentity be80eb05bcbc91b70b7ad422c002b378eff58622ab1c9a053f3fcbdf6852f81a\nC 0 1:-1 0:0 1:0\nC 0 1:-2 0:0 1:-1\nS 0:0 1:-2\nI 1:-2 1:-1\nI 1:-1 1:0\nO\n";
-
-const OTHER_SPELLING: &str =
-    "paving 1\nidentity be80eb05bcbc91b70b7ad422c002b378eff58622ab1c9a053f3fcbdf6852f81a\nC 0 2:-2 0:0 1:0\nO\nO\n";
-
-const CUT_AT_AN_END: &str =
-    "paving 1\nidentity be80eb05bcbc91b70b7ad422c002b378eff58622ab1c9a053f3fcbdf6852f81a\nC 0 1:0 0:0 1:0\nO\nO\n";
-
-const CUT_OFF: &str =
-    "paving 2\nidentity be80eb05bcbc91b70b7ad422c002b378eff58622ab1c9a053f3fcbdf6852f81a\nC 0 1:-1 = =\nC 0 1:-2 = =\nS =";
-
-pub(crate) const ONE_SETTLED: &str = "settled 1 cut 1 removed 0 inner 0 small 0 open 2\n";
-
-pub(crate) const SUMMARY: &str = "settled 5 cut 2 removed 0 inner 2 small 1 open 0\n";
-
-pub(crate) const PART_NODES: &str =
-    "settled 1 cut 1 removed 0 inner 0 small 0 open 2\nC 0 1:-1 0:0 1:0\nO\nO\n";
-
-pub(crate) const NODES: &str =
-    "settled 5 cut 2 removed 0 inner 2 small 1 open 0\nC 0 1:-1 0:0 1:0\nC 0 1:-2 0:0 1:-1\nS 0:0 1:-2\nI 1:-2 1:-1\nI 1:-1 1:0\n";
-
 const SYSTEMS: [(&str, &str); 2] = [("s", SYSTEM), ("half", HALF_LINE)];
-
-pub(crate) const SQUARE: &str = "Variables x in [0,2], y in [0,2]; Constraints x <= 1; end\n";
-
-const LEFT: &str =
-    "paving 2\nidentity b0b09d61d9bebc71e63ae8395df214f28293e9685df30a870190c3bf95a2a52b\nI = 1:0 = =\n";
-
-pub(crate) const FILES: [(&str, &str); 18] = [
-    ("s", SYSTEM),
-    ("A", FILE_A),
-    ("B", FILE_B),
-    ("F", FILE_F),
-    ("G", FILE_G),
-    ("old", WHOLE_1),
-    ("more", ONE_LINE_MORE),
-    ("spelled", OTHER_SPELLING),
-    ("end", CUT_AT_AN_END),
-    ("b", CUT_OFF),
-    ("whole", WHOLE),
-    ("part", PART),
-    ("plus", "Variables x in [0,4]; Constraints x + <= 1; end\n"),
-    ("square", SQUARE),
-    ("left", LEFT),
-    ("less", LESS),
-    ("solid", SOLID),
-    ("open", SPLIT),
-];
 
 const RUNS: [Step; 10] = [
     (

@@ -1,10 +1,10 @@
 //! The worked examples of `least`: the words, the system and what comes of them.
-use crate::files::SYSTEM;
-use crate::steps::Comes::{Prints, Tells};
-use crate::steps::USAGE;
-use crate::table::{HALF_LINE, Row};
+use crate::table::Row;
 use crate::tests::check;
 use std::test::Fail;
+use test_calls::Comes::{Prints, Tells};
+use test_calls::USAGE;
+use test_calls::texts::{HALF_LINE, SYSTEM};
 
 const VALUES: [Row; 9] = [
     (

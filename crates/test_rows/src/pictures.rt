@@ -1,13 +1,8 @@
 //! Worked examples of pictures: what is drawn of stored runs, and what is refused in which order.
-use crate::centered::INNER;
-use crate::files::{SQUARE, SYSTEM, WHOLE};
-use crate::steps::Comes::{Prints, Tells};
-use crate::steps::{Step, USAGE, follow};
 use std::test::Fail;
-
-/// The left half of a square is inner.
-pub(crate) const HALF: &str =
-    "<svg xmlns=\"http://www.w3.org/2000/svg\" width=\"1000\" height=\"1000\" viewBox=\"0 0 1000 1000\">\n<rect x=\"0\" y=\"0\" width=\"1000\" height=\"1000\" fill=\"#cfd8dc\"/>\n<rect x=\"0\" y=\"0\" width=\"500\" height=\"1000\" fill=\"#43a047\"/>\n</svg>\n";
+use test_calls::Comes::{Prints, Tells};
+use test_calls::texts::{HALF, INNER, SQUARE, SYSTEM, WHOLE};
+use test_calls::{Step, USAGE, follow};
 
 const FILES: [(&str, &str); 8] = [
     ("s", SYSTEM),

@@ -1,10 +1,8 @@
 //! Samples. What is expected was worked out by the slow paver of tests/reference.
-use crate::steps::Comes::{Prints, Tells};
-use crate::steps::{USAGE, follow};
 use std::test::Fail;
-
-pub(crate) const TWO: &str =
-    "sample seed 1 count 2\nsettled 911 cut 455 removed 0 inner 256 small 200 open 0\nfile 11574911400edcb97140b9fc03ea80550a174694c79188ec132007be53af8654\n";
+use test_calls::Comes::{Prints, Tells};
+use test_calls::texts::SAMPLE_OF_TWO;
+use test_calls::{USAGE, follow};
 
 const ONE: &str =
     "sample seed 7 count 1\nsettled 509 cut 254 removed 0 inner 151 small 104 open 0\nfile 7807cc89e9b371c8ab0a4fbeb5b17170958f606d7e4e4ff6309d2b3b2923bb79\n";
@@ -15,8 +13,8 @@ const SIXTEEN: &str =
 #[test]
 fn samples(rt: HostRuntime) -> Result<(), Fail> {
     let steps = [
-        ("sample --seed 1 --count 2", Prints(0, TWO)),
-        ("sample --count=2 --seed=1", Prints(0, TWO)),
+        ("sample --seed 1 --count 2", Prints(0, SAMPLE_OF_TWO)),
+        ("sample --count=2 --seed=1", Prints(0, SAMPLE_OF_TWO)),
         ("sample --seed 7 --count 1", Prints(0, ONE)),
         ("sample --seed 007 --count 1", Prints(0, ONE)),
         ("sample --seed 7 --count 16", Prints(0, SIXTEEN)),

@@ -1,14 +1,11 @@
 //! The worked examples: the words behind the program's name, the text of the system `s`, and what
 //! comes of them.
-use crate::centered::{INNER_NODE, REMOVED_NODE};
-use crate::files::{NODES, PART_NODES, SYSTEM};
-use crate::steps::Comes::{self, Prints, Tells};
-use crate::steps::USAGE;
+use test_calls::Comes::{self, Prints, Tells};
+use test_calls::USAGE;
+use test_calls::texts::{HALF_LINE, INNER_NODE, NODES, PART_NODES, REMOVED_NODE, SYSTEM};
 
 /// The words, the text of the system, and what comes of them.
 pub(crate) type Row = (&'static str, &'static str, Comes);
-
-pub(crate) const HALF_LINE: &str = "Variables x in [0,4]; Constraints x <= 1; end\n";
 
 pub(crate) const FORMS: [Row; 6] = [
     ("run s", HALF_LINE, Prints(0, INNER_NODE)),

@@ -1,12 +1,12 @@
 //! The worked examples over one system, what the outside does to a run, and a run by several.
-use crate::calling::{Answer, Fails, NONE, call, shelf};
-use crate::steps::came_to;
-use crate::table::{FORMS, HALF_LINE, REFUSED, Row, WORK};
+use crate::table::{FORMS, REFUSED, Row, WORK};
 use std::alloc::Global;
 use std::process::Abort;
 use std::sync::Wait;
 use std::test::Fail;
 use std::thread::Threads;
+use test_calls::texts::{HALF_LINE, TWO_DISCS};
+use test_calls::{Answer, Fails, NONE, call, came_to, shelf};
 
 // What the words come to over the system `s`.
 fn over<R: Threads + Wait + Sync>(
@@ -99,9 +99,6 @@ fn a_text_that_is_too_long(rt: HostRuntime) -> Result<(), Fail> {
     assert_eq!(rt; answer.err.bytes(), line.as_slice());
     Ok(())
 }
-
-pub(crate) const TWO_DISCS: &str =
-    "/* two discs and a line */\nConstants\n  r = 2.1;\nVariables\n  x in [-4, 4], y in [-4, 4];\nConstraints\n  sqr(x - 0.5) + y^2 <= r^2;  // first disc\n  sqr(x + 0.5) + y^2 <= 4;\n  y >= 0.1 * x;\nend\n";
 
 #[test]
 fn any_number_of_workers_prints_the_same(rt: HostRuntime) -> Result<(), Fail> {

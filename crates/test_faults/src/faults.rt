@@ -1,15 +1,14 @@
 //! Commands whose outside fails: each call of the folder, of the standard output and of the
 //! standard error in turn.
-use crate::calling::{Answer, Fails, NONE, call, holds, lacks, shelf};
 use crate::fault_cases::{CASES, Case};
-use crate::files::FILES;
-use crate::steps::{Comes, came_to, output_failed};
 use pv_io::{FetchRefused, Folder, MemFolder, Sink};
 use std::alloc::Global;
 use std::process::Abort;
 use std::sync::Wait;
 use std::test::Fail;
 use std::thread::Threads;
+use test_calls::texts::FILES;
+use test_calls::{Answer, Comes, Fails, NONE, call, came_to, holds, lacks, output_failed, shelf};
 
 // No command writes so often.
 const MOST_WRITES: u64 = 100;

@@ -1,16 +1,15 @@
 //! Campaigns whose outside fails: each call of the keeper, of the folder and of both streams in
 //! turn, and which rows are kept then.
-use crate::calling::{Answer, Fails, NONE, call_keeping, shelf};
-use crate::campaigns::{ALL, ROOT, THREE, TWO, are_kept};
-use crate::files::{FILES, ONE_SETTLED, SUMMARY};
-use crate::steps::Comes::{self, Prints};
-use crate::steps::{came_to, output_failed};
+use crate::campaigns::{ROOT, THREE, TWO, are_kept};
 use pv_keep::{BeginRefused, Keeper, MemKeeper};
 use std::alloc::Global;
 use std::process::Abort;
 use std::sync::Wait;
 use std::test::Fail;
 use std::thread::Threads;
+use test_calls::Comes::{self, Prints};
+use test_calls::texts::{ALL_ROWS, FILES, ONE_SETTLED, SUMMARY};
+use test_calls::{Answer, Fails, NONE, call_keeping, came_to, output_failed, shelf};
 
 // A campaign with one worker: what comes of it where nothing fails, and the rows that are kept
 // where the keeper's call with a number fails.
@@ -28,13 +27,13 @@ const CASES: [Case; 4] = [
     Case {
         words: "campaign s --eps 0.25 --keep k --boxes 1 --rounds 5 --workers 1",
         comes: Prints(0, SUMMARY),
-        rows: ALL,
+        rows: ALL_ROWS,
         kept: &["none", "", "", ROOT, TWO, THREE, FOUR],
     },
     Case {
         words: "campaign s --eps 0.25 --keep k --boxes 2 --rounds 9 --workers 1",
         comes: Prints(0, SUMMARY),
-        rows: ALL,
+        rows: ALL_ROWS,
         kept: &["none", "", "", TWO, FOUR],
     },
     Case {
@@ -46,7 +45,7 @@ const CASES: [Case; 4] = [
     Case {
         words: "campaign s --eps 0.25 --keep k --workers 4",
         comes: Prints(0, SUMMARY),
-        rows: ALL,
+        rows: ALL_ROWS,
         kept: &["none", "", ""],
     },
 ];

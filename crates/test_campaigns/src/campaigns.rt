@@ -3,12 +3,7 @@
 ghost use Rattle.std.specs.Prelude.{◌≡◌};
 ghost use Rattle.pv_keep.specs.Keeping.{absent};
 
-use crate::calling::{NONE, call_keeping, shelf};
-use crate::files::{ONE_SETTLED, SUMMARY, SYSTEM};
 use crate::giving::{Giving, rows_of};
-use crate::settings::IDENTITY;
-use crate::steps::Comes::{self, Prints, Tells};
-use crate::steps::{USAGE, came_to};
 use pv_keep::{BeginRefused, Keeper, Line, MemKeeper, Row, Rows};
 use pv_tree::Path;
 use std::alloc::Global;
@@ -16,6 +11,9 @@ use std::process::Abort;
 use std::sync::Wait;
 use std::test::Fail;
 use std::thread::Threads;
+use test_calls::Comes::{self, Prints, Tells};
+use test_calls::texts::{ALL_ROWS, IDENTITY, ONE_SETTLED, SUMMARY, SYSTEM};
+use test_calls::{NONE, USAGE, call_keeping, came_to, push_rows, shelf};
 
 // The words, what comes of them, and what is kept under the name `k` then: the path and the line of
 // each row.
@@ -26,23 +24,6 @@ pub(crate) const ROOT: &str = ". C 0 1:-1 0:0 1:0\n";
 pub(crate) const TWO: &str = ". C 0 1:-1 0:0 1:0\n0 C 0 1:-2 0:0 1:-1\n";
 
 pub(crate) const THREE: &str = ". C 0 1:-1 0:0 1:0\n0 C 0 1:-2 0:0 1:-1\n00 S 0:0 1:-2\n";
-
-pub(crate) const ALL: &str =
-    ". C 0 1:-1 0:0 1:0\n0 C 0 1:-2 0:0 1:-1\n00 S 0:0 1:-2\n01 I 1:-2 1:-1\n1 I 1:-1 1:0\n";
-
-// Appends the path and the line of each row.
-fn push_rows(rows: &Rows, out: &mut Vec<u8>) -> Result<(), Fail> {
-    for i in 0..rows.len() {
-        let row = rows.get(i);
-        if row.path.write_text(out).is_err() {
-            return Err("no memory")?;
-        }
-        out.push(b' ')?;
-        out.extend_from_slice(row.line.bytes())?;
-        out.push(b'\n')?;
-    }
-    Ok(())
-}
 
 // The rows of a name, whose identity this is.
 fn loaded<P: Keeper>(
@@ -127,40 +108,40 @@ const ROUNDS: [Turn; 8] = [
     (
         "campaign s --eps 0.25 --keep k --boxes 1 --rounds 4",
         Prints(0, SUMMARY),
-        ALL,
+        ALL_ROWS,
     ),
     // A round that has nothing to settle is not begun.
     (
         "campaign s --eps 0.25 --keep k --boxes 1",
         Prints(0, SUMMARY),
-        ALL,
+        ALL_ROWS,
     ),
     // Another name is another campaign, with one round where the words give no number.
     (
         "campaign --keep=other --boxes=2 s --eps 0.25",
         Prints(1, "settled 2 cut 2 removed 0 inner 0 small 0 open 3\n"),
-        ALL,
+        ALL_ROWS,
     ),
     (
         "campaign s --eps 0.5 --keep k --boxes 1",
         Tells(4, "paving k: wrong identity\n"),
-        ALL,
+        ALL_ROWS,
     ),
     (
         "run s --eps 0.25 --boxes 1 --out m",
         Prints(1, ONE_SETTLED),
-        ALL,
+        ALL_ROWS,
     ),
     // One form's campaign is not gone on with by the other.
     (
         "campaign s --eps 0.25 --keep c --boxes 1 --form centered",
         Prints(1, ONE_SETTLED),
-        ALL,
+        ALL_ROWS,
     ),
     (
         "campaign s --eps 0.25 --keep c --boxes 1",
         Tells(4, "paving c: wrong identity\n"),
-        ALL,
+        ALL_ROWS,
     ),
 ];
 
@@ -179,7 +160,12 @@ fn rounds_at_once(rt: HostRuntime) -> Result<(), Fail> {
         "campaign s --eps 0.25 --keep k --boxes 5 --workers 8",
         "campaign s --eps 0.25 --keep k",
     ] {
-        check(&rt, rt.alloc(), &[], &[(words, Prints(0, SUMMARY), ALL)])?;
+        check(
+            &rt,
+            rt.alloc(),
+            &[],
+            &[(words, Prints(0, SUMMARY), ALL_ROWS)],
+        )?;
     }
     Ok(())
 }
@@ -264,7 +250,7 @@ const LIMITS: [Turn; 4] = [
     (
         "campaign s --eps 0.25 --keep k --boxes 99999",
         Prints(0, SUMMARY),
-        ALL,
+        ALL_ROWS,
     ),
 ];
 

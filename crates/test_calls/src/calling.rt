@@ -11,14 +11,14 @@ use std::thread::Threads;
 
 /// The numbers of the calls that fail, of each part of the outside.
 #[derive(Clone, Copy)]
-pub(crate) struct Fails<'a> {
+pub struct Fails<'a> {
     pub folder: &'a [u64],
     pub out: &'a [u64],
     pub err: &'a [u64],
     pub keeper: &'a [u64],
 }
 
-pub(crate) const NONE: Fails<'static> = Fails {
+pub const NONE: Fails<'static> = Fails {
     folder: &[],
     out: &[],
     err: &[],
@@ -27,7 +27,7 @@ pub(crate) const NONE: Fails<'static> = Fails {
 
 /// What a call came to.
 #[derive(Drop)]
-pub(crate) struct Answer {
+pub struct Answer {
     pub status: u8,
     pub out: MemSink,
     pub err: MemSink,
@@ -35,7 +35,7 @@ pub(crate) struct Answer {
 
 impl Answer {
     /// The call ended with this status, and printed and told this.
-    pub(crate) fn is(&self, rt: &impl Abort, words: &str, status: u8, out: &str, err: &str) {
+    pub fn is(&self, rt: &impl Abort, words: &str, status: u8, out: &str, err: &str) {
         assert_eq!(rt; self.status, status, "{words}");
         assert_eq!(rt; self.out.bytes(), out.as_bytes(), "{words}");
         assert_eq!(rt; self.err.bytes(), err.as_bytes(), "{words}");
@@ -66,7 +66,7 @@ fn paver<R: Threads + Wait + Sync, G: Gate + Sync, P: Keeper>(
 }
 
 /// What the words come to, where the streams fail.
-pub(crate) fn call<R: Threads + Wait + Sync>(
+pub fn call<R: Threads + Wait + Sync>(
     rt: &R,
     alloc: Global,
     words: &str,
@@ -78,7 +78,7 @@ pub(crate) fn call<R: Threads + Wait + Sync>(
 }
 
 /// What they come to over a keeper.
-pub(crate) fn call_keeping<R: Threads + Wait + Sync, P: Keeper>(
+pub fn call_keeping<R: Threads + Wait + Sync, P: Keeper>(
     rt: &R,
     alloc: Global,
     words: &str,
@@ -90,7 +90,7 @@ pub(crate) fn call_keeping<R: Threads + Wait + Sync, P: Keeper>(
 }
 
 /// What they come to over a keeper, where each worker enters a gate.
-pub(crate) fn call_at<R: Threads + Wait + Sync, G: Gate + Sync, P: Keeper>(
+pub fn call_at<R: Threads + Wait + Sync, G: Gate + Sync, P: Keeper>(
     rt: &R,
     alloc: Global,
     words: &str,
@@ -107,11 +107,7 @@ pub(crate) fn call_at<R: Threads + Wait + Sync, G: Gate + Sync, P: Keeper>(
 }
 
 /// A folder with these files, which fails by a list.
-pub(crate) fn shelf(
-    alloc: Global,
-    files: &[(&str, &str)],
-    fails: &[u64],
-) -> Result<MemFolder, Fail> {
+pub fn shelf(alloc: Global, files: &[(&str, &str)], fails: &[u64]) -> Result<MemFolder, Fail> {
     let mut map = BTreeMap::new(alloc);
     for (name, text) in files {
         let name = String::from_str(alloc, name)?;
@@ -121,7 +117,7 @@ pub(crate) fn shelf(
 }
 
 /// A file holds this.
-pub(crate) fn holds(
+pub fn holds(
     rt: &impl Abort,
     alloc: Global,
     words: &str,
@@ -136,13 +132,7 @@ pub(crate) fn holds(
 }
 
 /// There is no such file.
-pub(crate) fn lacks(
-    rt: &impl Abort,
-    alloc: Global,
-    words: &str,
-    folder: &mut MemFolder,
-    name: &str,
-) {
+pub fn lacks(rt: &impl Abort, alloc: Global, words: &str, folder: &mut MemFolder, name: &str) {
     let mut none = Vec::new(alloc);
     let found = folder.fetch(name, 100_000, &mut none);
     assert!(rt;

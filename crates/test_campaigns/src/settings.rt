@@ -1,19 +1,13 @@
 //! The settings' text and the identity of a settler, whose digest was worked out by another program.
-use crate::files::SYSTEM;
 use pv_box::Bisector;
 use pv_ctc::Program;
 use pv_num::Num;
 use pv_parse::parse;
 use pv_settle::{Settings, SystemSettler};
 use std::alloc::Global;
+use test_calls::texts::{IDENTITY, SYSTEM};
 
 const TEXT: &str = "eps 1:-2\ndepth 60\nbisect largest\ncontract prop(8)\n";
-
-/// SHA-256 of the system's canonical text and the settings' text.
-pub(crate) const IDENTITY: [u8; 32] = [
-    0xbe, 0x80, 0xeb, 0x05, 0xbc, 0xbc, 0x91, 0xb7, 0x0b, 0x7a, 0xd4, 0x22, 0xc0, 0x02, 0xb3, 0x78,
-    0xef, 0xf5, 0x86, 0x22, 0xab, 0x1c, 0x9a, 0x05, 0x3f, 0x3f, 0xcb, 0xdf, 0x68, 0x52, 0xf8, 0x1a,
-];
 
 /// The settler of a system by the default program, with a width of 2^exponent.
 pub(crate) fn settler_of(alloc: Global, text: &str, exponent: i16) -> Option<SystemSettler> {

@@ -1,10 +1,10 @@
 //! The calls whose outside is made to fail: each command, at its statuses.
-use crate::centered::{INNER, INNER_NODE, WHOLE as SOLID};
-use crate::files::{NODES, ONE_SETTLED, PART, PART_NODES, SUMMARY, WHOLE};
-use crate::pictures::HALF;
-use crate::samples::TWO;
-use crate::steps::Comes::{self, Prints, Stores, Tells};
-use crate::steps::USAGE;
+use test_calls::Comes::{self, Prints, Stores, Tells};
+use test_calls::USAGE;
+use test_calls::texts::{
+    HALF, INNER, INNER_NODE, NODES, ONE_SETTLED, PART, PART_NODES, SAMPLE_OF_TWO, SOLID, SUMMARY,
+    WHOLE,
+};
 
 /// The words, what comes of them where nothing fails, and the line for each call of the folder that
 /// fails.
@@ -193,6 +193,6 @@ pub(crate) const CASES: [Case; 37] = [
         Tells(8, "tree limit: 0 settled\n"),
         &["read fault: s\n"],
     ),
-    ("sample --seed 1 --count 2", Prints(0, TWO), &[]),
+    ("sample --seed 1 --count 2", Prints(0, SAMPLE_OF_TWO), &[]),
     ("sample --seed 1 --count 17", Tells(2, USAGE), &[]),
 ];

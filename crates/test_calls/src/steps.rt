@@ -7,11 +7,11 @@ use std::sync::Wait;
 use std::test::Fail;
 use std::thread::Threads;
 
-pub(crate) const USAGE: &str = "usage: paver COMMAND SYSTEM [OPTIONS] [PAVING..]\n";
+pub const USAGE: &str = "usage: paver COMMAND SYSTEM [OPTIONS] [PAVING..]\n";
 
 /// What comes of a call.
 #[derive(Clone, Copy)]
-pub(crate) enum Comes {
+pub enum Comes {
     /// A status, and what is printed.
     Prints(u8, &'static str),
     /// A status, and what is told on the standard error.
@@ -21,10 +21,10 @@ pub(crate) enum Comes {
 }
 
 /// The words, and what comes of them.
-pub(crate) type Step = (&'static str, Comes);
+pub type Step = (&'static str, Comes);
 
 impl Comes {
-    pub(crate) fn status(self) -> u8 {
+    pub fn status(self) -> u8 {
         match self {
             Comes::Prints(status, _) => status,
             Comes::Tells(status, _) => status,
@@ -32,7 +32,7 @@ impl Comes {
         }
     }
 
-    pub(crate) fn out(self) -> &'static str {
+    pub fn out(self) -> &'static str {
         match self {
             Comes::Prints(_, out) => out,
             Comes::Tells(_, _) => "",
@@ -40,7 +40,7 @@ impl Comes {
         }
     }
 
-    pub(crate) fn err(self) -> &'static str {
+    pub fn err(self) -> &'static str {
         match self {
             Comes::Tells(_, err) => err,
             _ => "",
@@ -49,12 +49,12 @@ impl Comes {
 }
 
 /// The call came to this.
-pub(crate) fn came_to(rt: &impl Abort, words: &str, answer: &Answer, comes: Comes) {
+pub fn came_to(rt: &impl Abort, words: &str, answer: &Answer, comes: Comes) {
     answer.is(rt, words, comes.status(), comes.out(), comes.err());
 }
 
 /// Takes steps over a folder with these files, which fails by a list.
-pub(crate) fn follow<R: Abort + Threads + Wait + Sync>(
+pub fn follow<R: Abort + Threads + Wait + Sync>(
     rt: &R,
     alloc: Global,
     files: &[(&str, &str)],
@@ -74,12 +74,7 @@ pub(crate) fn follow<R: Abort + Threads + Wait + Sync>(
 
 /// Of a call whose output fails at a write: whether there was such a write. What was printed before
 /// is the front of what is printed where none fails.
-pub(crate) fn output_failed(
-    rt: &impl Abort,
-    words: &str,
-    answer: &mut Answer,
-    comes: Comes,
-) -> bool {
+pub fn output_failed(rt: &impl Abort, words: &str, answer: &mut Answer, comes: Comes) -> bool {
     let whole = comes.out().as_bytes();
     let said = answer.out.bytes();
     assert!(rt; whole.starts_with(said), "{words}");

@@ -1,10 +1,9 @@
 //! Worked examples of shares of a paving's open leaves, and of runs by levels.
-use crate::calling::{NONE, call_keeping, shelf};
-use crate::files::{ONE_SETTLED, PART, SUMMARY, SYSTEM, WHOLE};
-use crate::steps::Comes::{self, Prints, Stores, Tells};
-use crate::steps::{Step, USAGE, came_to, follow};
 use pv_keep::MemKeeper;
 use std::test::Fail;
+use test_calls::Comes::{self, Prints, Stores, Tells};
+use test_calls::texts::{ONE_SETTLED, PART, SUMMARY, SYSTEM, WHOLE};
+use test_calls::{NONE, Step, USAGE, call_keeping, came_to, follow, shelf};
 
 const FILES: [(&str, &str); 2] = [("s", SYSTEM), ("part", PART)];
 

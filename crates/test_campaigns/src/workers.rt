@@ -4,12 +4,7 @@ ghost use Rattle.pv_settle.specs.Rules.{dims_of};
 ghost use Rattle.pv_settle.specs.Settlers.{rule_of};
 ghost use Rattle.pv_board.specs.Rules.{settled_in};
 
-use crate::calling::{Answer, NONE, call, call_at, holds, shelf};
-use crate::files::{PART, SUMMARY, SYSTEM, WHOLE};
 use crate::settings::settler_of;
-use crate::steps::Comes::{Prints, Stores};
-use crate::steps::{Comes, Step};
-use crate::tests::TWO_DISCS;
 use pv_box::IBox;
 use pv_cli::{Gate, NoGate, pave};
 use pv_io::{Folder, MemFolder};
@@ -25,6 +20,9 @@ use std::test::Fail;
 use std::thread;
 use std::thread::Threads;
 use std::time::{Clock, Duration};
+use test_calls::Comes::{self, Prints, Stores};
+use test_calls::texts::{PART, SUMMARY, SYSTEM, TWO_DISCS, WHOLE};
+use test_calls::{Answer, NONE, Step, call, call_at, holds, shelf};
 
 // The command with `workers` workers. It tells nothing on the standard error.
 fn call_by<R: Abort + Threads + Wait + Sync>(
