@@ -14,6 +14,8 @@
     python3 bench/run.py millions           the same of 2, 4 and 16 workers on runs of about a million nodes, beside what the
                                             machine gives to runs of one worker side by side
     python3 bench/run.py small              the same of 4 workers on runs of 1,000 to 30,000 nodes
+    python3 bench/run.py profile            instructions, cache misses, changes of thread and page faults of 1 and 4 workers,
+                                            where there is valgrind
     python3 bench/run.py sizes              seconds and memory of runs from 10,000 nodes to 10,000,000
     python3 bench/run.py tickets            what the pool's jobs and the board's tickets cost
     python3 bench/run.py trees              milliseconds for settling, counting, copying, joining and auditing a large tree
@@ -241,6 +243,33 @@ def small(folder: str) -> None:
         print(f"{title:28} {', '.join(parts)}", flush=True)
 
 
+def counted(words: Words) -> list[int]:
+    """Instructions of a run, misses of its first data cache and of its last one, as valgrind's cachegrind counts them."""
+    told = subprocess.run(["valgrind", "--tool=cachegrind", "--cache-sim=yes", "--cachegrind-out-file=/dev/null",
+                           *map(str, words)], stdout=subprocess.DEVNULL, stderr=subprocess.PIPE, text=True, check=False).stderr
+    found = [re.search(rf"{name}: +([0-9,]+)", told) for name in ("I +refs", "D1 +misses", "LLd +misses")]
+    return [int(one[1].replace(",", "")) for one in found if one]
+
+
+def switched(words: Words) -> list[int]:
+    """How often a run's threads waited, how often they were made to, and its page faults."""
+    before = resource.getrusage(resource.RUSAGE_CHILDREN)
+    subprocess.run([*map(str, words)], stdout=subprocess.DEVNULL, check=False)
+    after = resource.getrusage(resource.RUSAGE_CHILDREN)
+    return [after.ru_nvcsw - before.ru_nvcsw, after.ru_nivcsw - before.ru_nivcsw, after.ru_minflt - before.ru_minflt]
+
+
+def profile(folder: str) -> None:
+    """Of 1 worker and of 4: what 20,000 nodes count under valgrind, and changes of thread of a million nodes."""
+    for title, eps in MILLIONS:
+        for count in (1, 4):
+            few, many = ([TOP / "paver", "run", *of_size(folder, title, eps, nodes), "--out", Path(folder) / "paving",
+                          "--workers", count] for nodes in (20_000, 1_000_000))
+            millions_of = " ".join(f"{number / 1e6:.2f}" for number in counted(few))
+            print(f"{title:28} {count}: {millions_of} million instructions, misses of D1, of LL; "
+                  f"{' '.join(map(str, switched(many)))} waits, preemptions, page faults", flush=True)
+
+
 def used_by(words: Words) -> tuple[int, float, int]:
     """The settled nodes of a run, its processor seconds and its greatest memory in bytes."""
     with subprocess.Popen([*map(str, words)], stdout=subprocess.PIPE) as run:
@@ -382,7 +411,8 @@ def tickets(_folder: str) -> None:
 def main() -> None:
     parts = {"numbers": numbers, "calls": calls, "paving": paving, "printing": printing, "growth": growth, "files": files,
              "workers": workers, "campaigns": campaigns, "rounds": rounds,
-             "tickets": tickets, "trees": trees, "millions": millions, "small": small, "sizes": sizes}
+             "tickets": tickets, "trees": trees, "millions": millions, "small": small, "profile": profile,
+             "sizes": sizes}
     with tempfile.TemporaryDirectory() as folder:
         for part in sys.argv[1:] or parts:
             parts[part](folder)

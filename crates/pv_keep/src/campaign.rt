@@ -206,6 +206,8 @@ impl Campaign {
         ensures root { IfOk result (λ c. c.root ≡ grown.root) }
         ensures limit { IfOk result (λ c. c.limit ≡ limit) }
         ensures taken { IfOk result (λ c. c.tree ≡ grown.tree) }
+        ensures joined { (earlier : Tree) → Grows earlier grown.tree
+            → IfOk result (λ c. IsJoin earlier grown.tree c.tree) }
         ensures saved { (name : List ℕ) → P.begun keeper.old ≡ Some name
             → OnOk result (IsSaved (P.kept keeper.old name) (P.kept keeper.new name) grown.tree) }
         ensures kept { (name : List ℕ) → P.begun keeper.old ≡ Some name
