@@ -56,6 +56,23 @@ impl<'a> Scribe<'a> {
         })
     }
 
+    /// A scribe that stands where this one does, and has made no lines.
+    pub fn clone_of(&self, alloc: Global) -> Result<Scribe<'a>, Memory>
+        ensures { IfOk result (λ s. s.pending ≡ self.now.pending) }
+    {
+        let walk = self.walk.clone_of(alloc)?;
+        let bx = scratch_box(alloc, self.bx.dims())?;
+        let to = scratch_box(alloc, self.bx.dims())?;
+        Ok(Scribe {
+            walk,
+            bx,
+            to,
+            text: Vec::new(alloc),
+            whole: true,
+            _apart: [0; 16],
+        })
+    }
+
     /// Passes `nodes` nodes, or all that are to come.
     pub fn pass(&mut self, nodes: u64)
         ensures come { self.new.pending ≡ after_steps nodes self.old.pending }

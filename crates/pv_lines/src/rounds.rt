@@ -15,20 +15,15 @@ use pv_tree::Paving;
 use std::alloc::Global;
 use std::thread::{Threads, join_mut};
 
-// The lines of at most some more nodes are held at once.
-const MOST_HELD: u64 = 65_536;
+// The lines of at most some more nodes are held at once. A round begins threads anew, so there are
+// few: the lines of a million nodes are made in two.
+const MOST_HELD: u64 = 524_288;
 
 /// A scribe takes at most so many nodes at a turn.
-pub const MOST_SHARE: u64 = 70_000;
+pub const MOST_SHARE: u64 = 600_000;
 
 /// The others take at most so many nodes between two turns of a scribe.
-pub const MOST_GAP: u64 = 1_050_000;
-
-// A few rounds more than that are made of at least so many nodes: where the scribes begin is found by
-// one thread, and lies a share further for each.
-const LEAST_ROUND: u64 = 8_192;
-
-const MORE_ROUNDS: u64 = 5;
+pub const MOST_GAP: u64 = 9_000_000;
 
 // Each scribe passes the nodes of all others, so that with more of them more is passed than made.
 const MOST_SCRIBES: u64 = 8;
@@ -102,7 +97,7 @@ fn share_of(nodes: u64, workers: u32) -> u64
     ensures some { 1 ≤ result }
     ensures small { result ≤ MOST_SHARE }
 {
-    let rounds = nodes / MOST_HELD + (nodes / LEAST_ROUND).min(MORE_ROUNDS) + 1;
+    let rounds = nodes / MOST_HELD + 1;
     MOST_HELD.min(nodes / (rounds * u64::from(workers))) + 1
 }
 

@@ -3,7 +3,6 @@ ghost use Rattle.std.specs.Prelude.{◌≡◌, ℕ, ◌<◌, ◌≤◌, [], ◌�
 ghost use Rattle.pv_tree.specs.Pieces.{root_piece};
 ghost use Rattle.pv_file.specs.Scribes.{Scribed};
 ghost use Rattle.pv_lines.specs.Turns.{AreSpread, HasTurned};
-ghost use Rattle.pv_lines.specs.declared.rounds.TheConstants.{MOST_SHARE};
 ghost use Rattle.pv_tree.specs.declared.limit.TheConstants.{MOST_WORKERS};
 
 use pv_file::{Scribe, Version};
@@ -13,27 +12,27 @@ use std::alloc::Global;
 use std::thread;
 use std::thread::Threads;
 
-/// `workers` scribes, each a share after the one before.
+/// `workers` scribes, each a share after the one before. The last one passes all nodes before it,
+/// and leaves the others on its way.
 pub(crate) fn spread<'a>(
     alloc: Global,
     p: &'a Paving,
     workers: u32,
     share: u64,
 ) -> Result<Vec<Scribe<'a>>, Memory>
+    requires one { 1 ≤ workers }
     requires few { workers ≤ MOST_WORKERS }
-    requires small { share ≤ MOST_SHARE }
     ensures count { IfOk result (λ v. vec_len v ≡ workers) }
     ensures spread { IfOk result (λ v. AreSpread share (root_piece p.now.root p.now.tree ∷ [])
         v.items) }
 {
     let mut scribes = Vec::with_capacity(alloc, workers as usize)?;
-    let mut behind = 0;
-    for _worker in 0..workers {
-        let mut scribe = Scribe::of(alloc, p)?;
-        scribe.pass(behind);
-        scribes.push_reserved(scribe);
-        behind += share;
+    let mut last = Scribe::of(alloc, p)?;
+    for _worker in 1..workers {
+        scribes.push_reserved(last.clone_of(alloc)?);
+        last.pass(share);
     }
+    scribes.push_reserved(last);
     Ok(scribes)
 }
 

@@ -36,6 +36,15 @@ pub stacked_more : (P : Stop → Type 0) (n : ℕ) (ss ts : List Stop) → AreSt
 stacked_more P n [] ts h k = subst (λ (m : ℕ). AreStacked P m ts) (let e : n + 0 ≡ n = omega arith in e) k
 stacked_more P n (s ∷ ss) ts h k = (h.0, h.1, stacked_more P (suc n) ss ts h.2 (subst (λ (m : ℕ). AreStacked P m ts) (let e : n + suc (length ss) ≡ suc n + length ss = omega arith in e) k))
 
+-- a stack has at most as many stops as a tree has levels
+pub stacked_few : (ns : List Node) (n : ℕ) (ss : List Stop) → AreStacked (IsStop ns) n ss → n ≤ 201 → n + length ss ≤ 201
+stacked_few ns n [] stacked few = omega arith
+stacked_few ns n (s ∷ ss) stacked few =
+    let here : length s.path ≤ 200 = stacked.0.few in
+    let low : n ≤ length s.path = stacked.1 in
+    let more : suc n + length ss ≤ 201 = stacked_few ns (suc n) ss stacked.2 (let w : suc n ≤ 201 = omega arith in w) in
+    omega arith
+
 pub pieces-push : (b : List Bounds) (t : Tree) (ss : List Stop) (s : Stop) → pieces_at b t (ss ++ s ∷ []) ≡ piece_at b t s.path ∷ pieces_at b t ss
 pieces-push b t [] s = refl
 pieces-push b t (x ∷ ss) s = ap (λ (ps : List Piece). ps ++ piece_at b t x.path ∷ []) (pieces-push b t ss s)

@@ -93,6 +93,17 @@ impl Path {
         (self.words[(i / 64) as usize] >> (63 - i % 64)) & 1 == 1
     }
 
+    // Appends a step, where the path lies.
+    fn push(&mut self, high: bool)
+        requires { length self.old < MOST_STEPS }
+        ensures { self.new ≡ self.old ++ high ∷ [] }
+    {
+        if high {
+            self.words[(self.len / 64) as usize] |= 1u64 << (63 - self.len % 64);
+        }
+        self.len += 1;
+    }
+
     /// The steps of this path, and then those of another.
     pub fn then(self, tail: Path) -> Path
         requires { length self + length tail ≤ MOST_STEPS }
@@ -100,11 +111,7 @@ impl Path {
     {
         let mut path = self;
         for i in 0..tail.len() {
-            path = if tail.step(i) {
-                path.high()
-            } else {
-                path.low()
-            };
+            path.push(tail.step(i));
         }
         path
     }

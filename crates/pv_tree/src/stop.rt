@@ -64,6 +64,18 @@ pub(crate) fn push_kids(stops: &mut Vec<Stop>, nodes: &[Node], stop: &Stop)
     }
 }
 
+/// Writes stops over those of another stack.
+pub(crate) fn copy_stops(from: &[Stop], into: &mut Vec<Stop>)
+    requires { length from.now ≤ vec_capacity into.old }
+    ensures items { into.new.items ≡ from.now }
+    ensures capacity { vec_capacity into.new ≡ vec_capacity into.old }
+{
+    into.clear();
+    for stop in from {
+        into.push_reserved(*stop);
+    }
+}
+
 /// Writes a stop's box over another box.
 pub(crate) fn write_stop_box(
     root: &IBox,

@@ -8,7 +8,7 @@ use crate::cell::Node;
 use crate::outcome::Shape;
 use crate::path::{MOST_LEVELS, Path};
 use crate::paving::Paving;
-use crate::stop::{Stop, push_kids, write_stop_box};
+use crate::stop::{Stop, copy_stops, push_kids, write_stop_box};
 use pv_box::IBox;
 use pv_interval::Interval;
 use pv_num::Memory;
@@ -55,6 +55,21 @@ impl<'a> Walk<'a> {
             ends: paving.ends.as_slice(),
             nodes: paving.nodes.as_slice(),
             here: Stop::ROOT,
+            stops,
+        })
+    }
+
+    /// A walk that stands where this one does.
+    pub fn clone_of(&self, alloc: Global) -> Result<Walk<'a>, Memory>
+        ensures { IfOk result (λ w. w ≡ self.now) }
+    {
+        let mut stops = Vec::with_capacity(alloc, MOST_LEVELS as usize)?;
+        copy_stops(&self.stops, &mut stops);
+        Ok(Walk {
+            root: self.root,
+            ends: self.ends,
+            nodes: self.nodes,
+            here: self.here,
             stops,
         })
     }

@@ -4,5 +4,5 @@ use Rattle.pv_lines.proofs.rounds.gap_of.Given as goal
 abbrev pub invariant-loop-other : goal.invariant-loop-other
 invariant-loop-other l = record {
   is : l.share + l.gap ≡ l.share * l._other;
-  small : l.gap ≤ 70000 * l._other;
+  small : l.gap ≤ 600000 * l._other;
 }
