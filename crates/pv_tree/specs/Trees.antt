@@ -1,7 +1,7 @@
 -- The tree of a paving over a box, its nodes by path, and the order of its leaves.
 use Rattle.std.specs.Prelude.{ℕ, zero, suc, ◌+◌, ◌<◌, ◌≤◌, max, Bool, true, false, IsTrue, Option, Some, None, List, [], ◌∷◌, ◌++◌, map, filter, length}
 use Rattle.pv_num.specs.Extended.{Extended, NegInf, Fin, PosInf}
-use Rattle.pv_num.specs.Order.{le, lt}
+use Rattle.pv_num.specs.Order.{lt}
 use Rattle.pv_interval.specs.Bounds.{Bounds}
 use Rattle.pv_box.specs.Boxes.{IsBox, lower_half, upper_half}
 pub use Rattle.pv_box.specs.Boxes.{IsWithin}

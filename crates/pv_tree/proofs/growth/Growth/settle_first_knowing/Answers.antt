@@ -2,7 +2,7 @@ use Rattle.std.proofs.Common.{◌-◌, sym, ◌∙◌, ap, subst, length}
 use Rattle.std.specs.Prelude.{is_ok}
 use Rattle.pv_tree.specs.Holes.{settle_next}
 use Rattle.pv_tree.specs.Stages.{IsStage}
-use Rattle.pv_tree.specs.Trees.{box_of, graft, settled}
+use Rattle.pv_tree.specs.Trees.{graft, settled}
 use Rattle.pv_tree.proofs.KnownLeaves.{stage_after, next_tree, next_root, next_is_leaf, next_box_of}
 use Rattle.pv_tree.proofs.StageLaws.{step_stage}
 use Rattle.pv_tree.proofs.growth.Growth.settle_first_knowing.Goals as goal
