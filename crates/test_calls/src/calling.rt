@@ -4,7 +4,6 @@ use pv_io::{FetchRefused, Folder, MemFolder, MemSink};
 use pv_keep::{Keeper, MemKeeper};
 use std::alloc::Global;
 use std::collections::BTreeMap;
-use std::process::Abort;
 use std::sync::Wait;
 use std::test::Fail;
 use std::thread::Threads;
@@ -34,11 +33,11 @@ pub struct Answer {
 }
 
 impl Answer {
-    /// The call ended with this status, and printed and told this.
-    pub fn is(&self, rt: &impl Abort, words: &str, status: u8, out: &str, err: &str) {
-        assert_eq!(rt; self.status, status, "{words}");
-        assert_eq!(rt; self.out.bytes(), out.as_bytes(), "{words}");
-        assert_eq!(rt; self.err.bytes(), err.as_bytes(), "{words}");
+    /// Whether the call ended with this status, and printed and told this.
+    pub fn is(&self, status: u8, out: &str, err: &str) -> bool {
+        self.status == status
+            && self.out.bytes() == out.as_bytes()
+            && self.err.bytes() == err.as_bytes()
     }
 }
 
@@ -116,27 +115,16 @@ pub fn shelf(alloc: Global, files: &[(&str, &str)], fails: &[u64]) -> Result<Mem
     Ok(MemFolder::new(alloc, map, fails.to_vec(alloc)?))
 }
 
-/// A file holds this.
-pub fn holds(
-    rt: &impl Abort,
-    alloc: Global,
-    words: &str,
-    folder: &mut MemFolder,
-    name: &str,
-    text: &str,
-) {
+/// Whether a file holds this.
+pub fn holds(alloc: Global, folder: &mut MemFolder, name: &str, text: &str) -> bool {
     let mut held = Vec::new(alloc);
     let found = folder.fetch(name, 100_000, &mut held);
-    assert!(rt; found.is_ok(), "{words}: {name}");
-    assert_eq!(rt; held.as_slice(), text.as_bytes(), "{words}: {name}");
+    found.is_ok() && held.as_slice() == text.as_bytes()
 }
 
-/// There is no such file.
-pub fn lacks(rt: &impl Abort, alloc: Global, words: &str, folder: &mut MemFolder, name: &str) {
+/// Whether there is no such file.
+pub fn lacks(alloc: Global, folder: &mut MemFolder, name: &str) -> bool {
     let mut none = Vec::new(alloc);
     let found = folder.fetch(name, 100_000, &mut none);
-    assert!(rt;
-        matches!(found, Err(FetchRefused::Absent)),
-        "{words}: {name}"
-    );
+    matches!(found, Err(FetchRefused::Absent))
 }

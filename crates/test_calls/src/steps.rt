@@ -1,8 +1,7 @@
 //! Steps: calls one after another over a folder, and what comes of each.
 use crate::calling::{Answer, NONE, call, holds, shelf};
-use pv_io::Sink;
+use pv_io::{MemFolder, Sink};
 use std::alloc::Global;
-use std::process::Abort;
 use std::sync::Wait;
 use std::test::Fail;
 use std::thread::Threads;
@@ -48,44 +47,58 @@ impl Comes {
     }
 }
 
-/// The call came to this.
-pub fn came_to(rt: &impl Abort, words: &str, answer: &Answer, comes: Comes) {
-    answer.is(rt, words, comes.status(), comes.out(), comes.err());
+/// Whether a call came to this.
+pub fn came_to(answer: &Answer, comes: Comes) -> bool {
+    answer.is(comes.status(), comes.out(), comes.err())
 }
 
-/// Takes steps over a folder with these files, which fails by a list.
-pub fn follow<R: Abort + Threads + Wait + Sync>(
+// Whether a step came to what it is to, and stored what it is to.
+fn took<R: Threads + Wait + Sync>(
+    rt: &R,
+    alloc: Global,
+    folder: &mut MemFolder,
+    step: &Step,
+) -> Result<bool, Fail> {
+    let (words, comes) = *step;
+    let answer = call(rt, alloc, words, folder, NONE)?;
+    let is_stored = match comes {
+        Comes::Stores(_, _, file, text) => holds(alloc, folder, file, text),
+        Comes::Prints(_, _) | Comes::Tells(_, _) => true,
+    };
+    Ok(is_stored && came_to(&answer, comes))
+}
+
+/// Takes steps over a folder with these files, which fails by a list. Answers the words of the
+/// first step that came to something else than it is to.
+pub fn follow<R: Threads + Wait + Sync>(
     rt: &R,
     alloc: Global,
     files: &[(&str, &str)],
     fails: &[u64],
     steps: &[Step],
-) -> Result<(), Fail> {
+) -> Result<Option<&'static str>, Fail> {
     let mut folder = shelf(alloc, files, fails)?;
-    for (words, comes) in steps {
-        let answer = call(rt, alloc, words, &mut folder, NONE)?;
-        came_to(rt, words, &answer, *comes);
-        if let Comes::Stores(_, _, file, text) = *comes {
-            holds(rt, alloc, words, &mut folder, file, text);
+    for step in steps {
+        if !took(rt, alloc, &mut folder, step)? {
+            let (words, _) = *step;
+            return Ok(Some(words));
         }
     }
-    Ok(())
+    Ok(None)
 }
 
 /// Of a call whose output fails at a write: whether there was such a write. What was printed before
-/// is the front of what is printed where none fails.
-pub fn output_failed(rt: &impl Abort, words: &str, answer: &mut Answer, comes: Comes) -> bool {
+/// is the front of what is printed where none fails. None where something else came of it.
+pub fn output_failed(answer: &mut Answer, comes: Comes) -> Option<bool> {
     let whole = comes.out().as_bytes();
     let said = answer.out.bytes();
-    assert!(rt; whole.starts_with(said), "{words}");
+    let is_front = whole.starts_with(said);
     let is_whole = said == whole;
     if answer.out.write(b"").is_err() {
-        assert!(rt; is_whole, "{words}");
-        came_to(rt, words, answer, comes);
-        return false;
+        let is_so = is_whole && came_to(answer, comes);
+        return if is_so { Some(false) } else { None };
     }
-    assert_eq!(rt; answer.status, 6, "{words}");
     let line = b"write fault: standard output\n";
-    assert_eq!(rt; answer.err.bytes(), line.as_slice(), "{words}");
-    true
+    let is_so = is_front && answer.status == 6 && answer.err.bytes() == line.as_slice();
+    if is_so { Some(true) } else { None }
 }

@@ -80,7 +80,7 @@ fn take<R: Abort + Threads + Wait + Sync, P: Keeper>(
 ) -> Result<(), Fail> {
     let mut folder = shelf(alloc, &[("s", SYSTEM), ("bad", "Variables")], &[])?;
     let answer = call_keeping(rt, alloc, words, &mut folder, NONE, keeper)?;
-    came_to(rt, words, &answer, comes);
+    assert!(rt; came_to(&answer, comes), "{words}");
     Ok(())
 }
 

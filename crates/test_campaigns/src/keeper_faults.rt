@@ -74,7 +74,7 @@ fn refused<R: Abort + Threads + Wait + Sync>(
     rows: &str,
 ) -> Result<(), Fail> {
     let (answer, mut keeper) = call_over(rt, alloc, words, fails)?;
-    answer.is(rt, words, status, "", line);
+    assert!(rt; answer.is(status, "", line), "{words}");
     are_kept(rt, alloc, words, &mut keeper, rows)
 }
 
@@ -138,7 +138,7 @@ fn nothing_of_the_keeper_fails(rt: HostRuntime) -> Result<(), Fail> {
             ..NONE
         };
         let (answer, mut keeper) = call_over(&rt, alloc, words, fails)?;
-        came_to(&rt, words, &answer, case.comes);
+        assert!(rt; came_to(&answer, case.comes), "{words}");
         let next = keeper.begin("z", [0; 32]);
         assert!(rt; matches!(next, Err(BeginRefused::Failed)), "{words}");
         are_kept(&rt, alloc, words, &mut keeper, case.rows)?;
@@ -174,7 +174,9 @@ fn out_fails<R: Abort + Threads + Wait + Sync>(
     };
     let (mut answer, mut keeper) = call_over(rt, alloc, words, fails)?;
     are_kept(rt, alloc, words, &mut keeper, case.rows)?;
-    Ok(output_failed(rt, words, &mut answer, case.comes))
+    let failed = output_failed(&mut answer, case.comes);
+    assert!(rt; failed.is_some(), "{words}");
+    Ok(failed == Some(true))
 }
 
 // How many calls of the standard output there are, each of which fails in turn; at most 8.

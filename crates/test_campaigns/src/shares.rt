@@ -60,7 +60,8 @@ const SHARES: [Step; 8] = [
 
 #[test]
 fn shares_of_two_leaves(rt: HostRuntime) -> Result<(), Fail> {
-    follow(&rt, rt.alloc(), &FILES, &[], &SHARES)
+    assert_eq!(rt; follow(&rt, rt.alloc(), &FILES, &[], &SHARES)?, None);
+    Ok(())
 }
 
 const REFUSED: [Step; 10] = [
@@ -87,7 +88,8 @@ const REFUSED: [Step; 10] = [
 
 #[test]
 fn words_of_shares_and_orders(rt: HostRuntime) -> Result<(), Fail> {
-    follow(&rt, rt.alloc(), &FILES, &[], &REFUSED)
+    assert_eq!(rt; follow(&rt, rt.alloc(), &FILES, &[], &REFUSED)?, None);
+    Ok(())
 }
 
 // Of boxes down to 1/64 those next to 0 are cut on and on. By levels the leaves with fewer than four
@@ -119,7 +121,8 @@ const LEVELS: [Step; 4] = [
 
 #[test]
 fn runs_by_levels(rt: HostRuntime) -> Result<(), Fail> {
-    follow(&rt, rt.alloc(), &FILES, &[], &LEVELS)
+    assert_eq!(rt; follow(&rt, rt.alloc(), &FILES, &[], &LEVELS)?, None);
+    Ok(())
 }
 
 // Each round begins with the leaves that have fewer than four cuts above them.
@@ -144,7 +147,7 @@ fn campaigns_by_levels(rt: HostRuntime) -> Result<(), Fail> {
     let mut folder = shelf(rt.alloc(), &FILES, &[])?;
     for (words, comes) in &ROUNDS {
         let answer = call_keeping(&rt, rt.alloc(), words, &mut folder, NONE, &mut keeper)?;
-        came_to(&rt, words, &answer, *comes);
+        assert!(rt; came_to(&answer, *comes), "{words}");
     }
     Ok(())
 }

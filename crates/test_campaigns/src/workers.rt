@@ -79,7 +79,7 @@ fn take_turn<R: Abort + Threads + Wait + Sync>(
         "{words}"
     );
     if let Comes::Stores(_, _, file, text) = comes {
-        holds(rt, alloc, words, folder, file, text);
+        assert!(rt; holds(alloc, folder, file, text), "{words}");
     }
     Ok(())
 }
@@ -238,9 +238,9 @@ fn two_workers_meet_at_a_gate(rt: HostRuntime) -> Result<(), Fail> {
     let gate = Meeting::of(&rt);
     let words = "run s --eps 0.25 --workers 2 --out b";
     let answer = call_at(&rt, alloc, words, &mut folder, NONE, &gate, &mut keeper)?;
-    answer.is(&rt, words, 0, SUMMARY, "");
+    assert!(rt; answer.is(0, SUMMARY, ""));
     assert!(rt; !gate.missed.load(Ordering::SeqCst));
-    holds(&rt, alloc, words, &mut folder, "b", WHOLE);
+    assert!(rt; holds(alloc, &mut folder, "b", WHOLE));
     Ok(())
 }
 

@@ -28,7 +28,7 @@ fn call_over<R: Threads + Wait + Sync>(
 // Each file holds what it held.
 fn are_kept(rt: &impl Abort, alloc: Global, words: &str, folder: &mut MemFolder) {
     for (name, text) in &FILES {
-        holds(rt, alloc, words, folder, name, text);
+        assert!(rt; holds(alloc, folder, name, text), "{words}: {name}");
     }
 }
 
@@ -43,9 +43,9 @@ fn is_written(
 ) {
     if let Comes::Stores(_, _, file, text) = comes {
         if is_stored {
-            holds(rt, alloc, words, folder, file, text);
+            assert!(rt; holds(alloc, folder, file, text), "{words}");
         } else {
-            lacks(rt, alloc, words, folder, file);
+            assert!(rt; lacks(alloc, folder, file), "{words}");
         }
     }
 }
@@ -73,7 +73,7 @@ fn folder_fails<R: Abort + Threads + Wait + Sync>(
     };
     let (answer, mut folder) = call_over(rt, alloc, words, fails)?;
     let status = status_of(line);
-    answer.is(rt, words, status, "", line);
+    assert!(rt; answer.is(status, "", line), "{words}");
     are_kept(rt, alloc, words, &mut folder);
     if status == 5 {
         is_written(rt, alloc, words, comes, &mut folder, false);
@@ -114,7 +114,7 @@ fn nothing_fails(rt: HostRuntime) -> Result<(), Fail> {
             ..NONE
         };
         let (answer, mut folder) = call_over(&rt, alloc, words, fails)?;
-        came_to(&rt, words, &answer, comes);
+        assert!(rt; came_to(&answer, comes), "{words}");
         let mut none = Vec::new(alloc);
         let found = folder.fetch("s", 100_000, &mut none);
         assert!(rt; matches!(found, Err(FetchRefused::Failed)), "{words}");
@@ -139,7 +139,9 @@ fn out_fails<R: Abort + Threads + Wait + Sync>(
     let (mut answer, mut folder) = call_over(rt, alloc, words, fails)?;
     are_kept(rt, alloc, words, &mut folder);
     is_written(rt, alloc, words, comes, &mut folder, comes.status() < 2);
-    Ok(output_failed(rt, words, &mut answer, comes))
+    let failed = output_failed(&mut answer, comes);
+    assert!(rt; failed.is_some(), "{words}");
+    Ok(failed == Some(true))
 }
 
 // How many calls of the standard output there are, each of which fails in turn.

@@ -67,7 +67,8 @@ const STEPS: [Step; 14] = [
 
 #[test]
 fn centered_forms(rt: HostRuntime) -> Result<(), Fail> {
-    follow(&rt, rt.alloc(), &FILES, &[], &STEPS)
+    assert_eq!(rt; follow(&rt, rt.alloc(), &FILES, &[], &STEPS)?, None);
+    Ok(())
 }
 
 const HALVES: &str =
@@ -104,7 +105,8 @@ const FORMS: [Step; 13] = [
 
 #[test]
 fn forms_of_commands(rt: HostRuntime) -> Result<(), Fail> {
-    follow(&rt, rt.alloc(), &FILES, &[], &FORMS)
+    assert_eq!(rt; follow(&rt, rt.alloc(), &FILES, &[], &FORMS)?, None);
+    Ok(())
 }
 
 const REFUSED: [Step; 4] = [
@@ -119,7 +121,8 @@ const REFUSED: [Step; 4] = [
 
 #[test]
 fn centered_words_that_are_refused(rt: HostRuntime) -> Result<(), Fail> {
-    follow(&rt, rt.alloc(), &FILES, &[], &REFUSED)
+    assert_eq!(rt; follow(&rt, rt.alloc(), &FILES, &[], &REFUSED)?, None);
+    Ok(())
 }
 
 // Call 0 fetches the system, call 1 the paving; call 3 stores.
@@ -134,5 +137,6 @@ const FAULTS: [Step; 3] = [
 
 #[test]
 fn faults_of_centered_files(rt: HostRuntime) -> Result<(), Fail> {
-    follow(&rt, rt.alloc(), &FILES, &[1, 3], &FAULTS)
+    assert_eq!(rt; follow(&rt, rt.alloc(), &FILES, &[1, 3], &FAULTS)?, None);
+    Ok(())
 }

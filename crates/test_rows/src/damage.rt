@@ -36,8 +36,8 @@ fn refused<R: Abort + Threads + Wait + Sync>(
     line: &str,
 ) -> Result<(), Fail> {
     let (answer, mut folder) = call_over(rt, alloc, RESUME, file, b"")?;
-    answer.is(rt, RESUME, 4, "", line);
-    lacks(rt, alloc, RESUME, &mut folder, "m");
+    assert!(rt; answer.is(4, "", line), "{line}");
+    assert!(rt; lacks(alloc, &mut folder, "m"), "{line}");
     Ok(())
 }
 
@@ -124,7 +124,7 @@ fn a_join_that_is_too_large(rt: HostRuntime) -> Result<(), Fail> {
     push_leaves(alloc, 32_768, 65_536, &mut high)?;
     let words = "merge s p q --eps 0.25 --out m";
     let (answer, mut folder) = call_over(&rt, alloc, words, &low, &high)?;
-    answer.is(&rt, words, 8, "", "tree limit: 131071 settled\n");
-    lacks(&rt, alloc, words, &mut folder, "m");
+    assert!(rt; answer.is(8, "", "tree limit: 131071 settled\n"));
+    assert!(rt; lacks(alloc, &mut folder, "m"));
     Ok(())
 }

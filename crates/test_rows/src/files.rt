@@ -54,7 +54,8 @@ const RUNS: [Step; 10] = [
 
 #[test]
 fn runs_that_are_stored(rt: HostRuntime) -> Result<(), Fail> {
-    follow(&rt, rt.alloc(), &SYSTEMS, &[], &RUNS)
+    assert_eq!(rt; follow(&rt, rt.alloc(), &SYSTEMS, &[], &RUNS)?, None);
+    Ok(())
 }
 
 const MERGES: [Step; 9] = [
@@ -100,7 +101,8 @@ const MERGES: [Step; 9] = [
 
 #[test]
 fn joins_of_files(rt: HostRuntime) -> Result<(), Fail> {
-    follow(&rt, rt.alloc(), &FILES, &[], &MERGES)
+    assert_eq!(rt; follow(&rt, rt.alloc(), &FILES, &[], &MERGES)?, None);
+    Ok(())
 }
 
 const REFUSED: [Step; 12] = [
@@ -147,7 +149,8 @@ const REFUSED: [Step; 12] = [
 
 #[test]
 fn files_that_are_refused(rt: HostRuntime) -> Result<(), Fail> {
-    follow(&rt, rt.alloc(), &FILES, &[], &REFUSED)
+    assert_eq!(rt; follow(&rt, rt.alloc(), &FILES, &[], &REFUSED)?, None);
+    Ok(())
 }
 
 const FAULTS: [Step; 3] = [
@@ -168,5 +171,6 @@ const FAULTS: [Step; 3] = [
 // Call 1 of the folder fetches A, and call 5 stores m.
 #[test]
 fn faults_of_files(rt: HostRuntime) -> Result<(), Fail> {
-    follow(&rt, rt.alloc(), &FILES, &[1, 5], &FAULTS)
+    assert_eq!(rt; follow(&rt, rt.alloc(), &FILES, &[1, 5], &FAULTS)?, None);
+    Ok(())
 }

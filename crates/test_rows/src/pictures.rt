@@ -75,7 +75,8 @@ const DRAWN: [Step; 13] = [
 
 #[test]
 fn pictures_of_runs(rt: HostRuntime) -> Result<(), Fail> {
-    follow(&rt, rt.alloc(), &FILES, &[], &DRAWN)
+    assert_eq!(rt; follow(&rt, rt.alloc(), &FILES, &[], &DRAWN)?, None);
+    Ok(())
 }
 
 const REFUSED: [Step; 12] = [
@@ -95,7 +96,8 @@ const REFUSED: [Step; 12] = [
 
 #[test]
 fn planes_that_are_refused(rt: HostRuntime) -> Result<(), Fail> {
-    follow(&rt, rt.alloc(), &FILES, &[], &REFUSED)
+    assert_eq!(rt; follow(&rt, rt.alloc(), &FILES, &[], &REFUSED)?, None);
+    Ok(())
 }
 
 const ORDER: [Step; 11] = [
@@ -126,5 +128,6 @@ const ORDER: [Step; 11] = [
 
 #[test]
 fn refusals_in_order(rt: HostRuntime) -> Result<(), Fail> {
-    follow(&rt, rt.alloc(), &FILES, &[], &ORDER)
+    assert_eq!(rt; follow(&rt, rt.alloc(), &FILES, &[], &ORDER)?, None);
+    Ok(())
 }

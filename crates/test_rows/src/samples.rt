@@ -20,7 +20,8 @@ fn samples(rt: HostRuntime) -> Result<(), Fail> {
         ("sample --seed 7 --count 16", Prints(0, SIXTEEN)),
         ("sample --seed 7 --count 16", Prints(0, SIXTEEN)),
     ];
-    follow(&rt, rt.alloc(), &[], &[], &steps)
+    assert_eq!(rt; follow(&rt, rt.alloc(), &[], &[], &steps)?, None);
+    Ok(())
 }
 
 #[test]
@@ -39,5 +40,6 @@ fn samples_that_are_refused(rt: HostRuntime) -> Result<(), Fail> {
         ("sample --seed 1 --count 1 --eps 8", Tells(2, USAGE)),
         ("sample --seed 1 --seed 1 --count 1", Tells(2, USAGE)),
     ];
-    follow(&rt, rt.alloc(), &[], &[], &steps)
+    assert_eq!(rt; follow(&rt, rt.alloc(), &[], &[], &steps)?, None);
+    Ok(())
 }

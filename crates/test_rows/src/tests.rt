@@ -27,7 +27,7 @@ pub(crate) fn check<R: Abort + Threads + Wait + Sync>(
 ) -> Result<(), Fail> {
     for (words, system, comes) in rows {
         let answer = over(rt, alloc, words, system, NONE)?;
-        came_to(rt, words, &answer, *comes);
+        assert!(rt; came_to(&answer, *comes), "{words}");
     }
     Ok(())
 }
@@ -62,7 +62,7 @@ fn faulty<R: Abort + Threads + Wait + Sync>(
     line: &str,
 ) -> Result<(), Fail> {
     let answer = over(rt, alloc, "run s", system, fails)?;
-    answer.is(rt, "run s", status, "", line);
+    assert!(rt; answer.is(status, "", line), "{line}");
     Ok(())
 }
 
