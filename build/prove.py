@@ -15,11 +15,17 @@ import os
 import shutil
 import signal
 import sys
+import threading
 import time
 from concurrent.futures import FIRST_COMPLETED, ThreadPoolExecutor, wait
 from typing import Any
 
 MOST_JOBS = 4  # of one check, which gains little from more
+# Processor seconds of those checks that take longer than their lines tell, as seen on 2026-11-30. The order rests on them alone.
+SECONDS = {"pv_words": 350, "pv_keep_sql": 320, "pv_resume": 195, "pv_num": 180, "pv_tree": 150, "pv_workers": 149, "pv_cli": 127,
+           "pv_io": 125, "pv_view": 123, "pv_search": 117, "pv_run": 113, "pv_file": 113, "pv_board": 109, "pv_pool": 100,
+           "pv_campaign": 100, "pv_rounds": 94, "pv_opening": 88, "pv_scope": 81, "pv_least": 49, "pv_rule": 35, "pv_deliver": 34}
+LINES_A_SECOND = 50
 GIGABYTE = 10 ** 9
 CALLS = ["crates_below", "files_of", "text_of", "lock", "guarded", "number_in", "GROUPS"]
 
@@ -58,12 +64,18 @@ def lines_of(rtlib: Any, crate: Any) -> int:
 
 
 def chains(crates: list[Any], lines: dict[Any, int]) -> dict[Any, int]:
-    """Of each crate the lines of the longest chain of crates that begins with it and goes up. Lower crates come first."""
-    found = dict(lines)
+    """Of each crate the seconds of the longest chain of crates that begins with it and goes up. Lower crates come first."""
+    seconds = {crate: SECONDS.get(crate.name, lines[crate] // LINES_A_SECOND) for crate in crates}
+    found = dict(seconds)
     for crate in reversed(crates):
         for low in crate.below():
-            found[low] = max(found[low], found[crate] + lines[low])
+            found[low] = max(found[low], found[crate] + seconds[low])
     return found
+
+
+def give_way() -> None:
+    """Lets what this thread starts wait for the processor where somebody else wants it."""
+    os.setpriority(os.PRIO_PROCESS, threading.get_native_id(), 10)
 
 
 def memory_of(crate: Any, lines: dict[Any, int]) -> int:
@@ -94,17 +106,23 @@ class Build:
         waiting = {*self.left, *(crate for crate, _, _ in self.running.values())}
         return [crate for crate in self.left if not waiting & {*crate.below()}]
 
-    def start(self, pool: ThreadPoolExecutor) -> None:
-        """Starts what processors and memory allow, and one check in any case. Idle processors become jobs of a check."""
-        ready = self.ready()
-        for at, crate in enumerate(ready):
-            idle = self.jobs - sum(jobs for _, jobs, _ in self.running.values())
+    def is_urgent(self, crate: Any) -> bool:
+        """Whether no longer chain than this crate's is being proved: all wait for it in the end."""
+        return all(self.chain[other] < self.chain[crate] for other, _, _ in self.running.values())
+
+    def start(self, urgent: ThreadPoolExecutor, other: ThreadPoolExecutor) -> None:
+        """Starts what processors and memory allow, and one check in any case. One that all wait for has as many jobs as it can
+        use, and the others, of one job each, give way to it."""
+        for crate in self.ready():
+            idle = self.jobs - len(self.running)
             room = self.memory - sum(taken for _, _, taken in self.running.values())
             need = self.needs[crate]
             if idle > 0 and (need <= room or not self.running):
-                jobs = max(1, min(MOST_JOBS, idle // (len(ready) - at), 1 + (room - need) // (need // 2)))
+                is_urgent = self.is_urgent(crate)
+                jobs = max(1, min(MOST_JOBS, self.jobs, 1 + (room - need) // (need // 2))) if is_urgent else 1
                 self.left.remove(crate)
-                self.running[pool.submit(prove, crate, jobs)] = crate, jobs, need + (jobs - 1) * (need // 2)
+                done = (urgent if is_urgent else other).submit(prove, crate, jobs)
+                self.running[done] = crate, jobs, need + (jobs - 1) * (need // 2)
 
     def take(self) -> None:
         """Waits until a check ends, and says how."""
@@ -116,10 +134,10 @@ class Build:
             print(f"{time.monotonic() - self.since:6.0f} s  {what}", flush=True)
 
     def run(self) -> int:
-        with ThreadPoolExecutor(self.jobs) as pool:
+        with ThreadPoolExecutor(self.jobs) as urgent, ThreadPoolExecutor(self.jobs, initializer=give_way) as other:
             while self.running or self.left and not self.failed:
                 if not self.failed:
-                    self.start(pool)
+                    self.start(urgent, other)
                 self.take()
         for crate in self.failed:
             with open(f"{crate.folder}/out/prove.log", encoding="utf-8", errors="replace") as log:
@@ -154,7 +172,7 @@ def main() -> int:
     build = Build(rtlib, crates[given.crate].below(), max(1, given.jobs))
     if given.dry_run:
         for crate in build.left:
-            print(f"{crate.name}: {build.chain[crate]} lines from here up, {build.needs[crate] / GIGABYTE:.1f} GB a job")
+            print(f"{crate.name}: {build.chain[crate]} s from here up, {build.needs[crate] / GIGABYTE:.1f} GB a job")
         return 0
     rtlib.lock(crates.values())  # until this process ends
     return build.run()
