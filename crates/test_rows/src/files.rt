@@ -1,7 +1,7 @@
 //! Worked examples of paving files: runs that are stored, gone on with, joined and audited.
 use std::test::Fail;
 use test_calls::Comes::{Prints, Stores, Tells};
-use test_calls::texts::{FILES, HALF_LINE, ONE_SETTLED, SUMMARY, SYSTEM, WHOLE};
+use test_calls::texts::{FILES, HALF_LINE, ONE_SETTLED, PART, SUMMARY, SYSTEM, WHOLE};
 use test_calls::{Step, follow};
 
 const FILE_A_2: &str =
