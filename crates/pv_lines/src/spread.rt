@@ -6,10 +6,10 @@ ghost use Rattle.pv_lines.specs.Turns.{AreSpread, HasTurned};
 ghost use Rattle.pv_tree.specs.declared.limit.TheConstants.{MOST_WORKERS};
 
 use pv_file::{Scribe, Version};
+use pv_fork::for_each_apart;
 use pv_num::Memory;
 use pv_tree::Paving;
 use std::alloc::Global;
-use std::thread;
 use std::thread::Threads;
 
 /// `workers` scribes, each a share after the one before. The last one passes all nodes before it,
@@ -50,11 +50,10 @@ pub(crate) fn turn_all<R: Threads + Sync>(
     ensures turned { (i : ℕ) (d : Scribed) → i < length scribes.old →
         HasTurned version share gap (get_or scribes.old i d) (get_or scribes.new i d) }
 {
-    let count = scribes.len();
     let one = |_i: usize, scribe: &mut Scribe<'_>|
         ensures { HasTurned version share gap scribe.entry.now scribe.exit.now }
     { turn(version, share, gap, scribe) };
-    thread::for_each_mut(rt, scribes, count, &one);
+    for_each_apart(rt, scribes, &one);
 }
 
 fn turn(version: Version, share: u64, gap: u64, scribe: &mut Scribe<'_>)

@@ -11,9 +11,9 @@ use crate::seat::{Room, Seat, clear_seats, seat_all};
 use crate::teardown::close;
 use crate::work::Work;
 use crate::worker::run;
+use pv_fork::for_each_apart;
 use std::alloc::Global;
 use std::sync::Wait;
-use std::thread;
 use std::thread::Threads;
 
 /// Want of memory, before any worker started. It hands the accounts back.
@@ -104,14 +104,13 @@ fn run_all<W: Work + Sync, R: Threads + Wait + Sync>(
     ensures run { (i : ℕ) (d : Seat W.Job W.Told) → i < length seats.old →
         HasRun W.numbers (get_or seats.old i d) (get_or seats.new i d) }
 {
-    let count = seats.len();
     // The last worker sits first.
-    let last = count.wrapping_sub(1);
+    let last = seats.len().wrapping_sub(1);
     let one = |i: usize, seat: &mut Seat<W::Job, W::Told>|
         requires { IsSeated W.numbers seat.now }
         ensures { HasRun W.numbers seat.entry.now seat.exit.now }
     { run_one(rt, work, last.wrapping_sub(i) as u64, seat) };
-    thread::for_each_mut(rt, seats, count, &one);
+    for_each_apart(rt, seats, &one);
 }
 
 // One worker.

@@ -1,0 +1,13 @@
+use Rattle.std.proofs.Common.{◌≡◌, ℕ, ◌+◌, refl, subst, arith, slice_index_or}
+use Rattle.std.specs.Fork.{ChangesAt}
+use Rattle.pv_fork.proofs.for_each_apart.Goals as goal
+
+pub returns : goal.returns
+returns g c i d there =
+    let here : 0 + i ≡ i = omega arith in
+    (refl, subst (λ (n : ℕ). ChangesAt g.F.Fn c.args.f.now n (slice_index_or c.args.s.now i d) (slice_index_or c.begin_from.new.s i d)) here (c.begin_from.ensures.each i d there))
+
+pub returns-then-s-eq1 : goal.returns-then-s-eq1
+returns-then-s-eq1 g c i d there =
+    let here : 0 + i ≡ i = omega arith in
+    (refl, subst (λ (n : ℕ). ChangesAt g.F.Fn c.args.f.now n (slice_index_or c.args.s.now i d) (slice_index_or c.call_one.new.s i d)) here (c.call_one.ensures.each i d there))

@@ -1,0 +1,87 @@
+//! Threads that one thread begins, and waits for.
+#![tactic(auto)]
+
+ghost use Rattle.std.specs.Prelude.{◌≡◌, ◌+◌, length};
+ghost use Rattle.std.specs.Fork.{AcceptsAt, ChangesAt, AcceptsEach, ChangesEach};
+ghost use Rattle.pv_fork.specs.Places.{AllFrom, ChangesFrom};
+
+use std::thread::{Threads, join_mut};
+
+/// Calls `f(i, &mut s[i])` at each place, each in a thread of its own where one can be made. The
+/// caller begins them all, and waits; a single call is its own.
+///
+/// `for_each_mut` of `std::thread` has the caller work, too. The kernel may leave a new thread on its
+/// maker's processor for milliseconds, so that the two take turns while other processors idle.
+pub fn for_each_apart<R: Threads + Sync, T: Send, F: Fn(usize, &mut T) + Sync>(
+    rt: &R,
+    s: &mut [T],
+    f: &F,
+)
+    requires { AcceptsEach F.Fn f.now s.old }
+    ensures { ChangesEach F.Fn f.now s.old s.new }
+{
+    if s.len() == 1 {
+        call_one(f, 0, s);
+        return;
+    }
+    begin_from(rt, f, 0, s);
+}
+
+#[cycle(begun)]
+fn begin_from<R: Threads + Sync, T: Send, F: Fn(usize, &mut T) + Sync>(
+    rt: &R,
+    f: &F,
+    base: usize,
+    s: &mut [T],
+)
+    requires { AllFrom (AcceptsAt F.Fn f.now) base s.old }
+    ensures { ChangesFrom (ChangesAt F.Fn f.now) base s.old s.new }
+{
+    if s.is_empty() {
+        return;
+    }
+    let (first, rest) = s.split_at_mut(1);
+    begin_both(rt, f, base, first, base + 1, rest);
+}
+
+// The first call goes to a new thread, and this one begins the others.
+#[cycle(begun)]
+fn begin_both<R: Threads + Sync, T: Send, F: Fn(usize, &mut T) + Sync>(
+    rt: &R,
+    f: &F,
+    base: usize,
+    first: &mut [T],
+    next: usize,
+    rest: &mut [T],
+)
+    requires one { length first.old ≡ 1 }
+    requires first { AllFrom (AcceptsAt F.Fn f.now) base first.old }
+    requires rest { AllFrom (AcceptsAt F.Fn f.now) next rest.old }
+    ensures first { ChangesFrom (ChangesAt F.Fn f.now) base first.old first.new }
+    ensures rest { ChangesFrom (ChangesAt F.Fn f.now) next rest.old rest.new }
+{
+    let mut one = ||
+        requires { (length first.now ≡ 1) × AllFrom (AcceptsAt F.Fn f.now) base first.now }
+        ensures { ChangesFrom (ChangesAt F.Fn f.entry.now) base first.entry.now first.exit.now }
+    { call_one(f, base, first) };
+    let mut others = ||
+        requires { AllFrom (AcceptsAt F.Fn f.now) next rest.now }
+        ensures { ChangesFrom (ChangesAt F.Fn f.entry.now) next rest.entry.now rest.exit.now }
+    { begin_from(rt, f, next, rest) };
+    join_mut(rt, &mut one, &mut others);
+}
+
+fn call_one<T, F: Fn(usize, &mut T)>(f: &F, base: usize, s: &mut [T])
+    requires one { length s.old ≡ 1 }
+    requires accepts { AllFrom (AcceptsAt F.Fn f.now) base s.old }
+    ensures { ChangesFrom (ChangesAt F.Fn f.now) base s.old s.new }
+{
+    call_at(f, base, &mut s[0]);
+}
+
+fn call_at<T, F: Fn(usize, &mut T)>(f: &F, base: usize, place: &mut T)
+    requires { AcceptsAt F.Fn f.now base place.old }
+    ensures { ChangesAt F.Fn f.now base place.old place.new }
+{
+    f(base, place);
+}
