@@ -41,6 +41,8 @@ TOP = Path(__file__).parent.parent
 EXAMPLES = TOP / "examples"
 SYSTEMS = TOP / "bench" / "systems"
 STEPS = 10_000_000
+# What cachegrind calls instructions, and reads and writes that miss the first data cache and the last one.
+CACHEGRIND = ("I refs", "D1 misses", "LLd misses")
 TURNS = 6
 Word = Union[str, int, Path]
 Words = Sequence[Word]
@@ -247,8 +249,9 @@ def counted(words: Words) -> list[int]:
     """Instructions of a run, misses of its first data cache and of its last one, as valgrind's cachegrind counts them."""
     told = subprocess.run(["valgrind", "--tool=cachegrind", "--cache-sim=yes", "--cachegrind-out-file=/dev/null",
                            *map(str, words)], stdout=subprocess.DEVNULL, stderr=subprocess.PIPE, text=True, check=False).stderr
-    found = [re.search(rf"{name}: +([0-9,]+)", told) for name in ("I +refs", "D1 +misses", "LLd +misses")]
-    return [int(one[1].replace(",", "")) for one in found if one]
+    lines = dict(re.findall(r"^==\d+== (\w+ +\w+): +([0-9,]+)", told, re.MULTILINE))
+    names = {" ".join(name.split()): int(number.replace(",", "")) for name, number in lines.items()}
+    return [names[name] for name in CACHEGRIND]
 
 
 def switched(words: Words) -> list[int]:
@@ -266,7 +269,7 @@ def profile(folder: str) -> None:
             few, many = ([TOP / "paver", "run", *of_size(folder, title, eps, nodes), "--out", Path(folder) / "paving",
                           "--workers", count] for nodes in (20_000, 1_000_000))
             millions_of = " ".join(f"{number / 1e6:.2f}" for number in counted(few))
-            print(f"{title:28} {count}: {millions_of} million instructions, misses of D1, of LL; "
+            print(f"{title:28} {count}: {millions_of} million instructions, misses of the first cache, of the last; "
                   f"{' '.join(map(str, switched(many)))} waits, preemptions, page faults", flush=True)
 
 
