@@ -15,12 +15,12 @@ import os
 import shutil
 import signal
 import sys
-import threading
 import time
 from concurrent.futures import FIRST_COMPLETED, ThreadPoolExecutor, wait
 from typing import Any
 
 MOST_JOBS = 4  # of one check, which gains little from more
+URGENT_JOBS = 2  # of one that all wait for, where as many processors are idle
 # Processor seconds of those checks that take longer than their lines tell, as seen on 2026-11-30. The order rests on them alone.
 SECONDS = {"pv_words": 350, "pv_keep_sql": 320, "pv_resume": 195, "pv_num": 180, "pv_tree": 150, "pv_workers": 149, "pv_cli": 127,
            "pv_io": 125, "pv_view": 123, "pv_search": 117, "pv_run": 113, "pv_file": 113, "pv_board": 109, "pv_pool": 100,
@@ -73,11 +73,6 @@ def chains(crates: list[Any], lines: dict[Any, int]) -> dict[Any, int]:
     return found
 
 
-def give_way() -> None:
-    """Lets what this thread starts wait for the processor where somebody else wants it."""
-    os.setpriority(os.PRIO_PROCESS, threading.get_native_id(), 10)
-
-
 def memory_of(crate: Any, lines: dict[Any, int]) -> int:
     """What a check by one job is likely to take, in bytes, by the greatest that were measured. A further job takes half."""
     return GIGABYTE + 60_000 * lines[crate] + 15_000 * sum(lines[low] for low in crate.below())
@@ -99,6 +94,7 @@ class Build:
         self.chain, self.needs = chains(crates, lines), {crate: memory_of(crate, lines) for crate in crates}
         self.left = sorted((crate for crate in crates if not crate.is_built()), key=lambda crate: -self.chain[crate])
         self.running: dict[Any, tuple[Any, int, int]] = {}
+        self.begun: dict[Any, float] = {}
         self.failed: list[Any] = []
 
     def ready(self) -> list[Any]:
@@ -107,22 +103,24 @@ class Build:
         return [crate for crate in self.left if not waiting & {*crate.below()}]
 
     def is_urgent(self, crate: Any) -> bool:
-        """Whether no longer chain than this crate's is being proved: all wait for it in the end."""
-        return all(self.chain[other] < self.chain[crate] for other, _, _ in self.running.values())
+        """Whether no check at work has as much to wait for it as this one: then all wait for this crate in the end."""
+        now = time.monotonic()
+        return all(self.chain[other] - (now - self.begun[other]) < self.chain[crate] for other, _, _ in self.running.values())
 
-    def start(self, urgent: ThreadPoolExecutor, other: ThreadPoolExecutor) -> None:
-        """Starts what processors and memory allow, and one check in any case. One that all wait for has as many jobs as it can
-        use, and the others, of one job each, give way to it."""
-        for crate in self.ready():
-            idle = self.jobs - len(self.running)
+    def start(self, pool: ThreadPoolExecutor) -> None:
+        """Starts what processors and memory allow, and one check in any case. There are never more jobs than processors, since
+        each of them loads the libraries anew; idle ones are shared by what is ready, and what all wait for gets two at least."""
+        ready = self.ready()
+        for at, crate in enumerate(ready):
+            idle = self.jobs - sum(jobs for _, jobs, _ in self.running.values())
             room = self.memory - sum(taken for _, _, taken in self.running.values())
             need = self.needs[crate]
             if idle > 0 and (need <= room or not self.running):
-                is_urgent = self.is_urgent(crate)
-                jobs = max(1, min(MOST_JOBS, self.jobs, 1 + (room - need) // (need // 2))) if is_urgent else 1
+                wanted = max(idle // (len(ready) - at), URGENT_JOBS if self.is_urgent(crate) else 1)
+                jobs = max(1, min(MOST_JOBS, idle, wanted, 1 + (room - need) // (need // 2)))
                 self.left.remove(crate)
-                done = (urgent if is_urgent else other).submit(prove, crate, jobs)
-                self.running[done] = crate, jobs, need + (jobs - 1) * (need // 2)
+                self.begun[crate] = time.monotonic()
+                self.running[pool.submit(prove, crate, jobs)] = crate, jobs, need + (jobs - 1) * (need // 2)
 
     def take(self) -> None:
         """Waits until a check ends, and says how."""
@@ -134,10 +132,10 @@ class Build:
             print(f"{time.monotonic() - self.since:6.0f} s  {what}", flush=True)
 
     def run(self) -> int:
-        with ThreadPoolExecutor(self.jobs) as urgent, ThreadPoolExecutor(self.jobs, initializer=give_way) as other:
+        with ThreadPoolExecutor(self.jobs) as pool:
             while self.running or self.left and not self.failed:
                 if not self.failed:
-                    self.start(urgent, other)
+                    self.start(pool)
                 self.take()
         for crate in self.failed:
             with open(f"{crate.folder}/out/prove.log", encoding="utf-8", errors="replace") as log:
