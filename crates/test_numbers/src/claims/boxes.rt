@@ -1,12 +1,21 @@
 //! What boxes promise.
-ghost use Rattle.std.specs.Prelude.{◌≡◌, ◌↔◌, ◌<◌, ◌≤◌, [], All, IsTrue, IsFalse, IfOk, length, slice_index_or};
+ghost use Rattle.std.specs.Prelude.{◌≡◌, ◌↔◌, ◌<◌, ◌≤◌, [], All, IsTrue, IsFalse, IfOk, length, slice_index_or, slice_set};
 ghost use Rattle.pv_box.specs.Boxes.{IsInsidePlace, IsApart, upper_half, hull_boxes};
-ghost use Rattle.pv_box.specs.Choice.{choose_of};
+ghost use Rattle.pv_box.specs.Choice.{choose_of, is_small_of};
 ghost use Rattle.pv_box.specs.QHull.{q_hull_of};
 
 use pv_box::{Bisector, IBox};
+use pv_interval::Interval;
 use pv_num::{Memory, Num};
 use std::alloc::Global;
+
+/// Puts an interval into a place.
+pub fn put(bx: &mut IBox, i: u8, v: Interval)
+    requires { i < length bx.old }
+    ensures { bx.new ≡ slice_set bx.old i v }
+{
+    bx.set(i, v);
+}
 
 /// Becomes another box.
 pub fn copy(bx: &mut IBox, other: &IBox)
@@ -54,6 +63,13 @@ pub fn cut_by(bx: &IBox, by: Bisector, path_len: u32) -> Option<(u8, Num)>
     ensures { result ≡ choose_of by path_len bx.now }
 {
     bx.choose(by, path_len)
+}
+
+/// Whether no place is wider than a number.
+pub fn is_small(bx: &IBox, eps: Num) -> bool
+    ensures { result ≡ is_small_of eps bx.now }
+{
+    bx.is_small(eps)
 }
 
 /// The q-hull of some boxes.

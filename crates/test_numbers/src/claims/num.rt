@@ -1,10 +1,11 @@
 //! What numbers promise.
-ghost use Rattle.std.specs.Prelude.{◌≡◌, ◌≢◌, ◌≤◌, ◌<◌, ◌*◌, ◌^◌, pos, IsTrue, IfSome};
+ghost use Rattle.std.specs.Prelude.{◌≡◌, ◌≢◌, ◌≤◌, ◌<◌, ◌*◌, ◌^◌, pos, unsigned_abs, IsTrue, IfSome};
 ghost use Rattle.pv_num.specs.Extended.{Fin, NegInf, PosInf};
 ghost use Rattle.pv_num.specs.Order.{le, lt};
 ghost use Rattle.pv_num.specs.Grid.{unit};
 ghost use Rattle.pv_num.specs.Parts.{number_text, IsFin};
-ghost use Rattle.pv_num.specs.Arithmetic.{add_of, mul_of, div_of, pow_of, middle_of, floor_of};
+ghost use Rattle.pv_num.specs.Arithmetic.{add_of, mul_of, div_of, ratio_of, pow_of, root_of, middle_of, floor_of};
+ghost use Rattle.pv_num.specs.declared.num.End.TheVariants.{Down};
 
 use pv_num::{End, Num};
 
@@ -30,6 +31,16 @@ pub fn quotient(a: Num, b: Num, side: End) -> Num
     a.div(b, side)
 }
 
+/// The ratio of two whole numbers, rounded to a side.
+pub fn ratio(p: i128, q: u128, side: End) -> Num
+    requires p_fits { unsigned_abs p < 10 ^ 37 }
+    requires q_positive { 1 ≤ q }
+    requires q_fits { q ≤ 10 ^ 36 }
+    ensures { result ≡ ratio_of side p q }
+{
+    Num::from_ratio(p, q, side)
+}
+
 /// The power of a number that is not negative, rounded to a side.
 pub fn power(a: Num, n: u8, side: End) -> Num
     requires not_negative { IsTrue (le (Fin (pos 0)) a) }
@@ -37,6 +48,16 @@ pub fn power(a: Num, n: u8, side: End) -> Num
     ensures { result ≡ pow_of side a n }
 {
     a.pow(n, side)
+}
+
+/// The root of a number that is not negative, rounded to a side.
+pub fn root(a: Num, n: u8, side: End) -> Num
+    requires not_negative { IsTrue (le (Fin (pos 0)) a) }
+    requires exponent { (1 ≤ n) × (n ≤ 32) }
+    requires finite_below { side ≡ Down → a ≢ PosInf }
+    ensures { result ≡ root_of side a n }
+{
+    a.root(n, side)
 }
 
 /// A cut strictly between two finite numbers.
