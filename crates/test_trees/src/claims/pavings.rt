@@ -1,7 +1,8 @@
 //! What pavings and their paths promise.
-ghost use Rattle.std.specs.Prelude.{◌≡◌, ◌+◌, ◌<◌, ◌++◌, [], ◌∷◌, true, length, IfSome};
-ghost use Rattle.pv_tree.specs.Trees.{leaf, subtree, shape_of, counts_of, opens, first};
+ghost use Rattle.std.specs.Prelude.{◌≡◌, ◌+◌, ◌<◌, ◌++◌, [], ◌∷◌, true, length, IfSome, IsSome};
+ghost use Rattle.pv_tree.specs.Trees.{leaf, subtree, box_of, shape_of, counts_of, opens, first};
 
+use pv_box::IBox;
 use pv_tree::{Counts, NodeLimit, Path, Paving, Shape};
 
 /// The shape of a node.
@@ -9,6 +10,15 @@ pub fn shape(paving: &Paving, path: Path) -> Shape
     ensures { result ≡ shape_of (subtree paving.now.tree path) }
 {
     paving.shape_at(path)
+}
+
+/// Writes the box of a node over another box.
+pub fn node_box(paving: &Paving, path: Path, into: &mut IBox)
+    requires there { IsSome (subtree paving.now.tree path) }
+    requires dims { length into.old ≡ length paving.now.root }
+    ensures { into.new ≡ box_of paving.now.root paving.now.tree path }
+{
+    paving.box_at(path, into);
 }
 
 /// The numbers of nodes of each shape.
