@@ -1,0 +1,4 @@
+//! What the rounds of a campaign promise.
+pub mod further;
+pub mod refused;
+pub mod whole;
