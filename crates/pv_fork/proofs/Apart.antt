@@ -1,5 +1,5 @@
 -- A list of one element before another list.
-use Rattle.std.proofs.Common.{◌≡◌, ℕ, zero, suc, ◌+◌, ◌<◌, List, [], ◌∷◌, ◌++◌, length, slice_index_or, slice_set, refl, subst, arith}
+use Rattle.std.proofs.Common.{◌≡◌, ℕ, zero, suc, ◌+◌, ◌<◌, List, [], ◌∷◌, ◌++◌, length, slice_index_or, slice_set, refl, subst, sym, arith, length-append}
 use Rattle.pv_fork.specs.Places.{AllFrom, ChangesFrom}
 
 pub first_part : {X : Type 0} (P : ℕ → X → Type 0) (base : ℕ) (a b : List X) → length a ≡ 1 → AllFrom P base (a ++ b) → AllFrom P base a
@@ -35,6 +35,14 @@ both_parts P base (y ∷ []) b (v ∷ []) d one first rest zero x there = first.
 both_parts P base (y ∷ []) b (v ∷ []) d one first rest (suc k) x there =
     subst (λ (n : ℕ). P n (slice_index_or b k x) (slice_index_or d k x)) (let e : base + 1 + k ≡ base + suc k = omega arith in e)
     (rest.each k x (let w : k < length b = omega arith in w))
+
+-- Both parts of a list whose first element stands before the cut.
+pub joined : {X : Type 0} (R : ℕ → X → X → Type 0) (base : ℕ) (xs a b c d : List X) → xs ≡ a ++ b → length a ≡ 1
+    → ChangesFrom R base a c → ChangesFrom R (base + 1) b d → ChangesFrom R base xs (c ++ d)
+joined {X = X} R base xs a b c d value one first rest = subst (λ (whole : List X). ChangesFrom R base whole (c ++ d)) (sym value) (record {
+  len = let l1 = first.len in let l2 = rest.len in omega (arith, length-append a b, length-append c d);
+  each = both_parts R base a b c d one first rest;
+})
 
 pub one_part : {X : Type 0} (R : ℕ → X → X → Type 0) (base : ℕ) (xs : List X) (d v : X) → length xs ≡ 1 → R base (slice_index_or xs 0 d) v
     → ChangesFrom R base xs (slice_set xs 0 v)

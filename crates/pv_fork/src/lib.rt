@@ -5,7 +5,13 @@ ghost use Rattle.std.specs.Prelude.{◌≡◌, ◌+◌, length};
 ghost use Rattle.std.specs.Fork.{AcceptsAt, ChangesAt, AcceptsEach, ChangesEach};
 ghost use Rattle.pv_fork.specs.Places.{AllFrom, ChangesFrom};
 
-use std::thread::{Threads, join_mut};
+use std::sync::Wait;
+use std::sync::atomic::{AtomicBool, Ordering};
+use std::thread::{Parker, Threads, join_mut};
+use std::time::Duration;
+
+// How long the first call may take before the others begin: about what it costs to begin them.
+const PATIENCE_MILLIS: u64 = 1;
 
 /// Calls `f(i, &mut s[i])` at each place, each in a thread of its own where one can be made. The
 /// caller begins them all, and waits; a single call is its own.
@@ -25,6 +31,120 @@ pub fn for_each_apart<R: Threads + Sync, T: Send, F: Fn(usize, &mut T) + Sync>(
         return;
     }
     begin_from(rt, f, 0, s);
+}
+
+/// As `for_each_apart`, but the other calls begin once the first has taken a millisecond. Where it
+/// ends before, the caller makes them itself, one by one: for calls that find nothing to do then.
+pub fn for_each_late<R: Threads + Wait + Sync, T: Send, F: Fn(usize, &mut T) + Sync>(
+    rt: &R,
+    s: &mut [T],
+    f: &F,
+)
+    requires { AcceptsEach F.Fn f.now s.old }
+    ensures { ChangesEach F.Fn f.now s.old s.new }
+{
+    begin_first(rt, f, s);
+}
+
+fn begin_first<R: Threads + Wait + Sync, T: Send, F: Fn(usize, &mut T) + Sync>(
+    rt: &R,
+    f: &F,
+    s: &mut [T],
+)
+    requires { AllFrom (AcceptsAt F.Fn f.now) 0 s.old }
+    ensures { ChangesFrom (ChangesAt F.Fn f.now) 0 s.old s.new }
+{
+    if s.len() < 2 {
+        call_from(f, 0, s);
+        return;
+    }
+    let end = End::new();
+    let (first, rest) = s.split_at_mut(1);
+    begin_late(rt, f, &end, first, rest);
+}
+
+// The first call goes to a new thread, and this one waits for it before it begins the others.
+fn begin_late<R: Threads + Wait + Sync, T: Send, F: Fn(usize, &mut T) + Sync>(
+    rt: &R,
+    f: &F,
+    end: &End,
+    first: &mut [T],
+    rest: &mut [T],
+)
+    requires one { length first.old ≡ 1 }
+    requires first { AllFrom (AcceptsAt F.Fn f.now) 0 first.old }
+    requires rest { AllFrom (AcceptsAt F.Fn f.now) 1 rest.old }
+    ensures first { ChangesFrom (ChangesAt F.Fn f.now) 0 first.old first.new }
+    ensures rest { ChangesFrom (ChangesAt F.Fn f.now) 1 rest.old rest.new }
+{
+    let mut one = ||
+        requires { (length first.now ≡ 1) × AllFrom (AcceptsAt F.Fn f.now) 0 first.now }
+        ensures { ChangesFrom (ChangesAt F.Fn f.entry.now) 0 first.entry.now first.exit.now }
+    {
+        call_one(f, 0, first);
+        end.tell();
+    };
+    let mut others = ||
+        requires { AllFrom (AcceptsAt F.Fn f.now) 1 rest.now }
+        ensures { ChangesFrom (ChangesAt F.Fn f.entry.now) 1 rest.entry.now rest.exit.now }
+    { end_or_begin(rt, f, end, rest) };
+    join_mut(rt, &mut one, &mut others);
+}
+
+// Makes the calls itself where the first one ends soon, or else begins them.
+fn end_or_begin<R: Threads + Wait + Sync, T: Send, F: Fn(usize, &mut T) + Sync>(
+    rt: &R,
+    f: &F,
+    end: &End,
+    s: &mut [T],
+)
+    requires { AllFrom (AcceptsAt F.Fn f.now) 1 s.old }
+    ensures { ChangesFrom (ChangesAt F.Fn f.now) 1 s.old s.new }
+{
+    if end.is_soon(rt) {
+        call_from(f, 1, s);
+    } else {
+        begin_from(rt, f, 1, s);
+    }
+}
+
+// What the first call's thread tells its maker.
+#[derive(Drop)]
+struct End {
+    is_there: AtomicBool,
+    parker: Parker,
+}
+
+impl End {
+    fn new() -> End {
+        End {
+            is_there: AtomicBool::new(false),
+            parker: Parker::new(),
+        }
+    }
+
+    fn tell(&self) {
+        self.is_there.store(true, Ordering::SeqCst);
+        self.parker.unpark();
+    }
+
+    fn is_soon<R: Wait>(&self, rt: &R) -> bool {
+        self.parker.park_timeout(rt, Duration::from_millis(PATIENCE_MILLIS));
+        self.is_there.load(Ordering::SeqCst)
+    }
+}
+
+// Makes the calls one by one.
+fn call_from<T, F: Fn(usize, &mut T)>(f: &F, base: usize, s: &mut [T])
+    requires { AllFrom (AcceptsAt F.Fn f.now) base s.old }
+    ensures { ChangesFrom (ChangesAt F.Fn f.now) base s.old s.new }
+{
+    if s.is_empty() {
+        return;
+    }
+    let (first, rest) = s.split_at_mut(1);
+    call_one(f, base, first);
+    call_from(f, base + 1, rest);
 }
 
 #[cycle(begun)]

@@ -11,7 +11,7 @@ use crate::seat::{Room, Seat, clear_seats, seat_all};
 use crate::teardown::close;
 use crate::work::Work;
 use crate::worker::run;
-use pv_fork::for_each_apart;
+use pv_fork::for_each_late;
 use std::alloc::Global;
 use std::sync::Wait;
 use std::thread::Threads;
@@ -110,7 +110,7 @@ fn run_all<W: Work + Sync, R: Threads + Wait + Sync>(
         requires { IsSeated W.numbers seat.now }
         ensures { HasRun W.numbers seat.entry.now seat.exit.now }
     { run_one(rt, work, last.wrapping_sub(i) as u64, seat) };
-    for_each_apart(rt, seats, &one);
+    for_each_late(rt, seats, &one);
 }
 
 // One worker.
