@@ -129,7 +129,8 @@ impl End {
     }
 
     fn is_soon<R: Wait>(&self, rt: &R) -> bool {
-        self.parker.park_timeout(rt, Duration::from_millis(PATIENCE_MILLIS));
+        self.parker
+            .park_timeout(rt, Duration::from_millis(PATIENCE_MILLIS));
         self.is_there.load(Ordering::SeqCst)
     }
 }

@@ -13,9 +13,17 @@ call_one-requires-clause-accepts g t c =
 pub call_from-requires : goal.call_from-requires
 call_from-requires g t c κs within =
     let cut = c.split_at_mut-first in
-    let shorter = cut.ensures.back_len in
-    (search rules, (within.0, (within.1, rest_part (AcceptsAt g.F.Fn c.args.f.now) c.args.base cut.result.0.now cut.result.1.now cut.ensures.front_len
-    (subst (AllFrom (AcceptsAt g.F.Fn c.args.f.now) c.args.base) cut.ensures.value c.requires))))
+    let shorter = cut.ensures.back_len in (
+      search rules,
+      (
+        within.0,
+        (
+          within.1,
+          rest_part (AcceptsAt g.F.Fn c.args.f.now) c.args.base cut.result.0.now cut.result.1.now cut.ensures.front_len
+              (subst (AllFrom (AcceptsAt g.F.Fn c.args.f.now) c.args.base) cut.ensures.value c.requires),
+        ),
+      ),
+    )
 
 pub returns : goal.returns
 returns g t c =
