@@ -25,10 +25,11 @@ pub fn number<R: Threads + Sync>(rt: &R, places: &mut [usize])
 pub fn visit_late<R: Threads + Wait + Sync, T: Send, F: Fn(usize, &mut T) + Sync>(
     rt: &R,
     s: &mut [T],
+    threads: usize,
     f: &F,
 )
     requires { AcceptsEach F.Fn f.now s.old }
     ensures { ChangesEach F.Fn f.now s.old s.new }
 {
-    for_each_late(rt, s, f);
+    for_each_late(rt, s, threads, f);
 }

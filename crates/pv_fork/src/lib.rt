@@ -33,22 +33,27 @@ pub fn for_each_apart<R: Threads + Sync, T: Send, F: Fn(usize, &mut T) + Sync>(
     begin_from(rt, f, 0, s);
 }
 
-/// As `for_each_apart`, but the other calls begin once the first has taken a millisecond. Where it
-/// ends before, the caller makes them itself, one by one: for calls that find nothing to do then.
+/// Calls `f(i, &mut s[i])` at each place, at most `threads` of them at once. The first begins in a
+/// thread of its own, the others once it has taken a millisecond: for calls that find nothing to do
+/// where the first ends before. The caller makes those, and those that are too many, one by one
+/// after the others.
 pub fn for_each_late<R: Threads + Wait + Sync, T: Send, F: Fn(usize, &mut T) + Sync>(
     rt: &R,
     s: &mut [T],
+    threads: usize,
     f: &F,
 )
     requires { AcceptsEach F.Fn f.now s.old }
     ensures { ChangesEach F.Fn f.now s.old s.new }
 {
-    begin_first(rt, f, s);
+    begin_first(rt, f, threads.saturating_sub(1), s);
 }
 
+// After the first call, at most so many are made at once.
 fn begin_first<R: Threads + Wait + Sync, T: Send, F: Fn(usize, &mut T) + Sync>(
     rt: &R,
     f: &F,
+    most: usize,
     s: &mut [T],
 )
     requires { AllFrom (AcceptsAt F.Fn f.now) 0 s.old }
@@ -60,7 +65,7 @@ fn begin_first<R: Threads + Wait + Sync, T: Send, F: Fn(usize, &mut T) + Sync>(
     }
     let end = End::new();
     let (first, rest) = s.split_at_mut(1);
-    begin_late(rt, f, &end, first, rest);
+    begin_late(rt, f, &end, most, first, rest);
 }
 
 // The first call goes to a new thread, and this one waits for it before it begins the others.
@@ -68,6 +73,7 @@ fn begin_late<R: Threads + Wait + Sync, T: Send, F: Fn(usize, &mut T) + Sync>(
     rt: &R,
     f: &F,
     end: &End,
+    most: usize,
     first: &mut [T],
     rest: &mut [T],
 )
@@ -87,25 +93,26 @@ fn begin_late<R: Threads + Wait + Sync, T: Send, F: Fn(usize, &mut T) + Sync>(
     let mut others = ||
         requires { AllFrom (AcceptsAt F.Fn f.now) 1 rest.now }
         ensures { ChangesFrom (ChangesAt F.Fn f.entry.now) 1 rest.entry.now rest.exit.now }
-    { end_or_begin(rt, f, end, rest) };
+    { begin_some(rt, f, end, most, rest) };
     join_mut(rt, &mut one, &mut others);
 }
 
-// Makes the calls itself where the first one ends soon, or else begins them.
-fn end_or_begin<R: Threads + Wait + Sync, T: Send, F: Fn(usize, &mut T) + Sync>(
+// Begins some of the calls, or none where the first one ends soon, and makes the others itself.
+fn begin_some<R: Threads + Wait + Sync, T: Send, F: Fn(usize, &mut T) + Sync>(
     rt: &R,
     f: &F,
     end: &End,
+    most: usize,
     s: &mut [T],
 )
     requires { AllFrom (AcceptsAt F.Fn f.now) 1 s.old }
     ensures { ChangesFrom (ChangesAt F.Fn f.now) 1 s.old s.new }
 {
-    if end.is_soon(rt) {
-        call_from(f, 1, s);
-    } else {
-        begin_from(rt, f, 1, s);
-    }
+    let most = if end.is_soon(rt) { 0 } else { most };
+    let (begun, later) = s.split_at_mut(most.min(s.len()));
+    let next = 1 + begun.len();
+    begin_from(rt, f, 1, begun);
+    call_from(f, next, later);
 }
 
 // What the first call's thread tells its maker.
@@ -155,7 +162,7 @@ fn begin_from<R: Threads + Sync, T: Send, F: Fn(usize, &mut T) + Sync>(
     base: usize,
     s: &mut [T],
 )
-    requires { AllFrom (AcceptsAt F.Fn f.now) base s.old }
+    requires accepts { AllFrom (AcceptsAt F.Fn f.now) base s.old }
     ensures { ChangesFrom (ChangesAt F.Fn f.now) base s.old s.new }
 {
     if s.is_empty() {

@@ -14,7 +14,10 @@ use crate::worker::run;
 use pv_fork::for_each_late;
 use std::alloc::Global;
 use std::sync::Wait;
-use std::thread::Threads;
+use std::thread::{Threads, available_parallelism};
+
+// So many workers work at once on any machine.
+const FEW_WORKERS: usize = 4;
 
 /// Want of memory, before any worker started. It hands the accounts back.
 #[derive(Drop)]
@@ -110,7 +113,20 @@ fn run_all<W: Work + Sync, R: Threads + Wait + Sync>(
         requires { IsSeated W.numbers seat.now }
         ensures { HasRun W.numbers seat.entry.now seat.exit.now }
     { run_one(rt, work, last.wrapping_sub(i) as u64, seat) };
-    for_each_late(rt, seats, &one);
+    let threads = most_at_once(rt, seats.len());
+    for_each_late(rt, seats, threads, &one);
+}
+
+// How many of so many workers work at once: no more than there are processors, since one that holds
+// the others up would wait for its turn, and a few in any case.
+fn most_at_once<R: Threads>(rt: &R, workers: usize) -> usize {
+    if workers <= FEW_WORKERS {
+        return workers;
+    }
+    match available_parallelism(rt) {
+        Ok(processors) => workers.min(processors.get().max(FEW_WORKERS)),
+        Err(_) => workers,
+    }
 }
 
 // One worker.
