@@ -1,4 +1,4 @@
-"""Checks docs/READING.md: its commands give what it shows, and each named line of a file has the name.
+"""Checks docs/READING.md, whose commands give what it shows, and with docs/PROOFS.md that each named line of a file has the name.
 
     [MEND=yes] python3 -m tests.runners.reading
 
@@ -13,8 +13,9 @@ from pathlib import Path
 from tests.runners.running import TOP, FolderTest, main
 
 PAGE = TOP / "docs" / "READING.md"
+PAGES = [PAGE, TOP / "docs" / "PROOFS.md"]
 LINK = re.compile(r"\[`([a-zA-Z_]+)`, line (\d+)\]\(([^)]+)\)")
-DECLARES = r"(?:^\s*|\b(?:fn|record|data|ensures|unfoldable pub|abbrev pub|pub) )%s\b"
+DECLARES = r"(?:^\s*|\b(?:fn|record|data|ensures|unfoldable pub|abbrev pub|pub|ghost) )%s\b"
 
 
 def declared(name: str, file: Path) -> list[int]:
@@ -25,7 +26,7 @@ def declared(name: str, file: Path) -> list[int]:
 
 
 def mended(text: str) -> str:
-    """The page with the numbers of lines as they are now."""
+    """A page with the numbers of lines as they are now."""
     def number(match: re.Match[str]) -> str:
         places = declared(match.group(1), PAGE.parent / match.group(3))
         return f"[`{match.group(1)}`, line {places[0] if places else 0}]({match.group(3)})"
@@ -33,20 +34,22 @@ def mended(text: str) -> str:
 
 
 class Reading(FolderTest):
-    """The page's lines and commands."""
+    """The pages' lines, and the first one's commands."""
 
     def setUp(self) -> None:
         super().setUp()
         if os.environ.get("MEND"):
-            PAGE.write_text(mended(PAGE.read_text()))
+            for page in PAGES:
+                page.write_text(mended(page.read_text()))
         self.text = PAGE.read_text()
 
     def test_lines(self) -> None:
-        links = LINK.findall(self.text)
-        self.assertGreater(len(links), 20)
-        for name, line, to in links:
-            with self.subTest(name, file=to):
-                self.assertIn(int(line), declared(name, PAGE.parent / to))
+        for page, least in zip(PAGES, (20, 10)):
+            links = LINK.findall(page.read_text())
+            self.assertGreaterEqual(len(links), least)
+            for name, line, to in links:
+                with self.subTest(name, file=to):
+                    self.assertIn(int(line), declared(name, page.parent / to))
 
     def test_commands(self) -> None:
         blocks = re.findall(r"^```\n(.*?)^```", self.text, re.M | re.S)
