@@ -4,7 +4,6 @@
 #![tactic(auto)]
 
 pub mod keepers;
-pub mod memory;
 pub mod openings;
 pub mod rounds;
 pub mod rows;

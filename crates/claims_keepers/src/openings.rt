@@ -1,4 +1,3 @@
 //! What opening a campaign promises.
 pub mod kept;
 pub mod limits;
-pub mod refused;

@@ -1,6 +1,5 @@
 //! What rows and their lines promise.
 ghost use Rattle.std.specs.Prelude.{◌≡◌, ◌≤◌, Err, IfOk, IfSome, length};
-ghost use Rattle.pv_file.specs.declared.writer.TheConstants.{LONGEST_LINE};
 ghost use Rattle.pv_keep.specs.Rebuilding.{IsFirstBad};
 ghost use Rattle.pv_keep.specs.Rows.{InPreorder};
 

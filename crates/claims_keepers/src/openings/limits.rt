@@ -1,24 +1,10 @@
 //! Which limit a campaign has.
 ghost use Rattle.std.specs.Prelude.{◌≡◌, IfOk};
-ghost use Rattle.pv_tree.specs.declared.limit.TheConstants.{LEAST_LIMIT};
 
 use pv_box::IBox;
 use pv_keep::{Campaign, CampaignRefused, Keeper};
 use pv_tree::NodeLimit;
 use std::alloc::Global;
-
-/// Where no limit is given, a campaign has the least one.
-pub fn open<P: Keeper>(
-    alloc: Global,
-    keeper: &mut P,
-    name: &str,
-    identity: [u8; 32],
-    root: IBox,
-) -> Result<Campaign, CampaignRefused>
-    ensures { IfOk result (λ c. c.limit ≡ LEAST_LIMIT) }
-{
-    Campaign::open(alloc, keeper, name, identity, root)
-}
 
 /// A campaign has the limit that it is opened with.
 pub fn open_limited<P: Keeper>(
