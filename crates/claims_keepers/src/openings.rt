@@ -1,0 +1,3 @@
+//! What opening a campaign promises.
+pub mod kept;
+pub mod limits;
