@@ -1,0 +1,63 @@
+//! What folders hold, and what they count.
+ghost use Rattle.std.specs.Prelude.{◌≡◌, [], OnOk, IsErrOf};
+ghost use Rattle.pv_io.specs.Outside.{Rose, IsTooLong, MayBeAbsent, IsOldOrNew, stored};
+ghost use Rattle.pv_io.specs.Real.{real_fetch_faults};
+ghost use Rattle.pv_io.specs.Shelf.{kept, kept_in};
+
+use pv_io::{FetchRefused, Folder, IoRefused, MemFolder, PlainFolder, RealFolder};
+
+/// What is stored is then held, whole.
+pub fn keep(folder: &mut PlainFolder, name: &str, bytes: &[u8]) -> Result<(), IoRefused>
+    ensures { OnOk result (kept folder.new name.now ≡ stored (kept folder.old name.now) bytes.now) }
+{
+    folder.store(name, bytes)
+}
+
+/// Where a store fails, the name has its old content or the new one, whole.
+pub fn keep_or_fail(folder: &mut MemFolder, name: &str, bytes: &[u8]) -> Result<(), IoRefused>
+    ensures { IsErrOf result IoRefused.Failed
+        → IsOldOrNew (kept_in folder.old name.now) (kept_in folder.new name.now) bytes.now }
+{
+    folder.store(name, bytes)
+}
+
+/// Of too long a content the first bytes are handed out, one more than the limit.
+pub fn hand_out(
+    folder: &mut PlainFolder,
+    name: &str,
+    limit: u64,
+    into: &mut Vec<u8>,
+) -> Result<(), FetchRefused>
+    requires { into.old.items ≡ [] }
+    ensures { IsErrOf result FetchRefused.TooLong
+        → IsTooLong (kept folder.old name.now) limit into.new.items }
+{
+    folder.fetch(name, limit, into)
+}
+
+/// A name is absent only where nothing is held.
+pub fn find(
+    folder: &mut PlainFolder,
+    name: &str,
+    limit: u64,
+    into: &mut Vec<u8>,
+) -> Result<(), FetchRefused>
+    requires { into.old.items ≡ [] }
+    ensures { IsErrOf result FetchRefused.Absent → MayBeAbsent (kept folder.old name.now) }
+{
+    folder.fetch(name, limit, into)
+}
+
+/// A fetch that fails is counted.
+pub fn find_outside(
+    folder: &mut RealFolder<'_>,
+    name: &str,
+    limit: u64,
+    into: &mut Vec<u8>,
+) -> Result<(), FetchRefused>
+    requires { into.old.items ≡ [] }
+    ensures { IsErrOf result FetchRefused.Failed
+        → Rose (real_fetch_faults folder.old) (real_fetch_faults folder.new) }
+{
+    folder.fetch(name, limit, into)
+}
