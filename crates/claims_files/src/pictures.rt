@@ -13,30 +13,24 @@ use pv_tree::Paving;
 use std::alloc::Global;
 
 /// The rectangles are those of the paving on the plane.
-pub fn show(alloc: Global, p: Paving, x: u8, y: u8, at: &[Num]) -> Result<Picture, Memory>
-    requires x { x < length p.root }
-    requires y { y < length p.root }
+pub fn show(alloc: Global, p: &Paving, x: u8, y: u8, at: &[Num]) -> Result<Picture, Memory>
+    requires x { x < length p.now.root }
+    requires y { y < length p.now.root }
     requires two { x ≢ y }
-    requires others { length at.now + 2 ≡ length p.root }
-    requires x_finite { IsFinite (place p.root x) }
-    requires y_finite { IsFinite (place p.root y) }
+    requires others { length at.now + 2 ≡ length p.now.root }
+    requires x_finite { IsFinite (place p.now.root x) }
+    requires y_finite { IsFinite (place p.now.root y) }
     ensures { IfOk result (λ picture.
-        picture ≡ picture_of (record { x = x; y = y; at = at.now }) p.root p.tree) }
+        picture ≡ picture_of (record { x = x; y = y; at = at.now }) p.now.root p.now.tree) }
 {
-    slice(alloc, &p, x, y, at)
+    slice(alloc, p, x, y, at)
 }
 
-/// The text is the picture's.
+/// The text is the picture's. Only a sink that failed is a failure.
 pub fn draw<K: Sink>(picture: &Picture, alloc: Global, sink: &mut K) -> Result<(), FileWriteRefused>
-    ensures { OnOk result
+    ensures whole { OnOk result
         (K.written sink.new ≡ appended (K.written sink.old) (picture_text picture.now)) }
-{
-    picture.write(alloc, sink)
-}
-
-/// Only a sink that failed is a failure.
-pub fn fail<K: Sink>(picture: &Picture, alloc: Global, sink: &mut K) -> Result<(), FileWriteRefused>
-    ensures { IsErrOf result FileWriteRefused.WriteFailed
+    ensures cause { IsErrOf result FileWriteRefused.WriteFailed
         → Rose (K.faults sink.old) (K.faults sink.new) }
 {
     picture.write(alloc, sink)

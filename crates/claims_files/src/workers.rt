@@ -30,7 +30,7 @@ pub fn write_together<K: Sink, R: Threads + Sync>(
     write_by(rt, alloc, p, identity, workers, sink)
 }
 
-/// The lines of all nodes are written, in version 1.
+/// The lines of all nodes are written, in version 1. Only a sink that failed is a failure.
 pub fn list_together<K: Sink, R: Threads + Sync>(
     rt: &R,
     alloc: Global,
@@ -40,24 +40,10 @@ pub fn list_together<K: Sink, R: Threads + Sync>(
 ) -> Result<(), FileWriteRefused>
     requires one { 1 ≤ workers }
     requires few { workers ≤ MOST_WORKERS }
-    ensures { OnOk result
+    ensures whole { OnOk result
         (K.written sink.new
         ≡ appended (K.written sink.old) (lines_of version.One p.now.root p.now.tree)) }
-{
-    write_lines_by(rt, alloc, p, workers, sink)
-}
-
-/// Only a sink that failed is a failure.
-pub fn fail_together<K: Sink, R: Threads + Sync>(
-    rt: &R,
-    alloc: Global,
-    p: &Paving,
-    workers: u32,
-    sink: &mut K,
-) -> Result<(), FileWriteRefused>
-    requires one { 1 ≤ workers }
-    requires few { workers ≤ MOST_WORKERS }
-    ensures { IsErrOf result FileWriteRefused.WriteFailed
+    ensures cause { IsErrOf result FileWriteRefused.WriteFailed
         → Rose (K.faults sink.old) (K.faults sink.new) }
 {
     write_lines_by(rt, alloc, p, workers, sink)

@@ -11,16 +11,10 @@ use pv_num::Memory;
 use pv_tree::{Outcome, Path, Paving};
 use std::alloc::Global;
 
-/// The line is that of the outcome.
+/// The line is that of the outcome, and the outcome is right for the box.
 pub fn read_line(alloc: Global, line: &[u8], bx: &IBox) -> Result<Option<Outcome>, Memory>
-    ensures { IfOk result (λ r. IfSome r (λ o. line.now ≡ outcome_line o)) }
-{
-    read_outcome(alloc, line, bx)
-}
-
-/// The outcome is right for the box.
-pub fn read_right(alloc: Global, line: &[u8], bx: &IBox) -> Result<Option<Outcome>, Memory>
-    ensures { IfOk result (λ r. IfSome r (λ o. IsRightFor bx.now o)) }
+    ensures sound { IfOk result (λ r. IfSome r (λ o. line.now ≡ outcome_line o)) }
+    ensures right { IfOk result (λ r. IfSome r (λ o. IsRightFor bx.now o)) }
 {
     read_outcome(alloc, line, bx)
 }

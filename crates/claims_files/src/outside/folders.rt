@@ -7,57 +7,46 @@ ghost use Rattle.pv_io.specs.Shelf.{kept, kept_in};
 use pv_io::{FetchRefused, Folder, IoRefused, MemFolder, PlainFolder, RealFolder};
 
 /// What is stored is then held, whole.
-pub fn keep(folder: &mut PlainFolder, name: &str, bytes: &[u8]) -> Result<(), IoRefused>
-    ensures { OnOk result (kept folder.new name.now ≡ stored (kept folder.old name.now) bytes.now) }
+pub fn keep(plain: &mut PlainFolder, name: &str, bytes: &[u8]) -> Result<(), IoRefused>
+    ensures { OnOk result (kept plain.new name.now ≡ stored (kept plain.old name.now) bytes.now) }
 {
-    folder.store(name, bytes)
+    plain.store(name, bytes)
 }
 
 /// Where a store fails, the name has its old content or the new one, whole.
-pub fn keep_or_fail(folder: &mut MemFolder, name: &str, bytes: &[u8]) -> Result<(), IoRefused>
+pub fn keep_or_fail(failing: &mut MemFolder, name: &str, bytes: &[u8]) -> Result<(), IoRefused>
     ensures { IsErrOf result IoRefused.Failed
-        → IsOldOrNew (kept_in folder.old name.now) (kept_in folder.new name.now) bytes.now }
+        → IsOldOrNew (kept_in failing.old name.now) (kept_in failing.new name.now) bytes.now }
 {
-    folder.store(name, bytes)
+    failing.store(name, bytes)
 }
 
-/// Of too long a content the first bytes are handed out, one more than the limit.
-pub fn hand_out(
-    folder: &mut PlainFolder,
-    name: &str,
-    limit: u64,
-    into: &mut Vec<u8>,
-) -> Result<(), FetchRefused>
-    requires { into.old.items ≡ [] }
-    ensures { IsErrOf result FetchRefused.TooLong
-        → IsTooLong (kept folder.old name.now) limit into.new.items }
-{
-    folder.fetch(name, limit, into)
-}
-
-/// A name is absent only where nothing is held.
+/// Of too long a content the first bytes are handed out, one more than the limit. A name is absent
+/// only where nothing is held.
 pub fn find(
-    folder: &mut PlainFolder,
+    plain: &mut PlainFolder,
     name: &str,
     limit: u64,
     into: &mut Vec<u8>,
 ) -> Result<(), FetchRefused>
     requires { into.old.items ≡ [] }
-    ensures { IsErrOf result FetchRefused.Absent → MayBeAbsent (kept folder.old name.now) }
+    ensures too_long { IsErrOf result FetchRefused.TooLong
+        → IsTooLong (kept plain.old name.now) limit into.new.items }
+    ensures absent { IsErrOf result FetchRefused.Absent → MayBeAbsent (kept plain.old name.now) }
 {
-    folder.fetch(name, limit, into)
+    plain.fetch(name, limit, into)
 }
 
 /// A fetch that fails is counted.
 pub fn find_outside(
-    folder: &mut RealFolder<'_>,
+    real: &mut RealFolder<'_>,
     name: &str,
     limit: u64,
     into: &mut Vec<u8>,
 ) -> Result<(), FetchRefused>
     requires { into.old.items ≡ [] }
     ensures { IsErrOf result FetchRefused.Failed
-        → Rose (real_fetch_faults folder.old) (real_fetch_faults folder.new) }
+        → Rose (real_fetch_faults real.old) (real_fetch_faults real.new) }
 {
-    folder.fetch(name, limit, into)
+    real.fetch(name, limit, into)
 }

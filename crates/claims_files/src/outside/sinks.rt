@@ -4,22 +4,24 @@ ghost use Rattle.std.specs.Io.KnownBytes.{Appends};
 ghost use Rattle.pv_io.specs.Outside.{Rose, appended};
 ghost use Rattle.pv_io.specs.Real.{sink_faults};
 
-use pv_io::{FileWriteRefused, IoRefused, MemSink, PlainSink, RealSink, Sink, hand_over, takes_all};
+use pv_io::{
+    FileWriteRefused, IoRefused, MemSink, PlainSink, RealSink, Sink, hand_over, takes_all,
+};
 use std::io::Write;
 
 /// A piece that is taken stands behind those before it.
-pub fn put(sink: &mut PlainSink, bytes: &[u8]) -> Result<(), IoRefused>
-    ensures { OnOk result (Some sink.new ≡ appended (Some sink.old) bytes.now) }
+pub fn put(plain: &mut PlainSink, bytes: &[u8]) -> Result<(), IoRefused>
+    ensures { OnOk result (Some plain.new ≡ appended (Some plain.old) bytes.now) }
 {
-    sink.write(bytes)
+    plain.write(bytes)
 }
 
 /// The calls of the list fail, and no others.
-pub fn put_or_fail(sink: &mut MemSink, bytes: &[u8]) -> Result<(), IoRefused>
+pub fn put_or_fail(failing: &mut MemSink, bytes: &[u8]) -> Result<(), IoRefused>
     ensures { IsErrOf result IoRefused.Failed
-        ↔ Contains sink.old.turns.failing sink.old.turns.next }
+        ↔ Contains failing.old.turns.failing failing.old.turns.next }
 {
-    sink.write(bytes)
+    failing.write(bytes)
 }
 
 /// A sink has met no fault at first.
