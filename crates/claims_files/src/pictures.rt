@@ -1,6 +1,6 @@
 //! What a picture shows, and what is written of it.
-ghost use Rattle.std.specs.Prelude.{◌≡◌, ◌≢◌, ◌+◌, ◌<◌, IfOk, OnOk, length};
-ghost use Rattle.pv_io.specs.Outside.{appended};
+ghost use Rattle.std.specs.Prelude.{◌≡◌, ◌≢◌, ◌+◌, ◌<◌, IfOk, OnOk, IsErrOf, length};
+ghost use Rattle.pv_io.specs.Outside.{Rose, appended};
 ghost use Rattle.pv_svg.specs.Planes.{place};
 ghost use Rattle.pv_svg.specs.Pixels.{IsFinite};
 ghost use Rattle.pv_svg.specs.Rectangles.{picture_of};
@@ -26,10 +26,12 @@ pub fn show(alloc: Global, p: &Paving, x: u8, y: u8, at: &[Num]) -> Result<Pictu
     slice(alloc, p, x, y, at)
 }
 
-/// The text is the picture's.
+/// The text is the picture's. Only a sink that failed is a failure.
 pub fn draw<K: Sink>(picture: &Picture, alloc: Global, sink: &mut K) -> Result<(), FileWriteRefused>
-    ensures { OnOk result
+    ensures whole { OnOk result
         (K.written sink.new ≡ appended (K.written sink.old) (picture_text picture.now)) }
+    ensures cause { IsErrOf result FileWriteRefused.WriteFailed
+        → Rose (K.faults sink.old) (K.faults sink.new) }
 {
     picture.write(alloc, sink)
 }

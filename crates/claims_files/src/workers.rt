@@ -1,6 +1,6 @@
 //! What a paving's text by several workers promises.
-ghost use Rattle.std.specs.Prelude.{◌≡◌, ◌≤◌, OnOk};
-ghost use Rattle.pv_io.specs.Outside.{appended};
+ghost use Rattle.std.specs.Prelude.{◌≡◌, ◌≤◌, OnOk, IsErrOf};
+ghost use Rattle.pv_io.specs.Outside.{Rose, appended};
 ghost use Rattle.pv_file.specs.Lines.{lines_of};
 ghost use Rattle.pv_file.specs.Texts.{file_text};
 ghost use Rattle.pv_file.specs.declared.version.Version.TheVariants as version;
@@ -30,7 +30,7 @@ pub fn write_together<K: Sink, R: Threads + Sync>(
     write_by(rt, alloc, p, identity, workers, sink)
 }
 
-/// The lines of all nodes are written, in version 1.
+/// The lines of all nodes are written, in version 1. Only a sink that failed is a failure.
 pub fn list_together<K: Sink, R: Threads + Sync>(
     rt: &R,
     alloc: Global,
@@ -40,9 +40,11 @@ pub fn list_together<K: Sink, R: Threads + Sync>(
 ) -> Result<(), FileWriteRefused>
     requires one { 1 ≤ workers }
     requires few { workers ≤ MOST_WORKERS }
-    ensures { OnOk result
+    ensures whole { OnOk result
         (K.written sink.new
         ≡ appended (K.written sink.old) (lines_of version.One p.now.root p.now.tree)) }
+    ensures cause { IsErrOf result FileWriteRefused.WriteFailed
+        → Rose (K.faults sink.old) (K.faults sink.new) }
 {
     write_lines_by(rt, alloc, p, workers, sink)
 }

@@ -1,9 +1,16 @@
-//! What a scribe makes.
+//! What a scribe makes and passes.
 ghost use Rattle.std.specs.Prelude.{◌≡◌, IfSome, OnOk, Some};
-ghost use Rattle.pv_file.specs.Walks.{AreWritten};
+ghost use Rattle.pv_file.specs.Walks.{after_steps, AreWritten};
 
 use pv_file::{Scribe, Version};
 use pv_num::Memory;
+
+/// So many nodes are passed.
+pub fn pass(scribe: &mut Scribe<'_>, nodes: u64)
+    ensures { scribe.new.pending ≡ after_steps nodes scribe.old.pending }
+{
+    scribe.pass(nodes);
+}
 
 /// The lines are those of the version.
 pub fn make(scribe: &mut Scribe<'_>, version: Version, nodes: u64)

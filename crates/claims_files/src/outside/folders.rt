@@ -1,6 +1,6 @@
 //! What folders hold, and what they count.
 ghost use Rattle.std.specs.Prelude.{◌≡◌, [], OnOk, IsErrOf};
-ghost use Rattle.pv_io.specs.Outside.{Rose, IsTooLong, IsOldOrNew, stored};
+ghost use Rattle.pv_io.specs.Outside.{Rose, IsTooLong, MayBeAbsent, IsOldOrNew, stored};
 ghost use Rattle.pv_io.specs.Real.{real_fetch_faults};
 ghost use Rattle.pv_io.specs.Shelf.{kept, kept_in};
 
@@ -21,7 +21,8 @@ pub fn keep_or_fail(failing: &mut MemFolder, name: &str, bytes: &[u8]) -> Result
     failing.store(name, bytes)
 }
 
-/// Of too long a content the first bytes are handed out, one more than the limit.
+/// Of too long a content the first bytes are handed out, one more than the limit. A name is absent
+/// only where nothing is held.
 pub fn find(
     plain: &mut PlainFolder,
     name: &str,
@@ -29,8 +30,9 @@ pub fn find(
     into: &mut Vec<u8>,
 ) -> Result<(), FetchRefused>
     requires { into.old.items ≡ [] }
-    ensures { IsErrOf result FetchRefused.TooLong
+    ensures too_long { IsErrOf result FetchRefused.TooLong
         → IsTooLong (kept plain.old name.now) limit into.new.items }
+    ensures absent { IsErrOf result FetchRefused.Absent → MayBeAbsent (kept plain.old name.now) }
 {
     plain.fetch(name, limit, into)
 }

@@ -1,9 +1,12 @@
 //! What sinks take.
-ghost use Rattle.std.specs.Prelude.{◌≡◌, Some, OnOk, IsErrOf, IsTrue};
+ghost use Rattle.std.specs.Prelude.{◌≡◌, ◌↔◌, Some, OnOk, IsErrOf, IsTrue, Contains};
 ghost use Rattle.std.specs.Io.KnownBytes.{Appends};
 ghost use Rattle.pv_io.specs.Outside.{Rose, appended};
+ghost use Rattle.pv_io.specs.Real.{sink_faults};
 
-use pv_io::{FileWriteRefused, IoRefused, PlainSink, Sink, hand_over, takes_all};
+use pv_io::{
+    FileWriteRefused, IoRefused, MemSink, PlainSink, RealSink, Sink, hand_over, takes_all,
+};
 use std::io::Write;
 
 /// A piece that is taken stands behind those before it.
@@ -11,6 +14,21 @@ pub fn put(plain: &mut PlainSink, bytes: &[u8]) -> Result<(), IoRefused>
     ensures { OnOk result (Some plain.new ≡ appended (Some plain.old) bytes.now) }
 {
     plain.write(bytes)
+}
+
+/// The calls of the list fail, and no others.
+pub fn put_or_fail(failing: &mut MemSink, bytes: &[u8]) -> Result<(), IoRefused>
+    ensures { IsErrOf result IoRefused.Failed
+        ↔ Contains failing.old.turns.failing failing.old.turns.next }
+{
+    failing.write(bytes)
+}
+
+/// A sink has met no fault at first.
+pub fn begin<W: Write>(inner: W) -> RealSink<W>
+    ensures { sink_faults result ≡ 0 }
+{
+    RealSink::new(inner)
 }
 
 /// Where a writer has taken a piece, it has taken all of it.
