@@ -117,8 +117,8 @@ fn run_all<W: Work + Sync, R: Threads + Wait + Sync>(
     for_each_late(rt, seats, threads, &one);
 }
 
-// How many of so many workers work at once: no more than there are processors, since one that holds
-// the others up would wait for its turn, and a few in any case.
+// How many of so many workers work at once: a few in any case, and else no more than there are
+// processors, on which more of them would only take turns.
 fn most_at_once<R: Threads>(rt: &R, workers: usize) -> usize {
     if workers <= FEW_WORKERS {
         return workers;
