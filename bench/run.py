@@ -14,8 +14,9 @@
     python3 bench/run.py millions           the same of 2, 4 and 16 workers on runs of about a million nodes, beside what the
                                             machine gives to runs of one worker side by side
     python3 bench/run.py small              the same of 4 workers on runs of 1,000 to 30,000 nodes
-    python3 bench/run.py profile            instructions, cache misses, changes of thread and page faults of 1 and 4 workers,
-                                            where there is valgrind
+    python3 bench/run.py profile            instructions, cache misses, changes of thread and page faults of 1, 2, 4 and 16
+                                            workers, and of the line of progress, where there is valgrind
+    python3 bench/run.py phases             what reading, joining, lines and storing take of a million nodes, where there is perf
     python3 bench/run.py sizes              seconds and memory of runs from 10,000 nodes to 10,000,000
     python3 bench/run.py tickets            what the pool's jobs and the board's tickets cost
     python3 bench/run.py trees              milliseconds for settling, counting, copying, joining and auditing a large tree
@@ -158,17 +159,14 @@ def paving(folder: str) -> None:
         print(line, flush=True)
 
 
-def side_by_side(words: Words, count: int, turns: int = TURNS) -> float:
-    """The best time in which so many runs of one worker end that start together, each storing under a name of its own."""
-    best = float("inf")
-    for _ in range(turns):
-        start = time.perf_counter()
-        runs = [subprocess.Popen([*map(str, words[:-1]), f"{words[-1]}{i}", "--workers", "1"], stdout=subprocess.DEVNULL)
-                for i in range(count)]
-        for run in runs:
-            run.wait()
-        best = min(best, time.perf_counter() - start)
-    return best
+def side_by_side(words: Words, count: int) -> float:
+    """The time in which so many runs of one worker end that start together, each storing under a name of its own."""
+    start = time.perf_counter()
+    runs = [subprocess.Popen([*map(str, words[:-1]), f"{words[-1]}{i}", "--workers", "1"], stdout=subprocess.DEVNULL)
+            for i in range(count)]
+    for run in runs:
+        run.wait()
+    return time.perf_counter() - start
 
 
 def grown(title: str, words: Words) -> None:
@@ -180,7 +178,7 @@ def grown(title: str, words: Words) -> None:
         used = min(processor_seconds([*words, "--workers", count])[0] for _ in range(TURNS))
         alone = alone or spent
         parts.append(f"{count}: {spent * 1000:.0f} ({used * 1000:.0f}) x{alone / spent:.2f}")
-    limit = 4 * alone / side_by_side(words, 4)
+    limit = 4 * alone / min(side_by_side(words, 4) for _ in range(TURNS))
     print(f"{title:34} {int(printed.split()[1]):7} nodes, {', '.join(parts)}, four runs at once x{limit:.2f}", flush=True)
 
 
@@ -217,26 +215,47 @@ def by_clock(words: Words, turns: int = 3) -> tuple[float, bytes]:
     return best, printed
 
 
+def timed(words: Words) -> tuple[float, float, int]:
+    """Seconds of a run by the clock and of processors, and its settled nodes."""
+    start = time.perf_counter()
+    used, printed = processor_seconds(words)
+    return time.perf_counter() - start, used, int(printed.split()[1])
+
+
 def millions(folder: str) -> None:
-    """How many times as fast as one worker 2, 4 and 16 are, as a part of what two and four runs of one worker get done."""
+    """How many times as fast as one worker 2, 4 and 16 are, beside what two and four runs of one worker get done side by side:
+    the least times of some turns, in each of which all are measured, and in brackets the turns' own ratios of side by side."""
     for title, eps in MILLIONS:
         words: list[Word] = [TOP / "paver", "run", *of_size(folder, title, eps, 1_000_000), "--out", Path(folder) / "paving"]
-        alone, printed = by_clock([*words, "--workers", 1])
-        used = processor_seconds([*words, "--workers", 1])[0]
-        parts = [f"1: {alone:.2f} s"]
-        for count in (2, 4, 16):
-            spent, _ = by_clock([*words, "--workers", count])
-            work = processor_seconds([*words, "--workers", count])[0] / used
-            most = min(count, 4) * alone / side_by_side(words, min(count, 4), 3)
-            parts.append(f"{count}: x{alone / spent:.2f} of x{most:.2f}, {alone / spent / most:.2f}, work x{work:.2f}")
-        print(f"{title:28} {int(printed.split()[1]):8} nodes, {'; '.join(parts)}", flush=True)
+        runs: dict[int, list[tuple[float, float, int]]] = {1: [], 2: [], 4: [], 16: []}
+        beside: dict[int, list[float]] = {2: [], 4: []}
+        for _ in range(3):
+            for count, some in runs.items():
+                some.append(timed([*words, "--workers", count]))
+            for count, times in beside.items():
+                times.append(side_by_side(words, count))
+        print(f"{title:28} {runs[1][0][2]:8} nodes; {compared(runs, beside)}", flush=True)
+
+
+def compared(runs: dict[int, list[tuple[float, float, int]]], beside: dict[int, list[float]]) -> str:
+    """One system's line of `millions`, but for its name."""
+    alone, used = (min(run[k] for run in runs[1]) for k in (0, 1))
+    parts = [f"1: {alone:.3f} s"]
+    for count in (2, 4, 16):
+        spent, work = (min(run[k] for run in runs[count]) for k in (0, 1))
+        times = beside[min(count, 4)]
+        turns = [min(count, 4) * run[0] / time for run, time in zip(runs[1], times)]
+        most = min(count, 4) * alone / min(times)
+        parts.append(f"{count}: x{alone / spent:.2f} of x{most:.2f} ({min(turns):.2f} to {max(turns):.2f}), "
+                     f"{alone / spent / most:.2f}, work x{work / used:.2f}")
+    return "; ".join(parts)
 
 
 def small(folder: str) -> None:
     """How many times as fast as one worker 4 are where there is little to do: the best of twenty runs each, in turn."""
     for title, eps in MILLIONS:
         parts = []
-        for nodes in (1000, 3000, 10_000, 30_000):
+        for nodes in (1000, 3000, 10_000, 20_000, 30_000):
             words: list[Word] = [TOP / "paver", "run", *of_size(folder, title, eps, nodes), "--out", Path(folder) / "paving",
                                  "--workers"]
             turns = [[by_clock([*words, count], 1)[0] for count in (1, 4)] for _ in range(20)]
@@ -263,14 +282,81 @@ def switched(words: Words) -> list[int]:
 
 
 def profile(folder: str) -> None:
-    """Of 1 worker and of 4: what 20,000 nodes count under valgrind, and changes of thread of a million nodes."""
+    """Of 1, 2, 4 and 16 workers: what 1,000 and 20,000 nodes count under valgrind, and changes of thread of 1,000 nodes and of
+    a million; then of the ring with its line of progress and without it."""
     for title, eps in MILLIONS:
+        for count in (1, 2, 4, 16):
+            print(f"{title:28} {count:2}: {counts(folder, title, eps, count)}", flush=True)
+    title, eps = MILLIONS[0]
+    for wish, name in ("0", "hidden"), ("1", "shown"):
+        os.environ["PAVER_PROGRESS"] = wish
         for count in (1, 4):
-            few, many = ([TOP / "paver", "run", *of_size(folder, title, eps, nodes), "--out", Path(folder) / "paving",
-                          "--workers", count] for nodes in (20_000, 1_000_000))
-            millions_of = " ".join(f"{number / 1e6:.2f}" for number in counted(few))
-            print(f"{title:28} {count}: {millions_of} million instructions, misses of the first cache, of the last; "
-                  f"{' '.join(map(str, switched(many)))} waits, preemptions, page faults", flush=True)
+            print(f"{title}, progress {name:7} {count:2}: {counts(folder, title, eps, count)}", flush=True)
+    del os.environ["PAVER_PROGRESS"]
+
+
+def counts(folder: str, title: str, eps: str | None, workers: int) -> str:
+    """The counts of one system by so many workers."""
+    parts = []
+    for nodes in (1000, 20_000, 1_000_000):
+        words: list[Word] = [TOP / "paver", "run", *of_size(folder, title, eps, nodes), "--out", Path(folder) / "paving",
+                             "--workers", workers]
+        if nodes < 1_000_000:
+            parts.append(" ".join(f"{number / 1e6:.2f}" for number in counted(words)))
+        if nodes != 20_000:
+            parts.append(f"({' '.join(str(number) for number in switched(words))})")
+    return ", ".join(parts) + " million instructions, misses of the first cache, of the last (waits, preemptions, page faults)"
+
+
+# A sample of a thread's clock, as `perf script` prints it, and the functions that tell what a command is about.
+SAMPLE = re.compile(r"^\s*\d+\s+([\d.]+):\s+[0-9a-f]+\s+(\S+)", re.MULTILINE)
+READS = ("pv_opening::pavings", "pv_file::outcome_line")
+JOINS = ("pv_join::", "pv_opening::opening::join")
+MAKES = ("pv_file::lines", "pv_file::writer")
+
+
+def sampled(folder: str, words: Words) -> list[tuple[float, str]]:
+    """The samples of a command: seconds since its beginning, and the function."""
+    data = Path(folder) / "samples"
+    subprocess.run(["perf", "record", "-q", "-F", "5000", "-e", "cpu-clock", "-o", data, *map(str, words)],
+                   stdout=subprocess.DEVNULL, stderr=subprocess.DEVNULL, check=False)
+    script = subprocess.run(["perf", "script", "-i", data, "-F", "tid,time,ip,sym"], stdout=subprocess.PIPE,
+                            stderr=subprocess.DEVNULL, text=True, check=True).stdout
+    samples = sorted((float(at), name) for at, name in SAMPLE.findall(script))
+    return [(at - samples[0][0], name) for at, name in samples]
+
+
+def phases_of(samples: list[tuple[float, str]]) -> dict[str, float]:
+    """Seconds by the clock from one work's last sample to the next one's."""
+    def within(names: tuple[str, ...]) -> tuple[float, float]:
+        times = [at for at, name in samples if name.startswith(names)]
+        return (times[0], times[-1]) if times else (0.0, 0.0)
+
+    read, joined, (lines_from, lines_to) = within(READS)[1], within(JOINS)[1], within(MAKES)
+    joined = max(read, joined)
+    return {"reading": read, "joining": joined - read, "between": lines_from - joined, "lines": lines_to - lines_from,
+            "storing": samples[-1][0] - lines_to}
+
+
+def phases(folder: str) -> None:
+    """Reading, joining, what lies between, lines and storing of a million nodes: the least of some turns each. Between is
+    settling for `run`, and next to nothing for the others."""
+    for title, eps in MILLIONS:
+        names = [Path(folder) / name for name in ("whole", "part", "out")]
+        system = of_size(folder, title, eps, 1_000_000)
+        subprocess.run([TOP / "paver", "run", *map(str, system), "--out", names[0]], stdout=subprocess.DEVNULL, check=False)
+        subprocess.run([TOP / "paver", "run", *map(str, of_size(folder, title, eps, 300_000)), "--out", names[1]],
+                       stdout=subprocess.DEVNULL, check=False)
+        merged = [*system[:system.index("--boxes")], "--limit", "2000000"]
+        works: dict[str, list[Word]] = {
+            "run": ["run", *system],
+            "merge of one": ["merge", merged[0], names[0], *merged[1:]],
+            "merge of two": ["merge", merged[0], names[0], names[1], *merged[1:]],
+            "resume": ["resume", merged[0], names[0], *merged[1:], "--boxes", "1"]}
+        for work, words in works.items():
+            turns = [phases_of(sampled(folder, [TOP / "paver", *words, "--out", names[2]])) for _ in range(3)]
+            told = ", ".join(f"{name} {min(turn[name] for turn in turns):.3f}" for name in turns[0])
+            print(f"{title:28} {work:13} {told}", flush=True)
 
 
 def used_by(words: Words) -> tuple[int, float, int]:
@@ -415,7 +501,7 @@ def main() -> None:
     parts = {"numbers": numbers, "calls": calls, "paving": paving, "printing": printing, "growth": growth, "files": files,
              "workers": workers, "campaigns": campaigns, "rounds": rounds,
              "tickets": tickets, "trees": trees, "millions": millions, "small": small, "profile": profile,
-             "sizes": sizes}
+             "phases": phases, "sizes": sizes}
     with tempfile.TemporaryDirectory() as folder:
         for part in sys.argv[1:] or parts:
             parts[part](folder)

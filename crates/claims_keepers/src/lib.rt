@@ -3,6 +3,7 @@
 //! without proving a crate of code again.
 #![tactic(auto)]
 
+pub mod in_memory;
 pub mod keepers;
 pub mod openings;
 pub mod rounds;
