@@ -286,16 +286,16 @@ def profile(folder: str) -> None:
     a million; then of the ring with its line of progress and without it."""
     for title, eps in MILLIONS:
         for count in (1, 2, 4, 16):
-            print(f"{title:28} {count:2}: {counts(folder, title, eps, count)}", flush=True)
+            print(f"{title:28} {count:2}: {counts_of(folder, title, eps, count)}", flush=True)
     title, eps = MILLIONS[0]
     for wish, name in ("0", "hidden"), ("1", "shown"):
         os.environ["PAVER_PROGRESS"] = wish
         for count in (1, 4):
-            print(f"{title}, progress {name:7} {count:2}: {counts(folder, title, eps, count)}", flush=True)
+            print(f"{title}, progress {name:7} {count:2}: {counts_of(folder, title, eps, count)}", flush=True)
     del os.environ["PAVER_PROGRESS"]
 
 
-def counts(folder: str, title: str, eps: str | None, workers: int) -> str:
+def counts_of(folder: str, title: str, eps: str | None, workers: int) -> str:
     """The counts of one system by so many workers."""
     parts = []
     for nodes in (1000, 20_000, 1_000_000):
