@@ -7,7 +7,6 @@ use Rattle.pv_num.specs.Order.{le, lt, lesser, greater}
 use Rattle.pv_num.specs.Parts.{IsNumber}
 use Rattle.pv_num.specs.Rounding.{rounded, is_size, top_size, size_below, size_above, greatest_upto, at_most_minus, at_least_plus}
 use Rattle.pv_num.specs.Arithmetic.{neg_of, add_of, mul_of, div_of, end_of, infinite_by, rounded_quotient, pow_of, root_of, is_root_below, is_root_above}
-use Rattle.pv_num.specs.Arithmetic as number
 use Rattle.pv_num.specs.declared.num.End.{End}
 use Rattle.pv_num.specs.declared.num.End.TheVariants.{Down, Up}
 use Rattle.pv_num.proofs.Signs.{neg_grid, zero_grid}

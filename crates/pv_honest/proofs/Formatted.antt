@@ -1,19 +1,18 @@
 -- Each stage of the open search box is in numbers of the format.
-use Rattle.std.proofs.Common.{◌≡◌, ℕ, zero, suc, ◌+◌, ◌-◌, ◌%◌, Bool, true, false, cond, List, [], ◌∷◌, ◌++◌, map, length, refl, ap, sym, ◌∙◌, subst, ℤ, pos, drop}
-use Rattle.std.specs.Prelude.{Option, Some, None, nat_eq, nat_le, ◌||◌, ◌&&◌, if◌then◌else◌, option_and_then, slice_index_or}
+use Rattle.std.proofs.Common.{◌≡◌, ℕ, zero, suc, ◌+◌, ◌-◌, ◌%◌, Bool, true, false, List, [], ◌∷◌, ◌++◌, map, length, refl, sym, subst, ℤ, drop}
+use Rattle.std.specs.Prelude.{Option, Some, None, nat_eq, ◌||◌, ◌&&◌, option_and_then}
 use Rattle.pv_num.specs.Extended.{Extended, NegInf, Fin, PosInf}
-use Rattle.pv_num.specs.Order.{le, lt, lesser, greater}
+use Rattle.pv_num.specs.Order.{le, lt}
 use Rattle.pv_num.specs.Parts.{IsNumber}
-use Rattle.pv_num.specs.Rounding.{rounded}
 use Rattle.pv_num.specs.Arithmetic as number
 use Rattle.pv_num.specs.declared.num.End.{End}
 use Rattle.pv_num.specs.declared.num.End.TheVariants.{Down, Up}
-use Rattle.pv_interval.specs.Bounds.{Bounds, everything, between, interval_from}
+use Rattle.pv_interval.specs.Bounds.{Bounds, between, interval_from}
 use Rattle.pv_interval.specs.Tables.{meet_of, nought, width_of}
 use Rattle.pv_box.specs.Boxes.{hull_boxes, lower_half, upper_half}
 use Rattle.pv_box.specs.QHull.{column, is_in_enough, lower_of, upper_of, least_end, greatest_end, place_hull_of, q_hull_of}
 use Rattle.pv_box.specs.QHull as hulls
-use Rattle.pv_box.specs.Choice.{strictly_between, cut_below, cut_above, cut_between, cut_of, wider, widest_from, choice_of, at_or_later, first_from, or_else, round_from, choose_of, is_small_of}
+use Rattle.pv_box.specs.Choice.{strictly_between, cut_below, cut_above, cut_between, cut_of, wider, widest_from, choice_of, at_or_later, first_from, or_else, choose_of, is_small_of}
 use Rattle.pv_box.specs.declared.choice.Bisector.{Bisector}
 use Rattle.pv_box.specs.declared.choice.Bisector.TheVariants.{Largest, Round}
 use Rattle.pv_expr.specs.declared.operators.UnaryOp.{UnaryOp}
@@ -29,7 +28,7 @@ use Rattle.pv_expr.specs.declared.domain.Domain.{Domain}
 use Rattle.pv_expr.specs.declared.constraint.Relation.{Relation}
 use Rattle.pv_expr.specs.declared.constraint.Relation.TheVariants.{Eq, Le, Ge, Lt, Gt}
 use Rattle.pv_hc4.specs.Chain.{chain, at}
-use Rattle.pv_hc4.specs.Forward.{constant_of, unary_of, binary_of, forward_of}
+use Rattle.pv_hc4.specs.Forward.{unary_of, binary_of, forward_of}
 use Rattle.pv_hc4.specs.Revise.{back_1, back_2, Target, joined, targets_of, place_of, places_from, Sides, ordered_of, swapped, related_of, both_targets, revised}
 use Rattle.pv_ctc.specs.Contracting.{sides_in, side_at, Effect, in_order, turns_of, with_result, results, hull_with, hull_all, q_hull_all, all_revised, contract_of, effects}
 use Rattle.pv_ctc.specs.Plans.{Plan, Plans, hc4, compose, union, qinter, fix, prop, no_plan, plan_and, plan_of}
@@ -42,7 +41,7 @@ use Rattle.pv_slope.specs.Methods.{Method, settle_as, settle_by}
 use Rattle.pv_slope.specs.declared.form.Form.{Form}
 use Rattle.pv_slope.specs.declared.form.Form.TheVariants.{Plain, Centered}
 use Rattle.pv_tree.specs.Trees.{Tree, leaf, removed, inner, small, cut, outcome_at}
-use Rattle.pv_tree.specs.Stages.{Rule, full, full_of, Grows, IsStage}
+use Rattle.pv_tree.specs.Stages.{Rule, full, full_of, IsStage}
 use Rattle.pv_tree.specs.declared.outcome.Outcome.{Outcome}
 use Rattle.pv_tree.specs.declared.outcome.Outcome.TheVariants.{Removed, Inner, Small, Cut}
 use Rattle.pv_tree.proofs.StageLaws.{rest, grown, full-is}

@@ -1,5 +1,8 @@
--- What a refusal of a database does to the count of faults, and how the calls of a keeper answer it.
+-- Which refusal an error of a database is, what it does to the count of faults, and how the calls of a keeper answer it.
 use Rattle.std.specs.Prelude.{◌≡◌, ◌≤◌, ℕ}
+use Rattle.sqlite.specs.declared.error.Error.{Error}
+use Rattle.sqlite.specs.declared.error.Error.TheVariants.{SqliteFailure}
+use Rattle.sqlite.specs.declared.error.ErrorCode.TheVariants as code
 use Rattle.pv_io.specs.Outside.{Rose}
 use Rattle.pv_keep.specs.declared.keeper.BeginRefused.{BeginRefused}
 use Rattle.pv_keep.specs.declared.keeper.BeginRefused.TheVariants as begin
@@ -9,6 +12,11 @@ use Rattle.pv_io.specs.declared.refused.IoRefused.{IoRefused}
 use Rattle.pv_io.specs.declared.refused.IoRefused.TheVariants as keep
 use Rattle.pv_keep_sql.specs.declared.faults.Refused.{Refused}
 use Rattle.pv_keep_sql.specs.declared.faults.Refused.TheVariants.{Failed, Memory}
+
+-- every error is a failure but want of memory
+abbrev pub refusal_of : Error → Refused
+refusal_of (SqliteFailure code.OutOfMemory) = Memory
+refusal_of e = Failed
 
 -- a refusal is counted, unless memory was wanting
 abbrev pub IsCounted : Refused → ℕ → ℕ → Type 0

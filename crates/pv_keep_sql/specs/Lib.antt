@@ -1,3 +1,4 @@
 pub mod Counting
 pub mod Keepers
 pub mod Digits
+pub mod Crashes

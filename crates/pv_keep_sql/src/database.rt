@@ -1,5 +1,8 @@
 //! The statements that keep a campaign in a database.
-ghost use Rattle.std.specs.Prelude.{◌≡◌, ◌≢◌, ◌+◌, ◌≤◌, ◌<◌, [], length, IfOk, OnOk, MatchOption};
+ghost use Rattle.std.specs.Prelude.{◌≡◌, ◌≢◌, ◌+◌, ◌≤◌, ◌<◌, [], length, IfErr, IfOk, OnOk, MatchOption};
+ghost use Rattle.sqlite.specs.Held.{state};
+ghost use Rattle.sqlite.specs.State.{HasCleanDisk, KeepsCommit};
+ghost use Rattle.pv_keep_sql.specs.Crashes.{CommitsNothing, IsAllOrNothing};
 ghost use Rattle.pv_keep_sql.specs.Keepers.{IsOther, IsRead, StandsBeside};
 
 use crate::faults::Refused;
@@ -7,7 +10,7 @@ use crate::kept_path::{path_of, push_digits};
 use crate::listing::{HEAD, Listed, NODE, read_list};
 use pv_keep::{Line, Row, Rows};
 use sqlite::types::ValueRef;
-use sqlite::{Alter, Connection, Transaction, params};
+use sqlite::{Alter, Connection, Statement, Transaction, params};
 use std::alloc::Global;
 
 const IDENTITY: &str = "SELECT identity FROM head WHERE id = 1";
@@ -234,25 +237,45 @@ fn kept_row(alloc: Global, row: &sqlite::Row) -> Result<Row, Refused> {
     }
 }
 
-/// Keeps further rows in one transaction. After a refusal the database is as before.
+/// Keeps further rows in one transaction. After a refusal the database is as before, and a crash at
+/// any time leaves all of them or none.
+#[tactic(auto, using(crate::proofs::Crashes::untouched, crate::proofs::Crashes::undone, crate::proofs::Crashes::undone_keeps, crate::proofs::Crashes::same_commit))]
 pub(crate) fn write_rows<S: Alter>(
     alloc: Global,
     connection: &mut Connection<S>,
     rows: &Rows,
-) -> Result<(), Refused> {
+) -> Result<(), Refused>
+    ensures crash { IsAllOrNothing S.Store connection.old connection.new }
+    ensures refused { IfErr result (λ _. HasCleanDisk (state S.Store connection.new) →
+        KeepsCommit (state S.Store connection.old) (state S.Store connection.new)) }
+{
     if !connection.is_autocommit() {
         return Err(Refused::Failed);
     }
     let mut change = connection.transaction();
-    let rest = rows.len() % AT_ONCE;
-    let whole = rows.len() - rest;
-    add_rows(alloc, &mut change, rows, 0, whole, AT_ONCE)?;
-    add_rows(alloc, &mut change, rows, whole, rows.len(), rest)?;
+    add_all(alloc, &mut change, rows)?;
     change.commit()?;
     Ok(())
 }
 
+// Adds all rows: as many at once as may be, and then the rest.
+#[tactic(auto, using(crate::proofs::Crashes::nothing_then))]
+fn add_all<S: Alter>(
+    alloc: Global,
+    change: &mut Transaction<'_, S>,
+    rows: &Rows,
+) -> Result<(), Refused>
+    ensures same { change.new.conn.ghost_name ≡ change.old.conn.ghost_name }
+    ensures nothing { CommitsNothing S.Store change.old.conn.now change.new.conn.now }
+{
+    let rest = rows.len() % AT_ONCE;
+    let whole = rows.len() - rest;
+    add_rows(alloc, change, rows, 0, whole, AT_ONCE)?;
+    add_rows(alloc, change, rows, whole, rows.len(), rest)
+}
+
 // Adds the rows from a number to another, so many by each statement.
+#[tactic(auto, using(crate::proofs::Crashes::nothing_yet, crate::proofs::Crashes::nothing_then))]
 fn add_rows<S: Alter>(
     alloc: Global,
     change: &mut Transaction<'_, S>,
@@ -260,18 +283,47 @@ fn add_rows<S: Alter>(
     start: u64,
     end: u64,
     at_once: u64,
-) -> Result<(), Refused> {
+) -> Result<(), Refused>
+    ensures same { change.new.conn.ghost_name ≡ change.old.conn.ghost_name }
+    ensures nothing { CommitsNothing S.Store change.old.conn.now change.new.conn.now }
+{
     if start >= end {
         return Ok(());
     }
     if at_once == 0 {
         return Ok(());
     }
-    let add = change.prepare(addition(alloc, at_once)?.as_str())?;
+    let text = addition(alloc, at_once)?;
+    let add = prepared(change, text.as_str())?;
     for first in (start..end).step_by(at_once as usize) {
-        let given = given_from(alloc, rows, first, at_once)?;
-        change.execute_prepared(&add, &values_of(alloc, &given)?)?;
+        add_some(alloc, change, &add, rows, first, at_once)?;
     }
+    Ok(())
+}
+
+fn prepared<S: Alter>(change: &mut Transaction<'_, S>, text: &str) -> Result<Statement, Refused>
+    ensures same { change.new.conn.ghost_name ≡ change.old.conn.ghost_name }
+    ensures nothing { CommitsNothing S.Store change.old.conn.now change.new.conn.now }
+{
+    Ok(change.prepare(text)?)
+}
+
+// Adds so many rows from a number on, by a statement that takes so many.
+#[tactic(auto, using(crate::proofs::Crashes::nothing_yet))]
+fn add_some<S: Alter>(
+    alloc: Global,
+    change: &mut Transaction<'_, S>,
+    add: &Statement,
+    rows: &Rows,
+    first: u64,
+    count: u64,
+) -> Result<(), Refused>
+    ensures same { change.new.conn.ghost_name ≡ change.old.conn.ghost_name }
+    ensures nothing { CommitsNothing S.Store change.old.conn.now change.new.conn.now }
+{
+    let given = given_from(alloc, rows, first, count)?;
+    let values = values_of(alloc, &given)?;
+    change.execute_prepared(add, &values)?;
     Ok(())
 }
 

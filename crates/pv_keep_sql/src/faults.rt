@@ -17,6 +17,11 @@ pub(crate) enum Refused {
 }
 
 impl From<Error> for Refused {
+    ghost use Rattle.std.specs.Prelude.{◌≡◌};
+    ghost use Rattle.pv_keep_sql.specs.Counting.{refusal_of};
+
+    ghost from_gives = { λ e r. r ≡ refusal_of e };
+
     fn from(error: Error) -> Self {
         match error {
             Error::SqliteFailure(ErrorCode::OutOfMemory) => Refused::Memory,

@@ -1,5 +1,5 @@
 -- Pavings that are completed are one.
-use Rattle.std.proofs.Common.{◌≡◌, ◌⊎◌, inl, inr, ℕ, Bool, List, [], ◌∷◌, map, length, refl, sym, ◌∙◌, ap, subst, arith}
+use Rattle.std.proofs.Common.{◌≡◌, inl, inr, ℕ, List, [], ◌∷◌, map, length, refl, sym, ◌∙◌, ap, subst, arith}
 use Rattle.std.specs.Prelude.{◌≢◌, ◌^◌, ◌<◌, Option, Some, None, nat_eq, ◌||◌, if◌then◌else◌}
 use Rattle.std.proofs.lemmas.List.{length-map}
 use Rattle.clap.specs.Words.{Text}
@@ -35,20 +35,18 @@ use Rattle.pv_slope.specs.declared.form.Form.TheVariants.{Plain, Centered}
 use Rattle.pv_tree.specs.Trees.{Tree, leaf, opens}
 use Rattle.pv_tree.specs.Stages.{full_of}
 use Rattle.pv_tree.specs.declared.outcome.Outcome.{Outcome}
-use Rattle.pv_tree.specs.declared.outcome.Outcome.TheVariants.{Removed, Inner, Small, Cut}
+use Rattle.pv_tree.specs.declared.outcome.Outcome.TheVariants.{Removed, Inner, Small}
 use Rattle.pv_io.specs.Outside.{Content, untold}
-use Rattle.pv_request.specs.Requests.{Asks, names_in, out_of}
+use Rattle.pv_request.specs.Requests.{names_in, out_of}
 use Rattle.pv_rule.specs.Systems.{Files, IsFetched, IsRuleFor, HasRule, search_box}
-use Rattle.pv_product.specs.Files.{HasOpening}
 use Rattle.pv_product.specs.Campaigns.{Stock}
-use Rattle.pv_product.specs.Products.{Product, text, unfinished, paved, paved_as, HasStatus, IsHonest, ComesOf, ComesOfRun, ComesOfResume, ComesOfMerge, full_by}
+use Rattle.pv_product.specs.Products.{Product, paved, paved_as, HasStatus, IsHonest, ComesOf, ComesOfRun, ComesOfResume, ComesOfMerge, full_by}
 use Rattle.pv_product.specs.Ends.{Outside, IsDelivered, IsDone, IsEnd}
 use Rattle.pv_laws.specs.Merges.{AreSameSettings}
-use Rattle.pv_laws.specs.Headline.{IsWholePaving, FilesAreStages, IsPavingOf, ArePavingsOfOne, Delivers, CompletedAreAlike}
+use Rattle.pv_laws.specs.Headline.{IsWholePaving, FilesAreStages, IsPavingOf, CompletedAreAlike}
 use Rattle.pv_request.specs.declared.request.Settings.{Settings}
 use Rattle.pv_request.specs.declared.request.Request.{Request}
-use Rattle.pv_request.specs.declared.request.Request.TheVariants.{Check, Run, Resume, Merge, Audit, Svg, Sample, Least, Campaign}
-use Rattle.pv_request.specs.declared.status.Status.{Status}
+use Rattle.pv_request.specs.declared.request.Request.TheVariants.{Run, Resume, Merge}
 use Rattle.pv_request.specs.declared.status.Status.TheVariants.{Done}
 use Rattle.pv_laws.proofs.Merges.{AreSameRules, same_rules, same_fetched}
 use Rattle.pv_laws.proofs.StatusLaws.{not_told, closed_at}

@@ -1,6 +1,6 @@
 -- The join of what calls for shares made.
-use Rattle.std.proofs.Common.{◌≡◌, ◌⊎◌, inl, inr, ℕ, ◌<◌, Bool, Some, List, [], ◌∷◌, refl, sym, subst, arith}
-use Rattle.std.specs.Prelude.{◌≢◌, true}
+use Rattle.std.proofs.Common.{◌≡◌, inl, inr, ℕ, ◌<◌, Bool, Some, List, [], ◌∷◌, refl, subst}
+use Rattle.std.specs.Prelude.{◌≢◌}
 use Rattle.pv_interval.specs.Bounds.{Bounds}
 use Rattle.pv_tree.specs.Trees.{Tree, outcome_at}
 use Rattle.pv_tree.specs.Stages.{Rule, Grows, IsStage, full_of}

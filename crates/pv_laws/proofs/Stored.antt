@@ -1,5 +1,5 @@
 -- What a command stored is read back as the stage that it was.
-use Rattle.std.proofs.Common.{◌≡◌, ◌⊎◌, inl, inr, ℕ, zero, suc, ◌+◌, ◌<◌, ◌≤◌, Bool, List, [], ◌∷◌, ◌++◌, length, refl, sym, ◌∙◌, ap, subst, arith}
+use Rattle.std.proofs.Common.{◌≡◌, inl, inr, ℕ, zero, suc, ◌+◌, ◌<◌, ◌≤◌, Bool, List, [], ◌∷◌, ◌++◌, refl, sym, ◌∙◌, subst, arith}
 use Rattle.std.specs.Prelude.{◌≢◌, Option, Some, None, slice_index}
 use Rattle.std.specs.Int.{w32, byte_at, bytes_high_first, to_be_bytes}
 use Rattle.clap.specs.Words.{Row, Text, subcommand_of}
@@ -22,7 +22,7 @@ use Rattle.pv_file.specs.Lengths.{length_limit}
 use Rattle.pv_file.specs.declared.version.Version.TheVariants.{Two}
 use Rattle.pv_file.proofs.Lengths.{files-read}
 use Rattle.pv_words.specs.Commands.{paver_app}
-use Rattle.pv_request.specs.Requests.{IsAsked, Asks, names_in, out_of}
+use Rattle.pv_request.specs.Requests.{IsAsked, names_in, out_of}
 use Rattle.pv_rule.specs.Systems.{Files, HasRule, search_box}
 use Rattle.pv_rule.specs.Pavings.{IsPaved, settled_in}
 use Rattle.pv_product.specs.Files.{HasPaving, HavePavings, HoldsPaving, HoldsOther, HasFileFault}
@@ -31,11 +31,11 @@ use Rattle.pv_product.specs.Products.{Product, paved_as, IsHonest, AreStages, Is
 use Rattle.pv_product.specs.Ends.{Outside, IsStored, IsKept, IsDone, IsEnd, Tells}
 use Rattle.pv_laws.specs.Merges.{IsNamed, AreSameSettings}
 use Rattle.pv_laws.specs.Headline.{FilesAreStages}
-use Rattle.pv_laws.specs.Stored.{Paves, sources_of, IsToStore, IsWanted, IsAnswer, StoredIsWanted, WantedAreStages, WantedIsTaken, IsWritten, written, WrittenIsWanted}
+use Rattle.pv_laws.specs.Stored.{Paves, sources_of, IsToStore, IsWanted, IsAnswer, StoredIsWanted, WantedAreStages, WantedIsTaken, written, WrittenIsWanted}
 use Rattle.pv_request.specs.declared.request.Settings.{Settings}
 use Rattle.pv_request.specs.declared.request.Effort.{Effort}
 use Rattle.pv_request.specs.declared.request.Request.{Request}
-use Rattle.pv_request.specs.declared.request.Request.TheVariants.{Check, Run, Resume, Merge, Audit, Svg, Sample, Least, Campaign}
+use Rattle.pv_request.specs.declared.request.Request.TheVariants.{Run, Resume, Merge}
 use Rattle.pv_request.specs.declared.refusal.FileFault.{FileFault}
 use Rattle.pv_request.specs.declared.refusal.FileFault.TheVariants.{TooLong, WrongIdentity, BadLine, TooManyNodes, BadRow, TooManyRows}
 use Rattle.pv_request.specs.declared.refusal.Refusal.TheVariants.{Paving}

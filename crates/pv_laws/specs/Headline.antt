@@ -1,7 +1,7 @@
 -- The headline: what pavings that were completed have in common, whichever command made them, wherever and by however
 -- many workers. What a paving says of its system is `IsHonest` (Products); that is said of it by DoneIsWhole and
 -- OpenLeftIsPart (StatusLaws), and that no other file changes by OthersStay there.
-use Rattle.std.specs.Prelude.{◌≡◌, ◌≢◌, ℕ, List, Option, Some, None}
+use Rattle.std.specs.Prelude.{◌≡◌, ◌≢◌, ℕ, List, None}
 use Rattle.clap.specs.Words.{Text}
 use Rattle.pv_tree.specs.Trees.{Tree, leaf}
 use Rattle.pv_slope.specs.Methods.{Method, identity_of}

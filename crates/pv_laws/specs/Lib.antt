@@ -5,3 +5,4 @@ pub mod CampaignLaws
 pub mod Headline
 pub mod Stored
 pub mod Complete
+pub mod Sets

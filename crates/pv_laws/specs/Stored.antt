@@ -1,7 +1,7 @@
 -- What this program stored is what `resume`, `merge`, `audit` and `svg` want of a file. So their premise, that each file is a
 -- stage of the open search box, holds of all files that were written for the same system and settings, over any chain of
 -- commands.
-use Rattle.std.specs.Prelude.{◌≡◌, ◌≢◌, ◌⊎◌, ℕ, ◌≤◌, List, [], Option, Some}
+use Rattle.std.specs.Prelude.{◌≡◌, ◌≢◌, ◌⊎◌, ℕ, ◌≤◌, List, [], Some}
 use Rattle.clap.specs.Words.{Text}
 use Rattle.pv_slope.specs.Methods.{Method, settle_by}
 use Rattle.pv_tree.specs.Trees.{Tree, leaf}

@@ -10,6 +10,7 @@ ghost use Rattle.pv_laws.specs.CampaignLaws.{
 };
 ghost use Rattle.pv_laws.specs.Headline.{CompletedAreAlike};
 ghost use Rattle.pv_laws.specs.Complete.{RightIsAnswered, PavingIsAudited};
+ghost use Rattle.pv_laws.specs.Sets.{DefaultIsProp, CenteredPrunes, PrunedHaveNoMore};
 ghost use Rattle.pv_laws.specs.Stored.{
   StoredIsWanted,
   WantedAreStages,
@@ -80,6 +81,19 @@ pub fn right_is_answered()
 {
     rows_make_their_paving();
 }
+
+/// What is said of `prop(n)`, that each constraint holds at each rational point of an inner box and not all of them at one of a
+/// removed part, holds by the program that is taken where none is given.
+pub fn default_is_prop()
+    ensures { DefaultIsProp }
+{}
+
+/// Centered forms take nodes away and none of what is decided: by them the full tree of a system is the plain one with
+/// subtrees replaced by leaves that are removed or inner. So no more nodes are settled, and no more of them are small.
+pub fn centered_prunes()
+    ensures pruned { CenteredPrunes }
+    ensures less { PrunedHaveNoMore }
+{}
 
 /// With status 0 no leaf is open: what was printed and stored is of the full tree. Of a share none is
 /// open at or below it, and what stands there is that of the full tree. Of `least` no leaf is open in

@@ -15,7 +15,7 @@ use Rattle.pv_least.specs.Searches.{searched, lower_of, best_of, next_of}
 use Rattle.pv_least.specs.Promises.{NoneIsBelow, IsWitness}
 use Rattle.pv_least.specs.declared.found.BestPoint.{BestPoint}
 use Rattle.pv_least.specs.declared.found.Least.{Least}
-use Rattle.pv_rule.specs.Systems.{Files, HasRule, RefusesRule, EachHolds, search_box}
+use Rattle.pv_rule.specs.Systems.{Files, SpellsProp, HasRule, RefusesRule, EachHolds, search_box}
 use Rattle.pv_request.specs.declared.request.Settings.{Settings}
 use Rattle.pv_request.specs.declared.request.Search.{Search}
 use Rattle.pv_request.specs.declared.refusal.Refusal.{Refusal}
@@ -64,14 +64,14 @@ pub record IsLeastBy (rule : Method) (b : List Bounds) (t : Term) (budget : ℕ)
   pub bounds : AreBounds (is_member rule) t b l
 
 -- The file of this name holds a system, the text is an expression over its variables, and this is found of its least
--- value. By the default program the bounds are those over the points at which every constraint holds.
+-- value. By `prop(n)`, whatever n, the bounds are those over the points at which every constraint holds.
 pub record HasLeast (before : Files) (system : Text) (s : Settings) (search : Search) (l : Least) : Type 0 where
   pub rule : Method
   pub read : HasRule before system s rule
   pub term : Term
   pub means : IsExpressionMeaning rule.parts.system.names search.of.now term
   pub is : IsLeastBy rule (search_box rule) term search.boxes l
-  pub by_default : s.contract.now ≡ codes "prop(8)" → AreBounds (EachHolds rule.parts.system.constraints) term (search_box rule) l
+  pub by_prop : (n : ℕ) → SpellsProp rule.parts.system s n → AreBounds (EachHolds rule.parts.system.constraints) term (search_box rule) l
 
 -- ---- Why nothing is found
 

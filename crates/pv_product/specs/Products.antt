@@ -22,11 +22,11 @@ use Rattle.pv_file.specs.Readings.{IsPavingInFormat}
 use Rattle.pv_file.specs.Texts.{file_text}
 use Rattle.pv_file.specs.declared.version.Version.TheVariants.{One, Two}
 use Rattle.pv_request.specs.Requests.{names_in}
-use Rattle.pv_rule.specs.Systems.{Files, HasSystem, IsRuleFor, HasRule, RefusesSystem, RefusesRule, search_box}
+use Rattle.pv_rule.specs.Systems.{Files, EachHolds, HasSystem, SpellsProp, IsRuleFor, HasRule, RefusesSystem, RefusesRule, search_box}
 use Rattle.pv_scope.specs.Orders.{IsInOrder}
 use Rattle.pv_scope.specs.declared.order.Order.{Order}
 use Rattle.pv_scope.specs.declared.share.Share.{Share}
-use Rattle.pv_rule.specs.Pavings.{IsPaved, IsSharePaved, HoldInside, settled_in}
+use Rattle.pv_rule.specs.Pavings.{IsPaved, IsSharePaved, settled_in}
 use Rattle.pv_svg.specs.Planes.{Plane}
 use Rattle.pv_svg.specs.Rectangles.{picture_of}
 use Rattle.pv_svg.specs.Texts.{picture_text}
@@ -86,15 +86,15 @@ HasStatus (paved_as identity b t done) s = s ≡ status_by done
 -- ---- What is said of pavings
 
 -- The paving, in numbers of the format, is a stage of the open search box: so it covers the box, it is sound for the
--- set that the program speaks of, and without an open leaf it is the full tree. By the default program every constraint
--- holds at each rational point of each inner box.
+-- set that the program speaks of, and without an open leaf it is the full tree. By `prop(n)`, whatever n, every constraint
+-- holds at each rational point of each inner box, and at no rational point of a removed part do all of them hold.
 pub record IsHonest (s : Settings) (rule : Method) (t : Tree) : Type 0 where
   pub paving : IsPavingInFormat (search_box rule) t
   pub stage : IsStage (settle_by rule) rule.parts.depth (search_box rule) leaf t
   pub covers : Covers (search_box rule) t
   pub sound : IsSound (is_member rule) (search_box rule) t
   pub whole : opens t ≡ [] → t ≡ full_of (settle_by rule) rule.parts.depth (search_box rule) leaf 0
-  pub by_default : s.contract.now ≡ codes "prop(8)" → HoldInside rule.parts.system.constraints t
+  pub by_prop : (n : ℕ) → SpellsProp rule.parts.system s n → IsSound (EachHolds rule.parts.system.constraints) (search_box rule) t
 
 -- the premise on files: each is a stage of the open search box, as all are that this program wrote for the system
 -- and its settings; `audit` decides it

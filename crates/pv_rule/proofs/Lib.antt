@@ -1,3 +1,3 @@
 pub mod Fetches
-pub mod Inside
+pub mod Sets
 pub mod Spelled

@@ -8,7 +8,7 @@ use Rattle.pv_ctc.specs.Refusals.{IsSpelling}
 use Rattle.pv_slope.specs.Methods.{Method}
 use Rattle.pv_rule.specs.Systems.{IsRuleFor}
 use Rattle.pv_request.specs.declared.request.Settings.{Settings}
-use Rattle.pv_rule.proofs.Inside.{default_set}
+use Rattle.pv_rule.proofs.Sets.{set_of, prop_set}
 
 pub rule_for : (system : Parts) (s : Settings) (rule : Method) → length system.constraints < 2 ^ 32 → rule.form ≡ s.form → IsSpelling (length system.constraints) s.contract.now (plan_of rule.parts.program)
     → rule.parts.system ≡ system → sides_in rule.parts.graphs ≡ map sides_named system.constraints → rule.parts.eps ≡ s.eps → rule.parts.depth ≡ s.depth → rule.parts.bisector ≡ s.bisector
@@ -21,5 +21,6 @@ rule_for system s rule few form program same sides eps depth bisector = record {
   eps = eps;
   depth = depth;
   bisector = bisector;
-  by_default = default_set (length system.constraints) system.constraints s.contract.now _ _ few program sides;
+  set = set_of system.constraints (plan_of rule.parts.program) (sides_in rule.parts.graphs) sides;
+  by_prop = λ n spelled. prop_set system.constraints s.contract.now (plan_of rule.parts.program) (sides_in rule.parts.graphs) n few program sides spelled;
 }

@@ -1,24 +1,12 @@
--- What a paving says of a system, and how far it has come from its opening.
+-- How far a paving has come from its opening.
 use Rattle.std.specs.Prelude.{◌≡◌, ◌↔◌, ◌+◌, ◌≤◌, ℕ, Bool, true, false, List}
 use Rattle.pv_interval.specs.Bounds.{Bounds}
-use Rattle.pv_interval.specs.Points.{Point}
-use Rattle.pv_box.specs.Boxes.{PointIn}
-use Rattle.pv_rule.specs.Systems.{EachHolds}
-use Rattle.pv_expr.specs.declared.constraint.Constraint.{Constraint}
-use Rattle.pv_tree.specs.Trees.{Tree, leaf, removed, inner, small, cut}
+use Rattle.pv_tree.specs.Trees.{Tree}
 use Rattle.pv_tree.specs.Stages.{Rule, IsStage}
 use Rattle.pv_scope.specs.Settlings.{IsClosed, IsFullThere, LeavesOthers}
 use Rattle.pv_scope.specs.declared.share.Share.{Share}
 pub use Rattle.pv_board.specs.Rules.{settled_in}
 pub use Rattle.pv_workers.specs.Pavings.{IsPaved, FullFits}
-
--- every constraint holds at each rational point of each inner box
-abbrev pub HoldInside : List Constraint → Tree → Type 0
-HoldInside cs leaf = Unit {0}
-HoldInside cs removed = Unit {0}
-HoldInside cs (inner to) = (x : Point) → PointIn x to → EachHolds cs x
-HoldInside cs (small to) = Unit {0}
-HoldInside cs (cut to var at low high) = HoldInside cs low × HoldInside cs high
 
 -- What was settled of a share of an opening's leaves, and whether it is done: that is so exactly where no leaf at or below the
 -- share is open, and then what stands there is that of the full tree. Else exactly the budget was settled. All other leaves

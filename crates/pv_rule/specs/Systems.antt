@@ -1,5 +1,5 @@
 -- What a command reads of its system.
-use Rattle.std.specs.Prelude.{◌≡◌, ◌<◌, ◌≤◌, ◌↔◌, ℕ, Some, List, [], ◌∷◌, codes, length, map, take}
+use Rattle.std.specs.Prelude.{◌≡◌, ◌<◌, ◌≤◌, ◌↔◌, ℕ, Some, List, [], ◌∷◌, length, map, take}
 use Rattle.pv_expr.specs.Systems.{Parts}
 use Rattle.pv_expr.specs.Searches.{search_bounds}
 use Rattle.pv_interval.specs.Bounds.{Bounds}
@@ -7,7 +7,8 @@ use Rattle.pv_expr.specs.Terms.{Holds}
 use Rattle.pv_expr.specs.declared.constraint.Constraint.{Constraint}
 use Rattle.pv_hc4.specs.Graphs.{sides_named}
 use Rattle.pv_ctc.specs.Contracting.{sides_in}
-use Rattle.pv_ctc.specs.Plans.{plan_of}
+use Rattle.pv_ctc.specs.Members.{IsMember}
+use Rattle.pv_ctc.specs.Plans.{Plan, prop, plan_of}
 use Rattle.pv_ctc.specs.Refusals.{refused_at, IsSpelling}
 use Rattle.pv_slope.specs.Methods.{Method, is_member}
 use Rattle.pv_interval.specs.Points.{Point}
@@ -82,8 +83,17 @@ abbrev pub EachHolds : List Constraint → Point → Type 0
 EachHolds [] x = Unit {0}
 EachHolds (c ∷ cs) x = Holds c x.places x.under × EachHolds cs x
 
--- the rule by which the settings have the boxes of a system settled: its program is the one that their text spells.
--- By the default program its set is that of the points at which every constraint holds.
+-- The points that a program wants of constraints: of `hc4(i)` those at which constraint i holds, of `prop(n)` those at which
+-- each one does, of parts those that all of them want, one of them, or so many.
+abbrev pub Solves : List Constraint → Plan → Point → Type 0
+Solves cs p = IsMember (map sides_named cs) p
+
+-- the text of the settings' program is that of `prop(n)`
+abbrev pub SpellsProp : Parts → Settings → ℕ → Type 0
+SpellsProp system s n = IsSpelling (length system.constraints) s.contract.now (prop n)
+
+-- The rule by which the settings have the boxes of a system settled: its program is the one that their text spells, and its
+-- set is what that program wants of the constraints. By `prop(n)`, whatever n, each constraint holds at its points.
 pub record IsRuleFor (system : Parts) (s : Settings) (rule : Method) : Type 0 where
   pub form : rule.form ≡ s.form
   pub system_is : rule.parts.system ≡ system
@@ -92,7 +102,8 @@ pub record IsRuleFor (system : Parts) (s : Settings) (rule : Method) : Type 0 wh
   pub eps : rule.parts.eps ≡ s.eps
   pub depth : rule.parts.depth ≡ s.depth
   pub bisector : rule.parts.bisector ≡ s.bisector
-  pub by_default : s.contract.now ≡ codes "prop(8)" → (x : Point) → is_member rule x ↔ EachHolds system.constraints x
+  pub set : (x : Point) → is_member rule x ↔ Solves system.constraints (plan_of rule.parts.program) x
+  pub by_prop : (n : ℕ) → SpellsProp system s n → (x : Point) → is_member rule x ↔ EachHolds system.constraints x
 
 -- the file of this name holds a system, and this is its rule
 pub record HasRule (before : Files) (name : List ℕ) (s : Settings) (rule : Method) : Type 0 where

@@ -14,7 +14,7 @@ use Rattle.pv_least.specs.Searches.{lower_of, best_of}
 use Rattle.pv_least.specs.Promises.{NoneIsBelow, IsWitness}
 use Rattle.pv_least.specs.declared.found.BestPoint.{BestPoint}
 use Rattle.pv_least.specs.declared.found.Least.{Least}
-use Rattle.pv_rule.specs.Systems.{Files, HasRule, RefusesRule, EachHolds, search_box}
+use Rattle.pv_rule.specs.Systems.{Files, SpellsProp, HasRule, RefusesRule, EachHolds, search_box}
 use Rattle.pv_product.specs.Leasts.{AreBounds, IsLeastBy, RefusesObjective, RefusesLeast, searched_by, next_in, least_text}
 use Rattle.pv_product.specs.Products.{Product, ComesOfLeast, report_as}
 use Rattle.pv_request.specs.declared.request.Settings.{Settings}
@@ -78,8 +78,9 @@ least_comes before system s search rule t l p read means is told = record {
     term = t;
     means = means;
     is = is;
-    by_default = λ default. bounds_alike (is_member rule) (EachHolds rule.parts.system.constraints) t (search_box rule) l
-        (λ x. subst (λ (y : Parts). is_member rule x ↔ EachHolds y.constraints x) (sym read.is.system_is) (read.is.by_default default x)) is.bounds;
+    by_prop = λ n spelled. bounds_alike (is_member rule) (EachHolds rule.parts.system.constraints) t (search_box rule) l
+        (λ x. subst (λ (y : Parts). is_member rule x ↔ EachHolds y.constraints x) (sym read.is.system_is)
+        (read.is.by_prop n (subst (λ (y : Parts). SpellsProp y s n) read.is.system_is spelled) x)) is.bounds;
   };
   is = told;
 }
