@@ -1,5 +1,5 @@
 -- What the keepers show, and what the statements answer.
-use Rattle.std.specs.Prelude.{◌≡◌, ◌≢◌, ◌+◌, ◌≤◌, ℕ, List, Bool, true, false, Option, Some, None, length, if◌then◌else◌, string_bytes, option_map}
+use Rattle.std.specs.Prelude.{◌≡◌, ◌≢◌, ◌+◌, ◌≤◌, ℕ, List, Option, Some, None, length, if◌then◌else◌, string_bytes, option_map}
 use Rattle.pv_keep.specs.declared.row.Row.{Row}
 use Rattle.pv_keep.specs.declared.keeper.BeginRefused.{BeginRefused}
 use Rattle.pv_keep.specs.declared.keeper.BeginRefused.TheVariants.{Failed, Memory, OtherIdentity}
