@@ -1,5 +1,7 @@
 -- Which refusal an error of a database is, what it does to the count of faults, and how the calls of a keeper answer it.
 use Rattle.std.specs.Prelude.{◌≡◌, ◌≤◌, ℕ}
+use Rattle.std.specs.declared.io.ErrorKind.{ErrorKind}
+use Rattle.std.specs.declared.io.ErrorKind.TheVariants as kind
 use Rattle.sqlite.specs.declared.error.Error.{Error}
 use Rattle.sqlite.specs.declared.error.Error.TheVariants.{SqliteFailure}
 use Rattle.sqlite.specs.declared.error.ErrorCode.TheVariants as code
@@ -17,6 +19,11 @@ use Rattle.pv_keep_sql.specs.declared.faults.Refused.TheVariants.{Failed, Memory
 abbrev pub refusal_of : Error → Refused
 refusal_of (SqliteFailure code.OutOfMemory) = Memory
 refusal_of e = Failed
+
+-- the same of an error of the machine, by its kind
+abbrev pub refusal_of_kind : ErrorKind → Refused
+refusal_of_kind kind.OutOfMemory = Memory
+refusal_of_kind k = Failed
 
 -- a refusal is counted, unless memory was wanting
 abbrev pub IsCounted : Refused → ℕ → ℕ → Type 0

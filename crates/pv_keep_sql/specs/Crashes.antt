@@ -10,7 +10,7 @@ pub record CommitsNothing {S : Type 0} (g : Ghosts S) (old new : Held S) : Type 
   pub crash : Survives (state g old) (state g new) (λ _. ⊥)
   pub kept : HasCleanDisk (state g new) → KeepsCommit (state g old) (state g new)
 
--- A crash at any time leaves what one before the save would have left, or else one state of the tables, which has all rows.
+-- A crash at any time leaves what one before the save would have left, or else one state of the tables.
 pub record IsAllOrNothing {S : Type 0} (g : Ghosts S) (old new : Held S) : Type 0 where
   pub tables : Trees
   pub crash : Survives (state g old) (state g new) (λ found. found ≡ tables)

@@ -237,8 +237,9 @@ fn kept_row(alloc: Global, row: &sqlite::Row) -> Result<Row, Refused> {
     }
 }
 
-/// Keeps further rows in one transaction. After a refusal the database is as before, and a crash at
-/// any time leaves all of them or none.
+/// Keeps further rows in one transaction. A crash at any time leaves what one before would have
+/// left or one state of the tables, and a refusal what was committed before, as far as the disk
+/// returns what was written.
 #[tactic(auto, using(crate::proofs::Crashes::untouched, crate::proofs::Crashes::undone, crate::proofs::Crashes::undone_keeps, crate::proofs::Crashes::same_commit))]
 pub(crate) fn write_rows<S: Alter>(
     alloc: Global,

@@ -31,18 +31,33 @@ impl From<Error> for Refused {
 }
 
 impl From<AllocError> for Refused {
+    ghost use Rattle.std.specs.Prelude.{◌≡◌};
+    ghost use Rattle.pv_keep_sql.specs.declared.faults.Refused.TheVariants as refused;
+
+    ghost from_gives = { λ _ r. r ≡ refused.Memory };
+
     fn from(_: AllocError) -> Self {
         Refused::Memory
     }
 }
 
 impl From<Memory> for Refused {
+    ghost use Rattle.std.specs.Prelude.{◌≡◌};
+    ghost use Rattle.pv_keep_sql.specs.declared.faults.Refused.TheVariants as refused;
+
+    ghost from_gives = { λ _ r. r ≡ refused.Memory };
+
     fn from(_: Memory) -> Self {
         Refused::Memory
     }
 }
 
 impl From<RowRefused> for Refused {
+    ghost use Rattle.std.specs.Prelude.{◌≡◌};
+    ghost use Rattle.pv_keep_sql.specs.declared.faults.Refused.TheVariants as refused;
+
+    ghost from_gives = { λ _ r. r ≡ refused.Memory };
+
     fn from(_: RowRefused) -> Self {
         Refused::Memory
     }

@@ -51,6 +51,12 @@ pub(crate) struct Before {
 }
 
 impl From<io::Error> for Refused {
+    ghost use Rattle.std.specs.Prelude.{◌≡◌};
+    ghost use Rattle.std.specs.IoError.{error_kind};
+    ghost use Rattle.pv_keep_sql.specs.Counting.{refusal_of_kind};
+
+    ghost from_gives = { λ e r. r ≡ refusal_of_kind (error_kind e) };
+
     fn from(error: io::Error) -> Self {
         match error.kind() {
             ErrorKind::OutOfMemory => Refused::Memory,
