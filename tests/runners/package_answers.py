@@ -511,14 +511,18 @@ class Answers(PackageTest):
     def test_robust_known(self) -> None:
         """x^2 + y^2 <= r^2 for all r in [1, 2] is the disc of radius 1; 1/(k - p) <= 4 for all p in [-1, 1] asks for k above
         1.25 or below -1, as k = p must not be."""
+        eps = 0.0625
         with Written(str(ROBUSTS[-1][1])) as path:
-            found = paver.robust(path, ["r"], eps="0.0625")
+            found = paver.robust(path, ["r"], eps=eps, boxes=100_000)
+        self.assertEqual(found.status, 0, "a stopped run has what its workers came to, another time something else")
         shares = {kind: float(volume) for kind, volume in found.shares().items()}
         self.assertLessEqual(shares["sure"], math.pi, shares)
         self.assertLessEqual(math.pi, shares["sure"] + shares["rest"], shares)
-        self.assertGreater(shares["sure"], 2.7, shares)
+        # Each variable stands once, so a small box has a point outside the disc, and none that is further in than its diagonal.
+        self.assertLessEqual(math.pi * (1 - math.sqrt(2) * eps) ** 2, shares["sure"], shares)
         with Written("Variables k in [-2,2], p in [-1,1]; Constraints 1/(k - p) <= 4; end") as path:
-            found = paver.robust(path, ["p"], eps="0.01", boxes=100000)
+            found = paver.robust(path, ["p"], eps="0.01", boxes=100_000)
+        self.assertEqual(found.status, 0)
         for region in found.sure:
             low, high = region.box.exact[0]
             self.assertTrue(low >= Fraction(5, 4) or high <= -1, region)
