@@ -1,6 +1,6 @@
 """The one table of the program's commands and options, as data alone.
 
-A command or an option is one entry here, beside its code. `make tables` writes from it README's table of commands, the synopsis
+A command or an option is one entry here, beside its code. `make tables` writes from it the table of commands in docs/USING.md, the synopsis
 of the manual page and the completions of three shells; tests/runners/tables.py compares it with the program, with the calls of
 the package and with what else is written by hand. The order of this table is that of all of them.
 """
@@ -22,7 +22,7 @@ class Option(NamedTuple):
 class Command(NamedTuple):
     """What a command does and takes."""
     files: str  # the names of files behind its word
-    does: str  # README's words
+    does: str  # the words of docs/USING.md
     says: str  # one line, for the completions
     options: Tuple[str, ...]
     needs: Tuple[str, ...] = ()  # options that can't be left out

@@ -1,4 +1,4 @@
-"""Writes what is made of the table of commands and options, python/paver/commands.py: README's table of commands, the synopsis
+"""Writes what is made of the table of commands and options, python/paver/commands.py: the table of commands in docs/USING.md, the synopsis
 of the manual page (and its version, from python/paver/version.py), and the completions of three shells.
 
     python3 -m tests.generators.command_tables      or `make tables`
@@ -7,12 +7,13 @@ from __future__ import annotations
 
 import re
 
-from paver.commands import COMMANDS, OPTIONS, SETTINGS, Command, Option
+from paver.commands import COMMANDS, OPTIONS, Command, Option
+from paver.options import KEPT_SETTINGS
 from paver.version import VERSION
 from tests.runners.running import TOP
 
-README, MANUAL = TOP / "README.md", TOP / "docs" / "paver.1"
-ROWS = "|---|---|---|\n| `check SYSTEM`", "\n\n| status |"  # around README's rows: the first row's beginning is part of them
+USING, MANUAL = TOP / "docs" / "USING.md", TOP / "docs" / "paver.1"
+ROWS = "|---|---|---|\n| `check SYSTEM`", "\n\n## Options"  # around the rows: the first row's beginning is part of them
 SYNOPSIS = ".SH SYNOPSIS\n", ".SH DESCRIPTION\n"
 SYSTEMS = '_files -g "*.mbx"'
 
@@ -25,9 +26,10 @@ def used(name: str) -> list[str]:
 # ---- documents
 
 def row(name: str, told: Command) -> str:
-    """A command's row of README's table."""
-    others = [f"`--{option}`" for option in told.options if option not in SETTINGS]
-    options = ", ".join(["settings"] * (len(others) < len(told.options)) + others)
+    """A command's row of the table in docs/USING.md: `settings` are all that belong to a paving."""
+    others = [f"`--{option}`" for option in told.options if option not in KEPT_SETTINGS]
+    settings = "settings" if "form" in told.options else "settings without `--form`"
+    options = ", ".join([settings] * (not {*KEPT_SETTINGS}.isdisjoint(told.options)) + others)
     return f"| `{f'{name} {told.files}'.strip()}` | {told.does} | {options} |".replace("|  |", "| |")
 
 
@@ -35,8 +37,9 @@ def synopsis(name: str, told: Command) -> str:
     """A command's lines of the manual page's synopsis: what it needs, its settings, and what else it may have."""
     lines = [f".B paver {name}"] + [f".I {told.files}"] * bool(told.files)
     lines += [line for option in told.needs for line in (f".B --{option}", f".I {OPTIONS[option].value}")]
-    lines += [".RI [ SETTINGS ]"] * bool(set(told.options) & set(SETTINGS))
-    others = [option for option in told.options if option not in (*SETTINGS, *told.needs)]
+    of_all = KEPT_SETTINGS if {*KEPT_SETTINGS} <= {*told.options} else ()
+    lines += [".RI [ SETTINGS ]"] * bool(of_all)
+    others = [option for option in told.options if option not in (*of_all, *told.needs)]
     lines += [line for option in others for line in (f".RB [ --{option}", f".IR {OPTIONS[option].value} ]")]
     return "\n".join(lines).replace("-", "\\-") + "\n"
 
@@ -50,7 +53,7 @@ def put_between(text: str, ends: tuple[str, str], middle: str) -> str:
     return before + ends[0] + middle + ends[1] + after
 
 
-def readme(text: str) -> str:
+def using(text: str) -> str:
     rows = "\n".join(row(name, told) for name, told in COMMANDS.items())
     return put_between(text, ROWS, rows[len(ROWS[0].partition("\n")[2]):])
 
@@ -176,7 +179,7 @@ set -l commands {' '.join(COMMANDS)}
 def made() -> dict[str, str]:
     """Each file that is made, whole or in part, and its text."""
     folder = "completions"
-    return {"README.md": readme(README.read_text()), "docs/paver.1": manual(MANUAL.read_text()), f"{folder}/paver.bash": bash(),
+    return {"docs/USING.md": using(USING.read_text()), "docs/paver.1": manual(MANUAL.read_text()), f"{folder}/paver.bash": bash(),
             f"{folder}/_paver": zsh(), f"{folder}/paver.fish": fish()}
 
 

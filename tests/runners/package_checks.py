@@ -303,7 +303,7 @@ class Calls(PackageTest):
         self.assertEqual(lines[0], "sample seed 1 count 2")
         self.assertEqual(len(lines), 3)
         self.assertEqual(lines[1], "settled 911 cut 455 removed 0 inner 256 small 200 open 0")
-        self.assertIn(f"`{lines[2]}`", (EXAMPLE_FOLDER.parent / "README.md").read_text())
+        self.assertIn(f"`{lines[2]}`", (EXAMPLE_FOLDER.parent / "docs" / "USING.md").read_text())
         try:
             paver.sample(1, 17)
         except paver.UsageError as fault:

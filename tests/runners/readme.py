@@ -1,4 +1,5 @@
-"""Runs what README shows, in its order, in a folder with the examples, the program and the package, and compares.
+"""Runs what README and docs/USING.md show, in their order, in a folder with the examples, the program and the package, and
+compares.
 
     python3 -m tests.runners.readme [-k WORD]
 
@@ -17,25 +18,29 @@ from pathlib import Path
 from tests.runners import package_around
 from tests.runners.running import PROGRAM, TOP, FolderTest, main
 
-TEXT = (TOP / "README.md").read_text()
-MOST_LINES = 200
+README, USING = (TOP / "README.md").read_text(), (TOP / "docs" / "USING.md").read_text()
+TEXT = README + USING
+MOST_LINES = 100
+SYSTEM = re.compile(r"^```\n(Variables\n.*?)^```", re.M | re.S)
 ROW = re.compile(r"^\| (?:`(\w+)`, \d variables)? ?\| ([0-9.]+) \| ([0-9,]+) \| [0-9.]+ \| \d+ \| ([0-9.]+) \|$", re.M)
 
 
-# The commands that stand in README's sentences, and what runs them.
+# The commands that stand in sentences of the two pages, and what runs them.
 IN_TEXT = {
-    "make try": "first_look.py", "make install PREFIX=/usr/local": "package_around.py", "make dist": "tables.py",
-    "rt version": "test_kit", "./paver run examples/ring.mbx | head -n 1": "test_head",
+    "make demo": "test_all_are_run", "make gate": "test_all_are_run", "make try": "first_look.py",
+    "make install PREFIX=/usr/local": "package_around.py", "make dist": "tables.py", "rt version": "test_kit", "./paver run examples/ring.mbx | head -n 1": "test_head",
     "./paver sample --seed 1 --count 2": "test_sample", "python3 -m paver view examples/ring.mbx > ring.html": "test_view",
     "python3 -m paver export torus.db > FILE": "test_export", "python3 -m paver sweep SYSTEM --folder F": "test_sweep",
     "resume SYSTEM first --share K/N --out partK": "test_shares", "python3 -m paver plot": "test_plot",
     "python3 -m paver least --levels": "test_least", "--of='-(kd)'": "test_least",
+    "python3 -m paver explain COMMAND SYSTEM OPTIONS": "test_explain", "python3 -m paver summary SYSTEM torus.db": "test_export",
+    "python3 -m paver explain SYSTEM --groups 2 --agree 4": "test_explain",
 }
 TORUS = "examples/torus.mbx --eps 0.25"
 
 
 class Readme(FolderTest):
-    """What README shows and says."""
+    """What the two pages show and say."""
     folder: Path
 
     @classmethod
@@ -46,6 +51,7 @@ class Readme(FolderTest):
         cls.folder = Path(made.name)
         for name, to in (("paver", Path(PROGRAM)), ("examples", TOP / "examples"), ("python", TOP / "python")):
             (cls.folder / name).symlink_to(to)
+        (cls.folder / "plate.mbx").write_text(SYSTEM.findall(README)[0])
 
     def setUp(self) -> None:
         self.path = self.folder
@@ -79,7 +85,7 @@ class Readme(FolderTest):
         self.assertEqual(set(found) - {"resume SYSTEM PAVING.."}, set(IN_TEXT))
         targets = set(re.findall(r"(?:^|`)make (\w+)", TEXT, re.M))
         done = subprocess.run(["make", "-C", str(TOP), "-n", *sorted(targets)], capture_output=True, text=True, check=False)
-        self.assertEqual((targets, done.returncode), ({"demo", "test", "try", "install", "dist"}, 0), done.stderr[:500])
+        self.assertEqual((targets, done.returncode), ({"demo", "test", "gate", "try", "install", "dist"}, 0), done.stderr[:500])
 
     def test_kit(self) -> None:
         """The kit that is here is one of those that are named, with that logic."""
@@ -105,8 +111,19 @@ class Readme(FolderTest):
         """A campaign's paving as a stored file, of which `merge` makes the very file of one run."""
         self.ends_well(f"./paver campaign {TORUS} --keep torus.db --boxes 20000; ./paver run {TORUS} --out alone")
         self.ends_well("python3 -m paver export torus.db > FILE")
+        summary = self.ends_well("python3 -m paver summary examples/torus.mbx torus.db --eps 0.25").splitlines()[0]
+        self.assertEqual(summary, self.ends_well(f"./paver merge {TORUS} alone --out again").strip())
         self.assertEqual(self.ends_well(f"./paver audit {TORUS} FILE"), "honest\n")
         self.ends_well(f"./paver merge {TORUS} FILE --out of_file; cmp of_file alone")
+
+    def test_explain(self) -> None:
+        """It names the option that is refused, and writes a text over groups of constraints that the program takes."""
+        self.assertIn("`--eps", self.shell("python3 -m paver explain run examples/ring.mbx --eps=-1").stdout)
+        said = self.ends_well("python3 -m paver explain examples/localisation.mbx --groups 2 --agree 4")
+        text = re.search(r"qinter\(4,[^ '\"`]*\)", said)
+        self.assertTrue(text, said)
+        self.shell(f"./paver run examples/localisation.mbx --boxes 10 --contract '{text.group()}' > grouped")
+        self.assertRegex((self.path / "grouped").read_text(), r"^settled \d+ ")
 
     def test_sweep(self) -> None:
         """A sweep's join is one run's paving, and the same call again finds it done."""
@@ -144,8 +161,8 @@ class Readme(FolderTest):
             self.assertEqual(done.stdout, "6\n")
 
     def test_examples_and_sizes(self) -> None:
-        """The system that is shown is the example's, and the table's counts and files are those of the runs."""
-        shown = re.search(r"^```\n(Variables\n.*?)^```", TEXT, re.M | re.S)
+        """The system that USING shows is the example's, and the table's counts and files are those of the runs."""
+        shown = SYSTEM.search(USING)
         assert shown is not None
         text = (TOP / "examples" / "ring.mbx").read_text()
         bare = "".join(line for line in text.splitlines(True) if not line.startswith("//"))
@@ -176,7 +193,7 @@ class Readme(FolderTest):
     def test_form(self) -> None:
         """It is short, and what it says in passing of the program's arithmetic is so."""
         with self.subTest("lines"):
-            self.assertLess(TEXT.count("\n"), MOST_LINES)
+            self.assertLess(README.count("\n"), MOST_LINES)
         for wrong in ("so many", "way down", "behind"):
             with self.subTest(f"the words `{wrong}`"):
                 self.assertNotIn(wrong, TEXT)

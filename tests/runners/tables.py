@@ -1,5 +1,6 @@
 """Checks the one table of commands and options, python/paver/commands.py, against all that tell or take them: the program,
-the package's calls, README, the manual page, the completions of three shells, and the lists of other tests.
+the package's calls, docs/USING.md, the manual page, the completions of three shells, and the lists of other tests. Also that
+each word of docs/GLOSSARY.md stands with the place of its definition.
 
     python3 -m tests.runners.tables [-k WORD]
 
@@ -26,14 +27,16 @@ NAMES = sorted({name for names in options.COMMANDS.values() for name in names})
 VALUES = options.EXAMPLES
 OTHER_NAMES = {"svg": "draw"}  # of the calls of the package
 USAGE = 2
-README = (TOP / "README.md").read_text()
+USING = (TOP / "docs" / "USING.md").read_text()
+GLOSSARY = TOP / "docs" / "GLOSSARY.md"
 MANUAL = (TOP / "docs" / "paver.1").read_text().replace("\\-", "-")
 
 
 def named(cell: str) -> set[str]:
     """The options that a text names, with those that `settings` stand for."""
-    found = set(re.findall(r"--([a-z]+)", cell))
-    return found | set(options.SETTINGS) if re.search(r"\bsettings\b|\bSETTINGS\b", cell) else found
+    without = set(re.findall(r"settings without `--([a-z]+)`", cell))
+    found = set(re.findall(r"--([a-z]+)", cell)) - without
+    return found | set(options.KEPT_SETTINGS) - without if re.search(r"\bsettings\b|\bSETTINGS\b", cell) else found
 
 
 def zsh_tables() -> dict[str, set[str]]:
@@ -128,7 +131,7 @@ class Tables(FolderTest):
             self.assertEqual(given, (True, False))
 
     def test_defaults(self) -> None:
-        """The defaults of the table, given in words, change no byte, and README and the manual page tell them."""
+        """The defaults of the table, given in words, change no byte, and docs/USING.md and the manual page tell them."""
         (self.path / "ring.mbx").write_bytes((TOP / "examples" / "ring.mbx").read_bytes())
         told = {name: option.default for name, option in commands.OPTIONS.items() if option.default}
         words = [f"--{name}={told[name]}" for name in options.COMMANDS["run"] if name in told]
@@ -138,9 +141,9 @@ class Tables(FolderTest):
             self.assertEqual(self.call("run", "ring.mbx", *words).stdout, plain)
         (self.path / "ring.mbx").unlink()
         for name, value in told.items():
-            row = re.search(rf"^\| `--{name} .*\| `?([^|`]*)`? \|$", README, re.M)
+            row = re.search(rf"^\| `--{name} .*\| `?([^|`]*)`? \|$", USING, re.M)
             given = row and row.group(1).replace(",", "")
-            with self.subTest(f"README's default of {name}"):
+            with self.subTest(f"USING's default of {name}"):
                 self.assertEqual(given, value if name in options.COMMANDS["run"] else None)
             start = re.search(rf'^\.B[IR] --{name} "', MANUAL, re.M)
             default = re.search(r"default\s+(?:\.BR )?([\w().]*[\w)])", MANUAL[start.start():] if start else "")
@@ -148,21 +151,21 @@ class Tables(FolderTest):
             with self.subTest(f"the manual's default of {name}"):
                 self.assertEqual(given, value)
 
-    def test_readme(self) -> None:
-        """The rows of README's table of commands."""
+    def test_using(self) -> None:
+        """The rows of the table of commands in docs/USING.md."""
         with self.subTest("`make tables` writes nothing new"):
             self.assertEqual([name for name, text in command_tables.made().items() if (TOP / name).read_text() != text], [])
-        rows = re.findall(r"^\| `([a-z-]+)((?: SYSTEM)?(?: PAVING(?:\.\.)?)?)` \| .* \|([^|]*)\|$", README, re.M)
-        with self.subTest("commands in README"):
+        rows = re.findall(r"^\| `([a-z-]+)((?: SYSTEM)?(?: PAVING(?:\.\.)?)?)` \| .* \|([^|]*)\|$", USING, re.M)
+        with self.subTest("commands in USING"):
             self.assertEqual(sorted(row[0] for row in rows), sorted(TABLE), [row[0] for row in rows])
         for command, files, cell in rows:
             wanted = options.FILES[command]
-            with self.subTest(f"README's files of {command}"):
+            with self.subTest(f"USING's files of {command}"):
                 self.assertEqual(files.strip(), wanted, files)
-            with self.subTest(f"README's options of {command}"):
+            with self.subTest(f"USING's options of {command}"):
                 self.assertEqual(named(cell), TABLE.get(command))
-        shown = set(re.findall(r"^\| `--([a-z]+) ", README, re.M))
-        with self.subTest("README's options of run, one by one"):
+        shown = set(re.findall(r"^\| `--([a-z]+) ", USING, re.M))
+        with self.subTest("USING's options of run, one by one"):
             self.assertEqual(shown, TABLE["run"])
 
     def test_manual(self) -> None:
@@ -184,14 +187,14 @@ class Tables(FolderTest):
         with self.subTest("options of the manual"):
             self.assertEqual(listed, wanted)
         statuses = {place: set(re.findall(pattern, text, re.M)) for place, pattern, text in (
-            ("manual", r"^\.TP\n\.B (\d+)$", MANUAL), ("README", r"^\| (\d+)(?:, \d+)? \| ", README.split("| status |")[-1]))}
-        statuses["README"] |= {"6"} if "| 5, 6 |" in README else set()
+            ("manual", r"^\.TP\n\.B (\d+)$", MANUAL), ("USING", r"^\| (\d+)(?:, \d+)? \| ", USING.split("| status |")[-1]))}
+        statuses["USING"] |= {"6"} if "| 5, 6 |" in USING else set()
         with self.subTest("statuses"):
-            self.assertTrue(statuses["manual"] == statuses["README"] == {*map(str, range(12))}, statuses)
+            self.assertTrue(statuses["manual"] == statuses["USING"] == {*map(str, range(12))}, statuses)
         for line in package_around.LINES:
             short = line.removeprefix("paving NAME: ").replace("|", r"\|")
             with self.subTest(f"the line `{line}`"):
-                self.assertTrue(line in MANUAL and (line == "honest" or f"`{short}`" in README or f"NAME: {short}`" in README))
+                self.assertTrue(line in MANUAL and (line == "honest" or f"`{short}`" in USING or f"NAME: {short}`" in USING))
 
     def test_completions(self) -> None:
         for shell, tables in (("zsh", zsh_tables()), ("fish", fish_tables()), ("bash", bash_tables())):
@@ -259,7 +262,7 @@ class Tables(FolderTest):
         sample = self.elsewhere(packed, packed / "bin" / "paver").call("sample", "--seed", "1", "--count", "2")
         last = sample.stdout.splitlines()[-1].decode()
         with self.subTest("the packed program"):
-            self.assertIn(last, README)
+            self.assertIn(last, USING)
 
 
 if __name__ == "__main__":
