@@ -1,4 +1,5 @@
-"""Checks docs/READING.md, whose commands give what it shows, and with docs/PROOFS.md that each named line of a file has the name.
+"""Checks docs/READING.md, whose commands give what it shows, and with docs/PROOFS.md and docs/GLOSSARY.md that each named line
+of a file has the name.
 
     [MEND=yes] python3 -m tests.runners.reading
 
@@ -13,9 +14,9 @@ from pathlib import Path
 from tests.runners.running import TOP, FolderTest, main
 
 PAGE = TOP / "docs" / "READING.md"
-PAGES = [PAGE, TOP / "docs" / "PROOFS.md"]
+PAGES = [PAGE, TOP / "docs" / "PROOFS.md", TOP / "docs" / "GLOSSARY.md"]
 LINK = re.compile(r"\[`([a-zA-Z_]+)`, line (\d+)\]\(([^)]+)\)")
-DECLARES = r"(?:^\s*|\b(?:fn|record|data|ensures|unfoldable pub|abbrev pub|pub|ghost) )%s\b"
+DECLARES = r"(?:^\s*|\b(?:fn|record|data|struct|trait|const|ensures|unfoldable pub|abbrev pub|pub|ghost) )%s\b"
 
 
 def declared(name: str, file: Path) -> list[int]:
@@ -44,7 +45,7 @@ class Reading(FolderTest):
         self.text = PAGE.read_text()
 
     def test_lines(self) -> None:
-        for page, least in zip(PAGES, (20, 10)):
+        for page, least in zip(PAGES, (25, 10, 25)):
             links = LINK.findall(page.read_text())
             self.assertGreaterEqual(len(links), least)
             for name, line, to in links:

@@ -28,12 +28,13 @@ ROW = re.compile(r"^\| (?:`(\w+)`, \d variables)? ?\| ([0-9.]+) \| ([0-9,]+) \| 
 # The commands that stand in sentences of the two pages, and what runs them.
 IN_TEXT = {
     "make demo": "test_all_are_run", "make gate": "test_all_are_run", "make try": "first_look.py",
-    "make install PREFIX=/usr/local": "package_around.py", "make dist": "tables.py", "rt version": "test_kit", "./paver run examples/ring.mbx | head -n 1": "test_head",
-    "./paver sample --seed 1 --count 2": "test_sample", "python3 -m paver view examples/ring.mbx > ring.html": "test_view",
-    "python3 -m paver export torus.db > FILE": "test_export", "python3 -m paver sweep SYSTEM --folder F": "test_sweep",
-    "resume SYSTEM first --share K/N --out partK": "test_shares", "python3 -m paver plot": "test_plot",
+    "make install PREFIX=/usr/local": "package_around.py", "make dist": "tables.py", "rt version": "test_kit",
+    "./paver run examples/ring.mbx | head -n 1": "test_head", "./paver sample --seed 1 --count 2": "test_sample",
+    "python3 -m paver view examples/ring.mbx > ring.html": "test_view", "python3 -m paver plot": "test_plot",
+    "python3 -m paver export torus.db > FILE": "test_export", "python3 -m paver summary SYSTEM torus.db": "test_export",
+    "python3 -m paver sweep SYSTEM --folder F": "test_sweep", "resume SYSTEM first --share K/N --out partK": "test_shares",
     "python3 -m paver least --levels": "test_least", "--of='-(kd)'": "test_least",
-    "python3 -m paver explain COMMAND SYSTEM OPTIONS": "test_explain", "python3 -m paver summary SYSTEM torus.db": "test_export",
+    "python3 -m paver explain COMMAND SYSTEM OPTIONS": "test_explain",
     "python3 -m paver explain SYSTEM --groups 2 --agree 4": "test_explain",
 }
 TORUS = "examples/torus.mbx --eps 0.25"

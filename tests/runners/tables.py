@@ -19,7 +19,7 @@ from paver import __main__ as package_commands
 from paver import commands, options
 from paver.version import VERSION
 from tests.generators import command_tables
-from tests.runners import allocations, campaign_allocations, fuzz_words, outside, package_around
+from tests.runners import allocations, campaign_allocations, fuzz_words, outside, package_around, reading
 from tests.runners.running import PROGRAM, TOP, FolderTest, main
 
 TABLE = {command: set(names) for command, names in options.COMMANDS.items()}
@@ -216,6 +216,22 @@ class Tables(FolderTest):
             self.assertEqual({name for row in shown for name in row if name}, set(choices or ()))
         with self.subTest("the call of run on a text"):
             self.assertEqual(set(inspect.signature(paver.run_text).parameters) & set(NAMES), TABLE["run"])
+
+    def test_glossary(self) -> None:
+        """Each word of the glossary has what it means in a sentence or two, and a place in the crates where that is declared."""
+        for part in GLOSSARY.read_text().split("\n## ")[1:]:
+            entries = re.findall(r"^- \*\*(.*?)\*\*.*?: (.*)$", part, re.M)
+            words = [word for word, _ in entries]
+            with self.subTest(part.split("\n")[0]):
+                self.assertTrue(15 <= len(words) <= 25 and words == sorted(set(words)), words)
+                self.assertEqual(len(entries), part.count("\n- "))
+            for word, text in entries:
+                with self.subTest(word):
+                    meaning, found = text.split(" [`")[0], reading.LINK.findall(text)
+                    self.assertTrue(5 <= len(meaning.split()) <= 45 and found, text)
+                    for name, line, to in found:
+                        self.assertTrue(to.startswith("../crates/") and (GLOSSARY.parent / to).is_file(), to)
+                        self.assertIn(int(line), reading.declared(name, GLOSSARY.parent / to), name)
 
     def test_lists_of_tests(self) -> None:
         """What other tests try: each command has a call, and each option of made words a value."""
