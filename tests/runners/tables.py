@@ -223,7 +223,7 @@ class Tables(FolderTest):
             entries = re.findall(r"^- \*\*(.*?)\*\*.*?: (.*)$", part, re.M)
             words = [word for word, _ in entries]
             with self.subTest(part.split("\n")[0]):
-                self.assertTrue(15 <= len(words) <= 25 and words == sorted(set(words)), words)
+                self.assertTrue(15 <= len(words) <= 25 and words == sorted(set(words), key=str.lower), words)
                 self.assertEqual(len(entries), part.count("\n- "))
             for word, text in entries:
                 with self.subTest(word):
