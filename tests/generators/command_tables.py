@@ -1,5 +1,5 @@
-"""Writes what is made of the table of commands and options, python/paver/commands.py: the table of commands in docs/USING.md, the synopsis
-of the manual page (and its version, from python/paver/version.py), and the completions of three shells.
+"""Writes what is made of the table of commands and options, python/paver/commands.py: the table of commands in docs/USING.md,
+the synopsis of the manual page (and its version, from python/paver/version.py), and the completions of three shells.
 
     python3 -m tests.generators.command_tables      or `make tables`
 """
@@ -179,8 +179,8 @@ set -l commands {' '.join(COMMANDS)}
 def made() -> dict[str, str]:
     """Each file that is made, whole or in part, and its text."""
     folder = "completions"
-    return {"docs/USING.md": using(USING.read_text()), "docs/paver.1": manual(MANUAL.read_text()), f"{folder}/paver.bash": bash(),
-            f"{folder}/_paver": zsh(), f"{folder}/paver.fish": fish()}
+    return {"docs/USING.md": using(USING.read_text()), "docs/paver.1": manual(MANUAL.read_text()),
+            f"{folder}/paver.bash": bash(), f"{folder}/_paver": zsh(), f"{folder}/paver.fish": fish()}
 
 
 def main() -> None:

@@ -218,7 +218,7 @@ class Tables(FolderTest):
             self.assertEqual(set(inspect.signature(paver.run_text).parameters) & set(NAMES), TABLE["run"])
 
     def test_glossary(self) -> None:
-        """Each word of the glossary has what it means in a sentence or two, and a place in the crates where that is declared."""
+        """Each word of the glossary has its meaning, in a sentence or two, and a place in the crates that declares it."""
         for part in GLOSSARY.read_text().split("\n## ")[1:]:
             entries = re.findall(r"^- \*\*(.*?)\*\*.*?: (.*)$", part, re.M)
             words = [word for word, _ in entries]
