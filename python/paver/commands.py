@@ -1,8 +1,8 @@
 """The one table of the program's commands and options, as data alone.
 
-A command or an option is one entry here, beside its code. `make tables` writes from it the table of commands in docs/USING.md, the synopsis
-of the manual page and the completions of three shells; tests/runners/tables.py compares it with the program, with the calls of
-the package and with what else is written by hand. The order of this table is that of all of them.
+A command or an option is one entry here, beside its code. `make tables` writes from it the table of commands in docs/USING.md,
+the synopsis of the manual page and the completions of three shells; tests/runners/tables.py compares it with the program, with
+the calls of the package and with what else is written by hand. The order of this table is that of all of them.
 """
 from typing import Dict, NamedTuple, Optional, Tuple
 

@@ -23,7 +23,7 @@ def declared(name: str, file: Path) -> list[int]:
     """The lines that declare a name, with those that begin with a keyword first."""
     lines = file.read_text().splitlines()
     found = [i for i, line in enumerate(lines, 1) if re.search(DECLARES % name, line)]
-    return sorted(found, key=lambda i: re.match(r"\s*%s\b" % name, lines[i - 1]) is not None and ":" not in lines[i - 1])
+    return sorted(found, key=lambda i: re.match(r"\s*%s\b(?!\s*:[^:])" % name, lines[i - 1]) is not None)
 
 
 def mended(text: str) -> str:
