@@ -1,7 +1,8 @@
 # make try      a first look in a minute: paves an example by the program's libraries with no proof, and says so
 # make          proves and builds the program on JOBS processors, all that there are, and leaves it as ./paver
-# make demo     the same; paves an example and leaves its picture as demo/ring.svg
-# make test     the whole test command: the gate and the end-to-end tests
+# make demo     a first look, then the same; paves the example again, compares, and leaves its picture as demo/ring.svg
+# make test     the tests of the program, by JOBS processors, with a line for each runner
+# make gate     everything: every proof and wrong body from the sources, then the tests; what a merge has to pass
 # make layout   tells in a minute which files the gate would refuse for their layout alone
 # make fuzz     COUNT made texts, words and files each, a tenth as many systems and databases, and each allocation of each command refused in turn
 # make pictures draws each example into docs/pictures, and writes docs/GALLERY.md
@@ -13,6 +14,7 @@ PREFIX ?= /usr/local
 SHARE := $(DESTDIR)$(PREFIX)/share
 JOBS ?= $(shell nproc)
 COUNT ?= 100000
+ALL := 1000000000
 export PAVER := $(CURDIR)/paver
 export PYTHONPATH := $(CURDIR)/python
 SOURCES := $(shell find crates -name out -prune -o -type f \( -name '*.rt' -o -name '*.antt' \) -print) crates.txt
@@ -38,13 +40,21 @@ bench: paver
 try:
 	python3 build/first_look.py demo
 
-demo: paver
+# Something to look at comes first. What was proved so far is kept, so an ended call goes on where it was.
+demo:
+	@test -x paver || python3 build/first_look.py demo
+	$(MAKE) --no-print-directory paver
 	mkdir -p demo
+	@test ! -f demo/try.txt || { ./paver run examples/ring.mbx --eps 0.5 | cmp - demo/try.txt && \
+		echo "the proved program prints the same bytes as the first look"; }
 	./paver run examples/ring.mbx --out demo/ring.paving
 	./paver svg examples/ring.mbx demo/ring.paving --x x --y y > demo/ring.svg
-	@echo "the picture is in demo/ring.svg"
+	@echo "PROVED: the picture is in demo/ring.svg"
 
-test:
+test: paver
+	python3 -m tests.suite --jobs $(JOBS)
+
+gate:
 	.ci/run
 
 pictures: paver
@@ -61,8 +71,8 @@ layout:
 fuzz: paver
 	for name in fuzz_reader fuzz_words fuzz_files; do COUNT=$(COUNT) python3 -m tests.runners.$$name || exit; done
 	for name in fuzz_systems fuzz_databases; do COUNT=$$(($(COUNT) / 10)) python3 -m tests.runners.$$name || exit; done
-	python3 -m tests.runners.allocations
-	python3 -m tests.runners.campaign_allocations
+	COUNT=$(ALL) python3 -m tests.runners.allocations
+	COUNT=$(ALL) python3 -m tests.runners.campaign_allocations
 
 dist: paver
 	build/dist.sh ./paver
@@ -83,4 +93,4 @@ uninstall:
 clean:
 	rm -rf paver demo dist crates/*/out
 
-.PHONY: all try demo test layout tables pictures fuzz bench dist install uninstall clean
+.PHONY: all try demo test gate layout tables pictures fuzz bench dist install uninstall clean

@@ -63,9 +63,14 @@ def lines_of(rtlib: Any, crate: Any) -> int:
     return sum(rtlib.text_of(file).count("\n") for file in rtlib.files_of(crate.folder))
 
 
+def seconds_of(crates: list[Any], lines: dict[Any, int]) -> dict[Any, int]:
+    """About how many processor seconds the check of each crate takes."""
+    return {crate: SECONDS.get(crate.name, lines[crate] // LINES_A_SECOND) for crate in crates}
+
+
 def chains(crates: list[Any], lines: dict[Any, int]) -> dict[Any, int]:
     """Of each crate the seconds of the longest chain of crates that begins with it and goes up. Lower crates come first."""
-    seconds = {crate: SECONDS.get(crate.name, lines[crate] // LINES_A_SECOND) for crate in crates}
+    seconds = seconds_of(crates, lines)
     found = dict(seconds)
     for crate in reversed(crates):
         for low in crate.below():
@@ -92,6 +97,9 @@ class Build:
         self.jobs, self.memory, self.since = jobs, int(0.85 * free_memory(rtlib)), time.monotonic()
         lines = {crate: lines_of(rtlib, crate) for crate in crates}
         self.chain, self.needs = chains(crates, lines), {crate: memory_of(crate, lines) for crate in crates}
+        self.seconds = seconds_of(crates, lines)
+        self.all = len(crates)
+        self.done: list[Any] = []
         self.left = sorted((crate for crate in crates if not crate.is_built()), key=lambda crate: -self.chain[crate])
         self.running: dict[Any, tuple[Any, int, int]] = {}
         self.begun: dict[Any, float] = {}
@@ -128,8 +136,19 @@ class Build:
             crate, jobs, _ = self.running.pop(done)
             status, seconds = done.result()
             self.failed += [crate] * bool(status)
+            self.done += [crate] * (not status)
             what = f"{crate.name} {'NOT PROVED' if status else 'proved'} in {seconds:.0f} s by {jobs} job{'s' * (jobs > 1)}"
-            print(f"{time.monotonic() - self.since:6.0f} s  {what}", flush=True)
+            print(f"{time.monotonic() - self.since:6.0f} s  {what}; {self.far()}", flush=True)
+
+    def far(self) -> str:
+        """How many libraries are proved, and about how long the others will take, by the seconds of this machine so far."""
+        open_ones = [*self.left, *(crate for crate, _, _ in self.running.values())]
+        if not open_ones:
+            return f"{self.all} of {self.all}"
+        pace = (time.monotonic() - self.since) / max(1, sum(self.seconds[crate] for crate in self.done))
+        chain = max(self.chain[crate] for crate in open_ones) / max(1, min(self.jobs, URGENT_JOBS))
+        minutes = max(pace * sum(self.seconds[crate] for crate in open_ones), pace * chain) / 60
+        return f"{self.all - len(open_ones)} of {self.all}, about {minutes:.0f} minutes more"
 
     def run(self) -> int:
         with ThreadPoolExecutor(self.jobs) as pool:

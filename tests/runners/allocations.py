@@ -1,23 +1,27 @@
-"""Runs each command of the real binary with its n-th allocation refused, for every n in turn, and with all from the
-n-th on.
+"""Runs each command of the real binary with its n-th allocation refused, and with all from the n-th on, for a sample of n.
 
-    [ONLY=COMMAND] python3 -m tests.runners.allocations
+    [ONLY=COMMAND] [COUNT=N] [SEED=S] python3 -m tests.runners.allocations
+
+COUNT is how many n are tried of each command, and every one where it is as large as all allocations (`make fuzz`).
 
 The answer has to be status 7 with its line, or the very answer of a call that is refused nothing; no other file may change,
 and a file that is stored is whole. Needs a C compiler, and is skipped where there is none.
 """
 from __future__ import annotations
 
+import random
 import shutil
 import subprocess
 import tempfile
 import unittest
-from collections.abc import Iterable
+from collections.abc import Sequence
 from pathlib import Path
 
 from tests.data.cases import HALF_LINE, RECIPROCAL, system
 from tests.runners.paving_files import A, B, QUARTER, TWO_DISCS, file_of
-from tests.runners.running import Answered, FolderTest, main, rows
+from tests.runners.running import Answered, FolderTest, made_cases, main, rows
+
+SAMPLE = 24  # allocations of a command that are refused, where COUNT doesn't say how many
 
 # By these the lines are so many that several workers make them.
 Command = tuple[int, list[str], str]  # the status where nothing is refused, the words, and the file that is stored or ""
@@ -67,6 +71,14 @@ def commands() -> dict[str, Command]:
         "words": (2, ["run", "s", "--eps"], ""),
         "a contract": (2, ["run", "s", "--contract", "union(hc4(0),prop(3),q)"], ""),
     }
+
+
+def sample_of(numbers: Sequence[int]) -> list[int]:
+    """As many of these as COUNT says, in order; the last is always among them."""
+    most, seed = made_cases(SAMPLE)
+    if most >= len(numbers):
+        return list(numbers)
+    return sorted({*random.Random(seed).sample(numbers, most), *numbers[-1:]})
 
 
 class RefusingTest(FolderTest):
@@ -121,13 +133,13 @@ class RefusingTest(FolderTest):
         self.assertEqual(wanted[0], status, wanted[2])
         self.assertTrue(new or not stored, f"{stored} is not stored")
         for how in ("refuse", "refuse_from"):
-            for n in self.refused(count):
+            for n in sample_of(self.refused(count)):
                 self.remove(stored)
                 got = self.refusing(words, **{how: n})
                 self.judge(words, f"{how} {n}", got, wanted, before, stored, new)
 
-    def refused(self, count: int) -> Iterable[int]:
-        """Which of so many allocations are refused."""
+    def refused(self, count: int) -> Sequence[int]:
+        """Which of so many allocations may be refused."""
         return range(1, count + 1)
 
     def remove(self, stored: str) -> None:

@@ -1,7 +1,7 @@
-"""Runs campaigns of the real binary with the n-th allocation refused, and with all from the n-th on, for the first n, the last
-and every seventh between.
+"""Runs campaigns of the real binary with the n-th allocation refused, and with all from the n-th on, for a sample of the
+first n, the last and every seventh between.
 
-    [ONLY=COMMAND] python3 -m tests.runners.campaign_allocations
+    [ONLY=COMMAND] [COUNT=N] [SEED=S] python3 -m tests.runners.campaign_allocations
 
 The answer has to be status 7 with its line, or the very answer of a call that is refused nothing. Stock sqlite3 has to
 find the database sound, with the rows of whole rounds, and of all of them where the answer is the right one; no other
