@@ -73,6 +73,8 @@ def asked(question: Question) -> str:
 
 def of_chain(sheet: Sheet, question: Question) -> None:
     chain = Chain(sheet)
+    if sheet.charts is not None and len(sheet.charts) != len(sheet.turns):
+        sheet.refuse(f"--charts {sheet.charts}: a digit for each of {len(sheet.turns)} revolute joints is expected")
     if question.lengths:
         sheet.refuse("lengths are asked of a platform's legs")
     if question.workspace or question.pose:

@@ -47,7 +47,7 @@ def of_ball(sheet: Sheet, obstacle: Obstacle, points: Sequence[Point]) -> Iterat
         yield f"point {k}", " + ".join(f"sqr({sheet.text(part)})" for part in away if part.terms) + f" >= {number_text(least)}"
     for k, (first, second) in enumerate(zip(points, points[1:])):
         u, w = [b - a for a, b in zip(first, second)], [b - a for a, b in zip(first, centre)]
-        if all(part.constant is not None for part in [*u, *w]):
+        if not any(part.terms for part in u):  # a point, in these axes
             continue
         square, along = total(part * part for part in u), total(a * b for a, b in zip(u, w))
         crosses = " + ".join(f"sqr({sheet.text(u[i] * w[k] - u[k] * w[i])})" for i, k in combinations(range(len(u)), 2))

@@ -56,7 +56,8 @@ def work(arguments: argparse.Namespace) -> int:
         raise RobotRefused("--folder F belongs to --rotation half, without --charts")
     texts = {charts: robot_text(robot, question, "half", charts) for charts in charts_of(robot)}
     Path(arguments.folder).mkdir(parents=True)
-    for charts, text in texts.items():
+    for text in dict.fromkeys(texts.values()):  # angles that don't stand in the question have no charts
+        charts = next(word for word, other in texts.items() if other == text)
         path = Path(arguments.folder) / f"chart_{charts}.mbx"
         path.write_text(text, encoding="utf-8")
         print(path)

@@ -168,9 +168,11 @@ class Sheet:
         limit = limit_text(turn, c, s)
         if self.rotation == "cosines":
             return [(c, "-1, 1"), (s, "-1, 1")], [(f"cosine and sine of {turn.what}", f"{c}^2 + {s}^2 = 1"), *limit]
-        if one_chart(turn.qlim) and turn.qlim:
-            low, high = (math.tan(math.radians(float(end)) / 2) for end in turn.qlim)
-            return [(f"t_{turn.name}", f"{outward(low, False)}, {outward(high, True)}")], limit
+        if turn.qlim and one_chart(turn.qlim):
+            low, high = turn.qlim
+            self.notes.append(f"the domain of t_{turn.name} has the limits of {turn.what}, {float(low):.9g} to {float(high):.9g} "
+                              "degrees, outward by less than 1e-8")
+            return [(f"t_{turn.name}", f"{half_tangent(low, False)}, {half_tangent(high, True)}")], []
         return [(f"t_{turn.name}", "-1, 1")], limit
 
 
@@ -202,6 +204,13 @@ def bound(value: Fraction, up: bool) -> str:
     if "/" in text or len(text) > 15:
         return outward(float(value), up)
     return ("-" if value < 0 else "") + text
+
+
+def half_tangent(degrees: Fraction, up: bool) -> str:
+    """The tangent of half an angle as a bound of a domain."""
+    if degrees in (-90, 0, 90):
+        return str(int(degrees / 90))
+    return outward(math.tan(math.radians(float(degrees)) / 2), up)
 
 
 def outward(value: float, up: bool) -> str:

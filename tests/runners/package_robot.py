@@ -6,7 +6,10 @@ platform the places of its corners. None of them is the package's: it multiplies
 from __future__ import annotations
 
 import math
+import os
 import random
+import re
+import subprocess
 import tempfile
 from collections.abc import Callable, Mapping, Sequence
 from fractions import Fraction
@@ -17,8 +20,9 @@ import paver
 from paver.robot import charts_of
 from paver.robot_file import RobotRefused, read_text
 from tests.reference import minibex
+from tests.runners.package_around import commands_of
 from tests.runners.package_test import PackageTest, command
-from tests.runners.running import main, rows
+from tests.runners.running import TOP, main, rows
 
 POINTS = 10_000
 CLOSE = 1e-9
@@ -187,6 +191,19 @@ class Robots(PackageTest):
                 values["z"] += 0.01
                 self.assertGreater(known.off(values), 1e-4, (chart, q))
 
+    def test_half_limits(self) -> None:
+        """Limits that one chart holds stand in the domain."""
+        known, source, counts = Known(self.text(TWO, workspace=True, rotation="half")), random.Random(11), [0, 0]
+        for _ in range(1000):
+            q = [source.uniform(-165, 165) for _ in range(2)]
+            good = abs(q[0]) <= 150 and -120 <= q[1] <= 150
+            q = [math.radians(value) for value in q]
+            values = {**dict(zip("xy", planar((1, 0.8))(q))), **circle("q1", q[0], True), **circle("q2", q[1], True)}
+            if min(abs(abs(value) - math.radians(end)) for value in q for end in (120, 150)) > 1e-6:
+                self.assertEqual(known.off(values) <= CLOSE, good, q)
+                counts[good] += 1
+        self.assertGreater(min(counts), 100, counts)
+
     def test_inverse(self) -> None:
         """The two poses of a 2R by the closed formula, the cosine law, and no others on a grid of joints."""
         source = random.Random(4)
@@ -344,6 +361,21 @@ class Robots(PackageTest):
                     self.text(robot, **question)
                 self.assertIn(phrase, str(raised.exception))
                 self.assertNotIn("\n", str(raised.exception))
+
+    def test_page(self) -> None:
+        """Each command of the page prints what stands below it."""
+        with tempfile.TemporaryDirectory() as folder:
+            shown = list(commands_of((TOP / "docs" / "ROBOT.md").read_text()))
+            blocks = re.findall(r"^```text (\S+)\n(.*?)^```", (TOP / "docs" / "ROBOT.md").read_text(), re.M | re.S)
+            self.assertTrue(len(shown) >= 3 and blocks)
+            for name, text in blocks:
+                (Path(folder) / name).write_text(text)
+            for words, told, lines in shown:
+                done = subprocess.run(["bash", "-c", words], cwd=folder, capture_output=True, text=True, timeout=60, check=False,
+                                      env={**os.environ, "PYTHONPATH": str(TOP / "python"), "PYTHONDONTWRITEBYTECODE": "1"})
+                with self.subTest(words):
+                    self.assertEqual((done.returncode, [line.strip() for line in (done.stdout + done.stderr).splitlines()]),
+                                     (int(*told or ["0"]), lines))
 
     def test_program(self) -> None:
         """From the file to the two poses of an arm, by the command and the program."""
