@@ -1,7 +1,7 @@
 """Writes the system of a question about a robot: workspace, inverse poses, singular poses, clearance.
 
-The text's set is stated by polynomials with rational coefficients: angles stand by cosine and sine on the unit circle, or by the
-tangent of half of them in one of two charts. What is written is tested beside other kinematics in floats, and is not proved.
+The text's set is stated by polynomials with rational coefficients: angles stand by cosine and sine on the unit circle, or by
+the tangent of half of them in one of two charts. What is written is tested beside other kinematics in floats, and is not proved.
 """
 from __future__ import annotations
 

@@ -1,8 +1,8 @@
 """Conditions that a robot's links keep clear of discs, balls and boxes, exactly, for links that are segments with a radius.
 
-A segment from P to Q keeps R from a centre C where both ends do, and the foot of the perpendicular from C lies beyond an end or
-the line itself keeps R. A segment and a box have no common inner point where one of these axes separates them: those of the box,
-and those square to the segment and to one of these (the separating axis theorem). Boxes are widened by the links' radius on
+A segment from P to Q keeps R from a centre C where both ends do, and the foot of the perpendicular from C lies beyond an end
+or the line itself keeps R. A segment and a box have no common inner point where one of these axes separates them: those of the
+box, and those square to the segment and to one of these (the separating axis theorem). Boxes are widened by the links' radius on
 each side: their corners stay square.
 """
 from __future__ import annotations
@@ -21,7 +21,7 @@ Point = Sequence[Polynomial]
 
 
 def clearances(sheet: Sheet, lines: Sequence[Sequence[Point]]) -> None:
-    """Asks that each of these lines of points, each point with as many coordinates as are known, keeps clear of all obstacles."""
+    """Asks that each of these lines of points keeps clear of all obstacles; points of the plane have two coordinates."""
     for obstacle in sheet.robot.obstacles:
         what = f"{obstacle.kind} of line {obstacle.line}"
         axes = [AXES.index(axis) for axis in obstacle.centre]

@@ -15,8 +15,8 @@ from .robot_file import RobotRefused
 def add_options(command: argparse.ArgumentParser) -> None:
     command.add_argument("file", help="a chain by its table or a platform by its legs: docs/ROBOT.md")
     command.add_argument("--workspace", action="store_true", help="where the tool can be, with the joints that bring it there")
-    command.add_argument("--pose", metavar="x=1,y=0.5", help="the joints that bring the tool there; phi=, or roll=, pitch=, yaw=, "
-                         "in degrees")
+    command.add_argument("--pose", metavar="x=1,y=0.5", help="the joints that bring the tool there; phi=, or roll=, pitch=, "
+                         "yaw=, in degrees")
     command.add_argument("--lengths", metavar="l1=1,..", help="the platform's poses with these lengths of its RPR legs")
     command.add_argument("--singular", metavar="D", help="poses in which the Jacobian's determinant is within D of 0")
     command.add_argument("--side", choices=SIDES, default="zero", help="of --singular: within D, apart, at least D, at most -D")
@@ -46,9 +46,9 @@ def work(arguments: argparse.Namespace) -> int:
     """Writes the system of a question about a robot: workspace, inverse poses, singular poses, clearance."""
     robot = robot_file.read(arguments.file)
     singular = numbers_of("singular", f"D={arguments.singular}").get("D") if arguments.singular is not None else None
+    coordinates = arguments.coordinates.split(",") if arguments.coordinates else ()
     question = Question(arguments.workspace, numbers_of("pose", arguments.pose), numbers_of("lengths", arguments.lengths),
-                        singular, arguments.side, tuple((arguments.coordinates or "").split(",")) if arguments.coordinates else (),
-                        arguments.clear)
+                        singular, arguments.side, tuple(coordinates), arguments.clear)
     if arguments.folder is None:
         sys.stdout.write(robot_text(robot, question, arguments.rotation, arguments.charts))
         return 0

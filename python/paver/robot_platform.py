@@ -1,7 +1,7 @@
 """A planar platform on legs: corners, closures and lines of force as polynomials.
 
-Source of the determinant: Merlet, Parallel Robots: a pose is singular where the lines along which the legs hold the platform meet
-in one point or are parallel.
+Source of the determinant: Merlet, Parallel Robots: a pose is singular where the lines along which the legs hold the platform
+meet in one point or are parallel.
 """
 from __future__ import annotations
 

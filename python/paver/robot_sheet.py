@@ -1,4 +1,4 @@
-"""The sheet on which a robot's system is written: its variables, and constraints with a comment each, within the profile's limits."""
+"""The sheet on which a robot's system is written: its variables, and constraints with a comment each, within the limits."""
 from __future__ import annotations
 
 import math

@@ -40,6 +40,7 @@ leg l2 RPR base=3,0 corner=0.5,-0.3 qlim=1,2
 leg l3 RPR base=1.5,2.5 corner=0,0.6 qlim=1,2
 turn qlim=-60,60
 """
+FEET, CORNERS = ((0, 0), (3, 0), (1.5, 2.5)), ((-0.5, -0.3), (0.5, -0.3), (0, 0.6))
 FIVE = "platform\nleg a RRR base=0,0 corner=0,0 links=1,1.25 qlim=0,180\nleg b RRR base=1,0 corner=0,0 links=1,1.25\n"
 
 
@@ -62,7 +63,7 @@ def code(e: Any) -> str:
 
 
 class Known:
-    """A written system in floats: `off` says for a point by how much its worst constraint is missed, at most 0 where all hold."""
+    """A written system in floats: `off` says for a point by how much its worst constraint is missed."""
 
     def __init__(self, text: str) -> None:
         system = minibex.read(text)
@@ -159,12 +160,11 @@ class Robots(PackageTest):
     def test_platform(self) -> None:
         """3-RPR: the legs' lengths by their ends, with a margin about the limits."""
         known, source, counts = Known(self.text(RPR, workspace=True)), random.Random(2), [0, 0]
-        feet, corners = ((0, 0), (3, 0), (1.5, 2.5)), ((-0.5, -0.3), (0.5, -0.3), (0, 0.6))
         for _ in range(POINTS):
             x, y, turn = source.uniform(0.8, 2.2), source.uniform(0.2, 1.5), source.uniform(-1.15, 1.15)
             reach = [math.hypot(x + math.hypot(u, v) * math.cos(turn + math.atan2(v, u)) - a,
                                 y + math.hypot(u, v) * math.sin(turn + math.atan2(v, u)) - b)
-                     for (a, b), (u, v) in zip(feet, corners)]
+                     for (a, b), (u, v) in zip(FEET, CORNERS)]
             excess = max(max(1 - length, length - 2) for length in reach)
             excess = max(excess, abs(turn) - math.pi / 3)
             if abs(excess) < 1e-6:
@@ -328,7 +328,7 @@ class Robots(PackageTest):
         for _ in range(20):
             x, y, turn = source.uniform(1, 2), source.uniform(0.5, 1.2), source.uniform(-0.5, 0.5)
             lengths = {}
-            for name, (a, b), (u, v) in zip(("l1", "l2", "l3"), ((0, 0), (3, 0), (1.5, 2.5)), ((-0.5, -0.3), (0.5, -0.3), (0, 0.6))):
+            for name, (a, b), (u, v) in zip(("l1", "l2", "l3"), FEET, CORNERS):
                 c, s = math.cos(turn), math.sin(turn)
                 lengths[name] = f"{math.hypot(x + u * c - v * s - a, y + u * s + v * c - b):.15f}"
             known = Known(self.text(RPR.replace("qlim=1,2", "qlim=0.2,4"), lengths=lengths))
@@ -365,14 +365,13 @@ class Robots(PackageTest):
     def test_page(self) -> None:
         """Each command of the page prints what stands below it."""
         with tempfile.TemporaryDirectory() as folder:
-            shown = list(commands_of((TOP / "docs" / "ROBOT.md").read_text()))
-            blocks = re.findall(r"^```text (\S+)\n(.*?)^```", (TOP / "docs" / "ROBOT.md").read_text(), re.M | re.S)
-            self.assertTrue(len(shown) >= 3 and blocks)
-            for name, text in blocks:
-                (Path(folder) / name).write_text(text)
+            page = (TOP / "docs" / "ROBOT.md").read_text()
+            shown = list(commands_of(page))
+            self.assertGreaterEqual(len(shown), 3)
+            (Path(folder) / "crane.txt").write_text(re.search(r"^```\n(chain.*?)^```", page, re.M | re.S).group(1))
             for words, told, lines in shown:
-                done = subprocess.run(["bash", "-c", words], cwd=folder, capture_output=True, text=True, timeout=60, check=False,
-                                      env={**os.environ, "PYTHONPATH": str(TOP / "python"), "PYTHONDONTWRITEBYTECODE": "1"})
+                done = subprocess.run(["bash", "-c", words], cwd=folder, capture_output=True, text=True, timeout=60,
+                                      check=False, env={**os.environ, "PYTHONPATH": str(TOP / "python")})
                 with self.subTest(words):
                     self.assertEqual((done.returncode, [line.strip() for line in (done.stdout + done.stderr).splitlines()]),
                                      (int(*told or ["0"]), lines))
