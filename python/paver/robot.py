@@ -1,7 +1,8 @@
 """Writes the system of a question about a robot: workspace, inverse poses, singular poses, clearance.
 
 The text's set is stated by polynomials with rational coefficients: angles stand by cosine and sine on the unit circle, or by
-the tangent of half of them in one of two charts. What is written is tested beside other kinematics in floats, and is not proved.
+the tangent of half of them in one of two charts. What is written is tested beside other kinematics in floats, and is not
+proved.
 """
 from __future__ import annotations
 
@@ -14,7 +15,7 @@ from typing import Dict, List, Optional, Sequence, Tuple, Union
 from . import robot_file
 from .robot_chain import AXES, Chain, Vector, added, less, turn_of
 from .robot_clearance import clearances
-from .robot_file import Robot
+from .robot_file import Robot, RobotRefused, number_of
 from .robot_platform import Platform
 from .robot_sheet import Sheet, one_chart
 from .trigonometry import Polynomial, number, number_text, total
@@ -53,10 +54,15 @@ def robot_text(robot: Robot, question: Question, rotation: str = "cosines", char
     question.refuse_bad(sheet)
     if rotation not in ("cosines", "half") or (charts is not None and rotation != "half"):
         sheet.refuse("a rotation is `cosines` or `half`, and charts belong to `half`")
-    sheet.notes.append(f"{Path(robot.name).name}: {asked(question)}; angles by "
+    sheet.notes.append(f"{' '.join(Path(robot.name).name.split())}: {asked(question)}; angles by "
                        + ("cosine c_ and sine s_" if rotation == "cosines" else "the tangent t_ of half of them"))
-    (of_chain if robot.joints else of_platform)(sheet, question)
-    return sheet.written()
+    try:
+        (of_chain if robot.joints else of_platform)(sheet, question)
+        return sheet.written()
+    except RobotRefused:
+        raise
+    except ValueError as fault:  # a number with too many digits
+        raise RobotRefused(f"{robot.name}: {fault}") from fault
 
 
 def asked(question: Question) -> str:
@@ -248,10 +254,10 @@ def robot(file: Union[str, Path], *, rotation: str = "cosines", charts: Optional
           side: str = "zero", coordinates: Sequence[str] = (), clear: bool = False) -> str:
     """The Minibex text of a question about the robot that a file describes. Numbers are whole ones, Fractions or texts as
     "0.5"; angles are in degrees. RobotRefused, with the line or the part and the cause, where there is no such system."""
-    question = Question(workspace, exact(pose), exact(lengths), None if singular is None else Fraction(str(singular)), side,
+    question = Question(workspace, exact(pose), exact(lengths), None if singular is None else number_of(str(singular)), side,
                         tuple(coordinates), clear)
     return robot_text(robot_file.read(file), question, rotation, charts)
 
 
 def exact(given: Optional[Dict[str, object]]) -> Dict[str, Fraction]:
-    return {name: Fraction(str(value)) for name, value in (given or {}).items()}
+    return {name: number_of(str(value)) for name, value in (given or {}).items()}

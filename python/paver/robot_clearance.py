@@ -2,8 +2,8 @@
 
 A segment from P to Q keeps R from a centre C where both ends do, and the foot of the perpendicular from C lies beyond an end
 or the line itself keeps R. A segment and a box have no common inner point where one of these axes separates them: those of the
-box, and those square to the segment and to one of these (the separating axis theorem). Boxes are widened by the links' radius on
-each side: their corners stay square.
+box, and those square to the segment and to one of these (the separating axis theorem). Boxes are widened by the links' radius
+on each side: their corners stay square.
 """
 from __future__ import annotations
 

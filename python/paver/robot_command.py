@@ -36,8 +36,8 @@ def numbers_of(option: str, text: Optional[str]) -> Dict[str, Fraction]:
         try:
             if not equals or name in found:
                 raise ValueError
-            found[name] = Fraction(value)
-        except (ValueError, ZeroDivisionError) as fault:
+            found[name] = robot_file.number_of(value)
+        except ValueError as fault:
             raise RobotRefused(f"--{option} {word}: a name and its number are expected, once each, as x=0.5") from fault
     return found
 

@@ -99,11 +99,9 @@ class Line:
 
     def exact(self, word: str) -> Fraction:
         try:
-            if len(word) > 60 or "e" in word.lower() and len(word.lower().partition("e")[2]) > 4:
-                raise ValueError
-            return Fraction(word)
-        except (ValueError, ZeroDivisionError):
-            self.refuse(f"`{word[:40]}`: a number as 0.5, -1e-3 or 1/3 is expected")
+            return number_of(word)
+        except ValueError as fault:
+            self.refuse(str(fault))
         raise AssertionError
 
     def pair(self, key: str, ordered: bool = False, needed: bool = True) -> Optional[Pair]:
@@ -123,6 +121,16 @@ class Line:
             self.refuse(f"`{self.what}` takes {bare} bare words, and {len(self.bare)} are given")
         if self.given:
             self.refuse(f"`{next(iter(self.given))[:40]}=` is nothing that this `{self.what}` has")
+
+
+def number_of(word: str) -> Fraction:
+    """The exact value of a number in words; ValueError where it is none, or one of more digits than any text needs."""
+    try:
+        if len(word) > 60 or len(word.lower().partition("e")[2].lstrip("+-")) > 2:
+            raise ValueError(word)
+        return Fraction(word)
+    except (ValueError, ZeroDivisionError) as fault:
+        raise ValueError(f"`{word[:40]}`: a number as 0.5, -1e-3 or 1/3 is expected") from fault
 
 
 def read(path: Union[str, Path]) -> Robot:

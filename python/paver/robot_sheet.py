@@ -80,8 +80,8 @@ class Sheet:
             return 0
         if self.charts is None:
             if not one_chart(turn.qlim):
-                self.refuse(f"{turn.what} goes beyond {ALONE} degrees, and needs two charts: give --charts with a digit for each "
-                            "angle, as 01, or --folder for all of them")
+                self.refuse(f"{turn.what} goes beyond {ALONE} degrees, and needs two charts: give --charts with a digit for "
+                            "each angle, as 01, or --folder for all of them")
             return 0
         if place >= len(self.charts) or self.charts[place] not in "01":
             self.refuse(f"--charts {self.charts}: a digit 0 or 1 for each angle is expected")
@@ -170,8 +170,8 @@ class Sheet:
             return [(c, "-1, 1"), (s, "-1, 1")], [(f"cosine and sine of {turn.what}", f"{c}^2 + {s}^2 = 1"), *limit]
         if turn.qlim and one_chart(turn.qlim):
             low, high = turn.qlim
-            self.notes.append(f"the domain of t_{turn.name} has the limits of {turn.what}, {float(low):.9g} to {float(high):.9g} "
-                              "degrees, outward by less than 1e-8")
+            self.notes.append(f"the domain of t_{turn.name} has the limits of {turn.what}, {float(low):.9g} to "
+                              f"{float(high):.9g} degrees, outward by less than 1e-8")
             return [(f"t_{turn.name}", f"{half_tangent(low, False)}, {half_tangent(high, True)}")], []
         return [(f"t_{turn.name}", "-1, 1")], limit
 

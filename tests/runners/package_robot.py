@@ -119,6 +119,25 @@ ARMS: list[tuple[str, str, Callable[[Sequence[float]], tuple[float, ...]], list[
 ]
 
 
+Rows = Sequence[tuple[float, int, float]]  # a, alpha and d of revolute joints
+
+
+def table(rows_of: Rows, form: str = "chain") -> str:
+    return f"{form}\n" + "".join(f"joint q{k} R a={a} alpha={alpha} d={d}\n" for k, (a, alpha, d) in enumerate(rows_of, 1))
+
+
+def frames(rows_of: Rows, q: Sequence[float], modified: bool = False) -> list[list[list[float]]]:
+    """The frames of a table by products of matrices in floats, the base's first: the matrices as textbooks print them."""
+    found = [[[float(i == k) for k in range(4)] for i in range(4)]]
+    for angle, (a, alpha, d) in zip(q, rows_of):
+        c, s, u, v = math.cos(angle), math.sin(angle), math.cos(math.radians(alpha)), math.sin(math.radians(alpha))
+        step = [[c, -s * u, s * v, a * c], [s, c * u, -c * v, a * s], [0, v, u, d], [0, 0, 0, 1]]
+        if modified:
+            step = [[c, -s, 0, a], [s * u, c * u, -v, -v * d], [s * v, c * v, u, u * d], [0, 0, 0, 1]]
+        found.append([[sum(found[-1][i][j] * step[j][k] for j in range(4)) for k in range(4)] for i in range(4)])
+    return found
+
+
 class Robots(PackageTest):
     """What robot writes."""
 
@@ -301,16 +320,11 @@ class Robots(PackageTest):
     def test_whole_pose(self) -> None:
         """Six joints with a wrist, the tool's place and axes: by products of matrices in floats."""
         rows_of = [(0.0, 90, 0.0), (0.43, 0, 0.0), (0.02, -90, 0.15), (0.0, 90, 0.43), (0.0, -90, 0.0), (0.0, 0, 0.1)]
-        robot = "chain\nnear 1e-12\n" + "".join(f"joint q{k} R a={a} alpha={alpha} d={d}\n"
-                                                for k, (a, alpha, d) in enumerate(rows_of, 1))
+        robot = table(rows_of).replace("chain", "chain\nnear 1e-12")
         source = random.Random(9)
         for _ in range(3):
             q = [source.uniform(-3, 3) for _ in rows_of]
-            m = [[float(i == k) for k in range(4)] for i in range(4)]
-            for angle, (a, alpha, d) in zip(q, rows_of):
-                c, s, u, v = math.cos(angle), math.sin(angle), math.cos(math.radians(alpha)), math.sin(math.radians(alpha))
-                step = [[c, -s * u, s * v, a * c], [s, c * u, -c * v, a * s], [0, v, u, d], [0, 0, 0, 1]]
-                m = [[sum(m[i][j] * step[j][k] for j in range(4)) for k in range(4)] for i in range(4)]
+            m = frames(rows_of, q)[-1]
             turns = {"yaw": math.atan2(m[1][0], m[0][0]), "pitch": math.atan2(-m[2][0], math.hypot(m[0][0], m[1][0])),
                      "roll": math.atan2(m[2][1], m[2][2])}
             pose = {**{axis: f"{m[i][3]:.12f}" for i, axis in enumerate("xyz")},
@@ -321,6 +335,34 @@ class Robots(PackageTest):
             self.assertLessEqual(known.off(values), 1e-9)
             for k, angle in enumerate(q, 1):
                 self.assertGreater(known.off({**values, **circle(f"q{k}", angle + 0.01)}), 1e-5, k)
+
+    def test_modified(self) -> None:
+        """Craig's form of the table."""
+        rows_of = [(0.0, 0, 0.5), (0.1, -90, 0.0), (0.4, 0, 0.1), (0.05, 90, 0.3)]
+        known, source = Known(self.text(table(rows_of, "chain modified"), workspace=True)), random.Random(12)
+        for _ in range(500):
+            q = [source.uniform(-3, 3) for _ in rows_of]
+            values = {name: value for k, angle in enumerate(q, 1) for name, value in circle(f"q{k}", angle).items()}
+            values.update(zip("xyz", (row[3] for row in frames(rows_of, q, True)[-1])))
+            self.assertLessEqual(known.off(values), CLOSE, q)
+            self.assertGreater(known.off({**values, "y": values["y"] + 0.01}), 1e-4, q)
+
+    def test_clearance_in_space(self) -> None:
+        """A ball and a box in space, beside 200 points of each link of an arm whose links meet at their ends."""
+        rows_of = [(0.0, 90, 0.5), (0.4, 0, 0.0), (0.4, 0, 0.0)]
+        obstacles = "ball x=0.4 y=0.3 z=0.6 r=0.2\nbox x=-0.6,-0.2 y=-0.3,0.1 z=0.6,1\n"
+        known, source, counts = Known(self.text(table(rows_of) + obstacles, clear=True)), random.Random(13), [0, 0]
+        for _ in range(600):
+            q = [source.uniform(-3, 3) for _ in rows_of]
+            ends = [[row[3] for row in frame[:3]] for frame in frames(rows_of, q)]
+            points = [[a + k / 200 * (b - a) for a, b in zip(*pair)] for pair in zip(ends, ends[1:]) for k in range(201)]
+            apart = min(min(math.dist(p, (0.4, 0.3, 0.6)) - 0.2,
+                            max(abs(p[0] + 0.4) - 0.2, abs(p[1] + 0.1) - 0.2, abs(p[2] - 0.8) - 0.2)) for p in points)
+            if abs(apart) > 0.003:
+                values = {name: value for k, angle in enumerate(q, 1) for name, value in circle(f"q{k}", angle).items()}
+                self.assertEqual(known.off(values) <= CLOSE, apart > 0, (q, apart))
+                counts[apart > 0] += 1
+        self.assertGreater(min(counts), 50, counts)
 
     def test_lengths(self) -> None:
         """The legs' lengths of a pose have that pose among theirs; a step away they differ."""
