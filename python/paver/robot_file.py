@@ -8,7 +8,7 @@ from __future__ import annotations
 from dataclasses import dataclass, field
 from fractions import Fraction
 from pathlib import Path
-from typing import Callable, Dict, List, Optional, Tuple, Union
+from typing import Callable, Dict, List, NoReturn, Optional, Tuple, Union
 
 from .minibex import RESERVED, TOKEN
 
@@ -87,14 +87,14 @@ class Line:
         if len(self.given) < len(pairs):
             self.refuse("a number is named twice")
 
-    def refuse(self, cause: str) -> None:
+    def refuse(self, cause: str) -> NoReturn:
         raise RobotRefused(f"{self.name}: line {self.row}: {cause}")
 
     def number(self, key: str, default: Optional[Fraction] = None) -> Fraction:
         if key not in self.given:
             if default is None:
                 self.refuse(f"`{self.what}` needs `{key}=`")
-            return default or Fraction(0)
+            return default
         return self.exact(self.given.pop(key))
 
     def exact(self, word: str) -> Fraction:
@@ -102,7 +102,6 @@ class Line:
             return number_of(word)
         except ValueError as fault:
             self.refuse(str(fault))
-        raise AssertionError
 
     def pair(self, key: str, ordered: bool = False, needed: bool = True) -> Optional[Pair]:
         if key not in self.given and not needed:

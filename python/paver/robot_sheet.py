@@ -5,7 +5,7 @@ import math
 import re
 from dataclasses import dataclass
 from fractions import Fraction
-from typing import Dict, FrozenSet, List, Optional, Sequence, Set, Tuple
+from typing import Dict, FrozenSet, List, NoReturn, Optional, Sequence, Set, Tuple
 
 from .minibex import tokens
 from .robot_file import Pair, Robot, RobotRefused
@@ -45,7 +45,7 @@ class Sheet:
         self.constraints: List[Tuple[str, str]] = []
         self.notes: List[str] = []
 
-    def refuse(self, cause: str, line: Optional[int] = None) -> None:
+    def refuse(self, cause: str, line: Optional[int] = None) -> NoReturn:
         raise RobotRefused(f"{self.robot.name}: " + (f"line {line}: " if line else "") + cause)
 
     # ---- what polynomials are made of
@@ -108,7 +108,6 @@ class Sheet:
             return expression(p, self.order, self.spelled)
         except ValueError as fault:
             self.refuse(str(fault))
-        raise AssertionError
 
     def ask(self, comment: str, text: str) -> None:
         """A constraint that the system needs."""

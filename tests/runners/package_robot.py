@@ -284,6 +284,26 @@ class Robots(PackageTest):
                 counts[apart > 0] += 1
         self.assertGreater(min(counts), 100, counts)
 
+    def test_platform_determinant(self) -> None:
+        """Of a 3-RPR: the moments of the legs' lines are taken about the platform's centre."""
+        known, source, counts = Known(self.text(RPR, singular="0.5", side="positive")), random.Random(14), [0, 0]
+        for _ in range(2000):
+            x, y, turn = source.uniform(0.8, 2.2), source.uniform(0.2, 1.5), source.uniform(-1, 1)
+            lines = []
+            for (a, b), (u, v) in zip(FEET, CORNERS):
+                arm = u * math.cos(turn) - v * math.sin(turn), u * math.sin(turn) + v * math.cos(turn)
+                dx, dy = x + arm[0] - a, y + arm[1] - b
+                lines.append((dx, dy, arm[0] * dy - arm[1] * dx))
+            if any(not 1.001 < math.hypot(dx, dy) < 1.999 for dx, dy, _ in lines):
+                continue
+            (a, b, c), (d, e, f), (g, h, i) = lines
+            found = a * (e * i - f * h) - b * (d * i - f * g) + c * (d * h - e * g)
+            if abs(found - 0.5) > 1e-6:
+                off = known.off({"x": x, "y": y, **circle("phi", turn)})
+                self.assertEqual(off <= CLOSE, found > 0.5, (x, y, turn, found, off))
+                counts[found > 0.5] += 1
+        self.assertGreater(min(counts), 20, counts)
+
     def test_five_bar(self) -> None:
         """A 5R: its tool from the elbows of both legs, and the determinant of its distal links."""
         known, source, counts = Known(self.text(FIVE, workspace=True, singular="0.5")), random.Random(7), [0, 0]
