@@ -21,6 +21,8 @@ from .picture import svg
 from .plots import plot, plot_projection
 from .program import (
     Answer, audit, audit_centered, campaign, check, check_text, draw, find, merge, resume, run, run_centered, run_text, sample)
+from .robot import robot
+from .robot_file import RobotRefused
 from .robust import NotRobust, Robust, robust, vertices_text
 from .roots import Root, find_roots
 from .scale import scaled_text
@@ -35,10 +37,10 @@ from .widen import widened, widened_contract, widened_file
 __all__ = [
     "Answer", "Bounds", "Box", "Cluster", "ContractRefused", "Disagree", "FolderRefused", "Gathered", "KeeperFault", "Levels",
     "NoFile", "NotInProgram", "NotRobust", "ObjectiveRefused", "Parts", "Paving", "PaverError", "PavingError", "PavingRefused",
-    "ProgramFault", "ProgramMissing", "Progress", "ReadFault", "Robust", "Root", "Sweep", "System", "SystemEdited",
-    "SystemRefused", "TaskLost", "TreeLimit", "UsageError", "View", "WantOfMemory", "WriteFault", "__version__", "audit",
-    "audit_centered", "campaign", "check", "check_text", "depth_that_suffices", "draw", "find", "find_roots", "gather", "least",
-    "least_by_levels", "merge", "plot", "plot_projection", "resume", "robust", "run", "run_centered", "run_text", "sample",
-    "scaled_text", "split", "svg", "sweep", "undecided", "vertices_text", "view", "warnings_of", "widened", "widened_contract",
-    "widened_file",
+    "ProgramFault", "ProgramMissing", "Progress", "ReadFault", "RobotRefused", "Robust", "Root", "Sweep", "System",
+    "SystemEdited", "SystemRefused", "TaskLost", "TreeLimit", "UsageError", "View", "WantOfMemory", "WriteFault", "__version__",
+    "audit", "audit_centered", "campaign", "check", "check_text", "depth_that_suffices", "draw", "find", "find_roots", "gather",
+    "least", "least_by_levels", "merge", "plot", "plot_projection", "resume", "robot", "robust", "run", "run_centered",
+    "run_text", "sample", "scaled_text", "split", "svg", "sweep", "undecided", "vertices_text", "view", "warnings_of",
+    "widened", "widened_contract", "widened_file",
 ]

@@ -10,7 +10,7 @@ from fractions import Fraction
 from pathlib import Path
 from typing import TYPE_CHECKING, Any, TextIO
 
-from . import beside, errors, explain, levels_command, program, robust_command, scale, sweep_command
+from . import beside, errors, explain, levels_command, program, robot_command, robust_command, scale, sweep_command
 from .advice import limits_of, stored_sentences, warnings_of
 from .cover import KEPT, Cover, Name
 from .ibex import translate
@@ -322,6 +322,7 @@ def more_commands(commands: Commands) -> None:
     run_options(bounded, (*program.SETTINGS, "boxes", "limit"))
     levels_command.add_options(bounded)
     robust_command.add_options(add("robust", robust_of))
+    robot_command.add_options(add("robot", robot_command.work))
     explained = add("explain", explain_command)
     explained.usage = "%(prog)s [COMMAND] SYSTEM [--groups N [--agree N]] [--scale [FILE]] [--line] [OPTIONS]"
     explained.epilog = ("Words after COMMAND are those of the program's command, else of run: what is refused of them is told. "

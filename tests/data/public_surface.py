@@ -27,6 +27,7 @@ print(paver.depth_that_suffices([(0, 1)], 0.5), paver.__version__, paver.warning
 print(paver.find(), paver.run_centered("s.mbx").text, paver.plot_projection(paving), box, box.holds([1, 2]))
 print(paver.least_by_levels("s.mbx", "x", within="0.01", tries=[{"x": Fraction(1)}]).lower)
 print(paver.undecided(paving, paver.check("s.mbx")))
+print(paver.robot("arm.txt", pose={"x": 1, "y": "0.5"}, rotation="half", charts="01", singular=Fraction(1, 8)))
 print(paver.robust("s.mbx", ["p"], eps="0.5"), paver.vertices_text("s.mbx", ["p"]), paver.scaled_text("s.mbx"))
 print(paver.widened("Variables x; Constraints x=1; end", Fraction(1, 8)), paver.widened_contract("hc4(0)", ["="]))
 with paver.widened_file("s.mbx", Fraction(1, 8), {"eps": 1}) as (widened, options):
