@@ -1,0 +1,162 @@
+"""Which inner boxes share a face, and a short way from one to another: A* (Hart, Nilsson and Raphael, 1968) over the boxes."""
+from __future__ import annotations
+
+from array import array
+from heapq import heappop, heappush
+from itertools import accumulate, chain
+from typing import TYPE_CHECKING, Collection, Dict, List, Optional, Sequence, Tuple
+
+from .box import Box, Exact
+from .clusters import Forest
+from .numbers import nextafter
+from .tree import Ends, Tree, columns_of_ends, without_collection
+
+if TYPE_CHECKING:
+    from .cover import Cover
+
+FloatPoint = Sequence[float]
+FLAT = 1  # places in which two boxes may meet in one number alone: more is an edge or a corner
+
+
+def distance(first: FloatPoint, second: FloatPoint) -> float:
+    """How far apart two points are."""
+    return float(sum([(a - b) ** 2 for a, b in zip(first, second)]) ** 0.5)
+
+
+def flat_places(first: Ends, second: Ends) -> int:
+    """In how many places two boxes that touch meet in one number alone."""
+    if len(first) == 4:  # the usual case, without a loop
+        (a, b, c, d), (e, f, g, h) = first, second
+        return ((a if a > e else e) == (b if b < f else f)) + ((c if c > g else g) == (d if d < h else h))
+    return sum([max(first[k], second[k]) == min(first[k + 1], second[k + 1]) for k in range(0, len(first), 2)])
+
+
+class Passages(Forest):
+    """The inner boxes of some trees, numbered in preorder, as a graph: two are neighbours where they meet in a face or more.
+    `fixed` counts the variables whose domain is one number, which are no places to move in; `reach` stands for infinite ends,
+    and is beyond all finite ones."""
+
+    def __init__(self, trees: Sequence[Tree], fixed: int, reach: float) -> None:
+        super().__init__(trees, "I", 0)
+        self.trees, self.flat, self.reach = trees, FLAT + fixed, reach
+        self.firsts, self.seconds = array("q"), array("q")
+        self.nodes: List[Tuple[int, int]] = [(t, k) for t, tree in enumerate(trees) for k in tree.leaves("I")]
+        self.numbers: Dict[Tuple[int, int], int] = {node: number for number, node in enumerate(self.nodes)}
+        self.grow()
+        self.first_near, self.near = self.neighbours()
+        self.lows, self.highs = self.sides()
+
+    def are_one(self, first: int, second: int) -> bool:
+        """Nothing is passed over here, as each pair of neighbours is wanted."""
+        return False
+
+    def join(self, first: int, second: int) -> None:
+        """Notes two leaves that touch, where they do in a face."""
+        one, other = self.ends[first], self.ends[second]
+        assert one is not None and other is not None
+        if flat_places(one, other) <= self.flat:
+            self.firsts.append(first)
+            self.seconds.append(second)
+
+    def neighbours(self) -> Tuple[List[int], array[int]]:
+        """Where each box's neighbours begin, and all neighbours, those of one box after those of another."""
+        count, starts = len(self.nodes), [0]
+        for tree in self.trees:
+            starts.append(starts[-1] + len(tree.kinds))
+        number_of = array("q", bytes(8 * starts[-1]))
+        for number, (t, k) in enumerate(self.nodes):
+            number_of[starts[t] + k] = number
+        firsts, seconds = [number_of[k] for k in self.firsts], [number_of[k] for k in self.seconds]
+        keys = [a * count + b for a, b in zip(firsts, seconds)]
+        keys += [b * count + a for a, b in zip(firsts, seconds)]
+        keys.sort()
+        degrees = [0] * (count + 1)
+        for number in chain(firsts, seconds):
+            degrees[number + 1] += 1
+        return list(accumulate(degrees)), array("q", [key % count for key in keys])
+
+    def sides(self) -> Tuple[List[array[float]], List[array[float]]]:
+        """The lower and the upper ends of all boxes as floats, an array a variable."""
+        columns: List[array[float]] = [array("d") for _ in range(2 * self.trees[0].dims)]
+        for tree in self.trees:
+            sides = [[min(max(end, -self.reach), self.reach) for end in tree.table.floats(up)] for up in (False, True)]
+            for k, column in enumerate(columns_of_ends(tree.ends_of("I"))):
+                columns[k].extend(map(sides[k % 2].__getitem__, column))
+        return columns[::2], columns[1::2]
+
+    def holding(self, point: Sequence[Exact]) -> List[int]:
+        """The inner boxes that hold a point."""
+        return [self.numbers[node] for node in leaves_holding(self.trees, point, "I")]
+
+    def box(self, number: int, names: Optional[Sequence[str]]) -> Box:
+        """An inner box by its number."""
+        t, k = self.nodes[number]
+        ends = self.trees[t].tos[k]
+        assert ends is not None
+        return Box.of("inner", self.trees[t].table, ends, names)
+
+    def way(self, start: FloatPoint, goal: FloatPoint, begin: Sequence[int], end: Collection[int]) -> Optional[List[int]]:
+        """The boxes of a short way from a point in the boxes `begin` to one in the boxes `end`, through the middles of the
+        faces that two share; None where there is no way."""
+        lows, highs, near, first_near = self.lows, self.highs, self.near, self.first_near
+        least, before = array("d", [float("inf")]) * len(self.nodes), array("q", [-2]) * len(self.nodes)
+        heap: List[Tuple[float, float, int, int, FloatPoint]] = [(distance(start, goal), 0.0, a, -1, start) for a in begin]
+        ends = set(end)
+        while heap:
+            _, gone, a, last, point = heappop(heap)
+            if before[a] != -2:
+                continue
+            before[a] = last
+            if a in ends:
+                return traced(before, a)
+            sides = [(low, high, low[a], high[a]) for low, high in zip(lows, highs)]
+            for b in near[first_near[a]:first_near[a + 1]]:
+                if before[b] != -2:
+                    continue
+                middle = [((x if x > low[b] else low[b]) + (y if y < high[b] else high[b])) / 2 for low, high, x, y in sides]
+                far = gone + distance(point, middle)
+                if far < least[b]:
+                    least[b] = far
+                    heappush(heap, (far + distance(middle, goal), far, b, a, middle))
+        return None
+
+
+def traced(before: Sequence[int], last: int) -> List[int]:
+    """The boxes from the first one to the last."""
+    found = [last]
+    while before[found[-1]] >= 0:
+        found.append(before[found[-1]])
+    return found[::-1]
+
+
+def leaves_holding(trees: Sequence[Tree], point: Sequence[Exact], letters: str) -> List[Tuple[int, int]]:
+    """The kept leaves of some letters whose boxes hold a point: the numbers of their tree and their node."""
+    found = []
+    for t, tree in enumerate(trees):
+        places = {k: tree.table.place(value) for k, value in enumerate(point)}
+        for node in tree.seen(places):
+            ends = tree.cover_of(node) if tree.kinds[node] in letters else None
+            if ends is not None and all(ends[2 * k] <= place <= ends[2 * k + 1] for k, place in places.items()):
+                found.append((t, node))
+    return found
+
+
+def touching(trees: Sequence[Tree], first: Sequence[Exact], second: Sequence[Exact]) -> bool:
+    """Whether kept boxes that touch, be it in a corner, lead from one point to another."""
+    with without_collection():
+        forest = Forest(trees, "ISO", 0)
+        forest.grow()
+        starts = [0, *accumulate([len(tree.kinds) for tree in trees])]
+        heads = [{forest.head(starts[t] + k) for t, k in leaves_holding(trees, point, "ISO")} for point in (first, second)]
+    return bool(heads[0] & heads[1])
+
+
+def passages_of(cover: Cover, points: Sequence[Sequence[Exact]]) -> Passages:
+    """The graph of a paving's inner boxes, for ways between some points."""
+    trees = [paving.tree for paving in cover.roots()]
+    roots = [Box("open", root).exact for root in cover.search_boxes()]
+    fixed = sum(all(root[k] == roots[0][k] and root[k][0] == root[k][1] for root in roots) for k in range(cover.dims or 0))
+    finite = [abs(end) for tree in trees for end in tree.table.floats(True) if abs(end) != float("inf")]
+    reach = max([*finite, *(abs(float(x)) for point in points for x in point)], default=0.0)
+    with without_collection():
+        return Passages(trees, fixed, nextafter(2 * reach + 2, float("inf")))
