@@ -1,4 +1,5 @@
-"""Which inner boxes share a face, and a short way from one to another: A* (Hart, Nilsson and Raphael, 1968) over the boxes."""
+"""Which inner boxes share a face, and a short way from one to another: A* over the boxes, with straight pieces over many of
+them that are tried where a box is reached (Lazy Theta*: Nash, Koenig and Tovey, AAAI 2010)."""
 from __future__ import annotations
 
 from array import array
@@ -15,6 +16,8 @@ if TYPE_CHECKING:
     from .cover import Cover
 
 FloatPoint = Sequence[float]
+NEW = -2  # before a box that is not reached
+FARTHEST = 100  # boxes that a straight piece is followed back over
 FLAT = 1  # places in which two boxes may meet in one number alone: more is an edge or a corner
 
 
@@ -96,37 +99,88 @@ class Passages(Forest):
         return Box.of("inner", self.trees[t].table, ends, names)
 
     def way(self, start: FloatPoint, goal: FloatPoint, begin: Sequence[int], end: Collection[int]) -> Optional[List[int]]:
-        """The boxes of a short way from a point in the boxes `begin` to one in the boxes `end`, through the middles of the
-        faces that two share; None where there is no way."""
-        lows, highs, near, first_near = self.lows, self.highs, self.near, self.first_near
-        least, before = array("d", [float("inf")]) * len(self.nodes), array("q", [-2]) * len(self.nodes)
-        heap: List[Tuple[float, float, int, int, FloatPoint]] = [(distance(start, goal), 0.0, a, -1, start) for a in begin]
-        ends = set(end)
+        """The boxes of a short way from a point in the boxes `begin` to one in the boxes `end`; None where there is no way.
+        Boxes are entered in the middles of shared faces, and distances are measured along straight pieces over many boxes."""
+        low_high, near, first_near, ends = list(zip(self.lows, self.highs)), self.near, self.first_near, set(end)
+        least = array("d", [float("inf")]) * len(self.nodes)
+        tracks = Tracks(self.lows, self.highs, len(self.nodes))
+        heap: List[Tuple[float, float, int, int, FloatPoint, bool]] = [
+            (distance(start, goal), 0.0, a, -1, start, True) for a in begin]
         while heap:
-            _, gone, a, last, point = heappop(heap)
-            if before[a] != -2:
+            _, far, a, last, point, is_sure = heappop(heap)
+            if tracks.before[a] != NEW:
                 continue
-            before[a] = last
+            if not is_sure and not tracks.sees(last, point):
+                far = tracks.far[last] + distance(tracks.point(last), point)
+                heappush(heap, (far + distance(point, goal), far, a, last, point, True))
+                continue
+            tracks.enter(a, last, point, far)
             if a in ends:
-                return traced(before, a)
-            sides = [(low, high, low[a], high[a]) for low, high in zip(lows, highs)]
+                return tracks.back(a)
+            anchor = tracks.anchor[a]
+            seen_from, gone = tracks.point(anchor), tracks.far[anchor]
+            sides = [(low, high, low[a], high[a]) for low, high in low_high]
             for b in near[first_near[a]:first_near[a + 1]]:
-                if before[b] != -2:
+                if tracks.before[b] != NEW:
                     continue
                 middle = [((x if x > low[b] else low[b]) + (y if y < high[b] else high[b])) / 2 for low, high, x, y in sides]
-                far = gone + distance(point, middle)
+                far = gone + distance(seen_from, middle)
                 if far < least[b]:
                     least[b] = far
-                    heappush(heap, (far + distance(middle, goal), far, b, a, middle))
+                    heappush(heap, (far + distance(middle, goal), far, b, a, middle, anchor == a))
         return None
 
 
-def traced(before: Sequence[int], last: int) -> List[int]:
-    """The boxes from the first one to the last."""
-    found = [last]
-    while before[found[-1]] >= 0:
-        found.append(before[found[-1]])
-    return found[::-1]
+class Tracks:
+    """How boxes were reached: of each the box before it, the point of entry, the distance there, and the anchor: the box from
+    whose point of entry the straight piece begins that leads to this one's."""
+
+    def __init__(self, lows: Sequence[array[float]], highs: Sequence[array[float]], count: int) -> None:
+        self.sides, self.dims = list(zip(lows, highs)), len(lows)
+        self.before, self.anchor = array("q", [NEW]) * count, array("q", [NEW]) * count
+        self.far, self.points = array("d", [0.0]) * count, array("d", [0.0]) * (count * len(lows))
+
+    def point(self, a: int) -> FloatPoint:
+        """Where a box was entered."""
+        return self.points[a * self.dims:(a + 1) * self.dims]
+
+    def enter(self, a: int, last: int, point: FloatPoint, far: float) -> None:
+        """Notes that a box is reached from the last one, by a straight piece from that one's anchor where it is as long."""
+        self.before[a], self.far[a] = last, far
+        self.points[a * self.dims:(a + 1) * self.dims] = array("d", point)
+        if last < 0 or far >= self.far[last] + distance(self.point(last), point):
+            self.anchor[a] = a if last < 0 else last
+        else:
+            self.anchor[a] = self.anchor[last]
+
+    def sees(self, last: int, point: FloatPoint) -> bool:
+        """Whether the straight piece from the anchor of a box to a point on its face goes through the faces between."""
+        anchor, a = self.anchor[last], last
+        start = self.point(anchor)
+        for _ in range(FARTHEST):
+            if a == anchor:
+                return True
+            before, begun, ended = self.before[a], 0.0, 1.0
+            for (low, high), x, y in zip(self.sides, start, point):
+                least = low[a] if low[a] > low[before] else low[before]
+                most = high[a] if high[a] < high[before] else high[before]
+                if x == y:
+                    if not least <= x <= most:
+                        return False
+                    continue
+                enter, leave = (least - x) / (y - x), (most - x) / (y - x)
+                begun, ended = max(begun, min(enter, leave)), min(ended, max(enter, leave))
+            if begun > ended:
+                return False
+            a = before
+        return False
+
+    def back(self, last: int) -> List[int]:
+        """The boxes from the first one to the last."""
+        found = [last]
+        while self.before[found[-1]] >= 0:
+            found.append(self.before[found[-1]])
+        return found[::-1]
 
 
 def leaves_holding(trees: Sequence[Tree], point: Sequence[Exact], letters: str) -> List[Tuple[int, int]]:

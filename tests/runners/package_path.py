@@ -4,7 +4,10 @@ from __future__ import annotations
 
 import csv
 import math
+import os
 import random
+import re
+import subprocess
 import tempfile
 from fractions import Fraction
 from itertools import product
@@ -12,8 +15,9 @@ from pathlib import Path
 from typing import Any, Callable, Optional, Sequence
 
 import paver
+from tests.runners.package_around import commands_of
 from tests.runners.package_test import PackageTest, command, example
-from tests.runners.running import main
+from tests.runners.running import PROGRAM, TOP, main
 
 Pairs = tuple[tuple[Any, Any], ...]
 Exact = tuple[Fraction, ...]
@@ -295,6 +299,24 @@ class Paths(PackageTest):
                     status, out, err = command(*words[:5], "--to", bad)
                     self.assertEqual((status, out, err.count("\n")), (2, "", 1))
                     self.assertIn(said, err)
+
+    def test_page(self) -> None:
+        """The page on paths: its system and its commands, with what it shows of them."""
+        page = (TOP / "docs" / "PATH.md").read_text()
+        system = re.search(r"^```\n(Variables.*?)^```", page, re.M | re.S)
+        assert system is not None
+        shown = list(commands_of(page))
+        self.assertGreaterEqual(len(shown), 4)
+        with tempfile.TemporaryDirectory() as folder:
+            (Path(folder) / "crane.mbx").write_text(system.group(1))
+            (Path(folder) / "paver").symlink_to(PROGRAM)
+            known = {**os.environ, "PYTHONPATH": str(TOP / "python"), "PAVER": PROGRAM}
+            for words, told, lines in shown:
+                done = subprocess.run(["bash", "-c", words], cwd=folder, capture_output=True, text=True, timeout=300, env=known,
+                                      check=False)
+                with self.subTest(words):
+                    self.assertEqual((done.returncode, done.stdout.splitlines()),
+                                     (int(*told or ["0"]), [line for line in lines if line]), done.stderr[:500])
 
 
 if __name__ == "__main__":
