@@ -3,6 +3,7 @@ found where there is none."""
 from __future__ import annotations
 
 import csv
+import json
 import math
 import os
 import random
@@ -15,6 +16,7 @@ from pathlib import Path
 from typing import Any, Callable, Optional, Sequence
 
 import paver
+from paver.packed import packed
 from tests.runners.package_around import commands_of
 from tests.runners.package_test import PackageTest, command, example
 from tests.runners.running import PROGRAM, TOP, main
@@ -315,8 +317,55 @@ class Paths(PackageTest):
                 done = subprocess.run(["bash", "-c", words], cwd=folder, capture_output=True, text=True, timeout=300, env=known,
                                       check=False)
                 with self.subTest(words):
-                    self.assertEqual((done.returncode, done.stdout.splitlines()),
+                    self.assertEqual((done.returncode, [line.strip() for line in done.stdout.splitlines()]),
                                      (int(*told or ["0"]), [line for line in lines if line]), done.stderr[:500])
+
+    def test_drawn(self) -> None:
+        """The page has the points of a path, and refuses another system's and what is none."""
+        with tempfile.TemporaryDirectory() as folder:
+            table, stored = Path(folder) / "path.csv", Path(folder) / "ring.paving"
+            paving = paver.run(example("ring"), eps=0.25, out=stored).paving()
+            box = paving.greatest(1, "inner")[0]
+            found = paving.path(box.centre, [low for low, _ in box.exact])
+            with open(table, "w", encoding="utf-8") as file:
+                found.write_csv(file)
+            pages = [paver.view(example("ring"), stored, path=given).html for given in (table, found)]
+            pages.append(command("view", example("ring"), stored, "--path", table)[1])
+            wanted = '"path":' + json.dumps(found.rows(), separators=(",", ":"))
+            self.assertEqual([page.count(wanted) for page in pages], [1, 1, 1])
+            for text in ("x,z\n1,2\n", "x,y\n1\n", "x,y\n1,a\n", ""):
+                table.write_text(text)
+                with self.subTest(text):
+                    status, out, err = command("view", example("ring"), stored, "--path", table)
+                    self.assertEqual((status, out, err.count("\n")), (2, "", 1))
+
+    def test_in_browser(self) -> None:
+        """What two clicks find, by node: a way through inner boxes exactly where there is one, of about the same length."""
+        self.needs_tool("node")
+        mazes = [["## #", " # #", "## #", "####"], [" #", "# "], ["###", "# #", "# #"]]
+        asked = [([0.5, 3.5], [3.5, 3.5]), ([0.5, 0.5], [1.5, 1.5]), ([0.5, 0.5], [2.5, 0.5])]
+        pavings = [of_cells(cells) for cells in mazes] + [made(clear_of(((0, 0), 1)), SQUARE, Fraction(1, 16))]
+        asked.append(([-1.5, 0.25], [1.5, 0.125]))
+        scripts = "".join((TOP / "python" / "paver" / "viewer" / name).read_text()
+                          for name in ("numbers.js", "tree.js", "paint.js", "search.js", "path.js"))
+        for paving, (start, goal) in zip(pavings, asked):
+            text, nodes, numbers, _ = packed(paving)
+            ask = (f"unpacked({json.dumps(text)}).then((buffer) => {{ const tree = new Tree({{nodes: {nodes}, numbers: {numbers}}}"
+                   f", buffer, 2), point = (xs) => xs.map((x) => coordinate(parsed(String(x)))); console.log(JSON.stringify("
+                   f"wayBetween(tree, point({start}), point({goal})))); }});")
+            done = subprocess.run(["node", "-"], input=f"{scripts}\n{ask}", capture_output=True, text=True, timeout=60, check=False)
+            self.assertEqual(done.returncode, 0, done.stderr)
+            way, found = json.loads(done.stdout), paving.path(start, goal)
+            self.assertEqual(way is None, found.verdict is not paver.Verdict.PATH)
+            if way is None:
+                continue
+            self.assertEqual((way[0], way[-1]), (start, goal))
+            inner = [box.exact for box in paving.inner()]
+            for one, other in zip(way, way[1:]):
+                ends = [tuple(map(Fraction, point)) for point in (one, other)]
+                self.assertTrue(any(all(stretch(end, end, box) for end in ends) for box in inner), (one, other))
+            length = sum(math.dist(one, other) for one, other in zip(way, way[1:]))
+            self.assertTrue(0.8 * found.length < length < 1.25 * found.length, (length, found.length))
 
 
 if __name__ == "__main__":
