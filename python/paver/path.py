@@ -4,7 +4,7 @@ from __future__ import annotations
 import enum
 from dataclasses import dataclass, field
 from fractions import Fraction
-from typing import TYPE_CHECKING, List, Sequence, Set, Tuple
+from typing import TYPE_CHECKING, List, Sequence, Set
 
 from .box import Box
 from .numbers import counted, decimal
@@ -12,9 +12,8 @@ from .passages import FLAT, Passages, distance, passages_of, touching
 from .straight import Point, Portal, crossed, exactly, fewer, inside, passes, pulled
 
 if TYPE_CHECKING:
-    from .cover import Cover, Name
+    from .cover import Cover, Writer
     from .cover import Point as Given
-    from .cover import Writer
 
 
 class Verdict(enum.Enum):
@@ -142,14 +141,15 @@ def draw(answer: Path, boxes: Sequence[Box], graph: Passages) -> None:
 
 def point_of_words(text: str, option: str) -> Given:
     """The point of words as `x=0.5,y=1/3`, or `0.5,1/3` in the order of the variables; ValueError where they are none."""
-    named: dict[Name, Fraction] = {}
+    named: dict[str, Fraction] = {}
     plain: List[Fraction] = []
     for word in text.split(","):
         name, equals, number = word.rpartition("=")
         try:
             value = Fraction(number.strip())
         except (ValueError, ZeroDivisionError):
-            raise ValueError(f"{option} {text}: {word.strip()!r} is no number, or no variable with its number, as x=0.5") from None
+            cause = f"{word.strip()!r} is no number, and no variable with its number, as x=0.5"
+            raise ValueError(f"{option} {text}: {cause}") from None
         if not equals:
             plain.append(value)
         elif name.strip() in named:
@@ -158,7 +158,4 @@ def point_of_words(text: str, option: str) -> Given:
             named[name.strip()] = value
     if named and plain:
         raise ValueError(f"{option} {text}: some numbers have a variable's name, and some have none")
-    return {str(name): value for name, value in named.items()} if named else plain
-
-
-__all__ = ["Path", "PathFault", "Point", "Tuple", "Verdict", "path", "point_of_words"]
+    return named if named else plain

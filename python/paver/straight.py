@@ -110,7 +110,7 @@ def pulled(start: FloatPoint, goal: FloatPoint, portals: Sequence[Sides]) -> Lis
 
 
 def relaxed(bends: List[Bend], portals: Sequence[Sides], close: float) -> float:
-    """Moves each bend in turn to where the way between its neighbours is short, until they stay. How far the last ones moved."""
+    """Moves each bend in turn to where the way between its neighbours is short, until all stay: how far they moved last."""
     most = 0.0
     for _ in range(SWEEPS):
         most = 0.0

@@ -182,7 +182,8 @@ def view(system: str | Path, pavings: Pavings = None, *, settings: list[dict[str
 
     The options are eps, depth, bisect, contract and form, for all pavings; `settings` is a list of such dicts, one a paving.
     What isn't given is that which was kept beside a file. A paving with another identity is refused by PavingError, unless
-    `unchecked` says that it is this system's. `path` is drawn: one of Paving.path, or the file of `path --csv`. boxes, workers and limit are for the run."""
+    `unchecked` says that it is this system's. `path` is drawn: one of Paving.path, or the file of `path --csv`. boxes, workers
+    and limit are for the run."""
     name_of_system, known = Path(system), calls.check(system, program=program)
     way = rows_of_path(path, known.names)
     common = {name: options.pop(name) for name in beside.KEPT_SETTINGS if name in options}

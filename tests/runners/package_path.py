@@ -226,7 +226,8 @@ class Paths(PackageTest):
                  "Variables x in [-2,2], y in [-2,2], z in [-1,1]; Constraints x^2+y^2 >= 1; z <= 0.9; end",
                  "Variables x in [-oo,2], y in [-2,2]; Constraints x^2+y^2 >= 1; end",
                  "Variables x in [-2,2], z in [1,1], y in [-2,2]; Constraints x^2+y^2 >= z; end")
-        ends = ((-1.5, 0), (1.5, Fraction(1, 7))), ((-1.5, 0, 0), (1.5, 0.25, 0)), ((-50, 1), (1.5, 0)), ((-1.5, 1, 0), (1.5, 1, 0))
+        ends = (((-1.5, 0), (1.5, Fraction(1, 7))), ((-1.5, 0, 0), (1.5, 0.25, 0)), ((-50, 1), (1.5, 0)),
+                ((-1.5, 1, 0), (1.5, 1, 0)))
         for k, (text, (start, goal)) in enumerate(zip(texts, ends)):
             with self.subTest(text):
                 paving = paver.run_text(text, eps=0.25).paving()
@@ -350,10 +351,12 @@ class Paths(PackageTest):
                           for name in ("numbers.js", "tree.js", "paint.js", "search.js", "path.js"))
         for paving, (start, goal) in zip(pavings, asked):
             text, nodes, numbers, _ = packed(paving)
-            ask = (f"unpacked({json.dumps(text)}).then((buffer) => {{ const tree = new Tree({{nodes: {nodes}, numbers: {numbers}}}"
-                   f", buffer, 2), point = (xs) => xs.map((x) => coordinate(parsed(String(x)))); console.log(JSON.stringify("
+            ask = (f"unpacked({json.dumps(text)}).then((buffer) => {{ const "
+                   f"tree = new Tree({{nodes: {nodes}, numbers: {numbers}}}, buffer, 2), "
+                   f"point = (xs) => xs.map((x) => coordinate(parsed(String(x)))); console.log(JSON.stringify("
                    f"wayBetween(tree, point({start}), point({goal})))); }});")
-            done = subprocess.run(["node", "-"], input=f"{scripts}\n{ask}", capture_output=True, text=True, timeout=60, check=False)
+            done = subprocess.run(["node", "-"], input=f"{scripts}\n{ask}", capture_output=True, text=True, timeout=60,
+                                  check=False)
             self.assertEqual(done.returncode, 0, done.stderr)
             way, found = json.loads(done.stdout), paving.path(start, goal)
             self.assertEqual(way is None, found.verdict is not paver.Verdict.PATH)
