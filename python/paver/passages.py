@@ -26,12 +26,21 @@ def distance(first: FloatPoint, second: FloatPoint) -> float:
     return float(sum([(a - b) ** 2 for a, b in zip(first, second)]) ** 0.5)
 
 
-def flat_places(first: Ends, second: Ends) -> int:
-    """In how many places two boxes that touch meet in one number alone."""
+def share_no_face(first: Ends, second: Ends, flat: int) -> bool:
+    """Whether two boxes are apart, or meet in one number alone in more than so many places."""
     if len(first) == 4:  # the usual case, without a loop
         (a, b, c, d), (e, f, g, h) = first, second
-        return ((a if a > e else e) == (b if b < f else f)) + ((c if c > g else g) == (d if d < h else h))
-    return sum([max(first[k], second[k]) == min(first[k + 1], second[k + 1]) for k in range(0, len(first), 2)])
+        low, high, bottom, top = (a if a > e else e), (b if b < f else f), (c if c > g else g), (d if d < h else h)
+        return low > high or bottom > top or (low == high) + (bottom == top) > flat
+    count = 0
+    for k in range(0, len(first), 2):
+        low = first[k] if first[k] > second[k] else second[k]
+        high = first[k + 1] if first[k + 1] < second[k + 1] else second[k + 1]
+        if low >= high:
+            count += 1
+            if low > high or count > flat:
+                return True
+    return False
 
 
 class Passages(Forest):
@@ -42,6 +51,7 @@ class Passages(Forest):
     def __init__(self, trees: Sequence[Tree], fixed: int, reach: float) -> None:
         super().__init__(trees, "I", 0)
         self.trees, self.flat, self.reach = trees, FLAT + fixed, reach
+        self.parted = self.share_no_face  # parts that meet in less than a face have no pair of neighbours
         self.firsts, self.seconds = array("q"), array("q")
         self.nodes: List[Tuple[int, int]] = [(t, k) for t, tree in enumerate(trees) for k in tree.leaves("I")]
         self.numbers: Dict[Tuple[int, int], int] = {node: number for number, node in enumerate(self.nodes)}
@@ -49,17 +59,18 @@ class Passages(Forest):
         self.first_near, self.near = self.neighbours()
         self.lows, self.highs = self.sides()
 
+    def share_no_face(self, first: Ends, second: Ends, _gap: int) -> bool:
+        """Whether two parts have no neighbours."""
+        return share_no_face(first, second, self.flat)
+
     def are_one(self, first: int, second: int) -> bool:
         """Nothing is passed over here, as each pair of neighbours is wanted."""
         return False
 
     def join(self, first: int, second: int) -> None:
-        """Notes two leaves that touch, where they do in a face."""
-        one, other = self.ends[first], self.ends[second]
-        assert one is not None and other is not None
-        if flat_places(one, other) <= self.flat:
-            self.firsts.append(first)
-            self.seconds.append(second)
+        """Notes two leaves that share a face."""
+        self.firsts.append(first)
+        self.seconds.append(second)
 
     def neighbours(self) -> Tuple[List[int], array[int]]:
         """Where each box's neighbours begin, and all neighbours, those of one box after those of another."""
@@ -100,7 +111,8 @@ class Passages(Forest):
 
     def way(self, start: FloatPoint, goal: FloatPoint, begin: Sequence[int], end: Collection[int]) -> Optional[List[int]]:
         """The boxes of a short way from a point in the boxes `begin` to one in the boxes `end`; None where there is no way.
-        Boxes are entered in the middles of shared faces, and distances are measured along straight pieces over many boxes."""
+        Boxes are entered in the middles of shared faces, or nearest to the straight piece to the goal, and distances are
+        measured along straight pieces over many boxes."""
         low_high, near, first_near, ends = list(zip(self.lows, self.highs)), self.near, self.first_near, set(end)
         least = array("d", [float("inf")]) * len(self.nodes)
         tracks = Tracks(self.lows, self.highs, len(self.nodes))
@@ -123,12 +135,24 @@ class Passages(Forest):
             for b in near[first_near[a]:first_near[a + 1]]:
                 if tracks.before[b] != NEW:
                     continue
-                middle = [((x if x > low[b] else low[b]) + (y if y < high[b] else high[b])) / 2 for low, high, x, y in sides]
-                far = gone + distance(seen_from, middle)
-                if far < least[b]:
-                    least[b] = far
-                    heappush(heap, (far + distance(middle, goal), far, b, a, middle, anchor == a))
+                shared = [(x if x > low[b] else low[b], y if y < high[b] else high[b]) for low, high, x, y in sides]
+                middle = [(low + high) / 2 for low, high in shared]
+                for entry in (middle, nearest_to_line(seen_from, goal, shared)):
+                    far = gone + distance(seen_from, entry)
+                    whole = far + distance(entry, goal)
+                    if whole < least[b]:
+                        least[b] = whole
+                        heappush(heap, (whole, far, b, a, entry, anchor == a))
         return None
+
+
+def nearest_to_line(first: FloatPoint, second: FloatPoint, shared: Sequence[Tuple[float, float]]) -> FloatPoint:
+    """A point of shared ends near the straight piece between two points: the one where it crosses the face, moved inside."""
+    share = 0.5
+    for (low, high), x, y in zip(shared, first, second):
+        if low == high and x != y:
+            share = min(max((low - x) / (y - x), 0.0), 1.0)
+    return [min(max(x + share * (y - x), low), high) for (low, high), x, y in zip(shared, first, second)]
 
 
 class Tracks:
