@@ -16,6 +16,7 @@ from .errors import (
     PavingRefused, ProgramFault, ProgramMissing, ReadFault, SystemEdited, SystemRefused, TaskLost, TreeLimit, UsageError,
     WantOfMemory, WriteFault)
 from .levels import Levels, least_by_levels
+from .path import Path, PathFault, Verdict, path
 from .paving import Parts, Paving
 from .picture import svg
 from .plots import plot, plot_projection
@@ -36,11 +37,11 @@ from .widen import widened, widened_contract, widened_file
 
 __all__ = [
     "Answer", "Bounds", "Box", "Cluster", "ContractRefused", "Disagree", "FolderRefused", "Gathered", "KeeperFault", "Levels",
-    "NoFile", "NotInProgram", "NotRobust", "ObjectiveRefused", "Parts", "Paving", "PaverError", "PavingError", "PavingRefused",
-    "ProgramFault", "ProgramMissing", "Progress", "ReadFault", "RobotRefused", "Robust", "Root", "Sweep", "System",
-    "SystemEdited", "SystemRefused", "TaskLost", "TreeLimit", "UsageError", "View", "WantOfMemory", "WriteFault", "__version__",
-    "audit", "audit_centered", "campaign", "check", "check_text", "depth_that_suffices", "draw", "find", "find_roots", "gather",
-    "least", "least_by_levels", "merge", "plot", "plot_projection", "resume", "robot", "robust", "run", "run_centered",
-    "run_text", "sample", "scaled_text", "split", "svg", "sweep", "undecided", "vertices_text", "view", "warnings_of",
-    "widened", "widened_contract", "widened_file",
+    "NoFile", "NotInProgram", "NotRobust", "ObjectiveRefused", "Parts", "Path", "PathFault", "PaverError", "Paving",
+    "PavingError", "PavingRefused", "ProgramFault", "ProgramMissing", "Progress", "ReadFault", "RobotRefused", "Robust", "Root",
+    "Sweep", "System", "SystemEdited", "SystemRefused", "TaskLost", "TreeLimit", "UsageError", "Verdict", "View",
+    "WantOfMemory", "WriteFault", "__version__", "audit", "audit_centered", "campaign", "check", "check_text",
+    "depth_that_suffices", "draw", "find", "find_roots", "gather", "least", "least_by_levels", "merge", "path", "plot",
+    "plot_projection", "resume", "robot", "robust", "run", "run_centered", "run_text", "sample", "scaled_text", "split", "svg",
+    "sweep", "undecided", "vertices_text", "view", "warnings_of", "widened", "widened_contract", "widened_file",
 ]

@@ -10,7 +10,9 @@ from fractions import Fraction
 from pathlib import Path
 from typing import TYPE_CHECKING, Any, TextIO
 
-from . import beside, errors, explain, levels_command, program, robot_command, robust_command, scale, sweep_command
+from . import (
+    beside, errors, explain, levels_command, path_command, program, robot_command, robust_command, scale, sweep_command,
+)
 from .advice import limits_of, stored_sentences, warnings_of
 from .cover import KEPT, Cover, Name
 from .ibex import translate
@@ -185,6 +187,12 @@ def csv_command(arguments: argparse.Namespace) -> int:
     return 0
 
 
+def path_of(arguments: argparse.Namespace) -> int:
+    """Prints a short path between two points through the inner boxes of a paving, or that there is none. Status 1 where there
+    is none."""
+    return path_command.work(arguments, paving_of, report)
+
+
 def values_of(words: Iterable[str]) -> dict[str, Fraction]:
     """The numbers that words as z=0.5 give for names; ValueError where one is no such word."""
     found: dict[str, Fraction] = {}
@@ -279,7 +287,8 @@ def parser() -> argparse.ArgumentParser:
     main_parser = argparse.ArgumentParser(prog="python3 -m paver", description=__doc__)
     main_parser.add_argument("--program", help="the program's path; else the variable PAVER, else PATH")
     commands = main_parser.add_subparsers(dest="command", required=True)
-    for name, work in (("roots", roots), ("summary", summary), ("csv", csv_command), ("plot", plot_command)):
+    for name, work in (("roots", roots), ("summary", summary), ("csv", csv_command), ("plot", plot_command),
+                       ("path", path_of)):
         command = commands.add_parser(name, help=work.__doc__, description=work.__doc__)
         command.set_defaults(work=work)
         command.add_argument("system")
@@ -290,6 +299,7 @@ def parser() -> argparse.ArgumentParser:
     commands.choices["roots"].add_argument("--widen", metavar="D", help="f = 0 is paved as f >= -D; f <= D (1e-9; 0: as it is)")
     commands.choices["summary"].add_argument("--clusters", action="store_true", help="count the groups of boxes that touch")
     commands.choices["csv"].add_argument("--exactly", action="store_true", help="fractions in place of floats")
+    path_command.add_options(commands.choices["path"])
     drawn = commands.choices["plot"]
     drawn.add_argument("--picture", required=True, help="the file to write, as ring.png")
     drawn.add_argument("--x", default="0", help="a variable's name or number")

@@ -3,7 +3,7 @@ that are in one group already."""
 from __future__ import annotations
 
 from fractions import Fraction
-from typing import TYPE_CHECKING, Dict, List, Optional, Sequence, Tuple
+from typing import TYPE_CHECKING, Callable, Dict, List, Optional, Sequence, Tuple
 
 from .box import Box, Cluster, Exact
 from .tree import Ends, Tree, without_collection
@@ -24,6 +24,7 @@ class Forest:
         self.one: List[int] = []
         self.roots: List[int] = []
         self.gap, self.parent = 0, []  # type: int, List[int]
+        self.parted: Callable[[Ends, Ends, int], bool] = apart
         scales = self.scales(trees, gap)
         for tree, scale in zip(trees, scales):
             self.add(tree, letters, scale)
@@ -108,12 +109,12 @@ class Forest:
 
     def touch(self, first: int, second: int) -> None:
         """Joins the leaves of two parts that touch; pairs of parts are taken apart from the larger one on."""
-        ends, halves, one, gap = self.ends, self.halves, self.one, self.gap
+        ends, halves, one, gap, parted = self.ends, self.halves, self.one, self.gap, self.parted
         pairs = [(first, second)]
         while pairs:
             a, b = pairs.pop()
             left, right = ends[a], ends[b]
-            if left is None or right is None or apart(left, right, gap) or self.are_one(one[a], one[b]):
+            if left is None or right is None or parted(left, right, gap) or self.are_one(one[a], one[b]):
                 continue
             in_a, in_b = halves[a], halves[b]
             if in_a is None and in_b is None:

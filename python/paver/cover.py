@@ -5,11 +5,15 @@ import math
 from collections import namedtuple
 from fractions import Fraction
 from itertools import islice
-from typing import Any, Dict, Iterable, Iterator, List, Mapping, Optional, Protocol, Sequence, Set, TextIO, Tuple, Union
+from typing import (
+    TYPE_CHECKING, Any, Dict, Iterable, Iterator, List, Mapping, Optional, Protocol, Sequence, Set, TextIO, Tuple, Union)
 
 from .box import Box, Cluster, Exact, Number, exact_number, hull_of
 from .numbers import INFINITE, as_float, wide
 from .tree import Ends, Leaves, Tree, columns_of_ends
+
+if TYPE_CHECKING:
+    from .path import Path
 
 KEPT = ("inner", "small", "open")
 KINDS = (*KEPT, "removed")
@@ -207,6 +211,12 @@ class Cover:
         if key not in self._kept:
             self._kept[key] = clusters_of(self, key[1], key[2])
         return list(self._kept[key])
+
+    def path(self, start: Point, goal: Point) -> Path:
+        """A short way from one point to another through inner boxes alone, as exact points, or that there is none: see
+        path.py."""
+        from .path import path
+        return path(self, start, goal)
 
     def point_of(self, point: Point) -> List[Exact]:
         """The exact numbers of a point in the order of the variables: numbers in this order, or a dict of names. ValueError

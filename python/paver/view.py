@@ -4,6 +4,7 @@ from __future__ import annotations
 import argparse
 import base64
 import copy
+import csv
 import hashlib
 import json
 import os
@@ -13,19 +14,22 @@ from typing import Any, Callable, Dict, Iterable, Mapping, Sequence, Tuple, Unio
 
 from . import beside
 from . import program as calls
+from .box import exact_number
 from .canonical import System
 from .errors import PavingError
 from .numbers import Exact, as_float
 from .options import CHOICES, DEFAULTS, SETTINGS
 from .packed import packed
+from .path import Path as Answered
 from .paving import Paving
 
 PARTS = Path(__file__).parent / "viewer"
-SCRIPTS = ("numbers.js", "tree.js", "paint.js", "search.js", "constraints.js", "axes.js", "colours.js", "panes.js",
+SCRIPTS = ("numbers.js", "tree.js", "paint.js", "search.js", "path.js", "constraints.js", "axes.js", "colours.js", "panes.js",
            "pictures.js", "facts.js", "app.js")
 UNKNOWN = "not compared"
 OF_RUN = ("boxes", "workers", "limit")
 COMMANDS = {"plain": "run", "centered": "run-centered"}  # that make pavings of each form
+Rows = Sequence[Sequence[str]]  # the points of a path as exact texts
 Entry = Tuple[Dict[str, Any], str]  # what the page tells of a paving, and its packed nodes
 
 
@@ -69,6 +73,24 @@ def command_of(paving: Paving, system: System, settings: Mapping[str, Any], form
                          "the system that it is of")
 
 
+def rows_of_path(path: PathLike, names: Sequence[str]) -> Rows | None:
+    """The points of a path, or of the file that `path --csv` wrote, as texts. ValueError where it is of other variables, or has
+    what is no number."""
+    if path is None or isinstance(path, Answered):
+        head, rows = (list(names), None) if path is None else (path.names, path.rows())
+    else:
+        with open(path, encoding="utf-8", newline="") as file:
+            head, *rows = list(csv.reader(file)) or [[]]
+    if head != list(names):
+        raise ValueError(f"the path {path} is of {', '.join(head) or 'no variables'}, and the system of {', '.join(names)}")
+    for k, row in enumerate(rows or []):
+        if len(row) != len(names):
+            raise ValueError(f"the path {path}, point {k + 1}: {len(row)} numbers for {len(names)} variables")
+        for word in row:
+            exact_number(word)
+    return rows or None
+
+
 def shown_number(value: Exact) -> str:
     return "infinite" if value == float("inf") else f"{as_float(value, False):.12g}"
 
@@ -96,13 +118,15 @@ def digest(text: str) -> str:
     return "sha256-" + base64.b64encode(hashlib.sha256(text.encode()).digest()).decode()
 
 
-def page(system: System, source: str, entries: Sequence[Entry], title: str) -> str:
-    """The text of the page: its parts, what is known of the system and the pavings, and the packed nodes."""
+def page(system: System, source: str, entries: Sequence[Entry], title: str, way: Rows | None = None) -> str:
+    """The text of the page: its parts, what is known of the system and the pavings, the packed nodes, and the points of a path
+    that is drawn."""
     script = "\n" + "".join((PARTS / name).read_text(encoding="utf-8") for name in SCRIPTS)
     style = "\n" + (PARTS / "style.css").read_text(encoding="utf-8")
     about = {"title": title, "names": list(system.names), "root": list(system.root), "source": source,
              "canonical": system.text, "constraints": [one.infix(system.names) for one in system.constraints],
-             "digest": hashlib.sha256(system.text.encode()).hexdigest(), "pavings": [one for one, _ in entries]}
+             "digest": hashlib.sha256(system.text.encode()).hexdigest(), "pavings": [one for one, _ in entries],
+             "path": None if way is None else [list(row) for row in way]}
     data = "\n".join(f'<script type="application/octet-stream" id="data-{k}">{text}</script>'
                      for k, (_, text) in enumerate(entries))
     filled = {"TITLE": escape(title), "SCRIPT_DIGEST": digest(script), "STYLE_DIGEST": digest(style), "STYLE": style,
@@ -135,6 +159,7 @@ def read_one(given: One, system: System, settings: dict[str, Any]) -> tuple[Pavi
 # Names of stored files or of campaigns' databases, Pavings and Answers: one, several, or none for a run.
 One = Union[str, "os.PathLike[str]", Paving, calls.Answer]
 Pavings = Union[One, Iterable[One], None]
+PathLike = Union[str, "os.PathLike[str]", Answered, None]
 
 
 def run_one(path: Path, system: System, settings: Mapping[str, Any], centered: bool, options: Mapping[str, Any],
@@ -150,22 +175,25 @@ def run_one(path: Path, system: System, settings: Mapping[str, Any], centered: b
 
 
 def view(system: str | Path, pavings: Pavings = None, *, settings: list[dict[str, Any]] | None = None, title: str | None = None,
-         unchecked: bool = False, centered: bool = False, program: str | None = None, **options: object) -> View:
+         unchecked: bool = False, centered: bool = False, program: str | None = None, path: PathLike = None,
+         **options: object) -> View:
     """A page that shows pavings of a system: stored files, databases of campaigns, Pavings or Answers, one or several; with
     none the system is run (or run by centered forms).
 
     The options are eps, depth, bisect, contract and form, for all pavings; `settings` is a list of such dicts, one a paving.
     What isn't given is that which was kept beside a file. A paving with another identity is refused by PavingError, unless
-    `unchecked` says that it is this system's. boxes, workers and limit are for the run."""
-    path, known = Path(system), calls.check(system, program=program)
+    `unchecked` says that it is this system's. `path` is drawn: one of Paving.path, or the file of `path --csv`. boxes, workers
+    and limit are for the run."""
+    name_of_system, known = Path(system), calls.check(system, program=program)
+    way = rows_of_path(path, known.names)
     common = {name: options.pop(name) for name in beside.KEPT_SETTINGS if name in options}
-    title = path.stem if title is None else title
-    source = path.read_bytes().decode("utf-8", "replace")
+    title = name_of_system.stem if title is None else title
+    source = name_of_system.read_bytes().decode("utf-8", "replace")
     if pavings is None:
         if centered:
             common.pop("form", None)
-        entries = [run_one(path, known, common, centered, options, program)]
-        return View(page(known, source, entries, title))
+        entries = [run_one(name_of_system, known, common, centered, options, program)]
+        return View(page(known, source, entries, title, way))
     if options:
         raise TypeError(f"unknown option {sorted(options)[0]}")
     given: Sequence[One] = [pavings] if isinstance(pavings, (str, os.PathLike, Paving, calls.Answer)) else list(pavings)
@@ -176,7 +204,7 @@ def view(system: str | Path, pavings: Pavings = None, *, settings: list[dict[str
         paving, name, of_it = read_one(one, known, {**common, **own})
         named = named_settings(of_it)
         entries.append(entry(paving, named, command_of(paving, known, named, of_it.get("form"), unchecked, name), name))
-    return View(page(known, source, entries, title))
+    return View(page(known, source, entries, title, way))
 
 
 def settings_of_words(arguments: argparse.Namespace, count: int) -> list[dict[str, str]]:
@@ -194,7 +222,7 @@ def settings_of_words(arguments: argparse.Namespace, count: int) -> list[dict[st
 def view_command(arguments: argparse.Namespace) -> str:
     """Prints one page of HTML that shows pavings of the system in a browser; with no paving the system is run."""
     settings = settings_of_words(arguments, max(1, len(arguments.paving)))
-    how: dict[str, Any] = {"title": arguments.title, "program": arguments.program}
+    how: dict[str, Any] = {"title": arguments.title, "program": arguments.program, "path": arguments.path}
     if arguments.paving:
         made = view(arguments.system, arguments.paving, settings=settings, unchecked=arguments.unchecked, **how)
     else:
@@ -214,4 +242,5 @@ def add_words(parser: argparse.ArgumentParser) -> None:
         parser.add_argument(f"--{name}", help=f"as the program's --{name}, where the system is run")
     parser.add_argument("--centered", action="store_true", help="run by centered forms")
     parser.add_argument("--title", help="the page's title; else the system's name")
+    parser.add_argument("--path", metavar="FILE", help="draws the path that `path --csv FILE` wrote")
     parser.add_argument("--unchecked", action="store_true", help="take pavings whose identity is not this system's")

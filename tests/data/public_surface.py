@@ -15,6 +15,8 @@ print(paving.where((1, 0)), paving.where({"x": 1}))
 for cluster in paving.clusters(gap=0.5):
     print(cluster.hull, cluster.boxes)
 print(paving.numpy("inner"), paving.frame(exactly=True), paving.volumes()["inner"])
+found: paver.Path = paver.path(paving, (1, 0), {"x": 1, "y": Fraction(1, 3)})
+print(found.points, found.boxes[0][0].exact, found.length, found.verdict is paver.Verdict.PATH, paving.path((1, 0), (0, 1)))
 old = paver.Paving.read("old", system="s.mbx", eps=0.5, identity=None)
 print(paver.check("s.mbx").identity(eps=0.5), old.identity, old.file_text())
 print(paver.least("s.mbx", "x", boxes=3).lower, paver.audit("s.mbx", "f"), paver.audit_centered("s.mbx", "f"))

@@ -37,6 +37,8 @@ class App {
     const dims = about.names.length;
     Object.assign(this, { about, trees, x: 0, y: Math.min(1, dims - 1), layout: "one", frame: 0, panes: [] });
     Object.assign(this, { pinned: null, pointed: null, before: null });
+    this.way = about.path ? about.path.map((point) => point.map((word) => pairNear(parsed(word)))) : null;
+    this.wayStart = null;
     this.constraints = constraintsOf(about.canonical);
     this.mode = dims > 3 ? "projection" : "slice";
     this.levels = about.names.map((_, k) => coordinate(this.middle(k)));
@@ -206,6 +208,7 @@ class App {
       edges: element("edges").checked,
       pinned: this.pinned,
       pointed: this.pointed,
+      way: this.way,
       legend: this.legend(),
     };
   }
@@ -270,6 +273,19 @@ class App {
   pin(tree, found, seen = null, before = null) {
     Object.assign(this, { pinned: found ? { tree, found } : null, pointed: null, before });
     this.showBox(tree, { found, seen }, Boolean(found));
+    this.ask();
+  }
+
+  // The clicks for a path: every other one asks for it.
+  clickWay(tree, point) {
+    const says = element("said");
+    if (point.some((level) => !level)) {
+      says.textContent = "A path is asked for in a slice, not in the projection.";
+      return;
+    }
+    const [start, goal] = this.wayStart ? [this.wayStart, point] : [point, null];
+    [says.textContent, this.way] = answerOfClicks(tree, start, goal, this.about.names);
+    this.wayStart = goal ? null : start;
     this.ask();
   }
 
@@ -469,8 +485,9 @@ function hover(app, event) {
 function keep(app, event) {
   const place = placeOf(app, event);
   if (!place) return;
-  const { tree } = place.pane.layers[0], { found, seen } = app.found(tree, app.pointAt(place.column, place.row));
-  app.pin(tree, found, seen);
+  const { tree } = place.pane.layers[0], point = app.pointAt(place.column, place.row), { found, seen } = app.found(tree, point);
+  if (element("way").checked) app.clickWay(tree, point);
+  else app.pin(tree, found, seen);
 }
 
 function listenToKeys(app) {

@@ -74,6 +74,7 @@ class Pane {
     context.clip();
     if (how.edges) this.drawOutlines(context, axes, levels, how.palette);
     this.drawCircles(context, how.palette);
+    if (how.way) this.drawWay(context, axes, how.way, how.palette);
     if (how.pinned) this.drawFrame(context, axes, how.pinned, how.palette, []);
     if (how.pointed) this.drawFrame(context, axes, how.pointed, how.palette, [5, 3]);
     context.restore();
@@ -113,6 +114,15 @@ class Pane {
       context.arc(x, y, CIRCLE * ratio, 0, 2 * Math.PI);
       context.stroke();
     }
+  }
+
+  // A way, as it is seen along the two axes.
+  drawWay(context, axes, way, palette) {
+    context.strokeStyle = palette.pin;
+    context.lineWidth = 2 * this.ratio;
+    context.beginPath();
+    for (const [x, y] of pixelsOfWay(axes, way)) context.lineTo(x, y);
+    context.stroke();
   }
 
   // The frame of a box that is kept, or of a neighbour that is pointed at, with dashes.

@@ -103,6 +103,11 @@ function svgOfPane(pane, axes, levels, how, left) {
   });
   lines.push("</g>");
   if (how.edges) lines.push(svgOutlines(pane, axes, levels, how.palette));
+  if (how.way) {
+    const points = pixelsOfWay(axes, how.way).map((point) => point.map((x) => Math.round(x * scale * 100) / 100).join(","));
+    lines.push(`<svg width="${width}" height="${height}"><polyline class="way" points="${points.join(" ")}" fill="none" ` +
+      `stroke="${how.palette.pin}" stroke-width="2"/></svg>`);
+  }
   lines.push(`<rect width="${width}" height="${height}" fill="none" stroke="${how.palette.ink}"/>`);
   lines.push(...svgTicks(axes, pane, how), "</g>");
   return lines.join("\n");
