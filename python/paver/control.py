@@ -295,21 +295,27 @@ def band(ask: Ask, loop: Loop, writer: Writer) -> None:
     if ask.kind == "phase_margin":
         cosine = rounded(math.cos(math.radians(float(ask.number))), False)
         (nr, ni), (dr, di) = pair(writer, numerator, "numerator"), pair(writer, denominator, "denominator")
-        size_of = f"({dr})^2 + ({di})^2"
+        gain, size_of = square((nr, ni)), square((dr, di))
         level = written(constant(cosine), {})
-        writer.add(f"max(abs(({nr})^2 + ({ni})^2 - ({size_of})), ({nr})*({dr}) + ({ni})*({di}) + ({level})*({size_of})) > 0",
+        writer.add(f"max(abs({gain} - ({size_of})), {nr}*{dr} + {ni}*{di} + ({level})*({size_of})) > 0",
                    f"{origin}: if the open loop has gain 1 its real part is above -cos of the margin, {level} from below")
         return
     above = pair(writer, denominator if ask.kind == "S" else numerator, "denominator" if ask.kind == "S" else "numerator")
     below = pair(writer, closed, "closed")
     most = written(constant(ask.number ** 2), {})
-    squares = [f"({re})^2 + ({im})^2" for re, im in (above, below)]
-    writer.add(f"{squares[0]} <= {most}*({squares[1]})", f"{origin}: the squares of {'1' if ask.kind == 'S' else 'P C'} and of "
+    writer.add(f"{square(above)} <= {most}*({square(below)})", f"{origin}: the squares of {'1' if ask.kind == 'S' else 'P C'} and of "
                "1 + P C, times the open loop's denominator")
 
 
 def pair(writer: Writer, parts: Tuple[Polynomial, Polynomial], name: str) -> Tuple[str, str]:
-    return writer.call(parts[0], f"{name}_real"), writer.call(parts[1], f"{name}_imag")
+    """The texts of a real and an imaginary part, each as a factor."""
+    texts = writer.call(parts[0], f"{name}_real"), writer.call(parts[1], f"{name}_imag")
+    real, imaginary = (text if text.isalnum() or text.endswith(")") else f"({text})" for text in texts)
+    return real, imaginary
+
+
+def square(parts: Tuple[str, str]) -> str:
+    return " + ".join(f"{part}^2" for part in parts if part != "0") or "0"
 
 
 def rounded(value: float, up: bool) -> Fraction:

@@ -15,7 +15,7 @@ MOST_TERMS = 1500  # of one polynomial on the way
 
 
 class TooLong(ValueError):
-    """A polynomial with more terms, or a number with more digits, than can be written."""
+    """A polynomial with more terms than can be written."""
 
 
 class Polynomial:
@@ -213,16 +213,21 @@ class Quotient:
 
 
 def number_text(value: Fraction) -> str:
-    """A positive number as Minibex writes it, as a quotient if it has no short decimal form; TooLong beyond 37 digits."""
+    """A number from 0 on as Minibex writes it, as a quotient if it has no short decimal form."""
     found = minibex(value)
     if found is not None and (value.denominator == 1 or len(found) <= 12):
         return found
-    top, bottom = minibex(Fraction(value.numerator)), minibex(Fraction(value.denominator))
-    if top is None or bottom is None:
-        if found is None:
-            raise TooLong("a number of more than 37 digits")
+    top = whole_text(value.numerator)
+    return top if value.denominator == 1 else f"{top}/{whole_text(value.denominator)}"
+
+
+def whole_text(value: int) -> str:
+    """A whole number; one of too many digits for a number of Minibex as its parts of 30 digits."""
+    found = minibex(Fraction(value))
+    if found is not None:
         return found
-    return f"{top}/{bottom}"
+    first, last = divmod(value, 10 ** 30)
+    return f"({whole_text(first)}*1e30 + {last})"
 
 
 def written(p: Polynomial, calls: Mapping[str, str]) -> str:
