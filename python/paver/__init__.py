@@ -35,12 +35,12 @@ from .view import View, view
 from .widen import widened, widened_contract, widened_file
 
 __all__ = [
-    "Answer", "Bounds", "Box", "Cluster", "ContractRefused", "Control", "ControlRefused", "Disagree", "FolderRefused", "Gathered", "KeeperFault", "Levels",
-    "NoFile", "NotInProgram", "NotRobust", "ObjectiveRefused", "Parts", "Paving", "PaverError", "PavingError", "PavingRefused",
-    "ProgramFault", "ProgramMissing", "Progress", "ReadFault", "Robust", "Root", "Sweep", "System", "SystemEdited",
-    "SystemRefused", "TaskLost", "TreeLimit", "UsageError", "View", "WantOfMemory", "WriteFault", "__version__", "audit",
-    "audit_centered", "campaign", "check", "check_text", "control", "control_text", "depth_that_suffices", "draw", "find", "find_roots", "gather", "least",
-    "least_by_levels", "merge", "plot", "plot_projection", "resume", "robust", "run", "run_centered", "run_text", "sample",
-    "scaled_text", "split", "svg", "sweep", "undecided", "vertices_text", "view", "warnings_of", "widened", "widened_contract",
-    "widened_file",
+    "Answer", "Bounds", "Box", "Cluster", "ContractRefused", "Control", "ControlRefused", "Disagree", "FolderRefused",
+    "Gathered", "KeeperFault", "Levels", "NoFile", "NotInProgram", "NotRobust", "ObjectiveRefused", "Parts", "Paving",
+    "PaverError", "PavingError", "PavingRefused", "ProgramFault", "ProgramMissing", "Progress", "ReadFault", "Robust", "Root",
+    "Sweep", "System", "SystemEdited", "SystemRefused", "TaskLost", "TreeLimit", "UsageError", "View", "WantOfMemory",
+    "WriteFault", "__version__", "audit", "audit_centered", "campaign", "check", "check_text", "control", "control_text",
+    "depth_that_suffices", "draw", "find", "find_roots", "gather", "least", "least_by_levels", "merge", "plot",
+    "plot_projection", "resume", "robust", "run", "run_centered", "run_text", "sample", "scaled_text", "split", "svg", "sweep",
+    "undecided", "vertices_text", "view", "warnings_of", "widened", "widened_contract", "widened_file",
 ]

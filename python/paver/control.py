@@ -300,11 +300,11 @@ def band(ask: Ask, loop: Loop, writer: Writer) -> None:
         writer.add(f"max(abs({gain} - ({size_of})), {nr}*{dr} + {ni}*{di} + ({level})*({size_of})) > 0",
                    f"{origin}: if the open loop has gain 1 its real part is above -cos of the margin, {level} from below")
         return
-    above = pair(writer, denominator if ask.kind == "S" else numerator, "denominator" if ask.kind == "S" else "numerator")
-    below = pair(writer, closed, "closed")
+    above, words = (denominator, "1") if ask.kind == "S" else (numerator, "P C")
+    first_two = pair(writer, above, "denominator" if ask.kind == "S" else "numerator")
     most = written(constant(ask.number ** 2), {})
-    writer.add(f"{square(above)} <= {most}*({square(below)})", f"{origin}: the squares of {'1' if ask.kind == 'S' else 'P C'} and of "
-               "1 + P C, times the open loop's denominator")
+    writer.add(f"{square(first_two)} <= {most}*({square(pair(writer, closed, 'closed'))})",
+               f"{origin}: the squares of {words} and of 1 + P C, times the open loop's denominator")
 
 
 def pair(writer: Writer, parts: Tuple[Polynomial, Polynomial], name: str) -> Tuple[str, str]:
@@ -330,8 +330,10 @@ def check_limits(writer: Writer, text: str, row: int) -> None:
     longest = max([operations(c.text) for c in writer.constraints]
                   + [operations(written(body, {})) for body in writer.functions])
     used = used_names(writer)
-    for count, most, noun in ((len(used), MOST_VARIABLES, "variables"), (len(writer.constraints), MOST_CONSTRAINTS, "constraints"),
-                              (len(writer.functions), MOST_FUNCTIONS, "functions"), (nodes, MOST_NODES, "nodes of expressions"),
+    for count, most, noun in ((len(used), MOST_VARIABLES, "variables"),
+                              (len(writer.constraints), MOST_CONSTRAINTS, "constraints"),
+                              (len(writer.functions), MOST_FUNCTIONS, "functions"),
+                              (nodes, MOST_NODES, "nodes of expressions"),
                               (longest, MOST_OPERATIONS, "operations in one constraint"), (len(text), MOST_BYTES, "bytes")):
         if count > most:
             raise ControlRefused(row, 1, f"the system has {count} {noun} with this line: {most} are taken")
@@ -351,7 +353,8 @@ def text_of(loop: Loop, writer: Writer, for_all: Sequence[str]) -> str:
     lines.append(f"// The closed loop's polynomial is {loop_text}.")
     lines.append(f"//   python3 -m paver robust FILE --for-all {','.join(for_all)}" if for_all else "//   paver run FILE")
     names = used_names(writer)
-    entries = [f"{name} in [{signed(writer.domains[name][0], False)}, {signed(writer.domains[name][1], True)}]" for name in names]
+    ends = [(signed(writer.domains[name][0], False), signed(writer.domains[name][1], True)) for name in names]
+    entries = [f"{name} in [{low}, {high}]" for name, (low, high) in zip(names, ends)]
     lines += ["Variables", "  " + ", ".join(entries) + ";"]
     for body, name in writer.functions.items():
         lines += [f"function {name}({', '.join(writer.arguments(body))})", f"  return {written(body, {})};", "end"]
@@ -373,9 +376,12 @@ def signed(value: Fraction, up: bool) -> str:
 
 def control_text(text: str, *, theorems: bool = True) -> Control:
     """The system of a control question's text. With theorems an uncertain polynomial is asked by Kharitonov's polynomials or by
-    edges if its family is of that kind. ControlRefused, with line and column, for what can't be read or is beyond the limits."""
+    edges if its family is of that kind. ControlRefused, with line and column, for what can't be read or is beyond limits."""
     question = read(text)
-    loop = Loop(question)
+    try:
+        loop = Loop(question)
+    except TooLong as fault:
+        raise ControlRefused(len(text.splitlines()) or 1, 1, f"the closed loop needs {fault}") from fault
     if not question.asks:
         raise ControlRefused(len(text.splitlines()) or 1, 1, "nothing is asked: `stable`, for example, is expected")
     stable = any(ask.kind not in ("S", "T", "phase_margin") for ask in question.asks)

@@ -8,13 +8,13 @@ from typing import Dict, NoReturn, Optional, Tuple
 
 from .intervals import Interval
 from .minibex import RESERVED, Token, tokens
-from .polynomials import Quotient, constant, variable
+from .polynomials import Quotient, TooLong, constant, variable
 
 ASKS = {"stable": "", "shift": "rate", "radius": "radius", "damping": "ratio", "S": "most", "T": "most",
         "phase_margin": "degrees", "gain_margin": "factor"}
 BANDS = ("S", "T", "phase_margin")  # what is asked for frequencies in a band
 KEPT = {"gain", "uncertain", "for", "w", "s", "z", *ASKS}
-MOST_POWER = 8
+MOST_POWER, MOST_DEEP = 8, 50
 
 
 class ControlRefused(ValueError):
@@ -54,6 +54,7 @@ class Line:
 
     def __init__(self, row: int, text: str, question: Question) -> None:
         self.row, self.text, self.question, self.at = row, text, question, 0
+        self.depth = 0  # of parentheses
         self.words: Sequence[Token] = tokens(text)
 
     @property
@@ -142,8 +143,12 @@ class Line:
             self.at += 1
             return Quotient(constant(Fraction(token.text)))
         if self.takes("("):
+            self.depth += 1
+            if self.depth > MOST_DEEP:
+                self.refuse(f"more than {MOST_DEEP} nested parentheses", token)
             found = self.sum()
             self.need(")")
+            self.depth -= 1
             return found
         if token.kind != "name":
             self.refuse("a number, a name or `(` is expected")
@@ -190,8 +195,12 @@ def read(text: str) -> Question:
     question = Question()
     for row, whole in enumerate(text.splitlines(), 1):
         line = Line(row, whole.partition("#")[0].partition("//")[0].rstrip(), question)
-        if line.next.kind != "end":
+        if line.next.kind == "end":
+            continue
+        try:
             read_line(line, question)
+        except TooLong as fault:
+            line.refuse(f"{fault}")
     return question
 
 

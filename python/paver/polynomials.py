@@ -93,7 +93,8 @@ class Polynomial:
         return found
 
     def value(self, point: Mapping[str, Number]) -> Fraction:
-        return sum((c * product(Fraction(point[name]) ** power for name, power in m) for m, c in self.terms.items()), Fraction(0))
+        values = (c * product(Fraction(point[name]) ** power for name, power in m) for m, c in self.terms.items())
+        return sum(values, Fraction(0))
 
     def bounds(self, box: Mapping[str, iv.Interval]) -> iv.Interval:
         """An interval that holds its values on a box, by its monomials."""

@@ -144,6 +144,9 @@ REFUSED = [
     ("margin", HEAD + "phase_margin 30 for w in [0, 9]", 4, "ask `stable`"), ("band", HEAD + "S <= 2", 4, "`for` is expected"),
     ("open", "gain k in [0, 1]\npolynomial = s + k\nT <= 2 for w in [0, 1]", 3, "a polynomial is given"),
     ("variables", "".join(f"gain k{i} in [0, 1]\n" for i in range(13)) + "P = 1/s\nC = k0\nstable", 16, "13 variables"),
+    ("deep", "P = " + "("*60 + "s" + ")"*60, 1, "nested"),
+    ("terms", "".join(f"gain k{i} in [0, 1]\n" for i in range(9)) + "P = (" + "+".join(f"k{i}" for i in range(9)) + " + s)^8",
+     10, "terms"),
     ("long", "".join(f"gain k{i} in [0, 1]\n" for i in range(8)) + "polynomial = s^8 + "
      + " + ".join(f"k{i}*s^{i}" for i in range(8)) + "\ndamping 0.5", 10, "terms"),
 ]
@@ -169,7 +172,8 @@ class Control(PackageTest):
         for _ in range(12):
             first, second = (Fraction(source.randint(-16, 32), 8) for _ in "pi")
             g = Fraction(source.randint(8, 24), 16)
-            loop = added(multiplied(below, integrator), multiplied([g * c for c in above], [first * integrator[0] + second, first]))
+            controller = [first * integrator[0] + second, first]
+            loop = added(multiplied(below, integrator), multiplied([g * c for c in above], controller))
             far = max(excess(f"{kind} in z" if sampled and kind == "stable" else kind, asked, z) for z in roots_of(loop))
             if abs(far) > NEAR:
                 points += 1
@@ -241,7 +245,8 @@ class Control(PackageTest):
             ("stable\nphase_margin 40", lambda loop: max(abs(abs(loop) ** 2 - 1), loop.real + math.cos(math.radians(40))))]
         source = random.Random(2)
         for name, (ask, slack) in product("sz", asks):
-            text = f"gain k in [0, 4]\nP = 1/(({name} + 0.5)*({name}^2 + 0.25*{name} + 0.125))\nC = k\n{ask} for w in [0.1, 3]\n"
+            plant = f"1/(({name} + 0.5)*({name}^2 + 0.25*{name} + 0.125))"
+            text = f"gain k in [0, 4]\nP = {plant}\nC = k\n{ask} for w in [0.1, 3]\n"
             found = paver.control_text(text)
             constraint = found.text[:found.text.index("Constraints")] + f"Constraints {found.constraints[-1].text};"
             written, counts, axis = Written(constraint), {True: 0, False: 0}, found.for_all[0]
@@ -299,18 +304,21 @@ class Control(PackageTest):
     def test_page(self) -> None:
         """What CONTROL.md shows of commands is what they print."""
         text = PAGE.read_text()
-        shown, files = list(package_around.commands_of(text)), re.findall(r"^`(\w+\.txt)`:\n\n```\n(.*?)^```", text, re.M | re.S)
+        shown = list(package_around.commands_of(text))
+        files = re.findall(r"^`(\w+\.txt)`:\n\n```\n(.*?)^```", text, re.M | re.S)
         self.assertGreaterEqual(len(shown), 3)
         self.assertGreaterEqual(len(files), 1)
         with tempfile.TemporaryDirectory() as folder:
             for name, lines in files:
                 (Path(folder) / name).write_text(lines)
-            environment = {**os.environ, "PYTHONPATH": str(TOP / "python"), "PATH": f"{Path(sys.executable).parent}:{os.environ['PATH']}"}
+            environment = {**os.environ, "PYTHONPATH": str(TOP / "python"),
+                           "PATH": f"{Path(sys.executable).parent}:{os.environ['PATH']}"}
             for words, told, lines in shown:
                 words = words.replace("./paver", os.environ["PAVER"])
                 done = subprocess.run(["bash", "-c", words], cwd=folder, capture_output=True, text=True, timeout=300,
                                       env=environment, check=False)
-                self.assertEqual((done.returncode, done.stdout.splitlines()), (int(*told or ["0"]), lines), (words, done.stderr))
+                answer = (done.returncode, done.stdout.splitlines())
+                self.assertEqual(answer, (int(*told or ["0"]), lines), (words, done.stderr))
 
 
 if __name__ == "__main__":

@@ -10,8 +10,8 @@ from __future__ import annotations
 import unittest
 
 from tests.runners import (
-    package_answers, package_around, package_checks, package_control, package_misuse, package_parts, package_pavings, package_refusals,
-    package_stages, package_tools, package_users,
+    package_answers, package_around, package_checks, package_control, package_misuse, package_parts, package_pavings,
+    package_refusals, package_stages, package_tools, package_users,
 )
 from tests.runners.running import main
 
