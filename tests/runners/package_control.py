@@ -167,7 +167,10 @@ class Control(PackageTest):
         above = made_polynomial(source, source.randint(0, degree - 1))
         text = f"gain p in [-2, 4]\ngain i in [-2, 4]\nuncertain g in [0.5, 1.5]\nP = g*({text_of(above, name)})/" \
                f"({text_of(below, name)})\nC = p + i/({name}{' - 1' if sampled else ''})\n{kind} {float(asked) or ''}\n"
-        written, points = Written(paver.control_text(text, theorems=False).text), 0
+        found = paver.control_text(text, theorems=False)
+        if number % 5 == 0:
+            self.assertEqual(len(paver.check_text(found.text).constraints), len(found.constraints))
+        written, points = Written(found.text), 0
         integrator = [Fraction(-1 if sampled else 0), Fraction(1)]
         for _ in range(12):
             first, second = (Fraction(source.randint(-16, 32), 8) for _ in "pi")
@@ -261,8 +264,13 @@ class Control(PackageTest):
             self.assertGreater(counts[True], 20, (text, counts))
             self.assertGreaterEqual(counts[False], 0 if "phase" in ask else 20, (text, counts))
 
+    def test_none(self) -> None:
+        """A condition that no gain meets is written, and the program finds no box."""
+        text = paver.control_text("gain k in [0, 4]\npolynomial = s^2 - s + k\nstable").text
+        self.assertEqual({kind for kind, n in paver.run_text(text, eps=1).paving().counts().items() if n}, {"settled", "removed"})
+
     def test_degree_eight(self) -> None:
-        """The greatest degree fits: a chain of eight lags is stable with a gain below sec(pi/8)^8 - for s and less 1."""
+        """The greatest degree fits: a chain of eight lags is stable with gains from -1 to sec(pi/8)^8, where its phase is -pi."""
         text = "gain k in [-2, 4]\nP = 1/(s + 1)^8\nC = k\nstable"
         written, most = Written(paver.control_text(text).text), (1 / math.cos(math.pi / 8)) ** 8
         for step in range(60):
