@@ -267,10 +267,11 @@ class Control(PackageTest):
     def test_none(self) -> None:
         """A condition that no gain meets is written, and the program finds no box."""
         text = paver.control_text("gain k in [0, 4]\npolynomial = s^2 - s + k\nstable").text
-        self.assertEqual({kind for kind, n in paver.run_text(text, eps=1).paving().counts().items() if n}, {"settled", "removed"})
+        counts = paver.run_text(text, eps=1).paving().counts()
+        self.assertEqual({kind for kind, count in counts.items() if count}, {"settled", "removed"})
 
     def test_degree_eight(self) -> None:
-        """The greatest degree fits: a chain of eight lags is stable with gains from -1 to sec(pi/8)^8, where its phase is -pi."""
+        """The greatest degree fits: a chain of eight lags is stable from -1 to sec(pi/8)^8, where its phase is -pi."""
         text = "gain k in [-2, 4]\nP = 1/(s + 1)^8\nC = k\nstable"
         written, most = Written(paver.control_text(text).text), (1 / math.cos(math.pi / 8)) ** 8
         for step in range(60):
