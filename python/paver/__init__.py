@@ -11,6 +11,8 @@ Numbers are exact Fractions; floats are rounded outward and come only where they
 from .advice import depth_that_suffices, warnings_of
 from .box import Box, Cluster
 from .canonical import System
+from .control import Control, control, control_text
+from .control_text import ControlRefused
 from .errors import (
     ContractRefused, Disagree, FolderRefused, KeeperFault, NoFile, NotInProgram, ObjectiveRefused, PaverError, PavingError,
     PavingRefused, ProgramFault, ProgramMissing, ReadFault, SystemEdited, SystemRefused, TaskLost, TreeLimit, UsageError,
@@ -36,12 +38,13 @@ from .view import View, view
 from .widen import widened, widened_contract, widened_file
 
 __all__ = [
-    "Answer", "Bounds", "Box", "Cluster", "ContractRefused", "Disagree", "FolderRefused", "Gathered", "KeeperFault", "Levels",
-    "NoFile", "NotInProgram", "NotRobust", "ObjectiveRefused", "Parts", "Path", "PathFault", "PaverError", "Paving",
-    "PavingError", "PavingRefused", "ProgramFault", "ProgramMissing", "Progress", "ReadFault", "RobotRefused", "Robust", "Root",
-    "Sweep", "System", "SystemEdited", "SystemRefused", "TaskLost", "TreeLimit", "UsageError", "Verdict", "View",
-    "WantOfMemory", "WriteFault", "__version__", "audit", "audit_centered", "campaign", "check", "check_text",
-    "depth_that_suffices", "draw", "find", "find_roots", "gather", "least", "least_by_levels", "merge", "path", "plot",
-    "plot_projection", "resume", "robot", "robust", "run", "run_centered", "run_text", "sample", "scaled_text", "split", "svg",
-    "sweep", "undecided", "vertices_text", "view", "warnings_of", "widened", "widened_contract", "widened_file",
+    "Answer", "Bounds", "Box", "Cluster", "ContractRefused", "Control", "ControlRefused", "Disagree", "FolderRefused",
+    "Gathered", "KeeperFault", "Levels", "NoFile", "NotInProgram", "NotRobust", "ObjectiveRefused", "Parts", "Path",
+    "PathFault", "PaverError", "Paving", "PavingError", "PavingRefused", "ProgramFault", "ProgramMissing", "Progress",
+    "ReadFault", "RobotRefused", "Robust", "Root", "Sweep", "System", "SystemEdited", "SystemRefused", "TaskLost", "TreeLimit",
+    "UsageError", "Verdict", "View", "WantOfMemory", "WriteFault", "__version__", "audit", "audit_centered", "campaign",
+    "check", "check_text", "control", "control_text", "depth_that_suffices", "draw", "find", "find_roots", "gather", "least",
+    "least_by_levels", "merge", "path", "plot", "plot_projection", "resume", "robot", "robust", "run", "run_centered",
+    "run_text", "sample", "scaled_text", "split", "svg", "sweep", "undecided", "vertices_text", "view", "warnings_of",
+    "widened", "widened_contract", "widened_file",
 ]

@@ -13,6 +13,7 @@ from typing import TYPE_CHECKING, Any, TextIO
 from . import (
     beside, errors, explain, levels_command, path_command, program, robot_command, robust_command, scale, sweep_command,
 )
+    beside, control_command, errors, explain, levels_command, program, robust_command, scale, sweep_command)
 from .advice import limits_of, stored_sentences, warnings_of
 from .cover import KEPT, Cover, Name
 from .ibex import translate
@@ -325,6 +326,7 @@ def more_commands(commands: Commands) -> None:
     written = add("from-ibex", from_ibex)
     written.add_argument("file")
     written.add_argument("--widen", metavar="D", help="equations f = 0 become f >= -D; f <= D")
+    control_command.add_options(add("control", control_command.work))
     add("export", export).add_argument("paving", help="the database of a campaign, or a stored paving")
     bounded = add("least", least_command)
     bounded.add_argument("system")

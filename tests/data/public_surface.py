@@ -36,6 +36,8 @@ with paver.widened_file("s.mbx", Fraction(1, 8), {"eps": 1}) as (widened, option
     print(widened.name, options)
 swept: paver.Sweep = paver.sweep("s.mbx", "folder", eps=0.5, shares=8, engine=ThreadPoolExecutor(2), tell=print)
 print(swept.counts["open"], swept.out.name, swept.hours, swept.greatest["seconds"], swept.idle, swept.paving().hull())
+asked: paver.Control = paver.control("loop.txt", theorems=False)
+print(asked.text, asked.for_all, asked.constraints[0].origin, paver.control_text("stable").polynomial)
 page: paver.View = paver.view("s.mbx", ["f", paving], eps=0.5, form="plain", unchecked=True)
 page.save("page.html")
 try:
