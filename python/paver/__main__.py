@@ -11,9 +11,9 @@ from pathlib import Path
 from typing import TYPE_CHECKING, Any, TextIO
 
 from . import (
-    beside, errors, explain, levels_command, path_command, program, robot_command, robust_command, scale, sweep_command,
+    beside, control_command, errors, explain, levels_command, path_command, program, robot_command, robust_command, scale,
+    sweep_command,
 )
-    beside, control_command, errors, explain, levels_command, program, robust_command, scale, sweep_command)
 from .advice import limits_of, stored_sentences, warnings_of
 from .cover import KEPT, Cover, Name
 from .ibex import translate
