@@ -10,7 +10,8 @@ from fractions import Fraction
 from pathlib import Path
 from typing import TYPE_CHECKING, Any, TextIO
 
-from . import beside, errors, explain, levels_command, program, robust_command, scale, sweep_command
+from . import (
+    beside, errors, explain, fit_command, levels_command, program, project_command, robust_command, scale, sweep_command)
 from .advice import limits_of, stored_sentences, warnings_of
 from .cover import KEPT, Cover, Name
 from .ibex import translate
@@ -177,6 +178,16 @@ def robust_of(arguments: argparse.Namespace) -> int:
     return robust_command.work(arguments, values_of)
 
 
+def project_of(arguments: argparse.Namespace) -> int:
+    """Says for which values of two variables some value of the others is in the set, and for which none is."""
+    return project_command.work(arguments, paving_of, report)
+
+
+def fit_of(arguments: argparse.Namespace) -> int:
+    """Writes the system of a model and a table of measurements, or reports which parameters agree with them."""
+    return fit_command.work(arguments, paving_of, report)
+
+
 def csv_command(arguments: argparse.Namespace) -> int:
     """Prints the kept boxes of a paving as CSV."""
     paving, warnings = paving_of(arguments)
@@ -279,7 +290,8 @@ def parser() -> argparse.ArgumentParser:
     main_parser = argparse.ArgumentParser(prog="python3 -m paver", description=__doc__)
     main_parser.add_argument("--program", help="the program's path; else the variable PAVER, else PATH")
     commands = main_parser.add_subparsers(dest="command", required=True)
-    for name, work in (("roots", roots), ("summary", summary), ("csv", csv_command), ("plot", plot_command)):
+    for name, work in (("roots", roots), ("summary", summary), ("csv", csv_command), ("plot", plot_command),
+                       ("project", project_of)):
         command = commands.add_parser(name, help=work.__doc__, description=work.__doc__)
         command.set_defaults(work=work)
         command.add_argument("system")
@@ -290,6 +302,7 @@ def parser() -> argparse.ArgumentParser:
     commands.choices["roots"].add_argument("--widen", metavar="D", help="f = 0 is paved as f >= -D; f <= D (1e-9; 0: as it is)")
     commands.choices["summary"].add_argument("--clusters", action="store_true", help="count the groups of boxes that touch")
     commands.choices["csv"].add_argument("--exactly", action="store_true", help="fractions in place of floats")
+    project_command.add_options(commands.choices["project"])
     drawn = commands.choices["plot"]
     drawn.add_argument("--picture", required=True, help="the file to write, as ring.png")
     drawn.add_argument("--x", default="0", help="a variable's name or number")
@@ -322,6 +335,7 @@ def more_commands(commands: Commands) -> None:
     run_options(bounded, (*program.SETTINGS, "boxes", "limit"))
     levels_command.add_options(bounded)
     robust_command.add_options(add("robust", robust_of))
+    fit_command.add_options(add("fit", fit_of))
     explained = add("explain", explain_command)
     explained.usage = "%(prog)s [COMMAND] SYSTEM [--groups N [--agree N]] [--scale [FILE]] [--line] [OPTIONS]"
     explained.epilog = ("Words after COMMAND are those of the program's command, else of run: what is refused of them is told. "

@@ -35,6 +35,10 @@ swept: paver.Sweep = paver.sweep("s.mbx", "folder", eps=0.5, shares=8, engine=Th
 print(swept.counts["open"], swept.out.name, swept.hours, swept.greatest["seconds"], swept.idle, swept.paving().hull())
 page: paver.View = paver.view("s.mbx", ["f", paving], eps=0.5, form="plain", unchecked=True)
 page.save("page.html")
+plane: paver.Projection = paver.project(paving, "x", 1)
+print(plane.counts(), plane.areas()["some"], plane.where((1, 0)), plane.svg(), plane.page().html, plane.numpy("none"))
+fitted: paver.Fit = paver.fit("model.txt", "data.csv", 1, yerr="0.1", together=2)
+print(fitted.text, fitted.contract, fitted.groups[0][0].line, fitted.outliers)
 try:
     paver.check_text("bad")
 except paver.SystemRefused as fault:
