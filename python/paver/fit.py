@@ -195,8 +195,8 @@ def fit(model: PathName, data: PathName, outliers: int = 0, *, yerr: Union[str, 
         together: int = 1, sep: str = ",", comment: Optional[str] = None, program_path: Optional[str] = None) -> Fit:
     """The system of a model and a CSV file of measurements of which at most `outliers` are wrong. The bounds of a measured
     column y are the columns y_low and y_high, or y with the half-width in y_err, or y with `yerr`, a number or a column. With
-    `together` that many measurements, in their order, are one constraint, and right or wrong together. FitRefused says what can't be
-    taken; SystemRefused is of the model's text."""
+    `together` that many measurements, in their order, are one constraint, and right or wrong together. FitRefused says what
+    can't be taken; SystemRefused is of the model's text."""
     table = read_csv(data, sep, comment)
     known = Model(model, table, program_path)
     half = None if yerr is None else repr(yerr) if isinstance(yerr, float) else str(yerr)

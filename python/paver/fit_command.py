@@ -20,7 +20,7 @@ OPTIONS = ("eps", "depth", "bisect", "boxes", "workers", "limit", "form")
 def add_options(command: argparse.ArgumentParser) -> None:
     """The words of the command `fit`."""
     command.add_argument("system", metavar="MODEL", help="a text with laws `column = expression` among its constraints")
-    command.add_argument("data", metavar="DATA.csv", help="the measurements, with y_low and y_high, or y and its half-width y_err")
+    command.add_argument("data", metavar="DATA.csv", help="measurements, with y_low and y_high, or y and its half-width y_err")
     command.add_argument("--outliers", type=int, default=0, metavar="K", help="how many measurements may be wrong (0)")
     command.add_argument("--yerr", metavar="E", help="the half-width: a number or the name of a column")
     command.add_argument("--together", type=int, default=1, metavar="N",
@@ -60,6 +60,9 @@ def lines_of(found: Fit, paving: Paving, parts: list[Part]) -> Iterator[str]:
         ends = " x ".join(interval(*pair) for pair in part.hull)
         yield f"part {number}: {counted(part.boxes, 'box', 'boxes')}, {part.inner} inner, in {ends}"
         yield from (f"  leaves out {told(found, k)}" for k in part.without)
+        if len(part.without) > found.outliers:
+            yield "  which is more than may be wrong, so that no rational point of the set is there"
+            continue
         if len(part.without) == found.outliers:
             yield "  and agrees with all others wherever the set has a point there"
             continue

@@ -2,16 +2,21 @@
 fractions, which goes by no part of the package."""
 from __future__ import annotations
 
+import os
 import random
 import re
+import subprocess
+import sys
 import tempfile
 from fractions import Fraction
 from pathlib import Path
 from typing import Any, Iterator
 
 import paver
+from paver.fit import parts_of
+from tests.runners.package_around import commands_of
 from tests.runners.package_test import PackageTest, command, example
-from tests.runners.running import main
+from tests.runners.running import TOP, main
 
 LINE = "Variables a in [-8, 8], b in [-8, 8]; Constraints y = a + b*t; end\n"
 BALL = "Variables x in [-2,2], y in [-2,2], z in [-2,2]; Constraints x^2 + y^2 + z^2 <= 2; x + z >= -1; end"
@@ -21,8 +26,8 @@ Box = tuple[tuple[Fraction, Fraction], ...]
 
 
 def made(seed: int, count: int, wrong: int) -> tuple[str, tuple[Fraction, Fraction], set[int], list[tuple[int, Fraction]]]:
-    """A table of a line's values, each within 1/4, but for some that are 3 to 5 off; the line, the wrong lines of the table, and
-    the points."""
+    """A table of a line's values, each within 1/4, but for some that are 3 to 5 off; the line, the wrong lines of the table,
+    and the points."""
     draw = random.Random(seed)
     a, b = Fraction(draw.randint(-8, 8), 4), Fraction(draw.randint(-8, 8), 4)
     far = set(draw.sample(range(count), wrong))
@@ -35,8 +40,8 @@ def made(seed: int, count: int, wrong: int) -> tuple[str, tuple[Fraction, Fracti
 
 
 def cells(paving: paver.Paving, x: int, y: int) -> Iterator[tuple[Box, str]]:
-    """The cells of the plane between all ends of boxes, each with its kind: of each kept box it is asked whether the cell's middle
-    is in its shadow."""
+    """The cells of the plane between all ends of boxes, each with its kind: of each kept box it is asked whether the cell's
+    middle is in its shadow."""
     kept = [(box.kind, box.exact[x], box.exact[y]) for box in paving.boxes("inner", "small", "open")]
     removed = [box.exact for box in paving.removed()]
     columns = [sorted({end for pair in [*(one[1 + k] for one in kept), *(box[v] for box in removed)] for end in pair})
@@ -86,8 +91,8 @@ class Fits(PackageTest):
                     self.assertGreaterEqual(fits, 8, box)
 
     def test_membership(self) -> None:
-        """Of drawn parameters those that agree with too few measurements are in removed parts alone or in undecided boxes, those
-        with enough never in removed parts alone."""
+        """Of drawn parameters those that agree with enough measurements are never in removed parts alone, and the others never
+        in inner boxes alone."""
         text, _, _, points = made(7, 8, 1)
         with Written(model=LINE, data=text) as folder:
             found = paver.fit(folder / "model", folder / "data", 1, yerr=0.25)
@@ -148,9 +153,25 @@ class Fits(PackageTest):
                              f"qinter(7,{','.join(f'hc4({i})' for i in range(8))})\n")
 
 
+class Page(PackageTest):
+    """docs/FIT.md."""
+
+    def test_commands(self) -> None:
+        """Each command that the page shows prints what stands below it."""
+        shown = list(commands_of((TOP / "docs" / "FIT.md").read_text()))
+        self.assertGreaterEqual(len(shown), 4)
+        with Written() as folder:
+            (folder / "examples").symlink_to(TOP / "examples")
+            for words, _, lines in shown:
+                tools = words.replace("python3", sys.executable, 1)
+                done = subprocess.run(["bash", "-c", f'paver() {{ "$PAVER" "$@"; }}; {tools}'], cwd=folder, text=True, timeout=60,
+                                      capture_output=True, env={**os.environ, "PYTHONPATH": str(TOP / "python")}, check=False)
+                with self.subTest(words):
+                    self.assertEqual([line.strip() for line in done.stdout.splitlines()], lines, done.stderr)
+
+
 def fit_parts(found: paver.Fit, answer: paver.Answer) -> list[Any]:
     """The parts of an answer."""
-    from paver.fit import parts_of
     return parts_of(found, answer.known, answer.paving())
 
 
@@ -201,23 +222,20 @@ class Projections(PackageTest):
     def test_files(self) -> None:
         """CSV by fractions fills the plane; floats stay inside what is said; picture and page are written."""
         with Written() as folder:
-            status, _, _ = command("project", example("torus"), "--onto", "x,z", "--eps", "0.5", "--csv", folder / "c", "--exactly",
-                                   "--picture", folder / "p.svg", "--page", folder / "p.html")
+            words = ["--csv", folder / "c", "--exactly", "--picture", folder / "p.svg", "--page", folder / "p.html"]
+            status = command("project", example("torus"), "--onto", "x,z", "--eps", "0.5", *words)[0]
             rows = [line.split(",") for line in (folder / "c").read_text().splitlines()]
             self.assertEqual((status, rows[0]), (0, ["kind", "x_low", "x_high", "z_low", "z_high"]))
             paving = paver.run(example("torus"), eps="0.5").paving()
-            root = (Fraction(1), Fraction(1))
-            for low, high in (next(iter(paver.Paving(["O"], root=paving.root, names=paving.names).open())).exact[k] for k in (0, 2)):
-                root = root[0] * (high - low), root[1]
             areas = sum((Fraction(r[2]) - Fraction(r[1])) * (Fraction(r[4]) - Fraction(r[3])) for r in rows[1:])
-            self.assertEqual(areas, root[0])
+            self.assertEqual(areas, 8 * 4)  # the domains of x and z in torus.mbx
             self.assertTrue((folder / "p.svg").read_text().startswith("<svg"))
             self.assertIn("<html", (folder / "p.html").read_text()[:500])
             found = paver.project(paving, "x", "z")
             for kind in ("some", "none"):
                 exact = [tuple(map(Fraction, row)) for row in found.rows(kind, True)]
-                for ends, floats in zip(exact, found.rows(kind)):
-                    self.assertTrue(ends[0] <= floats[0] <= floats[1] <= ends[1] and ends[2] <= floats[2] <= floats[3] <= ends[3])
+                for (a, b, c, d), (left, right, low, high) in zip(exact, found.rows(kind)):
+                    self.assertTrue(a <= left <= right <= b and c <= low <= high <= d, (kind, a, b, c, d))
 
     def test_numpy(self) -> None:
         """Arrays have the boxes of the rows."""
