@@ -16,13 +16,14 @@ from .canonical import Constraint, System
 from .cover import Cover
 from .explain import qinter_text
 from .measurements import FitRefused, Row, Table, read_csv
-from .minibex import RESERVED, tokens
+from .minibex import RESERVED, Token, tokens
 from .numbers import counted, minibex, printable
 from .ranges import decided
 from .texts import ENCODING, Related, Side, SystemText
 
 MOST_CONSTRAINTS = 64
 PathName = Union[str, Path]
+Bounded = Sequence[Tuple[Fraction, Fraction]]  # a box of finite ends
 
 
 @dataclass
@@ -85,8 +86,8 @@ class Model:
     @staticmethod
     def _check(text: str, columns: Set[str], path_of_program: Optional[str]) -> None:
         """Has the program take the text with a number in the place of each column: it refuses at the model's own places."""
-        declared, found = declared_in(text, columns), text
-        for token in reversed(tokens(text)):
+        declared, found, words = declared_in(text, columns), text, tokens(text)
+        for token in reversed(words[block_of_constraints(words):]):
             if token.kind == "name" and token.text in columns - declared:
                 found = found[:token.at] + "1".ljust(len(token.text)) + found[token.at + len(token.text):]
         program.check_text(found.encode(ENCODING), program=path_of_program)
@@ -141,11 +142,20 @@ class Model:
         return value - width, value + width
 
 
+def block_of_constraints(words: Sequence[Token]) -> int:
+    """The number of the token that begins the constraints; how many there are where none does."""
+    return next((i for i, token in enumerate(words) if token.word == "Constraints"), len(words))
+
+
 def declared_in(text: str, columns: Set[str]) -> Set[str]:
-    """The columns' names that a text declares: names before the block of constraints."""
-    words = tokens(text)
-    end = next((i for i, token in enumerate(words) if token.word == "Constraints"), len(words))
-    return {token.text for token in words[:end] if token.kind == "name"} & columns
+    """The columns' names that a text declares as constants, variables or functions. Parameters of functions may be called as
+    columns are."""
+    words, found, is_within = tokens(text), set(), False
+    for before, token in zip([Token("end", "", 0), *words], words[:block_of_constraints(words)]):
+        if token.kind == "name" and (not is_within or before.word == "Function"):
+            found.add(token.text)
+        is_within = token.word == "Function" or is_within and token.word != "End"
+    return found & columns
 
 
 def number_of(word: str) -> Fraction:
@@ -253,8 +263,11 @@ class Part:
     partly: List[int]
 
 
-def verdict(constraint: Constraint, boxes: Sequence[Sequence[Tuple[Fraction, Fraction]]]) -> Optional[bool]:
-    """Whether a constraint holds on all boxes, on none, or neither is seen."""
+def verdict(constraint: Constraint, hull: Bounded, boxes: Sequence[Bounded]) -> Optional[bool]:
+    """Whether a constraint holds on all boxes, on none, or neither is seen; the hull decides many at once."""
+    whole = decided(constraint, hull)
+    if whole is not None:
+        return whole
     first = decided(constraint, boxes[0])
     if first is None or any(decided(constraint, box) is not first for box in boxes[1:]):
         return None
@@ -265,10 +278,10 @@ def parts_of(found: Fit, system: System, paving: Cover) -> List[Part]:
     """The parts of a paving of the fit's system. It looks at each measurement on each box in exact fractions."""
     parts = []
     for cluster in paving.clusters():
+        hull = tuple((Fraction(low), Fraction(high)) for low, high in cluster.hull)
         boxes = [[(Fraction(low), Fraction(high)) for low, high in box.exact] for box in cluster.boxes]
-        told = [verdict(system.constraints[found.first + k], boxes) for k in range(len(found.groups))]
+        told = [verdict(system.constraints[found.first + k], hull, boxes) for k in range(len(found.groups))]
         lists = [[k for k, one in enumerate(told) if one is value] for value in (True, False, None)]
         inner = sum(box.kind == "inner" for box in cluster.boxes)
-        hull = tuple((Fraction(low), Fraction(high)) for low, high in cluster.hull)
         parts.append(Part(len(boxes), inner, hull, *lists))
     return sorted(parts, key=lambda part: -part.boxes)

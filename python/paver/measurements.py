@@ -66,7 +66,7 @@ def read_csv(path: Union[str, Path], sep: str = ",", comment: Optional[str] = No
         raise FitRefused("--sep and --comment take one sign each")
     with open(path, newline="", encoding="utf-8-sig") as file:
         try:
-            lines = [line.split(comment)[0].rstrip() if comment else line for line in file]
+            lines = [line.rstrip("\r\n").split(comment)[0] if comment else line for line in file]
             reader = csv.reader(lines, delimiter=sep)
             found = [(reader.line_num, [cell.strip() for cell in cells]) for cells in reader if any(map(str.strip, cells))]
         except (UnicodeDecodeError, csv.Error) as fault:

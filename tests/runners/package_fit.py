@@ -2,6 +2,7 @@
 fractions, which goes by no part of the package."""
 from __future__ import annotations
 
+import math
 import os
 import random
 import re
@@ -14,6 +15,7 @@ from typing import Any, Iterator
 
 import paver
 from paver.fit import parts_of
+from paver.measurements import read_csv
 from tests.runners.package_around import commands_of
 from tests.runners.package_test import PackageTest, command, example
 from tests.runners.running import TOP, main
@@ -22,6 +24,7 @@ LINE = "Variables a in [-8, 8], b in [-8, 8]; Constraints y = a + b*t; end\n"
 BALL = "Variables x in [-2,2], y in [-2,2], z in [-2,2]; Constraints x^2 + y^2 + z^2 <= 2; x + z >= -1; end"
 WALL = "Variables x in [0,4], y in [0,4], z in [0,1]; Constraints x <= 3; abs(x - 1)*z <= 0; y >= 1; z >= 0.5; end"
 SPHERE = "Variables x in [-2,2], y in [-2,2], z in [-2,2]; Constraints x^2 + y^2 + z^2 = 1; end"
+UNBOUNDED = "Variables x in [0, oo], y in [-1,1], z in [-1,1]; Constraints x*(1 + y^2) >= 3 + z; x <= 9; end"
 Box = tuple[tuple[Fraction, Fraction], ...]
 
 
@@ -39,6 +42,12 @@ def made(seed: int, count: int, wrong: int) -> tuple[str, tuple[Fraction, Fracti
     return text, (a, b), {t + 2 for t in far}, points
 
 
+def middle(pair: Any) -> Fraction:
+    """A point between two ends, one at least finite."""
+    low, high = pair
+    return high - 1 if low == -math.inf else low + 1 if high == math.inf else (low + high) / 2
+
+
 def cells(paving: paver.Paving, x: int, y: int) -> Iterator[tuple[Box, str]]:
     """The cells of the plane between all ends of boxes, each with its kind: of each kept box it is asked whether the cell's
     middle is in its shadow."""
@@ -48,8 +57,8 @@ def cells(paving: paver.Paving, x: int, y: int) -> Iterator[tuple[Box, str]]:
                for k, v in enumerate((x, y))]
     for left, right in zip(columns[0], columns[0][1:]):
         for low, high in zip(columns[1], columns[1][1:]):
-            middle = (left + right) / 2, (low + high) / 2
-            over = {kind for kind, one, other in kept if one[0] <= middle[0] <= one[1] and other[0] <= middle[1] <= other[1]}
+            p, q = middle((left, right)), middle((low, high))
+            over = {kind for kind, one, other in kept if one[0] <= p <= one[1] and other[0] <= q <= other[1]}
             yield ((left, right), (low, high)), "some" if "inner" in over else "rest" if over else "none"
 
 
@@ -105,7 +114,7 @@ class Fits(PackageTest):
 
     def test_text(self) -> None:
         """A comment names each measurement, the model's own constraint stays, and bounds are those of their columns."""
-        model = "Variables p in [0,4];\nfunction f(a) return a^2; end\nConstraints p <= 3; f(p)*t = v; end\n"
+        model = "Variables p in [0,4];\nfunction f(t) return t^2; end\nConstraints p <= 3; f(p)*t = v; end\n"
         with Written(model=model, data="t,v_low,v_high\n-1,-4,-1\n2.5,0.5,2\n3,,\n") as folder:
             found = paver.fit(folder / "model", folder / "data", 1)
         self.assertIn("  // 1: line 2, t = -1: -4 <= v <= -1\n  abs(f(p)*(-1) + 2.5) <= 1.5;\n", found.text)
@@ -123,6 +132,16 @@ class Fits(PackageTest):
             paving = paver.run_text(found.text, contract=found.contract, boxes=2000).paving()
             self.assertNotEqual(paving.where((0, 2)), {"removed"})
 
+    def test_table(self) -> None:
+        """Comments, another sign between cells, names that come again, and cells in quotes, as pandas reads them."""
+        data = "# made by hand\nt; y; y; note\n1; 0.5; 7;\"a; b\" # first\n\n2; NaN; 8; c\n1e1; -2.5; 9; d\n"
+        with Written(data=data) as folder:
+            found = read_csv(folder / "data", ";", "#")
+        self.assertEqual(found.columns, ["t", "y", "y.1", "note"])
+        self.assertEqual([(row.line, found.number(row, "t")) for row in found.rows], [(3, 1), (5, 2), (6, 10)])
+        self.assertEqual(["y" in row.cells for row in found.rows], [True, False, True])
+        self.assertEqual(found.number(found.rows[2], "y"), Fraction(-5, 2))
+
     def test_refused(self) -> None:
         """Faults of tables and models by place and cause."""
         for data, words, model in [
@@ -130,6 +149,7 @@ class Fits(PackageTest):
                 ("t,y,y_err\n1,2\n", "data, line 2: 2 cells, where 3", LINE), ("", "no line with the names", LINE),
                 ("t,y,y_err\n,2,1\n", "data, line 2, column t: the cell is missing", LINE),
                 ("t,y,y_err\n1,2,-1\n", "half-width of y is below 0", LINE), ("t,y,y_err\n1,NA,1\n", "no measurement", LINE),
+                ("t,a,y,y_err\n1,1,2,1\n", "`a` is a name of the model and a column", LINE),
                 ("t,y_low,y_high\n1,2,1\n", "line 2: the bounds of y are empty", LINE),
                 ("t,y,y_err\n1,2,1\n", "has the form", "Variables a; Constraints y <= a; end\n")]:
             with self.subTest(words), Written(model=model, data=data) as folder:
@@ -164,8 +184,9 @@ class Page(PackageTest):
             (folder / "examples").symlink_to(TOP / "examples")
             for words, _, lines in shown:
                 tools = words.replace("python3", sys.executable, 1)
-                done = subprocess.run(["bash", "-c", f'paver() {{ "$PAVER" "$@"; }}; {tools}'], cwd=folder, text=True, timeout=60,
-                                      capture_output=True, env={**os.environ, "PYTHONPATH": str(TOP / "python")}, check=False)
+                done = subprocess.run(["bash", "-c", f'paver() {{ "$PAVER" "$@"; }}; {tools}'], cwd=folder, text=True,
+                                      timeout=60, capture_output=True, check=False,
+                                      env={**os.environ, "PYTHONPATH": str(TOP / "python")})
                 with self.subTest(words):
                     self.assertEqual([line.strip() for line in done.stdout.splitlines()], lines, done.stderr)
 
@@ -180,15 +201,15 @@ class Projections(PackageTest):
 
     def test_cells(self) -> None:
         """Each cell of the plane is of the kind that a count over all boxes gives, and areas are the cells' sums."""
-        for text, eps, x, y in [(BALL, "1", 0, 1), (BALL, "0.5", 2, 0), (WALL, "0.5", 0, 1), (WALL, "0.25", 1, 2),
-                                (SPHERE, "1", 0, 2)]:
+        for text, eps, x, y in [(BALL, "1", 0, 1), (UNBOUNDED, "1", 0, 2), (BALL, "0.5", 2, 0), (WALL, "0.5", 0, 1),
+                                (WALL, "0.25", 1, 2), (SPHERE, "1", 0, 2)]:
             with self.subTest((text, eps, x, y)):
                 paving = paver.run_text(text, eps=eps).paving()
                 found = paver.project(paving, x, y)
                 areas = dict.fromkeys(("some", "none", "rest"), Fraction(0))
                 for (one, other), kind in cells(paving, x, y):
                     areas[kind] += (one[1] - one[0]) * (other[1] - other[0])
-                    self.assertEqual(found.where(((one[0] + one[1]) / 2, (other[0] + other[1]) / 2)), {kind})
+                    self.assertEqual(found.where((middle(one), middle(other))), {kind})
                 self.assertEqual(found.areas(), areas)
 
     def test_none_is_none(self) -> None:
