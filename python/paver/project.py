@@ -28,8 +28,8 @@ if TYPE_CHECKING:
 SHOWN = {"some": "inner", "none": "removed", "rest": "small"}  # the kinds by the classes of the plane's paving
 Shadow = Tuple[int, int, int, int]  # the places of both ends of x, then of y
 Cut = Tuple[int, int]  # a variable of the plane, 0 or 1, and the place where it is cut
-SAMPLE = 64  # shadows that are looked at to find a cut
-FEW = 40  # shadows whose hull is cut off first
+SAMPLE = 8  # shadows that are looked at to find a cut
+FEW = 4  # shadows whose hull is cut off first
 PEELED = 100  # cuts above a cell below which no hull is cut off, so that the way to a cell stays below the limit of 200
 
 
