@@ -17,15 +17,18 @@ from .errors import (
     ContractRefused, Disagree, FolderRefused, KeeperFault, NoFile, NotInProgram, ObjectiveRefused, PaverError, PavingError,
     PavingRefused, ProgramFault, ProgramMissing, ReadFault, SystemEdited, SystemRefused, TaskLost, TreeLimit, UsageError,
     WantOfMemory, WriteFault)
+from .fit import Fit, fit
 from .levels import Levels, least_by_levels
 from .path import Path, PathFault, Verdict, path
 from .paving import Parts, Paving
+from .measurements import FitRefused
 from .picture import svg
 from .plots import plot, plot_projection
 from .program import (
     Answer, audit, audit_centered, campaign, check, check_text, draw, find, merge, resume, run, run_centered, run_text, sample)
 from .robot import robot
 from .robot_file import RobotRefused
+from .project import Projection, project
 from .robust import NotRobust, Robust, robust, vertices_text
 from .roots import Root, find_roots
 from .scale import scaled_text
@@ -38,13 +41,13 @@ from .view import View, view
 from .widen import widened, widened_contract, widened_file
 
 __all__ = [
-    "Answer", "Bounds", "Box", "Cluster", "ContractRefused", "Control", "ControlRefused", "Disagree", "FolderRefused",
-    "Gathered", "KeeperFault", "Levels", "NoFile", "NotInProgram", "NotRobust", "ObjectiveRefused", "Parts", "Path",
-    "PathFault", "PaverError", "Paving", "PavingError", "PavingRefused", "ProgramFault", "ProgramMissing", "Progress",
-    "ReadFault", "RobotRefused", "Robust", "Root", "Sweep", "System", "SystemEdited", "SystemRefused", "TaskLost", "TreeLimit",
-    "UsageError", "Verdict", "View", "WantOfMemory", "WriteFault", "__version__", "audit", "audit_centered", "campaign",
-    "check", "check_text", "control", "control_text", "depth_that_suffices", "draw", "find", "find_roots", "gather", "least",
-    "least_by_levels", "merge", "path", "plot", "plot_projection", "resume", "robot", "robust", "run", "run_centered",
-    "run_text", "sample", "scaled_text", "split", "svg", "sweep", "undecided", "vertices_text", "view", "warnings_of",
-    "widened", "widened_contract", "widened_file",
+    "Answer", "Bounds", "Box", "Cluster", "ContractRefused", "Control", "ControlRefused", "Disagree", "Fit", "FitRefused",
+    "FolderRefused", "Gathered", "KeeperFault", "Levels", "NoFile", "NotInProgram", "NotRobust", "ObjectiveRefused", "Parts",
+    "Path", "PathFault", "PaverError", "Paving", "PavingError", "PavingRefused", "ProgramFault", "ProgramMissing", "Progress",
+    "Projection", "ReadFault", "RobotRefused", "Robust", "Root", "Sweep", "System", "SystemEdited", "SystemRefused", "TaskLost",
+    "TreeLimit", "UsageError", "Verdict", "View", "WantOfMemory", "WriteFault", "__version__", "audit", "audit_centered",
+    "campaign", "check", "check_text", "control", "control_text", "depth_that_suffices", "draw", "find", "find_roots", "fit",
+    "gather", "least", "least_by_levels", "merge", "path", "plot", "plot_projection", "project", "resume", "robot", "robust",
+    "run", "run_centered", "run_text", "sample", "scaled_text", "split", "svg", "sweep", "undecided", "vertices_text", "view",
+    "warnings_of", "widened", "widened_contract", "widened_file",
 ]

@@ -11,8 +11,8 @@ from pathlib import Path
 from typing import TYPE_CHECKING, Any, TextIO
 
 from . import (
-    beside, control_command, errors, explain, levels_command, path_command, program, robot_command, robust_command, scale,
-    sweep_command,
+    beside, control_command, errors, explain, fit_command, levels_command, path_command, program, project_command,
+    robot_command, robust_command, scale, sweep_command,
 )
 from .advice import limits_of, stored_sentences, warnings_of
 from .cover import KEPT, Cover, Name
@@ -180,6 +180,16 @@ def robust_of(arguments: argparse.Namespace) -> int:
     return robust_command.work(arguments, values_of)
 
 
+def project_of(arguments: argparse.Namespace) -> int:
+    """Says for which values of two variables some value of the others is in the set, and for which none is."""
+    return project_command.work(arguments, paving_of, report)
+
+
+def fit_of(arguments: argparse.Namespace) -> int:
+    """Writes the system of a model and a table of measurements, or reports which parameters agree with them."""
+    return fit_command.work(arguments, paving_of, report)
+
+
 def csv_command(arguments: argparse.Namespace) -> int:
     """Prints the kept boxes of a paving as CSV."""
     paving, warnings = paving_of(arguments)
@@ -289,7 +299,7 @@ def parser() -> argparse.ArgumentParser:
     main_parser.add_argument("--program", help="the program's path; else the variable PAVER, else PATH")
     commands = main_parser.add_subparsers(dest="command", required=True)
     for name, work in (("roots", roots), ("summary", summary), ("csv", csv_command), ("plot", plot_command),
-                       ("path", path_of)):
+                       ("path", path_of), ("project", project_of)):
         command = commands.add_parser(name, help=work.__doc__, description=work.__doc__)
         command.set_defaults(work=work)
         command.add_argument("system")
@@ -301,6 +311,7 @@ def parser() -> argparse.ArgumentParser:
     commands.choices["summary"].add_argument("--clusters", action="store_true", help="count the groups of boxes that touch")
     commands.choices["csv"].add_argument("--exactly", action="store_true", help="fractions in place of floats")
     path_command.add_options(commands.choices["path"])
+    project_command.add_options(commands.choices["project"])
     drawn = commands.choices["plot"]
     drawn.add_argument("--picture", required=True, help="the file to write, as ring.png")
     drawn.add_argument("--x", default="0", help="a variable's name or number")
@@ -335,6 +346,7 @@ def more_commands(commands: Commands) -> None:
     levels_command.add_options(bounded)
     robust_command.add_options(add("robust", robust_of))
     robot_command.add_options(add("robot", robot_command.work))
+    fit_command.add_options(add("fit", fit_of))
     explained = add("explain", explain_command)
     explained.usage = "%(prog)s [COMMAND] SYSTEM [--groups N [--agree N]] [--scale [FILE]] [--line] [OPTIONS]"
     explained.epilog = ("Words after COMMAND are those of the program's command, else of run: what is refused of them is told. "

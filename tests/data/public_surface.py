@@ -40,6 +40,10 @@ asked: paver.Control = paver.control("loop.txt", theorems=False)
 print(asked.text, asked.for_all, asked.constraints[0].origin, paver.control_text("stable").polynomial)
 page: paver.View = paver.view("s.mbx", ["f", paving], eps=0.5, form="plain", unchecked=True)
 page.save("page.html")
+plane: paver.Projection = paver.project(paving, "x", 1)
+print(plane.counts(), plane.areas()["some"], plane.where((1, 0)), plane.svg(), plane.page().html, plane.numpy("none"))
+fitted: paver.Fit = paver.fit("model.txt", "data.csv", 1, yerr="0.1", together=2)
+print(fitted.text, fitted.contract, fitted.groups[0][0].line, fitted.outliers)
 try:
     paver.check_text("bad")
 except paver.SystemRefused as fault:
