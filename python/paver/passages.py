@@ -2,6 +2,7 @@
 them that are tried where a box is reached (Lazy Theta*: Nash, Koenig and Tovey, AAAI 2010)."""
 from __future__ import annotations
 
+import math
 from array import array
 from heapq import heappop, heappush
 from itertools import accumulate, chain
@@ -23,7 +24,7 @@ FLAT = 1  # places in which two boxes may meet in one number alone: more is an e
 
 def distance(first: FloatPoint, second: FloatPoint) -> float:
     """How far apart two points are."""
-    return float(sum([(a - b) ** 2 for a, b in zip(first, second)]) ** 0.5)
+    return math.dist(first, second)
 
 
 def share_no_face(first: Ends, second: Ends, flat: int) -> bool:

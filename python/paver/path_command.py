@@ -3,13 +3,13 @@ from __future__ import annotations
 
 import argparse
 import os
-from collections.abc import Callable
+from typing import Callable, List, Tuple
 
 from .numbers import counted
 from .path import Path, Verdict, path, point_of_words
 from .paving import Paving
 
-PavingOf = Callable[[argparse.Namespace], "tuple[Paving, list[str]]"]
+PavingOf = Callable[[argparse.Namespace], Tuple[Paving, List[str]]]
 INNER = "every rational point of it is in the set: each segment was compared with its boxes by exact fractions"
 UNDECIDED = ("undecided boxes may join them: a smaller --eps, or more --boxes where leaves are open, may decide that")
 PARTED = ("the boxes that are kept fall into parts, and the two points are in two of them: each way from one to the other, "

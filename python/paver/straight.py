@@ -43,8 +43,8 @@ def turn(first: FloatPoint, second: FloatPoint, sides: Sides) -> FloatPoint:
     held = [k for k in range(len(lows)) if lows[k] == highs[k]]
     free = [k for k in range(len(lows)) if lows[k] < highs[k]]
     while free:
-        before = math.sqrt(sum([(first[k] - found[k]) ** 2 for k in held]))
-        after = math.sqrt(sum([(second[k] - found[k]) ** 2 for k in held]))
+        before = math.hypot(*[first[k] - found[k] for k in held])
+        after = math.hypot(*[second[k] - found[k] for k in held])
         share = before / (before + after) if before + after else 0.5
         stopped = []
         for k in free:
