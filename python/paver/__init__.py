@@ -11,6 +11,7 @@ Numbers are exact Fractions; floats are rounded outward and come only where they
 from .advice import depth_that_suffices, warnings_of
 from .box import Box, Cluster
 from .canonical import System
+from .decide import Decisions, Largest, Tolerance, decide
 from .errors import (
     ContractRefused, Disagree, FolderRefused, KeeperFault, NoFile, NotInProgram, ObjectiveRefused, PaverError, PavingError,
     PavingRefused, ProgramFault, ProgramMissing, ReadFault, SystemEdited, SystemRefused, TaskLost, TreeLimit, UsageError,
@@ -21,6 +22,7 @@ from .picture import svg
 from .plots import plot, plot_projection
 from .program import (
     Answer, audit, audit_centered, campaign, check, check_text, draw, find, merge, resume, run, run_centered, run_text, sample)
+from .report import report
 from .robust import NotRobust, Robust, robust, vertices_text
 from .roots import Root, find_roots
 from .scale import scaled_text
@@ -33,12 +35,12 @@ from .view import View, view
 from .widen import widened, widened_contract, widened_file
 
 __all__ = [
-    "Answer", "Bounds", "Box", "Cluster", "ContractRefused", "Disagree", "FolderRefused", "Gathered", "KeeperFault", "Levels",
-    "NoFile", "NotInProgram", "NotRobust", "ObjectiveRefused", "Parts", "Paving", "PaverError", "PavingError", "PavingRefused",
-    "ProgramFault", "ProgramMissing", "Progress", "ReadFault", "Robust", "Root", "Sweep", "System", "SystemEdited",
-    "SystemRefused", "TaskLost", "TreeLimit", "UsageError", "View", "WantOfMemory", "WriteFault", "__version__", "audit",
-    "audit_centered", "campaign", "check", "check_text", "depth_that_suffices", "draw", "find", "find_roots", "gather", "least",
-    "least_by_levels", "merge", "plot", "plot_projection", "resume", "robust", "run", "run_centered", "run_text", "sample",
-    "scaled_text", "split", "svg", "sweep", "undecided", "vertices_text", "view", "warnings_of", "widened", "widened_contract",
-    "widened_file",
+    "Answer", "Bounds", "Box", "Cluster", "ContractRefused", "Decisions", "Disagree", "FolderRefused", "Gathered",
+    "KeeperFault", "Largest", "Levels", "NoFile", "NotInProgram", "NotRobust", "ObjectiveRefused", "Parts", "PaverError",
+    "Paving", "PavingError", "PavingRefused", "ProgramFault", "ProgramMissing", "Progress", "ReadFault", "Robust", "Root",
+    "Sweep", "System", "SystemEdited", "SystemRefused", "TaskLost", "Tolerance", "TreeLimit", "UsageError", "View",
+    "WantOfMemory", "WriteFault", "__version__", "audit", "audit_centered", "campaign", "check", "check_text", "decide",
+    "depth_that_suffices", "draw", "find", "find_roots", "gather", "least", "least_by_levels", "merge", "plot",
+    "plot_projection", "report", "resume", "robust", "run", "run_centered", "run_text", "sample", "scaled_text", "split",
+    "svg", "sweep", "undecided", "vertices_text", "view", "warnings_of", "widened", "widened_contract", "widened_file",
 ]

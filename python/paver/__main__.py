@@ -10,7 +10,7 @@ from fractions import Fraction
 from pathlib import Path
 from typing import TYPE_CHECKING, Any, TextIO
 
-from . import beside, errors, explain, levels_command, program, robust_command, scale, sweep_command
+from . import beside, decide_command, errors, explain, levels_command, program, robust_command, scale, sweep_command
 from .advice import limits_of, stored_sentences, warnings_of
 from .cover import KEPT, Cover, Name
 from .ibex import translate
@@ -177,6 +177,16 @@ def robust_of(arguments: argparse.Namespace) -> int:
     return robust_command.work(arguments, values_of)
 
 
+def decide_of(arguments: argparse.Namespace) -> int:
+    """Prints the point whose variables may move farthest and stay proved, and a largest proved box."""
+    return decide_command.decide_command(arguments, paving_of)
+
+
+def report_of(arguments: argparse.Namespace) -> int:
+    """Prints one page of HTML on a stored paving, for a design review: no network, no scripts."""
+    return decide_command.report_command(arguments, options_of(arguments, KEPT_SETTINGS))
+
+
 def csv_command(arguments: argparse.Namespace) -> int:
     """Prints the kept boxes of a paving as CSV."""
     paving, warnings = paving_of(arguments)
@@ -279,7 +289,8 @@ def parser() -> argparse.ArgumentParser:
     main_parser = argparse.ArgumentParser(prog="python3 -m paver", description=__doc__)
     main_parser.add_argument("--program", help="the program's path; else the variable PAVER, else PATH")
     commands = main_parser.add_subparsers(dest="command", required=True)
-    for name, work in (("roots", roots), ("summary", summary), ("csv", csv_command), ("plot", plot_command)):
+    for name, work in (("roots", roots), ("summary", summary), ("csv", csv_command), ("plot", plot_command),
+                       ("decide", decide_of)):
         command = commands.add_parser(name, help=work.__doc__, description=work.__doc__)
         command.set_defaults(work=work)
         command.add_argument("system")
@@ -290,6 +301,8 @@ def parser() -> argparse.ArgumentParser:
     commands.choices["roots"].add_argument("--widen", metavar="D", help="f = 0 is paved as f >= -D; f <= D (1e-9; 0: as it is)")
     commands.choices["summary"].add_argument("--clusters", action="store_true", help="count the groups of boxes that touch")
     commands.choices["csv"].add_argument("--exactly", action="store_true", help="fractions in place of floats")
+    commands.choices["decide"].add_argument("--exactly", action="store_true", help="fractions in place of decimals")
+    decide_command.add_options(commands.choices["decide"])
     drawn = commands.choices["plot"]
     drawn.add_argument("--picture", required=True, help="the file to write, as ring.png")
     drawn.add_argument("--x", default="0", help="a variable's name or number")
@@ -331,6 +344,11 @@ def more_commands(commands: Commands) -> None:
     explained.add_argument("words", nargs=argparse.REMAINDER)
     add_words(add("view", page_command))
     sweep_command.add_options(add("sweep", sweep_command.work))
+    reported = add("report", report_of)
+    reported.add_argument("system")
+    reported.add_argument("paving", help="a stored paving")
+    decide_command.add_options(reported)
+    run_options(reported, KEPT_SETTINGS)
     parted = add("split", split_command)
     parted.add_argument("system")
     parted.add_argument("--parts", type=int, required=True)
