@@ -10,13 +10,13 @@ from pathlib import Path
 from typing import Any
 
 from . import beside
-from .box import exact_number
+from .box import Exact
 from .canonical import System
 from .cover import Name, Pairs
 from .decide import TRIES, Decisions, decide
 from .decide_command import NOTHING, boxes_in_words, digits, spelled
-from .identity import complete
-from .numbers import as_float, printable
+from .identity import complete, identity_of
+from .numbers import as_float, exact, printable
 from .options import KEPT_SETTINGS
 from .paving import Paving
 from .picture import Frame, path_of, svg
@@ -52,6 +52,8 @@ def report(system: str | os.PathLike[str], paving: str | os.PathLike[str], *, sc
     read = Paving.read(paving, system=known, **given)
     read.check_numbers()
     kept = {name: str(value) for name, value in beside.with_kept([paving], given).items() if name in KEPT_SETTINGS}
+    if kept.get("form") is None and read.identity == identity_of(known, {**kept, "form": "centered"}):
+        kept["form"] = "centered"
     found = decide(read, scale, tries)
     source = Path(system).read_bytes().decode(ENCODING)
     words = [f"--scale={name}={value}" for name, value in (scale or {}).items()]
@@ -114,24 +116,18 @@ def question_part(source: str) -> str:
 
 def constraints_part(system: System) -> str:
     """The search box and the constraints as the program understood them."""
-    pairs = [(exact_of(low), exact_of(high)) for low, high in zip(system.root[::2], system.root[1::2])]
+    pairs = [(exact(low), exact(high)) for low, high in zip(system.root[::2], system.root[1::2])]
     domains = [(safe(name), f"[{shown(low, False)}, {shown(high, True)}]") for name, (low, high) in zip(system.names, pairs)]
     rows = [(str(k), f"<code>{safe(one.infix(system.names))}</code>") for k, one in enumerate(system.constraints)]
     return table(domains, ("variable", "search box")) + "\n<p>As the program understood them:</p>\n" + \
         table(rows, ("number", "constraint"))
 
 
-def exact_of(word: str) -> Any:
-    """The exact value of an end of the search box."""
-    from .numbers import exact
-    return exact(word)
-
-
-def shown(value: Any, up: bool) -> str:
+def shown(value: Exact, up: bool) -> str:
     """An end in six digits, rounded to its side; an infinite one as oo."""
     if isinstance(value, float):
         return "oo" if value > 0 else "-oo"
-    return digits(exact_number(value), up)  # type: ignore[arg-type]
+    return digits(value, up)
 
 
 def settings_part(paving: Paving, kept: Mapping[str, str]) -> str:
