@@ -18,7 +18,7 @@ from typing import Dict, Iterable, List, Mapping, Optional, Sequence, Tuple
 
 from .box import Number, exact_number
 from .cover import Cover, Name
-from .tree import Ends, Tree
+from .tree import Ends, Tree, without_collection
 
 FINER = 24  # bits of a point's unit below the paving's
 CANDIDATES = 32  # inner leaves from which a search begins
@@ -70,7 +70,7 @@ class Ground:
         self.unit = 1 << tree.table.shift + FINER  # of a point
         self.whole = common * self.unit  # one scale, in the unit of distances
         self.values = tree.table.values
-        self.all_inner = all_inner(tree)
+        self.unproved = unproved_parts(tree)
 
     def distance(self, point: Sequence[int], ends: Ends) -> int:
         """How far a point is from a box: the greatest of its scaled coordinates' distances."""
@@ -85,22 +85,22 @@ class Ground:
     def room(self, point: Sequence[int]) -> int:
         """How far a point is from the nearest part of positive volume that is not proved; 0 where none is proved around it.
         A point may be of fractions too."""
-        tree, boxes, tos, kinds = self.tree, self.tree.boxes, self.tree.tos, self.tree.kinds
-        best, waiting = max(0, self._within(point)), [(0, 0)]
+        tree, unproved = self.tree, self.unproved
+        best, waiting = max(0, self._within(point)), [(0, 0)] if unproved[0] else []
         while waiting:
             far, k = waiting.pop()
-            if far >= best or self.all_inner[k]:
+            if far >= best:
                 continue
-            box, to = boxes[k], tos[k]
+            box, to = tree.boxes[k], tree.tos[k]
             assert box is not None
-            if kinds[k] not in "CI" or to is None:
+            if tree.kinds[k] not in "CI" or to is None:
                 best = far
                 continue
             if to is not box:
                 best = min([best, *(self.distance(point, part) for part in cut_off(box, to))])
-            if kinds[k] == "C":
-                halves = sorted(((self.distance(point, boxes[half] or self.root), half) for half in tree.halves(k)), reverse=True)
-                waiting += halves
+            if tree.kinds[k] == "C":  # the nearer half last, which is looked at first
+                parts = [(self.distance(point, part), half) for half in tree.halves(k) for part in [unproved[half]] if part]
+                waiting += sorted(parts, reverse=True)
         return best
 
     def _within(self, point: Sequence[int]) -> int:
@@ -121,7 +121,8 @@ class Ground:
             k = waiting.pop()
             box, to = tree.boxes[k], tree.tos[k]
             assert box is not None
-            if not self._overlaps(places, box):
+            part = self.unproved[k]
+            if part is None or not self._overlaps(places, part):
                 continue
             if tree.kinds[k] not in "CI" or to is None:
                 return False
@@ -145,17 +146,16 @@ class Ground:
         face = places[side]
         while waiting:
             node = waiting.pop()
-            box, to = tree.boxes[node], tree.tos[node]
+            box, to, around = tree.boxes[node], tree.tos[node], self.unproved[node]
             assert box is not None
-            # its near end lies beyond what is known to block, or it lies wholly behind the face
-            if sign * (box[2 * k + 1 - up] - best) >= 0 or sign * (box[side] - face) <= 0 or self.all_inner[node]:
+            # all lies beyond what is known to block, or behind the face, or beside the box
+            if around is None or sign * (around[2 * k + 1 - up] - best) >= 0 or sign * (around[side] - face) <= 0 \
+                    or not self._overlaps(places, around, k):
                 continue
-            if not self._overlaps(places, box, k):
-                continue
-            if tree.kinds[node] == "C":
-                waiting += tree.halves(node)
-            blocking = cut_off(box, to) if tree.kinds[node] in "CI" and to is not None else [box]
-            for part in blocking:
+            if tree.kinds[node] == "C":  # the nearer half last, which is looked at first
+                is_high_first = up or tree.variables[node] != k
+                waiting += tree.halves(node) if is_high_first else tree.halves(node)[::-1]
+            for part in cut_off(box, to) if tree.kinds[node] in "CI" and to is not None else [box]:
                 near = part[2 * k + 1 - up]
                 if sign * (near - face) >= 0 and sign * (near - best) < 0 and self._overlaps(places, part, k):
                     best = near
@@ -170,16 +170,32 @@ class Ground:
         return tuple((x - move, x + move) for x, move in zip(point, moves))
 
 
-def all_inner(tree: Tree) -> bytearray:
-    """Of each node whether inner leaves alone fill its box."""
-    found = bytearray(len(tree.kinds))
-    for k in range(len(tree.kinds) - 1, -1, -1):
-        kind = tree.kinds[k]
-        if kind == "I":
-            found[k] = tree.tos[k] == tree.boxes[k]
-        elif kind == "C" and found[k + 1] and found[tree.high[k]]:
-            found[k] = tree.tos[k] == tree.boxes[k]
+def unproved_parts(tree: Tree) -> List[Optional[Ends]]:
+    """Of each node the ends around all of its box that inner leaves don't fill; None where they fill it. So what lies along a
+    face of the set is passed over as a whole."""
+    found: List[Optional[Ends]] = [None] * len(tree.kinds)
+    with without_collection():
+        for k in range(len(tree.kinds) - 1, -1, -1):
+            kind, box, to = tree.kinds[k], tree.boxes[k], tree.tos[k]
+            if kind not in "CI":
+                found[k] = box
+                continue
+            one = around_both(found[k + 1], found[tree.high[k]]) if kind == "C" else None
+            if to is not box and to is not None and box is not None:
+                for part in cut_off(box, to):
+                    one = around_both(one, part)
+            found[k] = one
     return found
+
+
+def around_both(one: Optional[Ends], other: Optional[Ends]) -> Optional[Ends]:
+    """The ends around two boxes; one of them where the other is None."""
+    if one is None or other is None:
+        return one or other
+    if len(one) == 4:  # the usual case, without a loop
+        (a, b, c, d), (e, f, g, h) = one, other
+        return a if a < e else e, b if b > f else f, c if c < g else g, d if d > h else h
+    return tuple([max(x, y) if i & 1 else min(x, y) for i, (x, y) in enumerate(zip(one, other))])
 
 
 def cut_off(box: Ends, to: Ends) -> Iterable[Ends]:
