@@ -316,7 +316,8 @@ def moved(ground: Ground, point: List[int]) -> Tuple[int, List[int]]:
             places = ground.places_of(ground.around(ground.exact(other), moves))
             if not ground.covered(places):
                 break
-            other[k] = (ground.values[ground.reach(places, k, False)] + ground.values[ground.reach(places, k, True)]) << FINER - 1
+            low, high = (ground.values[ground.reach(places, k, up)] for up in (False, True))
+            other[k] = (low + high) << FINER - 1
         better = ground.room(other)
         if better <= room:
             break

@@ -3,16 +3,17 @@ from __future__ import annotations
 
 import argparse
 import sys
-from collections.abc import Callable, Iterable, Mapping
+from collections.abc import Iterable, Mapping
 from decimal import ROUND_CEILING, ROUND_FLOOR, Context, Decimal
 from fractions import Fraction
+from typing import Callable, List, Tuple
 
 from .cover import Name
 from .decide import TRIES, Decisions, Pairs, decide
 from .numbers import decimal
 from .paving import Paving
 
-PavingOf = Callable[[argparse.Namespace], "tuple[Paving, list[str]]"]
+PavingOf = Callable[[argparse.Namespace], Tuple[Paving, List[str]]]
 DIGITS = 6
 NOTHING = "no inner box has a volume: no point has a tolerance that is proved. Take a smaller eps; an equation leaves none"
 

@@ -92,7 +92,8 @@ def marked(text: str) -> str:
 def table(rows: Iterable[Sequence[str]], head: Sequence[str] = ()) -> str:
     """A table of cells that are HTML already."""
     first = "<tr>" + "".join(f"<th>{cell}</th>" for cell in head) + "</tr>\n" if head else ""
-    return "<table>\n" + first + "\n".join(f"<tr>{''.join(f'<td>{cell}</td>' for cell in row)}</tr>" for row in rows) + "\n</table>"
+    body = ["".join(f"<td>{cell}</td>" for cell in row) for row in rows]
+    return "<table>\n" + first + "\n".join(f"<tr>{cells}</tr>" for cells in body) + "\n</table>"
 
 
 def question_of(source: str) -> list[str]:

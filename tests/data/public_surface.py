@@ -35,6 +35,11 @@ swept: paver.Sweep = paver.sweep("s.mbx", "folder", eps=0.5, shares=8, engine=Th
 print(swept.counts["open"], swept.out.name, swept.hours, swept.greatest["seconds"], swept.idle, swept.paving().hull())
 page: paver.View = paver.view("s.mbx", ["f", paving], eps=0.5, form="plain", unchecked=True)
 page.save("page.html")
+decided: paver.Decisions = paver.decide(paving, {"x": 1}, tries=100)
+if decided.tolerance is not None and decided.largest is not None:
+    print(decided.tolerance.point, decided.tolerance.share, decided.tolerance.most, decided.largest.box, decided.scales)
+reported: str = paver.report("s.mbx", "f", scale={"x": Fraction(1)}, eps=0.5)
+print(reported)
 try:
     paver.check_text("bad")
 except paver.SystemRefused as fault:

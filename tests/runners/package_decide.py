@@ -1,4 +1,4 @@
-"""Checks of `decide` and `report`: decisions beside brute force over the boxes that the independent reader finds in the file,
+"""Checks of `decide` and `report`: decisions beside brute force over the boxes that the independent reader finds in a file,
 beside squares in figures whose measures are known, and beside the constraints' exact values at drawn points; the page of a report.
 
     python3 -m tests.runners.package_decide [-k WORD]
@@ -25,12 +25,13 @@ from tests.reference import files, minibex, numbers
 from tests.reference.paver import bound
 from tests.runners.package_stages import exact, kept_of
 from tests.runners.package_test import PackageTest, at, command, example
-from tests.runners.running import PROGRAM, main
+from tests.runners.running import PROGRAM, TOP, main
 
 Pairs = tuple[tuple[Fraction, Fraction], ...]
 TINY = Fraction(1, 1 << 90)
 DISC = "Variables x in [-1,1], y in [-1,1]; Constraints x^2 + y^2 <= 1; end"
 TRIANGLE = "Variables x in [0,4], y in [0,4]; Constraints x + y <= 3; end"
+LONE = "settled 1 cut 0 removed 0 inner 1 small 0 open 0\nI 0:0 1:0\n"  # printed text, whose search box is not known
 STAIRS = "Variables x in [0,8], y in [0,8]; Constraints x >= 1; x <= 6; y >= 1.5; y <= 7; x*y <= 20; end"
 WEDGE = "Variables x in [0,2], y in [0,2], z in [0,1]; Constraints x + y + z <= 2; x >= 0.25; end"
 # Names, texts, eps and scales of small pavings.
@@ -161,9 +162,9 @@ class Decide(PackageTest):
     def test_known(self) -> None:
         """The greatest square in a disc of radius 1 has the half-side 1/sqrt(2), that in the triangle x + y <= 3 has 3/4; what
         is proved comes near it from below."""
-        for text, eps, half, scale in ((DISC, "0.01", math.sqrt(0.5), {"x": 1, "y": 1}), (TRIANGLE, "0.02", 0.75, {"x": 1, "y": 1})):
+        for text, eps, half in ((DISC, "0.01", math.sqrt(0.5)), (TRIANGLE, "0.02", 0.75)):
             with self.subTest(text):
-                found = paver.decide(paver.run_text(text, eps=eps).paving(), scale).tolerance
+                found = paver.decide(paver.run_text(text, eps=eps).paving(), {"x": 1, "y": 1}).tolerance
                 assert found is not None
                 self.assertLessEqual(float(found.share), half)
                 self.assertGreater(float(found.share), 0.95 * half)
@@ -173,7 +174,9 @@ class Decide(PackageTest):
         paving = paver.run_text(DISC, eps="0.1").paving()
         found = paver.decide(paving).largest
         assert found is not None
-        self.assertFalse(any(all(a <= c and d <= b for (a, b), (c, d) in zip(leaf.exact, found.box)) for leaf in paving.inner()))
+        holding = [leaf for leaf in paving.inner()
+                   if all(a <= c and d <= b for (a, b), (c, d) in zip(leaf.exact, found.box))]
+        self.assertEqual(holding, [])
 
     def test_bound_holds_early(self) -> None:
         """With one try the bound is weaker, and holds all the same."""
@@ -190,8 +193,7 @@ class Decide(PackageTest):
         calls: list[tuple[str, Any, dict[str, Any]]] = [
             ("the scale 0 of x", paving, {"scale": {"x": 0}}), ("there is no variable 'w'", paving, {"scale": {"w": 1}}),
             ("'a' is no number", paving, {"scale": {"y": "a"}}), ("x has no bounded domain", endless, {}),
-            ("0 tries", paving, {"tries": 0}), ("the search box", paver.Paving.from_text("settled 1 cut 0 removed 0 inner 1 small 0 "
-             "open 0\nI 0:0 1:0\n"), {})]
+            ("0 tries", paving, {"tries": 0}), ("the search box", paver.Paving.from_text(LONE), {})]
         for text, given, how in calls:
             with self.subTest(text):
                 with self.assertRaisesRegex(ValueError, re.escape(text)):
@@ -304,6 +306,25 @@ class Decide(PackageTest):
             with self.subTest(words[1:]):
                 status, out, err = command("report", *words)
                 self.assertEqual((status, out, err.count("\n")), (2, "", 1), err)
+
+    def test_document(self) -> None:
+        """The commands of DECIDE.md, one after the other, print what stands below them."""
+        text = (TOP / "docs" / "DECIDE.md").read_text()
+        block = re.search(r"^```\n(\$ .*?)^```", text, re.M | re.S)
+        assert block is not None
+        shown = re.findall(r"^\$ (.*)\n((?:[^$\n].*\n)*)", block[1], re.M)
+        self.assertEqual([shlex.split(words)[0] for words, _ in shown], ["./paver", "python3", "python3"])
+        (self.path / "examples").symlink_to(TOP / "examples")
+        for words, lines in shown:
+            call, _, target = words.partition(" > ")
+            given = shlex.split(call)
+            begun = [PROGRAM, *given[1:]] if given[0] == "./paver" else [sys.executable, *given[1:]]
+            done = subprocess.run(begun, cwd=self.path, capture_output=True, text=True, timeout=60, check=False)
+            self.assertEqual(done.returncode, 0, done.stderr)
+            if target:
+                self.assertEqual(self.page_of(done.stdout).headings, PARTS)
+            elif lines:
+                self.assertEqual(done.stdout, lines)
 
 
 if __name__ == "__main__":
