@@ -10,11 +10,12 @@ from typing import Callable, List, Tuple
 
 from .cover import Name
 from .decide import TRIES, Decisions, Pairs, decide
-from .numbers import decimal
+from .numbers import decimal, printable
 from .paving import Paving
 
 PavingOf = Callable[[argparse.Namespace], Tuple[Paving, List[str]]]
 DIGITS = 6
+LONGEST = 24  # signs of a coordinate that is printed as it is
 NOTHING = "no inner box has a volume: no point has a tolerance that is proved. Take a smaller eps; an equation leaves none"
 
 
@@ -54,7 +55,7 @@ def within(pair: tuple[Fraction, Fraction]) -> str:
 def spelled(value: Fraction, exactly: bool) -> str:
     """A coordinate of a decision: its decimals where it has few, else six digits, or with exactly the fraction."""
     text = decimal(value)
-    return str(value) if exactly else text if text is not None and len(text) <= 12 else digits(value, False)
+    return str(value) if exactly else text if text is not None and len(text) <= LONGEST else digits(value, False)
 
 
 def boxes_in_words(found: Decisions, box: Pairs, exactly: bool) -> list[str]:
@@ -87,7 +88,7 @@ def decide_command(arguments: argparse.Namespace, paving_of: PavingOf) -> int:
     found = decide(paving, scales, arguments.tries)
     print("\n".join(lines_of(found, arguments.exactly)))
     for sentence in warnings:
-        print(f"note: {sentence}", file=sys.stderr)
+        print(f"note: {printable(sentence)}", file=sys.stderr)
     return 1 if found.tolerance is None else 0
 
 

@@ -17,7 +17,7 @@ from .decide import TRIES, Decisions, decide
 from .decide_command import NOTHING, boxes_in_words, digits, spelled
 from .identity import complete, identity_of
 from .numbers import as_float, exact, printable
-from .options import KEPT_SETTINGS
+from .options import KEPT_SETTINGS, words_of
 from .paving import Paving
 from .picture import Frame, path_of, svg
 from .plots import axes_of, finite_axes
@@ -51,7 +51,7 @@ def report(system: str | os.PathLike[str], paving: str | os.PathLike[str], *, sc
     given = {name: value for name, value in settings.items() if value is not None}
     read = Paving.read(paving, system=known, **given)
     read.check_numbers()
-    kept = {name: str(value) for name, value in beside.with_kept([paving], given).items() if name in KEPT_SETTINGS}
+    kept = {name: word for name, word in words_of(beside.with_kept([paving], given)).items() if name in KEPT_SETTINGS}
     if kept.get("form") is None and read.identity == identity_of(known, {**kept, "form": "centered"}):
         kept["form"] = "centered"
     found = decide(read, scale, tries)
@@ -134,8 +134,8 @@ def shown(value: Exact, up: bool) -> str:
 def settings_part(paving: Paving, kept: Mapping[str, str]) -> str:
     rows = [(name, f"<code>{safe(word)}</code>") for name, word in complete(kept).items()]
     rows.append(("identity", f"<code>{safe(paving.identity or '')}</code>"))
-    return table(rows) + "\n<p>The identity is the SHA-256 of the system as the program understood it and of these settings; it " \
-        "was compared.</p>"
+    return table(rows) + "\n<p>The identity is the SHA-256 of the system as the program understood it and of these " \
+        "settings; it was compared.</p>"
 
 
 def volumes_part(paving: Paving) -> str:

@@ -1,5 +1,6 @@
 """Checks of `decide` and `report`: decisions beside brute force over the boxes that the independent reader finds in a file,
-beside squares in figures whose measures are known, and beside the constraints' exact values at drawn points; the page of a report.
+beside squares in figures whose measures are known, and beside the constraints' exact values at drawn points; the page of a
+report.
 
     python3 -m tests.runners.package_decide [-k WORD]
 """
@@ -231,7 +232,8 @@ class Decide(PackageTest):
 
     def test_digits(self) -> None:
         """Six digits, rounded to their side."""
-        for value, up, text in ((Fraction(1, 3), False, "0.333333"), (Fraction(1, 3), True, "0.333334"), (Fraction(0), True, "0"),
+        for value, up, text in ((Fraction(1, 3), False, "0.333333"), (Fraction(1, 3), True, "0.333334"),
+                                (Fraction(0), True, "0"),
                                 (Fraction(-2, 3), False, "-0.666667"), (Fraction(1234567), False, "1234560"),
                                 (Fraction(5, 4), True, "1.25"), (Fraction(1, 10 ** 9), True, "1E-9")):
             self.assertEqual(digits(value, up), text)
