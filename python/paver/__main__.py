@@ -11,8 +11,8 @@ from pathlib import Path
 from typing import TYPE_CHECKING, Any, TextIO
 
 from . import (
-    beside, control_command, errors, explain, fit_command, levels_command, path_command, program, project_command,
-    robot_command, robust_command, scale, sweep_command,
+    beside, control_command, decide_command, errors, explain, fit_command, levels_command, path_command, program,
+    project_command, robot_command, robust_command, scale, sweep_command,
 )
 from .advice import limits_of, stored_sentences, warnings_of
 from .cover import KEPT, Cover, Name
@@ -188,6 +188,12 @@ def project_of(arguments: argparse.Namespace) -> int:
 def fit_of(arguments: argparse.Namespace) -> int:
     """Writes the system of a model and a table of measurements, or reports which parameters agree with them."""
     return fit_command.work(arguments, paving_of, report)
+def decide_of(arguments: argparse.Namespace) -> int:
+    """Prints the point whose variables may move farthest and stay proved, and a largest proved box."""
+    return decide_command.decide_command(arguments, paving_of)
+def report_of(arguments: argparse.Namespace) -> int:
+    """Prints one page of HTML on a stored paving, for a design review: no network, no scripts."""
+    return decide_command.report_command(arguments, options_of(arguments, KEPT_SETTINGS))
 
 
 def csv_command(arguments: argparse.Namespace) -> int:
@@ -299,7 +305,7 @@ def parser() -> argparse.ArgumentParser:
     main_parser.add_argument("--program", help="the program's path; else the variable PAVER, else PATH")
     commands = main_parser.add_subparsers(dest="command", required=True)
     for name, work in (("roots", roots), ("summary", summary), ("csv", csv_command), ("plot", plot_command),
-                       ("path", path_of), ("project", project_of)):
+                       ("path", path_of), ("project", project_of), ("decide", decide_of)):
         command = commands.add_parser(name, help=work.__doc__, description=work.__doc__)
         command.set_defaults(work=work)
         command.add_argument("system")
@@ -312,6 +318,8 @@ def parser() -> argparse.ArgumentParser:
     commands.choices["csv"].add_argument("--exactly", action="store_true", help="fractions in place of floats")
     path_command.add_options(commands.choices["path"])
     project_command.add_options(commands.choices["project"])
+    commands.choices["decide"].add_argument("--exactly", action="store_true", help="fractions in place of decimals")
+    decide_command.add_options(commands.choices["decide"])
     drawn = commands.choices["plot"]
     drawn.add_argument("--picture", required=True, help="the file to write, as ring.png")
     drawn.add_argument("--x", default="0", help="a variable's name or number")
@@ -356,6 +364,11 @@ def more_commands(commands: Commands) -> None:
     explained.add_argument("words", nargs=argparse.REMAINDER)
     add_words(add("view", page_command))
     sweep_command.add_options(add("sweep", sweep_command.work))
+    reported = add("report", report_of)
+    reported.add_argument("system")
+    reported.add_argument("paving", help="a stored paving")
+    decide_command.add_options(reported)
+    run_options(reported, KEPT_SETTINGS)
     parted = add("split", split_command)
     parted.add_argument("system")
     parted.add_argument("--parts", type=int, required=True)

@@ -44,6 +44,11 @@ plane: paver.Projection = paver.project(paving, "x", 1)
 print(plane.counts(), plane.areas()["some"], plane.where((1, 0)), plane.svg(), plane.page().html, plane.numpy("none"))
 fitted: paver.Fit = paver.fit("model.txt", "data.csv", 1, yerr="0.1", together=2)
 print(fitted.text, fitted.contract, fitted.groups[0][0].line, fitted.outliers)
+decided: paver.Decisions = paver.decide(paving, {"x": 1}, tries=100)
+if decided.tolerance is not None and decided.largest is not None:
+    print(decided.tolerance.point, decided.tolerance.share, decided.tolerance.most, decided.largest.box, decided.scales)
+reported: str = paver.report("s.mbx", "f", scale={"x": Fraction(1)}, eps=0.5)
+print(reported)
 try:
     paver.check_text("bad")
 except paver.SystemRefused as fault:
