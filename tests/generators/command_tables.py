@@ -1,5 +1,6 @@
 """Writes what is made of the table of commands and options, python/paver/commands.py: README's table of commands, the synopsis
-of the manual page (and its version, from python/paver/version.py), and the completions of three shells.
+of the manual page (and its version, from python/paver/version.py), and the completions of three shells; and, of crates.txt, the
+table of crates in docs/ARCHITECTURE.md.
 
     python3 -m tests.generators.command_tables      or `make tables`
 """
@@ -9,9 +10,10 @@ import re
 
 from paver.commands import COMMANDS, OPTIONS, SETTINGS, Command, Option
 from paver.version import VERSION
+from tests.generators import crate_table
 from tests.runners.running import TOP
 
-README, MANUAL = TOP / "README.md", TOP / "docs" / "paver.1"
+README, MANUAL, CODE = TOP / "README.md", TOP / "docs" / "paver.1", TOP / "docs" / "ARCHITECTURE.md"
 ROWS = "|---|---|---|\n| `check SYSTEM`", "\n\n| status |"  # around README's rows: the first row's beginning is part of them
 SYNOPSIS = ".SH SYNOPSIS\n", ".SH DESCRIPTION\n"
 SYSTEMS = '_files -g "*.mbx"'
@@ -176,7 +178,8 @@ set -l commands {' '.join(COMMANDS)}
 def made() -> dict[str, str]:
     """Each file that is made, whole or in part, and its text."""
     folder = "completions"
-    return {"README.md": readme(README.read_text()), "docs/paver.1": manual(MANUAL.read_text()), f"{folder}/paver.bash": bash(),
+    return {"README.md": readme(README.read_text()), "docs/paver.1": manual(MANUAL.read_text()),
+            "docs/ARCHITECTURE.md": crate_table.architecture(CODE.read_text()), f"{folder}/paver.bash": bash(),
             f"{folder}/_paver": zsh(), f"{folder}/paver.fish": fish()}
 
 
