@@ -1,5 +1,6 @@
 """Writes what is made of the table of commands and options, python/paver/commands.py: the table of commands in docs/USING.md,
-the synopsis of the manual page (and its version, from python/paver/version.py), and the completions of three shells.
+the synopsis of the manual page (and its version, from python/paver/version.py), and the completions of three shells; and, of
+crates.txt, the table of crates in docs/ARCHITECTURE.md.
 
     python3 -m tests.generators.command_tables      or `make tables`
 """
@@ -10,9 +11,10 @@ import re
 from paver.commands import COMMANDS, OPTIONS, Command, Option
 from paver.options import KEPT_SETTINGS
 from paver.version import VERSION
+from tests.generators import crate_table
 from tests.runners.running import TOP
 
-USING, MANUAL = TOP / "docs" / "USING.md", TOP / "docs" / "paver.1"
+USING, MANUAL, CODE = TOP / "docs" / "USING.md", TOP / "docs" / "paver.1", TOP / "docs" / "ARCHITECTURE.md"
 ROWS = "|---|---|---|\n| `check SYSTEM`", "\n\n## Options"  # around the rows: the first row's beginning is part of them
 SYNOPSIS = ".SH SYNOPSIS\n", ".SH DESCRIPTION\n"
 SYSTEMS = '_files -g "*.mbx"'
@@ -180,7 +182,8 @@ def made() -> dict[str, str]:
     """Each file that is made, whole or in part, and its text."""
     folder = "completions"
     return {"docs/USING.md": using(USING.read_text()), "docs/paver.1": manual(MANUAL.read_text()),
-            f"{folder}/paver.bash": bash(), f"{folder}/_paver": zsh(), f"{folder}/paver.fish": fish()}
+            "docs/ARCHITECTURE.md": crate_table.architecture(CODE.read_text()), f"{folder}/paver.bash": bash(),
+            f"{folder}/_paver": zsh(), f"{folder}/paver.fish": fish()}
 
 
 def main() -> None:

@@ -26,14 +26,16 @@ HEAD = """# Gallery
 
 For engineers who look for a question like theirs.
 
-Each example of `examples/`, with its question, the command that answers it and the first line of the answer. Green boxes are inner: every rational point of them is in the set. Grey parts are removed: no rational point of them is. (Of irrational points, as most poses that equations ask for are, that says nothing: [ANSWERS.md](ANSWERS.md#equations) says what does.) Yellow boxes are undecided. Of three variables and more a picture is a slice, or the projection on two variables, where green says that some values of the other variables are in the set, and grey that none are; some are drawn with another eps or depth than that of the first command. `examples/pictures.sh` draws them all, `tests/generators/gallery.py` writes this page. Each can be looked at in a browser, too: `python3 -m paver view` writes a page with the boxes, their exact ends and a slider for each other variable, as [that of the PI gains](view/pi_gains.html).
+Each example of `examples/` has its question, the command that answers it and the first line of the answer; the file's head says more. Green boxes are inner: each of their rational points is in the set. Grey parts are removed: none of their rational points is. Yellow boxes are undecided. [ANSWERS.md](ANSWERS.md#equations) says what holds of irrational points.
+
+With three variables and more a picture is a slice, or the projection on two variables: green then says that some values of the other variables are in the set, and grey that none are. `examples/pictures.sh` draws all pictures, some with another eps or depth, and `tests/generators/gallery.py` writes this page. `python3 -m paver view` writes a page for a browser, as [that of the PI gains](view/pi_gains.html).
 """
 
 
 SIDE_BY_SIDE = """
 ## By centered forms
 
-`run-centered` tests each box by the centered forms of the constraints too ([the rule](RULES.md#centered-forms)). Where variables stand in a constraint several times it settles fewer boxes and leaves less undecided, and each box takes longer. The last column is what that is worth: how many nodes `run` settles, with eps halved as often as needed, to leave no greater volume undecided than `run-centered` does (- where 100,000 are too few). In the ring each variable stands once in each constraint, and nothing is won. One worker, each example's own eps, the best of five runs by an unproved build on a busy machine:
+`run-centered` tests each box by the centered forms of the constraints too ([the rule](RULES.md#centered-forms)). If variables stand in a constraint several times, it settles fewer boxes and leaves less undecided, and each box takes longer. The last column says how many nodes `run` settles, with smaller eps, to leave no more undecided (- if 100,000 are too few). One worker, each example's own eps, the best of five runs of an unproved build on a busy machine:
 
 | example | `run`: nodes | seconds | `run-centered`: nodes | seconds | nodes of `run` for as little undecided |
 |---|---|---|---|---|---|
@@ -42,14 +44,14 @@ SIDE_BY_SIDE = """
 LEAST_HEAD = """
 ## Least values
 
-The next two ask for the least value of an expression. No value on the set is below the lower bound; the point is in the set, and its value is at most the upper bound. The numbers are rounded outward to six digits here. Leaves are settled in their order, so the lower bound moves once the search comes to its end, and then it is as good as the width of the small boxes lets it be. The answers are those that the plain paver worked out.
+No value on the set is below the lower bound; the point is in the set, and its value is at most the upper bound. Numbers are rounded outward to six digits here. Leaves are settled in their order, so the lower bound moves once the search ends. The plain paver worked these answers out.
 """
 
 VIEWED = "pi_gains"  # whose page is kept, see view_picture.py
 LEVELS_HEAD = """
 ### By levels
 
-`python3 -m paver least SYSTEM --of TEXT --levels` asks a level c by `run-centered` of the system with the constraint `TEXT <= c`: where nothing is kept, no rational point of the set has a value at or below c ([ANSWERS.md](ANSWERS.md#least-values-by-levels)). It finds where to ask by itself, and brings the bounds of these two within 0.001 by two or three calls. What two levels show, as the plain paver worked it out:
+`python3 -m paver least SYSTEM --of TEXT --levels` asks a level c by `run-centered` of the system with the constraint `TEXT <= c`: if nothing is kept, no rational point of the set has a value at or below c ([ANSWERS.md](ANSWERS.md#least-values-by-levels)). Two or three calls bring the bounds of these two within 0.001. What two levels show, as the plain paver worked it out:
 
 | example | level | run with the level | so | a point of the set |
 |---|---|---|---|---|
@@ -58,13 +60,13 @@ LEVELS_HEAD = """
 ROBUST_HEAD = """
 ## For all values
 
-`python3 -m paver robust SYSTEM --for-all p,q` asks for which values of the other variables all constraints hold, whatever p and q are in their domains ([ANSWERS.md](ANSWERS.md#for-all-values-of-some-variables)). Green is sure; grey is refuted, each box by one choice of p and q; yellow is neither. The answers are those that the plain paver's pavings come to.
+`python3 -m paver robust SYSTEM --for-all p,q` asks for which values of the other variables all constraints hold, whatever p and q are in their domains ([ANSWERS.md](ANSWERS.md#for-all-values-of-some-variables)). Green is sure; grey is refuted, each box by one choice of p and q; yellow is neither.
 """
 
 ASKED = """
 ## Questions on an answer
 
-What is asked of a paving once it is there, or of a call that was refused. `..` stands for lines that are left out here; what each says, and what it rests on, stands in [ANSWERS.md](ANSWERS.md#a-stored-paving).
+These ask a paving that is there, or a call that was refused. `..` stands for lines that are left out; [ANSWERS.md](ANSWERS.md#a-stored-paving) says what each answer rests on.
 
 ### What is undecided
 
@@ -150,10 +152,13 @@ def title_of(name: str) -> str:
 
 
 def question_of(name: str) -> str:
-    """The comment at the head of the file without its command, quoted line by line."""
+    """The question at the head of the file, quoted: its comment up to the first line that ends with a question mark."""
     text = (TOP / "examples" / f"{name}.mbx").read_text()
-    lines = [line[2:] for line in takewhile(lambda line: line.startswith("//"), text.splitlines())]
-    return "\n".join(f"> {line.strip()}  " for line in lines if "  paver " not in line and "  python3 -m " not in line)
+    lines = [line[2:].strip() for line in takewhile(lambda line: line.startswith("//"), text.splitlines())]
+    end = next((place for place, line in enumerate(lines) if line.endswith("?")), None)
+    if end is None:
+        raise ValueError(f"examples/{name}.mbx begins with no question")
+    return "\n".join(f"> {line}  " for line in lines[:end + 1])
 
 
 def summaries() -> dict[str, str]:

@@ -1,5 +1,5 @@
 """Checks docs/READING.md, whose commands give what it shows, and with docs/PROOFS.md and docs/GLOSSARY.md that each named line
-of a file has the name.
+of a file has the name, and with docs/LIBRARY.md that the lines of a program are the program's.
 
     [MEND=yes] python3 -m tests.runners.reading
 
@@ -51,6 +51,13 @@ class Reading(FolderTest):
             for name, line, to in links:
                 with self.subTest(name, file=to):
                     self.assertIn(int(line), declared(name, page.parent / to))
+
+    def test_library(self) -> None:
+        """The lines that docs/LIBRARY.md shows stand in the program that it names, one after the other."""
+        shown = re.findall(r"^```\n(.*?)^```", (TOP / "docs" / "LIBRARY.md").read_text(), re.M | re.S)
+        program = [line.strip() for line in (TOP / "build" / "first_look.rt.txt").read_text().splitlines()]
+        self.assertEqual(len(shown), 1)
+        self.assertIn("\n".join(line.strip() for line in shown[0].splitlines()), "\n".join(program))
 
     def test_commands(self) -> None:
         blocks = re.findall(r"^```\n(.*?)^```", self.text, re.M | re.S)

@@ -245,6 +245,26 @@ class Tables(FolderTest):
         with self.subTest("the values of fuzz_words"):
             self.assertEqual(set(fuzz_words.Words.VALUES) | set(options.COMMANDS["sample"]) | {"at"}, set(NAMES))
 
+    def test_crates(self) -> None:
+        """What docs/ARCHITECTURE.md says that each crate stands on brings what crates.txt says, and nothing else; a crate
+        stands behind those that it stands on."""
+        lines = (line.split(":") for line in (TOP / "crates.txt").read_text().splitlines() if not line.startswith("#"))
+        listed = {name: rest.split() for name, rest in lines}
+        page = (TOP / "docs" / "ARCHITECTURE.md").read_text()
+        rows = {name: re.findall(r"`(\w+)`", on) for name, on in re.findall(r"^\| `(\w+)` \| .* \| ([^|]*) \|$", page, re.M)
+                if name in listed or re.match(r"(pv|test|claims|bench)_", name)}
+        self.assertEqual(sorted(rows), sorted(listed))
+        whole: dict[str, set[str]] = {}  # what each brings by its row
+        for name, libraries in listed.items():
+            with self.subTest(f"{name} in crates.txt"):
+                self.assertLessEqual({library for library in libraries if library in listed}, set(whole))
+            whole[name] = {low for library in rows[name] for low in {library, *whole.get(library, ())}}
+            with self.subTest(f"the row of {name}"):
+                self.assertTrue(set(rows[name]) <= set(libraries) <= whole[name], (rows[name], libraries))
+        folders = {path.name for path in (TOP / "crates").iterdir() if path.is_dir()} | {"paver"}
+        with self.subTest("crates that are there"):
+            self.assertEqual(set(listed), folders)
+
     def test_version(self) -> None:
         """One version, in python/paver/version.py; what else tells it agrees."""
         told = {"manual": re.search(r'^\.TH PAVER 1 "[0-9-]+" "paver ([0-9.]+)"', MANUAL),
