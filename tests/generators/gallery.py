@@ -24,18 +24,16 @@ TOP = Path(__file__).resolve().parents[2]
 
 HEAD = """# Gallery
 
-For engineers who look for a question like theirs.
-
 Each example of `examples/` has its question, the command that answers it and the first line of the answer; the file's head says more. Green boxes are inner: each of their rational points is in the set. Grey parts are removed: none of their rational points is. Yellow boxes are undecided. [ANSWERS.md](ANSWERS.md#equations) says what holds of irrational points.
 
-With three variables and more a picture is a slice, or the projection on two variables: green then says that some values of the other variables are in the set, and grey that none are. `examples/pictures.sh` draws all pictures, some with another eps or depth, and `tests/generators/gallery.py` writes this page. `python3 -m paver view` writes a page for a browser, as [that of the PI gains](view/pi_gains.html).
+With three variables and more a picture is a slice, or the projection on two variables: green then says that some values of the other variables are in the set, and grey that none are. `python3 -m paver plot SYSTEM OPTIONS --picture FILE.svg` draws each, with the options of its command if none stand below it.
 """
 
 
 SIDE_BY_SIDE = """
 ## By centered forms
 
-`run-centered` tests each box by the centered forms of the constraints too ([the rule](RULES.md#centered-forms)). If variables stand in a constraint several times, it settles fewer boxes and leaves less undecided, and each box takes longer. The last column says how many nodes `run` settles, with smaller eps, to leave no more undecided (- if 100,000 are too few). One worker, each example's own eps, the best of five runs of an unproved build on a busy machine:
+`run-centered` tests each box by [centered forms](RULES.md#centered-forms) too. The last column says how many nodes `run` settles, with smaller eps, to leave no more undecided (- if 100,000 are too few). One worker, each example's own eps, the best of five runs of an unproved build on a busy machine:
 
 | example | `run`: nodes | seconds | `run-centered`: nodes | seconds | nodes of `run` for as little undecided |
 |---|---|---|---|---|---|
@@ -44,14 +42,14 @@ SIDE_BY_SIDE = """
 LEAST_HEAD = """
 ## Least values
 
-No value on the set is below the lower bound; the point is in the set, and its value is at most the upper bound. Numbers are rounded outward to six digits here. Leaves are settled in their order, so the lower bound moves once the search ends. The plain paver worked these answers out.
+No value on the set is below the lower bound; the point is in the set, and its value is at most the upper bound. The tables round outward to six digits. Leaves are settled in their order, so the lower bound moves once the search ends.
 """
 
 VIEWED = "pi_gains"  # whose page is kept, see view_picture.py
 LEVELS_HEAD = """
 ### By levels
 
-`python3 -m paver least SYSTEM --of TEXT --levels` asks a level c by `run-centered` of the system with the constraint `TEXT <= c`: if nothing is kept, no rational point of the set has a value at or below c ([ANSWERS.md](ANSWERS.md#least-values-by-levels)). Two or three calls bring the bounds of these two within 0.001. What two levels show, as the plain paver worked it out:
+What two levels of [`least --levels`](ANSWERS.md#least-values-by-levels) show; two or three bring these bounds within 0.001:
 
 | example | level | run with the level | so | a point of the set |
 |---|---|---|---|---|
@@ -60,17 +58,17 @@ LEVELS_HEAD = """
 ROBUST_HEAD = """
 ## For all values
 
-`python3 -m paver robust SYSTEM --for-all p,q` asks for which values of the other variables all constraints hold, whatever p and q are in their domains ([ANSWERS.md](ANSWERS.md#for-all-values-of-some-variables)). Green is sure; grey is refuted, each box by one choice of p and q; yellow is neither.
+[`robust`](ANSWERS.md#for-all-values-of-some-variables) asks for which values of the other variables all constraints hold, whatever those of `--for-all` are. Green is sure; grey is refuted, each box by one choice of their values; yellow is neither. `--picture FILE.svg` draws it.
 """
 
 ASKED = """
 ## Questions on an answer
 
-These ask a paving that is there, or a call that was refused. `..` stands for lines that are left out; [ANSWERS.md](ANSWERS.md#a-stored-paving) says what each answer rests on.
+`..` stands for lines that are left out; [ANSWERS.md](ANSWERS.md#a-stored-paving) says what each answer rests on.
 
 ### What is undecided
 
-> Where is what is undecided, and by which constraints, so that I know what to widen, cut or scale?
+> By which constraints are boxes undecided?
 
 ```
 $ python3 -m paver summary examples/ring.mbx
@@ -83,7 +81,7 @@ undecided, looking at all 172 small and open boxes:
 
 ### Scales
 
-> My variables have units of very different size: which scale would serve?
+> Which scale would serve variables of very different size?
 
 `pump.mbx` has `Variables speed in [0,4], flow in [0,40000]; Constraints speed^2 + flow <= 20000; end`.
 
@@ -95,7 +93,7 @@ speed is 4 wide, 4 orders less than most: take speed in [0, 40000] and write spe
 
 ### Points, volumes and the hull
 
-> In which part of the answer does a point lie, how great is it, and where does what is kept end?
+> In which part of the answer does a point lie, how great is each, and where does what is kept end?
 
 ```pycon
 >>> import math, paver
@@ -111,7 +109,7 @@ True
 
 ### An answer to another question
 
-> Is this file an answer to my system, with these settings? And what does a slice say where nothing was searched?
+> Is this file an answer to my system, with these settings?
 
 ```
 $ paver run examples/ring.mbx --eps 0.25 --out ring.paving
@@ -126,7 +124,7 @@ paver: kd = 50 lies outside the search box, whose ends are -2 and 4: of what is 
 
 ### A refusal
 
-> Why is my text refused, or my call, and how is it written?
+> Why is my text or call refused?
 
 `between.mbx` has `Variables x in [0,4], y in [0,4]; Constraints 1 <= x + y <= 3; end`.
 
@@ -191,9 +189,16 @@ $ {command_of("paver", "run", system, *words)}
 ```
 
 ![{title_of(name)}](pictures/{name}.svg)
+{drawn_with(words, drawn)}{viewed(name, words)}"""
 
-Drawn by `{command_of("python3", "-m", "paver", "plot", system, *drawn, "--picture", f"{name}.svg")}`.
-{viewed(name, words)}"""
+
+def drawn_with(words: Sequence[str], drawn: Sequence[str]) -> str:
+    """A line on the options of a picture, if they are not those of its command."""
+    own = [*words] if "--eps" in words or "--depth" in words else ["--eps", "0.125", *words]
+    if [*drawn[:len(own)]] != own:
+        return f"\nDrawn with `{command_of(*drawn)}`.\n"
+    more = drawn[len(own):]
+    return f"\nDrawn with `{command_of(*more)}`, too.\n" if more else ""
 
 
 def viewed(name: str, words: Sequence[str]) -> str:
@@ -201,7 +206,7 @@ def viewed(name: str, words: Sequence[str]) -> str:
     if name != VIEWED:
         return ""
     command = command_of("python3", "-m", "paver", "view", f"examples/{name}.mbx", *words)
-    return f"\nTo move in, box by box: [a page for any browser](view/{name}.html), written by `{command} > {name}.html`.\n"
+    return f"\n[A page for any browser](view/{name}.html), written by `{command} > {name}.html`.\n"
 
 
 def side_by_side() -> str:
@@ -276,7 +281,7 @@ $ python3 -m paver robust examples/{name}.mbx {" ".join(words)}
 
 ![{title_of(name)}](pictures/{name}.svg)
 
-Drawn by `python3 -m paver robust examples/{name}.mbx {drawn} --picture {name}.svg`.
+Drawn with `{drawn.removeprefix(" ".join(words[:2])).strip()}`.
 """
 
 
