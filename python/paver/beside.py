@@ -10,18 +10,27 @@ from pathlib import Path
 from typing import Any, Dict, Mapping, Optional, Union
 
 from . import kept
-from .errors import PavingError
+from .errors import PavingError, UsageError
 from .options import KEPT_SETTINGS, words_of
+from .sweep_task import whole_file
 from .version import VERSION
 
 PathName = Union[str, "os.PathLike[str]"]
 WRITER = "paver"
 LONGEST = 1 << 20
+LONGEST_NAME = 244  # bytes of a name that leave room for what is kept beside the file
 
 
 def name_of(path: PathName) -> Path:
     """The file that has the settings of a stored paving."""
     return Path(f"{os.fspath(path)}.json")
+
+
+def need_name(path: PathName) -> None:
+    """UsageError where a name is too long for what is kept beside the file, before anything is stored under it."""
+    length = len(os.fsencode(os.path.basename(os.fspath(path))))
+    if length > LONGEST_NAME:
+        raise UsageError(2, f"{os.fspath(path)}: the name has {length} bytes, and {LONGEST_NAME} are the most")
 
 
 def identity_of(path: PathName) -> Optional[str]:
@@ -48,9 +57,8 @@ def keep(path: PathName, command: str, system: PathName, source: Optional[bytes]
     found = {"written_by": WRITER, "version": VERSION, "command": command, "system": os.fspath(system),
              "system_sha256": None if source is None else hashlib.sha256(source).hexdigest(), "identity": identity,
              "settings": {name: word for name, word in words_of(settings).items() if name in KEPT_SETTINGS}}
-    made = target.with_name(f".{target.name}.{os.getpid()}")
-    made.write_text(json.dumps(found, indent=1) + "\n")
-    os.replace(made, target)
+    with whole_file(str(target)) as file:
+        file.write(json.dumps(found, indent=1) + "\n")
 
 
 def content_of(target: Path) -> Dict[str, Any]:

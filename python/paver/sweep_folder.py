@@ -72,12 +72,8 @@ class Folder:
         """Writes the manifest, unless it was written fewer seconds ago."""
         if time.monotonic() - self.saved < at_least:
             return
-        made = self.path / f".{MANIFEST}.{os.getpid()}"
-        with open(made, "w", encoding="utf-8") as file:
+        with sweep_task.whole_file(str(self.path / MANIFEST)) as file:
             file.write(json.dumps(self.manifest, indent=1) + "\n")
-            file.flush()
-            os.fsync(file.fileno())
-        os.replace(made, self.path / MANIFEST)
         self.saved = time.monotonic()
 
     def begin(self, system: str, known: System, settings: Mapping[str, str], source: bytes) -> None:
@@ -143,7 +139,8 @@ class Folder:
 
     def tidy(self) -> None:
         """Takes away what tasks and calls that were killed left half written."""
-        for path in [*self.path.glob(f".{MANIFEST}.*"), *(path for place in PLACES for path in (self.path / place).glob(".*"))]:
+        for path in [*self.path.glob(f".*{sweep_task.NEW}"),
+                     *(path for place in PLACES for path in (self.path / place).glob(".*"))]:
             path.unlink(missing_ok=True)
 
 

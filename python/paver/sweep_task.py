@@ -20,14 +20,16 @@ import subprocess
 import sys
 import time
 from concurrent.futures import ThreadPoolExecutor
+from contextlib import contextmanager
 from types import FrameType
-from typing import Any, Dict, Iterator, List, Optional, Tuple
+from typing import Any, Dict, Iterator, List, Optional, TextIO, Tuple
 
 SUMMARY = re.compile(r"settled (\d+) cut (\d+) removed (\d+) inner (\d+) small (\d+) open (\d+)\n\Z", re.A)
 FIELDS = ("settled", "cut", "removed", "inner", "small", "open")
 REFUSED, READ_FAULT, WRITE_FAULT, NO_MEMORY, TREE_LIMIT = 4, 5, 6, 7, 8  # statuses of the program
 BRAKE = 1  # seconds after a fault of the machine: one whose disk is full shall not take the tasks of all others
 CHUNK = 1 << 20
+NEW = ".part"  # ends the name of a file that takes its own place only when it is whole
 REMEDY = "take it away, and the next call makes it again"
 running: List["subprocess.Popen[str]"] = []
 
@@ -38,6 +40,34 @@ class Fault(Exception):
     def __init__(self, status: int, line: str, name: str = "") -> None:
         super().__init__(line)
         self.status, self.line, self.name = status, line, name
+
+
+# ---- files that are there whole or not at all: the whole package takes these two from here, as this file stands alone
+
+@contextmanager
+def in_place_of(target: str) -> Iterator[Tuple[int, str]]:
+    """A new file beside a target: its descriptor, which the caller closes, and its name. It takes the target's place where the
+    block ends well, and is taken away where it doesn't. The name holds 64 random bits and is made exclusively, so that no link
+    that another put there is followed."""
+    name = os.path.join(os.path.dirname(target), f".{os.urandom(8).hex()}{NEW}")
+    number = os.open(name, os.O_WRONLY | os.O_CREAT | os.O_EXCL | os.O_NOFOLLOW | os.O_CLOEXEC, 0o666)
+    try:
+        yield number, name
+        os.replace(name, target)
+    except BaseException:
+        if os.path.lexists(name):
+            os.unlink(name)
+        raise
+
+
+@contextmanager
+def whole_file(target: str) -> Iterator[TextIO]:
+    """The same as a file of text, which is on the disk before it takes the target's place."""
+    with in_place_of(target) as (number, _):
+        with open(number, "w", encoding="utf-8") as file:
+            yield file
+            file.flush()
+            os.fsync(file.fileno())
 
 
 def digest_of(path: str) -> str:
@@ -164,14 +194,10 @@ def performed(task: Dict[str, Any], folder: str) -> Dict[str, Any]:
     """Does a task, and gives its record."""
     began, clock = time.time(), time.monotonic()
     out = os.path.join(folder, task["out"])
-    own = os.path.join(os.path.dirname(out), f".{os.path.basename(out)}.{socket.gethostname()}-{os.getpid()}")
-    try:
+    with in_place_of(out) as (number, own):
+        os.close(number)
         found = answered(task, folder, own)
         found.update(out=task["out"], sha256=digest_of(own), bytes=os.path.getsize(own))
-        os.replace(own, out)
-    finally:
-        if os.path.exists(own):
-            os.unlink(own)
     used = resource.getrusage(resource.RUSAGE_CHILDREN)
     found.update(name=task["name"], host=socket.gethostname(), began=round(began, 3),
                  seconds=round(time.monotonic() - clock, 3), processor=round(used.ru_utime + used.ru_stime, 3),
@@ -181,13 +207,8 @@ def performed(task: Dict[str, Any], folder: str) -> Dict[str, Any]:
 
 def written(folder: str, name: str, record: Dict[str, Any]) -> None:
     """Writes a record, whole."""
-    target = os.path.join(folder, "records", f"{name}.json")
-    own = os.path.join(folder, "records", f".{name}.{socket.gethostname()}-{os.getpid()}")
-    with open(own, "w", encoding="utf-8") as file:
+    with whole_file(os.path.join(folder, "records", f"{name}.json")) as file:
         file.write(json.dumps(record) + "\n")
-        file.flush()
-        os.fsync(file.fileno())
-    os.replace(own, target)
 
 
 def task_of(words: List[str]) -> Dict[str, Any]:
@@ -214,7 +235,7 @@ def main(words: List[str]) -> int:
     try:
         written(folder, task["name"], performed(task, folder))
     except (Fault, OSError) as fault:
-        told = vars(fault) if isinstance(fault, Fault) else {"status": WRITE_FAULT, "line": str(fault), "name": ""}
+        told = vars(fault) if isinstance(fault, Fault) else {"status": WRITE_FAULT, "line": f"write fault: {fault}", "name": ""}
         if told["status"] in (READ_FAULT, WRITE_FAULT, NO_MEMORY):
             time.sleep(BRAKE)
         print(json.dumps(told), file=sys.stderr)
