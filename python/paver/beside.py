@@ -11,7 +11,7 @@ from typing import Any, Dict, Mapping, Optional, Union
 
 from . import kept
 from .errors import PavingError, UsageError
-from .options import KEPT_SETTINGS, words_of
+from .options import KEPT_SETTINGS, value_fault, words_of
 from .sweep_task import whole_file
 from .version import VERSION
 
@@ -73,12 +73,17 @@ def content_of(target: Path) -> Dict[str, Any]:
 
 
 def settings_of(path: PathName) -> Dict[str, str]:
-    """The settings that are kept beside a file, where they are of the file as it is now: their identity is its own."""
+    """The settings that are kept beside a file, where they are of the file as it is now: their identity is its own. UsageError
+    where one of them is none that the program takes."""
     found = content_of(name_of(path))
     settings = found.get("settings")
     if found.get("written_by") != WRITER or not isinstance(settings, dict) or found.get("identity") != identity_of(path):
         return {}
-    return {name: str(word) for name, word in settings.items() if name in KEPT_SETTINGS}
+    for name, word in settings.items():
+        fault = value_fault(name, word, True) if isinstance(word, str) else [f"`{name}` is no text."]
+        if fault and name in KEPT_SETTINGS:
+            raise UsageError(2, f"{name_of(path)}: {fault[0]}")
+    return {name: word for name, word in settings.items() if name in KEPT_SETTINGS}
 
 
 def with_kept(paths: Any, given: Mapping[str, Any]) -> Dict[str, Any]:

@@ -10,10 +10,11 @@ from pathlib import Path
 from typing import Any, Dict, Iterable, Iterator, List
 
 from .options import KEPT_SETTINGS
-from .sweep import Progress, Sweep, sweep
+from .sweep import Sweep, sweep
+from .sweep_checks import refused
 from .sweep_engines import ENGINES
-from .sweep_folder import Folder, refused
-from .sweep_plan import WHOLE, is_share
+from .sweep_folder import Folder
+from .sweep_plan import WHOLE, Progress, is_share
 
 ENDED = (signal.SIGINT, signal.SIGTERM)
 COUNTS = ("boxes", "limit", "shares", "workers")

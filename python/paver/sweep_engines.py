@@ -17,6 +17,7 @@ from importlib import import_module
 from pathlib import Path
 from typing import Any, Dict, List, Optional, Protocol, Sequence, Set, Tuple, Union
 
+from .sweep_checks import refused
 from .sweep_plan import Record
 
 ENGINES = ("processes", "dask", "slurm")
@@ -244,9 +245,12 @@ class Slurm:
         listed = {path.stem: path for path in self.place.glob("*.tasks")}
         if listed:
             queued = {element: listed[job] for element, job in self._queued().items() if job in listed}
-            names = {path: [json.loads(line)["name"] for line in path.read_text("utf-8").splitlines()]
-                     for path in set(queued.values())}
-            self.under_way.update({element: names[path][int(element[1])] for element, path in queued.items()})
+            try:
+                names = {path: [str(json.loads(line)["name"]) for line in path.read_text("utf-8").splitlines()]
+                         for path in set(queued.values())}
+                self.under_way.update({element: names[path][int(element[1])] for element, path in queued.items()})
+            except (LookupError, TypeError, ValueError) as fault:
+                raise refused(self.place, f"a list of tasks is damaged: {fault!r}", "damaged") from fault
         return list(self.under_way.values())
 
     def stop(self) -> None:

@@ -16,16 +16,20 @@ import re
 import resource
 import signal
 import socket
+import stat
 import subprocess
 import sys
 import time
 from concurrent.futures import ThreadPoolExecutor
 from contextlib import contextmanager
 from types import FrameType
-from typing import Any, Dict, Iterator, List, Optional, TextIO, Tuple
+from typing import Any, Dict, Iterator, List, NamedTuple, Optional, TextIO, Tuple
 
 SUMMARY = re.compile(r"settled (\d+) cut (\d+) removed (\d+) inner (\d+) small (\d+) open (\d+)\n\Z", re.A)
 FIELDS = ("settled", "cut", "removed", "inner", "small", "open")
+LETTERS = (b"\nC", b"\nX", b"\nI", b"\nS", b"\nO")  # that begin the lines of a stored paving's nodes, in the order of FIELDS
+HEAD = re.compile(rb"paving [12]\nidentity ([0-9a-f]{64})\n")
+SYSTEM = "system.mbx"
 REFUSED, READ_FAULT, WRITE_FAULT, NO_MEMORY, TREE_LIMIT = 4, 5, 6, 7, 8  # statuses of the program
 BRAKE = 1  # seconds after a fault of the machine: one whose disk is full shall not take the tasks of all others
 CHUNK = 1 << 20
@@ -70,23 +74,49 @@ def whole_file(target: str) -> Iterator[TextIO]:
             os.fsync(file.fileno())
 
 
-def digest_of(path: str) -> str:
-    """The SHA-256 of a file."""
-    found = hashlib.sha256()
-    with open(path, "rb") as file:
-        for chunk in iter(lambda: file.read(CHUNK), b""):
-            found.update(chunk)
-    return found.hexdigest()
+class Facts(NamedTuple):
+    """What a look through a file tells: its SHA-256, its length, and of a stored paving its identity and its counts."""
+    sha256: str
+    bytes: int
+    identity: str
+    counts: Dict[str, int]
 
 
-def need_stored(path: str, digest: str) -> None:
-    """Fault where a file isn't what its task stored."""
+def facts_of(path: str) -> Facts:
+    """The facts of a regular file. Fault where it can't be read; nothing else is waited for."""
+    found, length, numbers, head, last = hashlib.sha256(), 0, [0] * len(LETTERS), b"", b""
     try:
-        found = digest_of(path)
+        with open(os.open(path, os.O_RDONLY | os.O_NONBLOCK | os.O_CLOEXEC), "rb") as file:
+            if not stat.S_ISREG(os.fstat(file.fileno()).st_mode):
+                raise OSError("it is no regular file")
+            for chunk in iter(lambda: file.read(CHUNK), b""):
+                found.update(chunk)
+                length, head = length + len(chunk), head or chunk[:100]
+                numbers = [number + (last + chunk).count(letter) for number, letter in zip(numbers, LETTERS)]
+                last = chunk[-1:]
     except OSError as fault:
         raise Fault(READ_FAULT, f"read fault: {path}") from fault
-    if found != digest:
+    told = HEAD.match(head)
+    return Facts(found.hexdigest(), length, told.group(1).decode() if told else "",
+                 dict(zip(FIELDS, [sum(numbers[:-1]), *numbers])))
+
+
+def need_stored(path: str, stored: Dict[str, Any], identity: str) -> None:
+    """Fault where a file isn't the paving of the sweep's identity that a record tells of."""
+    found = facts_of(path)
+    if found.sha256 != stored["sha256"]:
         raise Fault(REFUSED, f"paving {path}: it is not what its task stored: {REMEDY}", path)
+    if found.identity != identity:
+        raise Fault(REFUSED, f"paving {path}: it has another identity than the sweep: {REMEDY}", path)
+    if found.counts != stored["counts"]:
+        raise Fault(REFUSED, f"paving {path}: its record has other counts: {REMEDY}", path)
+
+
+def need_text(folder: str, digest: str) -> None:
+    """Fault where the system's text in a folder isn't that with which the sweep began."""
+    path = os.path.join(folder, SYSTEM)
+    if facts_of(path).sha256 != digest:
+        raise Fault(REFUSED, f"{path}: it is not the text with which the sweep began: put that back", path)
 
 
 def called(words: List[str]) -> Tuple[int, Dict[str, int]]:
@@ -146,7 +176,7 @@ def steps_of(task: Dict[str, Any]) -> List[Tuple[int, int]]:
 
 def settle(task: Dict[str, Any], folder: str, own: str) -> Dict[str, Any]:
     """Settles a share, at most the task's budget of nodes, into a file of its own name."""
-    opening = os.path.join(folder, task["inputs"][0][0])
+    opening = os.path.join(folder, task["inputs"][0]["out"])
     current, settled, status, counts = opening, task["settled"], 0, dict(task["counts"])
     for number, of in steps_of(task):
         left = task["boxes"] - (counts["settled"] - settled)
@@ -161,7 +191,7 @@ def settle(task: Dict[str, Any], folder: str, own: str) -> Dict[str, Any]:
         current = own
         if status == 1:
             break
-    found: Dict[str, Any] = {"status": status, "counts": counts, "new": counts["settled"] - settled}
+    found: Dict[str, Any] = {"status": status, "counts": counts, "new": counts["settled"] - settled, "share": task["share"]}
     if status == 1:
         found["of"], found["left"] = left_open(opening, own, task["share"], task["leaves"])
     return found
@@ -169,15 +199,16 @@ def settle(task: Dict[str, Any], folder: str, own: str) -> Dict[str, Any]:
 
 def join(task: Dict[str, Any], folder: str, own: str) -> Dict[str, Any]:
     """Joins files into one of its own name."""
-    names = [os.path.join(folder, name) for name, _ in task["inputs"]]
+    names = [os.path.join(folder, each["out"]) for each in task["inputs"]]
     status, counts = called([task["program"], "merge", *task["words"], f"--out={own}", "--", task["system"], *names])
     return {"status": status, "counts": counts, "new": 0}
 
 
 def need_inputs(task: Dict[str, Any], folder: str) -> None:
-    """Fault where one of a task's files isn't what its task stored."""
-    for name, digest in task["inputs"]:
-        need_stored(os.path.join(folder, name), digest)
+    """Fault where the system's text or one of a task's files isn't what the sweep has it for."""
+    need_text(folder, task["system_sha256"])
+    for each in task["inputs"]:
+        need_stored(os.path.join(folder, each["out"]), each, task["identity"])
 
 
 def answered(task: Dict[str, Any], folder: str, own: str) -> Dict[str, Any]:
@@ -197,7 +228,13 @@ def performed(task: Dict[str, Any], folder: str) -> Dict[str, Any]:
     with in_place_of(out) as (number, own):
         os.close(number)
         found = answered(task, folder, own)
-        found.update(out=task["out"], sha256=digest_of(own), bytes=os.path.getsize(own))
+        facts = facts_of(own)
+        if facts.identity != task["identity"]:
+            need_text(folder, task["system_sha256"])
+            raise Fault(REFUSED, f"paving {out}: what is stored there would have another identity than the sweep", out)
+        if facts.counts != found["counts"]:
+            raise Fault(REFUSED, f"paving {out}: what is stored there would have other counts than the program told", out)
+        found.update(out=task["out"], sha256=facts.sha256, bytes=facts.bytes)
     used = resource.getrusage(resource.RUSAGE_CHILDREN)
     found.update(name=task["name"], host=socket.gethostname(), began=round(began, 3),
                  seconds=round(time.monotonic() - clock, 3), processor=round(used.ru_utime + used.ru_stime, 3),
