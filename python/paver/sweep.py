@@ -96,11 +96,13 @@ def sweep(system: PathName, folder: PathName, *, eps: Any = None, depth: Any = N
         running = engine_of(engine, kept.path, workers, address, sbatch)
         call = Call(kept, running, path, boxes or BOXES, limit or MOST_LIMIT, tell)
         try:
-            call.begin(shares)
-            call.work()
+            call.begin(shares)  # what it refuses stays as it is
+            try:
+                call.work()
+            finally:
+                call.save()
         finally:
             running.stop()
-            call.save()
         call.end(system, audit)
     return Sweep(kept.path, kept.manifest, path)
 

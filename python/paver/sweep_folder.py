@@ -142,8 +142,8 @@ class Folder:
         self.need_text()
         self.need_stored(record)
         if record["counts"]["open"] != 0 or record["status"] != 0:
-            raise refused(self.path, f"{self.whole.name} has {record['counts']['open']} open leaves, so its shares are not those "
-                          "that were dealt: begin in another folder", "open leaves")
+            raise refused(self.path, f"{self.whole.name} has {record['counts']['open']} open leaves, so its shares are not "
+                          "those that were dealt: begin in another folder", "open leaves")
 
     def record(self, name: str) -> Optional[Record]:
         """What the last task of a name wrote; None where it wrote nothing yet."""
