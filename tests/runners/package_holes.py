@@ -1,6 +1,7 @@
 """What strangers may lay in the package's way: links under the names of its new files, long names, and edited folders."""
 from __future__ import annotations
 
+import ast
 import copy
 import hashlib
 import json
@@ -16,7 +17,7 @@ from typing import Any, Callable
 from unittest import mock
 
 import paver
-from paver import beside, sweep_task
+from paver import beside, descent, sweep_task
 from paver.__main__ import whole
 from paver.sweep_folder import Folder
 from tests.runners.package_test import PackageTest, command, example
@@ -405,6 +406,31 @@ class Settings(PackageTest):
                         self.assertIn(str(kept), err)
             kept.unlink()
             self.assert_raised(ValueError, lambda: paver.view(example("ring"), out, eps=0.5, form="odd"))
+
+
+class Sources(PackageTest):
+    """Nothing of a system becomes a text of Python that is run."""
+
+    def test_no_text_is_run(self) -> None:
+        """No module calls what runs a text."""
+        runs = ("exec", "eval", "compile")
+        found = [(path.name, node.lineno) for path in (TOP / "python" / "paver").rglob("*.py")
+                 for node in ast.walk(ast.parse(path.read_text(encoding="utf-8")))
+                 if isinstance(node, ast.Call) and isinstance(node.func, ast.Name) and node.func.id in runs]
+        self.assertEqual(found, [])
+
+    def test_values_of_descents(self) -> None:
+        """The numbers of a descent's function are those of the written formulas, where they are defined."""
+        text = ("Variables x in [-8, 8]; y in [-8, 8]; Constraints abs(x - y)^3/y + min(x, 2*y) <= 7/2; "
+                "max(-x, x^2)*(x - y) = y^0; end")
+        known = paver.check_text(text)
+        field = descent.Field(known, known.constraints[0].left, [(-8.0, 8.0)] * 2)
+        for x, y in ((1.5, -2.25), (-3.0, 0.5), (-0.0, 4.0), (7.0, 7.0)):
+            first = abs(x - y) ** 3 / y + min(x, 2 * y)
+            second = max(-x, x ** 2) * (x - y)
+            self.assertEqual(field.at([x, y]), [first, first - 3.5, second - 1, 1 - second, -8 - x, x - 8, -8 - y, y - 8])
+        self.assertIsNone(field.at([1.0, 0.0]))
+        self.assertIsNone(field.at([1e200, 1.0]))
 
 
 if __name__ == "__main__":
