@@ -19,6 +19,7 @@ from typing import Any, Dict, List, Optional, Protocol, Sequence, Set, Tuple, Un
 
 from .sweep_checks import refused
 from .sweep_plan import Record
+from .sweep_task import whole_file
 
 ENGINES = ("processes", "dask", "slurm")
 MOST_WORKERS = 64  # that are counted on where Slurm has more processors
@@ -208,7 +209,8 @@ class Slurm:
         """A job array has the name of the file that lists its tasks, so that the queue tells of a job all that a later call
         wants, from the moment that it is in there."""
         listed = self.place / f"paver-sweep-{time.time_ns()}.tasks"
-        listed.write_text("".join(json.dumps(task) + "\n" for task in tasks), encoding="utf-8")
+        with whole_file(str(listed)) as file:
+            file.write("".join(json.dumps(task) + "\n" for task in tasks))
         script = " ".join(["exec", *map(shlex.quote, [sys.executable, str(SCRIPT), str(self.folder), str(listed)]),
                            '"$SLURM_ARRAY_TASK_ID"'])
         job = client_of_slurm("sbatch", "--parsable", "--cpus-per-task=1", *self.more, f"--array=0-{len(tasks) - 1}",

@@ -21,7 +21,7 @@ from paver import beside, descent, sweep_task
 from paver.__main__ import whole
 from paver.sweep_folder import Folder
 from tests.runners.package_test import PackageTest, command, example
-from tests.runners.running import SECONDS, TOP, main
+from tests.runners.running import SECONDS, TOP, main, rows
 
 MINE = "a file of the user's"
 FIXED = b"\x5a" * 8  # in place of random bytes
@@ -325,13 +325,17 @@ class Folders(PackageTest):
 
     def test_damaged_manifests(self) -> None:
         """Each is refused by its name, by the call and by its status alike, and nothing is written."""
-        good = json.loads((self.folder / "manifest.json").read_text())
-        for name, work in MANIFESTS:
+        self.refused_edits("manifest.json", MANIFESTS)
+
+    def refused_edits(self, place: str, edits: list[tuple[str, Edit]]) -> None:
+        """That a file of JSON is refused by its name after each of some edits, and as each of TEXTS."""
+        good = json.loads((self.folder / place).read_text())
+        for name, work in rows(edits):
             found = copy.deepcopy(good)
             work(found)
-            self.refused_text("manifest.json", name, json.dumps(found).encode())
-        for name, data in TEXTS:
-            self.refused_text("manifest.json", name, data)
+            self.refused_text(place, name, json.dumps(found).encode())
+        for name, data in rows(TEXTS):
+            self.refused_text(place, name, data)
 
     def refused_text(self, place: str, name: str, data: bytes) -> None:
         with self.subTest(name):
@@ -344,13 +348,7 @@ class Folders(PackageTest):
     def test_damaged_records(self) -> None:
         """Each is refused by its name."""
         self.edit("manifest.json", without("tasks", "share-0003"))
-        good = json.loads((self.folder / "records/share-0003.json").read_text())
-        for name, work in RECORDS:
-            found = copy.deepcopy(good)
-            work(found)
-            self.refused_text("records/share-0003.json", name, json.dumps(found).encode())
-        for name, data in TEXTS:
-            self.refused_text("records/share-0003.json", name, data)
+        self.refused_edits("records/share-0003.json", RECORDS)
 
     def test_pipes(self) -> None:
         """A named pipe in place of a file is refused, and nobody waits for what comes through it."""
