@@ -141,6 +141,10 @@ class Folder:
         it, and has no open leaf."""
         self.need_text()
         self.need_stored(record)
+        self.need_closed(record)
+
+    def need_closed(self, record: Record) -> None:
+        """FolderRefused where the record of the whole paving tells of open leaves."""
         if record["counts"]["open"] != 0 or record["status"] != 0:
             raise refused(self.path, f"{self.whole.name} has {record['counts']['open']} open leaves, so its shares are not "
                           "those that were dealt: begin in another folder", "open leaves")

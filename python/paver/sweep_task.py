@@ -27,7 +27,7 @@ from typing import Any, Dict, Iterator, List, NamedTuple, Optional, TextIO, Tupl
 
 SUMMARY = re.compile(r"settled (\d+) cut (\d+) removed (\d+) inner (\d+) small (\d+) open (\d+)\n\Z", re.A)
 FIELDS = ("settled", "cut", "removed", "inner", "small", "open")
-LETTERS = (b"\nC", b"\nX", b"\nI", b"\nS", b"\nO")  # that begin the lines of a stored paving's nodes, in the order of FIELDS
+LETTERS = (b"C", b"X", b"I", b"S", b"O")  # of the nodes in a stored paving, one a line and nowhere else, in the order of FIELDS
 HEAD = re.compile(rb"paving [12]\nidentity ([0-9a-f]{64})\n")
 SYSTEM = "system.mbx"
 REFUSED, READ_FAULT, WRITE_FAULT, NO_MEMORY, TREE_LIMIT = 4, 5, 6, 7, 8  # statuses of the program
@@ -84,7 +84,7 @@ class Facts(NamedTuple):
 
 def facts_of(path: str) -> Facts:
     """The facts of a regular file. Fault where it can't be read; nothing else is waited for."""
-    found, length, numbers, head, last = hashlib.sha256(), 0, [0] * len(LETTERS), b"", b""
+    found, length, numbers, head = hashlib.sha256(), 0, [0] * len(LETTERS), b""
     try:
         with open(os.open(path, os.O_RDONLY | os.O_NONBLOCK | os.O_CLOEXEC), "rb") as file:
             if not stat.S_ISREG(os.fstat(file.fileno()).st_mode):
@@ -92,8 +92,7 @@ def facts_of(path: str) -> Facts:
             for chunk in iter(lambda: file.read(CHUNK), b""):
                 found.update(chunk)
                 length, head = length + len(chunk), head or chunk[:100]
-                numbers = [number + (last + chunk).count(letter) for number, letter in zip(numbers, LETTERS)]
-                last = chunk[-1:]
+                numbers = [number + chunk.count(letter) for number, letter in zip(numbers, LETTERS)]
     except OSError as fault:
         raise Fault(READ_FAULT, f"read fault: {path}") from fault
     told = HEAD.match(head)

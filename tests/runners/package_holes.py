@@ -291,6 +291,26 @@ class Folders(PackageTest):
         self.assertIn("is no task of its shares", self.refused("manifest.json"))
         self.forget(*self.joins(), *(f"share-{k:04d}" for k in range(5, SHARES)))
         self.assertIn("open leaves", self.refused(""))
+        self.status_refused("open leaves")
+
+    def status_refused(self, phrase: str) -> None:
+        """That nothing is said to be done in the folder."""
+        status, out, err = command("sweep", "--status", self.folder)
+        self.assertEqual((status, out, err.count("\n")), (2, "", 1), err)
+        self.assertIn(phrase, err)
+
+    def test_status_of_edited_folders(self) -> None:
+        """A status is refused, too: of damaged manifests, and where the whole isn't there, or is another's."""
+        self.assertEqual(command("sweep", "--status", self.folder)[0], 0)
+        paver.run(self.system, eps=1, out=self.folder / "other")
+        (self.folder / "whole.paving").unlink()
+        self.status_refused("whole.paving: it is not the paving of the sweep")
+        shutil.copyfile(self.folder / "other", self.folder / "whole.paving")
+        self.status_refused("whole.paving: ")
+        self.edit("manifest.json", having((self.folder / "other").stat().st_size, "tasks", "whole", "bytes"))
+        self.status_refused("whole.paving: it is not the paving of the sweep")
+        self.edit("manifest.json", having(10 ** 9, "shares"))
+        self.status_refused("manifest.json: it is damaged: its `shares` is none")
 
     def test_other_settings(self) -> None:
         """Settings in the manifest that are not those of its identity, where the call gives none."""
