@@ -10,13 +10,13 @@ from __future__ import annotations
 import unittest
 
 from tests.runners import (
-    package_answers, package_around, package_checks, package_holes, package_misuse, package_parts, package_pavings,
-    package_refusals, package_stages, package_tools, package_users,
+    package_answers, package_around, package_checks, package_misuse, package_parts, package_pavings, package_refusals,
+    package_stages, package_tools, package_users,
 )
 from tests.runners.running import main
 
 MODULES = (package_checks, package_pavings, package_tools, package_misuse, package_refusals, package_users, package_parts,
-           package_stages, package_around, package_answers, package_holes)
+           package_stages, package_around, package_answers)
 
 
 def load_tests(loader: unittest.TestLoader, _found: unittest.TestSuite, _pattern: str | None) -> unittest.TestSuite:
