@@ -6,7 +6,7 @@
 # make layout   tells in a minute which files the gate would refuse for their layout alone
 # make fuzz     COUNT made texts, words and files each, a tenth as many systems and databases, and each allocation of each command refused in turn
 # make pictures draws each example into docs/pictures, and writes docs/GALLERY.md
-# make tables   writes README's table of commands, the manual page's synopsis and the completions from python/paver/commands.py
+# make tables   writes the tables of commands and of crates, the manual page's synopsis and the completions
 # make bench    measures beside a lean Rust program, where there is a rustc
 # make dist     packs the program, its man page, completions, examples and the package into dist/, with their SHA-256
 # make install PREFIX=/usr/local      the program, its man page and completions; make uninstall takes them away

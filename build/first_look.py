@@ -65,7 +65,7 @@ def answer() -> str:
 
 
 def main() -> None:
-    if len(sys.argv) != 2:
+    if len(sys.argv) != 2 or sys.argv[1].startswith("-"):
         sys.exit(__doc__)
     folder, text = Path(sys.argv[1]), answer()
     folder.mkdir(parents=True, exist_ok=True)

@@ -26,8 +26,8 @@ TOP = Path(__file__).resolve().parents[1]
 SIDE_BY_SIDE = (
     "crashes", "rendered", "end_to_end", "shares", "campaigns", "allocations", "campaign_allocations", "fuzz_systems",
     "fuzz_words", "fuzz_files", "fuzz_reader", "fuzz_databases", "paving_files", "stores", "tables", "readme",
-    "least_values", "package_control", "package_decide", "package_fit", "package_path", "package_robot", "reader_table",
-    "formats", "forms", "reading", "listed",
+    "least_values", "package_control", "package_decide", "package_fit", "package_holes", "package_path", "package_robot",
+    "reader_table", "formats", "forms", "reading", "listed",
 )
 ALONE = ("test_python", "outside", "limits", "sizes", "workers", "progress", "sweep", "scaling", "test_view", "first_look")
 # Modules of the folder that are no runners: what runners share.

@@ -26,6 +26,7 @@ from .picture import svg
 from .plots import drawing, plot, plot_projection, rectangles
 from .roots import ONE, TESTED, NotSquare, find_roots
 from .split import gather, split
+from .sweep_task import whole_file
 from .undecided import report as report_undecided
 from .values import least
 from .view import add_words, view_command
@@ -290,14 +291,9 @@ def whole(name: str | None) -> Iterator[TextIO]:
     if name is None:
         yield sys.stdout
         return
-    made = f"{name}.{os.getpid()}.part"
-    try:
-        with open(made, "w", encoding="utf-8") as file:
-            yield file
-        os.replace(made, name)
-    finally:
-        if os.path.exists(made):
-            os.unlink(made)
+    beside.need_name(name)
+    with whole_file(name) as file:
+        yield file
 
 
 def parser() -> argparse.ArgumentParser:

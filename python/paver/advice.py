@@ -86,7 +86,8 @@ def root_pairs(paving: Cover) -> List[Tuple[Exact, Exact]]:
     return [pair for root in paving.search_boxes()[:1] for pair in Box("open", root).exact]
 
 
-STORED = "go on from a file that --out stored by `paver resume SYSTEM FILE --out FILE2`, or take a larger eps"
+STORED = ("go on from a file that --out stored by `paver resume SYSTEM FILE --out FILE2` with the settings of its run, or take a "
+          "larger eps")
 MORE = "give more by --boxes (a paving has at most {most} settled nodes)"
 WAYS = {
     "run": f"{MORE}, {STORED}",

@@ -10,18 +10,27 @@ from pathlib import Path
 from typing import Any, Dict, Mapping, Optional, Union
 
 from . import kept
-from .errors import PavingError
-from .options import KEPT_SETTINGS, words_of
+from .errors import PavingError, UsageError
+from .options import KEPT_SETTINGS, value_fault, words_of
+from .sweep_task import whole_file
 from .version import VERSION
 
 PathName = Union[str, "os.PathLike[str]"]
 WRITER = "paver"
 LONGEST = 1 << 20
+LONGEST_NAME = 244  # bytes of a name that leave room for what is kept beside the file
 
 
 def name_of(path: PathName) -> Path:
     """The file that has the settings of a stored paving."""
     return Path(f"{os.fspath(path)}.json")
+
+
+def need_name(path: PathName) -> None:
+    """UsageError where a name is too long for what is kept beside the file, before anything is stored under it."""
+    length = len(os.fsencode(os.path.basename(os.fspath(path))))
+    if length > LONGEST_NAME:
+        raise UsageError(2, f"{os.fspath(path)}: the name has {length} bytes, and {LONGEST_NAME} are the most")
 
 
 def identity_of(path: PathName) -> Optional[str]:
@@ -48,9 +57,8 @@ def keep(path: PathName, command: str, system: PathName, source: Optional[bytes]
     found = {"written_by": WRITER, "version": VERSION, "command": command, "system": os.fspath(system),
              "system_sha256": None if source is None else hashlib.sha256(source).hexdigest(), "identity": identity,
              "settings": {name: word for name, word in words_of(settings).items() if name in KEPT_SETTINGS}}
-    made = target.with_name(f".{target.name}.{os.getpid()}")
-    made.write_text(json.dumps(found, indent=1) + "\n")
-    os.replace(made, target)
+    with whole_file(str(target)) as file:
+        file.write(json.dumps(found, indent=1) + "\n")
 
 
 def content_of(target: Path) -> Dict[str, Any]:
@@ -65,12 +73,17 @@ def content_of(target: Path) -> Dict[str, Any]:
 
 
 def settings_of(path: PathName) -> Dict[str, str]:
-    """The settings that are kept beside a file, where they are of the file as it is now: their identity is its own."""
+    """The settings that are kept beside a file, where they are of the file as it is now: their identity is its own. UsageError
+    where one of them is none that the program takes."""
     found = content_of(name_of(path))
     settings = found.get("settings")
     if found.get("written_by") != WRITER or not isinstance(settings, dict) or found.get("identity") != identity_of(path):
         return {}
-    return {name: str(word) for name, word in settings.items() if name in KEPT_SETTINGS}
+    for name, word in settings.items():
+        fault = value_fault(name, word, True) if isinstance(word, str) else [f"`{name}` is no text."]
+        if fault and name in KEPT_SETTINGS:
+            raise UsageError(2, f"{name_of(path)}: {fault[0]}")
+    return {name: word for name, word in settings.items() if name in KEPT_SETTINGS}
 
 
 def with_kept(paths: Any, given: Mapping[str, Any]) -> Dict[str, Any]:

@@ -5,11 +5,12 @@ Gradient projection: a step down along the constraints that are active, and back
 from __future__ import annotations
 
 import math
+import operator
 import random
 from collections.abc import Callable, Sequence
 from fractions import Fraction
 from time import process_time
-from typing import List
+from typing import Any, List
 
 from .canonical import Constraint, Step, Steps, System
 
@@ -17,39 +18,57 @@ Point = List[float]
 SPAN = 10.0  # of a start where a domain has no end
 TINY = 1e-13
 STEPS, TURNS, STARTS = 400, 25, 6
+WORK: dict[str, Callable[[float, float], float]] = {  # signs of one argument have it twice
+    "+": operator.add, "-": operator.sub, "*": operator.mul, "/": operator.truediv, "^": operator.pow, "min": min, "max": max,
+    "neg": lambda x, _: -x, "abs": lambda x, _: abs(x)}
 
 
-def source_of(expressions: Sequence[Steps]) -> str:
-    """Python's text of a function of x that gives the expressions' values: one line an operation, none worked out twice."""
-    lines: list[str] = []
-    known: dict[str, str] = {}
+class Terms:
+    """Expressions as one function of floats: a list of operations on numbers that are known by then, none worked out twice."""
 
-    def named(text: str) -> str:
-        if text not in known:
-            known[text] = f"t{len(known)}"
-            lines.append(f" {known[text]} = {text}")
-        return known[text]
+    def __init__(self, expressions: Sequence[Steps], variables: int) -> None:
+        self.constants: Point = []
+        self.operations: list[tuple[Callable[..., float], int, int]] = []
+        self.results: list[int] = []
+        self._known: dict[tuple[Any, ...], int] = {("var", k): k for k in range(variables)}
+        constants = {float_of(step[1]): None for steps in expressions for step in steps if step[0] == "const"}
+        powers = {float(step[1]): None for steps in expressions for step in steps if step[0] == "^"}
+        for value in dict.fromkeys((*constants, *powers)):
+            self._known["const", value] = variables + len(self.constants)
+            self.constants.append(value)
+        self.size = variables + len(self.constants)
+        for steps in expressions:
+            stack: list[int] = []
+            for step in steps:
+                stack.append(self._placed(step, stack))
+            self.results.append(stack[0])
 
-    results = []
-    for steps in expressions:
-        stack: list[str] = []
-        for step in steps:
-            stack.append(named(line_of(step, stack)))
-        results.append(stack[0])
-    return "\n".join(["def values(x):", *lines, f" return [{', '.join(results)}]"])
+    def _placed(self, step: Step, stack: list[int]) -> int:
+        """The place of a step's number, whose arguments are taken from the stack."""
+        kind = step[0]
+        if kind == "var":
+            return self._known[kind, step[1]]
+        if kind == "const":
+            return self._known[kind, float_of(step[1])]
+        second = stack.pop()
+        first = second
+        if kind == "^":
+            second = self._known["const", float(step[1])]
+        elif kind not in ("neg", "abs"):
+            first = stack.pop()
+        key = (kind, first, second)
+        if key not in self._known:
+            self._known[key] = self.size + len(self.operations)
+            self.operations.append((WORK[kind], first, second))
+        return self._known[key]
 
-
-def line_of(step: Step, stack: list[str]) -> str:
-    kind = step[0]
-    if kind == "const":
-        return repr(float_of(step[1]))
-    if kind == "var":
-        return f"x[{step[1]}]"
-    if kind in ("^", "neg", "abs"):
-        a = stack.pop()
-        return f"{a} ** {step[1]}" if kind == "^" else f"-{a}" if kind == "neg" else f"abs({a})"
-    b, a = stack.pop(), stack.pop()
-    return f"{kind}({a}, {b})" if kind in ("min", "max") else f"{a} {kind} {b}"
+    def at(self, x: Point) -> list[float]:
+        """The expressions' values at a point; ZeroDivisionError or OverflowError where one has none."""
+        found = [*x, *self.constants]
+        add = found.append
+        for work, first, second in self.operations:
+            add(work(found[first], found[second]))
+        return [found[place] for place in self.results]
 
 
 def float_of(value: Fraction) -> float:
@@ -72,9 +91,7 @@ class Field:
     def __init__(self, system: System, objective: Steps, domains: Sequence[tuple[float, float]]) -> None:
         self.domains = list(domains)
         expressions = [objective, *(slack for c in system.constraints for slack in slack_of(c))]
-        scope: dict[str, Callable[[Point], list[float]]] = {}
-        exec(source_of(expressions), {"abs": abs, "min": min, "max": max}, scope)  # the text is made of numbers and signs
-        self.values = scope["values"]
+        self.values = Terms(expressions, len(self.domains)).at
 
     def at(self, x: Point) -> list[float] | None:
         try:

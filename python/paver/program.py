@@ -220,6 +220,9 @@ def as_file(text: Union[str, bytes]) -> Iterator[Path]:
 def paved(command: str, system: PathName, pavings: Sequence[PathName], out: Optional[PathName], given: Mapping[str, Any],
           program: Optional[str], timeout: Optional[float], more: Sequence[str] = ()) -> Answer:
     """The answer of a command that paves. Settings that aren't given come from beside the pavings."""
+    kept_in = out if command != "campaign" else given["keep"]
+    if kept_in is not None:
+        beside.need_name(kept_in)
     source = source_of(system)
     settings = {name: value for name, value in beside.with_kept(pavings, given).items() if value is not None}
     words = [command, *option_words(settings, COMMANDS[command]), *more]
@@ -229,7 +232,6 @@ def paved(command: str, system: PathName, pavings: Sequence[PathName], out: Opti
         raise errors.SystemEdited(None, f"{os.fspath(system)} was edited while it was paved: call again")
     if command == "run-centered":
         settings["form"] = "centered"
-    kept_in = out if command != "campaign" else given["keep"]
     where = None if kept_in is None else os.fspath(kept_in)
     if where is not None:
         beside.keep(where, command, system, source, settings)

@@ -5,38 +5,25 @@ import json
 import os
 import time
 from concurrent.futures import Executor
+from contextlib import contextmanager
 from dataclasses import dataclass
 from pathlib import Path
-from typing import Any, Callable, Dict, List, Mapping, Optional, Union
+from typing import Any, Callable, Dict, Iterator, List, Mapping, Optional, Union
 
 from . import beside, errors, program, sweep_task
 from .identity import complete
 from .options import MOST_LIMIT, MOST_SHARES
 from .paving import Paving, PathName
+from .sweep_checks import need_planned, refused
 from .sweep_engines import Engine, engine_of, need_engine
-from .sweep_folder import Folder, first_stage, refused, weights_of
-from .sweep_plan import WHOLE, Part, Plan, Record, is_share, task_of
+from .sweep_folder import MANIFEST, Folder, first_stage, weights_of
+from .sweep_plan import WHOLE, Part, Plan, Progress, Record, is_share, task_of
 
 OPEN_LEAVES = 16  # of a worker, in the first stage
 BOXES = 1_000_000  # that a share settles at most before it is dealt again
 ATTEMPTS = 5  # of a task in one call
 SEEN_WITHIN = 5.0  # seconds in which what one machine stored has to be seen by another
 NO_USE = (2, 3, 4, 8, 9, 11)  # statuses of the program that come again however often it is called
-
-
-@dataclass
-class Progress:
-    """How far a sweep is: shares and joins that are done, of how many; shares that their budget ended and that were dealt
-    again; tasks under way; nodes that are settled; seconds of all calls, and nodes a second of this one."""
-    shares: int
-    shares_done: int
-    again: int
-    joins: int
-    joins_done: int
-    under_way: int
-    settled: int
-    seconds: float
-    rate: float
 
 
 @dataclass(repr=False)
@@ -105,16 +92,18 @@ def sweep(system: PathName, folder: PathName, *, eps: Any = None, depth: Any = N
     need_counts(boxes=boxes, limit=limit, shares=shares, workers=workers)
     need_engine(engine, address, sbatch)
     path = found(program)
-    kept = opened(Path(folder), system, given, path)
-    running = engine_of(engine, kept.path, workers, address, sbatch)
-    call = Call(kept, running, path, boxes or BOXES, limit or MOST_LIMIT, tell)
-    try:
-        call.begin(shares)
-        call.work()
-    finally:
-        running.stop()
-        call.save()
-    call.end(system, audit)
+    with opened(Path(folder), system, given, path) as kept:
+        running = engine_of(engine, kept.path, workers, address, sbatch)
+        call = Call(kept, running, path, boxes or BOXES, limit or MOST_LIMIT, tell)
+        try:
+            call.begin(shares)  # what it refuses stays as it is
+            try:
+                call.work()
+            finally:
+                call.save()
+        finally:
+            running.stop()
+        call.end(system, audit)
     return Sweep(kept.path, kept.manifest, path)
 
 
@@ -130,20 +119,23 @@ def need_counts(**counts: Optional[int]) -> None:
             raise ValueError(f"{name} {count}: a whole number from 1 on is expected")
 
 
-def opened(place: Path, system: PathName, given: Mapping[str, Any], path: str) -> Folder:
-    """The folder of a sweep: begun, or that of an earlier call, which has to be of this system and these settings."""
+@contextmanager
+def opened(place: Path, system: PathName, given: Mapping[str, Any], path: str) -> Iterator[Folder]:
+    """The folder of a sweep, kept for this call: begun, or that of an earlier call, which has to be of this system and these
+    settings."""
     folder = Folder(place)
-    known = program.check(system, program=path)
-    if folder.read():
-        folder.need_same(known, given)
-        return folder
-    source = program.source_of(system)
-    if source is None:
-        raise ValueError(f"{os.fspath(system)}: a sweep wants a system in a file")
-    if not program.has("resume --share", path):
-        raise errors.NotInProgram(2, "the program has no `resume --share`: it is older than this package")
-    folder.begin(os.fspath(system), known, complete(given), source)
-    return folder
+    known, source = program.check(system, program=path), program.source_of(system)
+    if not os.path.lexists(folder.path / MANIFEST):
+        if source is None:
+            raise ValueError(f"{os.fspath(system)}: a sweep wants a system in a file")
+        if not program.has("resume --share", path):
+            raise errors.NotInProgram(2, "the program has no `resume --share`: it is older than this package")
+    with folder.held():
+        if folder.read():
+            folder.need_same(known, given)
+        else:
+            folder.begin(os.fspath(system), known, complete(given), source or b"")
+        yield folder
 
 
 class Call:
@@ -157,7 +149,8 @@ class Call:
         self.failed: Dict[str, int] = {}
         self.settled = self.new = 0
         words = program.option_words({**folder.manifest["settings"], "limit": limit})
-        self.common = {"program": path, "system": str(folder.system), "words": words, "boxes": boxes, "limit": limit}
+        self.common = {"program": path, "system": str(folder.system), "words": words, "boxes": boxes, "limit": limit,
+                       "identity": folder.identity, "system_sha256": folder.manifest["system_sha256"]}
         folder.manifest["workers"] = engine.workers
 
     def begin(self, shares: Optional[int]) -> None:
@@ -169,9 +162,7 @@ class Call:
         self.settled = int(first["counts"]["settled"])
         going = set(self.engine.going())  # asked before the records are read: what ends in between has its record by then
         self.plan.take_known(self._known)
-        whole = self.plan.whole.record
-        if whole is not None:
-            self.folder.need_stored(whole)
+        need_planned(self.folder.path / MANIFEST, self.folder.manifest["tasks"], [part.name for part in self.plan.parts()])
         self.under_way = {part.name: part for part in self.plan.parts() if part.name in going and part.record is None}
         self.save()
 
@@ -194,11 +185,11 @@ class Call:
         self.folder.need_stored(known)
         return known
 
-    def _known(self, name: str) -> Optional[Record]:
+    def _known(self, part: Part) -> Optional[Record]:
         """What an earlier call has of a part."""
-        record = self.folder.known(name)
+        record = self.folder.known(part)
         if record is not None:
-            self._keep(name, record)
+            self._keep(part.name, record)
         return record
 
     def _keep(self, name: str, record: Record) -> None:
@@ -273,8 +264,10 @@ class Call:
         self.folder.save(at_least)
 
     def end(self, system: PathName, audit: bool) -> None:
-        """Tidies the folder, keeps the settings beside the whole paving, and has it audited where that is wanted."""
+        """Looks through the whole paving, tidies the folder, keeps the settings beside the whole, and has it audited where that
+        is wanted."""
         manifest, whole = self.folder.manifest, self.folder.whole
+        self.folder.need_done(manifest["tasks"][WHOLE])
         self.folder.tidy()
         beside.keep(whole, "sweep", system, self.folder.system.read_bytes(), manifest["settings"])
         if audit:
@@ -294,6 +287,8 @@ def fault_of(line: str) -> Optional[Record]:
 
 def raised(fault: Record) -> errors.PaverError:
     """The exception of a fault of a task."""
+    if fault["status"] == sweep_task.REFUSED and os.path.basename(fault.get("name", "")) == sweep_task.SYSTEM:
+        return refused(Path(fault["name"]), fault["line"].partition(": ")[2], "another system")
     if fault["status"] == sweep_task.REFUSED and fault.get("name"):
         return errors.PavingRefused(4, fault["line"], name=fault["name"], cause="changed", row=None)
     return program.fault_of(int(fault["status"]), str(fault["line"]))

@@ -9,11 +9,13 @@ import time
 from pathlib import Path
 from typing import Any, Dict, Iterable, Iterator, List
 
+from .beside import identity_of
 from .options import KEPT_SETTINGS
-from .sweep import Progress, Sweep, sweep
+from .sweep import Sweep, sweep
+from .sweep_checks import refused
 from .sweep_engines import ENGINES
-from .sweep_folder import Folder, refused
-from .sweep_plan import WHOLE, is_share
+from .sweep_folder import Folder
+from .sweep_plan import WHOLE, Progress, is_share
 
 ENDED = (signal.SIGINT, signal.SIGTERM)
 COUNTS = ("boxes", "limit", "shares", "workers")
@@ -129,6 +131,10 @@ def print_status(place: Path) -> int:
         raise refused(place, "there is no sweep", "no sweep")
     manifest = folder.manifest
     if WHOLE in manifest["tasks"]:
+        whole = manifest["tasks"][WHOLE]
+        folder.need_closed(whole)
+        if not folder.is_stored(whole) or identity_of(folder.whole) != manifest["identity"]:
+            raise refused(folder.whole, "it is not the paving of the sweep: the same call makes it again", "changed")
         print("\n".join(lines_of(Sweep(folder.path, manifest, ""))))
         return 0
     if "progress" in manifest:

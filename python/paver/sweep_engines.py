@@ -17,7 +17,9 @@ from importlib import import_module
 from pathlib import Path
 from typing import Any, Dict, List, Optional, Protocol, Sequence, Set, Tuple, Union
 
+from .sweep_checks import refused
 from .sweep_plan import Record
+from .sweep_task import whole_file
 
 ENGINES = ("processes", "dask", "slurm")
 MOST_WORKERS = 64  # that are counted on where Slurm has more processors
@@ -207,7 +209,8 @@ class Slurm:
         """A job array has the name of the file that lists its tasks, so that the queue tells of a job all that a later call
         wants, from the moment that it is in there."""
         listed = self.place / f"paver-sweep-{time.time_ns()}.tasks"
-        listed.write_text("".join(json.dumps(task) + "\n" for task in tasks), encoding="utf-8")
+        with whole_file(str(listed)) as file:
+            file.write("".join(json.dumps(task) + "\n" for task in tasks))
         script = " ".join(["exec", *map(shlex.quote, [sys.executable, str(SCRIPT), str(self.folder), str(listed)]),
                            '"$SLURM_ARRAY_TASK_ID"'])
         job = client_of_slurm("sbatch", "--parsable", "--cpus-per-task=1", *self.more, f"--array=0-{len(tasks) - 1}",
@@ -244,9 +247,12 @@ class Slurm:
         listed = {path.stem: path for path in self.place.glob("*.tasks")}
         if listed:
             queued = {element: listed[job] for element, job in self._queued().items() if job in listed}
-            names = {path: [json.loads(line)["name"] for line in path.read_text("utf-8").splitlines()]
-                     for path in set(queued.values())}
-            self.under_way.update({element: names[path][int(element[1])] for element, path in queued.items()})
+            try:
+                names = {path: [str(json.loads(line)["name"]) for line in path.read_text("utf-8").splitlines()]
+                         for path in set(queued.values())}
+                self.under_way.update({element: names[path][int(element[1])] for element, path in queued.items()})
+            except (LookupError, TypeError, ValueError) as fault:
+                raise refused(self.place, f"a list of tasks is damaged: {fault!r}", "damaged") from fault
         return list(self.under_way.values())
 
     def stop(self) -> None:

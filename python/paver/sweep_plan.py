@@ -12,6 +12,21 @@ Record = Dict[str, Any]
 
 
 @dataclass
+class Progress:
+    """How far a sweep is: shares and joins that are done, of how many; shares that their budget ended and that were dealt
+    again; tasks under way; nodes that are settled; seconds of all calls, and nodes a second of this one."""
+    shares: int
+    shares_done: int
+    again: int
+    joins: int
+    joins_done: int
+    under_way: int
+    settled: int
+    seconds: float
+    rate: float
+
+
+@dataclass
 class Join:
     """A join of the answers of its parts, which are 1 to 8."""
     name: str
@@ -117,10 +132,10 @@ class Plan:
         """What can be done now and isn't: nothing where the whole is there."""
         return self.whole.work()
 
-    def take_known(self, known: Callable[[str], Optional[Record]]) -> None:
-        """Takes the records that a call knows by the names of their parts."""
+    def take_known(self, known: Callable[[Part], Optional[Record]]) -> None:
+        """Takes the records that a call knows of the parts."""
         for part in self.parts():
-            record = known(part.name)
+            record = known(part)
             if record is not None:
                 part.take(record)
 
@@ -130,13 +145,18 @@ def is_share(name: str) -> bool:
     return name.startswith("share-")
 
 
+def input_of(record: Record) -> Record:
+    """What a task compares of a file that it takes."""
+    return {key: record[key] for key in ("out", "sha256", "counts")}
+
+
 def task_of(part: Part, common: Mapping[str, Any]) -> Record:
     """A part's task in words: see sweep_task.py."""
     if isinstance(part, Share):
         opening = part.opening
-        return {**common, "kind": "share", "name": part.name, "inputs": [[opening["out"], opening["sha256"]]],
+        return {**common, "kind": "share", "name": part.name, "inputs": [input_of(opening)],
                 "settled": opening["counts"]["settled"], "counts": opening["counts"], "share": part.share,
                 "leaves": part.leaves, "out": f"shares/{part.name}.paving"}
-    inputs = [[answer["out"], answer["sha256"]] for answer in (each.answer for each in part.parts) if answer is not None]
+    inputs = [input_of(answer) for answer in (each.answer for each in part.parts) if answer is not None]
     out = "whole.paving" if part.name == WHOLE else f"shares/{part.name}.paving"
     return {**common, "kind": "join", "name": part.name, "inputs": inputs, "out": out}

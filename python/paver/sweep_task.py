@@ -16,18 +16,24 @@ import re
 import resource
 import signal
 import socket
+import stat
 import subprocess
 import sys
 import time
 from concurrent.futures import ThreadPoolExecutor
+from contextlib import contextmanager
 from types import FrameType
-from typing import Any, Dict, Iterator, List, Optional, Tuple
+from typing import Any, Dict, Iterator, List, NamedTuple, Optional, TextIO, Tuple
 
 SUMMARY = re.compile(r"settled (\d+) cut (\d+) removed (\d+) inner (\d+) small (\d+) open (\d+)\n\Z", re.A)
 FIELDS = ("settled", "cut", "removed", "inner", "small", "open")
+LETTERS = (b"C", b"X", b"I", b"S", b"O")  # of the nodes in a stored paving, one a line and nowhere else, in the order of FIELDS
+HEAD = re.compile(rb"paving [12]\nidentity ([0-9a-f]{64})\n")
+SYSTEM = "system.mbx"
 REFUSED, READ_FAULT, WRITE_FAULT, NO_MEMORY, TREE_LIMIT = 4, 5, 6, 7, 8  # statuses of the program
 BRAKE = 1  # seconds after a fault of the machine: one whose disk is full shall not take the tasks of all others
 CHUNK = 1 << 20
+NEW = ".part"  # ends the name of a file that takes its own place only when it is whole
 REMEDY = "take it away, and the next call makes it again"
 running: List["subprocess.Popen[str]"] = []
 
@@ -40,23 +46,76 @@ class Fault(Exception):
         self.status, self.line, self.name = status, line, name
 
 
-def digest_of(path: str) -> str:
-    """The SHA-256 of a file."""
-    found = hashlib.sha256()
-    with open(path, "rb") as file:
-        for chunk in iter(lambda: file.read(CHUNK), b""):
-            found.update(chunk)
-    return found.hexdigest()
+# ---- files that are there whole or not at all: the whole package takes these two from here, as this file stands alone
 
-
-def need_stored(path: str, digest: str) -> None:
-    """Fault where a file isn't what its task stored."""
+@contextmanager
+def in_place_of(target: str) -> Iterator[Tuple[int, str]]:
+    """A new file beside a target: its descriptor, which the caller closes, and its name. It takes the target's place where the
+    block ends well, and is taken away where it doesn't. The name holds 64 random bits and is made exclusively, so that no link
+    that another put there is followed."""
+    name = os.path.join(os.path.dirname(target), f".{os.urandom(8).hex()}{NEW}")
+    number = os.open(name, os.O_WRONLY | os.O_CREAT | os.O_EXCL | os.O_NOFOLLOW | os.O_CLOEXEC, 0o666)
     try:
-        found = digest_of(path)
+        yield number, name
+        os.replace(name, target)
+    except BaseException:
+        if os.path.lexists(name):
+            os.unlink(name)
+        raise
+
+
+@contextmanager
+def whole_file(target: str) -> Iterator[TextIO]:
+    """The same as a file of text, which is on the disk before it takes the target's place."""
+    with in_place_of(target) as (number, _):
+        with open(number, "w", encoding="utf-8") as file:
+            yield file
+            file.flush()
+            os.fsync(file.fileno())
+
+
+class Facts(NamedTuple):
+    """What a look through a file tells: its SHA-256, its length, and of a stored paving its identity and its counts."""
+    sha256: str
+    bytes: int
+    identity: str
+    counts: Dict[str, int]
+
+
+def facts_of(path: str) -> Facts:
+    """The facts of a regular file. Fault where it can't be read; nothing else is waited for."""
+    found, length, numbers, head = hashlib.sha256(), 0, [0] * len(LETTERS), b""
+    try:
+        with open(os.open(path, os.O_RDONLY | os.O_NONBLOCK | os.O_CLOEXEC), "rb") as file:
+            if not stat.S_ISREG(os.fstat(file.fileno()).st_mode):
+                raise OSError("it is no regular file")
+            for chunk in iter(lambda: file.read(CHUNK), b""):
+                found.update(chunk)
+                length, head = length + len(chunk), head or chunk[:100]
+                numbers = [number + chunk.count(letter) for number, letter in zip(numbers, LETTERS)]
     except OSError as fault:
         raise Fault(READ_FAULT, f"read fault: {path}") from fault
-    if found != digest:
+    told = HEAD.match(head)
+    return Facts(found.hexdigest(), length, told.group(1).decode() if told else "",
+                 dict(zip(FIELDS, [sum(numbers[:-1]), *numbers])))
+
+
+def need_stored(path: str, stored: Dict[str, Any], identity: str) -> None:
+    """Fault where a file isn't the paving of the sweep's identity that a record tells of."""
+    found = facts_of(path)
+    if found.sha256 != stored["sha256"]:
         raise Fault(REFUSED, f"paving {path}: it is not what its task stored: {REMEDY}", path)
+    if found.identity != identity:
+        raise Fault(REFUSED, f"paving {path}: it has another identity than the sweep: {REMEDY}", path)
+    if found.counts != stored["counts"]:
+        raise Fault(REFUSED, f"paving {path}: its record has other counts: {REMEDY}", path)
+
+
+def need_text(folder: str, digest: str) -> None:
+    """Fault where the system's text in a folder isn't that with which the sweep began."""
+    path = os.path.join(folder, SYSTEM)
+    if facts_of(path).sha256 != digest:
+        raise Fault(REFUSED, f"{path}: it is not the text with which the sweep began: put that back", path)
 
 
 def called(words: List[str]) -> Tuple[int, Dict[str, int]]:
@@ -116,7 +175,7 @@ def steps_of(task: Dict[str, Any]) -> List[Tuple[int, int]]:
 
 def settle(task: Dict[str, Any], folder: str, own: str) -> Dict[str, Any]:
     """Settles a share, at most the task's budget of nodes, into a file of its own name."""
-    opening = os.path.join(folder, task["inputs"][0][0])
+    opening = os.path.join(folder, task["inputs"][0]["out"])
     current, settled, status, counts = opening, task["settled"], 0, dict(task["counts"])
     for number, of in steps_of(task):
         left = task["boxes"] - (counts["settled"] - settled)
@@ -131,7 +190,7 @@ def settle(task: Dict[str, Any], folder: str, own: str) -> Dict[str, Any]:
         current = own
         if status == 1:
             break
-    found: Dict[str, Any] = {"status": status, "counts": counts, "new": counts["settled"] - settled}
+    found: Dict[str, Any] = {"status": status, "counts": counts, "new": counts["settled"] - settled, "share": task["share"]}
     if status == 1:
         found["of"], found["left"] = left_open(opening, own, task["share"], task["leaves"])
     return found
@@ -139,15 +198,16 @@ def settle(task: Dict[str, Any], folder: str, own: str) -> Dict[str, Any]:
 
 def join(task: Dict[str, Any], folder: str, own: str) -> Dict[str, Any]:
     """Joins files into one of its own name."""
-    names = [os.path.join(folder, name) for name, _ in task["inputs"]]
+    names = [os.path.join(folder, each["out"]) for each in task["inputs"]]
     status, counts = called([task["program"], "merge", *task["words"], f"--out={own}", "--", task["system"], *names])
     return {"status": status, "counts": counts, "new": 0}
 
 
 def need_inputs(task: Dict[str, Any], folder: str) -> None:
-    """Fault where one of a task's files isn't what its task stored."""
-    for name, digest in task["inputs"]:
-        need_stored(os.path.join(folder, name), digest)
+    """Fault where the system's text or one of a task's files isn't what the sweep has it for."""
+    need_text(folder, task["system_sha256"])
+    for each in task["inputs"]:
+        need_stored(os.path.join(folder, each["out"]), each, task["identity"])
 
 
 def answered(task: Dict[str, Any], folder: str, own: str) -> Dict[str, Any]:
@@ -164,14 +224,16 @@ def performed(task: Dict[str, Any], folder: str) -> Dict[str, Any]:
     """Does a task, and gives its record."""
     began, clock = time.time(), time.monotonic()
     out = os.path.join(folder, task["out"])
-    own = os.path.join(os.path.dirname(out), f".{os.path.basename(out)}.{socket.gethostname()}-{os.getpid()}")
-    try:
+    with in_place_of(out) as (number, own):
+        os.close(number)
         found = answered(task, folder, own)
-        found.update(out=task["out"], sha256=digest_of(own), bytes=os.path.getsize(own))
-        os.replace(own, out)
-    finally:
-        if os.path.exists(own):
-            os.unlink(own)
+        facts = facts_of(own)
+        if facts.identity != task["identity"]:
+            need_text(folder, task["system_sha256"])
+            raise Fault(REFUSED, f"paving {out}: what is stored there would have another identity than the sweep", out)
+        if facts.counts != found["counts"]:
+            raise Fault(REFUSED, f"paving {out}: what is stored there would have other counts than the program told", out)
+        found.update(out=task["out"], sha256=facts.sha256, bytes=facts.bytes)
     used = resource.getrusage(resource.RUSAGE_CHILDREN)
     found.update(name=task["name"], host=socket.gethostname(), began=round(began, 3),
                  seconds=round(time.monotonic() - clock, 3), processor=round(used.ru_utime + used.ru_stime, 3),
@@ -181,13 +243,8 @@ def performed(task: Dict[str, Any], folder: str) -> Dict[str, Any]:
 
 def written(folder: str, name: str, record: Dict[str, Any]) -> None:
     """Writes a record, whole."""
-    target = os.path.join(folder, "records", f"{name}.json")
-    own = os.path.join(folder, "records", f".{name}.{socket.gethostname()}-{os.getpid()}")
-    with open(own, "w", encoding="utf-8") as file:
+    with whole_file(os.path.join(folder, "records", f"{name}.json")) as file:
         file.write(json.dumps(record) + "\n")
-        file.flush()
-        os.fsync(file.fileno())
-    os.replace(own, target)
 
 
 def task_of(words: List[str]) -> Dict[str, Any]:
@@ -214,7 +271,7 @@ def main(words: List[str]) -> int:
     try:
         written(folder, task["name"], performed(task, folder))
     except (Fault, OSError) as fault:
-        told = vars(fault) if isinstance(fault, Fault) else {"status": WRITE_FAULT, "line": str(fault), "name": ""}
+        told = vars(fault) if isinstance(fault, Fault) else {"status": WRITE_FAULT, "line": f"write fault: {fault}", "name": ""}
         if told["status"] in (READ_FAULT, WRITE_FAULT, NO_MEMORY):
             time.sleep(BRAKE)
         print(json.dumps(told), file=sys.stderr)

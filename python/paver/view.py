@@ -60,6 +60,8 @@ def command_of(paving: Paving, system: System, settings: Mapping[str, Any], form
                ) -> str:
     """Which command's paving this is, by its identity; of either form, where none is given. PavingError where it is not this
     system's under these settings."""
+    if form and form not in CHOICES["form"]:
+        raise ValueError(f"{name}: the form {form!r}: one of {', '.join(CHOICES['form'])}")
     for known in [form] if form else CHOICES["form"]:
         if paving.identity == system.identity(**settings, form=known):
             return COMMANDS[known]
