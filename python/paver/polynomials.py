@@ -4,13 +4,14 @@ from __future__ import annotations
 from collections.abc import Iterable, Mapping, Sequence
 from dataclasses import dataclass
 from fractions import Fraction
-from typing import Dict, Optional, Tuple, Union
+from typing import ClassVar, Dict, Optional, Tuple, TypeVar, Union
 
 from . import intervals as iv
 from .numbers import minibex
 
 Monomial = Tuple[Tuple[str, int], ...]  # names in order, each with its power from 1
 Number = Union[int, Fraction]
+Kind = TypeVar("Kind", bound="Polynomial")
 MOST_TERMS = 1500  # of one polynomial on the way
 
 
@@ -19,36 +20,43 @@ class TooLong(ValueError):
 
 
 class Polynomial:
-    """A sum of monomials with coefficients other than 0."""
+    """A sum of monomials with coefficients other than 0. A kind of polynomials whose variables obey a law says in `products`
+    what comes of two monomials."""
     __slots__ = ("terms",)
+    most_terms: ClassVar[Optional[int]] = MOST_TERMS
 
     def __init__(self, terms: Mapping[Monomial, Fraction]) -> None:
         self.terms: Dict[Monomial, Fraction] = {m: c for m, c in terms.items() if c}
-        if len(self.terms) > MOST_TERMS:
-            raise TooLong(f"a polynomial of more than {MOST_TERMS} terms")
+        if self.most_terms is not None and len(self.terms) > self.most_terms:
+            raise TooLong(f"a polynomial of more than {self.most_terms} terms")
 
-    def __add__(self, other: Polynomial) -> Polynomial:
+    @staticmethod
+    def products(first: Monomial, second: Monomial) -> Sequence[Tuple[Monomial, int]]:
+        """The product of two monomials as monomials with signs."""
+        return ((joined(first, second), 1),)
+
+    def __add__(self: Kind, other: Kind) -> Kind:
         found = dict(self.terms)
         for monomial, coefficient in other.terms.items():
             found[monomial] = found.get(monomial, Fraction(0)) + coefficient
-        return Polynomial(found)
+        return type(self)(found)
 
-    def __neg__(self) -> Polynomial:
-        return Polynomial({m: -c for m, c in self.terms.items()})
+    def __neg__(self: Kind) -> Kind:
+        return type(self)({m: -c for m, c in self.terms.items()})
 
-    def __sub__(self, other: Polynomial) -> Polynomial:
+    def __sub__(self: Kind, other: Kind) -> Kind:
         return self + -other
 
-    def __mul__(self, other: Polynomial) -> Polynomial:
+    def __mul__(self: Kind, other: Kind) -> Kind:
         found: Dict[Monomial, Fraction] = {}
         for first, a in self.terms.items():
             for second, b in other.terms.items():
-                monomial = joined(first, second)
-                found[monomial] = found.get(monomial, Fraction(0)) + a * b
-        return Polynomial(found)
+                for monomial, sign in self.products(first, second):
+                    found[monomial] = found.get(monomial, Fraction(0)) + sign * a * b
+        return type(self)(found)
 
-    def __pow__(self, exponent: int) -> Polynomial:
-        found = ONE
+    def __pow__(self: Kind, exponent: int) -> Kind:
+        found = type(self)({(): Fraction(1)})
         for _ in range(exponent):
             found = found * self
         return found

@@ -18,7 +18,7 @@ from .robot_clearance import clearances
 from .robot_file import Robot, RobotRefused, number_of
 from .robot_platform import Platform
 from .robot_sheet import Sheet, one_chart
-from .trigonometry import Polynomial, number, number_text, total
+from .trigonometry import Trigonometric, number, number_text, total
 
 SIDES = ("zero", "apart", "positive", "negative")
 TURNS = ("roll", "pitch", "yaw")
@@ -102,9 +102,9 @@ def target_of(sheet: Sheet, chain: Chain, question: Question) -> Vector:
     if wrong:
         sheet.refuse(f"pose `{wrong[0]}=`: {', '.join([*AXES, *sorted(turns)])} are what this tool has")
     reach = reach_of(sheet.robot)
-    found: List[Polynomial] = []
+    found: List[Trigonometric] = []
     for k, axis in enumerate(AXES):
-        fixed = chain.whole.shift[k].constant
+        fixed = chain.whole.shift[k].number
         given = question.pose.get(axis)
         if fixed is not None and given is not None and fixed != given:
             sheet.refuse(f"pose {axis}={given}: the tool's {axis} is always {float(fixed):.9g}")
@@ -144,7 +144,7 @@ def small(*vectors: Vector) -> bool:
     return all(len(part.terms) <= 40 for v in vectors for part in v)
 
 
-def squared(v: Vector) -> Polynomial:
+def squared(v: Vector) -> Trigonometric:
     return total(part * part for part in v)
 
 
@@ -159,10 +159,10 @@ def close_turn(sheet: Sheet, chain: Chain, question: Question) -> None:
         equate(sheet, pairs, "closure: the tool's axes", [f"{axis} of {side}" for side in "xz" for axis in AXES])
 
 
-def equate(sheet: Sheet, pairs: Sequence[Tuple[Polynomial, Polynomial]], comment: str, names: Sequence[str]) -> None:
+def equate(sheet: Sheet, pairs: Sequence[Tuple[Trigonometric, Trigonometric]], comment: str, names: Sequence[str]) -> None:
     """An equation for each pair of sides that are not the same."""
     for name, (left, right) in zip(names, pairs):
-        rest = (left - right).constant
+        rest = (left - right).number
         if rest is None:
             sheet.ask(f"{comment}, {name}", f"{sheet.text(left)} = {sheet.text(right)}")
         elif rest:
@@ -179,8 +179,8 @@ def singular_chain(sheet: Sheet, question: Question, chain: Chain, names: Sequen
         ask_determinant(sheet, question, p, f"determinant of the Jacobian of {', '.join(names)} by {', '.join(joints)}")
 
 
-def ask_determinant(sheet: Sheet, question: Question, p: Polynomial, comment: str) -> None:
-    value = p.constant
+def ask_determinant(sheet: Sheet, question: Question, p: Trigonometric, comment: str) -> None:
+    value = p.number
     if value is not None:
         sheet.refuse(f"{comment}: it is {float(value):.9g} in each pose")
     assert question.singular is not None

@@ -11,9 +11,9 @@ from typing import Dict, List, Sequence, Tuple
 
 from .robot_file import Joint
 from .robot_sheet import Sheet, Turn, operations
-from .trigonometry import Polynomial, determinant, number, total
+from .trigonometry import Trigonometric, determinant, number, total
 
-Vector = List[Polynomial]
+Vector = List[Trigonometric]
 AXES = "xyz"
 
 
@@ -28,22 +28,22 @@ class Frame:
         return Frame([[dot(row, column) for column in columns] for row in self.turn],
                      added(self.turned(other.shift), self.shift))
 
-    def turned(self, v: Sequence[Polynomial]) -> Vector:
+    def turned(self, v: Sequence[Trigonometric]) -> Vector:
         return [dot(row, v) for row in self.turn]
 
-    def turned_back(self, v: Sequence[Polynomial]) -> Vector:
+    def turned_back(self, v: Sequence[Trigonometric]) -> Vector:
         return [dot(column, v) for column in zip(*self.turn)]
 
 
-def dot(u: Sequence[Polynomial], v: Sequence[Polynomial]) -> Polynomial:
+def dot(u: Sequence[Trigonometric], v: Sequence[Trigonometric]) -> Trigonometric:
     return total(a * b for a, b in zip(u, v) if a.terms and b.terms)
 
 
-def added(u: Sequence[Polynomial], v: Sequence[Polynomial]) -> Vector:
+def added(u: Sequence[Trigonometric], v: Sequence[Trigonometric]) -> Vector:
     return [a + b for a, b in zip(u, v)]
 
 
-def less(u: Sequence[Polynomial], v: Sequence[Polynomial]) -> Vector:
+def less(u: Sequence[Trigonometric], v: Sequence[Trigonometric]) -> Vector:
     return [a - b for a, b in zip(u, v)]
 
 
@@ -55,19 +55,19 @@ ONE = [[number(int(i == k)) for k in range(3)] for i in range(3)]
 ZERO = [number(0) for _ in range(3)]
 
 
-def shifted(*values: Polynomial) -> Frame:
+def shifted(*values: Trigonometric) -> Frame:
     return Frame(ONE, list(values))
 
 
-def about_z(c: Polynomial, s: Polynomial) -> Frame:
+def about_z(c: Trigonometric, s: Trigonometric) -> Frame:
     return Frame([[c, -s, number(0)], [s, c, number(0)], [number(0), number(0), number(1)]], ZERO)
 
 
-def about_x(c: Polynomial, s: Polynomial) -> Frame:
+def about_x(c: Trigonometric, s: Trigonometric) -> Frame:
     return Frame([[number(1), number(0), number(0)], [number(0), c, -s], [number(0), s, c]], ZERO)
 
 
-def about_y(c: Polynomial, s: Polynomial) -> Frame:
+def about_y(c: Trigonometric, s: Trigonometric) -> Frame:
     return Frame([[c, number(0), s], [number(0), number(1), number(0)], [-s, number(0), c]], ZERO)
 
 
@@ -106,7 +106,7 @@ class Chain:
     @property
     def moving(self) -> List[int]:
         """The coordinates of the tool's point that are not one number."""
-        return [k for k in range(3) if self.whole.shift[k].constant is None]
+        return [k for k in range(3) if self.whole.shift[k].number is None]
 
     @property
     def is_planar(self) -> bool:
@@ -115,12 +115,12 @@ class Chain:
 
     # ---- closures
 
-    def closure(self, k: int, target: Vector) -> List[Tuple[Polynomial, Polynomial]]:
+    def closure(self, k: int, target: Vector) -> List[Tuple[Trigonometric, Trigonometric]]:
         """The tool's point is the target, both seen from behind the first k joints: pairs of sides."""
         before = self.before[k]
         return list(zip(self.behind[k].shift, before.turned_back(less(target, before.shift))))
 
-    def turn_closure(self, k: int, target: List[Vector], columns: Sequence[int]) -> List[Tuple[Polynomial, Polynomial]]:
+    def turn_closure(self, k: int, target: List[Vector], columns: Sequence[int]) -> List[Tuple[Trigonometric, Trigonometric]]:
         """The same of the tool's axes."""
         found = []
         for column in columns:
@@ -136,21 +136,21 @@ class Chain:
 
     # ---- singular poses
 
-    def minors(self, coordinates: Sequence[str]) -> List[Tuple[List[str], Polynomial]]:
+    def minors(self, coordinates: Sequence[str]) -> List[Tuple[List[str], Trigonometric]]:
         """The determinants of the Jacobian of these coordinates, by as many of the joints that move them as there are
         coordinates, with the names of these joints."""
         columns: Dict[str, Vector] = {}
         for i, joint in enumerate(self.joints):
             axis = self.before[i + self.sheet.robot.modified].turn[2][2]
             column = [(number(0) if joint.prismatic else axis) if name == "phi" else
-                      self.whole.shift[AXES.index(name)].derivative(joint.name, not joint.prismatic) for name in coordinates]
+                      self.whole.shift[AXES.index(name)].derived(joint.name, not joint.prismatic) for name in coordinates]
             if any(entry.terms for entry in column):
                 columns[joint.name] = column
         return [(list(names), determinant([[columns[name][row] for name in names] for row in range(len(coordinates))]))
                 for names in combinations(columns, len(coordinates))]
 
 
-def expression_of(sheet: Sheet, p: Polynomial) -> str:
+def expression_of(sheet: Sheet, p: Trigonometric) -> str:
     """A polynomial's text without taking note of its names."""
     used = set(sheet.used)
     text = sheet.text(p)

@@ -14,10 +14,10 @@ from typing import Iterator, List, Sequence, Tuple
 
 from .robot_file import Obstacle
 from .robot_sheet import Sheet
-from .trigonometry import Polynomial, number, number_text, total
+from .trigonometry import Trigonometric, number, number_text, total
 
 AXES = "xyz"
-Point = Sequence[Polynomial]
+Point = Sequence[Trigonometric]
 
 
 def clearances(sheet: Sheet, lines: Sequence[Sequence[Point]]) -> None:
@@ -40,8 +40,8 @@ def of_ball(sheet: Sheet, obstacle: Obstacle, points: Sequence[Point]) -> Iterat
     least = (obstacle.radius + sheet.robot.radius) ** 2
     for k, point in enumerate(points):
         away = [a - b for a, b in zip(point, centre)]
-        if all(part.constant is not None for part in away):
-            if (total(part * part for part in away).constant or 0) < least:
+        if all(part.number is not None for part in away):
+            if (total(part * part for part in away).number or 0) < least:
                 sheet.refuse(f"the {obstacle.kind} reaches a point of the robot that never moves", obstacle.line)
             continue
         yield f"point {k}", " + ".join(f"sqr({sheet.text(part)})" for part in away if part.terms) + f" >= {number_text(least)}"
@@ -72,7 +72,7 @@ def of_box(sheet: Sheet, obstacle: Obstacle, points: Sequence[Point]) -> Iterato
         yield f"segment {k} to {k + 1}", reduce(lambda text, part: f"max({text}, {part})", away) + " >= 0"
 
 
-def sorted_text(sheet: Sheet, a: Polynomial, b: Polynomial, word: str) -> str:
+def sorted_text(sheet: Sheet, a: Trigonometric, b: Trigonometric, word: str) -> str:
     return f"({sheet.text(a)})" if a == b else f"{word}({sheet.text(a)}, {sheet.text(b)})"
 
 

@@ -10,9 +10,9 @@ from typing import List, Mapping, Tuple
 
 from .robot_file import Leg
 from .robot_sheet import Sheet, Turn
-from .trigonometry import Polynomial, determinant, number, total
+from .trigonometry import Trigonometric, determinant, number, total
 
-Point = Tuple[Polynomial, Polynomial]
+Point = Tuple[Trigonometric, Trigonometric]
 
 
 class Platform:
@@ -57,12 +57,12 @@ class Platform:
                     self.sheet.ask(f"leg {leg.name}: its length is {relation} {float(end):.9g}",
                                    f"{self.square(pair(leg.base), corner)} {relation} {self.sheet.text(number(end ** 2))}")
 
-    def length_squares(self) -> List[Polynomial]:
+    def length_squares(self) -> List[Trigonometric]:
         """Of each leg the square of the distance from its foot to its corner."""
         return [total((b - a) * (b - a) for a, b in zip(pair(leg.base), corner))
                 for leg, corner in zip(self.legs, self.corners)]
 
-    def determinant(self) -> Polynomial:
+    def determinant(self) -> Trigonometric:
         """Of the lines of force, each by its direction and, where the platform turns, its moment about the centre."""
         self.with_elbows()
         if len(self.legs) != 2 + (not self.is_point):

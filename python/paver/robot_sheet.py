@@ -9,7 +9,7 @@ from typing import Dict, FrozenSet, List, NoReturn, Optional, Sequence, Set, Tup
 
 from .minibex import tokens
 from .robot_file import Pair, Robot, RobotRefused
-from .trigonometry import COSINE, SINE, Polynomial, expression, number, number_text, rational_turn, symbol
+from .trigonometry import COSINE, SINE, Trigonometric, expression, number, number_text, rational_turn, symbol
 
 MOST_VARIABLES, MOST_CONSTRAINTS, MOST_OPERATIONS, MOST_NODES, MOST_BYTES = 12, 64, 1000, 65536, 65536
 LIMIT_ERROR = 1e-9  # radians by which joint limits are moved outward where they have no rational cosine
@@ -50,7 +50,7 @@ class Sheet:
 
     # ---- what polynomials are made of
 
-    def angle(self, degrees: Fraction, line: Optional[int] = None) -> Tuple[Polynomial, Polynomial]:
+    def angle(self, degrees: Fraction, line: Optional[int] = None) -> Tuple[Trigonometric, Trigonometric]:
         """The cosine and sine of a fixed angle: numbers where they are 0 and 1, else a rational point near it."""
         c, s, exact = rational_turn(degrees, self.robot.places or 9)
         if exact:
@@ -66,7 +66,7 @@ class Sheet:
                 self.spelled[word] = f"({'-' if value < 0 else ''}{number_text(abs(value))})"
         return symbol(COSINE + name), symbol(SINE + name)
 
-    def moving(self, turn: Turn) -> Tuple[Polynomial, Polynomial]:
+    def moving(self, turn: Turn) -> Tuple[Trigonometric, Trigonometric]:
         """The cosine and sine of an angle that moves."""
         chart = self.chart_of(len(self.turns), turn)
         self.turns.append(turn)
@@ -89,7 +89,7 @@ class Sheet:
             self.refuse(f"--charts {self.charts}: {turn.what} has its angles in chart 0 alone")
         return int(self.charts[place])
 
-    def length(self, name: str, low: Fraction, high: Fraction) -> Polynomial:
+    def length(self, name: str, low: Fraction, high: Fraction) -> Trigonometric:
         low, high = self.robot.search.get(name, (low, high))
         self.lengths[name], self.spelled[name] = (low, high), name
         return symbol(name)
@@ -102,8 +102,8 @@ class Sheet:
 
     # ---- what is written
 
-    def text(self, p: Polynomial) -> str:
-        self.used |= p.names()
+    def text(self, p: Trigonometric) -> str:
+        self.used |= p.names
         try:
             return expression(p, self.order, self.spelled)
         except ValueError as fault:
@@ -115,12 +115,12 @@ class Sheet:
             self.refuse(f"{comment}: {operations(text)} operations, where a constraint has at most {MOST_OPERATIONS}")
         self.constraints.append((comment, text))
 
-    def help(self, comment: str, p: Polynomial) -> None:
+    def help(self, comment: str, p: Trigonometric) -> None:
         """A redundant one, where it fits: the polynomial is 0 at all solutions, so it stands within a tolerance, and the
         count of equations stays that of the variables."""
         used = set(self.used)
         text = self.text(p)
-        if p.constant is None and operations(text) < MOST_OPERATIONS // 4:
+        if p.number is None and operations(text) < MOST_OPERATIONS // 4:
             self.constraints.append((f"follows from the others, and helps contraction: {comment}", f"abs({text}) <= 1e-6"))
         else:
             self.used = used

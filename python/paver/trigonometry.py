@@ -10,58 +10,36 @@ from fractions import Fraction
 from typing import Dict, FrozenSet, Iterable, List, Mapping, Sequence, Tuple, Union
 
 from .numbers import minibex
+from .polynomials import Monomial, Polynomial
 
-Monomial = Tuple[Tuple[str, int], ...]
 COSINE, SINE = "cos ", "sin "
 
 
-class Polynomial:
-    """terms gives for each product of powers, sorted by names, its coefficient, which is not 0."""
-    __slots__ = ("terms",)
+class Trigonometric(Polynomial):
+    """Of its monomials none has a power of a sine above 1."""
+    __slots__ = ()
+    most_terms = None
 
-    def __init__(self, terms: Mapping[Monomial, Fraction]) -> None:
-        self.terms: Dict[Monomial, Fraction] = {key: value for key, value in terms.items() if value}
+    @staticmethod
+    def products(first: Monomial, second: Monomial) -> List[Tuple[Monomial, int]]:
+        """The product of two monomials, with no sine's power above 1, as monomials with signs."""
+        powers: Dict[str, int] = dict(first)
+        for name, power in second:
+            powers[name] = powers.get(name, 0) + power
+        found: List[Tuple[Dict[str, int], int]] = [(powers, 1)]
+        for name in [name for name, power in powers.items() if power > 1 and name.startswith(SINE)]:
+            cosine = COSINE + name[len(SINE):]
+            for item, sign in list(found):  # each sine has power 2 here, as neither factor has one above 1
+                del item[name]
+                found.append(({**item, cosine: item.get(cosine, 0) + 2}, -sign))
+        return [(tuple(sorted(item.items())), sign) for item, sign in found]
 
-    def __add__(self, other: Polynomial) -> Polynomial:
-        found = dict(self.terms)
-        for key, value in other.terms.items():
-            found[key] = found.get(key, Fraction(0)) + value
-        return Polynomial(found)
-
-    def __neg__(self) -> Polynomial:
-        return Polynomial({key: -value for key, value in self.terms.items()})
-
-    def __sub__(self, other: Polynomial) -> Polynomial:
-        return self + -other
-
-    def __mul__(self, other: Polynomial) -> Polynomial:
-        found: Dict[Monomial, Fraction] = {}
-        for first, a in self.terms.items():
-            for second, b in other.terms.items():
-                for key, sign in reduced(first, second):
-                    found[key] = found.get(key, Fraction(0)) + sign * a * b
-        return Polynomial(found)
-
-    def __eq__(self, other: object) -> bool:
-        return isinstance(other, Polynomial) and self.terms == other.terms
-
-    def __hash__(self) -> int:
-        return hash(frozenset(self.terms.items()))
-
-    @property
-    def constant(self) -> Union[Fraction, None]:
-        """Its value where it is a number; else None."""
-        return None if any(self.terms) else self.terms.get((), Fraction(0))
-
-    def names(self) -> FrozenSet[str]:
-        return frozenset(name for key in self.terms for name, _ in key)
-
-    def derivative(self, name: str, angle: bool) -> Polynomial:
-        """By a length, or by the angle of this name."""
+    def derived(self, name: str, angle: bool) -> Trigonometric:
+        """The derivative by a length, or by the angle of this name."""
         found = number(0)
         for key, value in self.terms.items():
             for at, (factor, power) in enumerate(key):
-                rest = Polynomial({(*key[:at], *([(factor, power - 1)] if power > 1 else []), *key[at + 1:]): value * power})
+                rest = Trigonometric({(*key[:at], *([(factor, power - 1)] if power > 1 else []), *key[at + 1:]): value * power})
                 if angle and factor == COSINE + name:
                     found += rest * -symbol(SINE + name)
                 elif angle and factor == SINE + name:
@@ -71,36 +49,22 @@ class Polynomial:
         return found
 
 
-def reduced(first: Monomial, second: Monomial) -> List[Tuple[Monomial, int]]:
-    """The product of two monomials, with no sine's power above 1, as monomials with signs."""
-    powers: Dict[str, int] = dict(first)
-    for name, power in second:
-        powers[name] = powers.get(name, 0) + power
-    found: List[Tuple[Dict[str, int], int]] = [(powers, 1)]
-    for name in [name for name, power in powers.items() if power > 1 and name.startswith(SINE)]:
-        cosine = COSINE + name[len(SINE):]
-        for item, sign in list(found):  # each sine has power 2 here, as neither factor has one above 1
-            del item[name]
-            found.append(({**item, cosine: item.get(cosine, 0) + 2}, -sign))
-    return [(tuple(sorted(item.items())), sign) for item, sign in found]
+def number(value: Union[int, Fraction]) -> Trigonometric:
+    return Trigonometric({(): Fraction(value)})
 
 
-def number(value: Union[int, Fraction]) -> Polynomial:
-    return Polynomial({(): Fraction(value)})
+def symbol(name: str) -> Trigonometric:
+    return Trigonometric({((name, 1),): Fraction(1)})
 
 
-def symbol(name: str) -> Polynomial:
-    return Polynomial({((name, 1),): Fraction(1)})
-
-
-def total(parts: Iterable[Polynomial]) -> Polynomial:
+def total(parts: Iterable[Trigonometric]) -> Trigonometric:
     found = number(0)
     for part in parts:
         found += part
     return found
 
 
-def determinant(rows: Sequence[Sequence[Polynomial]]) -> Polynomial:
+def determinant(rows: Sequence[Sequence[Trigonometric]]) -> Trigonometric:
     """By the first row."""
     if not rows:
         return number(1)
@@ -143,12 +107,12 @@ def number_text(value: Fraction) -> str:
     return text
 
 
-def terms_of(p: Polynomial, order: Sequence[FrozenSet[str]], spelled: Mapping[str, str]) -> Terms:
+def terms_of(p: Trigonometric, order: Sequence[FrozenSet[str]], spelled: Mapping[str, str]) -> Terms:
     """The terms of a nested sum: the first group of names that occurs is put outside, so that later ones are named once."""
-    value = p.constant
+    value = p.number
     if value is not None:
         return [(value < 0, number_text(abs(value)))]
-    names = p.names()
+    names = p.names
     group = next(group for group in order if group & names)
     parts: Dict[Monomial, Dict[Monomial, Fraction]] = {}
     for key, coefficient in p.terms.items():
@@ -156,7 +120,7 @@ def terms_of(p: Polynomial, order: Sequence[FrozenSet[str]], spelled: Mapping[st
         parts.setdefault(outer, {})[tuple(item for item in key if item[0] not in group)] = coefficient
     found: Terms = []
     for outer, rest in sorted(parts.items(), key=lambda item: (not item[0], item[0])):
-        inner = terms_of(Polynomial(rest), order, spelled)
+        inner = terms_of(Trigonometric(rest), order, spelled)
         factor = "*".join(spelled[name] + (f"^{power}" if power > 1 else "") for name, power in outer)
         if not outer:
             found += inner
@@ -173,6 +137,6 @@ def joined(terms: Terms) -> str:
     return ("-" if first[0] else "") + first[1] + "".join((" - " if negative else " + ") + text for negative, text in rest)
 
 
-def expression(p: Polynomial, order: Sequence[FrozenSet[str]], spelled: Mapping[str, str]) -> str:
+def expression(p: Trigonometric, order: Sequence[FrozenSet[str]], spelled: Mapping[str, str]) -> str:
     """A polynomial as Minibex writes it; each name has its text in `spelled` and stands in one group of `order`."""
     return joined(terms_of(p, order, spelled))
