@@ -24,7 +24,7 @@ TOP = Path(__file__).resolve().parents[2]
 
 HEAD = """# Gallery
 
-Each example of `examples/` has its question, its command and the first line of the answer. Green boxes are inner: each of their rational points is in the set. Grey parts are removed: none of their rational points is. Yellow boxes are undecided. [ANSWERS.md](ANSWERS.md#equations) says what holds of irrational points.
+Each example of `examples/` has its question, its command and the first line of the answer. Green boxes are inner: each of their rational points is in the set. Grey parts are removed: none of their rational points is. Yellow boxes are undecided. [ANSWERS.md](ANSWERS.md#equations) says what holds of irrational points. In place write `./paver` for `paver`.
 
 With three variables and more a picture is a slice, or the projection on two variables: green then says that some values of the other variables are in the set, and grey that none are. `python3 -m paver plot SYSTEM OPTIONS --picture FILE.svg` draws each, with the options of its command if none stand below it.
 """
